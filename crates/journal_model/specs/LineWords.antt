@@ -1,0 +1,256 @@
+-- A line by its words: which keyword it has, and each word as what must stand there.
+use Rattle.std.specs.Prelude.{ℕ, Bool, true, false, List, [], ◌∷◌, Option, Some, None, option_map, length, map, bytes_eq, codes, ◌==◌, ◌&&◌, not, if◌then◌else◌}
+use Rattle.std.specs.List.{list_any}
+use Rattle.journal_model.specs.declared.script.Script.{Script}
+use Rattle.journal_model.specs.declared.line.Line.{Line}
+use Rattle.journal_model.specs.declared.line.Line.TheVariants as line
+use Rattle.journal_model.specs.declared.line.Keyword.{Keyword}
+use Rattle.journal_model.specs.declared.line.Keyword.TheVariants as key
+use Rattle.journal_model.specs.declared.line.Verb.{Verb}
+use Rattle.journal_model.specs.declared.line.Verb.TheVariants as verb
+use Rattle.journal_model.specs.declared.line.Phase.{Phase}
+use Rattle.journal_model.specs.declared.line.Phase.TheVariants as phase
+use Rattle.journal_model.specs.declared.line.BufferHead.{BufferHead}
+use Rattle.journal_model.specs.declared.line.EngineWord.{EngineWord}
+use Rattle.journal_model.specs.declared.line.OpWord.{OpWord}
+use Rattle.journal_model.specs.declared.line.OpWord.TheVariants as op_word
+use Rattle.journal_model.specs.declared.line.ActorWord.{ActorWord}
+use Rattle.journal_model.specs.declared.line.ActorWord.TheVariants as actor_word
+use Rattle.journal_model.specs.Words.{Text}
+use Rattle.journal_model.specs.Cut.{cut_by, is_semicolon}
+use Rattle.journal_model.specs.Reading.{number_in, group_of, offset_of, names_of, known, bytes_of, byte_of, mem_of, places_of, engine_of, actor_of}
+use Rattle.journal_model.specs.CommandRules.{is_between}
+
+-- ---- keywords
+
+-- a command that names a buffer and nothing else
+abbrev pub verb_of : Text → Option Verb
+verb_of w =
+    if bytes_eq w (codes "new") then Some verb.New
+    else if bytes_eq w (codes "free") then Some verb.Free
+    else if bytes_eq w (codes "pin") then Some verb.Pin
+    else if bytes_eq w (codes "unpin") then Some verb.Unpin
+    else if bytes_eq w (codes "find") then Some verb.Find
+    else if bytes_eq w (codes "swapout") then Some verb.SwapOut
+    else None
+
+-- the word is no keyword where it is no verb
+abbrev pub or_other : Option Verb → Keyword
+or_other (Some v) = key.Plain v
+or_other None = key.Other
+
+-- the first word of a command
+abbrev pub command_keyword_of : Text → Keyword
+command_keyword_of w =
+    if bytes_eq w (codes "write") then key.Write
+    else if bytes_eq w (codes "read") then key.Read
+    else if bytes_eq w (codes "move") then key.Move
+    else if bytes_eq w (codes "touch") then key.Touch
+    else if bytes_eq w (codes "submit") then key.Submit
+    else or_other (verb_of w)
+
+-- the first word of a line
+abbrev pub keyword_of : Text → Keyword
+keyword_of w =
+    if bytes_eq w (codes "ttm") then key.Ttm
+    else if bytes_eq w (codes "vram") then key.Vram
+    else if bytes_eq w (codes "tt") then key.Tt
+    else if bytes_eq w (codes "frames") then key.Frames
+    else if bytes_eq w (codes "swap") then key.Swap
+    else if bytes_eq w (codes "engines") then key.Engines
+    else if bytes_eq w (codes "buffer") then key.Buffer
+    else if bytes_eq w (codes "thread") then key.Thread
+    else if bytes_eq w (codes "schedule") then key.Schedule
+    else if bytes_eq w (codes "end") then key.End
+    else command_keyword_of w
+
+-- the lines that may come in each phase
+abbrev pub may_come : Phase → Keyword → Bool
+may_come phase.Version key.Ttm = true
+may_come phase.Vram key.Vram = true
+may_come phase.Tt key.Tt = true
+may_come phase.Frames key.Frames = true
+may_come phase.Swap key.Swap = true
+may_come phase.Engines key.Engines = true
+may_come phase.Buffers key.Buffer = true
+may_come phase.Buffers key.Thread = true
+may_come phase.Buffers key.Schedule = true
+may_come phase.Buffers key.End = true
+may_come phase.Threads key.Thread = true
+may_come phase.Threads key.Schedule = true
+may_come phase.Threads key.End = true
+may_come phase.Threads (key.Plain v) = true
+may_come phase.Threads key.Write = true
+may_come phase.Threads key.Read = true
+may_come phase.Threads key.Move = true
+may_come phase.Threads key.Touch = true
+may_come phase.Threads key.Submit = true
+may_come phase.Turns key.Schedule = true
+may_come phase.Turns key.End = true
+may_come _ _ = false
+
+-- ---- the parts of a line; None where the number of words or a fixed word is wrong
+
+-- `ttm 1` or `ttm 2`
+abbrev pub version_line : List Text → Option Line
+version_line (w ∷ version ∷ []) =
+    if bytes_eq version (codes "1") then Some (line.Version 1)
+    else if bytes_eq version (codes "2") then Some (line.Version 2)
+    else None
+version_line _ = None
+
+-- VRAM with its manager
+abbrev pub vram_line : List Text → Option Line
+vram_line (w ∷ kind ∷ size ∷ []) =
+    if bytes_eq kind (codes "range") then Some (line.Vram false (number_in 0 16384 size))
+    else if bytes_eq kind (codes "buddy") then Some (line.Vram true (number_in 0 16384 size))
+    else None
+vram_line _ = None
+
+-- a keyword and a number
+abbrev pub size_line : (Option ℕ → Line) → ℕ → List Text → Option Line
+size_line made high (w ∷ size ∷ []) = Some (made (number_in 0 high size))
+size_line made high _ = None
+
+-- a buffer line up to its places
+abbrev pub head_of : Text → Text → Text → Text → Text → BufferHead
+head_of name pages prio group align =
+    record { name = name; pages = number_in 1 4096 pages; prio = number_in 0 3 prio; group = group_of group; align = number_in 1 4096 align }
+
+-- the fixed words of a buffer line up to its places
+abbrev pub has_head_words : Text → Text → Text → Bool
+has_head_words a b c = bytes_eq a (codes "prio") && bytes_eq b (codes "group") && bytes_eq c (codes "align")
+
+-- the lists of version 1
+abbrev pub two_lists : Bool → BufferHead → Text → Text → Text → Text → Option Line
+two_lists fits head d want e busy =
+    if fits && bytes_eq d (codes "want") && bytes_eq e (codes "busy")
+    then Some (line.Buffer head (places_of false want) (places_of false busy))
+    else None
+
+-- the list of version 2
+abbrev pub one_list : Bool → BufferHead → Text → Text → Option Line
+one_list fits head d list = if fits && bytes_eq d (codes "place") then Some (line.Placed head (places_of true list)) else None
+
+-- what stands behind the head: two lists in version 1, one in version 2
+abbrev pub lists_line : Bool → Bool → BufferHead → List Text → Option Line
+lists_line two fits head (d ∷ want ∷ e ∷ busy ∷ []) = if two then None else two_lists fits head d want e busy
+lists_line two fits head (d ∷ list ∷ []) = if two then one_list fits head d list else None
+lists_line two fits head _ = None
+
+-- a buffer line
+abbrev pub buffer_line_of : Bool → List Text → Option Line
+buffer_line_of two (w ∷ name ∷ pages ∷ a ∷ prio ∷ b ∷ group ∷ c ∷ align ∷ rest) =
+    lists_line two (has_head_words a b c) (head_of name pages prio group align) rest
+buffer_line_of two _ = None
+
+-- a keyword and nothing else
+abbrev pub alone : Line → List Text → Option Line
+alone made (w ∷ []) = Some made
+alone made _ = None
+
+-- the word is no actor word
+abbrev pub is_no_actor : ActorWord → Bool
+is_no_actor (actor_word.Is who) = false
+is_no_actor actor_word.BrokenNumber = false
+is_no_actor actor_word.Missing = false
+is_no_actor actor_word.Malformed = true
+
+-- a schedule of 1 to 64 actor words
+abbrev pub turn_of_actors : List ActorWord → Option Line
+turn_of_actors actors = if is_between 1 64 (length actors) && not (list_any is_no_actor actors) then Some (line.Turn actors) else None
+
+-- a schedule line
+abbrev pub turn_line_of : ℕ → ℕ → List Text → Option Line
+turn_line_of threads engines [] = None
+turn_line_of threads engines (w ∷ ws) = turn_of_actors (map (actor_of threads engines) ws)
+
+-- a command that names a buffer and nothing else
+abbrev pub plain_line : List Text → Verb → List Text → Option Line
+plain_line names v (w ∷ b ∷ []) = Some (line.Plain v (known names b))
+plain_line names v _ = None
+
+-- a write
+abbrev pub write_line : List Text → List Text → Option Line
+write_line names (w ∷ b ∷ off ∷ bytes ∷ []) = Some (line.Write (known names b) (offset_of off) (bytes_of bytes))
+write_line names _ = None
+
+-- a read by its words
+abbrev pub read_parts : List Text → Text → Text → Text → Line
+read_parts names b off len = line.Read (known names b) (offset_of off) (offset_of len)
+
+-- a read
+abbrev pub read_line : List Text → List Text → Option Line
+read_line names (w ∷ b ∷ off ∷ len ∷ []) = Some (read_parts names b off len)
+read_line names _ = None
+
+-- a move to a memory type
+abbrev pub move_line : List Text → List Text → Option Line
+move_line names (w ∷ b ∷ mem ∷ []) = option_map (λ m. line.Move (known names b) m) (mem_of mem)
+move_line names _ = None
+
+-- a touch of a group
+abbrev pub touch_line : List Text → Option Line
+touch_line (w ∷ group ∷ []) = Some (line.Touch (number_in 0 15 group))
+touch_line _ = None
+
+-- an operation by its words
+abbrev pub op_of : List Text → List Text → OpWord
+op_of names (w ∷ b ∷ off ∷ len ∷ []) =
+    if bytes_eq w (codes "probe") then op_word.Probe (known names b) (offset_of off) (offset_of len) else op_word.Malformed
+op_of names (w ∷ b ∷ off ∷ len ∷ byte ∷ []) =
+    if bytes_eq w (codes "fill") then op_word.Fill (known names b) (offset_of off) (offset_of len) (byte_of byte) else op_word.Malformed
+op_of names (w ∷ d ∷ doff ∷ s ∷ soff ∷ len ∷ []) =
+    if bytes_eq w (codes "copy") then op_word.Copy (known names d) (offset_of doff) (known names s) (offset_of soff) (offset_of len)
+    else if bytes_eq w (codes "xor") then op_word.Xor (known names d) (offset_of doff) (known names s) (offset_of soff) (offset_of len)
+    else op_word.Malformed
+op_of names _ = op_word.Malformed
+
+-- the words are no operation
+abbrev pub is_no_op : OpWord → Bool
+is_no_op (op_word.Fill dst off len byte) = false
+is_no_op (op_word.Copy dst doff src soff len) = false
+is_no_op (op_word.Xor dst doff src soff len) = false
+is_no_op (op_word.Probe src off len) = false
+is_no_op op_word.Malformed = true
+
+-- the operations of a job
+abbrev pub ops_of : List Text → List Text → List OpWord
+ops_of names ws = map (op_of names) (cut_by is_semicolon ws)
+
+-- a job whose operations all have the right words
+abbrev pub submit_of_ops : EngineWord → List OpWord → Option Line
+submit_of_ops engine ops = if list_any is_no_op ops then None else Some (line.Submit engine ops)
+
+-- a job
+abbrev pub submit_line : List Text → ℕ → List Text → Option Line
+submit_line names engines (w ∷ engine ∷ ws) = submit_of_ops (engine_of engines engine) (ops_of names ws)
+submit_line names engines _ = None
+
+-- the line of a keyword
+abbrev pub parts_of : Script → Keyword → List Text → Option Line
+parts_of script key.Ttm ws = version_line ws
+parts_of script key.Vram ws = vram_line ws
+parts_of script key.Tt ws = size_line line.Tt 16384 ws
+parts_of script key.Frames ws = size_line line.Frames 16384 ws
+parts_of script key.Swap ws = size_line line.Swap 32768 ws
+parts_of script key.Engines ws = size_line line.Engines 8 ws
+parts_of script key.Buffer ws = buffer_line_of (script.version == 2) ws
+parts_of script key.Thread ws = alone line.Thread ws
+parts_of script key.Schedule ws = turn_line_of (length script.threads) script.sizes.engines ws
+parts_of script key.End ws = alone line.End ws
+parts_of script (key.Plain v) ws = plain_line (names_of script.buffers) v ws
+parts_of script key.Write ws = write_line (names_of script.buffers) ws
+parts_of script key.Read ws = read_line (names_of script.buffers) ws
+parts_of script key.Move ws = move_line (names_of script.buffers) ws
+parts_of script key.Touch ws = touch_line ws
+parts_of script key.Submit ws = submit_line (names_of script.buffers) script.sizes.engines ws
+parts_of script key.Other ws = None
+
+-- nothing stands between two spaces
+abbrev pub is_empty : Text → Bool
+is_empty word = length word == 0
+
+-- a wrong space leaves an empty word
+abbrev pub line_of : Script → Keyword → List Text → Option Line
+line_of script keyword ws = if list_any is_empty ws then None else parts_of script keyword ws
