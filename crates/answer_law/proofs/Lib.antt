@@ -1,0 +1,3 @@
+pub mod Shown
+pub mod Courses
+pub mod Counted
