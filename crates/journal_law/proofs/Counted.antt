@@ -19,8 +19,8 @@ use Rattle.journal_model.specs.Apply.{applied}
 use Rattle.journal_model.specs.Complete.{is_answer, is_by_thread, answers_of, is_over, is_complete, thread_numbers, has_answered}
 use Rattle.journal_model.specs.Commands.{commands_of}
 use Rattle.journal_model.specs.Legal.{World, first_world, world_after, world_along, state_of, IsLegalNext, IsLegalFrom, IsLegal}
-use Rattle.answer_law.proofs.Shown.{legal_step}
-use Rattle.answer_law.proofs.Courses.{of_engine, of_reaper, thread_is_there, one_more_if, own_answered, others_kept, engine_keeps, reaper_keeps, course_in}
+use Rattle.journal_law.proofs.Shown.{legal_step}
+use Rattle.journal_law.proofs.Courses.{of_engine, of_reaper, thread_is_there, one_more_if, own_answered, others_kept, engine_keeps, reaper_keeps, course_in}
 
 -- what is shown doesn't make an answer
 shown_answers : (script : Script) (stores : Stores) (s : State) (who : Actor) (k : Kind) → is_answer (showing script stores s who k) ≡ is_answer k
