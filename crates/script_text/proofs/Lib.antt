@@ -1,0 +1,4 @@
+pub mod Answered
+pub mod Clean
+pub mod Lines
+pub mod MentionLaws

@@ -1,0 +1,77 @@
+//! Reads the text of a script.
+#![tactic(auto)]
+
+ghost use Rattle.std.specs.Prelude.{◌≡◌, ◌≤◌, ℕ, ◌⊎◌, Some, None, Ok, Err, IfOk, IsOk, length};
+ghost use Rattle.journal_model.specs.FirstFault.{script_of, first_fault, script_from, nothing_read};
+ghost use Rattle.journal_model.specs.Cut.{lines_of};
+ghost use Rattle.script_text.specs.Steps.{Gives};
+
+use journal_model::Script;
+use script_words::cut::len_of_line;
+use script_words::names::Names;
+use std::alloc::Global;
+use ttm_base::NoMemory;
+
+mod reader;
+mod rules;
+mod values;
+
+use crate::reader::{is_done, start, take_line};
+
+/// Why bytes weren't read: their first broken line and on it the least broken rule, or want of memory.
+#[derive(Clone, Copy, Debug, PartialEq, Eq)]
+pub enum ScriptFault {
+    Bad { line: u32, rule: u32 },
+    NoMemory,
+}
+
+fn read_lines(alloc: Global, bytes: &[u8]) -> Result<Script, ScriptFault>
+    requires { length bytes.now ≤ 1048576 }
+    ensures { Gives result (script_from nothing_read 0 (lines_of bytes.now)) }
+{
+    let mut names = Names::new(alloc);
+    let mut progress = start(alloc);
+    let mut line = 0;
+    let mut rest = bytes;
+    while !rest.is_empty() {
+        let (text, after) = rest.split_at(len_of_line(rest));
+        line += 1;
+        match take_line(alloc, &mut names, &mut progress, text) {
+            Ok(None) => rest = after,
+            Ok(Some(rule)) => return Err(ScriptFault::Bad { line, rule }),
+            Err(NoMemory) => return Err(ScriptFault::NoMemory),
+        }
+    }
+    if is_done(progress.phase) {
+        Ok(progress.script)
+    } else {
+        Err(ScriptFault::Bad {
+            line: line + 1,
+            rule: 3,
+        })
+    }
+}
+
+fn read_all(alloc: Global, bytes: &[u8]) -> Result<Script, ScriptFault>
+    ensures { Gives result (script_of bytes.now) }
+{
+    if bytes.len() > 1_048_576 {
+        return Err(ScriptFault::Bad { line: 0, rule: 1 });
+    }
+    read_lines(alloc, bytes)
+}
+
+/// Reads a script, or finds its first broken line and on it the least broken rule.
+pub fn read_script(alloc: Global, bytes: &[u8]) -> Result<Script, ScriptFault>
+    // What is read is what the lines say.
+    ensures ok { IfOk result (λ script. script_of bytes.now ≡ Ok script) }
+    // A fault is the first one, and on its line the least.
+    ensures bad { (line rule : ℕ) → result ≡ Err (ScriptFault.Bad line rule) → first_fault bytes.now ≡ Some (line, rule) }
+    // Bytes with a fault aren't read, unless memory runs out first.
+    ensures found { (line rule : ℕ) → first_fault bytes.now ≡ Some (line, rule)
+        → (result ≡ Err (ScriptFault.Bad line rule)) ⊎ (result ≡ Err ScriptFault.NoMemory) }
+    // Bytes with no fault are read, unless memory runs out.
+    ensures only { first_fault bytes.now ≡ None → IsOk result ⊎ (result ≡ Err ScriptFault.NoMemory) }
+{
+    read_all(alloc, bytes)
+}

@@ -1,0 +1,322 @@
+//! Takes a script line by line.
+
+ghost use Rattle.std.specs.Prelude.{◌≡◌, ◌≤◌, ◌<◌, ◌+◌, ◌-◌, bytes_eq, false, not, nat_lt, sum_by, ◌==◌, ◌++◌, ◌∷◌, [], IfOk, OnOk, length, take};
+ghost use Rattle.std.specs.List.{list_any};
+ghost use Rattle.journal_model.specs.LineWords.{keyword_of};
+ghost use Rattle.journal_model.specs.FirstFault.{with_sizes, with_buffer, with_command, with_job, with_line, is_shown, without_end, ends_line, breaks_text, first_word, after_words, after_line, nothing_read, is_over};
+ghost use Rattle.journal_model.specs.LineRules.{len_of_word};
+ghost use Rattle.script_text.specs.Steps.{IsSteady, IsClean, Leads};
+
+use crate::rules::{broken, lens_within};
+use crate::values::{
+    actors_of, bytes_of, declared, engine_of, first_of, list_of, ops_of, plain_of, put_command,
+    two_lists_of, zero_of,
+};
+use journal_model::line::{Keyword, Line, OpWord, Phase, Progress};
+use journal_model::{
+    Bytes, Command, CommandLists, Commands, Decl, Decls, Marks, Script, Sizes, TurnLines,
+};
+use script_words::cut::cut;
+use script_words::keywords::{can_come, keyword};
+use script_words::names::Names;
+use script_words::parts::line;
+use std::alloc::Global;
+use ttm_base::NoMemory;
+
+fn set_sizes(progress: &mut Progress, next: Phase, sizes: Sizes)
+    ensures { progress.new ≡ with_sizes progress.old next sizes }
+{
+    progress.phase = next;
+    progress.script.sizes = sizes;
+}
+
+fn put_buffer(
+    alloc: Global,
+    names: &mut Names,
+    progress: &mut Progress,
+    decl: Decl,
+) -> Result<(), NoMemory>
+    requires { list_any (bytes_eq decl.name) names.old ≡ false }
+    ensures ok { OnOk result (progress.new ≡ with_buffer progress.old decl) }
+    ensures names { OnOk result (names.new ≡ names.old ++ decl.name ∷ []) }
+{
+    names.add(alloc, decl.name.items())?;
+    progress.script.buffers.push(decl)?;
+    Ok(())
+}
+
+fn put(progress: &mut Progress, command: Command) -> Result<(), NoMemory>
+    requires { progress.old.lines < 4096 }
+    ensures { OnOk result (progress.new ≡ with_command progress.old command) }
+{
+    put_command(&mut progress.script.threads, command)?;
+    progress.lines += 1;
+    Ok(())
+}
+
+fn put_job(progress: &mut Progress, command: Command, lens: u64) -> Result<(), NoMemory>
+    requires lines { progress.old.lines < 4096 }
+    requires lens { progress.old.lens + lens ≤ 67108864 }
+    ensures { OnOk result (progress.new ≡ with_job progress.old command lens) }
+{
+    put_command(&mut progress.script.threads, command)?;
+    progress.lines += 1;
+    progress.lens += lens;
+    Ok(())
+}
+
+fn put_thread(alloc: Global, progress: &mut Progress) -> Result<(), NoMemory>
+    ensures { OnOk result (progress.new ≡ with_line progress.old Line.Thread) }
+{
+    progress.script.threads.push(Commands::new(alloc))?;
+    progress.phase = Phase::Threads;
+    progress.lines = 0;
+    Ok(())
+}
+
+/// The lengths of the operations, which fit.
+fn lens(left: u64, ops: &[OpWord]) -> u64
+    requires { nat_lt left (sum_by len_of_word ops.now) ≡ false }
+    ensures { result ≡ sum_by len_of_word ops.now }
+{
+    match lens_within(left, ops) {
+        Some(lens) => lens,
+        None => 0,
+    }
+}
+
+/// Takes a line that breaks no rule.
+fn accept(
+    alloc: Global,
+    names: &mut Names,
+    progress: &mut Progress,
+    line: Line,
+) -> Result<(), NoMemory>
+    requires steady { IsSteady names.old progress.old }
+    requires clean { IsClean progress.old line }
+    ensures ok { OnOk result (progress.new ≡ with_line progress.old line) }
+    ensures steady { OnOk result (IsSteady names.new progress.new) }
+{
+    match line {
+        Line::Version { version } => {
+            progress.phase = Phase::Vram;
+            progress.script.version = version;
+            Ok(())
+        }
+        Line::Vram { buddy, size } => {
+            let sizes = Sizes {
+                buddy,
+                vram: zero_of(size),
+                ..progress.script.sizes
+            };
+            set_sizes(progress, Phase::Tt, sizes);
+            Ok(())
+        }
+        Line::Tt { size } => {
+            let sizes = Sizes {
+                tt: zero_of(size),
+                ..progress.script.sizes
+            };
+            set_sizes(progress, Phase::Frames, sizes);
+            Ok(())
+        }
+        Line::Frames { size } => {
+            let sizes = Sizes {
+                frames: zero_of(size),
+                ..progress.script.sizes
+            };
+            set_sizes(progress, Phase::Swap, sizes);
+            Ok(())
+        }
+        Line::Swap { size } => {
+            let sizes = Sizes {
+                swap: zero_of(size),
+                ..progress.script.sizes
+            };
+            set_sizes(progress, Phase::Engines, sizes);
+            Ok(())
+        }
+        Line::Engines { size } => {
+            let sizes = Sizes {
+                engines: zero_of(size),
+                ..progress.script.sizes
+            };
+            set_sizes(progress, Phase::Buffers, sizes);
+            Ok(())
+        }
+        Line::Buffer { head, want, busy } => {
+            let list = two_lists_of(alloc, want.items(), busy.items())?;
+            put_buffer(alloc, names, progress, declared(head, list))
+        }
+        Line::Placed { head, list } => {
+            let list = list_of(alloc, list.items())?;
+            put_buffer(alloc, names, progress, declared(head, list))
+        }
+        Line::Thread => put_thread(alloc, progress),
+        Line::Turn { actors } => {
+            let actors = actors_of(alloc, actors.items())?;
+            progress.script.turns.push(actors)?;
+            progress.phase = Phase::Turns;
+            Ok(())
+        }
+        Line::End => {
+            progress.phase = Phase::After;
+            Ok(())
+        }
+        Line::Plain { verb, b } => put(progress, plain_of(verb, first_of(b))),
+        Line::Write { b, off, bytes } => put(
+            progress,
+            Command::Write {
+                b: first_of(b),
+                off: zero_of(off),
+                bytes: bytes_of(alloc, bytes),
+            },
+        ),
+        Line::Read { b, off, len } => put(
+            progress,
+            Command::Read {
+                b: first_of(b),
+                off: zero_of(off),
+                len: zero_of(len),
+            },
+        ),
+        Line::Move { b, mem } => put(
+            progress,
+            Command::Move {
+                b: first_of(b),
+                mem,
+            },
+        ),
+        Line::Touch { group } => put(
+            progress,
+            Command::Touch {
+                group: zero_of(group),
+            },
+        ),
+        Line::Submit { engine, ops } => {
+            let lens = lens(67_108_864 - progress.lens, ops.items());
+            let ops = ops_of(alloc, ops.items())?;
+            put_job(
+                progress,
+                Command::Submit {
+                    engine: engine_of(engine),
+                    ops,
+                },
+                lens,
+            )
+        }
+    }
+}
+
+fn has_hidden(text: &[u8]) -> bool
+    ensures { result ≡ list_any (λ b. not (is_shown b)) text.now }
+{
+    text.iter().any(|b| !(32 <= *b && *b <= 126))
+}
+
+fn does_end(text: &[u8]) -> bool
+    ensures { result ≡ ends_line text.now }
+{
+    match text.last() {
+        Some(b) => *b == b'\n',
+        None => false,
+    }
+}
+
+fn front_of(text: &[u8]) -> &[u8]
+    ensures { result.now ≡ without_end text.now }
+{
+    &text[..text.len().saturating_sub(1)]
+}
+
+/// A line is empty, has other bytes than those that show, or lacks its line feed.
+fn breaks_line(text: &[u8]) -> bool
+    ensures { result ≡ breaks_text text.now }
+{
+    !does_end(text) || text.len() < 2 || has_hidden(front_of(text))
+}
+
+fn keyword_of_line(words: &[Bytes]) -> Keyword
+    ensures { result ≡ keyword_of (first_word words.now) }
+{
+    match words {
+        [] => keyword(b""),
+        [word, ..] => keyword(word.items()),
+    }
+}
+
+/// Takes the words of a line, or answers the least rule that they break.
+fn take_words(
+    alloc: Global,
+    names: &mut Names,
+    progress: &mut Progress,
+    words: &[Bytes],
+) -> Result<Option<u32>, NoMemory>
+    requires { IsSteady names.old progress.old }
+    ensures leads { IfOk result (λ rule. Leads rule progress.new (after_words progress.old words.now)) }
+    ensures steady { OnOk result (IsSteady names.new progress.new) }
+{
+    let keyword = keyword_of_line(words);
+    if !can_come(progress.phase, keyword) {
+        return Ok(Some(3));
+    }
+    let Some(line) = line(alloc, names, &progress.script, keyword, words)? else {
+        return Ok(Some(4));
+    };
+    if let Some(rule) = broken(alloc, names, progress, &line)? {
+        return Ok(Some(rule));
+    }
+    accept(alloc, names, progress, line)?;
+    Ok(None)
+}
+
+/// Takes a line, or answers the least rule that it breaks.
+pub fn take_line(
+    alloc: Global,
+    names: &mut Names,
+    progress: &mut Progress,
+    text: &[u8],
+) -> Result<Option<u32>, NoMemory>
+    requires { IsSteady names.old progress.old }
+    ensures leads { IfOk result (λ rule. Leads rule progress.new (after_line progress.old text.now)) }
+    ensures steady { OnOk result (IsSteady names.new progress.new) }
+{
+    if breaks_line(text) {
+        return Ok(Some(2));
+    }
+    let words = cut(alloc, b' ', front_of(text))?;
+    take_words(alloc, names, progress, words.items())
+}
+
+/// Before the first line.
+pub fn start(alloc: Global) -> Progress
+    ensures { result ≡ nothing_read }
+{
+    Progress {
+        phase: Phase::Version,
+        script: Script {
+            version: 1,
+            sizes: Sizes {
+                buddy: false,
+                vram: 0,
+                tt: 0,
+                frames: 0,
+                swap: 0,
+                engines: 0,
+            },
+            buffers: Decls::new(alloc),
+            threads: CommandLists::new(alloc),
+            turns: TurnLines::new(alloc),
+            marks: Marks::new(alloc),
+        },
+        lines: 0,
+        lens: 0,
+    }
+}
+
+/// The last line has come.
+pub fn is_done(phase: Phase) -> bool
+    ensures { result ≡ is_over phase }
+{
+    matches!(phase, Phase::After)
+}

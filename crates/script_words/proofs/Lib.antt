@@ -1,0 +1,5 @@
+pub mod Cuts
+pub mod Hex
+pub mod NameLaws
+pub mod Numbers
+pub mod Patterns

@@ -1,0 +1,109 @@
+//! The first word of a line, and where a line may stand.
+
+ghost use Rattle.std.specs.Prelude.{◌≡◌};
+ghost use Rattle.journal_model.specs.LineWords.{verb_of, command_keyword_of, keyword_of, may_come};
+
+use crate::words::is;
+use journal_model::line::{Keyword, Phase, Verb};
+
+fn verb(word: &[u8]) -> Option<Verb>
+    ensures { result ≡ verb_of word.now }
+{
+    if is(word, b"new") {
+        Some(Verb::New)
+    } else if is(word, b"free") {
+        Some(Verb::Free)
+    } else if is(word, b"pin") {
+        Some(Verb::Pin)
+    } else if is(word, b"unpin") {
+        Some(Verb::Unpin)
+    } else if is(word, b"find") {
+        Some(Verb::Find)
+    } else if is(word, b"swapout") {
+        Some(Verb::SwapOut)
+    } else {
+        None
+    }
+}
+
+fn command_keyword(word: &[u8]) -> Keyword
+    ensures { result ≡ command_keyword_of word.now }
+{
+    if is(word, b"write") {
+        Keyword::Write
+    } else if is(word, b"read") {
+        Keyword::Read
+    } else if is(word, b"move") {
+        Keyword::Move
+    } else if is(word, b"touch") {
+        Keyword::Touch
+    } else if is(word, b"submit") {
+        Keyword::Submit
+    } else {
+        match verb(word) {
+            Some(verb) => Keyword::Plain(verb),
+            None => Keyword::Other,
+        }
+    }
+}
+
+/// The keyword of a line's first word.
+pub fn keyword(word: &[u8]) -> Keyword
+    ensures { result ≡ keyword_of word.now }
+{
+    if is(word, b"ttm") {
+        Keyword::Ttm
+    } else if is(word, b"vram") {
+        Keyword::Vram
+    } else if is(word, b"tt") {
+        Keyword::Tt
+    } else if is(word, b"frames") {
+        Keyword::Frames
+    } else if is(word, b"swap") {
+        Keyword::Swap
+    } else if is(word, b"engines") {
+        Keyword::Engines
+    } else if is(word, b"buffer") {
+        Keyword::Buffer
+    } else if is(word, b"thread") {
+        Keyword::Thread
+    } else if is(word, b"schedule") {
+        Keyword::Schedule
+    } else if is(word, b"end") {
+        Keyword::End
+    } else {
+        command_keyword(word)
+    }
+}
+
+/// A line with this keyword may come now.
+pub fn can_come(phase: Phase, keyword: Keyword) -> bool
+    ensures { result ≡ may_come phase keyword }
+{
+    match phase {
+        Phase::Version => matches!(keyword, Keyword::Ttm),
+        Phase::Vram => matches!(keyword, Keyword::Vram),
+        Phase::Tt => matches!(keyword, Keyword::Tt),
+        Phase::Frames => matches!(keyword, Keyword::Frames),
+        Phase::Swap => matches!(keyword, Keyword::Swap),
+        Phase::Engines => matches!(keyword, Keyword::Engines),
+        Phase::Buffers => matches!(
+            keyword,
+            Keyword::Buffer | Keyword::Thread | Keyword::Schedule | Keyword::End
+        ),
+        Phase::Threads => matches!(
+            keyword,
+            Keyword::Thread
+                | Keyword::Schedule
+                | Keyword::End
+                | Keyword::Plain(_)
+                | Keyword::Write
+                | Keyword::Read
+                | Keyword::Move
+                | Keyword::Touch
+                | Keyword::Submit
+        ),
+        Phase::Turns => matches!(keyword, Keyword::Schedule | Keyword::End),
+        Phase::After => false,
+    }
+}

@@ -1,0 +1,217 @@
+//! What a word says.
+
+ghost use Rattle.std.specs.Prelude.{◌≡◌, ◌<◌, ◌^◌, ◌*◌, ◌+◌, ◌-◌, ◌==◌, min, IfOk, bytes_eq, length, Some, true, false};
+ghost use Rattle.std.specs.List.{list_all};
+ghost use Rattle.journal_model.specs.Cut.{is_semicolon};
+ghost use Rattle.journal_model.specs.Reading.{is_digit, has_no_leading_zero, is_plain, read_on, number_in, group_of, offset_of, is_hex, hex_value, bytes_of, byte_of, mem_of, engine_of, actor_of, thread_actor, engine_actor};
+
+use hex::FromHexError;
+use journal_model::Bytes;
+use journal_model::line::{ActorWord, EngineWord};
+use std::alloc::Global;
+use ttm_base::{Actor, Mem, NoMemory};
+
+const MOST: u64 = 1 << 40;
+
+const MOST_LEN: u32 = 16_777_216;
+
+/// A text of its own.
+pub fn owned(alloc: Global, text: &[u8]) -> Result<Bytes, NoMemory>
+    ensures { IfOk result (λ list. list ≡ text.now) }
+{
+    let mut list = Bytes::new(alloc);
+    for &b in text {
+        list.push(b)?;
+    }
+    Ok(list)
+}
+
+/// The word is this text.
+pub fn is(word: &[u8], text: &[u8]) -> bool
+    ensures { result ≡ bytes_eq word.now text.now }
+{
+    word == text
+}
+
+pub fn is_lone_semicolon(word: &Bytes) -> bool
+    ensures { result ≡ is_semicolon word.now }
+{
+    is(word.items(), b";")
+}
+
+fn are_digits(word: &[u8]) -> bool
+    ensures { result ≡ list_all is_digit word.now }
+{
+    word.iter().all(|c| b'0' <= *c && *c <= b'9')
+}
+
+fn lacks_leading_zero(word: &[u8]) -> bool
+    ensures { result ≡ has_no_leading_zero word.now }
+{
+    match word {
+        [] => false,
+        [c, rest @ ..] => *c != b'0' || rest.len() == 0,
+    }
+}
+
+/// A number in plain decimals.
+pub fn is_plain_number(word: &[u8]) -> bool
+    ensures { result ≡ is_plain word.now }
+{
+    lacks_leading_zero(word) && are_digits(word)
+}
+
+/// The number of a word of digits; numbers above a trillion count as that.
+fn value_of(word: &[u8]) -> u64
+    ensures { result ≡ min (read_on 0 word.now) 1099511627776 }
+{
+    let mut n = 0;
+    for &c in word {
+        n = (10 * n + u64::from(c.saturating_sub(b'0'))).min(MOST);
+    }
+    n
+}
+
+/// The number, where it is plain and in its range.
+pub fn number(low: u32, high: u32, word: &[u8]) -> Option<u32>
+    ensures { result ≡ number_in low high word.now }
+{
+    let n = value_of(word);
+    if is_plain_number(word) && u64::from(low) <= n && n <= u64::from(high) {
+        Some(n as u32)
+    } else {
+        None
+    }
+}
+
+pub fn group(word: &[u8]) -> Option<Option<u32>>
+    ensures { result ≡ group_of word.now }
+{
+    if is(word, b"-") {
+        return Some(None);
+    }
+    match number(0, 15, word) {
+        Some(n) => Some(Some(n)),
+        None => None,
+    }
+}
+
+/// An offset or a length.
+pub fn offset(word: &[u8]) -> Option<u32>
+    ensures { result ≡ offset_of word.now }
+{
+    number(0, MOST_LEN, word)
+}
+
+fn is_hex_digit(c: u8) -> bool
+    ensures { result ≡ is_hex c }
+{
+    (b'0'..=b'9').contains(&c) || (b'a'..=b'f').contains(&c)
+}
+
+fn value_of_hex(c: u8) -> u8
+    requires { is_hex c ≡ true }
+    ensures value { result ≡ hex_value c }
+    ensures small { result < 16 }
+{
+    if c < b'a' { c - b'0' } else { c - b'a' + 10 }
+}
+
+/// A byte of two digits.
+pub fn byte(word: &[u8]) -> Option<u8>
+    ensures { result ≡ byte_of word.now }
+{
+    match word {
+        [c, d] => {
+            if is_hex_digit(*c) && is_hex_digit(*d) {
+                Some(value_of_hex(*c) * 16 + value_of_hex(*d))
+            } else {
+                None
+            }
+        }
+        _ => None,
+    }
+}
+
+pub fn memory(word: &[u8]) -> Option<Mem>
+    ensures { result ≡ mem_of word.now }
+{
+    if is(word, b"sys") {
+        Some(Mem::System)
+    } else if is(word, b"tt") {
+        Some(Mem::Tt)
+    } else if is(word, b"vram") {
+        Some(Mem::Vram)
+    } else {
+        None
+    }
+}
+
+pub fn engine(engines: u32, word: &[u8]) -> EngineWord
+    ensures { result ≡ engine_of engines word.now }
+{
+    if !is_plain_number(word) {
+        return EngineWord::BrokenNumber;
+    }
+    match number(1, engines, word) {
+        Some(n) => EngineWord::Is(n),
+        None => EngineWord::Missing,
+    }
+}
+
+fn thread_word(threads: u32, word: &[u8]) -> ActorWord
+    ensures { result ≡ thread_actor threads word.now }
+{
+    if !is_plain_number(word) {
+        return ActorWord::BrokenNumber;
+    }
+    match number(1, threads, word) {
+        Some(n) => ActorWord::Is(Actor::Thread(n)),
+        None => ActorWord::Missing,
+    }
+}
+
+fn engine_word(engines: u32, word: &[u8]) -> ActorWord
+    ensures { result ≡ engine_actor engines word.now }
+{
+    if !is_plain_number(word) {
+        return ActorWord::BrokenNumber;
+    }
+    match number(0, engines, word) {
+        Some(n) => ActorWord::Is(Actor::Engine(n)),
+        None => ActorWord::Missing,
+    }
+}
+
+pub fn actor(threads: u32, engines: u32, word: &[u8]) -> ActorWord
+    ensures { result ≡ actor_of threads engines word.now }
+{
+    match word {
+        [b'r'] => ActorWord::Is(Actor::Reaper),
+        [b't', _, ..] => thread_word(threads, &word[1..]),
+        [b'e', _, ..] => engine_word(engines, &word[1..]),
+        _ => ActorWord::Malformed,
+    }
+}
+
+fn are_hex_digits(word: &[u8]) -> bool
+    ensures { result ≡ list_all is_hex word.now }
+{
+    word.iter().all(|c| is_hex_digit(*c))
+}
+
+/// The bytes of pairs of lower-case digits.
+pub fn bytes(alloc: Global, word: &[u8]) -> Result<Option<Bytes>, NoMemory>
+    ensures { IfOk result (λ bytes. bytes ≡ bytes_of word.now) }
+{
+    if !are_hex_digits(word) {
+        return Ok(None);
+    }
+    match hex::decode(alloc, word) {
+        Ok(bytes) => Ok(Some(owned(alloc, bytes.as_slice())?)),
+        Err(error) => match error {
+            FromHexError::OutOfMemory => Err(NoMemory),
+            _ => Ok(None),
+        },
+    }
+}
