@@ -8,4 +8,4 @@ pub mod keywords;
 pub mod names;
 pub mod parts;
 mod places;
-mod words;
+pub mod words;

@@ -1,0 +1,23 @@
+-- The words that the program knows.
+use Rattle.std.specs.Prelude.{ℕ, List, [], ◌∷◌, Option, Some, None, option_map, bytes_eq, codes, ◌&&◌, if◌then◌else◌}
+use Rattle.journal_model.specs.Words.{Text}
+use Rattle.journal_model.specs.Reading.{number_in}
+use Rattle.ttm.specs.declared.forms.Form.{Form}
+use Rattle.ttm.specs.declared.forms.Form.TheVariants as form
+
+-- one word alone
+abbrev pub form_of_word : Text → Option Form
+form_of_word w =
+    if bytes_eq w (codes "sim") then Some (form.Sim None)
+    else if bytes_eq w (codes "--help") then Some form.Help
+    else if bytes_eq w (codes "--version") then Some form.Version
+    else None
+
+-- sim, and how many turns: a plain number that 64 bits hold
+abbrev pub form_of : List Text → Option Form
+form_of (w ∷ []) = form_of_word w
+form_of (w ∷ x ∷ n ∷ []) =
+    if bytes_eq w (codes "sim") && bytes_eq x (codes "--turns")
+    then option_map (λ turns. form.Sim (Some turns)) (number_in 0 18446744073709551615 n)
+    else None
+form_of _ = None

@@ -1,0 +1,7 @@
+#![tactic(auto)]
+
+mod forms;
+
+fn main(rt: HostRuntime) -> anyhow::Result<()> {
+    Ok(())
+}
