@@ -1,0 +1,4 @@
+pub mod Faults
+pub mod Memory
+pub mod ReadFault
+pub mod Standard

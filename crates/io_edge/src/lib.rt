@@ -1,0 +1,59 @@
+//! Where bytes come in and go out: sources and sinks that may fail, and count how often they did.
+#![tactic(auto)]
+
+ghost use Rattle.std.specs.Prelude.{◌≡◌, ℕ, List, ◌<◌, ◌≤◌, ◌↔◌, [], Option, length, take, IfOk, IfSome, MatchResult};
+ghost use Rattle.std.specs.Io.KnownBytes.{append_known, prepend_known};
+ghost use Rattle.io_edge.specs.Faults.{faults_after};
+
+pub mod memory;
+pub mod standard;
+pub mod whole;
+
+pub use memory::{MemSink, MemSource};
+pub use standard::{StdSink, StdSource};
+pub use whole::{ReadFault, read_all, write_all};
+
+/// A read or a write failed.
+#[derive(Clone, Copy, Debug, PartialEq, Eq)]
+pub struct Failed;
+
+/// Where bytes come from.
+pub trait Source {
+    /// The bytes left, where they are told.
+    ghost left: { Self → Option (List ℕ) };
+
+    /// How many calls have failed so far, counted up to `u64::MAX`.
+    ghost faults: { Self → ℕ };
+
+    /// Moves the first bytes left into the buffer, and answers how many. 0 is the end of input.
+    fn read(&mut self, buffer: &mut [u8]) -> Result<usize, Failed>
+        requires { 0 < length buffer.old }
+        ensures bound { IfOk result (λ n. n ≤ length buffer.new) }
+        ensures moved { MatchResult result
+            (λ n. left self.old ≡ prepend_known (take n buffer.new) (left self.new))
+            (λ _. left self.new ≡ left self.old) }
+        ensures end { IfOk result (λ n. IfSome (left self.old) (λ bytes. (n ≡ 0) ↔ (bytes ≡ []))) }
+        ensures faults { faults self.new ≡ faults_after result (faults self.old) };
+}
+
+/// Where bytes go.
+pub trait Sink {
+    /// The bytes written, where they are told.
+    ghost written: { Self → Option (List ℕ) };
+
+    /// How many calls have failed so far, counted up to `u64::MAX`.
+    ghost faults: { Self → ℕ };
+
+    /// Appends the first bytes of the piece, and answers how many, which is never 0.
+    fn write(&mut self, piece: &[u8]) -> Result<usize, Failed>
+        requires { 0 < length piece.now }
+        ensures some { IfOk result (λ n. 1 ≤ n) }
+        ensures bound { IfOk result (λ n. n ≤ length piece.now) }
+        ensures moved { MatchResult result
+            (λ n. written self.new ≡ append_known (written self.old) (take n piece.now))
+            (λ _. written self.new ≡ written self.old) }
+        ensures faults { faults self.new ≡ faults_after result (faults self.old) };
+}
+
+#[cfg(test)]
+mod tests;
