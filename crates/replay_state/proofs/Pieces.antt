@@ -1,5 +1,5 @@
 -- The pieces of an operation: more fuel than bytes changes nothing.
-use Rattle.std.proofs.Common.{◌≡◌, ℕ, zero, suc, ◌+◌, ◌-◌, ◌<◌, ◌≤◌, List, [], ◌∷◌, ◌++◌, refl, ap, arith}
+use Rattle.std.proofs.Common.{◌≡◌, ℕ, zero, suc, ◌+◌, ◌-◌, ◌<◌, ◌≤◌, List, [], ◌∷◌, ◌++◌, refl, ap, arith, length}
 use Rattle.std.specs.Prelude.{min, map}
 use Rattle.std.proofs.lemmas.Grind.{common_steps}
 use Rattle.ttm_base.specs.declared.Op.{Op}
@@ -45,6 +45,17 @@ pub cut_more : (f : Piece → Packet) (o : Op) (at len n : ℕ) (packets : List 
     → (packets ++ f (record { at = at; len = n }) ∷ []) ++ map f (pieces_from (room o) (at + n) (len - (at + n)) (len - (at + n)))
     ≡ packets ++ map f (pieces_from (room o) at (len - at) (len - at))
 cut_more f o at len n packets h e =
+    let left : 0 < len - at = omega arith in
+    let step = pieces_step (room o) (room_some o) at (len - at) left in
+    let same : min (len - at) (room o at) ≡ n = omega arith in
+    let less : len - at - n ≡ len - (at + n) = omega arith in
+    grind (arith, common_steps, step, same, less)
+
+-- one piece more, and those of the bytes left
+pub count_more : (o : Op) (at len n : ℕ) → at < len → n ≡ min (room o at) (len - at)
+    → 1 + length (pieces_from (room o) (at + n) (len - (at + n)) (len - (at + n)))
+    ≡ length (pieces_from (room o) at (len - at) (len - at))
+count_more o at len n h e =
     let left : 0 < len - at = omega arith in
     let step = pieces_step (room o) (room_some o) at (len - at) left in
     let same : min (len - at) (room o at) ≡ n = omega arith in

@@ -1,4 +1,4 @@
-ghost use Rattle.std.specs.Prelude.{◌≡◌, ◌++◌, ◌+◌, ◌/◌, ◌%◌, ◌<◌, IfOk, OnOk, map};
+ghost use Rattle.std.specs.Prelude.{◌≡◌, ◌++◌, ◌+◌, ◌/◌, ◌%◌, ◌<◌, IfOk, OnOk, map, length};
 ghost use Rattle.ttm_base.specs.Cutting as words;
 ghost use Rattle.journal_model.specs.State as states;
 ghost use Rattle.journal_model.specs.Places as places;
@@ -145,6 +145,20 @@ fn push_packets(packets: &mut Packets, core: &Core, dead: &Buffer, op: &Op) -> R
         at += n;
     }
     Ok(())
+}
+
+/// Into how many packets an operation is cut.
+pub fn packet_count(op: &Op) -> u32
+    ensures { result ≡ length (words.pieces_of op.now) }
+{
+    let len = op_len(op);
+    let mut at = 0;
+    let mut count = 0;
+    while at < len {
+        at += room(op, at).min(len - at);
+        count += 1;
+    }
+    count
 }
 
 /// The packets of a job, in order: its operations, cut at every page border of their buffers, as the buffers stand.

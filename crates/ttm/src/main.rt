@@ -1,6 +1,7 @@
 #![tactic(auto)]
 
 mod forms;
+mod limit;
 
 fn main(rt: HostRuntime) -> anyhow::Result<()> {
     Ok(())
