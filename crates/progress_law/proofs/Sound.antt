@@ -1,0 +1,165 @@
+-- What holds in every state that a legal journal reaches, as far as endings need it.
+use Rattle.std.proofs.Common.{◌≡◌, ℕ, ◌<◌, ◌≤◌, Bool, true, false, List, [], ◌∷◌, ◌++◌, Option, Some, None, ◌⊎◌, IsTrue}
+use Rattle.std.specs.Prelude.{Contains, map, length, slice_get, unwrap_or, is_some, not, ◌&&◌}
+use Rattle.std.specs.List.{list_any}
+use Rattle.ttm_base.specs.declared.Mem.{Mem}
+use Rattle.ttm_base.specs.declared.Mem.TheVariants.{System, Tt, Vram}
+use Rattle.ttm_base.specs.declared.Span.{Span}
+use Rattle.ttm_base.specs.declared.BufId.{BufId}
+use Rattle.ttm_base.specs.declared.Stamp.{Stamp}
+use Rattle.ttm_base.specs.declared.Deny.{Deny}
+use Rattle.ttm_base.specs.declared.JobId.{JobId}
+use Rattle.journal_model.specs.declared.script.Script.{Script}
+use Rattle.journal_model.specs.declared.state.State.{State}
+use Rattle.journal_model.specs.declared.state.Buffer.{Buffer}
+use Rattle.journal_model.specs.declared.state.Course.{Course}
+use Rattle.journal_model.specs.declared.state.Victim.{Victim}
+use Rattle.journal_model.specs.declared.state.Targets.{Targets}
+use Rattle.journal_model.specs.declared.state.Job.{Job}
+use Rattle.journal_model.specs.declared.entry.Why.{Why}
+use Rattle.journal_model.specs.declared.entry.Why.TheVariants as why
+use Rattle.journal_model.specs.declared.script.Command.{Command}
+use Rattle.journal_model.specs.declared.script.Command.TheVariants as command
+use Rattle.journal_model.specs.State.{buffer, grip, live_in, course, has_buffer, has_target, target_of, no_targets}
+use Rattle.journal_model.specs.Commands.{commands_of, command_at_work, named, decl, asked_places}
+use Rattle.ttm_base.specs.Placement.{forced_places}
+use Rattle.journal_model.specs.Waits.{same_job, jobs_before_write}
+use Rattle.journal_model.specs.Lists.{in_order}
+use Rattle.journal_model.specs.Ready.{meets, is_in_place, has_some_target, first_unready}
+use Rattle.journal_model.specs.Search.{is_caught}
+use Rattle.progress_law.proofs.EnginesGoOn.{WaitsGoBack}
+use Rattle.progress_law.proofs.ThreadsGoOn.{wants}
+use Rattle.progress_law.proofs.NoDeadEnd.{Has}
+
+-- ---- jobs
+
+abbrev pub is_job : State → JobId → Bool
+is_job s i = list_any (λ j. same_job i j.id) s.core.jobs
+
+pub record SoundJobs (script : Script) (s : State) : Type 0 where
+  pub contexts : (j : Job) → Contains s.core.jobs j → j.id.ctx ≤ script.sizes.engines
+  pub numbers : (j : Job) → Contains s.core.jobs j → j.id.num ≤ unwrap_or (slice_get s.last_jobs j.id.ctx) 0
+  pub known : (b : BufId) (i : JobId) → Contains (jobs_before_write (buffer s b)) i → is_job s i ≡ true
+  pub waits_known : (j : Job) (i : JobId) → Contains s.core.jobs j → Contains j.waits i → is_job s i ≡ true
+  pub move_known : (i : JobId) → s.core.move_job ≡ Some i → is_job s i ≡ true
+  pub waits_back : WaitsGoBack s.core.jobs
+
+-- ---- who has what
+
+-- `new` and `touch` lock nothing
+abbrev pub locks : Command → Bool
+locks (command.New b) = false
+locks (command.Touch group) = false
+locks _ = true
+
+abbrev pub victims : Course → List BufId
+victims c = map (λ v. v.b) c.caught
+
+abbrev pub distinct : List BufId → Bool
+distinct [] = true
+distinct (b ∷ bs) = not (has_buffer bs b) && distinct bs
+
+pub record Owned (script : Script) (s : State) : Type 0 where
+  pub courses : length s.courses ≡ length script.threads
+  pub answered : (t : ℕ) → (course s t).answered ≤ length (commands_of script t)
+  pub holder : (b : BufId) (st : Stamp) → (grip s b).holder ≡ Some st → (t : ℕ) × ((course s t).stamp ≡ Some st) × Has s t b
+  pub held : (t : ℕ) (b : BufId) → Has s t b → (x : Buffer) × (st : Stamp) × (live_in s.core.buffers b ≡ Some x) × ((grip s b).holder ≡ Some st) × ((course s t).stamp ≡ Some st)
+  pub once : (t : ℕ) → distinct ((course s t).held ++ victims (course s t)) ≡ true
+  pub one : (t u : ℕ) (st : Stamp) → (course s t).stamp ≡ Some st → (course s u).stamp ≡ Some st → t ≡ u
+  pub below : (t : ℕ) (st : Stamp) → (course s t).stamp ≡ Some st → st.0 ≤ s.last_stamp
+  pub at_work : (t : ℕ) (st : Stamp) → (course s t).stamp ≡ Some st → (cmd : Command) × (command_at_work script s t ≡ Some cmd) × (locks cmd ≡ true)
+  pub named_held : (t : ℕ) (b : BufId) (cmd : Command) → command_at_work script s t ≡ Some cmd → has_buffer (course s t).held b ≡ true → has_buffer (named cmd) b ≡ true
+  pub named_first : (t : ℕ) (b : BufId) (cmd : Command) → command_at_work script s t ≡ Some cmd → (course s t).first ≡ Some b → has_buffer (named cmd) b ≡ true
+  pub searching : (t : ℕ) (cmd : Command) (b : BufId) → command_at_work script s t ≡ Some cmd → is_caught (course s t) b ≡ true → wants (course s t) cmd ≡ None
+  pub fails_not : (t : ℕ) (b : BufId) → is_caught (course s t) b ≡ true → (course s t).fail ≡ None
+
+-- ---- searches
+
+-- the targets, by memory type: whether there is one
+abbrev pub Targeted : Buffer → (system tt vram : Bool) → Type 0
+Targeted x a b c = (has_target System x ≡ a) × (has_target Tt x ≡ b) × (has_target Vram x ≡ c)
+
+-- a victim on its way, by why it was caught
+pub data OnItsWay (x : Buffer) : Why → Option Deny → Type 0 where
+  in_vram : {fail : Option Deny} → x.mem ≡ Vram → Targeted x false false false → OnItsWay x why.Vram fail
+  to_tt : {fail : Option Deny} → x.mem ≡ Vram → Targeted x false true false → OnItsWay x why.Vram fail
+  out_of_vram : x.mem ≡ Tt → Targeted x false false false → OnItsWay x why.Vram None
+  in_tt : {w : Why} → (w ≡ why.Vram → ⊥) → x.mem ≡ Tt → Targeted x true false false → OnItsWay x w None
+  in_system : {w : Why} → (w ≡ why.Vram → ⊥) → x.mem ≡ System → Targeted x false false false → OnItsWay x w None
+
+-- at most two are caught, and the first of two for VRAM
+pub data Victims : List Victim → Type 0 where
+  none : Victims []
+  one : {v : Victim} → Victims (v ∷ [])
+  two : {v w : Victim} → v.why ≡ why.Vram → (w.why ≡ why.Vram → ⊥) → Victims (v ∷ w ∷ [])
+
+-- the buffer as it stands where a target is
+abbrev pub at_target : Mem → Buffer → Buffer
+at_target mem x = record x { mem = mem; spans = unwrap_or (target_of mem x.targets) [] }
+
+-- the rows of the carrying table; where the search hasn't failed, the last target is where the command wants the buffer
+pub data Carried (fits : Mem → Type 0) (x : Buffer) : Type 0 where
+  system_tt : x.mem ≡ System → Targeted x false true false → fits Tt → Carried fits x
+  system_vram : x.mem ≡ System → Targeted x false false true → fits Vram → Carried fits x
+  system_both : x.mem ≡ System → Targeted x false true true → fits Vram → Carried fits x
+  tt_system : x.mem ≡ Tt → Targeted x true false false → fits System → Carried fits x
+  tt_tt : x.mem ≡ Tt → Targeted x false true false → fits Tt → Carried fits x
+  tt_vram : x.mem ≡ Tt → Targeted x false false true → fits Vram → Carried fits x
+  vram_vram : x.mem ≡ Vram → Targeted x false false true → fits Vram → Carried fits x
+  vram_tt : x.mem ≡ Vram → Targeted x false true false → fits Tt → Carried fits x
+  vram_system : x.mem ≡ Vram → Targeted x true false false → fits System → Carried fits x
+  vram_both : x.mem ≡ Vram → Targeted x true true false → fits System → Carried fits x
+
+abbrev pub Fits : Script → Course → Command → BufId → Buffer → Mem → Type 0
+Fits script c cmd b x mem = c.fail ≡ None → meets script cmd b (at_target mem x) ≡ true
+
+-- the command asks where its buffers stand
+abbrev pub asks : Command → Bool
+asks (command.Submit engine ops) = true
+asks (command.Find b) = true
+asks (command.Move b mem) = true
+asks (command.SwapOut b) = true
+asks _ = false
+
+pub record UnderWay (script : Script) (s : State) (c : Course) (cmd : Command) (b : BufId) : Type 0 where
+  pub works : wants c cmd ≡ None
+  pub unmade : c.made ≡ false
+  pub first : first_unready script s cmd ≡ Some b
+  pub asked : asks cmd ≡ true
+  pub loose : (grip s b).pins ≡ 0
+  pub row : Carried (Fits script c cmd b (buffer s b)) (buffer s b)
+
+-- a search that has gone dry at some places
+pub record GoneDry (script : Script) (s : State) (c : Course) (cmd : Command) : Type 0 where
+  pub works : wants c cmd ≡ None
+  pub b : BufId
+  pub first : first_unready script s cmd ≡ Some b
+  pub misplaced : is_in_place script cmd b (buffer s b) ≡ false
+  pub untargeted : has_some_target (buffer s b) ≡ false
+  pub fewer : c.dry < length (forced_places (asked_places script cmd b))
+
+-- the command has an entry of its own before its result
+abbrev pub asks_to_make : Command → Bool
+asks_to_make (command.New b) = true
+asks_to_make (command.Free b) = true
+asks_to_make (command.Touch group) = true
+asks_to_make (command.Submit engine ops) = true
+asks_to_make _ = false
+
+pub record Searched (script : Script) (s : State) : Type 0 where
+  pub pages : (b : BufId) (x : Buffer) → live_in s.core.buffers b ≡ Some x → length x.table ≡ (decl script b).pages
+  pub listed : (mem : Mem) (b : BufId) → Contains (in_order s mem) b → (x : Buffer) × (live_in s.core.buffers b ≡ Some x) × (x.mem ≡ mem)
+  pub victims : (t : ℕ) → Victims (course s t).caught
+  pub ways : (t : ℕ) (v : Victim) → Contains (course s t).caught v → OnItsWay (buffer s v.b) v.why v.fail
+  pub unskipped : (t : ℕ) (v : Victim) → Contains (course s t).caught v → v.why ≡ why.Vram → has_buffer (course s t).skips v.b ≡ false
+  pub targets : (b : BufId) → has_some_target (buffer s b) ≡ true → (grip s b).holder ≡ None → ⊥
+  pub carried : (t : ℕ) (cmd : Command) (b : BufId) → command_at_work script s t ≡ Some cmd → has_buffer (course s t).held b ≡ true →
+      has_some_target (buffer s b) ≡ true → UnderWay script s (course s t) cmd b
+  pub dry : (t : ℕ) (cmd : Command) → command_at_work script s t ≡ Some cmd → (course s t).made ≡ false → (course s t).fail ≡ None →
+      0 < (course s t).dry → GoneDry script s (course s t) cmd
+  pub makes : (t : ℕ) (cmd : Command) → command_at_work script s t ≡ Some cmd → (course s t).made ≡ true → asks_to_make cmd ≡ true
+
+pub record Sound (script : Script) (s : State) : Type 0 where
+  pub jobs : SoundJobs script s
+  pub owned : Owned script s
+  pub searched : Searched script s

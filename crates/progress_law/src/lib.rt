@@ -1,0 +1,2 @@
+//! Laws on how legal journals go on and end.
+#![tactic(auto)]
