@@ -3,3 +3,9 @@ pub mod ThreadsGoOn
 pub mod NoDeadEnd
 pub mod Sound
 pub mod DeadEnds
+pub mod Measure
+pub mod OthersSame
+pub mod MeasureFalls
+pub mod BackoffLowers
+pub mod CarriedOn
+pub mod JournalEnds
