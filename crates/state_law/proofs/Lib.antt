@@ -1,3 +1,7 @@
 pub mod Lists
 pub mod Tables
 pub mod JobNames
+pub mod Moves
+pub mod JobsKeep
+pub mod Rules
+pub mod GoodStates
