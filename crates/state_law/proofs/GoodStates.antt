@@ -1,21 +1,20 @@
 -- What holds of tables and jobs in every state that a legal journal leads to.
-use Rattle.std.proofs.Common.{◌≡◌, ℕ, ◌+◌, ◌-◌, ◌<◌, ◌≤◌, zero, suc, Bool, true, false, List, [], ◌∷◌, ◌++◌, length, Option, Some, None, Result, Ok, Err, IsTrue, refl, sym, subst, ◌∙◌, ap, ap₂, arith, ◌⊎◌, inl, inr, ⊎_elim}
-use Rattle.std.specs.Prelude.{slice_get, slice_set, map, flat_map, find, not, ◌==◌, ◌&&◌, sum_by, nat_lt, nat_le, unwrap_or, option_and_then, replicate, if◌then◌else◌}
+use Rattle.std.proofs.Common.{◌≡◌, ℕ, ◌+◌, ◌<◌, ◌≤◌, zero, suc, Bool, true, false, List, [], ◌∷◌, length, Option, Some, None, Ok, Err, IsTrue, refl, sym, subst, ◌∙◌, ap, ap₂, arith}
+use Rattle.std.specs.Prelude.{slice_get, slice_set, map, not, ◌==◌, ◌&&◌, unwrap_or, option_and_then, replicate}
 use Rattle.std.specs.List.{list_all}
 use Rattle.std.proofs.lemmas.Grind.{common_steps}
 use Rattle.std.proofs.lemmas.Bool.Decides.{nat_tests}
 use Rattle.ttm_base.specs.ListWords.{count_from}
 use Rattle.ttm_base.specs.declared.Mem.{Mem}
-use Rattle.ttm_base.specs.declared.Mem.TheVariants.{System, Tt, Vram}
+use Rattle.ttm_base.specs.declared.Mem.TheVariants.{System}
 use Rattle.ttm_base.specs.declared.BufId.{BufId}
 use Rattle.ttm_base.specs.declared.JobId.{JobId}
 use Rattle.ttm_base.specs.declared.Op.{Op}
-use Rattle.ttm_base.specs.declared.Packet.{Packet}
 use Rattle.ttm_base.specs.declared.Need.TheVariants as need
 use Rattle.ttm_base.specs.declared.Actor.{Actor}
 use Rattle.ttm_base.specs.declared.Actor.TheVariants as actor
 use Rattle.ttm_base.specs.Reach.{same_mem}
-use Rattle.ttm_base.specs.Cutting.{PageMap, op_len, packets_of}
+use Rattle.ttm_base.specs.Cutting.{PageMap, packets_of}
 use Rattle.journal_model.specs.declared.script.Script.{Script}
 use Rattle.journal_model.specs.declared.script.Command.{Command}
 use Rattle.journal_model.specs.declared.script.Command.TheVariants as command
@@ -28,31 +27,29 @@ use Rattle.journal_model.specs.declared.entry.Entry.{Entry}
 use Rattle.journal_model.specs.declared.entry.Left.{Left}
 use Rattle.journal_model.specs.declared.entry.Kind.{Kind}
 use Rattle.journal_model.specs.declared.entry.Kind.TheVariants as kind
-use Rattle.journal_model.specs.State.{buffer, course, live_in, same_buffer, new_buffer}
+use Rattle.journal_model.specs.Places.{packet_place}
+use Rattle.journal_model.specs.State.{buffer_in, buffer, course, live_in, new_buffer}
 use Rattle.journal_model.specs.Commands.{command_at_work, decl}
-use Rattle.journal_model.specs.CommandRules.{is_command, is_op, command_len}
+use Rattle.journal_model.specs.CommandRules.{is_command, is_op}
 use Rattle.journal_model.specs.ScriptRules.{is_script}
 use Rattle.journal_model.specs.Waits.{same_job}
 use Rattle.journal_model.specs.PageSteps.{next_job}
-use Rattle.journal_model.specs.Next.{next, head_of, step_of_engine, step_of_job}
-use Rattle.journal_model.specs.Apply.{applied, thread_of, engine_of}
-use Rattle.journal_model.specs.ApplyMoves.{with_job, move_packets, copy_of_page}
+use Rattle.journal_model.specs.Search.{Step}
+use Rattle.journal_model.specs.Next.{next, head_of, step_of_job}
+use Rattle.journal_model.specs.Apply.{applied}
+use Rattle.journal_model.specs.ApplyMoves.{with_job, move_packets}
 use Rattle.journal_model.specs.ApplyJobs.{ops_of, changed_job}
-use Rattle.journal_model.specs.Legal.{World, first_state, first_world, world_after, world_along, state_of, IsLegalNext, IsLegalFrom, IsLegal}
+use Rattle.journal_model.specs.Legal.{World, first_state, first_world, world_after, world_along, state_of, IsLegalFrom, IsLegal}
 use Rattle.journal_model.proofs.KeptLengths.{length-applied}
-use Rattle.journal_law.proofs.Shown.{LegalStep, legal_step}
+use Rattle.journal_law.proofs.Shown.{legal_step}
 use Rattle.journal_law.proofs.Courses.{is_of_engine, is_of_reaper, of_engine, of_reaper}
 use Rattle.state_law.proofs.Lists.{get_within}
-use Rattle.state_law.proofs.Tables.{HaveTables, HasPages, tables_keep}
-use Rattle.state_law.proofs.JobNames.{GoodJobs, IsChange, last_number, no_jobs, one_job_more, jobs_changed, found_at, same_self}
-use Rattle.state_law.proofs.Moves.{ThreadStep, thread_step, is_arm_of, is_move_of, is_made_by, made_by_task, command_stands, stands}
+use Rattle.state_law.specs.GoodState.{HasPages, GoodJobs, GoodState}
+use Rattle.state_law.proofs.Tables.{tables_keep}
+use Rattle.state_law.proofs.JobNames.{no_jobs, one_job_more, jobs_changed, found_at}
+use Rattle.state_law.proofs.Moves.{ThreadStep, thread_step, is_arm_of, is_move_of, is_of_worker, is_made_by, made_by_task, command_stands, stands}
 use Rattle.state_law.proofs.JobsKeep.{few_packets, some_packets, op_has_bytes, all_at}
-use Rattle.state_law.proofs.Rules.{Rules, rules_of, OfThread, at_work_rules, HasFewPages, declared_pages}
-
-pub record GoodState (script : Script) (s : State) : Type 0 where
-  pub many : length s.core.buffers ≡ length script.buffers
-  pub tables : HaveTables script s.core.buffers
-  pub jobs : GoodJobs script.sizes.engines s.last_jobs s.core.jobs
+use Rattle.state_law.proofs.Rules.{Rules, rules_of, at_work_rules, declared_pages}
 
 -- ---- an arm
 
@@ -119,8 +116,8 @@ arm_keeps script r s t engine n waits pages good st =
     let most : length (packets_of pages arm.ops) ≤ 67108864 = omega (arith, few, len) in
     subst (λ ops. GoodJobs script.sizes.engines (slice_set s.last_jobs engine n) (with_job (record { ctx = engine; num = n }) waits (packets_of pages ops) s.core.jobs)) (sym (ap ops_of work))
     (one_job_more script.sizes.engines s.last_jobs s.core.jobs
-        (record { id = record { ctx = engine; num = n }; waits = waits; packets = packets_of pages arm.ops; ran = 0; finished = false })
-        good.jobs rules.0 arm.number refl packets most)
+    (record { id = record { ctx = engine; num = n }; waits = waits; packets = packets_of pages arm.ops; ran = 0; finished = false })
+    good.jobs rules.0 arm.number refl packets most)
 
 -- ---- a move
 
@@ -209,5 +206,240 @@ move_keeps script r s t b mem n l waits good st =
     let low = pages.0 in
     let high = pages.1 in
     one_job_more script.sizes.engines s.last_jobs s.core.jobs
-        (record { id = record { ctx = 0; num = n }; waits = waits; packets = move_packets (buffer s b) mem; ran = 0; finished = false })
-        good.jobs (omega arith) move.number refl (omega (arith, len, low)) (omega (arith, len, high))
+    (record { id = record { ctx = 0; num = n }; waits = waits; packets = move_packets (buffer s b) mem; ran = 0; finished = false })
+    good.jobs (omega arith) move.number refl (omega (arith, len, low)) (omega (arith, len, high))
+
+-- no task makes an entry of an engine or of the reaper
+no_worker : (s : State) (cmd : Command) (t : Task) (k : Kind) → is_of_worker k ≡ true → is_made_by s cmd t k ≡ true → ⊥
+no_worker s cmd task.Idle k h made = grind arith
+no_worker s cmd task.Answer k h made = grind arith
+no_worker s cmd task.Start k h made = grind arith
+no_worker s cmd (task.Lock x) k h made = grind arith
+no_worker s cmd (task.Search x aim) k h made = grind arith
+no_worker s cmd (task.Bind x) k h made = grind arith
+no_worker s cmd (task.Unbind x) k h made = grind arith
+no_worker s cmd (task.Move x mem) (kind.Packet n p piece) h made = cc
+no_worker s cmd (task.Move x mem) (kind.Done n) h made = cc
+no_worker s cmd (task.Move x mem) (kind.Reap n) h made = cc
+no_worker s cmd (task.Move x mem) (kind.Ticket stamp) h made = cc
+no_worker s cmd (task.Move x mem) (kind.Reserve b) h made = cc
+no_worker s cmd (task.Move x mem) (kind.Backoff b stamp) h made = cc
+no_worker s cmd (task.Move x mem) (kind.New b) h made = cc
+no_worker s cmd (task.Move x mem) (kind.Free b g) h made = cc
+no_worker s cmd (task.Move x mem) (kind.Take b m spans) h made = cc
+no_worker s cmd (task.Move x mem) (kind.Untake b m) h made = cc
+no_worker s cmd (task.Move x mem) (kind.Populate b page f) h made = cc
+no_worker s cmd (task.Move x mem) (kind.SwapIn b page slot f) h made = cc
+no_worker s cmd (task.Move x mem) (kind.Depopulate b) h made = cc
+no_worker s cmd (task.Move x mem) (kind.Bind b) h made = cc
+no_worker s cmd (task.Move x mem) (kind.Unbind b) h made = cc
+no_worker s cmd (task.Move x mem) (kind.Move b m n l) h made = cc
+no_worker s cmd (task.Move x mem) (kind.Catch b w) h made = cc
+no_worker s cmd (task.Move x mem) (kind.Loose b) h made = cc
+no_worker s cmd (task.Move x mem) (kind.Skip b) h made = cc
+no_worker s cmd (task.Move x mem) (kind.Dry b k w) h made = cc
+no_worker s cmd (task.Move x mem) (kind.SwapOut b page slot) h made = cc
+no_worker s cmd (task.Move x mem) (kind.NoPages b) h made = cc
+no_worker s cmd (task.Move x mem) (kind.Arm engine n) h made = cc
+no_worker s cmd (task.Move x mem) (kind.Bulk group) h made = cc
+no_worker s cmd (task.Move x mem) (kind.Result shown) h made = cc
+no_worker s cmd (task.Move x mem) (kind.Refused d) h made = cc
+no_worker s cmd (task.Fill x) k h made = grind arith
+no_worker s cmd (task.Empty x) k h made = grind arith
+no_worker s cmd (task.GiveBack x) k h made = grind arith
+no_worker s cmd (task.Skip x) k h made = grind arith
+no_worker s cmd (task.GiveUp d) k h made = grind arith
+no_worker s cmd (task.Refuse d) k h made = grind arith
+no_worker s cmd task.Act k h made = grind arith
+
+-- ---- a packet, and the end of a job
+
+-- the job at the head of a context, of which a packet is left
+pub record IsPacket (s : State) (e n k : ℕ) : Type 0 where
+  pub job : Job
+  pub at : ℕ
+  pub here : slice_get s.core.jobs at ≡ Some job
+  pub name : job.id ≡ record { ctx = e; num = n }
+  pub unfinished : job.finished ≡ false
+  pub ran : k ≡ job.ran
+  pub left : job.ran < length job.packets
+
+packet_step : (s : State) (j : Job) (n k : ℕ) (piece : List ℕ) → step_of_job s j ≡ Ok (kind.Packet n k piece) → (n ≡ j.id.num) × (k ≡ j.ran) × (j.ran < length j.packets)
+packet_step s j n k piece h = (grind (arith, common_steps, nat_tests), grind (arith, common_steps, nat_tests), grind (arith, common_steps, nat_tests))
+
+abbrev engine_at : State → Option Job → Step
+engine_at s o = elim o [ None ↦ Err need.NoJob | Some j ↦ step_of_job s j ]
+
+pub packet_of_head : (script : Script) (s : State) (e n k : ℕ) (piece : List ℕ) → next script s (actor.Engine e) ≡ Ok (kind.Packet n k piece) → IsPacket s e n k
+packet_of_head script s e n k piece h = by (head_of s e) refl h
+  where
+    by : (o : Option Job) → head_of s e ≡ o → engine_at s o ≡ Ok (kind.Packet n k piece) → IsPacket s e n k
+    by None q g = cc
+    by (Some j) q g =
+        let p = packet_step s j n k piece g in
+        let f = found_at (λ j. (j.id.ctx == e) && not j.finished) s.core.jobs j q in
+        let ctx : j.id.ctx ≡ e = passes j.id.ctx e j.finished f.2 in
+        record {
+          job = j;
+          at = f.0;
+          here = f.1;
+          name = ap₂ (λ c m. record { ctx = c; num = m }) ctx (sym p.0);
+          unfinished = open_now j.id.ctx e j.finished f.2;
+          ran = p.1;
+          left = p.2;
+        }
+      where
+        passes : (c d : ℕ) (fin : Bool) → ((c == d) && not fin) ≡ true → c ≡ d
+        passes c d fin w = grind (arith, nat_tests)
+
+        open_now : (c d : ℕ) (fin : Bool) → ((c == d) && not fin) ≡ true → fin ≡ false
+        open_now c d true w = grind (arith, nat_tests)
+        open_now c d false w = refl
+
+packet_keeps : (script : Script) (s : State) (e n k : ℕ) (piece : List ℕ) → GoodState script s → next script s (actor.Engine e) ≡ Ok (kind.Packet n k piece)
+    → GoodJobs script.sizes.engines s.last_jobs (changed_job (λ j. record j { ran = j.ran + 1 }) (record { ctx = e; num = n }) s.core.jobs)
+packet_keeps script s e n k piece good h =
+    let p = packet_of_head script s e n k piece h in
+    jobs_changed script.sizes.engines s.last_jobs s.core.jobs (λ j. record j { ran = j.ran + 1 }) (record { ctx = e; num = n }) good.jobs
+    (record { id = λ x. refl; packets = λ x. refl })
+    (λ i x q same.
+    let at : p.at ≡ i = good.jobs.names p.at i p.job x p.here q (subst (λ w. same_job w x.id ≡ true) (sym p.name) same) in
+    let it : Some p.job ≡ Some x = sym p.here ∙ (ap (slice_get s.core.jobs) at ∙ q) in
+    let is : p.job ≡ x = cc in
+    let left : x.ran < length x.packets = subst (λ w. w.ran < length w.packets) is p.left in
+    omega (arith, left))
+
+done_keeps : (script : Script) (s : State) (id : JobId) → GoodState script s → GoodJobs script.sizes.engines s.last_jobs (changed_job (λ j. record j { finished = true }) id s.core.jobs)
+done_keeps script s id good =
+    jobs_changed script.sizes.engines s.last_jobs s.core.jobs (λ j. record j { finished = true }) id good.jobs (record { id = λ x. refl; packets = λ x. refl }) (λ i x q same. good.jobs.ran i x q)
+
+-- ---- each kind
+
+thread_jobs : (script : Script) → Rules script → (s : State) (t : ℕ) (k : Kind) → GoodState script s → ThreadStep script s t k
+    → GoodJobs script.sizes.engines (applied script s (actor.Thread t) k).last_jobs (applied script s (actor.Thread t) k).core.jobs
+thread_jobs script r s t (kind.Ticket stamp) good st = good.jobs
+thread_jobs script r s t (kind.Reserve b) good st = good.jobs
+thread_jobs script r s t (kind.Backoff b stamp) good st = good.jobs
+thread_jobs script r s t (kind.New b) good st = good.jobs
+thread_jobs script r s t (kind.Free b g) good st = good.jobs
+thread_jobs script r s t (kind.Take b mem spans) good st = good.jobs
+thread_jobs script r s t (kind.Untake b mem) good st = good.jobs
+thread_jobs script r s t (kind.Populate b page f) good st = good.jobs
+thread_jobs script r s t (kind.SwapIn b page slot f) good st = good.jobs
+thread_jobs script r s t (kind.Depopulate b) good st = good.jobs
+thread_jobs script r s t (kind.Bind b) good st = good.jobs
+thread_jobs script r s t (kind.Unbind b) good st = good.jobs
+thread_jobs script r s t (kind.Move b mem n l) good st = move_keeps script r s t b mem n l _ good st
+thread_jobs script r s t (kind.Catch b w) good st = good.jobs
+thread_jobs script r s t (kind.Loose b) good st = good.jobs
+thread_jobs script r s t (kind.Skip b) good st = good.jobs
+thread_jobs script r s t (kind.Dry b k w) good st = good.jobs
+thread_jobs script r s t (kind.SwapOut b page slot) good st = good.jobs
+thread_jobs script r s t (kind.NoPages b) good st = good.jobs
+thread_jobs script r s t (kind.Arm engine n) good st = arm_keeps script r s t engine n _ (λ b. packet_place (buffer_in s.core b)) good st
+thread_jobs script r s t (kind.Packet n k piece) good st = absurd (no_worker s st.cmd st.task (kind.Packet n k piece) refl (made_by_task script s (course s t) st.cmd st.task (kind.Packet n k piece) st.step))
+thread_jobs script r s t (kind.Done n) good st = absurd (no_worker s st.cmd st.task (kind.Done n) refl (made_by_task script s (course s t) st.cmd st.task (kind.Done n) st.step))
+thread_jobs script r s t (kind.Reap g) good st = absurd (no_worker s st.cmd st.task (kind.Reap g) refl (made_by_task script s (course s t) st.cmd st.task (kind.Reap g) st.step))
+thread_jobs script r s t (kind.Bulk group) good st = good.jobs
+thread_jobs script r s t (kind.Result shown) good st = good.jobs
+thread_jobs script r s t (kind.Refused d) good st = good.jobs
+
+engine_jobs : (script : Script) (s : State) (e : ℕ) (k : Kind) → GoodState script s → next script s (actor.Engine e) ≡ Ok k → is_of_engine k ≡ true
+    → GoodJobs script.sizes.engines (applied script s (actor.Engine e) k).last_jobs (applied script s (actor.Engine e) k).core.jobs
+engine_jobs script s e (kind.Ticket stamp) good h q = cc
+engine_jobs script s e (kind.Reserve b) good h q = cc
+engine_jobs script s e (kind.Backoff b stamp) good h q = cc
+engine_jobs script s e (kind.New b) good h q = cc
+engine_jobs script s e (kind.Free b g) good h q = cc
+engine_jobs script s e (kind.Take b mem spans) good h q = cc
+engine_jobs script s e (kind.Untake b mem) good h q = cc
+engine_jobs script s e (kind.Populate b page f) good h q = cc
+engine_jobs script s e (kind.SwapIn b page slot f) good h q = cc
+engine_jobs script s e (kind.Depopulate b) good h q = cc
+engine_jobs script s e (kind.Bind b) good h q = cc
+engine_jobs script s e (kind.Unbind b) good h q = cc
+engine_jobs script s e (kind.Move b mem n l) good h q = cc
+engine_jobs script s e (kind.Catch b w) good h q = cc
+engine_jobs script s e (kind.Loose b) good h q = cc
+engine_jobs script s e (kind.Skip b) good h q = cc
+engine_jobs script s e (kind.Dry b k w) good h q = cc
+engine_jobs script s e (kind.SwapOut b page slot) good h q = cc
+engine_jobs script s e (kind.NoPages b) good h q = cc
+engine_jobs script s e (kind.Arm engine n) good h q = cc
+engine_jobs script s e (kind.Packet n k piece) good h q = packet_keeps script s e n k piece good h
+engine_jobs script s e (kind.Done n) good h q = done_keeps script s (record { ctx = e; num = n }) good
+engine_jobs script s e (kind.Reap g) good h q = cc
+engine_jobs script s e (kind.Bulk group) good h q = cc
+engine_jobs script s e (kind.Result shown) good h q = cc
+engine_jobs script s e (kind.Refused d) good h q = cc
+
+reaper_jobs : (script : Script) (s : State) (k : Kind) → GoodState script s → is_of_reaper k ≡ true
+    → GoodJobs script.sizes.engines (applied script s actor.Reaper k).last_jobs (applied script s actor.Reaper k).core.jobs
+reaper_jobs script s (kind.Ticket stamp) good q = cc
+reaper_jobs script s (kind.Reserve b) good q = cc
+reaper_jobs script s (kind.Backoff b stamp) good q = cc
+reaper_jobs script s (kind.New b) good q = cc
+reaper_jobs script s (kind.Free b g) good q = cc
+reaper_jobs script s (kind.Take b mem spans) good q = cc
+reaper_jobs script s (kind.Untake b mem) good q = cc
+reaper_jobs script s (kind.Populate b page f) good q = cc
+reaper_jobs script s (kind.SwapIn b page slot f) good q = cc
+reaper_jobs script s (kind.Depopulate b) good q = cc
+reaper_jobs script s (kind.Bind b) good q = cc
+reaper_jobs script s (kind.Unbind b) good q = cc
+reaper_jobs script s (kind.Move b mem n l) good q = cc
+reaper_jobs script s (kind.Catch b w) good q = cc
+reaper_jobs script s (kind.Loose b) good q = cc
+reaper_jobs script s (kind.Skip b) good q = cc
+reaper_jobs script s (kind.Dry b k w) good q = cc
+reaper_jobs script s (kind.SwapOut b page slot) good q = cc
+reaper_jobs script s (kind.NoPages b) good q = cc
+reaper_jobs script s (kind.Arm engine n) good q = cc
+reaper_jobs script s (kind.Packet n k piece) good q = cc
+reaper_jobs script s (kind.Done n) good q = cc
+reaper_jobs script s (kind.Reap g) good q = good.jobs
+reaper_jobs script s (kind.Bulk group) good q = cc
+reaper_jobs script s (kind.Result shown) good q = cc
+reaper_jobs script s (kind.Refused d) good q = cc
+
+jobs_keep : (script : Script) → Rules script → (s : State) (who : Actor) (k : Kind) → GoodState script s → next script s who ≡ Ok k
+    → GoodJobs script.sizes.engines (applied script s who k).last_jobs (applied script s who k).core.jobs
+jobs_keep script r s (actor.Thread t) k good h = thread_jobs script r s t k good (thread_step script s t k h)
+jobs_keep script r s (actor.Engine e) k good h = engine_jobs script s e k good h (of_engine script s e k h)
+jobs_keep script r s actor.Reaper k good h = reaper_jobs script s k good (of_reaper script s k h)
+
+pub good_keeps : (script : Script) → Rules script → (s : State) (who : Actor) (k : Kind) → GoodState script s → next script s who ≡ Ok k → GoodState script (applied script s who k)
+good_keeps script r s who k good h =
+    record {
+      many = length-applied script s who k ∙ good.many;
+      tables = tables_keep script s who k good.tables;
+      jobs = jobs_keep script r s who k good h;
+    }
+
+-- ---- along a journal
+
+dead_tables : (script : Script) {X : Type 0} (xs : List X) (b : BufId) (i : ℕ) → HasPages script b (option_and_then (λ y. y) (slice_get (map (λ d. None) xs) i))
+dead_tables script [] b i = tt
+dead_tables script (x ∷ xs) b zero = tt
+dead_tables script (x ∷ xs) b (suc i) = dead_tables script xs b i
+
+length-replicate : {X : Type 0} (n : ℕ) (x : X) → length (replicate n x) ≡ n
+length-replicate zero x = refl
+length-replicate (suc n) x = ap suc (length-replicate n x)
+
+pub good_first : (script : Script) → GoodState script (first_state script)
+good_first script =
+    record {
+      many = length-map (λ d. None) script.buffers;
+      tables = λ b. dead_tables script script.buffers b b.0;
+      jobs = no_jobs script.sizes.engines (replicate (script.sizes.engines + 1) 0) (length-replicate (script.sizes.engines + 1) 0);
+    }
+
+good_along : (script : Script) → Rules script → (w : World) (es : List Entry) → GoodState script w.state → IsLegalFrom script w es → GoodState script (world_along script w es).state
+good_along script r w [] good h = good
+good_along script r w (e ∷ es) good h =
+    let l = legal_step script w e h.0 in
+    good_along script r (world_after script w e) es (subst (GoodState script) (sym l.state) (good_keeps script r w.state e.who l.kind good l.step)) h.1
+
+pub good_law : (script : Script) → IsTrue (is_script script) → (journal : List Entry) → IsLegal script journal → GoodState script (state_of script journal)
+good_law script fits journal h = good_along script (rules_of script fits) (first_world script) journal (good_first script) h

@@ -1,29 +1,15 @@
 -- Jobs have distinct names, whose numbers and contexts are bounded, and each has some packets, of which no more have run.
-use Rattle.std.proofs.Common.{◌≡◌, ℕ, ◌+◌, ◌-◌, ◌<◌, ◌≤◌, zero, suc, Bool, true, false, List, [], ◌∷◌, ◌++◌, length, Option, Some, None, refl, sym, subst, ◌∙◌, ap, ap₂, arith, ◌⊎◌, inl, inr, ⊎_elim}
-use Rattle.std.specs.Prelude.{slice_get, slice_set, map, find, not, ◌==◌, ◌&&◌, unwrap_or, replicate, if◌then◌else◌}
+use Rattle.std.proofs.Common.{◌≡◌, ℕ, ◌+◌, ◌<◌, ◌≤◌, zero, suc, Bool, true, false, List, [], ◌∷◌, ◌++◌, length, Some, refl, sym, subst, ◌∙◌, ap, arith, ◌⊎◌, inl, inr, ⊎_elim}
+use Rattle.std.specs.Prelude.{slice_get, slice_set, find, unwrap_or, if◌then◌else◌}
 use Rattle.std.proofs.Math.ListN.{length-set}
 use Rattle.std.proofs.lemmas.Bool.Decides.{nat_tests}
 use Rattle.std.proofs.lemmas.Bool.{cases_Bool, cases_eq}
 use Rattle.ttm_base.specs.declared.JobId.{JobId}
-use Rattle.journal_model.specs.declared.script.Script.{Script}
-use Rattle.journal_model.specs.declared.state.State.{State}
 use Rattle.journal_model.specs.declared.state.Job.{Job}
 use Rattle.journal_model.specs.Waits.{same_job}
 use Rattle.journal_model.specs.ApplyJobs.{changed_job}
-use Rattle.state_law.proofs.Lists.{set_at, get_pushed, get_mapped, get_within}
-
--- the last number of a context
-abbrev pub last_number : List ℕ → ℕ → ℕ
-last_number last ctx = unwrap_or (slice_get last ctx) 0
-
-pub record GoodJobs (engines : ℕ) (last : List ℕ) (jobs : List Job) : Type 0 where
-  pub rooms : length last ≡ engines + 1
-  pub contexts : (i : ℕ) (x : Job) → slice_get jobs i ≡ Some x → x.id.ctx ≤ engines
-  pub numbers : (i : ℕ) (x : Job) → slice_get jobs i ≡ Some x → x.id.num ≤ last_number last x.id.ctx
-  pub names : (i j : ℕ) (x y : Job) → slice_get jobs i ≡ Some x → slice_get jobs j ≡ Some y → same_job x.id y.id ≡ true → i ≡ j
-  pub ran : (i : ℕ) (x : Job) → slice_get jobs i ≡ Some x → x.ran ≤ length x.packets
-  pub some : (i : ℕ) (x : Job) → slice_get jobs i ≡ Some x → 0 < length x.packets
-  pub few : (i : ℕ) (x : Job) → slice_get jobs i ≡ Some x → length x.packets ≤ 67108864
+use Rattle.state_law.specs.GoodState.{last_number, GoodJobs}
+use Rattle.state_law.proofs.Lists.{set_at, get_pushed, get_mapped}
 
 same_parts : (a b : JobId) → same_job a b ≡ true → (a.ctx ≡ b.ctx) × (a.num ≡ b.num)
 same_parts a b h = (grind (arith, nat_tests), grind (arith, nat_tests))
@@ -68,7 +54,7 @@ last_grows : (last : List ℕ) (ctx num c : ℕ) → ctx < length last → last_
 last_grows last ctx num c inside more =
     ⊎_elim
     (λ e. let same : c ≡ ctx = e in
-      ⊎_elim (λ d. absurd (d same)) (λ q. let is : last_number (slice_set last ctx num) c ≡ num = q in let at : last_number last c ≡ last_number last ctx = ap (last_number last) same in omega (arith, is, at, more)) (last_set last ctx num c inside))
+    ⊎_elim (λ d. absurd (d same)) (λ q. let is : last_number (slice_set last ctx num) c ≡ num = q in let at : last_number last c ≡ last_number last ctx = ap (last_number last) same in omega (arith, is, at, more)) (last_set last ctx num c inside))
     (λ d. let kept = last_kept last ctx num c d in omega (arith, kept))
     (cases_eq c ctx)
 
@@ -79,19 +65,19 @@ one_job_more engines last jobs y good context next ran some few =
       rooms = length-set last y.id.ctx y.id.num ∙ good.rooms;
       contexts = λ i x e. ⊎_elim (λ h. good.contexts i x h) (λ h. subst (λ z. z.id.ctx ≤ engines) (sym h.1) context) (get_pushed jobs y x i e);
       numbers = λ i x e. ⊎_elim
-        (λ h. let below = good.numbers i x h in let grows = last_grows last y.id.ctx y.id.num x.id.ctx inside more in omega (arith, below, grows))
-        (λ h. subst (λ z. z.id.num ≤ last_number (slice_set last y.id.ctx y.id.num) z.id.ctx) (sym h.1) mine)
-        (get_pushed jobs y x i e);
+          (λ h. let below = good.numbers i x h in let grows = last_grows last y.id.ctx y.id.num x.id.ctx inside more in omega (arith, below, grows))
+          (λ h. subst (λ z. z.id.num ≤ last_number (slice_set last y.id.ctx y.id.num) z.id.ctx) (sym h.1) mine)
+          (get_pushed jobs y x i e);
       names = λ i j x z e f q. ⊎_elim
-        (λ h. ⊎_elim
+          (λ h. ⊎_elim
           (λ k. good.names i j x z h k q)
           (λ k. absurd (is_new i x h (subst (λ w. same_job x.id w.id ≡ true) k.1 q)))
           (get_pushed jobs y z j f))
-        (λ h. ⊎_elim
+          (λ h. ⊎_elim
           (λ k. absurd (is_new j z k (subst (λ w. same_job z.id w.id ≡ true) h.1 (same_turned x.id z.id q))))
           (λ k. h.0 ∙ sym k.0)
           (get_pushed jobs y z j f))
-        (get_pushed jobs y x i e);
+          (get_pushed jobs y x i e);
       ran = λ i x e. ⊎_elim (λ h. good.ran i x h) (λ h. subst (λ z. z.ran ≤ length z.packets) (sym h.1) (omega (arith, ran))) (get_pushed jobs y x i e);
       some = λ i x e. ⊎_elim (λ h. good.some i x h) (λ h. subst (λ z. 0 < length z.packets) (sym h.1) some) (get_pushed jobs y x i e);
       few = λ i x e. ⊎_elim (λ h. good.few i x h) (λ h. subst (λ z. length z.packets ≤ 67108864) (sym h.1) few) (get_pushed jobs y x i e);
@@ -146,19 +132,19 @@ jobs_changed engines last jobs f id good change fits =
       rooms = good.rooms;
       contexts = λ i x e. let g = get_mapped (step_of f id) jobs x i e in subst (λ z. z.id.ctx ≤ engines) (sym g.2) (subst (λ w. w.ctx ≤ engines) (sym (step_id f id change g.0)) (good.contexts i g.0 g.1));
       numbers = λ i x e. let g = get_mapped (step_of f id) jobs x i e in
-        subst (λ z. z.id.num ≤ last_number last z.id.ctx) (sym g.2) (subst (λ w. w.num ≤ last_number last w.ctx) (sym (step_id f id change g.0)) (good.numbers i g.0 g.1));
+          subst (λ z. z.id.num ≤ last_number last z.id.ctx) (sym g.2) (subst (λ w. w.num ≤ last_number last w.ctx) (sym (step_id f id change g.0)) (good.numbers i g.0 g.1));
       names = λ i j x y e h q.
-        let a = get_mapped (step_of f id) jobs x i e in
-        let b = get_mapped (step_of f id) jobs y j h in
-        good.names i j a.0 b.0 a.1 b.1
-        (subst (λ w. same_job w b.0.id ≡ true) (step_id f id change a.0) (subst (λ w. same_job (step_of f id a.0).id w ≡ true) (step_id f id change b.0)
+          let a = get_mapped (step_of f id) jobs x i e in
+          let b = get_mapped (step_of f id) jobs y j h in
+          good.names i j a.0 b.0 a.1 b.1
+          (subst (λ w. same_job w b.0.id ≡ true) (step_id f id change a.0) (subst (λ w. same_job (step_of f id a.0).id w ≡ true) (step_id f id change b.0)
           (subst (λ z. same_job z.id (step_of f id b.0).id ≡ true) a.2 (subst (λ z. same_job x.id z.id ≡ true) b.2 q))));
       ran = λ i x e. let g = get_mapped (step_of f id) jobs x i e in
-        subst (λ z. z.ran ≤ length z.packets) (sym g.2) (by_name i g.0 g.1 (same_job id g.0.id) refl);
+          subst (λ z. z.ran ≤ length z.packets) (sym g.2) (by_name i g.0 g.1 (same_job id g.0.id) refl);
       some = λ i x e. let g = get_mapped (step_of f id) jobs x i e in
-        subst (λ z. 0 < length z.packets) (sym g.2) (subst (λ ps. 0 < length ps) (sym (step_packets f id change g.0)) (good.some i g.0 g.1));
+          subst (λ z. 0 < length z.packets) (sym g.2) (subst (λ ps. 0 < length ps) (sym (step_packets f id change g.0)) (good.some i g.0 g.1));
       few = λ i x e. let g = get_mapped (step_of f id) jobs x i e in
-        subst (λ z. length z.packets ≤ 67108864) (sym g.2) (subst (λ ps. length ps ≤ 67108864) (sym (step_packets f id change g.0)) (good.few i g.0 g.1));
+          subst (λ z. length z.packets ≤ 67108864) (sym g.2) (subst (λ ps. length ps ≤ 67108864) (sym (step_packets f id change g.0)) (good.few i g.0 g.1));
     }
   where
     by_name : (i : ℕ) (x : Job) → slice_get jobs i ≡ Some x → (b : Bool) → same_job id x.id ≡ b → (if b then f x else x).ran ≤ length (if b then f x else x).packets

@@ -1,44 +1,14 @@
 -- Each legal entry keeps what holds of jobs.
-use Rattle.std.proofs.Common.{◌≡◌, ℕ, ◌+◌, ◌-◌, ◌*◌, ◌<◌, ◌≤◌, zero, suc, Bool, true, false, List, [], ◌∷◌, ◌++◌, length, Option, Some, None, Result, Ok, Err, IsTrue, refl, sym, subst, ◌∙◌, ap, ap₂, arith, ◌⊎◌, inl, inr, ⊎_elim}
-use Rattle.std.specs.Prelude.{slice_get, slice_set, map, flat_map, find, not, ◌==◌, ◌&&◌, min, sum_by, nat_lt, nat_le, unwrap_or, option_and_then, if◌then◌else◌}
+use Rattle.std.proofs.Common.{◌≡◌, ℕ, ◌+◌, ◌-◌, ◌<◌, ◌≤◌, zero, suc, Bool, true, false, List, [], ◌∷◌, ◌++◌, length, Some, refl, subst, ap, arith}
+use Rattle.std.specs.Prelude.{slice_get, map, ◌&&◌, min, sum_by}
 use Rattle.std.specs.List.{list_all}
-use Rattle.std.proofs.lemmas.Grind.{common_steps}
 use Rattle.std.proofs.lemmas.Bool.Decides.{nat_tests}
 use Rattle.std.proofs.lemmas.List.Sums.{sum_by-cons}
-use Rattle.ttm_base.specs.ListWords.{count_from}
-use Rattle.ttm_base.specs.declared.Mem.{Mem}
-use Rattle.ttm_base.specs.declared.Mem.TheVariants.{System, Tt, Vram}
-use Rattle.ttm_base.specs.declared.BufId.{BufId}
-use Rattle.ttm_base.specs.declared.JobId.{JobId}
 use Rattle.ttm_base.specs.declared.Op.{Op}
 use Rattle.ttm_base.specs.declared.Op.TheVariants as op
-use Rattle.ttm_base.specs.declared.Packet.{Packet}
-use Rattle.ttm_base.specs.declared.Need.{Need}
-use Rattle.ttm_base.specs.declared.Need.TheVariants as need
-use Rattle.ttm_base.specs.declared.Actor.{Actor}
-use Rattle.ttm_base.specs.declared.Actor.TheVariants as actor
-use Rattle.ttm_base.specs.Reach.{same_mem}
-use Rattle.ttm_base.specs.Cutting.{Piece, PageMap, pieces_from, pieces_of, packet_of, packets_of, room, op_len, to_border}
+use Rattle.ttm_base.specs.Cutting.{PageMap, pieces_from, pieces_of, packet_of, packets_of, room, op_len}
 use Rattle.journal_model.specs.declared.script.Script.{Script}
-use Rattle.journal_model.specs.declared.script.Decl.{Decl}
-use Rattle.journal_model.specs.declared.script.Command.{Command}
-use Rattle.journal_model.specs.declared.script.Command.TheVariants as command
-use Rattle.journal_model.specs.declared.state.State.{State}
-use Rattle.journal_model.specs.declared.state.Job.{Job}
-use Rattle.journal_model.specs.declared.state.Buffer.{Buffer}
-use Rattle.journal_model.specs.declared.state.Task.TheVariants as task
-use Rattle.journal_model.specs.declared.entry.Kind.{Kind}
-use Rattle.journal_model.specs.declared.entry.Kind.TheVariants as kind
-use Rattle.journal_model.specs.State.{buffer, course, live_in, same_buffer}
-use Rattle.journal_model.specs.Commands.{commands_of, command_at_work, decl}
-use Rattle.journal_model.specs.CommandRules.{is_command, is_op, is_between, command_len}
-use Rattle.journal_model.specs.ScriptRules.{is_script, is_decl}
-use Rattle.journal_model.specs.PageSteps.{next_job, unless_waiting}
-use Rattle.journal_model.specs.Next.{next, head_of, step_of_engine, step_of_job}
-use Rattle.journal_model.specs.Apply.{applied}
-use Rattle.state_law.proofs.Lists.{get_within}
-use Rattle.state_law.proofs.JobNames.{GoodJobs, last_number, one_job_more, jobs_changed, found_at, same_self}
-use Rattle.state_law.proofs.Moves.{ThreadStep, thread_step, is_arm_of, is_move_of, is_made_by}
+use Rattle.journal_model.specs.CommandRules.{is_op}
 
 -- ---- how many packets
 

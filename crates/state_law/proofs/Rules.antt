@@ -1,22 +1,18 @@
 -- What the grammar says of commands and buffers.
-use Rattle.std.proofs.Common.{◌≡◌, ℕ, ◌+◌, ◌-◌, ◌<◌, ◌≤◌, zero, suc, Bool, true, false, List, [], ◌∷◌, length, Option, Some, None, IsTrue, refl, sym, subst, ◌∙◌, ap, arith}
-use Rattle.std.specs.Prelude.{slice_get, ◌==◌, ◌&&◌, sum_by, nat_lt, nat_le, unwrap_or, option_and_then, if◌then◌else◌}
+use Rattle.std.proofs.Common.{◌≡◌, ℕ, ◌-◌, ◌<◌, ◌≤◌, zero, suc, Bool, true, false, List, [], ◌∷◌, length, Option, Some, None, IsTrue, refl, sym, subst, ap, arith}
+use Rattle.std.specs.Prelude.{slice_get, ◌==◌, sum_by, unwrap_or, option_and_then, if◌then◌else◌}
 use Rattle.std.specs.List.{list_all}
-use Rattle.std.proofs.lemmas.Grind.{common_steps}
 use Rattle.std.proofs.lemmas.Bool.Decides.{nat_tests}
 use Rattle.std.proofs.lemmas.List.Sums.{sum_by-cons}
 use Rattle.ttm_base.specs.declared.BufId.{BufId}
-use Rattle.ttm_base.specs.declared.Op.{Op}
-use Rattle.ttm_base.specs.Cutting.{op_len}
 use Rattle.journal_model.specs.declared.script.Script.{Script}
 use Rattle.journal_model.specs.declared.script.Decl.{Decl}
 use Rattle.journal_model.specs.declared.script.Command.{Command}
-use Rattle.journal_model.specs.declared.script.Command.TheVariants as command
 use Rattle.journal_model.specs.declared.state.State.{State}
 use Rattle.journal_model.specs.declared.state.Course.{Course}
-use Rattle.journal_model.specs.State.{course, course_of}
+use Rattle.journal_model.specs.State.{course_of}
 use Rattle.journal_model.specs.Commands.{commands_of, command_at_work, decl, undeclared}
-use Rattle.journal_model.specs.CommandRules.{is_command, is_op, is_between, command_len}
+use Rattle.journal_model.specs.CommandRules.{is_command, command_len}
 use Rattle.journal_model.specs.ScriptRules.{is_script, is_decl}
 use Rattle.state_law.proofs.JobsKeep.{all_at}
 

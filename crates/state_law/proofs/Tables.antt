@@ -1,6 +1,6 @@
 -- The page table of a live buffer has its declared pages.
-use Rattle.std.proofs.Common.{◌≡◌, ℕ, ◌+◌, ◌<◌, zero, suc, Bool, true, false, List, [], ◌∷◌, ◌++◌, length, Option, Some, None, refl, sym, subst, ◌∙◌, ap, arith, ◌⊎◌, inl, inr, ⊎_elim}
-use Rattle.std.specs.Prelude.{slice_get, slice_set, map, option_map, option_and_then, fold, replicate}
+use Rattle.std.proofs.Common.{◌≡◌, ℕ, zero, suc, List, [], ◌∷◌, length, Option, Some, None, refl, sym, subst, ◌∙◌, ap, ⊎_elim}
+use Rattle.std.specs.Prelude.{slice_set, map, option_map, option_and_then, fold, replicate}
 use Rattle.std.proofs.Math.ListN.{length-set}
 use Rattle.ttm_base.specs.declared.Mem.{Mem}
 use Rattle.ttm_base.specs.declared.Mem.TheVariants.{System, Tt, Vram}
@@ -20,20 +20,13 @@ use Rattle.journal_model.specs.State.{live_in, changed, new_buffer}
 use Rattle.journal_model.specs.Commands.{decl, command_at_work}
 use Rattle.journal_model.specs.Waits.{jobs_before_target}
 use Rattle.journal_model.specs.Apply.{applied, thread_of}
-use Rattle.journal_model.specs.ApplyPages.{with_page, with_spans, with_kernel_fences, with_fence, without_frame, without_frames, bound, unbound}
+use Rattle.journal_model.specs.ApplyPages.{with_spans, with_kernel_fences, with_fence, without_frame, bound, unbound}
 use Rattle.journal_model.specs.ApplyMoves.{moved, table_left}
 use Rattle.journal_model.specs.ApplyVictims.{leaves_tt}
 use Rattle.journal_model.specs.ApplyJobs.{with_use, ops_of}
 use Rattle.journal_model.specs.ApplyCommands.{named_in}
+use Rattle.state_law.specs.GoodState.{HasPages, HaveTables}
 use Rattle.state_law.proofs.Lists.{set_at, live_changed}
-
--- as many pages as declared
-abbrev pub HasPages : Script → BufId → Option Buffer → Type 0
-HasPages script b None = Unit {0}
-HasPages script b (Some x) = length x.table ≡ (decl script b).pages
-
-abbrev pub HaveTables : Script → List (Option Buffer) → Type 0
-HaveTables script buffers = (b : BufId) → HasPages script b (live_in buffers b)
 
 -- a change that keeps the length of tables
 keeps_one : (script : Script) (f : Buffer → Buffer) → ((x : Buffer) → length (f x).table ≡ length x.table) → (b : BufId) (o : Option Buffer) → HasPages script b o → HasPages script b (option_map f o)
@@ -54,8 +47,8 @@ set_tables script buffers b o new h d =
     ⊎_elim
     (λ e. subst (HasPages script d) (sym (ap (option_and_then (λ x. x)) e)) (h d))
     (λ e.
-      let same : b ≡ d = ap (λ i. record { 0 = i }) e.0 in
-      subst (HasPages script d) (sym (ap (option_and_then (λ x. x)) e.1)) (subst (λ c. HasPages script c o) same new))
+    let same : b ≡ d = ap (λ i. record { 0 = i }) e.0 in
+    subst (HasPages script d) (sym (ap (option_and_then (λ x. x)) e.1)) (subst (λ c. HasPages script c o) same new))
     (set_at buffers b.0 d.0 o)
 
 length-map : {X Y : Type 0} (f : X → Y) (xs : List X) → length (map f xs) ≡ length xs
