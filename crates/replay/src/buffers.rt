@@ -1,0 +1,123 @@
+ghost use Rattle.std.specs.Prelude.{◌≡◌, Some, OnOk, OnErr, map, option_to_list};
+ghost use Rattle.ttm_base.specs.declared.Usage.TheVariants as usage;
+ghost use Rattle.journal_model.specs.State.{changed, with_target};
+ghost use Rattle.journal_model.specs.ApplyPages.{with_page, with_spans, with_kernel_fences, with_fence, without_frame, without_frames};
+ghost use Rattle.journal_model.specs.ApplyVictims.{leaves_tt};
+
+use journal_model::{Buffers, Fence, Table, Targets};
+use std::alloc::Global;
+use ttm_base::{BufId, JobId, Loc, Mem, NoMemory, Spans, Usage};
+
+/// Gives a page of a buffer another place, if the buffer is live.
+#[tactic(auto, using(ttm_base::proofs::ListLaws::set_same))]
+pub fn set_page(buffers: &mut Buffers, b: BufId, page: u32, place: Loc)
+    ensures { buffers.new ≡ changed (with_page page place) buffers.old b }
+{
+    let index = b.0 as usize;
+    if index < buffers.len() {
+        if let Some(buffer) = buffers.get_mut(index) {
+            if (page as usize) < buffer.table.len() {
+                buffer.table.set(page as usize, place);
+            }
+        }
+    }
+}
+
+/// Puts another target, or none, in a memory type.
+pub fn set_target(targets: &mut Targets, mem: Mem, spans: Option<Spans>)
+    ensures { targets.new ≡ with_target mem spans targets.old }
+{
+    match mem {
+        Mem::System => targets.system = spans,
+        Mem::Tt => targets.tt = spans,
+        Mem::Vram => targets.vram = spans,
+    }
+}
+
+/// Gives a buffer a target, if it is live, and a fence that everyone waits for, if there is a job.
+#[tactic(auto, using(ttm_base::proofs::ListLaws::set_same))]
+pub fn give_target(
+    buffers: &mut Buffers,
+    b: BufId,
+    mem: Mem,
+    spans: Spans,
+    job: Option<JobId>,
+) -> Result<(), NoMemory>
+    ensures ok { OnOk result (buffers.new ≡ changed (λ x. with_kernel_fences (option_to_list job) (with_spans mem (Some spans) x)) buffers.old b) }
+    ensures err { OnErr result (buffers.new ≡ buffers.old) }
+{
+    let index = b.0 as usize;
+    if index < buffers.len() {
+        if let Some(buffer) = buffers.get_mut(index) {
+            if let Some(job) = job {
+                buffer.fences.push(Fence {
+                    job,
+                    usage: Usage::Kernel,
+                })?;
+            }
+            set_target(&mut buffer.targets, mem, Some(spans));
+        }
+    }
+    Ok(())
+}
+
+/// Takes a target from a buffer, if it is live.
+#[tactic(auto, using(ttm_base::proofs::ListLaws::set_same))]
+pub fn drop_target(buffers: &mut Buffers, b: BufId, mem: Mem)
+    ensures { buffers.new ≡ changed (with_spans mem None) buffers.old b }
+{
+    let index = b.0 as usize;
+    if index < buffers.len() {
+        if let Some(buffer) = buffers.get_mut(index) {
+            set_target(&mut buffer.targets, mem, None);
+        }
+    }
+}
+
+/// The place of a page once its frame was given back.
+fn without_its_frame(place: Loc) -> Loc
+    ensures { result ≡ without_frame place }
+{
+    match place {
+        Loc::Frame(_) | Loc::Zero => Loc::Zero,
+        Loc::Slot(slot) => Loc::Slot(slot),
+    }
+}
+
+/// Takes the frames out of a page table.
+#[tactic(auto, using(crate::proofs::ListLaws::map_over_step))]
+pub fn drop_frames(table: &mut Table)
+    ensures { table.new ≡ map without_frame table.old }
+{
+    for i in 0..table.len() {
+        table.set(i, without_its_frame(table.at(i)));
+    }
+}
+
+/// Takes the frames from a buffer, if it is live.
+#[tactic(auto, using(ttm_base::proofs::ListLaws::set_same))]
+pub fn depopulate(buffers: &mut Buffers, b: BufId)
+    ensures { buffers.new ≡ changed without_frames buffers.old b }
+{
+    let index = b.0 as usize;
+    if index < buffers.len() {
+        if let Some(buffer) = buffers.get_mut(index) {
+            drop_frames(&mut buffer.table);
+        }
+    }
+}
+
+/// Sends a victim in TT to SYSTEM.
+#[tactic(auto, using(ttm_base::proofs::ListLaws::set_same))]
+pub fn leave_tt(alloc: Global, buffers: &mut Buffers, b: BufId)
+    ensures { buffers.new ≡ changed (λ x. leaves_tt x.mem x) buffers.old b }
+{
+    let index = b.0 as usize;
+    if index < buffers.len() {
+        if let Some(buffer) = buffers.get_mut(index) {
+            if let Mem::Tt = buffer.mem {
+                buffer.targets.system = Some(Spans::new(alloc));
+            }
+        }
+    }
+}
