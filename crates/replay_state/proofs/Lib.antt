@@ -1,0 +1,4 @@
+pub mod Mentions
+pub mod NamedJobs
+pub mod HeldLaws
+pub mod PageLaws

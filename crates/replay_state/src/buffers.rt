@@ -1,0 +1,187 @@
+ghost use Rattle.std.specs.Prelude.{◌≡◌, ◌==◌, IfOk, option_copied, replicate};
+ghost use Rattle.ttm_base.specs.declared.Loc.TheVariants as loc;
+ghost use Rattle.journal_model.specs.State as words;
+
+use journal_model::{
+    BufIds, Buffer, Core, Course, Fences, Grip, State, Table, Targets, Victims,
+};
+use std::alloc::Global;
+use ttm_base::{BufId, Loc, Mem, NoMemory, Span, Spans};
+
+/// The buffers are one.
+pub fn same_buffer(a: BufId, b: BufId) -> bool
+    ensures { result ≡ words.same_buffer a b }
+{
+    a.0 == b.0
+}
+
+/// The list has the buffer.
+pub fn has_buffer(bs: &[BufId], b: BufId) -> bool
+    ensures { result ≡ words.has_buffer bs.now b }
+{
+    bs.iter().any(|c| same_buffer(b, *c))
+}
+
+/// The list without the buffer.
+pub fn without_buffer(alloc: Global, bs: &[BufId], b: BufId) -> Result<BufIds, NoMemory>
+    ensures { IfOk result (λ rest. rest ≡ words.without_buffer bs.now b) }
+{
+    let mut rest = BufIds::new(alloc);
+    for c in bs {
+        if !same_buffer(b, *c) {
+            rest.push(*c)?;
+        }
+    }
+    Ok(rest)
+}
+
+/// The buffer, if it is live.
+pub fn live_in(buffers: &[Option<Buffer>], b: BufId) -> Option<&Buffer>
+    ensures { option_copied result ≡ words.live_in buffers.now b }
+{
+    match buffers.get(b.0 as usize) {
+        Some(Some(buffer)) => Some(buffer),
+        _ => None,
+    }
+}
+
+/// The buffer is live.
+pub fn is_live(state: &State, b: BufId) -> bool
+    ensures { result ≡ words.is_live state.now b }
+{
+    live_in(state.core.buffers.items(), b).is_some()
+}
+
+/// A table of so many pages that stand nowhere.
+fn empty_table(alloc: Global, pages: u32) -> Result<Table, NoMemory>
+    ensures { IfOk result (λ table. table ≡ replicate pages loc.Zero) }
+{
+    let mut table = Table::new(alloc);
+    for _page in 0..pages {
+        table.push(Loc::Zero)?;
+    }
+    Ok(table)
+}
+
+/// A buffer without pages, which stands for each buffer that isn't live. It takes no memory.
+pub fn dead_buffer(alloc: Global) -> Buffer
+    ensures { result ≡ words.new_buffer 0 }
+{
+    Buffer {
+        mem: Mem::System,
+        spans: Spans::new(alloc),
+        table: Table::new(alloc),
+        targets: Targets {
+            system: None,
+            tt: None,
+            vram: None,
+        },
+        fences: Fences::new(alloc),
+    }
+}
+
+/// A buffer of so many pages as it is made.
+pub fn new_buffer(alloc: Global, pages: u32) -> Result<Buffer, NoMemory>
+    ensures { IfOk result (λ x. x ≡ words.new_buffer pages) }
+{
+    let table = empty_table(alloc, pages)?;
+    Ok(Buffer {
+        mem: Mem::System,
+        spans: Spans::new(alloc),
+        table,
+        targets: Targets {
+            system: None,
+            tt: None,
+            vram: None,
+        },
+        fences: Fences::new(alloc),
+    })
+}
+
+/// The buffer, or where it isn't live the empty one.
+pub fn buffer_in<'a>(core: &'a Core, b: BufId, dead: &'a Buffer) -> &'a Buffer
+    requires { dead.now ≡ words.new_buffer 0 }
+    ensures { result.now ≡ words.buffer_in core.now b }
+{
+    match live_in(core.buffers.items(), b) {
+        Some(buffer) => buffer,
+        None => dead,
+    }
+}
+
+/// The spans that wait for the buffer in a memory type.
+pub fn target_of(mem: Mem, targets: &Targets) -> Option<&Spans>
+    ensures { option_copied result ≡ words.target_of mem targets.now }
+{
+    match mem {
+        Mem::System => targets.system.as_ref(),
+        Mem::Tt => targets.tt.as_ref(),
+        Mem::Vram => targets.vram.as_ref(),
+    }
+}
+
+/// The buffer has a target in a memory type.
+pub fn has_target(mem: Mem, buffer: &Buffer) -> bool
+    ensures { result ≡ words.has_target mem buffer.now }
+{
+    target_of(mem, &buffer.targets).is_some()
+}
+
+/// The target's spans, none where it has no target.
+pub fn target_spans(mem: Mem, buffer: &Buffer) -> &[Span]
+    ensures { result.now ≡ words.target_spans mem buffer.now }
+{
+    match target_of(mem, &buffer.targets) {
+        Some(spans) => spans.items(),
+        None => &[],
+    }
+}
+
+/// Neither pinned nor reserved.
+pub fn no_grip() -> Grip
+    ensures { result ≡ words.no_grip }
+{
+    Grip {
+        pins: 0,
+        holder: None,
+    }
+}
+
+/// How a buffer is held.
+pub fn grip_in(grips: &[Grip], b: BufId) -> Grip
+    ensures { result ≡ words.grip_in grips.now b }
+{
+    match grips.get(b.0 as usize) {
+        Some(grip) => *grip,
+        None => no_grip(),
+    }
+}
+
+/// A thread that has answered so many commands, at the start of the next.
+pub fn new_course(alloc: Global, answered: u32) -> Course
+    ensures { result ≡ words.new_course answered }
+{
+    Course {
+        answered,
+        stamp: None,
+        held: BufIds::new(alloc),
+        first: None,
+        made: false,
+        forced: false,
+        dry: 0,
+        fail: None,
+        caught: Victims::new(alloc),
+        skips: BufIds::new(alloc),
+    }
+}
+
+/// The course of a thread, if the thread is there. Threads are numbered from 1.
+pub fn course_of(state: &State, thread: u32) -> Option<&Course>
+    ensures { option_copied result ≡ words.course_of state.now thread }
+{
+    if thread == 0 {
+        None
+    } else {
+        state.courses.items().get(thread as usize - 1)
+    }
+}

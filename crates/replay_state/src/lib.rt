@@ -1,0 +1,36 @@
+//! The words on the state of a memory manager, as code: what a buffer, a command, a place and a job are to each other in a state.
+//! Each function is named after its definition and gives what the definition says.
+#![tactic(auto)]
+
+mod buffers;
+mod commands;
+mod holds;
+mod placement;
+mod places;
+mod waits;
+
+pub use buffers::{
+    buffer_in, course_of, dead_buffer, grip_in, has_buffer, has_target, is_live, live_in,
+    new_buffer, new_course, no_grip, same_buffer, target_of, target_spans, without_buffer,
+};
+pub use commands::{
+    as_fallback, asked_places, command_at_work, commands_of, declared_align, declared_group,
+    declared_pages, declared_places, declared_prio, first_mentions, named, unflagged, whole,
+    writes,
+};
+pub use holds::{
+    ghost_spans, has_page, held_frames, held_slots, held_spans, is_free_beside, push_spans, spans_in,
+};
+pub use placement::{
+    accepts, common, compatible, first_places, forced_places, intersects, is_contiguous,
+    is_inside, length_of, mem_number, reach, reach_of, same_mem, size_of,
+};
+pub use places::{
+    frame_of, frames_of, is_frame, loc_of, name_in_spans, name_in_table, packet_place, page_at,
+    page_of_spans, pages_of, slot_of, slots_of,
+};
+pub use waits::{
+    changes, is_idle, is_unfinished, is_written, jobs_before_read, jobs_before_target,
+    jobs_before_use, jobs_before_write, same_job, unfinished, use_of, waited_before_read,
+    waited_before_write, waited_for,
+};

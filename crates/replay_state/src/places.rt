@@ -1,0 +1,141 @@
+ghost use Rattle.std.specs.Prelude.{◌≡◌, ◌++◌, IfOk, OnOk, slice_get};
+ghost use Rattle.journal_model.specs.Places as words;
+
+use crate::placement::length_of;
+use journal_model::{Buffer, Frames};
+use std::alloc::Global;
+use ttm_base::{Loc, Mem, NoMemory, PagePlace, Span};
+
+/// Puts the pages of a span behind others.
+fn push_pages(pages: &mut Frames, span: Span) -> Result<(), NoMemory>
+    ensures { OnOk result (pages.new ≡ pages.old ++ words.pages_of_span span) }
+{
+    for page in span.start..span.end {
+        pages.push(page)?;
+    }
+    Ok(())
+}
+
+/// The pages of spans, in order.
+pub fn pages_of(alloc: Global, spans: &[Span]) -> Result<Frames, NoMemory>
+    ensures { IfOk result (λ pages. pages ≡ words.pages_of spans.now) }
+{
+    let mut pages = Frames::new(alloc);
+    for span in spans {
+        push_pages(&mut pages, *span)?;
+    }
+    Ok(pages)
+}
+
+/// The page of the spans at a position, if they have so many.
+pub fn page_at(spans: &[Span], i: u32) -> Option<u32>
+    ensures { result ≡ slice_get (words.pages_of spans.now) i }
+{
+    let mut left = i;
+    for span in spans {
+        let pages = length_of(*span);
+        if left < pages {
+            return Some(span.start + left);
+        }
+        left -= pages;
+    }
+    None
+}
+
+/// The page of the spans at a position, 0 where they don't have so many.
+pub fn page_of_spans(spans: &[Span], i: u32) -> u32
+    ensures { result ≡ words.page_of_spans spans.now i }
+{
+    page_at(spans, i).unwrap_or(0)
+}
+
+/// What the page table says of a page.
+pub fn loc_of(buffer: &Buffer, i: u32) -> Loc
+    ensures { result ≡ words.loc_of buffer.now i }
+{
+    match buffer.table.items().get(i as usize) {
+        Some(loc) => *loc,
+        None => Loc::Zero,
+    }
+}
+
+/// The frame, if it is one.
+pub fn frame_of(loc: Loc) -> Option<u32>
+    ensures { result ≡ words.frame_of loc }
+{
+    match loc {
+        Loc::Frame(frame) => Some(frame),
+        Loc::Slot(_) | Loc::Zero => None,
+    }
+}
+
+/// It is a frame.
+pub fn is_frame(loc: Loc) -> bool
+    ensures { result ≡ words.is_frame loc }
+{
+    frame_of(loc).is_some()
+}
+
+/// The slot, if it is one.
+pub fn slot_of(loc: Loc) -> Option<u32>
+    ensures { result ≡ words.slot_of loc }
+{
+    match loc {
+        Loc::Slot(slot) => Some(slot),
+        Loc::Frame(_) | Loc::Zero => None,
+    }
+}
+
+/// The frames of a buffer, in the order of its pages.
+pub fn frames_of(alloc: Global, buffer: &Buffer) -> Result<Frames, NoMemory>
+    ensures { IfOk result (λ frames. frames ≡ words.frames_of buffer.now) }
+{
+    let mut frames = Frames::new(alloc);
+    for loc in buffer.table.items() {
+        if let Some(frame) = frame_of(*loc) {
+            frames.push(frame)?;
+        }
+    }
+    Ok(frames)
+}
+
+/// The slots of a buffer, in the order of its pages.
+pub fn slots_of(alloc: Global, buffer: &Buffer) -> Result<Frames, NoMemory>
+    ensures { IfOk result (λ slots. slots ≡ words.slots_of buffer.now) }
+{
+    let mut slots = Frames::new(alloc);
+    for loc in buffer.table.items() {
+        if let Some(slot) = slot_of(*loc) {
+            slots.push(slot)?;
+        }
+    }
+    Ok(slots)
+}
+
+/// How packets name a page of spans.
+pub fn name_in_spans(mem: Mem, spans: &[Span], i: u32) -> PagePlace
+    ensures { result ≡ words.name_in_spans mem spans.now i }
+{
+    match mem {
+        Mem::Vram => PagePlace::Vram(page_of_spans(spans, i)),
+        Mem::Tt => PagePlace::Aper(page_of_spans(spans, i)),
+        Mem::System => PagePlace::Frame(0),
+    }
+}
+
+/// How packets name a page of a buffer in SYSTEM: by its frame.
+pub fn name_in_table(buffer: &Buffer, i: u32) -> PagePlace
+    ensures { result ≡ words.name_in_table buffer.now i }
+{
+    PagePlace::Frame(frame_of(loc_of(buffer, i)).unwrap_or(0))
+}
+
+/// How packets name a page of a buffer: a page of VRAM, an aperture page of TT, or a frame.
+pub fn packet_place(buffer: &Buffer, i: u32) -> PagePlace
+    ensures { result ≡ words.packet_place buffer.now i }
+{
+    match buffer.mem {
+        Mem::Vram | Mem::Tt => name_in_spans(buffer.mem, buffer.spans.items(), i),
+        Mem::System => name_in_table(buffer, i),
+    }
+}
