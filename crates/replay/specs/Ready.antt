@@ -1,17 +1,19 @@
 -- What must hold of a state for an entry to be applied. Each entry that is legal next meets it.
-use Rattle.std.specs.Prelude.{ℕ, ◌+◌, ◌^◌, ◌<◌, Bool, Option, Some, IsTrue, ◌||◌, not, nat_lt, IsSome}
+use Rattle.std.specs.Prelude.{ℕ, ◌+◌, ◌^◌, ◌<◌, Bool, List, Option, Some, IsTrue, ◌||◌, not, nat_lt, IsSome}
 use Rattle.std.specs.List.{list_all}
+use Rattle.ttm_base.specs.declared.BufId.{BufId}
 use Rattle.ttm_base.specs.declared.JobId.{JobId}
 use Rattle.ttm_base.specs.declared.Actor.{Actor}
 use Rattle.journal_model.specs.declared.script.Script.{Script}
 use Rattle.journal_model.specs.declared.script.Command.{Command}
 use Rattle.journal_model.specs.declared.script.Command.TheVariants as command
 use Rattle.journal_model.specs.declared.state.State.{State}
+use Rattle.journal_model.specs.declared.state.Grip.{Grip}
 use Rattle.journal_model.specs.declared.state.Job.{Job}
 use Rattle.journal_model.specs.declared.entry.Entry.{Entry}
 use Rattle.journal_model.specs.declared.entry.Kind.{Kind}
 use Rattle.journal_model.specs.declared.entry.Kind.TheVariants as kind
-use Rattle.journal_model.specs.State.{course_of, course, grip}
+use Rattle.journal_model.specs.State.{course_of, course, grip_in}
 use Rattle.journal_model.specs.Commands.{command_at_work}
 use Rattle.journal_model.specs.Waits.{same_job}
 use Rattle.journal_model.specs.Apply.{thread_of, engine_of}
@@ -25,15 +27,19 @@ pub record CanAnswer (s : State) (t : ℕ) : Type 0 where
   pub there : IsThread s t
   pub room : (course s t).answered + 1 < 2 ^ 32
 
--- a pin that is answered adds one to less than 255
-abbrev pub HasPinsLeft : State → Option Command → Type 0
-HasPinsLeft s (Some (command.Pin b)) = (grip s b).pins < 255
-HasPinsLeft s _ = Unit {0}
+-- the buffer can be pinned once more
+abbrev pub CanPin : List Grip → BufId → Type 0
+CanPin grips b = (grip_in grips b).pins < 255
+
+-- the command pins no buffer that is pinned as often as can be counted
+abbrev pub HasPinsLeft : List Grip → Option Command → Type 0
+HasPinsLeft grips (Some (command.Pin b)) = CanPin grips b
+HasPinsLeft grips _ = Unit {0}
 
 -- a thread may answer the command that it is at
 pub record CanShowResult (script : Script) (s : State) (t : ℕ) : Type 0 where
   pub answer : CanAnswer s t
-  pub pins : HasPinsLeft s (command_at_work script s t)
+  pub pins : HasPinsLeft s.grips (command_at_work script s t)
 
 -- a search may go on behind its k-th place
 pub record CanGoDry (s : State) (t k : ℕ) : Type 0 where

@@ -1,12 +1,22 @@
-ghost use Rattle.std.specs.Prelude.{◌≡◌, Some, OnOk, OnErr, map, option_to_list};
+ghost use Rattle.std.specs.Prelude.{◌≡◌, [], Some, None, unwrap_or, OnOk, OnErr, map, option_to_list, slice_set};
 ghost use Rattle.ttm_base.specs.declared.Usage.TheVariants as usage;
 ghost use Rattle.journal_model.specs.State.{changed, with_target};
-ghost use Rattle.journal_model.specs.ApplyPages.{with_page, with_spans, with_kernel_fences, with_fence, without_frame, without_frames};
+ghost use Rattle.journal_model.specs.ApplyPages.{with_page, with_spans, with_kernel_fences, with_fence, without_frame, without_frames, bound, unbound};
 ghost use Rattle.journal_model.specs.ApplyVictims.{leaves_tt};
 
-use journal_model::{Buffers, Fence, Table, Targets};
+use journal_model::{Buffer, Buffers, Fence, Table, Targets};
 use std::alloc::Global;
 use ttm_base::{BufId, JobId, Loc, Mem, NoMemory, Spans, Usage};
+
+/// Puts a buffer, or none, in the place of a declared one.
+pub fn put_buffer(buffers: &mut Buffers, b: BufId, buffer: Option<Buffer>)
+    ensures { buffers.new ≡ slice_set buffers.old b.0 buffer }
+{
+    let index = b.0 as usize;
+    if index < buffers.len() {
+        buffers.set(index, buffer);
+    }
+}
 
 /// Gives a page of a buffer another place, if the buffer is live.
 #[tactic(auto, using(ttm_base::proofs::ListLaws::set_same))]
@@ -118,6 +128,46 @@ pub fn leave_tt(alloc: Global, buffers: &mut Buffers, b: BufId)
             if let Mem::Tt = buffer.mem {
                 buffer.targets.system = Some(Spans::new(alloc));
             }
+        }
+    }
+}
+
+/// Takes a target out, and gives its spans.
+fn take_target(alloc: Global, target: &mut Option<Spans>) -> Spans
+    ensures value { result ≡ unwrap_or target.old [] }
+    ensures after { target.new ≡ None }
+{
+    match target.take() {
+        Some(spans) => spans,
+        None => Spans::new(alloc),
+    }
+}
+
+/// Carries a buffer from SYSTEM to TT, if it is live.
+#[tactic(auto, using(ttm_base::proofs::ListLaws::set_same))]
+pub fn bind(alloc: Global, buffers: &mut Buffers, b: BufId)
+    ensures { buffers.new ≡ changed bound buffers.old b }
+{
+    let index = b.0 as usize;
+    if index < buffers.len() {
+        if let Some(buffer) = buffers.get_mut(index) {
+            buffer.mem = Mem::Tt;
+            buffer.spans = take_target(alloc, &mut buffer.targets.tt);
+        }
+    }
+}
+
+/// Carries a buffer from TT to SYSTEM, if it is live.
+#[tactic(auto, using(ttm_base::proofs::ListLaws::set_same))]
+pub fn unbind(alloc: Global, buffers: &mut Buffers, b: BufId)
+    ensures { buffers.new ≡ changed unbound buffers.old b }
+{
+    let index = b.0 as usize;
+    if index < buffers.len() {
+        if let Some(buffer) = buffers.get_mut(index) {
+            buffer.mem = Mem::System;
+            buffer.spans = Spans::new(alloc);
+            buffer.targets.system = None;
         }
     }
 }

@@ -1,48 +1,30 @@
-ghost use Rattle.std.specs.Prelude.{◌≡◌, ◌<◌, filter, map, not, OnOk, OnErr};
-ghost use Rattle.journal_model.specs.State.{new_course, same_buffer};
-ghost use Rattle.journal_model.specs.Search.{is_caught};
+ghost use Rattle.std.specs.Prelude.{◌≡◌, ◌+◌, ◌^◌, ◌<◌, filter, map, not, OnOk, OnErr};
+ghost use Rattle.journal_model.specs.State as state;
+ghost use Rattle.journal_model.specs.Search as search;
 ghost use Rattle.journal_model.specs.ApplyPages.{search_over};
-ghost use Rattle.journal_model.specs.ApplyVictims.{failed_if, with_fail, no_longer_caught, with_victim, with_skip, forces};
+ghost use Rattle.journal_model.specs.ApplyVictims.{failed_if, with_fail, no_longer_caught, with_victim, with_skip, forces, gone_dry};
 
-use journal_model::{BufIds, Course, Victim, Victims, Why};
-use std::alloc::Global;
+use journal_model::{Course, Victim, Victims, Why};
+use replay_state::same_buffer;
 use ttm_base::{BufId, Deny, NoMemory};
 
-/// A thread at the start of a command, after it has answered so many.
-pub fn fresh_course(alloc: Global, answered: u32) -> Course
-    ensures { result ≡ new_course answered }
-{
-    Course {
-        answered,
-        stamp: None,
-        held: BufIds::new(alloc),
-        first: None,
-        made: false,
-        forced: false,
-        dry: 0,
-        fail: None,
-        caught: Victims::new(alloc),
-        skips: BufIds::new(alloc),
-    }
-}
-
 /// The buffer is a victim of this thread.
-pub fn has_caught(course: &Course, b: BufId) -> bool
-    ensures { result ≡ is_caught course.now b }
+pub fn is_caught(course: &Course, b: BufId) -> bool
+    ensures { result ≡ search.is_caught course.now b }
 {
     course
         .caught
         .items()
         .iter()
         .map(|victim| victim.b)
-        .any(|c| b.0 == c.0)
+        .any(|c| same_buffer(b, c))
 }
 
 /// Ends the search of a named buffer.
 pub fn end_search(course: &mut Course, b: BufId)
     ensures { course.new ≡ search_over b course.old }
 {
-    if !has_caught(course, b) {
+    if !is_caught(course, b) {
         course.forced = false;
         course.dry = 0;
     }
@@ -52,7 +34,7 @@ pub fn end_search(course: &mut Course, b: BufId)
 fn failed(victim: Victim, b: BufId, deny: Deny) -> Victim
     ensures { result ≡ failed_if deny b victim }
 {
-    if b.0 == victim.b.0 {
+    if same_buffer(b, victim.b) {
         Victim {
             fail: Some(deny),
             ..victim
@@ -76,7 +58,7 @@ fn fail_victim(caught: &mut Victims, b: BufId, deny: Deny)
 pub fn fail_search(course: &mut Course, b: BufId, deny: Deny)
     ensures { course.new ≡ with_fail b deny course.old }
 {
-    if has_caught(course, b) {
+    if is_caught(course, b) {
         fail_victim(&mut course.caught, b, deny);
     } else {
         course.fail = Some(deny);
@@ -85,11 +67,11 @@ pub fn fail_search(course: &mut Course, b: BufId, deny: Deny)
 
 /// Takes a buffer out of the victims.
 fn remove_victim(caught: &mut Victims, b: BufId)
-    ensures { caught.new ≡ filter (λ v. not (same_buffer b v.b)) caught.old }
+    ensures { caught.new ≡ filter (λ v. not (state.same_buffer b v.b)) caught.old }
 {
     let mut i = 0;
     while i < caught.len() {
-        if b.0 == caught.at(i).b.0 {
+        if same_buffer(b, caught.at(i).b) {
             let _ = caught.remove(i);
         } else {
             i += 1;
@@ -133,4 +115,16 @@ pub fn skip_victim(course: &mut Course, b: BufId) -> Result<(), NoMemory>
     course.skips.push(b)?;
     forget_victim(course, b);
     Ok(())
+}
+
+/// One more forced place is dry; after the last one the search has failed.
+pub fn go_dry(course: &mut Course, k: u32, places: usize)
+    requires { k + 1 < 2 ^ 32 }
+    ensures { course.new ≡ gone_dry k places course.old }
+{
+    course.forced = true;
+    course.dry = k + 1;
+    if k as usize + 1 == places {
+        course.fail = Some(Deny::NoSpace);
+    }
 }

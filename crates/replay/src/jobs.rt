@@ -1,24 +1,18 @@
 ghost use Rattle.std.specs.Prelude.{◌≡◌, ◌+◌, ◌==◌, true, IsTrue, filter, not, if◌then◌else◌};
 ghost use Rattle.std.specs.List.{list_all};
-ghost use Rattle.journal_model.specs.Waits.{same_job};
+ghost use Rattle.journal_model.specs.Waits as waits;
 ghost use Rattle.journal_model.specs.ApplyJobs.{changed_job, after_packet_run, after_done, after_reap};
 ghost use Rattle.replay.specs.Ready.{CanRun, has_packets_left};
 
 use journal_model::{Ghosts, Job, Jobs, State};
+use replay_state::same_job;
 use ttm_base::JobId;
-
-/// The jobs are one.
-fn is_job(a: JobId, b: JobId) -> bool
-    ensures { result ≡ same_job a b }
-{
-    a.ctx == b.ctx && a.num == b.num
-}
 
 /// Marks a job as done, if it is the one.
 fn finish(job: &mut Job, id: JobId)
-    ensures { job.new ≡ (if same_job id job.old.id then record job.old { finished = true } else job.old) }
+    ensures { job.new ≡ (if waits.same_job id job.old.id then record job.old { finished = true } else job.old) }
 {
-    if is_job(id, job.id) {
+    if same_job(id, job.id) {
         job.finished = true;
     }
 }
@@ -36,9 +30,9 @@ fn finish_among(jobs: &mut Jobs, id: JobId)
 /// Counts one more packet that has run, if it is of the job.
 fn count_packet(job: &mut Job, id: JobId)
     requires { IsTrue (has_packets_left id job.old) }
-    ensures { job.new ≡ (if same_job id job.old.id then record job.old { ran = job.old.ran + 1 } else job.old) }
+    ensures { job.new ≡ (if waits.same_job id job.old.id then record job.old { ran = job.old.ran + 1 } else job.old) }
 {
-    if is_job(id, job.id) {
+    if same_job(id, job.id) {
         job.ran += 1;
     }
 }

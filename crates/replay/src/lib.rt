@@ -2,9 +2,14 @@
 #![tactic(auto)]
 
 mod buffers;
+mod commands;
 mod courses;
 mod grips;
 mod jobs;
 mod pages;
+mod searches;
+mod start;
 mod tickets;
 mod victims;
+
+pub use start::first_state;

@@ -2,9 +2,9 @@ ghost use Rattle.std.specs.Prelude.{◌≡◌, OnOk, OnErr};
 ghost use Rattle.journal_model.specs.ApplyCommands.{after_ticket, after_reserve, after_backoff, after_refusal};
 ghost use Rattle.replay.specs.Ready.{IsThread, CanAnswer};
 
-use crate::courses::fresh_course;
 use crate::grips;
 use journal_model::{BufIds, State};
+use replay_state::new_course;
 use std::alloc::Global;
 use ttm_base::{BufId, NoMemory, Stamp};
 
@@ -50,5 +50,5 @@ pub fn refuse(alloc: Global, state: &mut State, thread: u32)
 {
     let course = state.courses.get_mut(thread as usize - 1);
     grips::release_all(&mut state.grips, course.held.items());
-    *course = fresh_course(alloc, course.answered + 1);
+    *course = new_course(alloc, course.answered + 1);
 }

@@ -1,9 +1,10 @@
 ghost use Rattle.std.specs.Prelude.{◌≡◌, OnOk, OnErr};
-ghost use Rattle.journal_model.specs.ApplyVictims.{after_no_pages, after_skip, after_catch};
+ghost use Rattle.journal_model.specs.ApplyVictims.{after_no_pages, after_skip, after_catch, after_loose};
 ghost use Rattle.replay.specs.Ready.{IsThread};
 
 use crate::{buffers, courses, grips};
-use journal_model::{State, Why};
+use journal_model::{Script, State, Why};
+use replay_lists::touched;
 use std::alloc::Global;
 use ttm_base::{BufId, Deny, NoMemory};
 
@@ -47,5 +48,33 @@ pub fn catch(
     let stamp = course.stamp;
     grips::set_holder(&mut state.grips, b, stamp);
     buffers::leave_tt(alloc, &mut state.core.buffers, b);
+    Ok(())
+}
+
+/// A thread lets a victim go.
+#[tactic(auto, using(replay_lists::proofs::ListingLaws::touched_released))]
+pub fn loose(
+    alloc: Global,
+    script: &Script,
+    state: &mut State,
+    thread: u32,
+    b: BufId,
+) -> Result<(), NoMemory>
+    requires { IsThread state.old thread }
+    ensures ok { OnOk result (state.new ≡ after_loose script.now state.old thread b) }
+    ensures err { OnErr result (state.new ≡ state.old) }
+{
+    let lists = touched(
+        alloc,
+        script,
+        state.core.buffers.items(),
+        state.grips.items(),
+        state.lists.items(),
+        b,
+    )?;
+    let course = state.courses.get_mut(thread as usize - 1);
+    courses::forget_victim(course, b);
+    grips::set_holder(&mut state.grips, b, None);
+    state.lists = lists;
     Ok(())
 }

@@ -5,4 +5,4 @@ mod groups;
 mod lists;
 
 pub use groups::{is_mate, is_member};
-pub use lists::{listed_in, listed_mem, members_last, touched, touched_all};
+pub use lists::{listed_in, listed_mem, members_last, relisted, touched, touched_all};

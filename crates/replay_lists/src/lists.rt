@@ -79,6 +79,22 @@ pub fn listed_in(
     Ok(new)
 }
 
+/// The lists after a live buffer went to a memory type.
+pub fn relisted(
+    alloc: Global,
+    script: &Script,
+    buffers: &[Option<Buffer>],
+    grips: &[Grip],
+    lists: &[BufIds],
+    b: BufId,
+    mem: Mem,
+) -> Result<Lists, NoMemory>
+    ensures { IfOk result (λ new. new ≡ listing.relisted script.now buffers.now grips.now lists.now b mem) }
+{
+    let listed = listed_mem(grip_in(grips, b), live_in(buffers, b)).map(|_| mem);
+    listed_in(alloc, script, lists, b, listed)
+}
+
 /// The lists after a buffer was touched.
 #[tactic(auto, using(crate::proofs::ListingLaws::listed_as_in))]
 pub fn touched(

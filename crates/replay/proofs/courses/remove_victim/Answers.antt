@@ -6,8 +6,8 @@ use Rattle.replay.proofs.courses.remove_victim.Goals as goal
 pub loop-i-init : goal.loop-i-init
 loop-i-init c = keeps_none _ _
 
-pub loop-i-preserved-then-b-at : goal.loop-i-preserved-then-b-at
-loop-i-preserved-then-b-at c = rw c.remove.ensures.left (keeps_less _ _ _ _ _ c.loop-i.invariant c.at.ensures (grind (arith, nat_tests)))
+pub loop-i-preserved-then-same_buffer : goal.loop-i-preserved-then-same_buffer
+loop-i-preserved-then-same_buffer c = rw c.remove.ensures.left (keeps_less _ _ _ _ _ c.loop-i.invariant c.at.ensures (grind (arith, nat_tests)))
 
 pub loop-i-preserved : goal.loop-i-preserved
 loop-i-preserved c = keeps_more _ _ _ _ _ c.loop-i.invariant c.at.ensures (grind (arith, nat_tests))

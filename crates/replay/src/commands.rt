@@ -1,0 +1,143 @@
+ghost use Rattle.std.specs.Prelude.{◌≡◌, IfOk, OnOk, OnErr, filter, fold, option_copied};
+ghost use Rattle.journal_model.specs.State as words;
+ghost use Rattle.journal_model.specs.ApplyCommands.{after_new, after_bulk, after_result, named_in, released, with_pins};
+ghost use Rattle.journal_model.specs.Lists.{touched};
+ghost use Rattle.replay.specs.Ready.{IsThread, CanShowResult, HasPinsLeft};
+
+use crate::buffers::put_buffer;
+use crate::grips::{change_pins, put_grip, release_all};
+use journal_model::{BufIds, Buffer, Command, Grip, Grips, Lists, Script, State};
+use replay_lists::{listed_in, members_last, touched_all};
+use replay_state::{
+    command_at_work, declared_pages, has_buffer, named, new_buffer, new_course, no_grip,
+};
+use std::alloc::Global;
+use ttm_base::{BufId, Mem, NoMemory};
+
+/// A thread makes a buffer.
+pub fn make(
+    alloc: Global,
+    script: &Script,
+    state: &mut State,
+    thread: u32,
+    b: BufId,
+) -> Result<(), NoMemory>
+    requires { IsThread state.old thread }
+    ensures ok { OnOk result (state.new ≡ after_new script.now state.old thread b) }
+    ensures err { OnErr result (state.new ≡ state.old) }
+{
+    let buffer = new_buffer(alloc, declared_pages(script, b))?;
+    let lists = listed_in(alloc, script, state.lists.items(), b, Some(Mem::System))?;
+    put_buffer(&mut state.core.buffers, b, Some(buffer));
+    put_grip(&mut state.grips, b, no_grip());
+    state.lists = lists;
+    let course = state.courses.get_mut(thread as usize - 1);
+    course.made = true;
+    Ok(())
+}
+
+/// The buffers of a group go to the end of their lists (ttm_lru_bulk_move_tail).
+pub fn bulk(
+    alloc: Global,
+    script: &Script,
+    state: &mut State,
+    thread: u32,
+    group: u32,
+) -> Result<(), NoMemory>
+    requires { IsThread state.old thread }
+    ensures ok { OnOk result (state.new ≡ after_bulk script.now state.old thread group) }
+    ensures err { OnErr result (state.new ≡ state.old) }
+{
+    state.lists = members_last(alloc, script, group, state.lists.items())?;
+    let course = state.courses.get_mut(thread as usize - 1);
+    course.made = true;
+    Ok(())
+}
+
+/// The buffers that a command names.
+fn buffers_of(alloc: Global, command: Option<&Command>) -> Result<BufIds, NoMemory>
+    ensures { IfOk result (λ bs. bs ≡ named_in (option_copied command.entry)) }
+{
+    match command {
+        Some(command) => named(alloc, command),
+        None => Ok(BufIds::new(alloc)),
+    }
+}
+
+/// Those of some buffers that a thread holds.
+fn held_among(alloc: Global, held: &[BufId], bs: &[BufId]) -> Result<BufIds, NoMemory>
+    ensures { IfOk result (λ found. found ≡ filter (words.has_buffer held.now) bs.now) }
+{
+    let mut found = BufIds::new(alloc);
+    for b in bs {
+        if has_buffer(held, *b) {
+            found.push(*b)?;
+        }
+    }
+    Ok(found)
+}
+
+/// The grips once a command is answered: held buffers are let go, and pins change as it asks.
+fn answered_grips(
+    alloc: Global,
+    grips: &Grips,
+    held: &[BufId],
+    command: Option<&Command>,
+) -> Result<Grips, NoMemory>
+    requires { HasPinsLeft grips.now (option_copied command) }
+    ensures { IfOk result (λ new. new ≡ with_pins (option_copied command.entry) (released grips.now held.now)) }
+{
+    let mut new = grips.copy()?;
+    release_all(&mut new, held);
+    if let Some(command) = command {
+        change_pins(&mut new, command);
+    }
+    Ok(new)
+}
+
+/// The lists once a command is answered: held buffers are touched, as the command names them.
+fn answered_lists(
+    alloc: Global,
+    script: &Script,
+    buffers: &[Option<Buffer>],
+    grips: &[Grip],
+    lists: &[BufIds],
+    held: &[BufId],
+    command: Option<&Command>,
+) -> Result<Lists, NoMemory>
+    ensures { IfOk result (λ new. new ≡ fold (touched script.now buffers.now grips.now) lists.now (filter (words.has_buffer held.now) (named_in (option_copied command.entry)))) }
+{
+    let bs = buffers_of(alloc, command)?;
+    let held = held_among(alloc, held, bs.items())?;
+    touched_all(alloc, script, buffers, grips, lists, held.items())
+}
+
+/// A thread answers its command: its buffers are let go and touched.
+pub fn answer(
+    alloc: Global,
+    script: &Script,
+    state: &mut State,
+    thread: u32,
+) -> Result<(), NoMemory>
+    requires { CanShowResult script.now state.old thread }
+    ensures ok { OnOk result (state.new ≡ after_result script.now state.old thread) }
+    ensures err { OnErr result (state.new ≡ state.old) }
+{
+    let command = command_at_work(script, state, thread);
+    let course = state.courses.get(thread as usize - 1);
+    let next = new_course(alloc, course.answered + 1);
+    let grips = answered_grips(alloc, &state.grips, course.held.items(), command)?;
+    let lists = answered_lists(
+        alloc,
+        script,
+        state.core.buffers.items(),
+        grips.items(),
+        state.lists.items(),
+        course.held.items(),
+        command,
+    )?;
+    state.grips = grips;
+    state.lists = lists;
+    state.courses.set(thread as usize - 1, next);
+    Ok(())
+}
