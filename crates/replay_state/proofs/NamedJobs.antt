@@ -1,5 +1,5 @@
 -- The job that is named among several, with one job more.
-use Rattle.std.proofs.Common.{◌≡◌, ℕ, ◌+◌, ◌<◌, Bool, List, [], ◌∷◌, ◌++◌, Option, Some, None, true, false, length, take, get_or, refl, ap, ◌∙◌, arith, if◌then◌else◌}
+use Rattle.std.proofs.Common.{◌≡◌, ℕ, ◌+◌, ◌<◌, List, [], ◌∷◌, ◌++◌, Option, Some, None, true, false, length, take, get_or, refl, ap, ◌∙◌, arith, if◌then◌else◌}
 use Rattle.std.specs.Prelude.{map, filter, ◌&&◌}
 use Rattle.std.proofs.lemmas.Grind.{common_steps}
 use Rattle.std.proofs.lemmas.Bool.Decides.{nat_tests}
@@ -45,7 +45,7 @@ waited_for_more c jobs i d h =
 pub waited_by_fences_more : (c : Core) (fences : List Fence) (i : ℕ) (d : Fence) → i < length fences
     → waited_for c (map (λ f. f.job) (take (i + 1) fences))
     ≡ (if is_unfinished c (get_or fences i d).job then Some (named_last (waited_for c (map (λ f. f.job) (take i fences))) (get_or fences i d).job)
-       else waited_for c (map (λ f. f.job) (take i fences)))
+    else waited_for c (map (λ f. f.job) (take i fences)))
 waited_by_fences_more c fences i d h =
     let e = take_more fences i d h in
     let f = waited_for-push c (map (λ f. f.job) (take i fences)) (get_or fences i d).job in
@@ -55,8 +55,8 @@ waited_by_fences_more c fences i d h =
 pub waited_by_changes_more : (c : Core) (fences : List Fence) (i : ℕ) (d : Fence) → i < length fences
     → waited_for c (map (λ f. f.job) (filter changes (take (i + 1) fences)))
     ≡ (if changes (get_or fences i d) && is_unfinished c (get_or fences i d).job
-       then Some (named_last (waited_for c (map (λ f. f.job) (filter changes (take i fences)))) (get_or fences i d).job)
-       else waited_for c (map (λ f. f.job) (filter changes (take i fences))))
+    then Some (named_last (waited_for c (map (λ f. f.job) (filter changes (take i fences)))) (get_or fences i d).job)
+    else waited_for c (map (λ f. f.job) (filter changes (take i fences))))
 waited_by_changes_more c fences i d h =
     let e = take_more fences i d h in
     let f = waited_for-push c (map (λ f. f.job) (filter changes (take i fences))) (get_or fences i d).job in

@@ -1,21 +1,17 @@
 -- Pages counted up from a start, and the page of spans at a position.
-use Rattle.std.proofs.Common.{◌≡◌, ℕ, zero, suc, ◌+◌, ◌-◌, ◌<◌, ◌≤◌, List, [], ◌∷◌, ◌++◌, Option, Some, None, true, false, cond, length, take, drop, get_or, drop-cons, add-one, arith, if◌then◌else◌}
-use Rattle.std.specs.Prelude.{slice_get, nat_lt, flat_map}
+use Rattle.std.proofs.Common.{◌≡◌, ℕ, zero, suc, ◌+◌, ◌-◌, ◌<◌, List, [], ◌∷◌, ◌++◌, Some, length, drop, get_or, drop-cons, arith, if◌then◌else◌}
+use Rattle.std.specs.Prelude.{slice_get, nat_lt}
 use Rattle.std.proofs.lemmas.Grind.{common_steps}
 use Rattle.std.proofs.lemmas.Bool.Decides.{nat_tests}
 use Rattle.ttm_base.specs.declared.Span.{Span}
 use Rattle.ttm_base.specs.ListWords.{count_from}
 use Rattle.ttm_base.specs.Reach.{length_of}
-use Rattle.journal_model.specs.Places.{pages_of_span, pages_of}
+use Rattle.journal_model.specs.Places.{pages_of}
 
 -- one number more
 pub count_from-push : (n start : ℕ) → count_from 1 (n + 1) start ≡ count_from 1 n start ++ (start + n) ∷ []
 count_from-push zero start = grind (arith, common_steps)
 count_from-push (suc n) start = let e = count_from-push n (1 + start) in grind (arith, common_steps)
-
-pub pages_more : (start end page : ℕ) → start ≤ page → page < end
-    → count_from 1 (page + 1 - start) start ≡ count_from 1 (page - start) start ++ page ∷ []
-pages_more start end page h l = let e = count_from-push (page - start) start in grind (arith, common_steps)
 
 -- a number among those counted, or one behind them
 slice_get-count : (n start : ℕ) (rest : List ℕ) (i : ℕ)

@@ -2,9 +2,7 @@ ghost use Rattle.std.specs.Prelude.{◌≡◌, ◌==◌, IfOk, option_copied, re
 ghost use Rattle.ttm_base.specs.declared.Loc.TheVariants as loc;
 ghost use Rattle.journal_model.specs.State as words;
 
-use journal_model::{
-    BufIds, Buffer, Core, Course, Fences, Grip, State, Table, Targets, Victims,
-};
+use journal_model::{BufIds, Buffer, Core, Course, Fences, Grip, State, Table, Targets, Victims};
 use std::alloc::Global;
 use ttm_base::{BufId, Loc, Mem, NoMemory, Span, Spans};
 

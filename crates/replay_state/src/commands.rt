@@ -185,7 +185,7 @@ pub fn as_fallback(place: Place) -> FlaggedPlace
 }
 
 /// A list of one place.
-fn only_place(alloc: Global, place: FlaggedPlace) -> Result<FlaggedPlaces, NoMemory>
+pub(crate) fn only_place(alloc: Global, place: FlaggedPlace) -> Result<FlaggedPlaces, NoMemory>
     ensures { IfOk result (λ places. places ≡ place ∷ []) }
 {
     let mut places = FlaggedPlaces::new(alloc);

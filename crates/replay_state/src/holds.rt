@@ -1,4 +1,5 @@
 ghost use Rattle.std.specs.Prelude.{◌≡◌, ◌++◌, IfOk, OnOk, flat_map};
+ghost use Rattle.std.specs.List.{list_any};
 ghost use Rattle.ttm_base.specs.Holes as pages;
 ghost use Rattle.journal_model.specs.Holds as words;
 ghost use Rattle.replay_state.specs.Held.{spans_of_slot, frames_of_slot, slots_of_slot};
@@ -22,13 +23,13 @@ pub fn spans_in(mem: Mem, buffer: &Buffer) -> &[Span]
 }
 
 /// The spans of a ghost in a memory type.
-pub fn ghost_spans(mem: Mem, ghost: &Ghost) -> &[Span]
-    ensures { result.now ≡ words.ghost_spans mem ghost.now }
+pub fn ghost_spans(mem: Mem, left: &Ghost) -> &[Span]
+    ensures { result.now ≡ words.ghost_spans mem left.now }
 {
     match mem {
         Mem::System => &[],
-        Mem::Tt => ghost.tt.items(),
-        Mem::Vram => ghost.vram.items(),
+        Mem::Tt => left.tt.items(),
+        Mem::Vram => left.vram.items(),
     }
 }
 
@@ -68,8 +69,8 @@ fn live_spans(alloc: Global, mem: Mem, buffers: &[Option<Buffer>]) -> Result<Spa
 fn push_ghosts(spans: &mut Spans, mem: Mem, ghosts: &[Ghost]) -> Result<(), NoMemory>
     ensures { OnOk result (spans.new ≡ spans.old ++ flat_map (words.ghost_spans mem) ghosts.now) }
 {
-    for ghost in ghosts {
-        push_spans(spans, ghost_spans(mem, ghost))?;
+    for g in ghosts {
+        push_spans(spans, ghost_spans(mem, g))?;
     }
     Ok(())
 }
@@ -91,11 +92,18 @@ pub fn has_page(page: u32, span: Span) -> bool
     span.start <= page && page < span.end
 }
 
+/// Some span has the page.
+fn is_held(held: &[Span], page: u32) -> bool
+    ensures { result ≡ list_any (pages.has_page page) held.now }
+{
+    held.iter().any(|s| has_page(page, *s))
+}
+
 /// No span has the page.
 pub fn is_free_beside(held: &[Span], page: u32) -> bool
     ensures { result ≡ pages.is_free_beside held.now page }
 {
-    !held.iter().any(|s| has_page(page, *s))
+    !is_held(held, page)
 }
 
 /// Puts the frames of a declared buffer behind others.
@@ -137,8 +145,8 @@ fn live_frames(alloc: Global, buffers: &[Option<Buffer>]) -> Result<Frames, NoMe
 fn push_ghost_frames(frames: &mut Frames, ghosts: &[Ghost]) -> Result<(), NoMemory>
     ensures { OnOk result (frames.new ≡ frames.old ++ flat_map (λ g. g.frames) ghosts.now) }
 {
-    for ghost in ghosts {
-        push_numbers(frames, ghost.frames.items())?;
+    for g in ghosts {
+        push_numbers(frames, g.frames.items())?;
     }
     Ok(())
 }
@@ -168,7 +176,6 @@ fn push_slots(slots: &mut Frames, slot: &Option<Buffer>) -> Result<(), NoMemory>
 }
 
 /// All swap slots that buffers hold.
-#[tactic(auto, using(crate::proofs::HeldLaws::held_slots_of))]
 pub fn held_slots(alloc: Global, core: &Core) -> Result<Frames, NoMemory>
     ensures { IfOk result (λ slots. slots ≡ words.held_slots core.now) }
 {

@@ -4,9 +4,13 @@
 
 mod buffers;
 mod commands;
+mod free;
 mod holds;
+mod lists;
+mod packets;
 mod placement;
 mod places;
+mod quests;
 mod waits;
 
 pub use buffers::{
@@ -18,17 +22,22 @@ pub use commands::{
     declared_pages, declared_places, declared_prio, first_mentions, named, unflagged, whole,
     writes,
 };
+pub use free::{free_frame, free_slot, lowest_free};
 pub use holds::{
-    ghost_spans, has_page, held_frames, held_slots, held_spans, is_free_beside, push_spans, spans_in,
+    ghost_spans, has_page, held_frames, held_slots, held_spans, is_free_beside, push_spans,
+    spans_in,
 };
+pub use lists::{in_order, is_caught, is_mate, is_member, list_number, push_buffers, same_group};
+pub use packets::packets_of;
 pub use placement::{
-    accepts, common, compatible, first_places, forced_places, intersects, is_contiguous,
-    is_inside, length_of, mem_number, reach, reach_of, same_mem, size_of,
+    accepts, common, compatible, first_places, forced_places, intersects, is_contiguous, is_inside,
+    length_of, mem_number, reach, reach_of, same_mem, size_of,
 };
 pub use places::{
     frame_of, frames_of, is_frame, loc_of, name_in_spans, name_in_table, packet_place, page_at,
     page_of_spans, pages_of, slot_of, slots_of,
 };
+pub use quests::{Quest, aim_of, has_some_target, quest_at_work, quest_for};
 pub use waits::{
     changes, is_idle, is_unfinished, is_written, jobs_before_read, jobs_before_target,
     jobs_before_use, jobs_before_write, same_job, unfinished, use_of, waited_before_read,

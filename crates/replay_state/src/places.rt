@@ -1,7 +1,6 @@
 ghost use Rattle.std.specs.Prelude.{◌≡◌, ◌++◌, IfOk, OnOk, slice_get};
 ghost use Rattle.journal_model.specs.Places as words;
 
-use crate::placement::length_of;
 use journal_model::{Buffer, Frames};
 use std::alloc::Global;
 use ttm_base::{Loc, Mem, NoMemory, PagePlace, Span};
@@ -10,8 +9,8 @@ use ttm_base::{Loc, Mem, NoMemory, PagePlace, Span};
 fn push_pages(pages: &mut Frames, span: Span) -> Result<(), NoMemory>
     ensures { OnOk result (pages.new ≡ pages.old ++ words.pages_of_span span) }
 {
-    for page in span.start..span.end {
-        pages.push(page)?;
+    for k in 0..span.end.saturating_sub(span.start) {
+        pages.push(span.start + k)?;
     }
     Ok(())
 }
@@ -33,7 +32,7 @@ pub fn page_at(spans: &[Span], i: u32) -> Option<u32>
 {
     let mut left = i;
     for span in spans {
-        let pages = length_of(*span);
+        let pages = span.end.saturating_sub(span.start);
         if left < pages {
             return Some(span.start + left);
         }

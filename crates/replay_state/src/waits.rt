@@ -168,12 +168,7 @@ pub fn use_of(ops: &[Op], b: BufId) -> Usage
 }
 
 /// The unfinished jobs that a job waits for at a buffer: all of one that it writes, those that change one that it only reads.
-pub fn jobs_before_use(
-    alloc: Global,
-    core: &Core,
-    ops: &[Op],
-    b: BufId,
-) -> Result<JobIds, NoMemory>
+pub fn jobs_before_use(alloc: Global, core: &Core, ops: &[Op], b: BufId) -> Result<JobIds, NoMemory>
     ensures { IfOk result (λ jobs. jobs ≡ words.jobs_before_use core.now ops.now b) }
 {
     let dead = dead_buffer(alloc);

@@ -1,4 +1,4 @@
-use Rattle.std.proofs.Common.{◌<◌, length, arith}
+use Rattle.std.proofs.Common.{arith}
 use Rattle.std.proofs.lemmas.Grind.{common_steps}
 use Rattle.replay_state.proofs.Mentions.{first_mentions_more}
 use Rattle.replay_state.proofs.commands.first_mentions.Goals as goal

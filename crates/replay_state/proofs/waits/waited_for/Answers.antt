@@ -1,4 +1,4 @@
-use Rattle.std.proofs.Common.{◌<◌, length, arith}
+use Rattle.std.proofs.Common.{arith}
 use Rattle.std.proofs.lemmas.Grind.{common_steps}
 use Rattle.replay_state.proofs.NamedJobs.{waited_for_more}
 use Rattle.replay_state.proofs.waits.waited_for.Goals as goal
