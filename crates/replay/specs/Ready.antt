@@ -1,5 +1,5 @@
 -- What must hold of a state for an entry to be applied. Each entry that is legal next meets it.
-use Rattle.std.specs.Prelude.{ℕ, ◌+◌, ◌^◌, ◌<◌, Bool, List, Option, Some, IsTrue, ◌||◌, not, nat_lt, IsSome}
+use Rattle.std.specs.Prelude.{ℕ, ◌+◌, ◌^◌, ◌<◌, Bool, List, Option, Some, IsTrue, ◌||◌, not, nat_lt, length, IsSome}
 use Rattle.std.specs.List.{list_all}
 use Rattle.ttm_base.specs.declared.BufId.{BufId}
 use Rattle.ttm_base.specs.declared.JobId.{JobId}
@@ -13,7 +13,7 @@ use Rattle.journal_model.specs.declared.state.Job.{Job}
 use Rattle.journal_model.specs.declared.entry.Entry.{Entry}
 use Rattle.journal_model.specs.declared.entry.Kind.{Kind}
 use Rattle.journal_model.specs.declared.entry.Kind.TheVariants as kind
-use Rattle.journal_model.specs.State.{course_of, course, grip_in}
+use Rattle.journal_model.specs.State.{course_of, course, grip_in, buffer}
 use Rattle.journal_model.specs.Commands.{command_at_work}
 use Rattle.journal_model.specs.Waits.{same_job}
 use Rattle.journal_model.specs.Apply.{thread_of, engine_of}
@@ -54,6 +54,10 @@ has_packets_left i j = not (same_job i j.id) || nat_lt (j.ran + 1) (2 ^ 32)
 abbrev pub CanRun : State → JobId → Type 0
 CanRun s i = IsTrue (list_all (has_packets_left i) s.core.jobs)
 
+-- the pages of a buffer can be counted
+abbrev pub HasShortTable : State → BufId → Type 0
+HasShortTable s b = length (buffer s b).table < 2 ^ 32
+
 -- by kind
 abbrev pub IsReadyFor : Script → State → Actor → Kind → Type 0
 IsReadyFor script s who (kind.Ticket stamp) = IsThread s (thread_of who)
@@ -78,7 +82,7 @@ IsReadyFor script s who (kind.SwapIn b page slot frame) = Unit {0}
 IsReadyFor script s who (kind.Depopulate b) = Unit {0}
 IsReadyFor script s who (kind.Bind b) = Unit {0}
 IsReadyFor script s who (kind.Unbind b) = Unit {0}
-IsReadyFor script s who (kind.Move b mem n l) = Unit {0}
+IsReadyFor script s who (kind.Move b mem n l) = HasShortTable s b
 IsReadyFor script s who (kind.SwapOut b page slot) = Unit {0}
 IsReadyFor script s who (kind.Done n) = Unit {0}
 IsReadyFor script s who (kind.Reap g) = Unit {0}

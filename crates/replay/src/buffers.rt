@@ -1,8 +1,10 @@
 ghost use Rattle.std.specs.Prelude.{◌≡◌, [], Some, None, unwrap_or, OnOk, OnErr, map, option_to_list, slice_set};
 ghost use Rattle.ttm_base.specs.declared.Usage.TheVariants as usage;
-ghost use Rattle.journal_model.specs.State.{changed, with_target};
+ghost use Rattle.journal_model.specs.State.{changed, target_of, with_target};
 ghost use Rattle.journal_model.specs.ApplyPages.{with_page, with_spans, with_kernel_fences, with_fence, without_frame, without_frames, bound, unbound};
 ghost use Rattle.journal_model.specs.ApplyVictims.{leaves_tt};
+ghost use Rattle.journal_model.specs.ApplyMoves.{moved, table_left};
+ghost use Rattle.replay.specs.Undo.{without_last_fence};
 
 use journal_model::{Buffer, Buffers, Fence, Table, Targets};
 use std::alloc::Global;
@@ -170,4 +172,90 @@ pub fn unbind(alloc: Global, buffers: &mut Buffers, b: BufId)
             buffer.targets.system = None;
         }
     }
+}
+
+/// Takes the last fence from a buffer, if it is live.
+#[tactic(auto, using(ttm_base::proofs::ListLaws::set_same))]
+pub fn drop_last_fence(buffers: &mut Buffers, b: BufId)
+    ensures { buffers.new ≡ changed without_last_fence buffers.old b }
+{
+    let index = b.0 as usize;
+    if index < buffers.len() {
+        if let Some(buffer) = buffers.get_mut(index) {
+            let count = buffer.fences.len();
+            if count > 0 {
+                let _ = buffer.fences.remove(count - 1);
+            }
+        }
+    }
+}
+
+/// Gives a buffer one more fence, if it is live.
+#[tactic(auto, using(ttm_base::proofs::ListLaws::set_same))]
+pub fn add_fence(
+    buffers: &mut Buffers,
+    b: BufId,
+    job: JobId,
+    usage: Usage,
+) -> Result<(), NoMemory>
+    ensures ok { OnOk result (buffers.new ≡ changed (with_fence job usage) buffers.old b) }
+    ensures err { OnErr result (buffers.new ≡ buffers.old) }
+{
+    let index = b.0 as usize;
+    if index < buffers.len() {
+        if let Some(buffer) = buffers.get_mut(index) {
+            buffer.fences.push(Fence { job, usage })?;
+        }
+    }
+    Ok(())
+}
+
+/// Leaves the frames of a buffer that was in this memory type: out of TT they stay behind.
+fn leave_table(mem: Mem, table: &mut Table)
+    ensures { table.new ≡ table_left mem table.old }
+{
+    if let Mem::Tt = mem {
+        for i in 0..table.len() {
+            table.set(i, Loc::Zero);
+        }
+    }
+}
+
+/// Takes the target of a memory type out, and gives its spans.
+fn take_spans(alloc: Global, targets: &mut Targets, mem: Mem) -> Spans
+    ensures value { result ≡ unwrap_or (target_of mem targets.old) [] }
+    ensures after { targets.new ≡ with_target mem None targets.old }
+{
+    match mem {
+        Mem::System => take_target(alloc, &mut targets.system),
+        Mem::Tt => take_target(alloc, &mut targets.tt),
+        Mem::Vram => take_target(alloc, &mut targets.vram),
+    }
+}
+
+/// Carries a buffer to its target in a memory type by a job, if it is live.
+#[tactic(auto, using(ttm_base::proofs::ListLaws::set_same))]
+pub fn carry(
+    alloc: Global,
+    buffers: &mut Buffers,
+    b: BufId,
+    mem: Mem,
+    job: JobId,
+) -> Result<(), NoMemory>
+    ensures ok { OnOk result (buffers.new ≡ changed (moved mem job) buffers.old b) }
+    ensures err { OnErr result (buffers.new ≡ buffers.old) }
+{
+    let index = b.0 as usize;
+    if index < buffers.len() {
+        if let Some(buffer) = buffers.get_mut(index) {
+            buffer.fences.push(Fence {
+                job,
+                usage: Usage::Kernel,
+            })?;
+            leave_table(buffer.mem, &mut buffer.table);
+            buffer.spans = take_spans(alloc, &mut buffer.targets, mem);
+            buffer.mem = mem;
+        }
+    }
+    Ok(())
 }

@@ -1,18 +1,23 @@
-ghost use Rattle.std.specs.Prelude.{◌≡◌, IfOk, OnOk, OnErr, filter, fold, option_copied};
+ghost use Rattle.std.specs.Prelude.{◌≡◌, ◌==◌, ◌++◌, ◌∷◌, [], if◌then◌else◌, IfOk, OnOk, OnErr, filter, fold, option_copied};
 ghost use Rattle.journal_model.specs.State as words;
-ghost use Rattle.journal_model.specs.ApplyCommands.{after_new, after_bulk, after_result, named_in, released, with_pins};
+ghost use Rattle.journal_model.specs.ApplyCommands as rows;
+ghost use Rattle.journal_model.specs.ApplyCommands.{after_new, after_free, after_bulk, after_result, named_in, released, with_pins};
 ghost use Rattle.journal_model.specs.Lists.{touched};
 ghost use Rattle.replay.specs.Ready.{IsThread, CanShowResult, HasPinsLeft};
 
 use crate::buffers::put_buffer;
 use crate::grips::{change_pins, put_grip, release_all};
-use journal_model::{BufIds, Buffer, Command, Grip, Grips, Lists, Script, State};
-use replay_lists::{listed_in, members_last, touched_all};
+use journal_model::{
+    BufIds, Buffer, Command, Core, Ghost, Grip, Grips, Lists, Script, State,
+};
+use replay_lists::{listed_in, members_last, taken_off, touched_all};
 use replay_state::{
-    command_at_work, declared_pages, has_buffer, named, new_buffer, new_course, no_grip,
+    buffer_in, command_at_work, dead_buffer, declared_pages, frames_of, has_buffer,
+    jobs_before_write, named, new_buffer, new_course, no_grip, push_spans, spans_in, unfinished,
+    without_buffer,
 };
 use std::alloc::Global;
-use ttm_base::{BufId, Mem, NoMemory};
+use ttm_base::{BufId, Mem, NoMemory, Spans};
 
 /// A thread makes a buffer.
 pub fn make(
@@ -36,6 +41,72 @@ pub fn make(
     Ok(())
 }
 
+/// What a buffer with unfinished jobs leaves when it is freed.
+fn ghost_of_freed(
+    alloc: Global,
+    core: &Core,
+    buffer: &Buffer,
+    num: u64,
+) -> Result<Ghost, NoMemory>
+    ensures { IfOk result (λ left. left ≡ rows.ghost_of_freed core.now buffer.now num) }
+{
+    let mut vram = Spans::new(alloc);
+    push_spans(&mut vram, spans_in(Mem::Vram, buffer))?;
+    let mut tt = Spans::new(alloc);
+    push_spans(&mut tt, spans_in(Mem::Tt, buffer))?;
+    let frames = frames_of(alloc, buffer)?;
+    let used_by = jobs_before_write(alloc, buffer)?;
+    let jobs = unfinished(alloc, core, used_by.items())?;
+    Ok(Ghost {
+        num,
+        vram,
+        tt,
+        frames,
+        jobs,
+    })
+}
+
+/// Adds the ghost of a freed buffer; the number 0 is that of no ghost.
+fn leave_ghost(alloc: Global, core: &mut Core, b: BufId, num: u64) -> Result<(), NoMemory>
+    ensures ok { OnOk result (core.new ≡ record core.old { ghosts = (if num == 0 then core.old.ghosts else core.old.ghosts ++ rows.ghost_of_freed core.old (words.buffer_in core.old b) num ∷ []) }) }
+    ensures err { OnErr result (core.new ≡ core.old) }
+{
+    if num != 0 {
+        let dead = dead_buffer(alloc);
+        let left = ghost_of_freed(alloc, core, buffer_in(core, b, &dead), num)?;
+        core.ghosts.push(left)?;
+    }
+    Ok(())
+}
+
+/// A thread frees a buffer, which leaves a ghost of this number where it isn't 0 (ttm_bo_release).
+pub fn free(
+    alloc: Global,
+    state: &mut State,
+    thread: u32,
+    b: BufId,
+    num: u64,
+) -> Result<(), NoMemory>
+    requires { IsThread state.old thread }
+    ensures ok { OnOk result (state.new ≡ after_free state.old thread b num) }
+    ensures err { OnErr result (state.new ≡ state.old) }
+{
+    let lists = taken_off(alloc, state.lists.items(), b)?;
+    let course = state.courses.get(thread as usize - 1);
+    let held = without_buffer(alloc, course.held.items(), b)?;
+    leave_ghost(alloc, &mut state.core, b, num)?;
+    put_buffer(&mut state.core.buffers, b, None);
+    put_grip(&mut state.grips, b, no_grip());
+    state.lists = lists;
+    if num != 0 {
+        state.last_ghost = num;
+    }
+    let course = state.courses.get_mut(thread as usize - 1);
+    course.held = held;
+    course.made = true;
+    Ok(())
+}
+
 /// The buffers of a group go to the end of their lists (ttm_lru_bulk_move_tail).
 pub fn bulk(
     alloc: Global,
@@ -55,7 +126,7 @@ pub fn bulk(
 }
 
 /// The buffers that a command names.
-fn buffers_of(alloc: Global, command: Option<&Command>) -> Result<BufIds, NoMemory>
+pub fn buffers_of(alloc: Global, command: Option<&Command>) -> Result<BufIds, NoMemory>
     ensures { IfOk result (λ bs. bs ≡ named_in (option_copied command.entry)) }
 {
     match command {

@@ -4,12 +4,15 @@
 mod buffers;
 mod commands;
 mod courses;
+mod entries;
 mod grips;
 mod jobs;
+mod moves;
 mod pages;
 mod searches;
 mod start;
 mod tickets;
 mod victims;
 
+pub use entries::apply;
 pub use start::first_state;

@@ -1,8 +1,6 @@
 //! The lists of buffers in eviction order, by memory type and priority (ttm_lru_item, ttm_lru_bulk_move), as plain lists.
 #![tactic(auto)]
 
-mod groups;
 mod lists;
 
-pub use groups::{is_mate, is_member};
-pub use lists::{listed_in, listed_mem, members_last, relisted, touched, touched_all};
+pub use lists::{listed_in, listed_mem, members_last, relisted, taken_off, touched, touched_all};

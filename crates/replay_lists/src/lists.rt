@@ -2,14 +2,15 @@ ghost use Rattle.std.specs.Prelude.{◌≡◌, ◌++◌, IfOk, OnOk, fold, filte
 ghost use Rattle.journal_model.specs.Lists as words;
 ghost use Rattle.replay_lists.specs.Listing as listing;
 
-use crate::groups::{is_mate, is_member};
 use journal_model::{BufIds, Buffer, Grip, Lists, Script};
-use replay_state::{declared_prio, grip_in, live_in, mem_number, without_buffer};
+use replay_state::{
+    declared_prio, grip_in, is_mate, is_member, list_number, live_in, without_buffer,
+};
 use std::alloc::Global;
 use ttm_base::{BufId, Mem, NoMemory};
 
 /// The lists without a buffer.
-fn taken_off(alloc: Global, lists: &[BufIds], b: BufId) -> Result<Lists, NoMemory>
+pub fn taken_off(alloc: Global, lists: &[BufIds], b: BufId) -> Result<Lists, NoMemory>
     ensures { IfOk result (λ rest. rest ≡ words.taken_off lists.now b) }
 {
     let mut rest = Lists::new(alloc);
@@ -40,13 +41,6 @@ fn put_in(script: &Script, list: &mut BufIds, b: BufId) -> Result<(), NoMemory>
 {
     let at = place_in(script, list.items(), b);
     list.insert(at, b)
-}
-
-/// The place of a list among all.
-fn list_number(mem: Mem, prio: u32) -> usize
-    ensures { result ≡ words.list_number mem prio }
-{
-    4 * mem_number(mem) as usize + prio as usize
 }
 
 /// The memory type in whose lists a buffer stands, if any: that of a live buffer without pins.
