@@ -5,9 +5,9 @@ ghost use Rattle.journal_model.specs.Holds as words;
 ghost use Rattle.replay_state.specs.Held.{spans_of_slot, frames_of_slot, slots_of_slot};
 
 use crate::buffers::target_spans;
-use crate::placement::same_mem;
 use crate::places::{frame_of, slot_of};
 use journal_model::{Buffer, Core, Frames, Ghost, Script};
+use replay_places::same_mem;
 use std::alloc::Global;
 use ttm_base::{Mem, NoMemory, Span, Spans};
 

@@ -29,15 +29,16 @@ pub use holds::{
 };
 pub use lists::{in_order, is_caught, is_mate, is_member, list_number, push_buffers, same_group};
 pub use packets::packets_of;
-pub use placement::{
-    accepts, common, compatible, first_places, forced_places, intersects, is_contiguous, is_inside,
-    length_of, mem_number, reach, reach_of, same_mem, size_of,
-};
+pub use placement::{reach_of, size_of};
 pub use places::{
     frame_of, frames_of, is_frame, loc_of, name_in_spans, name_in_table, packet_place, page_at,
     page_of_spans, pages_of, slot_of, slots_of,
 };
 pub use quests::{Quest, aim_of, has_some_target, quest_at_work, quest_for};
+pub use replay_places::{
+    accepts, common, compatible, first_places, forced_places, intersects, is_contiguous, is_inside,
+    length_of, mem_number, reach, same_mem,
+};
 pub use waits::{
     changes, is_idle, is_unfinished, is_written, jobs_before_read, jobs_before_target,
     jobs_before_use, jobs_before_write, same_job, unfinished, use_of, waited_before_read,

@@ -4,8 +4,8 @@ ghost use Rattle.journal_model.specs.Search as searches;
 
 use crate::buffers::same_buffer;
 use crate::commands::declared_group;
-use crate::placement::mem_number;
 use journal_model::{BufIds, Course, Script, State};
+use replay_places::mem_number;
 use std::alloc::Global;
 use ttm_base::{BufId, Mem, NoMemory};
 
