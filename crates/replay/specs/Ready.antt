@@ -14,6 +14,7 @@ use Rattle.journal_model.specs.declared.entry.Entry.{Entry}
 use Rattle.journal_model.specs.declared.entry.Kind.{Kind}
 use Rattle.journal_model.specs.declared.entry.Kind.TheVariants as kind
 use Rattle.journal_model.specs.State.{course_of, course, grip_in, buffer}
+use Rattle.replay_parts.specs.Pins.{HasPinsLeft}
 use Rattle.journal_model.specs.Commands.{command_at_work}
 use Rattle.journal_model.specs.Waits.{same_job}
 use Rattle.journal_model.specs.Apply.{thread_of, engine_of}
@@ -26,15 +27,6 @@ IsThread s t = IsSome (course_of s t)
 pub record CanAnswer (s : State) (t : ℕ) : Type 0 where
   pub there : IsThread s t
   pub room : (course s t).answered + 1 < 2 ^ 32
-
--- the buffer can be pinned once more
-abbrev pub CanPin : List Grip → BufId → Type 0
-CanPin grips b = (grip_in grips b).pins < 255
-
--- the command pins no buffer that is pinned as often as can be counted
-abbrev pub HasPinsLeft : List Grip → Option Command → Type 0
-HasPinsLeft grips (Some (command.Pin b)) = CanPin grips b
-HasPinsLeft grips _ = Unit {0}
 
 -- a thread may answer the command that it is at
 pub record CanShowResult (script : Script) (s : State) (t : ℕ) : Type 0 where

@@ -3,14 +3,15 @@ ghost use Rattle.journal_model.specs.State as words;
 ghost use Rattle.journal_model.specs.ApplyCommands as rows;
 ghost use Rattle.journal_model.specs.ApplyCommands.{after_new, after_free, after_bulk, after_result, named_in, released, with_pins};
 ghost use Rattle.journal_model.specs.Lists.{touched};
-ghost use Rattle.replay.specs.Ready.{IsThread, CanShowResult, HasPinsLeft};
+ghost use Rattle.replay_parts.specs.Pins.{HasPinsLeft};
+ghost use Rattle.replay.specs.Ready.{IsThread, CanShowResult};
 
-use crate::buffers::put_buffer;
-use crate::grips::{change_pins, put_grip, release_all};
+use replay_parts::buffers::put_buffer;
+use replay_parts::grips::{change_pins, put_grip, release_all};
 use journal_model::{
     BufIds, Buffer, Command, Core, Ghost, Grip, Grips, Lists, Script, State,
 };
-use replay_lists::{listed_in, members_last, taken_off, touched_all};
+use replay_parts::lists::{listed_in, members_last, taken_off, touched_all};
 use replay_state::{
     buffer_in, command_at_work, dead_buffer, declared_pages, frames_of, has_buffer,
     jobs_before_write, named, new_buffer, new_course, no_grip, push_spans, spans_in, unfinished,

@@ -4,9 +4,9 @@ ghost use Rattle.journal_model.specs.Waits as waits;
 ghost use Rattle.journal_model.specs.ApplyJobs.{with_use, changed_job, after_arm, after_packet_run, after_done, after_reap};
 ghost use Rattle.journal_model.specs.ApplyJobs as rows;
 ghost use Rattle.replay.specs.Ready.{IsThread, CanRun, has_packets_left};
-ghost use Rattle.replay.specs.Undo.{without_last};
+ghost use Rattle.replay_parts.specs.Undo.{without_last};
 
-use crate::buffers::{add_fence, drop_last_fence};
+use replay_parts::buffers::{add_fence, drop_last_fence};
 use crate::commands::buffers_of;
 use journal_model::{Buffers, Command, Core, Ghosts, Job, JobIds, Jobs, Numbers, Script, State};
 use replay_state::{command_at_work, jobs_before_use, packets_of, same_job, use_of};
@@ -71,7 +71,7 @@ fn waits_at(
 }
 
 /// Gives each of these buffers the job as a fence, in the way in which it uses the buffer.
-#[tactic(auto, using(crate::proofs::UndoLaws::fence_undone))]
+#[tactic(auto, using(replay_parts::proofs::UndoLaws::fence_undone))]
 fn add_uses(
     buffers: &mut Buffers,
     job: JobId,
@@ -147,7 +147,6 @@ fn finish(job: &mut Job, id: JobId)
 }
 
 /// Marks a job as done among others.
-#[tactic(auto, using(crate::proofs::ListLaws::map_over_step))]
 fn finish_among(jobs: &mut Jobs, id: JobId)
     ensures { jobs.new ≡ changed_job (λ j. record j { finished = true }) id jobs.old }
 {

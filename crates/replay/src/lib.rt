@@ -1,11 +1,8 @@
 //! A plain memory manager over lists: the first state, and the state after an entry.
 #![tactic(auto)]
 
-mod buffers;
 mod commands;
-mod courses;
 mod entries;
-mod grips;
 mod jobs;
 mod moves;
 mod pages;

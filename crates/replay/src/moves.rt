@@ -4,12 +4,12 @@ ghost use Rattle.journal_model.specs.State as words;
 ghost use Rattle.journal_model.specs.Waits as waits;
 ghost use Rattle.journal_model.specs.ApplyMoves as rows;
 ghost use Rattle.replay.specs.Ready.{HasShortTable};
-ghost use Rattle.replay.specs.Undo.{without_last};
+ghost use Rattle.replay_parts.specs.Undo.{without_last};
 
-use crate::buffers::carry;
+use replay_parts::buffers::carry;
 use crate::jobs::{drop_last_job, set_last_job};
 use journal_model::{Buffer, Core, Frames, Ghost, Ghosts, Job, JobIds, Left, Packets, Script, State};
-use replay_lists::relisted;
+use replay_parts::lists::relisted;
 use replay_state::{
     buffer_in, dead_buffer, frames_of, jobs_before_write, name_in_spans, packet_place, push_spans,
     spans_in, target_spans, unfinished,

@@ -2,9 +2,9 @@ ghost use Rattle.std.specs.Prelude.{◌≡◌, OnOk, OnErr};
 ghost use Rattle.journal_model.specs.ApplyVictims.{after_no_pages, after_skip, after_catch, after_loose};
 ghost use Rattle.replay.specs.Ready.{IsThread};
 
-use crate::{buffers, courses, grips};
+use replay_parts::{buffers, courses, grips};
 use journal_model::{Script, State, Why};
-use replay_lists::touched;
+use replay_parts::lists::touched;
 use std::alloc::Global;
 use ttm_base::{BufId, Deny, NoMemory};
 
@@ -52,7 +52,7 @@ pub fn catch(
 }
 
 /// A thread lets a victim go.
-#[tactic(auto, using(replay_lists::proofs::ListingLaws::touched_released))]
+#[tactic(auto, using(replay_parts::proofs::ListingLaws::touched_released))]
 pub fn loose(
     alloc: Global,
     script: &Script,

@@ -1,7 +1,7 @@
 use Rattle.std.proofs.Common.{◌≡◌, Some, subst, sym, ap, ◌∙◌}
 use Rattle.journal_model.specs.ApplyCommands.{released}
-use Rattle.replay.specs.Ready.{HasPinsLeft}
-use Rattle.replay.proofs.Pins.{pins_left_released}
+use Rattle.replay_parts.specs.Pins.{HasPinsLeft}
+use Rattle.replay_parts.proofs.PinLaws.{pins_left_released}
 use Rattle.replay.proofs.commands.answered_grips.Goals as goal
 
 pub change_pins-requires : goal.change_pins-requires

@@ -2,7 +2,7 @@ use Rattle.std.proofs.Common.{◌+◌, ◌<◌, length, arith, sym, ◌∙◌, i
 use Rattle.std.proofs.Math.ListN.{length-set}
 use Rattle.journal_model.specs.Waits.{same_job}
 use Rattle.replay.specs.Ready.{has_packets_left}
-use Rattle.replay.proofs.ListLaws.{map_over_step, over_next, passes_at}
+use Rattle.replay_parts.proofs.ListLaws.{map_over_step, over_next, passes_at}
 use Rattle.replay.proofs.jobs.count_packet_among.Goals as goal
 
 pub count_packet-requires : goal.count_packet-requires

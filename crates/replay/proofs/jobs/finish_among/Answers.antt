@@ -1,7 +1,7 @@
 use Rattle.std.proofs.Common.{◌<◌, length, arith, ◌∙◌, true, if◌then◌else◌}
 use Rattle.std.proofs.Math.ListN.{length-set}
 use Rattle.journal_model.specs.Waits.{same_job}
-use Rattle.replay.proofs.ListLaws.{map_over_step}
+use Rattle.replay_parts.proofs.ListLaws.{map_over_step}
 use Rattle.replay.proofs.jobs.finish_among.Goals as goal
 
 pub loop-i-preserved : goal.loop-i-preserved
