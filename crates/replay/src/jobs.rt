@@ -1,0 +1,212 @@
+ghost use Rattle.std.specs.Prelude.{◌≡◌, ◌+◌, ◌==◌, ◌++◌, ◌∷◌, [], true, IfOk, OnOk, OnErr, IsTrue, filter, flat_map, fold, not, option_copied, slice_set, if◌then◌else◌};
+ghost use Rattle.std.specs.List.{list_all};
+ghost use Rattle.journal_model.specs.Waits as waits;
+ghost use Rattle.journal_model.specs.ApplyJobs.{with_use, changed_job, after_arm, after_packet_run, after_done, after_reap};
+ghost use Rattle.journal_model.specs.ApplyJobs as rows;
+ghost use Rattle.replay.specs.Ready.{IsThread, CanRun, has_packets_left};
+ghost use Rattle.replay_parts.specs.Undo.{without_last};
+
+use replay_parts::buffers::{add_fence, drop_last_fence};
+use crate::commands::buffers_of;
+use journal_model::{Buffers, Command, Core, Ghosts, Job, JobIds, Jobs, Numbers, Script, State};
+use replay_state::{command_at_work, jobs_before_use, packets_of, same_job, use_of};
+use std::alloc::Global;
+use ttm_base::{BufId, JobId, NoMemory, Op};
+
+/// Keeps the number of the last job of a context.
+pub fn set_last_job(last_jobs: &mut Numbers, id: JobId)
+    ensures { last_jobs.new ≡ slice_set last_jobs.old id.ctx id.num }
+{
+    let index = id.ctx as usize;
+    if index < last_jobs.len() {
+        last_jobs.set(index, id.num);
+    }
+}
+
+/// Takes the last job back.
+pub fn drop_last_job(jobs: &mut Jobs)
+    ensures { jobs.new ≡ without_last jobs.old }
+{
+    let count = jobs.len();
+    if count > 0 {
+        let _ = jobs.remove(count - 1);
+    }
+}
+
+/// The operations of a job.
+fn ops_of<'a>(command: Option<&'a Command>) -> &'a [Op]
+    ensures { result.now ≡ rows.ops_of (option_copied command.entry) }
+{
+    match command {
+        Some(Command::Submit { ops, .. }) => ops.items(),
+        _ => &[],
+    }
+}
+
+/// Puts job ids behind others.
+fn push_jobs(jobs: &mut JobIds, more: &[JobId]) -> Result<(), NoMemory>
+    ensures { OnOk result (jobs.new ≡ jobs.old ++ more.now) }
+{
+    for job in more {
+        jobs.push(*job)?;
+    }
+    Ok(())
+}
+
+/// The jobs that a job waits for at its buffers.
+fn waits_at(
+    alloc: Global,
+    core: &Core,
+    ops: &[Op],
+    bs: &[BufId],
+) -> Result<JobIds, NoMemory>
+    ensures { IfOk result (λ jobs. jobs ≡ flat_map (waits.jobs_before_use core.now ops.now) bs.now) }
+{
+    let mut jobs = JobIds::new(alloc);
+    for b in bs {
+        let more = jobs_before_use(alloc, core, ops, *b)?;
+        push_jobs(&mut jobs, more.items())?;
+    }
+    Ok(jobs)
+}
+
+/// Gives each of these buffers the job as a fence, in the way in which it uses the buffer.
+#[tactic(auto, using(replay_parts::proofs::UndoLaws::fence_undone))]
+fn add_uses(
+    buffers: &mut Buffers,
+    job: JobId,
+    ops: &[Op],
+    bs: &[BufId],
+) -> Result<(), NoMemory>
+    ensures ok { OnOk result (buffers.new ≡ fold (with_use job ops.now) buffers.old bs.now) }
+    ensures err { OnErr result (buffers.new ≡ buffers.old) }
+{
+    let Some((b, rest)) = bs.split_first() else {
+        return Ok(());
+    };
+    add_fence(buffers, *b, job, use_of(ops, *b))?;
+    if add_uses(buffers, job, ops, rest).is_err() {
+        drop_last_fence(buffers, *b);
+        return Err(NoMemory);
+    }
+    Ok(())
+}
+
+/// Adds a job, and gives its buffers the fences.
+fn emit(core: &mut Core, job: Job, ops: &[Op], bs: &[BufId]) -> Result<(), NoMemory>
+    ensures ok { OnOk result (core.new ≡ record core.old { jobs = core.old.jobs ++ job ∷ []; buffers = fold (with_use job.id ops.now) core.old.buffers bs.now }) }
+    ensures err { OnErr result (core.new ≡ core.old) }
+{
+    let id = job.id;
+    core.jobs.push(job)?;
+    if add_uses(&mut core.buffers, id, ops, bs).is_err() {
+        drop_last_job(&mut core.jobs);
+        return Err(NoMemory);
+    }
+    Ok(())
+}
+
+/// The job of a thread's command is emitted: it waits for the jobs of its buffers, and becomes one of them.
+pub fn arm(
+    alloc: Global,
+    script: &Script,
+    state: &mut State,
+    thread: u32,
+    ctx: u32,
+    num: u64,
+) -> Result<(), NoMemory>
+    requires { IsThread state.old thread }
+    ensures ok { OnOk result (state.new ≡ after_arm script.now state.old thread ctx num) }
+    ensures err { OnErr result (state.new ≡ state.old) }
+{
+    let id = JobId { ctx, num };
+    let command = command_at_work(script, state, thread);
+    let ops = ops_of(command);
+    let bs = buffers_of(alloc, command)?;
+    let job = Job {
+        id,
+        waits: waits_at(alloc, &state.core, ops, bs.items())?,
+        packets: packets_of(alloc, &state.core, ops)?,
+        ran: 0,
+        finished: false,
+    };
+    emit(&mut state.core, job, ops, bs.items())?;
+    set_last_job(&mut state.last_jobs, id);
+    let course = state.courses.get_mut(thread as usize - 1);
+    course.made = true;
+    Ok(())
+}
+
+/// Marks a job as done, if it is the one.
+fn finish(job: &mut Job, id: JobId)
+    ensures { job.new ≡ (if waits.same_job id job.old.id then record job.old { finished = true } else job.old) }
+{
+    if same_job(id, job.id) {
+        job.finished = true;
+    }
+}
+
+/// Marks a job as done among others.
+fn finish_among(jobs: &mut Jobs, id: JobId)
+    ensures { jobs.new ≡ changed_job (λ j. record j { finished = true }) id jobs.old }
+{
+    for i in 0..jobs.len() {
+        finish(jobs.get_mut(i), id);
+    }
+}
+
+/// Counts one more packet that has run, if it is of the job.
+fn count_packet(job: &mut Job, id: JobId)
+    requires { IsTrue (has_packets_left id job.old) }
+    ensures { job.new ≡ (if waits.same_job id job.old.id then record job.old { ran = job.old.ran + 1 } else job.old) }
+{
+    if same_job(id, job.id) {
+        job.ran += 1;
+    }
+}
+
+/// Counts one more packet of a job among others.
+fn count_packet_among(jobs: &mut Jobs, id: JobId)
+    requires { IsTrue (list_all (has_packets_left id) jobs.old) }
+    ensures { jobs.new ≡ changed_job (λ j. record j { ran = j.ran + 1 }) id jobs.old }
+{
+    for i in 0..jobs.len() {
+        count_packet(jobs.get_mut(i), id);
+    }
+}
+
+/// A packet of a job has run.
+pub fn packet_run(state: &mut State, ctx: u32, num: u64)
+    requires { CanRun state.old (record { ctx = ctx; num = num }) }
+    ensures { state.new ≡ after_packet_run state.old (record { ctx = ctx; num = num }) }
+{
+    count_packet_among(&mut state.core.jobs, JobId { ctx, num });
+}
+
+/// A job is done.
+pub fn done(state: &mut State, ctx: u32, num: u64)
+    ensures { state.new ≡ after_done state.old (record { ctx = ctx; num = num }) }
+{
+    finish_among(&mut state.core.jobs, JobId { ctx, num });
+}
+
+/// Takes a ghost out.
+fn remove_ghost(ghosts: &mut Ghosts, num: u64)
+    ensures { ghosts.new ≡ filter (λ h. not (h.num == num)) ghosts.old }
+{
+    let mut i = 0;
+    while i < ghosts.len() {
+        if ghosts.get(i).num == num {
+            let _ = ghosts.remove(i);
+        } else {
+            i += 1;
+        }
+    }
+}
+
+/// A ghost goes.
+pub fn reap(state: &mut State, num: u64)
+    ensures { state.new ≡ after_reap state.old num }
+{
+    remove_ghost(&mut state.core.ghosts, num);
+}

@@ -1,0 +1,15 @@
+//! A plain memory manager over lists: the first state, and the state after an entry.
+#![tactic(auto)]
+
+mod commands;
+mod entries;
+mod jobs;
+mod moves;
+mod pages;
+mod searches;
+mod start;
+mod tickets;
+mod victims;
+
+pub use entries::apply;
+pub use start::first_state;

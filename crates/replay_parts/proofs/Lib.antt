@@ -1,0 +1,5 @@
+pub mod OrderLaws
+pub mod ListingLaws
+pub mod ListLaws
+pub mod UndoLaws
+pub mod PinLaws

@@ -1,0 +1,7 @@
+use Rattle.std.proofs.Common.{◌≡◌, ◌++◌, take, length, unwrap_or}
+use Rattle.std.specs.Prelude.{fold, filter, map, not}
+use Rattle.journal_model.specs.Lists.{taken_off, behind_last, is_mate, touched, is_member, members_last}
+use Rattle.replay_parts.proofs.lists.add_others.Given as goal
+
+abbrev pub invariant-loop-b : goal.invariant-loop-b
+invariant-loop-b l = l.found ≡ l.initial.found ++ filter (λ b. not (is_member l.script l.group b)) (take l.b-index l.list)

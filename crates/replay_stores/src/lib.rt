@@ -1,0 +1,4 @@
+//! The bytes of VRAM, of frames and of swap slots, as plain lists: what an entry does to them, and what it shows of them.
+#![tactic(auto)]
+
+mod room;
