@@ -2,6 +2,7 @@
 use Rattle.std.proofs.Common.{◌≡◌, ℕ, ◌+◌, ◌<◌, List, [], ◌++◌, length, take, drop, Option, None, Some, Result, Ok, Err, ap, refl, ◌∙◌, sym, append_assoc, append-nil, arith}
 use Rattle.std.proofs.Math.Seq.{take-add}
 use Rattle.std.proofs.lemmas.Grind.{common_steps}
+use Rattle.std.specs.Prelude.{IsErr}
 use Rattle.std.specs.Io.KnownBytes.{append_known, prepend_known}
 use Rattle.io_edge.specs.Written.{AppendsFront, Writes}
 
@@ -58,3 +59,8 @@ front_of_first {old} {new} {xs} ys first = record {
 pub writes_next : {T E : Type 0} (r : Result T E) (old mid new : Option (List ℕ)) (xs ys : List ℕ) → mid ≡ append_known old xs → Writes r mid new ys → Writes r old new (xs ++ ys)
 writes_next (Ok _) old mid new xs ys first next = next ∙ ap (λ t. append_known t ys) first ∙ append_known-twice old xs ys
 writes_next (Err _) old mid new xs ys first next = front_of_next xs first next
+
+-- a refusal, and what was written before it
+pub writes_refused : {T E : Type 0} (r : Result T E) (old new : Option (List ℕ)) (bytes : List ℕ) → IsErr r → AppendsFront old new bytes → Writes r old new bytes
+writes_refused (Ok _) old new bytes h front = cc
+writes_refused (Err _) old new bytes h front = front

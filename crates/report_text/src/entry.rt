@@ -1,6 +1,7 @@
-ghost use Rattle.std.specs.Prelude.{◌≡◌, ◌+◌, ◌++◌, ◌∷◌, [], OnOk, codes, decimal, drop, length, map, slice_get};
+ghost use Rattle.std.specs.Prelude.{◌≡◌, ◌+◌, ◌++◌, ◌∷◌, [], OnOk, codes, decimal, drop, length, map, slice_get, unwrap_or};
 ghost use Rattle.journal_model.specs.EntryText.{cause_row_word, cause_word, deny_word, dry_word, entry_line, kind_words, left_word, piece_words, shown_words, why_word};
 ghost use Rattle.journal_model.specs.Words.{actor_word, hex, listed, mem_word, name_of, spans_word};
+ghost use Rattle.journal_model.specs.ReportText.{answer_words};
 ghost use Rattle.report_text.specs.Spaced.{behind_each, spaced_out};
 
 use crate::line::Line;
@@ -241,7 +242,7 @@ fn put_packet(line: &mut Line, num: u64, k: u32, piece: &[u8]) -> Result<(), NoM
 }
 
 /// Puts what a result shows.
-pub(crate) fn put_shown(line: &mut Line, shown: &Shown) -> Result<(), NoMemory>
+fn put_shown(line: &mut Line, shown: &Shown) -> Result<(), NoMemory>
     ensures { OnOk result (line.new ≡ line.old ++ spaced_out (shown_words shown.now)) }
 {
     match shown {
@@ -249,6 +250,24 @@ pub(crate) fn put_shown(line: &mut Line, shown: &Shown) -> Result<(), NoMemory>
         Shown::Read(bytes) => put_read(line, bytes.items()),
         Shown::Find { mem, spans } => put_find(line, *mem, spans.items()),
     }
+}
+
+/// Puts what the report's results say of an answer, and nothing for another entry.
+pub(crate) fn put_answer(line: &mut Line, kind: &Kind) -> Result<(), NoMemory>
+    ensures { OnOk result (line.new ≡ line.old ++ spaced_out (unwrap_or (answer_words kind.now) [])) }
+{
+    match kind {
+        Kind::Result { shown } => put_shown(line, shown),
+        Kind::Refused { deny } => put_refused(line, *deny),
+        _ => Ok(()),
+    }
+}
+
+fn put_refused(line: &mut Line, deny: Deny) -> Result<(), NoMemory>
+    ensures { OnOk result (line.new ≡ line.old ++ spaced_out (codes "refused" ∷ deny_word deny ∷ [])) }
+{
+    line.word(b"refused")?;
+    line.word(deny_word(deny))
 }
 
 fn put_read(line: &mut Line, bytes: &[u8]) -> Result<(), NoMemory>
@@ -269,7 +288,7 @@ fn put_find(line: &mut Line, mem: Mem, spans: &[Span]) -> Result<(), NoMemory>
 }
 
 /// The name of a refusal.
-pub(crate) fn deny_word(deny: Deny) -> &'static [u8]
+fn deny_word(deny: Deny) -> &'static [u8]
     ensures { result.now ≡ deny_word deny }
 {
     match deny {
