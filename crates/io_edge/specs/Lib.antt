@@ -2,3 +2,4 @@ pub mod Faults
 pub mod Memory
 pub mod ReadFault
 pub mod Standard
+pub mod Written

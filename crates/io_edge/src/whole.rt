@@ -3,6 +3,7 @@ ghost use Rattle.std.specs.Option.{option_map};
 ghost use Rattle.std.specs.Io.KnownBytes.{append_known, prepend_known};
 ghost use Rattle.io_edge.specs.Faults.{faults_after};
 ghost use Rattle.io_edge.specs.ReadFault.{TookBefore, faults_after_all};
+ghost use Rattle.io_edge.specs.Written.{Writes};
 
 use crate::{Failed, Sink, Source};
 use std::alloc::{AllocError, Global};
@@ -68,13 +69,9 @@ pub fn read_all<S: Source>(
     Err(ReadFault::TooLong)
 }
 
-/// Writes all the bytes. It takes no memory.
+/// Writes all the bytes. After a failure a front of them was written, and not all. It takes no memory.
 pub fn write_all<K: Sink>(sink: &mut K, bytes: &[u8]) -> Result<(), Failed>
-    ensures ok { OnOk result (K.written sink.new ≡ append_known (K.written sink.old) bytes.now) }
-
-    // After a failure a front of the bytes was appended, and not all of them.
-    ensures err { OnErr result ((n : ℕ) × (n < length bytes.now)
-        × (K.written sink.new ≡ append_known (K.written sink.old) (take n bytes.now))) }
+    ensures text { Writes result (K.written sink.old) (K.written sink.new) bytes.now }
     ensures faults { K.faults sink.new ≡ faults_after result (K.faults sink.old) }
 {
     let mut at = 0;

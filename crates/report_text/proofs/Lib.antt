@@ -1,0 +1,5 @@
+pub mod SpacedLaws
+pub mod Digits
+pub mod WrittenLines
+pub mod Kept
+pub mod Parts

@@ -1,0 +1,7 @@
+use Rattle.std.proofs.Common.{◌≡◌, ◌++◌, ◌∷◌, map, take, decimal}
+use Rattle.journal_model.specs.Words.{name_of}
+use Rattle.report_text.specs.Spaced.{spaced_out}
+use Rattle.report_text.proofs.entry.put_numbers.Given as goal
+
+abbrev pub invariant-loop-number : goal.invariant-loop-number
+invariant-loop-number l = l.line ≡ l.fn.line ++ spaced_out (name_of l.fn.script l.fn.b ∷ map decimal (take l.number-index l.numbers))

@@ -1,0 +1,41 @@
+use Rattle.std.specs.Prelude.{codes}
+use Rattle.journal_model.specs.ReportText.{account_line}
+use Rattle.report_text.specs.Accounts.{told}
+use Rattle.report_text.proofs.Parts.{first_of_four, second_of_four, third_of_four, last_of_four}
+use Rattle.report_text.proofs.report.write_accounts.Goals as goal
+
+pub returns-in_err-write_account-clause-text : goal.returns-in_err-write_account-clause-text
+returns-in_err-write_account-clause-text g c =
+    let sizes = c.args.sizes.now in
+    let a = c.args.accounts.now in
+    first_of_four c.from_residual.result _ _
+    (account_line (codes "vram") sizes.vram (told a.vram)) (account_line (codes "tt") sizes.tt (told a.tt))
+    (account_line (codes "frames") sizes.frames (told a.frames)) (account_line (codes "swap") sizes.swap (told a.swap))
+    c.from_residual.ensures.0 c.in_err-write_account.ensures.text
+
+pub returns-in_err-write_account-2-clause-text : goal.returns-in_err-write_account-2-clause-text
+returns-in_err-write_account-2-clause-text g c =
+    let sizes = c.args.sizes.now in
+    let a = c.args.accounts.now in
+    second_of_four c.from_residual-in_err-write_account-2.result _ _ _
+    (account_line (codes "vram") sizes.vram (told a.vram)) (account_line (codes "tt") sizes.tt (told a.tt))
+    (account_line (codes "frames") sizes.frames (told a.frames)) (account_line (codes "swap") sizes.swap (told a.swap))
+    c.from_residual-in_err-write_account-2.ensures.0 c.in_ok-write_account.ensures.text c.in_err-write_account-2.ensures.text
+
+pub returns-in_err-write_account-3-clause-text : goal.returns-in_err-write_account-3-clause-text
+returns-in_err-write_account-3-clause-text g c =
+    let sizes = c.args.sizes.now in
+    let a = c.args.accounts.now in
+    third_of_four c.from_residual-in_err-write_account-3.result _ _ _ _
+    (account_line (codes "vram") sizes.vram (told a.vram)) (account_line (codes "tt") sizes.tt (told a.tt))
+    (account_line (codes "frames") sizes.frames (told a.frames)) (account_line (codes "swap") sizes.swap (told a.swap))
+    c.from_residual-in_err-write_account-3.ensures.0 c.in_ok-write_account.ensures.text c.in_ok-write_account-2.ensures.text c.in_err-write_account-3.ensures.text
+
+pub returns-clause-text : goal.returns-clause-text
+returns-clause-text g c =
+    let sizes = c.args.sizes.now in
+    let a = c.args.accounts.now in
+    last_of_four c.write_account-4.result _ _ _ _ _
+    (account_line (codes "vram") sizes.vram (told a.vram)) (account_line (codes "tt") sizes.tt (told a.tt))
+    (account_line (codes "frames") sizes.frames (told a.frames)) (account_line (codes "swap") sizes.swap (told a.swap))
+    c.in_ok-write_account.ensures.text c.in_ok-write_account-2.ensures.text c.in_ok-write_account-3.ensures.text c.write_account-4.ensures.text

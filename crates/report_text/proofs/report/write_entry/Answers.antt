@@ -1,0 +1,10 @@
+use Rattle.std.proofs.Common.{◌∷◌, decimal}
+use Rattle.journal_model.specs.Words.{actor_word}
+use Rattle.journal_model.specs.EntryText.{kind_words}
+use Rattle.report_text.proofs.WrittenLines.{line_is_not_made}
+use Rattle.report_text.proofs.report.write_entry.Goals as goal
+
+pub returns-in_err-make_entry_line-clause-text : goal.returns-in_err-make_entry_line-clause-text
+returns-in_err-make_entry_line-clause-text g c =
+    line_is_not_made c.from_residual.result _
+    (decimal c.args.number ∷ actor_word c.args.entry.now.who ∷ kind_words c.args.script.now c.args.entry.now.kind) c.from_residual.ensures.0

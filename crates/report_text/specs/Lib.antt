@@ -1,0 +1,4 @@
+pub mod Spaced
+pub mod WriteFault
+pub mod Accounts
+pub mod Parts

@@ -1,0 +1,35 @@
+-- The parts of a report as they are written.
+use Rattle.std.specs.Prelude.{List, [], ◌∷◌, ◌++◌, flat_map, length, decimal, codes}
+use Rattle.std.specs.List.{enumerate_from}
+use Rattle.journal_model.specs.declared.script.Script.{Script}
+use Rattle.journal_model.specs.declared.script.Sizes.{Sizes}
+use Rattle.journal_model.specs.declared.entry.Entry.{Entry}
+use Rattle.journal_model.specs.Complete.{thread_numbers}
+use Rattle.journal_model.specs.Words.{Text, line}
+use Rattle.journal_model.specs.EntryText.{entry_line}
+use Rattle.journal_model.specs.ReportText.{account_line, thread_results}
+use Rattle.report_text.specs.declared.accounts.Accounts.{Accounts}
+use Rattle.report_text.specs.Accounts.{told}
+
+-- the lines of four accounts
+abbrev pub four_lines : Sizes → Accounts → Text
+four_lines sizes a =
+    account_line (codes "vram") sizes.vram (told a.vram)
+    ++ account_line (codes "tt") sizes.tt (told a.tt)
+    ++ account_line (codes "frames") sizes.frames (told a.frames)
+    ++ account_line (codes "swap") sizes.swap (told a.swap)
+
+-- the parts before the results
+abbrev pub journal_part : Script → List Entry → Text
+journal_part script journal =
+    line (codes "report" ∷ decimal script.version ∷ [])
+    ++ line (codes "journal" ∷ decimal (length journal) ∷ [])
+    ++ flat_map (entry_line script) (enumerate_from 1 journal)
+
+-- the results and the accounts
+abbrev pub outcome_part : Script → List Entry → Accounts → Text
+outcome_part script journal accounts =
+    line (codes "results" ∷ [])
+    ++ flat_map (thread_results journal) (thread_numbers script)
+    ++ line (codes "accounts" ∷ [])
+    ++ four_lines script.sizes accounts

@@ -1,0 +1,11 @@
+-- Words of a line as they are put one behind the other.
+use Rattle.std.specs.Prelude.{ℕ, List, ◌∷◌, flat_map}
+use Rattle.journal_model.specs.Words.{Text}
+
+-- each word behind a separator
+abbrev pub behind_each : ℕ → List Text → Text
+behind_each separator ws = flat_map (λ w. separator ∷ w) ws
+
+-- each word behind a space
+abbrev pub spaced_out : List Text → Text
+spaced_out ws = behind_each 32 ws

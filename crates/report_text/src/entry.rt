@@ -1,0 +1,304 @@
+ghost use Rattle.std.specs.Prelude.{◌≡◌, ◌+◌, ◌++◌, ◌∷◌, [], OnOk, codes, decimal, drop, length, map, slice_get, unwrap_or};
+ghost use Rattle.journal_model.specs.EntryText.{cause_row_word, cause_word, deny_word, dry_word, entry_line, kind_words, left_word, piece_words, shown_words, why_word};
+ghost use Rattle.journal_model.specs.Words.{actor_word, hex, listed, mem_word, name_of, spans_word};
+ghost use Rattle.journal_model.specs.ReportText.{answer_words};
+ghost use Rattle.report_text.specs.Spaced.{behind_each, spaced_out};
+
+use crate::line::Line;
+use crate::words::{mem_word, name_of, put_actor, put_hex, put_numbered, put_spans};
+use journal_model::{Cause, CauseRow, DryWhy, Entry, Kind, Left, Script, Shown, Why};
+use ttm_base::{BufId, Deny, Mem, NoMemory, Span};
+
+/// Makes the line of an entry.
+pub(crate) fn make_entry_line(
+    line: &mut Line,
+    script: &Script,
+    number: u64,
+    entry: &Entry,
+) -> Result<(), NoMemory>
+    ensures { OnOk result (line.new ≡ entry_line script.now (number, entry.now)) }
+{
+    line.clear();
+    line.put_number(number)?;
+    line.put_byte(b' ')?;
+    put_actor(line, entry.who)?;
+    line.word(verb(&entry.kind))?;
+    put_arguments(line, script, &entry.kind)?;
+    line.put_byte(b'\n')
+}
+
+/// The first word of an entry's text.
+fn verb(kind: &Kind) -> &'static [u8]
+    ensures { (script : _) → slice_get (kind_words script kind.now) 0 ≡ Some result.now }
+{
+    match kind {
+        Kind::Ticket { .. } => b"ticket",
+        Kind::Reserve { .. } => b"reserve",
+        Kind::Backoff { .. } => b"backoff",
+        Kind::New { .. } => b"new",
+        Kind::Free { .. } => b"free",
+        Kind::Take { .. } => b"take",
+        Kind::Untake { .. } => b"untake",
+        Kind::Populate { .. } => b"populate",
+        Kind::SwapIn { .. } => b"swapin",
+        Kind::Depopulate { .. } => b"depopulate",
+        Kind::Bind { .. } => b"bind",
+        Kind::Unbind { .. } => b"unbind",
+        Kind::Move { .. } => b"move",
+        Kind::Catch { .. } => b"catch",
+        Kind::Loose { .. } => b"loose",
+        Kind::Skip { .. } => b"skip",
+        Kind::Dry { .. } => b"dry",
+        Kind::SwapOut { .. } => b"swapout",
+        Kind::NoPages { .. } => b"nopages",
+        Kind::Arm { .. } => b"arm",
+        Kind::Packet { .. } => b"packet",
+        Kind::Done { .. } => b"done",
+        Kind::Reap { .. } => b"reap",
+        Kind::Bulk { .. } => b"bulk",
+        Kind::Result { .. } => b"result",
+        Kind::Refused { .. } => b"refused",
+    }
+}
+
+/// Puts the other words of an entry's text.
+fn put_arguments(line: &mut Line, script: &Script, kind: &Kind) -> Result<(), NoMemory>
+    ensures { OnOk result (line.new ≡ line.old ++ spaced_out (drop 1 (kind_words script.now kind.now))) }
+{
+    match kind {
+        Kind::Ticket { s } => line.number(s.0),
+        Kind::Reserve { b } => line.word(name_of(script, *b)),
+        Kind::Backoff { b, s } => put_numbers(line, script, *b, &[s.0]),
+        Kind::New { b } => line.word(name_of(script, *b)),
+        Kind::Free { b, g } => put_numbers(line, script, *b, &[*g]),
+        Kind::Take { b, mem, spans } => put_range(line, script, *b, *mem, spans.items()),
+        Kind::Untake { b, mem } => put_mem(line, script, *b, *mem),
+        Kind::Populate { b, page, frame } => put_pages(line, script, *b, &[*page, *frame]),
+        Kind::SwapIn { b, page, slot, frame } => put_pages(line, script, *b, &[*page, *slot, *frame]),
+        Kind::Depopulate { b } => line.word(name_of(script, *b)),
+        Kind::Bind { b } => line.word(name_of(script, *b)),
+        Kind::Unbind { b } => line.word(name_of(script, *b)),
+        Kind::Move { b, mem, num, left } => put_move(line, script, *b, *mem, *num, *left),
+        Kind::Catch { b, why } => put_catch(line, script, *b, *why),
+        Kind::Loose { b } => line.word(name_of(script, *b)),
+        Kind::Skip { b } => line.word(name_of(script, *b)),
+        Kind::Dry { b, k, why } => put_dry(line, script, *b, *k, why),
+        Kind::SwapOut { b, page, slot } => put_pages(line, script, *b, &[*page, *slot]),
+        Kind::NoPages { b } => line.word(name_of(script, *b)),
+        Kind::Arm { engine, num } => put_arm(line, *engine, *num),
+        Kind::Packet { num, k, piece } => put_packet(line, *num, *k, piece.items()),
+        Kind::Done { num } => line.number(*num),
+        Kind::Reap { g } => line.number(*g),
+        Kind::Bulk { group } => line.number(u64::from(*group)),
+        Kind::Result { shown } => put_shown(line, shown),
+        Kind::Refused { deny } => line.word(deny_word(*deny)),
+    }
+}
+
+/// Puts a buffer's name and numbers.
+fn put_numbers(line: &mut Line, script: &Script, b: BufId, numbers: &[u64]) -> Result<(), NoMemory>
+    ensures { OnOk result (line.new ≡ line.old ++ spaced_out (name_of script.now b ∷ map decimal numbers.now)) }
+{
+    line.word(name_of(script, b))?;
+    for number in numbers {
+        line.number(*number)?;
+    }
+    Ok(())
+}
+
+/// Puts a buffer's name, and numbers of pages, frames or slots.
+fn put_pages(line: &mut Line, script: &Script, b: BufId, numbers: &[u32]) -> Result<(), NoMemory>
+    ensures { OnOk result (line.new ≡ line.old ++ spaced_out (name_of script.now b ∷ map decimal numbers.now)) }
+{
+    line.word(name_of(script, b))?;
+    for number in numbers {
+        line.number(u64::from(*number))?;
+    }
+    Ok(())
+}
+
+fn put_mem(line: &mut Line, script: &Script, b: BufId, mem: Mem) -> Result<(), NoMemory>
+    ensures { OnOk result (line.new ≡ line.old ++ spaced_out (name_of script.now b ∷ mem_word mem ∷ [])) }
+{
+    line.word(name_of(script, b))?;
+    line.word(mem_word(mem))
+}
+
+fn put_range(
+    line: &mut Line,
+    script: &Script,
+    b: BufId,
+    mem: Mem,
+    spans: &[Span],
+) -> Result<(), NoMemory>
+    ensures { OnOk result (line.new ≡ line.old ++ spaced_out (name_of script.now b ∷ mem_word mem ∷ spans_word spans.now ∷ [])) }
+{
+    put_mem(line, script, b, mem)?;
+    line.put_byte(b' ')?;
+    put_spans(line, spans)
+}
+
+fn put_move(
+    line: &mut Line,
+    script: &Script,
+    b: BufId,
+    mem: Mem,
+    num: u64,
+    left: Left,
+) -> Result<(), NoMemory>
+    ensures { OnOk result (line.new ≡ line.old ++ spaced_out (name_of script.now b ∷ mem_word mem ∷ decimal num ∷ left_word left ∷ [])) }
+{
+    put_mem(line, script, b, mem)?;
+    line.number(num)?;
+    match left {
+        Left::Now => line.word(b"now"),
+        Left::Ghost(number) => line.number(number),
+    }
+}
+
+fn put_catch(line: &mut Line, script: &Script, b: BufId, why: Why) -> Result<(), NoMemory>
+    ensures { OnOk result (line.new ≡ line.old ++ spaced_out (name_of script.now b ∷ why_word why ∷ [])) }
+{
+    line.word(name_of(script, b))?;
+    line.word(match why {
+        Why::Vram => b"vram",
+        Why::Tt => b"tt",
+        Why::Swap => b"swap",
+    })
+}
+
+fn put_dry(line: &mut Line, script: &Script, b: BufId, k: u32, why: &DryWhy) -> Result<(), NoMemory>
+    ensures { OnOk result (line.new ≡ line.old ++ spaced_out (name_of script.now b ∷ decimal k ∷ dry_word script.now why.now ∷ [])) }
+{
+    put_pages(line, script, b, &[k])?;
+    line.put_byte(b' ')?;
+    match why {
+        DryWhy::Short => line.put(b"short"),
+        DryWhy::Of(rows) => put_causes(line, script, rows.items()),
+    }
+}
+
+fn put_causes(line: &mut Line, script: &Script, rows: &[CauseRow]) -> Result<(), NoMemory>
+    ensures { OnOk result (line.new ≡ line.old ++ listed (map (cause_row_word script.now) rows.now)) }
+{
+    match rows.split_first() {
+        None => line.put_byte(b'-'),
+        Some((first, rest)) => {
+            put_cause(line, script, *first)?;
+            put_more_causes(line, script, rest)
+        }
+    }
+}
+
+/// Puts each cause behind a comma.
+fn put_more_causes(line: &mut Line, script: &Script, rows: &[CauseRow]) -> Result<(), NoMemory>
+    ensures { OnOk result (line.new ≡ line.old ++ behind_each 44 (map (cause_row_word script.now) rows.now)) }
+{
+    for row in rows {
+        line.put_byte(b',')?;
+        put_cause(line, script, *row)?;
+    }
+    Ok(())
+}
+
+fn put_cause(line: &mut Line, script: &Script, row: CauseRow) -> Result<(), NoMemory>
+    ensures { OnOk result (line.new ≡ line.old ++ cause_row_word script.now row) }
+{
+    line.put(name_of(script, row.b))?;
+    line.put_byte(b':')?;
+    match row.cause {
+        Cause::Pinned => line.put(b"pinned"),
+        Cause::Reserved(stamp) => put_reserved(line, stamp.0),
+        Cause::Outside => line.put(b"outside"),
+        Cause::Skipped => line.put(b"skipped"),
+    }
+}
+
+fn put_reserved(line: &mut Line, stamp: u64) -> Result<(), NoMemory>
+    ensures { OnOk result (line.new ≡ line.old ++ (codes "reserved:" ++ decimal stamp)) }
+{
+    line.put(b"reserved:")?;
+    line.put_number(stamp)
+}
+
+fn put_arm(line: &mut Line, engine: u32, num: u64) -> Result<(), NoMemory>
+    ensures { OnOk result (line.new ≡ line.old ++ spaced_out ((codes "e" ++ decimal engine) ∷ decimal num ∷ [])) }
+{
+    line.put_byte(b' ')?;
+    put_numbered(line, b'e', u64::from(engine))?;
+    line.number(num)
+}
+
+fn put_packet(line: &mut Line, num: u64, k: u32, piece: &[u8]) -> Result<(), NoMemory>
+    ensures { OnOk result (line.new ≡ line.old ++ spaced_out (decimal num ∷ decimal k ∷ piece_words piece.now)) }
+{
+    line.number(num)?;
+    line.number(u64::from(k))?;
+    if piece.is_empty() {
+        return Ok(());
+    }
+    line.put_byte(b' ')?;
+    put_hex(line, piece)
+}
+
+/// Puts what a result shows.
+fn put_shown(line: &mut Line, shown: &Shown) -> Result<(), NoMemory>
+    ensures { OnOk result (line.new ≡ line.old ++ spaced_out (shown_words shown.now)) }
+{
+    match shown {
+        Shown::Plain => line.word(b"ok"),
+        Shown::Read(bytes) => put_read(line, bytes.items()),
+        Shown::Find { mem, spans } => put_find(line, *mem, spans.items()),
+    }
+}
+
+/// Puts what the report's results say of an answer, and nothing for another entry.
+pub(crate) fn put_answer(line: &mut Line, kind: &Kind) -> Result<(), NoMemory>
+    ensures { OnOk result (line.new ≡ line.old ++ spaced_out (unwrap_or (answer_words kind.now) [])) }
+{
+    match kind {
+        Kind::Result { shown } => put_shown(line, shown),
+        Kind::Refused { deny } => put_refused(line, *deny),
+        _ => Ok(()),
+    }
+}
+
+fn put_refused(line: &mut Line, deny: Deny) -> Result<(), NoMemory>
+    ensures { OnOk result (line.new ≡ line.old ++ spaced_out (codes "refused" ∷ deny_word deny ∷ [])) }
+{
+    line.word(b"refused")?;
+    line.word(deny_word(deny))
+}
+
+fn put_read(line: &mut Line, bytes: &[u8]) -> Result<(), NoMemory>
+    ensures { OnOk result (line.new ≡ line.old ++ spaced_out (codes "read" ∷ hex bytes.now ∷ [])) }
+{
+    line.word(b"read")?;
+    line.put_byte(b' ')?;
+    put_hex(line, bytes)
+}
+
+fn put_find(line: &mut Line, mem: Mem, spans: &[Span]) -> Result<(), NoMemory>
+    ensures { OnOk result (line.new ≡ line.old ++ spaced_out (codes "find" ∷ mem_word mem ∷ spans_word spans.now ∷ [])) }
+{
+    line.word(b"find")?;
+    line.word(mem_word(mem))?;
+    line.put_byte(b' ')?;
+    put_spans(line, spans)
+}
+
+/// The name of a refusal.
+fn deny_word(deny: Deny) -> &'static [u8]
+    ensures { result.now ≡ deny_word deny }
+{
+    match deny {
+        Deny::NoBuffer => b"NoBuffer",
+        Deny::Exists => b"Exists",
+        Deny::Pinned => b"Pinned",
+        Deny::NotPinned => b"NotPinned",
+        Deny::PinMax => b"PinMax",
+        Deny::NoSpace => b"NoSpace",
+        Deny::NoPages => b"NoPages",
+        Deny::NoSwap => b"NoSwap",
+    }
+}

@@ -1,0 +1,304 @@
+ghost use Rattle.std.specs.Prelude.{◌≡◌, ◌+◌, ◌++◌, ◌∷◌, [], codes, decimal, drop, flat_map, filter_map, is_some, length, unwrap_or, OnOk};
+ghost use Rattle.std.specs.List.{enumerate_from};
+ghost use Rattle.io_edge.specs.Written.{Writes};
+ghost use Rattle.journal_model.specs.Words.{line as line_of, thread_word};
+ghost use Rattle.journal_model.specs.EntryText.{entry_line};
+ghost use Rattle.journal_model.specs.ReportText.{account_line, account_lines, answer_line, answer_of, answer_words, report, thread_results};
+ghost use Rattle.journal_model.specs.Complete.{is_by_thread, thread_numbers};
+ghost use Rattle.journal_model.specs.Legal.{state_of};
+ghost use Rattle.report_text.specs.Accounts.{AreAccountsOf, told};
+ghost use Rattle.report_text.specs.Parts.{four_lines, journal_part, outcome_part};
+ghost use Rattle.report_text.specs.Spaced.{spaced_out};
+ghost use Rattle.report_text.specs.WriteFault.{faults_after_writing};
+
+use crate::accounts::{Account, Accounts};
+use crate::entry::{make_entry_line, put_answer};
+use crate::line::Line;
+use crate::words::put_numbered;
+use io_edge::{Failed, Sink, write_all};
+use journal_model::{Entry, Kind, Script, Sizes};
+use std::alloc::Global;
+use ttm_base::{Actor, NoMemory};
+
+/// Why not all of a report was written.
+#[derive(Clone, Copy, Debug, PartialEq, Eq)]
+pub enum WriteFault {
+    Failed,
+    NoMemory,
+}
+
+impl From<Failed> for WriteFault {
+    ghost use Rattle.report_text.specs.declared.report.WriteFault.TheVariants as write_fault;
+
+    ghost from_gives = { λ _ e. e ≡ write_fault.Failed };
+
+    fn from(_: Failed) -> WriteFault {
+        WriteFault::Failed
+    }
+}
+
+impl From<NoMemory> for WriteFault {
+    ghost use Rattle.report_text.specs.declared.report.WriteFault.TheVariants as write_fault;
+
+    ghost from_gives = { λ _ e. e ≡ write_fault.NoMemory };
+
+    fn from(_: NoMemory) -> WriteFault {
+        WriteFault::NoMemory
+    }
+}
+
+/// Writes a line as a piece of its own.
+fn write_line<K: Sink>(line: &Line, sink: &mut K) -> Result<(), WriteFault>
+    ensures text { Writes result (K.written sink.old) (K.written sink.new) line.now }
+    ensures faults { K.faults sink.new ≡ faults_after_writing result (K.faults sink.old) }
+{
+    write_all(sink, line.bytes())?;
+    Ok(())
+}
+
+fn write_entry<K: Sink>(
+    line: &mut Line,
+    script: &Script,
+    number: u64,
+    entry: &Entry,
+    sink: &mut K,
+) -> Result<(), WriteFault>
+    ensures text { Writes result (K.written sink.old) (K.written sink.new) (entry_line script.now (number, entry.now)) }
+    ensures faults { K.faults sink.new ≡ faults_after_writing result (K.faults sink.old) }
+{
+    make_entry_line(line, script, number, entry)?;
+    write_line(line, sink)
+}
+
+fn write_entries<K: Sink>(
+    line: &mut Line,
+    script: &Script,
+    journal: &[Entry],
+    sink: &mut K,
+) -> Result<(), WriteFault>
+    ensures text { Writes result (K.written sink.old) (K.written sink.new) (flat_map (entry_line script.now) (enumerate_from 1 journal.now)) }
+    ensures faults { K.faults sink.new ≡ faults_after_writing result (K.faults sink.old) }
+{
+    for (i, entry) in journal.iter().enumerate() {
+        write_entry(line, script, i as u64 + 1, entry, sink)?;
+    }
+    Ok(())
+}
+
+/// Writes a line of one word.
+fn write_heading<K: Sink>(line: &mut Line, word: &[u8], sink: &mut K) -> Result<(), WriteFault>
+    ensures text { Writes result (K.written sink.old) (K.written sink.new) (line_of (word.now ∷ [])) }
+    ensures faults { K.faults sink.new ≡ faults_after_writing result (K.faults sink.old) }
+{
+    make_heading(line, word)?;
+    write_line(line, sink)
+}
+
+fn make_heading(line: &mut Line, word: &[u8]) -> Result<(), NoMemory>
+    ensures { OnOk result (line.new ≡ line_of (word.now ∷ [])) }
+{
+    line.clear();
+    line.put(word)?;
+    line.put_byte(b'\n')
+}
+
+/// Writes a line of a word and a number.
+fn write_count<K: Sink>(line: &mut Line, word: &[u8], number: u64, sink: &mut K) -> Result<(), WriteFault>
+    ensures text { Writes result (K.written sink.old) (K.written sink.new) (line_of (word.now ∷ decimal number ∷ [])) }
+    ensures faults { K.faults sink.new ≡ faults_after_writing result (K.faults sink.old) }
+{
+    make_count(line, word, number)?;
+    write_line(line, sink)
+}
+
+fn make_count(line: &mut Line, word: &[u8], number: u64) -> Result<(), NoMemory>
+    ensures { OnOk result (line.new ≡ line_of (word.now ∷ decimal number ∷ [])) }
+{
+    line.clear();
+    line.put(word)?;
+    line.number(number)?;
+    line.put_byte(b'\n')
+}
+
+/// Whether an entry answers a command of the thread.
+fn answers(thread: u64, entry: &Entry) -> bool
+    ensures { result ≡ is_some (answer_of thread entry.now) }
+{
+    is_by_thread(thread, entry.who) && is_answer(&entry.kind)
+}
+
+fn is_by_thread(thread: u64, who: Actor) -> bool
+    ensures { result ≡ is_by_thread thread who }
+{
+    match who {
+        Actor::Thread(t) => u64::from(t) == thread,
+        Actor::Engine(_) | Actor::Reaper => false,
+    }
+}
+
+fn is_answer(kind: &Kind) -> bool
+    ensures { result ≡ is_some (answer_words kind.now) }
+{
+    matches!(kind, Kind::Result { .. } | Kind::Refused { .. })
+}
+
+/// Writes the line of an answer, which has a number among those of its thread.
+fn write_answer<K: Sink>(
+    line: &mut Line,
+    thread: u64,
+    number: u64,
+    kind: &Kind,
+    sink: &mut K,
+) -> Result<(), WriteFault>
+    ensures text { Writes result (K.written sink.old) (K.written sink.new) (answer_line thread (number, unwrap_or (answer_words kind.now) [])) }
+    ensures faults { K.faults sink.new ≡ faults_after_writing result (K.faults sink.old) }
+{
+    make_answer_line(line, thread, number, kind)?;
+    write_line(line, sink)
+}
+
+fn make_answer_line(line: &mut Line, thread: u64, number: u64, kind: &Kind) -> Result<(), NoMemory>
+    ensures { OnOk result (line.new ≡ answer_line thread (number, unwrap_or (answer_words kind.now) [])) }
+{
+    line.clear();
+    put_numbered(line, b't', thread)?;
+    line.number(number)?;
+    put_answer(line, kind)?;
+    line.put_byte(b'\n')
+}
+
+fn write_thread_results<K: Sink>(
+    line: &mut Line,
+    thread: u64,
+    journal: &[Entry],
+    sink: &mut K,
+) -> Result<(), WriteFault>
+    ensures text { Writes result (K.written sink.old) (K.written sink.new) (thread_results journal.now thread) }
+    ensures faults { K.faults sink.new ≡ faults_after_writing result (K.faults sink.old) }
+{
+    let mut number = 1;
+    for entry in journal {
+        if answers(thread, entry) {
+            write_answer(line, thread, number, &entry.kind, sink)?;
+            number += 1;
+        }
+    }
+    Ok(())
+}
+
+fn write_results<K: Sink>(
+    line: &mut Line,
+    script: &Script,
+    journal: &[Entry],
+    sink: &mut K,
+) -> Result<(), WriteFault>
+    ensures text { Writes result (K.written sink.old) (K.written sink.new) (flat_map (thread_results journal.now) (thread_numbers script.now)) }
+    ensures faults { K.faults sink.new ≡ faults_after_writing result (K.faults sink.old) }
+{
+    for index in 0..script.threads.len() {
+        write_thread_results(line, index as u64 + 1, journal, sink)?;
+    }
+    Ok(())
+}
+
+fn write_account<K: Sink>(
+    line: &mut Line,
+    name: &[u8],
+    size: u32,
+    account: &Account,
+    sink: &mut K,
+) -> Result<(), WriteFault>
+    ensures text { Writes result (K.written sink.old) (K.written sink.new) (account_line name.now size (told account.now)) }
+    ensures faults { K.faults sink.new ≡ faults_after_writing result (K.faults sink.old) }
+{
+    make_account_line(line, name, size, account)?;
+    write_line(line, sink)
+}
+
+fn make_account_line(line: &mut Line, name: &[u8], size: u32, account: &Account) -> Result<(), NoMemory>
+    ensures { OnOk result (line.new ≡ account_line name.now size (told account.now)) }
+{
+    line.clear();
+    line.put(name)?;
+    put_labelled(line, b"size", u64::from(size))?;
+    put_labelled(line, b"free", account.free)?;
+    put_labelled(line, b"live", account.live)?;
+    put_labelled(line, b"target", account.target)?;
+    put_labelled(line, b"ghost", account.ghosts)?;
+    line.put_byte(b'\n')
+}
+
+/// Puts a word and a number.
+fn put_labelled(line: &mut Line, label: &[u8], number: u64) -> Result<(), NoMemory>
+    ensures { OnOk result (line.new ≡ line.old ++ spaced_out (label.now ∷ decimal number ∷ [])) }
+{
+    line.word(label)?;
+    line.number(number)
+}
+
+fn write_accounts<K: Sink>(
+    line: &mut Line,
+    sizes: &Sizes,
+    accounts: &Accounts,
+    sink: &mut K,
+) -> Result<(), WriteFault>
+    ensures text { Writes result (K.written sink.old) (K.written sink.new) (four_lines sizes.now accounts.now) }
+    ensures faults { K.faults sink.new ≡ faults_after_writing result (K.faults sink.old) }
+{
+    write_account(line, b"vram", sizes.vram, &accounts.vram, sink)?;
+    write_account(line, b"tt", sizes.tt, &accounts.tt, sink)?;
+    write_account(line, b"frames", sizes.frames, &accounts.frames, sink)?;
+    write_account(line, b"swap", sizes.swap, &accounts.swap, sink)
+}
+
+/// Writes the parts before the results.
+fn write_journal<K: Sink>(
+    line: &mut Line,
+    script: &Script,
+    journal: &[Entry],
+    sink: &mut K,
+) -> Result<(), WriteFault>
+    ensures text { Writes result (K.written sink.old) (K.written sink.new) (journal_part script.now journal.now) }
+    ensures faults { K.faults sink.new ≡ faults_after_writing result (K.faults sink.old) }
+{
+    write_count(line, b"report", script.version as u64, sink)?;
+    write_count(line, b"journal", journal.len() as u64, sink)?;
+    write_entries(line, script, journal, sink)
+}
+
+/// Writes the results and the accounts.
+fn write_outcome<K: Sink>(
+    line: &mut Line,
+    script: &Script,
+    journal: &[Entry],
+    accounts: &Accounts,
+    sink: &mut K,
+) -> Result<(), WriteFault>
+    ensures text { Writes result (K.written sink.old) (K.written sink.new) (outcome_part script.now journal.now accounts.now) }
+    ensures faults { K.faults sink.new ≡ faults_after_writing result (K.faults sink.old) }
+{
+    write_heading(line, b"results", sink)?;
+    write_results(line, script, journal, sink)?;
+    write_heading(line, b"accounts", sink)?;
+    write_accounts(line, &script.sizes, accounts, sink)
+}
+
+/// Writes the report of a journal, each line as a piece of its own. The accounts are those of the state after the journal.
+/// After a refusal a front of the report was written, and not all.
+pub fn write_report<K: Sink>(
+    alloc: Global,
+    script: &Script,
+    journal: &[Entry],
+    accounts: &Accounts,
+    sink: &mut K,
+) -> Result<(), WriteFault>
+    requires marks { script.now.marks ≡ [] }
+    requires accounts { AreAccountsOf script.now (state_of script.now journal.now).core accounts.now }
+    ensures text { Writes result (K.written sink.old) (K.written sink.new) (report script.now journal.now) }
+    ensures faults { K.faults sink.new ≡ faults_after_writing result (K.faults sink.old) }
+{
+    let mut line = Line::new(alloc);
+    write_journal(&mut line, script, journal, sink)?;
+    write_outcome(&mut line, script, journal, accounts, sink)?;
+    write_heading(&mut line, b"end", sink)
+}
