@@ -1,11 +1,10 @@
 -- The lines of a text, one by one.
-use Rattle.std.proofs.Common.{◌≡◌, ℕ, suc, ◌+◌, ◌≤◌, ◌<◌, Bool, true, false, cond, eqb, List, [], ◌∷◌, length, take, drop, Option, Some, None, Result, Ok, Err, refl, sym, ap, subst, ◌∙◌, arith, add-one}
+use Rattle.std.proofs.Common.{◌≡◌, ℕ, suc, ◌+◌, ◌≤◌, ◌<◌, Bool, true, false, cond, eqb, List, [], ◌∷◌, length, take, drop, Result, Ok, Err, refl, sym, ap, ◌∙◌, arith, add-one}
 use Rattle.journal_model.specs.Cut.{onto, lines_of, line_len}
 use Rattle.journal_model.specs.Words.{Text}
 use Rattle.journal_model.specs.declared.script.Script.{Script}
 use Rattle.journal_model.specs.declared.line.Progress.{Progress}
 use Rattle.journal_model.specs.FirstFault.{after_line, script_from}
-use Rattle.script_text.specs.Steps.{Leads}
 
 within : (t : Bool) (n m : ℕ) → n ≤ m → cond t 1 (n + 1) ≤ suc m
 within true n m h = omega arith

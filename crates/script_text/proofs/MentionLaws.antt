@@ -1,5 +1,5 @@
 -- The buffers that are gathered are the first mentions.
-use Rattle.std.proofs.Common.{◌≡◌, ℕ, Bool, true, false, cond, List, [], ◌∷◌, ◌++◌, length, refl, sym, ap, ◌∙◌, append_assoc}
+use Rattle.std.proofs.Common.{◌≡◌, Bool, true, false, cond, List, [], ◌∷◌, ◌++◌, refl, sym, ap, ◌∙◌, append_assoc}
 use Rattle.std.specs.Prelude.{fold, ◌||◌}
 use Rattle.std.proofs.lemmas.List.{append-nil}
 use Rattle.ttm_base.specs.declared.BufId.{BufId}

@@ -1,11 +1,11 @@
 -- What holds between two lines, and what a step answers.
-use Rattle.std.specs.Prelude.{◌≡◌, ℕ, ◌≤◌, List, Bool, false, Option, Some, None, Result, Ok, Err, length}
+use Rattle.std.specs.Prelude.{◌≡◌, ℕ, ◌≤◌, List, false, Option, Some, None, Result, Ok, Err, length}
 use Rattle.journal_model.specs.declared.script.Script.{Script}
 use Rattle.journal_model.specs.declared.line.Progress.{Progress}
 use Rattle.journal_model.specs.declared.line.Line.{Line}
 use Rattle.journal_model.specs.Words.{Text}
 use Rattle.journal_model.specs.Reading.{names_of}
-use Rattle.journal_model.specs.LineRules.{lacks_name, is_one_too_many, is_too_long, rule_broken}
+use Rattle.journal_model.specs.LineRules.{lacks_name, is_one_too_many, is_too_long}
 use Rattle.script_text.specs.declared.ScriptFault.{ScriptFault}
 use Rattle.script_text.specs.declared.ScriptFault.TheVariants as fault
 

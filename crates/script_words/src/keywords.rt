@@ -76,7 +76,7 @@ pub fn keyword(word: &[u8]) -> Keyword
     }
 }
 
-/// A line with this keyword may come now.
+/// A line with this keyword may come in this phase of a script.
 pub fn can_come(phase: Phase, keyword: Keyword) -> bool
     ensures { result ≡ may_come phase keyword }
 {

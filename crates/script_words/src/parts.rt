@@ -282,7 +282,8 @@ fn is_some_empty(words: &[Bytes]) -> bool
     words.iter().any(|w| w.len() == 0)
 }
 
-/// The line of these words, if it has the right number of words and the right fixed words.
+/// The line of these words, with each word read as far as it can be; None where there is a wrong space, a wrong number
+/// of words or a wrong fixed word.
 pub fn line(
     alloc: Global,
     names: &Names,

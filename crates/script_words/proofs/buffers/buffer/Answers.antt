@@ -1,4 +1,4 @@
-use Rattle.std.proofs.Common.{◌≡◌, sym, ap, ◌∙◌, subst, refl, Option}
+use Rattle.std.proofs.Common.{◌≡◌, ap, ◌∙◌, subst, refl, Option}
 use Rattle.std.specs.Prelude.{IfOk}
 use Rattle.journal_model.specs.declared.line.Line.{Line}
 use Rattle.journal_model.specs.LineWords.{has_head_words, head_of, lists_line}

@@ -1,5 +1,5 @@
 use Rattle.std.specs.Prelude.{◌==◌}
-use Rattle.std.proofs.Common.{◌≡◌, true, false, ◌<◌, length, get_or, ◌∷◌, [], refl, arith}
+use Rattle.std.proofs.Common.{◌≡◌, true, false, ◌<◌, length, get_or, arith}
 use Rattle.std.proofs.lemmas.Grind.{common_steps}
 use Rattle.script_words.proofs.Cuts.{behind-nil, cut_step_hit, cut_step_miss}
 use Rattle.script_words.proofs.cut.cut.Goals as goal

@@ -1,5 +1,4 @@
-use Rattle.std.proofs.Common.{◌≡◌, ap, ◌∙◌, sym, length, arith}
-use Rattle.std.specs.Prelude.{Some}
+use Rattle.std.proofs.Common.{◌≡◌, length, arith}
 use Rattle.script_words.proofs.Patterns.{read_is}
 use Rattle.script_words.proofs.parts.read.Goals as goal
 

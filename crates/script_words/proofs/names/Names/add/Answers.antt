@@ -1,4 +1,4 @@
-use Rattle.std.proofs.Common.{◌≡◌, false, sym, ap, ◌∙◌, bytes_eq}
+use Rattle.std.proofs.Common.{sym, ap, ◌∙◌, bytes_eq}
 use Rattle.std.specs.List.{list_any}
 use Rattle.script_words.proofs.NameLaws.{added, list_any-map}
 use Rattle.script_words.proofs.names.Names.add.Goals as goal

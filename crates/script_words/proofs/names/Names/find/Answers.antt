@@ -1,4 +1,4 @@
-use Rattle.std.proofs.Common.{◌≡◌, ℕ, sym, ap, ◌∙◌, bytes_eq}
+use Rattle.std.proofs.Common.{ℕ, sym, ap, ◌∙◌, bytes_eq}
 use Rattle.std.specs.Prelude.{option_map}
 use Rattle.std.specs.List.{position}
 use Rattle.ttm_base.specs.declared.BufId.{BufId}
