@@ -5,3 +5,4 @@ pub mod Moves
 pub mod JobsKeep
 pub mod Rules
 pub mod GoodStates
+pub mod Courses
