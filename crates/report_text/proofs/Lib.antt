@@ -3,3 +3,4 @@ pub mod Digits
 pub mod WrittenLines
 pub mod Kept
 pub mod Parts
+pub mod HoldingLaws

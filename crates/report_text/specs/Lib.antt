@@ -2,3 +2,4 @@ pub mod Spaced
 pub mod WriteFault
 pub mod Accounts
 pub mod Parts
+pub mod Holdings
