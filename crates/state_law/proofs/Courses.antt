@@ -31,15 +31,8 @@ use Rattle.journal_model.specs.Ready.{is_in_place, first_unready}
 use Rattle.journal_model.specs.Tasks.{carried, task_of_misplaced, task_of_unready, task_of_failed, gives_back, forbidden, task_of_command, task_of_held, task_of_victim, first_missing, starts}
 use Rattle.journal_model.specs.Search.{Step, Quest, quest, step_of_quest, step_of_forced, step_of_forced_place, step_of_crowded, first_choice}
 use Rattle.journal_model.specs.Next.{step_of_task, step_of_act, step_of_start}
+use Rattle.state_law.specs.Courses.{makes}
 use Rattle.state_law.proofs.Lists.{get_within}
-
--- the command has an entry of its own before its result
-abbrev pub makes : Command → Bool
-makes (command.New b) = true
-makes (command.Free b) = true
-makes (command.Touch group) = true
-makes (command.Submit engine ops) = true
-makes _ = false
 
 -- ---- tasks
 
@@ -186,27 +179,34 @@ is_dry_below most _ = true
 crowded_dry : (script : Script) (s : State) (c : Course) (b : BufId) (k most : ℕ) (place : Place) (e : Kind) → k < most → step_of_crowded script s c b k place ≡ Ok e → is_dry_below most e ≡ true
 crowded_dry script s c b k most place e l h = grind (arith, common_steps, nat_tests)
 
+abbrev place_step : Script → State → Course → BufId → ℕ → Place → Option (List Span) → Step
+place_step script s c b k place o = elim o [ Some spans ↦ Ok (kind.Take b place.mem spans) | None ↦ step_of_crowded script s c b k place ]
+
+place_dry : (script : Script) (s : State) (c : Course) (b : BufId) (k most : ℕ) (place : Place) (e : Kind) (o : Option (List Span)) → k < most → place_step script s c b k place o ≡ Ok e → is_dry_below most e ≡ true
+place_dry script s c b k most place e (Some spans) l g = grind (arith, common_steps)
+place_dry script s c b k most place e None l g = crowded_dry script s c b k most place e l g
+
 forced_dry : (script : Script) (s : State) (c : Course) (b : BufId) (k : ℕ) (places : List Place) (e : Kind) → step_of_forced script s c b k places ≡ Ok e → is_dry_below (length places) e ≡ true
 forced_dry script s c b k places e h = by (slice_get places k) refl h
   where
-    by_choice : (place : Place) (o : Option (List Span)) → k < length places → (elim o [ Some spans ↦ Ok (kind.Take b place.mem spans) | None ↦ step_of_crowded script s c b k place ]) ≡ Ok e → is_dry_below (length places) e ≡ true
-    by_choice place (Some spans) l g = grind (arith, common_steps)
-    by_choice place None l g = crowded_dry script s c b k (length places) place e l g
-
     by : (o : Option Place) → slice_get places k ≡ o → step_of_forced_place script s c b k (unwrap_or o (whole System)) ≡ Ok e → is_dry_below (length places) e ≡ true
     by None q g = grind (arith, common_steps)
-    by (Some place) q g = by_choice place (choice script s.core b place) (get_within places k place q) g
+    by (Some place) q g = place_dry script s c b k (length places) place e (choice script s.core b place) (get_within places k place q) g
+
+abbrev quest_step : Script → State → Course → BufId → Quest → Bool → Option (Mem × List Span) → Step
+quest_step script s c b q f o =
+    elim f [
+      | true ↦ step_of_forced script s c b q.dry (forced_places q.list)
+      | false ↦ elim o [
+        | Some found ↦ Ok (kind.Take b found.0 found.1)
+        | None ↦ step_of_forced script s c b q.dry (forced_places q.list)
+      ]
+    ]
 
 pub quest_dry : (script : Script) (s : State) (c : Course) (b : BufId) (q : Quest) (e : Kind) → step_of_quest script s c b q ≡ Ok e → is_dry_below (length (forced_places q.list)) e ≡ true
 quest_dry script s c b q e h = by q.forced (first_choice script s b (first_places q.list)) h
   where
-    by : (f : Bool) (o : Option (Mem × List Span)) → (elim f [
-          | true ↦ step_of_forced script s c b q.dry (forced_places q.list)
-          | false ↦ elim o [
-            | Some found ↦ Ok (kind.Take b found.0 found.1)
-            | None ↦ step_of_forced script s c b q.dry (forced_places q.list)
-          ]
-        ]) ≡ Ok e → is_dry_below (length (forced_places q.list)) e ≡ true
+    by : (f : Bool) (o : Option (Mem × List Span)) → quest_step script s c b q f o ≡ Ok e → is_dry_below (length (forced_places q.list)) e ≡ true
     by true o g = forced_dry script s c b q.dry (forced_places q.list) e g
     by false (Some found) g = grind (arith, common_steps)
     by false None g = forced_dry script s c b q.dry (forced_places q.list) e g

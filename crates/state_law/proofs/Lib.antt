@@ -6,3 +6,5 @@ pub mod JobsKeep
 pub mod Rules
 pub mod GoodStates
 pub mod Courses
+pub mod Counters
+pub mod Pins

@@ -1,1 +1,3 @@
 pub mod GoodState
+pub mod Counters
+pub mod Courses
