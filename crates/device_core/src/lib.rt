@@ -1,0 +1,2 @@
+//! A memory manager with the journal of what it did.
+#![tactic(auto)]
