@@ -1,5 +1,5 @@
 -- The causes of declared buffers, with one more.
-use Rattle.std.proofs.Common.{◌≡◌, ℕ, zero, suc, ◌+◌, ◌<◌, List, [], ◌∷◌, ◌++◌, Option, Some, None, length, take, get_or, refl, ap, sym, ◌∙◌, arith}
+use Rattle.std.proofs.Common.{◌≡◌, ℕ, ◌+◌, ◌<◌, List, [], ◌∷◌, ◌++◌, Option, Some, None, length, take, get_or, refl, ap, ◌∙◌, arith}
 use Rattle.std.specs.Prelude.{filter_map, option_to_list, option_and_then}
 use Rattle.std.specs.List.{enumerate_from, cons_option}
 use Rattle.std.proofs.lemmas.Grind.{common_steps}
@@ -30,7 +30,7 @@ row_of_slot f n (Some x) = one (f (record { 0 = n }, x)) where
 pub causes_more : (script : Script) (grips : List Grip) (place : Place) (slots : List (Option Buffer)) (i : ℕ) (d : Option Buffer) → i < length slots
     → filter_map (cause_row script grips place) (filter_map live_entry (enumerate_from 0 (take (i + 1) slots)))
     ≡ filter_map (cause_row script grips place) (filter_map live_entry (enumerate_from 0 (take i slots)))
-      ++ option_to_list (option_and_then (λ x. cause_row script grips place (record { 0 = i }, x)) (get_or slots i d))
+    ++ option_to_list (option_and_then (λ x. cause_row script grips place (record { 0 = i }, x)) (get_or slots i d))
 causes_more script grips place slots i d h =
     let f = cause_row script grips place in
     let before = enumerate_from 0 (take i slots) in

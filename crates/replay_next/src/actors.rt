@@ -105,12 +105,7 @@ fn step_of_free(alloc: Global, script: &Script, state: &State, b: BufId) -> Step
 }
 
 /// A page of a buffer is swapped out, or the command is answered.
-fn step_of_swap(
-    alloc: Global,
-    script: &Script,
-    state: &State,
-    b: BufId,
-) -> Result<Step, NoMemory>
+fn step_of_swap(alloc: Global, script: &Script, state: &State, b: BufId) -> Result<Step, NoMemory>
     requires { HasRoom script.now state.now }
     ensures { IfOk result (λ step. step ≡ words.step_of_act script.now state.now (command.SwapOut b)) }
 {
@@ -301,12 +296,7 @@ fn step_of_reaper(state: &State) -> Step
 /// # Errors
 ///
 /// Want of memory; nothing is changed.
-pub fn next(
-    alloc: Global,
-    script: &Script,
-    state: &State,
-    who: Actor,
-) -> Result<Step, NoMemory>
+pub fn next(alloc: Global, script: &Script, state: &State, who: Actor) -> Result<Step, NoMemory>
     requires { HasRoom script.now state.now }
     ensures { IfOk result (λ step. step ≡ words.next script.now state.now who) }
 {

@@ -25,13 +25,7 @@ pub fn is_loose(grip: Grip) -> bool
 }
 
 /// The buffer stands in the place, is neither pinned nor held, and wasn't skipped.
-pub fn is_evictable(
-    script: &Script,
-    state: &State,
-    skips: &[BufId],
-    place: Place,
-    b: BufId,
-) -> bool
+pub fn is_evictable(script: &Script, state: &State, skips: &[BufId], place: Place, b: BufId) -> bool
     ensures { result ≡ words.is_evictable script.now state.now skips.now place b }
 {
     match live_in(state.core.buffers.items(), b) {

@@ -11,10 +11,9 @@ mod search;
 mod tasks;
 
 pub use actors::next;
+use journal_model::Kind;
 pub use schedule::{is_over, next_actor, own_order};
 pub use tasks::{stage_of, task_of};
-
-use journal_model::Kind;
 use ttm_base::Need;
 
 /// The next entry, or what its actor needs first.

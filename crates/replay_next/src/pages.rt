@@ -145,12 +145,7 @@ pub enum Swap {
 }
 
 /// The buffer's next page to swap out, if it has a frame and a slot is free.
-pub fn swap_out(
-    alloc: Global,
-    script: &Script,
-    state: &State,
-    b: BufId,
-) -> Result<Swap, NoMemory>
+pub fn swap_out(alloc: Global, script: &Script, state: &State, b: BufId) -> Result<Swap, NoMemory>
     requires { HasRoom script.now state.now }
     ensures { IfOk result (IsSwap script.now state.now b) }
 {

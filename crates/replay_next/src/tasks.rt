@@ -5,9 +5,7 @@ ghost use Rattle.journal_model.specs.Tasks as words;
 
 use crate::dry::has_frame;
 use crate::ready::{first_unready, has_all_frames, is_in_place};
-use journal_model::{
-    Aim, Buffer, Command, Course, Grip, Script, Stage, State, Task, Victim, Why,
-};
+use journal_model::{Aim, Buffer, Command, Course, Grip, Script, Stage, State, Task, Victim, Why};
 use replay_state::{
     buffer_in, command_at_work, course_of, dead_buffer, grip_in, has_buffer, has_some_target,
     has_target, named, same_mem,
@@ -257,12 +255,7 @@ pub fn task_of_command(
 }
 
 /// What the thread has to do next.
-pub fn task_of(
-    alloc: Global,
-    script: &Script,
-    state: &State,
-    thread: u32,
-) -> Result<Task, NoMemory>
+pub fn task_of(alloc: Global, script: &Script, state: &State, thread: u32) -> Result<Task, NoMemory>
     ensures { IfOk result (λ task. task ≡ words.task_of script.now state.now thread) }
 {
     match (
