@@ -61,7 +61,7 @@ pub record Tells (s : Script) (n m : ℕ) (ws : List Text) (l : Line) : Type 0 w
   pub few : n < 4096
   pub short : m + command_len c ≤ 67108864
 
-grown : {C : Type 0} (a b d x : Text) (k : C → Text) (cs : List C) → cs ≡ [] → d ≡ b ++ x → a ++ d ++ flat_map k cs ≡ (a ++ b ++ flat_map k cs) ++ x
+pub grown : {C : Type 0} (a b d x : Text) (k : C → Text) (cs : List C) → cs ≡ [] → d ≡ b ++ x → a ++ d ++ flat_map k cs ≡ (a ++ b ++ flat_map k cs) ++ x
 grown a b d x k [] p q =
     append-nil (a ++ d) ∙ ap (λ t. a ++ t) q ∙ sym (append_assoc a b x) ∙ ap (λ t. t ++ x) (sym (append-nil (a ++ b)))
 grown a b d x k (c ∷ cs) p q = absurd cc

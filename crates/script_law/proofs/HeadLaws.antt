@@ -55,7 +55,7 @@ plain_word w h small =
 abbrev pub an_actor : Actor → ActorWord
 an_actor who = read_as.Is who
 
-numbered : (p b : Bool) (n : ℕ) (who : Actor) (made : ℕ → Actor) → cond (not p) read_as.BrokenNumber (cond b (an_actor (made n)) read_as.Missing) ≡ an_actor who → (p ≡ true) × (b ≡ true) × (made n ≡ who)
+pub numbered : (p b : Bool) (n : ℕ) (who : Actor) (made : ℕ → Actor) → cond (not p) read_as.BrokenNumber (cond b (an_actor (made n)) read_as.Missing) ≡ an_actor who → (p ≡ true) × (b ≡ true) × (made n ≡ who)
 numbered true true n who made h = (refl, refl, cc)
 numbered true false n who made h = absurd cc
 numbered false b n who made h = absurd cc

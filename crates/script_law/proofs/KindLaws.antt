@@ -57,7 +57,7 @@ engine_takes engines w small r s =
     let c = engine_chosen (is_plain w) (is_between 1 engines (read_on 0 w)) (read_on 0 w) r s in
     plain_word w c.0 (omega (arith, (between 1 engines (read_on 0 w) c.1).1, small)) ∙ ap decimal (sym c.2)
 
-good_actor : (x : ActorWord) → is_no_actor x ≡ false → is_broken_actor x ≡ false → is_missing_actor x ≡ false → x ≡ an_actor (actor_in x)
+pub good_actor : (x : ActorWord) → is_no_actor x ≡ false → is_broken_actor x ≡ false → is_missing_actor x ≡ false → x ≡ an_actor (actor_in x)
 good_actor (read_as.Is who) a b c = refl
 good_actor read_as.BrokenNumber a b c = absurd cc
 good_actor read_as.Missing a b c = absurd cc

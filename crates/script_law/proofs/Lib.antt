@@ -18,3 +18,9 @@ pub mod CommandFits
 pub mod CommandSteps
 pub mod PlaceFits
 pub mod BufferSteps
+pub mod LastSteps
+pub mod Takes
+pub mod Unmarked
+pub mod TakesScript
+pub mod Solid
+pub mod LineRuns

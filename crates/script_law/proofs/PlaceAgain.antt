@@ -20,7 +20,7 @@ use Rattle.script_law.proofs.PlaceLaws.{tail, join_tail, all_flags}
 differ : true ≡ false → ⊥
 differ h = absurd cc
 
-not_same : (p : ℕ → Bool) (x c : ℕ) (b : Bool) → eqb x c ≡ b → p x ≡ true → p c ≡ false → b ≡ false
+pub not_same : (p : ℕ → Bool) (x c : ℕ) (b : Bool) → eqb x c ≡ b → p x ≡ true → p c ≡ false → b ≡ false
 not_same p x c false e ay nay = refl
 not_same p x c true e ay nay = absurd (differ (sym ay ∙ ap p (eqb-true x c e) ∙ nay))
 
@@ -30,7 +30,7 @@ joint true false p q = absurd cc
 joint false b p q = absurd cc
 
 -- what passes a test that the separator fails has no separator
-lacks_by : (p : ℕ → Bool) (c : ℕ) (w : Text) → p c ≡ false → list_all p w ≡ true → list_any (λ b. eqb b c) w ≡ false
+pub lacks_by : (p : ℕ → Bool) (c : ℕ) (w : Text) → p c ≡ false → list_all p w ≡ true → list_any (λ b. eqb b c) w ≡ false
 lacks_by p c [] nay h = refl
 lacks_by p c (x ∷ xs) nay h =
     let f = both (p x) (list_all p xs) h in
