@@ -23,7 +23,7 @@ use Rattle.script_law.proofs.NumberLaws.{number_again, both}
 
 -- ---- bytes
 
-digit_again : (n : ℕ) → n < 16 → (is_hex (digit_char n) ≡ true) × (hex_value (digit_char n) ≡ n)
+pub digit_again : (n : ℕ) → n < 16 → (is_hex (digit_char n) ≡ true) × (hex_value (digit_char n) ≡ n)
 digit_again n h = (grind (arith, nat_tests, h), grind (arith, nat_tests, h))
 
 pair_again : (c d b : ℕ) (x y : Bool) (o : Option (List ℕ)) (bs : List ℕ) → x ≡ true → y ≡ true → hex_value c * 16 + hex_value d ≡ b → o ≡ Some bs

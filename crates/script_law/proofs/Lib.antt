@@ -24,3 +24,4 @@ pub mod Unmarked
 pub mod TakesScript
 pub mod Solid
 pub mod LineRuns
+pub mod NamesAgain

@@ -63,7 +63,7 @@ fallback_again true false = refl
 fallback_again false true = refl
 fallback_again false false = refl
 
-bare_again : (t c : Bool) → flags_of false (flag_list (record { topdown = t; contig = c; desired = false; fallback = false })) ≡ Some (record { topdown = t; contig = c; desired = false; fallback = false })
+pub bare_again : (t c : Bool) → flags_of false (flag_list (record { topdown = t; contig = c; desired = false; fallback = false })) ≡ Some (record { topdown = t; contig = c; desired = false; fallback = false })
 bare_again true true = refl
 bare_again true false = refl
 bare_again false true = refl
