@@ -25,3 +25,4 @@ pub mod TakesScript
 pub mod Solid
 pub mod LineRuns
 pub mod NamesAgain
+pub mod OpsAgain
