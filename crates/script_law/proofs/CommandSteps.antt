@@ -109,7 +109,7 @@ command_step s n m ws l t h =
 abbrev with_lens : Progress → Command → ℕ → Progress
 with_lens p c k = record p { script = record (p.script) { threads = onto_last c p.script.threads }; lines = p.lines + 1; lens = k }
 
-no_len : (p : Progress) (c : Command) → command_len c ≡ 0 → with_command p c ≡ with_job p c (command_len c)
+pub no_len : (p : Progress) (c : Command) → command_len c ≡ 0 → with_command p c ≡ with_job p c (command_len c)
 no_len p c h = let e : p.lens ≡ p.lens + command_len c = omega (arith, h) in ap (with_lens p c) e
 
 plain_fits : (s : Script) (v : Verb) (b : BufId) → is_declared s b ≡ true → is_command s (plain_command v b) ≡ true
@@ -120,7 +120,7 @@ plain_fits s verb.Unpin b h = h
 plain_fits s verb.Find b h = h
 plain_fits s verb.SwapOut b h = h
 
-plain_len : (v : Verb) (b : BufId) → command_len (plain_command v b) ≡ 0
+pub plain_len : (v : Verb) (b : BufId) → command_len (plain_command v b) ≡ 0
 plain_len verb.New b = refl
 plain_len verb.Free b = refl
 plain_len verb.Pin b = refl

@@ -26,3 +26,4 @@ pub mod Solid
 pub mod LineRuns
 pub mod NamesAgain
 pub mod OpsAgain
+pub mod CommandAgain

@@ -53,7 +53,7 @@ pub record IsRange (s : Script) (b : BufId) (off len : ℕ) : Type 0 where
   pub len_small : len ≤ 16777216
   pub inside : nat_lt (4096 * (decl s b).pages) (off + len) ≡ false
 
-four_facts : (a b c d : Bool) → (a && b && c && d) ≡ true → (a ≡ true) × (b ≡ true) × (c ≡ true) × (d ≡ true)
+pub four_facts : (a b c d : Bool) → (a && b && c && d) ≡ true → (a ≡ true) × (b ≡ true) × (c ≡ true) × (d ≡ true)
 four_facts true true true true h = (refl, refl, refl, refl)
 four_facts false b c d h = absurd cc
 four_facts true false c d h = absurd cc
