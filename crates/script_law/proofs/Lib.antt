@@ -27,3 +27,4 @@ pub mod LineRuns
 pub mod NamesAgain
 pub mod OpsAgain
 pub mod CommandAgain
+pub mod ListAgain
