@@ -28,3 +28,4 @@ pub mod NamesAgain
 pub mod OpsAgain
 pub mod CommandAgain
 pub mod ListAgain
+pub mod BufferAgain
