@@ -29,3 +29,4 @@ pub mod OpsAgain
 pub mod CommandAgain
 pub mod ListAgain
 pub mod BufferAgain
+pub mod ReadsScript
