@@ -29,4 +29,5 @@ pub mod OpsAgain
 pub mod CommandAgain
 pub mod ListAgain
 pub mod BufferAgain
+pub mod ThreadsAgain
 pub mod ReadsScript
