@@ -31,3 +31,4 @@ pub mod ListAgain
 pub mod BufferAgain
 pub mod ThreadsAgain
 pub mod ReadsScript
+pub mod Story

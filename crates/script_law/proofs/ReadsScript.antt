@@ -1,6 +1,6 @@
 -- The bytes of a script say that script.
 use Rattle.std.proofs.Common.{◌≡◌, ℕ, zero, suc, ◌+◌, ◌*◌, ◌<◌, ◌≤◌, ◌^◌, Bool, true, false, cond, eqb, List, [], ◌∷◌, ◌++◌, length, map, Option, Some, None, Result, Ok, Err, refl, sym, ap, subst, ◌∙◌, append_assoc, arith, bytes_eq, inl, inr, ◌⊎◌}
-use Rattle.std.specs.Prelude.{◌&&◌, ◌||◌, not, codes, decimal, flat_map, sum_by, nat_le, nat_lt, IsTrue}
+use Rattle.std.specs.Prelude.{◌&&◌, ◌||◌, ◌-◌, not, codes, decimal, flat_map, sum_by, nat_le, nat_lt, IsTrue, unwrap_or, slice_get}
 use Rattle.std.specs.Fmt.{digits}
 use Rattle.std.specs.List.{list_any, list_all}
 use Rattle.std.proofs.lemmas.Bool.Decides.{nat_tests}
@@ -25,7 +25,9 @@ use Rattle.journal_model.specs.Words.{Text, line, actor_word}
 use Rattle.journal_model.specs.Cut.{lines_of}
 use Rattle.journal_model.specs.Spelling.{buffer_line, turn_line, spelling}
 use Rattle.journal_model.specs.CommandRules.{is_between, is_command, command_len}
-use Rattle.journal_model.specs.MarkRules.{have_marks, has_few_lines}
+use Rattle.journal_model.specs.MarkRules.{have_marks, has_few_lines, are_in_order, is_in_thread}
+use Rattle.journal_model.specs.Commands.{commands_of}
+use Rattle.ttm_base.specs.ListWords.{count_from}
 use Rattle.journal_model.specs.Complete.{thread_numbers}
 use Rattle.journal_model.specs.ScriptRules.{has_sizes, is_decl, has_distinct_names, same_text, is_actor, is_turn_line, is_script, IsScript}
 use Rattle.journal_model.specs.Reading.{names_of, number_in, actor_of}
@@ -41,7 +43,7 @@ use Rattle.script_law.proofs.HeadSteps.{at, kind_word, sizes_fit}
 use Rattle.script_law.proofs.Sound.{frame, first, second, third, fourth, fifth, sixth, six, command_text, thread_text, body}
 use Rattle.script_law.proofs.ListFacts.{both, joint, le_is, length_map, length_more, has_few, put_last, onto_is}
 use Rattle.script_law.proofs.NamesAgain.{IsNamed, actor_again, actor_solid}
-use Rattle.script_law.proofs.CommandAgain.{IsRoom, command_runs}
+use Rattle.script_law.proofs.ThreadsAgain.{threads_run, turns_run, end_runs}
 use Rattle.script_law.proofs.BufferAgain.{MayDeclare, decl_is, buffer_runs, one_or_two}
 use Rattle.script_law.proofs.LineRuns.{Runs, runs_none, runs_both, line_runs, says, keeps_all}
 use Rattle.script_law.proofs.Unmarked.{plain_spelling}
@@ -192,3 +194,110 @@ buffers_run v sizes done (d ∷ ds) b h k few =
     subst (λ (t : Text). Runs p t (q (done ++ d ∷ ds))) (sym (flat_map-cons (buffer_line v) d ds))
     (subst (λ (x : List Decl). Runs p (buffer_line v d ++ flat_map (buffer_line v) ds) (q x)) regroup
     (runs_both p next (q ((done ++ d ∷ []) ++ ds)) (buffer_line v d) (flat_map (buffer_line v) ds) (buffer_runs s 0 0 d b may) rest))
+
+-- ---- the whole script
+
+record Facts (s : Script) : Type 0 where
+  version : is_between 1 2 s.version ≡ true
+  sizes : has_sizes s ≡ true
+  few_buffers : nat_le (length s.buffers) 256 ≡ true
+  decls : list_all (is_decl s.version) s.buffers ≡ true
+  names : has_distinct_names s.buffers ≡ true
+  few_threads : nat_le (length s.threads) 16 ≡ true
+  commands : list_all (list_all (is_command s)) s.threads ≡ true
+  short : nat_le (sum_by (sum_by command_len) s.threads) 67108864 ≡ true
+  turns : list_all (is_turn_line s) s.turns ≡ true
+  marks : have_marks s ≡ true
+
+ten : (a b c d e f g h i j : Bool) → (a && b && c && d && e && f && g && h && i && j) ≡ true
+    → (a ≡ true) × (b ≡ true) × (c ≡ true) × (d ≡ true) × (e ≡ true) × (f ≡ true) × (g ≡ true) × (h ≡ true) × (i ≡ true) × (j ≡ true)
+ten true true true true true true true true true true p = (refl, refl, refl, refl, refl, refl, refl, refl, refl, refl)
+ten false b c d e f g h i j p = absurd cc
+ten true false c d e f g h i j p = absurd cc
+ten true true false d e f g h i j p = absurd cc
+ten true true true false e f g h i j p = absurd cc
+ten true true true true false f g h i j p = absurd cc
+ten true true true true true false g h i j p = absurd cc
+ten true true true true true true false h i j p = absurd cc
+ten true true true true true true true false i j p = absurd cc
+ten true true true true true true true true false j p = absurd cc
+ten true true true true true true true true true false p = absurd cc
+
+facts_of : (s : Script) → is_script s ≡ true → Facts s
+facts_of s h =
+    let f = ten (is_between 1 2 s.version) (has_sizes s) (nat_le (length s.buffers) 256) (list_all (is_decl s.version) s.buffers) (has_distinct_names s.buffers)
+    (nat_le (length s.threads) 16) (list_all (list_all (is_command s)) s.threads) (nat_le (sum_by (sum_by command_len) s.threads) 67108864) (list_all (is_turn_line s) s.turns) (have_marks s) h in
+    record { version = f.0; sizes = f.1; few_buffers = f.2; decls = f.3; names = f.4; few_threads = f.5; commands = f.6; short = f.7; turns = f.8; marks = f.9 }
+
+-- ---- each thread has few lines
+
+few_from : (ts : List (List Command)) (k : ℕ) (p : ℕ → Bool) → ((i : ℕ) → p (k + i) ≡ true → has_few (unwrap_or (slice_get ts i) []) ≡ true) → list_all p (count_from 1 (length ts) k) ≡ true → list_all has_few ts ≡ true
+few_from [] k p f h = refl
+few_from (cs ∷ ts) k p f h =
+    let g = both (p k) (list_all p (count_from 1 (length ts) (1 + k))) h in
+    let zero_more : k ≡ k + 0 = omega arith in
+    let next : (i : ℕ) → 1 + k + i ≡ k + suc i = λ i. omega arith in
+    joint (has_few cs) (list_all has_few ts) (f 0 (sym (ap p zero_more) ∙ g.0)) (few_from ts (1 + k) p (λ i e. f (suc i) (sym (ap p (next i)) ∙ e)) g.1)
+
+not_zero : (i : ℕ) → eqb (1 + i) 0 ≡ false
+not_zero i = grind (arith, nat_tests)
+
+less_in : (a b : ℕ) → nat_le (a + b) 4096 ≡ true → nat_le a 4096 ≡ true
+less_in a b h = grind (arith, nat_tests, h)
+
+few_at : (s : Script) (i : ℕ) → has_few_lines s (1 + i) ≡ true → has_few (unwrap_or (slice_get s.threads i) []) ≡ true
+few_at s i h =
+    let before : 1 + i - 1 ≡ i = omega arith in
+    let commands : commands_of s (1 + i) ≡ unwrap_or (slice_get s.threads i) [] =
+    ap (λ b. cond b [] (unwrap_or (slice_get s.threads (1 + i - 1)) [])) (not_zero i) ∙ ap (λ n. unwrap_or (slice_get s.threads n) []) before in
+    sym (ap has_few commands) ∙ less_in (length (commands_of s (1 + i))) _ h
+
+five : (a b c d e : Bool) → (a && b && c && d && e) ≡ true → d ≡ true
+five true true true true e h = refl
+five false b c d e h = absurd cc
+five true false c d e h = absurd cc
+five true true false d e h = absurd cc
+five true true true false e h = absurd cc
+
+few_each : (s : Script) → have_marks s ≡ true → list_all has_few s.threads ≡ true
+few_each s h =
+    few_from s.threads 1 (has_few_lines s) (few_at s) (five (eqb s.version 2 || eqb (length s.marks) 0) (are_in_order s.marks) (list_all (is_in_thread s) s.marks) (list_all (has_few_lines s) (thread_numbers s)) _ h)
+
+-- ---- the law
+
+all_runs : (s : Script) → Facts s → (n : ℕ) × (m : ℕ) × Runs nothing_read (body s ++ line (codes "end" ∷ [])) (at phase.After (record s { marks = [] }) n m)
+all_runs s f =
+    let v = s.version in
+    let z = s.sizes in
+    let p0 = at phase.Buffers (made_of v z [] [] []) 0 0 in
+    let p1 = at phase.Buffers (made_of v z s.buffers [] []) 0 0 in
+    let buffers = buffers_run v z [] s.buffers f.version f.decls f.names (le_is (length s.buffers) 256 f.few_buffers) in
+    let r1 = runs_both nothing_read p0 p1 (six s) (flat_map (buffer_line v) s.buffers) (head_runs s f.version f.sizes) buffers in
+    let few = le_is z.engines 8 (sizes_fit s f.sizes).engines in
+    let small : z.engines < 2 ^ 64 = omega (arith, few) in
+    let short = le_is (sum_by (sum_by command_len) s.threads) 67108864 f.short in
+    let threads = threads_run s.threads (made_of v z s.buffers [] []) [] phase.Buffers 0 0 refl refl refl (record { decls = f.decls; distinct_ones = f.names }) small
+    (le_is (length s.threads) 16 f.few_threads) (few_each s f.marks) f.commands (omega (arith, short)) in
+    let p2 = at threads.ph (made_of v z s.buffers s.threads []) threads.n threads.m in
+    let r2 = runs_both nothing_read p1 p2 (six s ++ flat_map (buffer_line v) s.buffers) (flat_map (thread_text (frame s)) s.threads) r1 threads.runs in
+    let count = le_is (length s.threads) 16 f.few_threads in
+    let turns = turns_run s.turns (made_of v z s.buffers s.threads []) [] threads.ph threads.n threads.m threads.schedule threads.last (omega (arith, count)) small f.turns threads.short in
+    let p3 = at turns.ph (made_of v z s.buffers s.threads s.turns) turns.n turns.m in
+    let r3 = runs_both nothing_read p2 p3 (six s ++ flat_map (buffer_line v) s.buffers ++ flat_map (thread_text (frame s)) s.threads) (flat_map turn_line s.turns) r2 turns.runs in
+    (turns.n, turns.m, runs_both nothing_read p3 (at phase.After (record s { marks = [] }) turns.n turns.m) (body s) (line (codes "end" ∷ [])) r3 (end_runs turns.ph (made_of v z s.buffers s.threads s.turns) turns.n turns.m turns.last turns.short))
+
+not_more : (n m : ℕ) → m ≤ n → nat_lt n m ≡ false
+not_more n m h = grind (arith, nat_tests)
+
+true_of : (b : Bool) → IsTrue b → b ≡ true
+true_of b h = h
+
+pub reads_scripts : ReadsScripts
+reads_scripts bytes s h =
+    let f = facts_of s (true_of (is_script s) h.is.fits) in
+    let r = all_runs s f in
+    let text : bytes ≡ (body s ++ line (codes "end" ∷ [])) ++ [] = h.is.spelled ∙ plain_spelling s h.plain ∙ sym (append-nil (body s ++ line (codes "end" ∷ []))) in
+    let read : script_from nothing_read 0 (lines_of ((body s ++ line (codes "end" ∷ [])) ++ [])) ≡ Ok (record s { marks = [] }) = r.2 0 [] (record s { marks = [] }) (λ k. refl) in
+    ap (λ b. cond b (Err (0, 1)) (script_from nothing_read 0 (lines_of bytes))) (not_more 1048576 (length bytes) h.is.short)
+    ∙ ap (λ t. script_from nothing_read 0 (lines_of t)) text
+    ∙ read ∙ ap (λ ms. Ok (record s { marks = ms })) (sym h.plain)
