@@ -1,6 +1,6 @@
 -- What is spelled is read: names, bytes, and a line of each of some kinds.
-use Rattle.std.proofs.Common.{◌≡◌, ℕ, zero, suc, ◌+◌, ◌*◌, ◌<◌, ◌≤◌, ◌^◌, Bool, true, false, cond, eqb, ltb, List, [], ◌∷◌, ◌++◌, length, map, Option, Some, None, refl, sym, ap, subst, ◌∙◌, arith, bytes_eq}
-use Rattle.std.specs.Prelude.{◌&&◌, ◌||◌, ◌/◌, ◌%◌, not, codes, decimal, option_map, position, slice_get, unwrap_or, nat_lt}
+use Rattle.std.proofs.Common.{◌≡◌, ℕ, zero, suc, ◌+◌, ◌*◌, ◌<◌, ◌≤◌, Bool, true, false, cond, List, [], ◌∷◌, Option, Some, None, refl, sym, ap, ◌∙◌, arith, bytes_eq}
+use Rattle.std.specs.Prelude.{◌&&◌, ◌||◌, ◌/◌, ◌%◌, not, decimal, option_map, slice_get}
 use Rattle.std.specs.List.{list_all, list_any, position_or_len}
 use Rattle.std.specs.Char.{digit_char}
 use Rattle.std.proofs.lemmas.Slice.Eq.{bytes_eq-Decides}
@@ -10,14 +10,11 @@ use Rattle.ttm_base.specs.declared.BufId.{BufId}
 use Rattle.journal_model.specs.declared.script.Script.{Script}
 use Rattle.journal_model.specs.declared.script.Command.TheVariants as command
 use Rattle.journal_model.specs.declared.line.Line.TheVariants as line
-use Rattle.journal_model.specs.declared.line.Line.{Line}
-use Rattle.journal_model.specs.declared.line.Keyword.TheVariants as key
 use Rattle.journal_model.specs.Words.{Text, hex, hex_byte, name_of}
-use Rattle.journal_model.specs.Commands.{decl}
 use Rattle.journal_model.specs.Spelling.{command_words}
 use Rattle.journal_model.specs.CommandRules.{is_byte}
-use Rattle.journal_model.specs.Reading.{known, names_of, offset_of, number_in, bytes_of, is_hex, hex_value}
-use Rattle.journal_model.specs.LineWords.{keyword_of, parts_of, read_line}
+use Rattle.journal_model.specs.Reading.{known, names_of, offset_of, bytes_of, is_hex, hex_value}
+use Rattle.journal_model.specs.LineWords.{keyword_of, parts_of}
 use Rattle.journal_model.specs.FirstFault.{first_word}
 use Rattle.script_law.proofs.NumberLaws.{number_again, both}
 

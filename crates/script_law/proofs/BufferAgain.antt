@@ -1,43 +1,36 @@
 -- Buffer lines that were written are read.
-use Rattle.std.proofs.Common.{◌≡◌, ℕ, suc, ◌+◌, ◌<◌, ◌≤◌, ◌^◌, Bool, true, false, cond, eqb, List, [], ◌∷◌, ◌++◌, length, map, filter, take, drop, Option, Some, None, Result, Ok, refl, sym, ap, subst, ◌∙◌, append_assoc, arith, bytes_eq, inl, inr, ◌⊎◌}
-use Rattle.std.specs.Prelude.{◌&&◌, ◌||◌, not, codes, decimal, is_none, unwrap_or, flat_map, nat_le, nat_lt}
+use Rattle.std.proofs.Common.{◌≡◌, ℕ, ◌+◌, ◌<◌, ◌≤◌, Bool, true, false, cond, eqb, List, [], ◌∷◌, ◌++◌, length, map, filter, take, drop, Option, Some, Ok, refl, sym, ap, subst, ◌∙◌, arith, bytes_eq, inl, inr, ◌⊎◌}
+use Rattle.std.specs.Prelude.{◌&&◌, ◌||◌, not, codes, decimal, nat_le, nat_lt}
 use Rattle.std.specs.List.{list_any, list_all}
 use Rattle.std.proofs.lemmas.Bool.Decides.{nat_tests}
-use Rattle.std.proofs.lemmas.List.{append-nil, take-append-drop}
-use Rattle.std.proofs.lemmas.List.Concat.{flat_map-cons}
+use Rattle.std.proofs.lemmas.List.{take-append-drop}
 use Rattle.std.proofs.lemmas.List.Folds.{list_all-append}
 use Rattle.ttm_base.specs.declared.Place.{Place}
 use Rattle.ttm_base.specs.declared.FlaggedPlace.{FlaggedPlace}
 use Rattle.ttm_base.specs.Placement.{first_places, forced_places}
 use Rattle.journal_model.specs.declared.script.Script.{Script}
-use Rattle.journal_model.specs.declared.script.Sizes.{Sizes}
 use Rattle.journal_model.specs.declared.script.Decl.{Decl}
-use Rattle.journal_model.specs.declared.line.Progress.{Progress}
 use Rattle.journal_model.specs.declared.line.Phase.TheVariants as phase
 use Rattle.journal_model.specs.declared.line.Keyword.TheVariants as key
-use Rattle.journal_model.specs.declared.line.Line.{Line}
 use Rattle.journal_model.specs.declared.line.Line.TheVariants as line_of
 use Rattle.journal_model.specs.declared.line.BufferHead.{BufferHead}
 use Rattle.journal_model.specs.declared.line.PlaceWord.{PlaceWord}
-use Rattle.journal_model.specs.declared.line.PlaceWord.TheVariants as read_as
 use Rattle.journal_model.specs.Words.{Text, line}
-use Rattle.journal_model.specs.Spelling.{buffer_line, group_word, placement_words, place_word, flagged_word, words_of_places}
+use Rattle.journal_model.specs.Spelling.{buffer_line, group_word, place_word, flagged_word, words_of_places}
 use Rattle.journal_model.specs.CommandRules.{is_between}
-use Rattle.journal_model.specs.ScriptRules.{is_name, same_text, has_distinct_names, is_group, is_decl, is_place, is_flagged, is_place_list, is_old_list, is_new_list}
+use Rattle.journal_model.specs.ScriptRules.{is_name, is_group, is_decl, is_place, is_flagged, is_place_list, is_old_list, is_new_list}
 use Rattle.journal_model.specs.Reading.{names_of, number_in, group_of, places_of}
-use Rattle.journal_model.specs.LineWords.{buffer_line_of, lists_line, two_lists, one_list, head_of}
-use Rattle.journal_model.specs.LineRules.{rule_broken, has_wrong_name, is_broken_place, is_no_list, is_no_place, may_force}
-use Rattle.journal_model.specs.FirstFault.{first_word, with_line, with_buffer, decl_of, place_in, wanted, taken_under_pressure, after_words}
+use Rattle.journal_model.specs.LineWords.{buffer_line_of, two_lists, one_list, head_of}
+use Rattle.journal_model.specs.LineRules.{has_wrong_name, is_broken_place, is_no_list, is_no_place, may_force}
+use Rattle.journal_model.specs.FirstFault.{with_buffer, place_in, wanted, taken_under_pressure}
 use Rattle.script_law.proofs.NumberLaws.{number_again, between}
 use Rattle.script_law.proofs.LineLaws.{made, Breaks_none}
-use Rattle.script_law.proofs.AgainLaws.{turned}
-use Rattle.script_law.proofs.BufferSteps.{same_is}
 use Rattle.script_law.proofs.HeadSteps.{at}
-use Rattle.script_law.proofs.ListFacts.{both, joint, le_is, is_le, length_map}
+use Rattle.script_law.proofs.ListFacts.{both, joint, le_is, length_map}
 use Rattle.script_law.proofs.NamesAgain.{group_again, group_solid}
 use Rattle.script_law.proofs.ListAgain.{there, unflagged_place, new_list_again, old_list_again}
 use Rattle.script_law.proofs.LineRuns.{Runs, line_runs, says, keeps_all}
-use Rattle.script_law.proofs.Solid.{is_word, is_small, small_word, number_small_word, name_small}
+use Rattle.script_law.proofs.Solid.{is_word, small_word, number_small_word, name_small}
 
 -- ---- the lists of version 1, by what the places say
 
@@ -168,9 +161,14 @@ old_is list flagged_ones h =
     let first_ones : first_places list ≡ map place_of xs = sym (ap first_places cut) ∙ first_are xs ys a b in
     let forced_ones : forced_places list ≡ map place_of ys = sym (ap forced_places cut) ∙ forced_are xs ys a b in
     record {
-      want = map place_of xs; busy = map place_of ys; first_ones = first_ones; forced_ones = forced_ones;
-      want_fits = places_fit xs fl.0; busy_fits = places_fit ys fl.1;
-      want_len = sym (ap (λ ps. is_between 1 4 (length ps)) first_ones) ∙ f.2; busy_len = sym (ap (λ ps. is_between 1 4 (length ps)) forced_ones) ∙ f.3;
+      want = map place_of xs;
+      busy = map place_of ys;
+      first_ones = first_ones;
+      forced_ones = forced_ones;
+      want_fits = places_fit xs fl.0;
+      busy_fits = places_fit ys fl.1;
+      want_len = sym (ap (λ ps. is_between 1 4 (length ps)) first_ones) ∙ f.2;
+      busy_len = sym (ap (λ ps. is_between 1 4 (length ps)) forced_ones) ∙ f.3;
       again = ap (λ fs. fs ++ map taken_under_pressure (map read_place (map place_of ys))) (wanted_are xs a) ∙ ap (λ fs. xs ++ fs) (pressed_are ys b) ∙ cut;
     }
 
@@ -279,8 +277,14 @@ old_runs s n m d one h =
     let words = head_solid s.version d rest h.decl (joint true _ refl (joint (is_word wt) _ wa.1 (joint true _ refl (joint (is_word bt) true ba.1 refl)))) in
     let r : Breaks_none p l = record {
       numbers = neither _ (list_any is_broken_place ys) (none_read is_broken_place read_place (λ x. refl) o.want) (none_read is_broken_place read_place (λ x. refl) o.busy);
-      names = right_name s m d h; places = neither (is_no_list 4 xs) (is_no_list 4 ys) (right_list 4 unflagged_place o.want o.want_len) (right_list 4 unflagged_place o.busy o.busy_len);
-      ranges = refl; bytes = refl; jobs = refl; actors = refl; counts = room_left (length s.buffers) h.few; lens = let a = h.short in not_long (m + 0) (omega (arith, a));
+      names = right_name s m d h;
+      places = neither (is_no_list 4 xs) (is_no_list 4 ys) (right_list 4 unflagged_place o.want o.want_len) (right_list 4 unflagged_place o.busy o.busy_len);
+      ranges = refl;
+      bytes = refl;
+      jobs = refl;
+      actors = refl;
+      counts = room_left (length s.buffers) h.few;
+      lens = let a = h.short in not_long (m + 0) (omega (arith, a));
     } in
     let text : buffer_line 1 d ≡ line (codes "buffer" ∷ head_words d rest) =
     ap (λ ps. line (codes "buffer" ∷ head_words d (codes "want" ∷ words_of_places (map place_word ps) ∷ codes "busy" ∷ words_of_places (map place_word (forced_places list)) ∷ []))) o.first_ones
@@ -322,8 +326,14 @@ new_runs s n m d two h =
     let words = head_solid s.version d rest h.decl (joint true _ refl (joint (is_word lt) true a.1 refl)) in
     let r : Breaks_none p l = record {
       numbers = none_read is_broken_place there (λ x. refl) list;
-      names = right_name s m d h; places = neither (is_no_list 8 xs) (not (list_any may_force xs)) (right_list 8 (λ x. x) list g.0) (ap not (forced_any list (true_lt 0 (length (forced_places list)) g.1)));
-      ranges = refl; bytes = refl; jobs = refl; actors = refl; counts = room_left (length s.buffers) h.few; lens = let b = h.short in not_long (m + 0) (omega (arith, b));
+      names = right_name s m d h;
+      places = neither (is_no_list 8 xs) (not (list_any may_force xs)) (right_list 8 (λ x. x) list g.0) (ap not (forced_any list (true_lt 0 (length (forced_places list)) g.1)));
+      ranges = refl;
+      bytes = refl;
+      jobs = refl;
+      actors = refl;
+      counts = room_left (length s.buffers) h.few;
+      lens = let b = h.short in not_long (m + 0) (omega (arith, b));
     } in
     let parts = ap (λ v. buffer_line_of (eqb v 2) (codes "buffer" ∷ head_words d rest)) two
     ∙ ap (λ x. one_list true x (codes "place") lt) (head_again s.version d h.decl) ∙ ap (λ x. made (line_of.Placed head x)) a.0 in

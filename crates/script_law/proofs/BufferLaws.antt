@@ -1,5 +1,5 @@
 -- The places of a buffer line are spelled as they were read.
-use Rattle.std.proofs.Common.{◌≡◌, ℕ, Bool, true, false, cond, eqb, ltb, List, [], ◌∷◌, ◌++◌, length, map, filter, Option, Some, None, refl, sym, ap, subst, ◌∙◌, arith, bytes_eq}
+use Rattle.std.proofs.Common.{◌≡◌, ℕ, Bool, true, false, cond, eqb, ltb, List, [], ◌∷◌, ◌++◌, length, map, Option, Some, None, refl, sym, ap, subst, ◌∙◌, bytes_eq}
 use Rattle.std.specs.Prelude.{◌&&◌, ◌||◌, not, codes}
 use Rattle.std.specs.List.{list_any, join_with_byte}
 use Rattle.std.proofs.lemmas.List.{append-nil}
@@ -7,10 +7,9 @@ use Rattle.ttm_base.specs.declared.Mem.{Mem}
 use Rattle.ttm_base.specs.declared.FlaggedPlace.{FlaggedPlace}
 use Rattle.journal_model.specs.declared.line.Flags.{Flags}
 use Rattle.journal_model.specs.declared.line.PlaceWord.{PlaceWord}
-use Rattle.journal_model.specs.declared.line.PlaceWord.TheVariants as read_as
 use Rattle.journal_model.specs.Words.{Text}
 use Rattle.journal_model.specs.Cut.{cut_at}
-use Rattle.journal_model.specs.Spelling.{flag, place_word, words_of_places, flagged_word, placement_words}
+use Rattle.journal_model.specs.Spelling.{flag, place_word, words_of_places, placement_words}
 use Rattle.ttm_base.specs.declared.Place.{Place}
 use Rattle.ttm_base.specs.Placement.{first_places, forced_places}
 use Rattle.journal_model.specs.Reading.{number_in, mem_of, last_flags_of, contig_flags_of, flags_of, flagged, ranged, is_system, reach_place, based_place, at_place, plus_place, place_of, places_of}
@@ -19,7 +18,7 @@ use Rattle.journal_model.specs.FirstFault.{place_in, wanted, taken_under_pressur
 use Rattle.script_law.proofs.CutLaws.{joined}
 use Rattle.script_law.proofs.LineLaws.{either}
 use Rattle.script_law.proofs.PlaceLaws.{is, some_flags, flag_made, chosen, unless, place_takes}
-use Rattle.script_law.proofs.HeadLaws.{good_place, places_take}
+use Rattle.script_law.proofs.HeadLaws.{good_place}
 
 -- the place of a word, without its flags
 abbrev pub bare : PlaceWord → Place

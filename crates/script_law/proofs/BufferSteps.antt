@@ -1,29 +1,26 @@
 -- The lines of buffers.
-use Rattle.std.proofs.Common.{◌≡◌, ℕ, ◌+◌, ◌<◌, ◌≤◌, Bool, true, false, cond, eqb, List, [], ◌∷◌, ◌++◌, length, map, Option, Some, None, refl, sym, ap, subst, ◌∙◌, append_assoc, arith, bytes_eq, inl, inr, ◌⊎◌}
-use Rattle.std.specs.Prelude.{◌&&◌, ◌||◌, not, codes, decimal, is_none, unwrap_or, option_map, flat_map, nat_le, nat_lt, if◌then◌else◌}
+use Rattle.std.proofs.Common.{◌≡◌, ℕ, ◌<◌, ◌≤◌, Bool, true, false, cond, eqb, List, [], ◌∷◌, ◌++◌, length, map, Option, Some, None, refl, sym, ap, subst, ◌∙◌, append_assoc, arith, bytes_eq}
+use Rattle.std.specs.Prelude.{◌&&◌, ◌||◌, not, codes, decimal, is_none, unwrap_or, option_map, flat_map, nat_le}
 use Rattle.std.specs.List.{list_any, list_all}
 use Rattle.std.proofs.lemmas.Bool.{eqb-true}
 use Rattle.std.proofs.lemmas.Bool.Decides.{nat_tests}
 use Rattle.std.proofs.lemmas.List.{append-nil}
 use Rattle.std.proofs.lemmas.List.Concat.{flat_map-cons}
 use Rattle.std.proofs.lemmas.Grind.{flat_map-append}
-use Rattle.std.proofs.lemmas.Slice.Eq.{bytes_eq-Decides}
 use Rattle.ttm_base.specs.declared.FlaggedPlace.{FlaggedPlace}
 use Rattle.journal_model.specs.declared.script.Script.{Script}
 use Rattle.journal_model.specs.declared.script.Decl.{Decl}
-use Rattle.journal_model.specs.declared.line.Progress.{Progress}
 use Rattle.journal_model.specs.declared.line.Phase.TheVariants as phase
 use Rattle.journal_model.specs.declared.line.Line.{Line}
 use Rattle.journal_model.specs.declared.line.Line.TheVariants as says
 use Rattle.journal_model.specs.declared.line.BufferHead.{BufferHead}
-use Rattle.journal_model.specs.declared.line.PlaceWord.{PlaceWord}
 use Rattle.journal_model.specs.Words.{Text, line}
 use Rattle.journal_model.specs.Spelling.{buffer_line, turn_line, group_word, placement_words}
 use Rattle.journal_model.specs.CommandRules.{is_between, is_command}
 use Rattle.journal_model.specs.ScriptRules.{is_name, same_text, has_distinct_names, is_group, is_decl, is_place_list, is_turn_line}
 use Rattle.journal_model.specs.Reading.{names_of, number_in, group_of, places_of}
 use Rattle.journal_model.specs.LineWords.{buffer_line_of, lists_line, two_lists, one_list, has_head_words, head_of}
-use Rattle.journal_model.specs.LineRules.{lacks_number_in_head, has_wrong_name, is_broken_place, is_no_list, is_no_place, may_force}
+use Rattle.journal_model.specs.LineRules.{lacks_number_in_head, has_wrong_name, is_broken_place, is_no_list, may_force}
 use Rattle.journal_model.specs.FirstFault.{or_zero, first_word, with_line, with_buffer, decl_of, place_in, wanted, taken_under_pressure}
 use Rattle.script_law.proofs.NumberLaws.{is_in}
 use Rattle.script_law.proofs.WordLaws.{bytes_are}
@@ -36,7 +33,7 @@ use Rattle.script_law.proofs.CommandFits.{number_small}
 use Rattle.script_law.proofs.CommandSteps.{not_false}
 use Rattle.script_law.proofs.PlaceFits.{old_lists_fit, new_list_fits, not_no_list}
 use Rattle.script_law.proofs.ListFacts.{all_nil, all_more, length_more, joint, both, is_le}
-use Rattle.script_law.proofs.Sound.{frame, seats, six, thread_text, body, Sound, text_of, Grows}
+use Rattle.script_law.proofs.Sound.{frame, seats, six, thread_text, Sound, text_of, Grows}
 use Rattle.script_law.proofs.HeadSteps.{at, number_there}
 
 -- ---- names

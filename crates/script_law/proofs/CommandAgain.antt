@@ -1,5 +1,5 @@
 -- Commands that were written are read.
-use Rattle.std.proofs.Common.{◌≡◌, ℕ, ◌+◌, ◌*◌, ◌<◌, ◌≤◌, ◌^◌, Bool, true, false, cond, eqb, List, [], ◌∷◌, ◌++◌, length, map, Option, Some, None, Result, Ok, refl, sym, ap, subst, ◌∙◌, arith, bytes_eq}
+use Rattle.std.proofs.Common.{◌≡◌, ℕ, ◌+◌, ◌<◌, ◌≤◌, ◌^◌, Bool, true, false, cond, List, [], ◌∷◌, length, map, Some, None, Ok, refl, ap, ◌∙◌, arith}
 use Rattle.std.specs.Prelude.{◌&&◌, ◌||◌, not, codes, decimal, flat_map, sum_by, option_map, nat_lt, nat_le}
 use Rattle.std.specs.List.{list_any, list_all}
 use Rattle.std.proofs.lemmas.Bool.Decides.{nat_tests}
@@ -20,15 +20,14 @@ use Rattle.journal_model.specs.declared.line.Line.TheVariants as line_of
 use Rattle.journal_model.specs.declared.line.Verb.{Verb}
 use Rattle.journal_model.specs.declared.line.Verb.TheVariants as verb
 use Rattle.journal_model.specs.declared.line.EngineWord.TheVariants as engine_as
-use Rattle.journal_model.specs.declared.line.OpWord.{OpWord}
 use Rattle.journal_model.specs.Words.{Text, line, name_of, hex, mem_word}
-use Rattle.journal_model.specs.Commands.{decl, named, first_mentions, buffers_of_op}
-use Rattle.journal_model.specs.Spelling.{command_words, op_words, parted}
+use Rattle.journal_model.specs.Commands.{named, first_mentions}
+use Rattle.journal_model.specs.Spelling.{op_words, parted}
 use Rattle.journal_model.specs.CommandRules.{is_between, is_declared, is_command, is_op, is_byte, is_range_of, command_len}
-use Rattle.journal_model.specs.Reading.{known, names_of, number_in, offset_of, bytes_of, mem_of, engine_of}
-use Rattle.journal_model.specs.LineWords.{keyword_of, may_come, parts_of, is_no_op, ops_of, submit_of_ops}
-use Rattle.journal_model.specs.LineRules.{rule_broken, lacks_number_in_op, lacks_name_in_op, lacks_byte_in_op, names_one_twice, is_big_job, buffers_of_word, len_of_word, has_wrong_range, is_more_than, passes, are_wrong_bytes}
-use Rattle.journal_model.specs.FirstFault.{first_word, with_line, with_job, with_command, plain_command, after_words, op_in}
+use Rattle.journal_model.specs.Reading.{known, names_of, offset_of, bytes_of}
+use Rattle.journal_model.specs.LineWords.{is_no_op, ops_of, submit_of_ops}
+use Rattle.journal_model.specs.LineRules.{lacks_number_in_op, lacks_name_in_op, lacks_byte_in_op, names_one_twice, is_big_job, buffers_of_word, len_of_word, has_wrong_range}
+use Rattle.journal_model.specs.FirstFault.{with_line, with_job, plain_command, after_words}
 use Rattle.script_law.proofs.NumberLaws.{number_again, between, is_in}
 use Rattle.script_law.proofs.WordLaws.{verb_word, keyword_again, mem_again}
 use Rattle.script_law.proofs.LineLaws.{made, Breaks_none}
@@ -36,9 +35,9 @@ use Rattle.script_law.proofs.AgainLaws.{offset_again, bytes_again}
 use Rattle.script_law.proofs.CommandSteps.{no_len, plain_len}
 use Rattle.script_law.proofs.HeadSteps.{at}
 use Rattle.script_law.proofs.Sound.{command_text}
-use Rattle.script_law.proofs.ListFacts.{both, joint, le_is, is_le, length_map}
+use Rattle.script_law.proofs.ListFacts.{both, joint, le_is, length_map}
 use Rattle.script_law.proofs.NamesAgain.{IsNamed, known_again, name_word_small, engine_again}
-use Rattle.script_law.proofs.OpsAgain.{four_facts, whole_op, IsRange, range_is, right_range, ops_again, ops_words, none_of, ops_inside, names_again, lens_again, ops_said}
+use Rattle.script_law.proofs.OpsAgain.{four_facts, whole_op, range_is, right_range, ops_again, ops_words, none_of, ops_inside, names_again, lens_again, ops_said}
 use Rattle.script_law.proofs.LineRuns.{Runs, line_runs, says, keeps_all}
 use Rattle.script_law.proofs.Solid.{is_word, small_word, number_small_word, hex_word}
 
@@ -210,8 +209,15 @@ submit_runs s n m engine ops room small k =
     neither (nat_lt 64 (length xs)) (nat_lt 16 (length (first_mentions [] (flat_map buffers_of_word xs)))) (ap (nat_lt 64) (length_map whole_op ops) ∙ not_over 64 (length ops) g.1)
     (ap (λ bs. nat_lt 16 (length (first_mentions [] bs))) (names_again ops) ∙ not_over 16 _ (le_is _ 16 f.3)) in
     let r : Breaks_none p l = record {
-      numbers = none_of lacks_number_in_op no_number ops; names = none_of lacks_name_in_op no_name ops; places = refl; ranges = inside.0; bytes = none_of lacks_byte_in_op no_byte ops;
-      jobs = neither (list_any names_one_twice xs) (is_big_job xs) inside.1 big; actors = refl; counts = not_more n room.few; lens = ap (λ x. nat_lt 67108864 (m + x)) (lens_again ops) ∙ not_long (m + sum_by op_len ops) room.short;
+      numbers = none_of lacks_number_in_op no_number ops;
+      names = none_of lacks_name_in_op no_name ops;
+      places = refl;
+      ranges = inside.0;
+      bytes = none_of lacks_byte_in_op no_byte ops;
+      jobs = neither (list_any names_one_twice xs) (is_big_job xs) inside.1 big;
+      actors = refl;
+      counts = not_more n room.few;
+      lens = ap (λ x. nat_lt 67108864 (m + x)) (lens_again ops) ∙ not_long (m + sum_by op_len ops) room.short;
     } in
     told s n m (command.Submit engine ops) (codes "submit") (decimal engine ∷ parted (map (op_words s) ops)) l words
     (says p key.Submit (codes "submit" ∷ decimal engine ∷ parted (map (op_words s) ops)) l refl refl words

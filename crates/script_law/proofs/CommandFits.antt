@@ -1,18 +1,16 @@
 -- A command that was read keeps its rules.
-use Rattle.std.proofs.Common.{◌≡◌, ℕ, ◌+◌, ◌*◌, ◌<◌, ◌≤◌, ◌^◌, Bool, true, false, cond, eqb, ltb, List, [], ◌∷◌, ◌++◌, length, map, Option, Some, None, refl, sym, ap, subst, ◌∙◌, arith, bytes_eq}
-use Rattle.std.specs.Prelude.{◌&&◌, ◌||◌, not, codes, is_none, unwrap_or, option_map, flat_map, sum_by, nat_le, nat_lt, option_to_list}
+use Rattle.std.proofs.Common.{◌≡◌, ℕ, ◌+◌, ◌*◌, ◌<◌, ◌≤◌, Bool, true, false, cond, eqb, List, [], ◌∷◌, ◌++◌, length, map, Option, Some, None, refl, sym, ap, subst, ◌∙◌, arith, bytes_eq}
+use Rattle.std.specs.Prelude.{◌&&◌, ◌||◌, not, codes, is_none, option_map, flat_map, sum_by, nat_le, nat_lt, option_to_list}
 use Rattle.std.specs.List.{list_any, list_all}
 use Rattle.std.proofs.lemmas.Bool.Decides.{nat_tests}
 use Rattle.std.proofs.lemmas.List.Concat.{flat_map-cons}
 use Rattle.std.proofs.lemmas.List.Sums.{sum_by-cons}
 use Rattle.ttm_base.specs.declared.BufId.{BufId}
-use Rattle.ttm_base.specs.declared.Op.{Op}
 use Rattle.ttm_base.specs.Cutting.{op_len}
 use Rattle.journal_model.specs.declared.script.Script.{Script}
 use Rattle.journal_model.specs.declared.line.OpWord.{OpWord}
 use Rattle.journal_model.specs.declared.line.OpWord.TheVariants as op_word
-use Rattle.journal_model.specs.Words.{Text, name_of}
-use Rattle.journal_model.specs.Cut.{cut_by, is_semicolon}
+use Rattle.journal_model.specs.Words.{Text}
 use Rattle.journal_model.specs.Commands.{buffers_of_op}
 use Rattle.journal_model.specs.CommandRules.{is_between, is_declared, is_range_of, is_op, is_byte}
 use Rattle.journal_model.specs.Reading.{known, names_of, number_in, offset_of, bytes_of, byte_of, is_hex, hex_value, is_plain, read_on}
@@ -24,7 +22,7 @@ use Rattle.script_law.proofs.WordLaws.{known_is}
 use Rattle.script_law.proofs.LineLaws.{either}
 use Rattle.script_law.proofs.SubmitLaws.{IsGood, AreGood, first_good, others_good}
 use Rattle.script_law.proofs.HeadSteps.{there}
-use Rattle.script_law.proofs.ListFacts.{joint, and_true, is_le}
+use Rattle.script_law.proofs.ListFacts.{joint, is_le}
 
 -- ---- numbers and names
 

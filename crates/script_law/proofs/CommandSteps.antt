@@ -1,15 +1,11 @@
 -- The lines of threads.
-use Rattle.std.proofs.Common.{◌≡◌, ℕ, ◌+◌, ◌*◌, ◌<◌, ◌≤◌, ◌^◌, Bool, true, false, cond, List, [], ◌∷◌, ◌++◌, length, map, Option, Some, None, refl, sym, ap, subst, ◌∙◌, append_assoc, arith, bytes_eq}
-use Rattle.std.specs.Prelude.{◌&&◌, ◌||◌, not, codes, decimal, is_none, unwrap_or, option_map, flat_map, sum_by, nat_le, nat_lt}
+use Rattle.std.proofs.Common.{◌≡◌, ℕ, ◌+◌, ◌<◌, ◌≤◌, ◌^◌, Bool, true, false, cond, List, [], ◌∷◌, ◌++◌, length, map, Option, Some, None, refl, sym, ap, subst, ◌∙◌, append_assoc, arith}
+use Rattle.std.specs.Prelude.{not, codes, decimal, is_none, unwrap_or, option_map, flat_map, sum_by, nat_le, nat_lt}
 use Rattle.std.specs.List.{list_any, list_all}
 use Rattle.std.proofs.lemmas.List.{append-nil}
 use Rattle.std.proofs.lemmas.Bool.Decides.{nat_tests}
-use Rattle.std.proofs.lemmas.List.Concat.{flat_map-cons}
-use Rattle.std.proofs.lemmas.Grind.{flat_map-append}
 use Rattle.ttm_base.specs.declared.BufId.{BufId}
 use Rattle.ttm_base.specs.declared.Mem.{Mem}
-use Rattle.ttm_base.specs.declared.Op.{Op}
-use Rattle.ttm_base.specs.Cutting.{op_len}
 use Rattle.journal_model.specs.declared.script.Script.{Script}
 use Rattle.journal_model.specs.declared.script.Command.{Command}
 use Rattle.journal_model.specs.declared.script.Command.TheVariants as command
@@ -20,16 +16,15 @@ use Rattle.journal_model.specs.declared.line.Line.TheVariants as says
 use Rattle.journal_model.specs.declared.line.Verb.{Verb}
 use Rattle.journal_model.specs.declared.line.Verb.TheVariants as verb
 use Rattle.journal_model.specs.declared.line.OpWord.{OpWord}
-use Rattle.journal_model.specs.declared.line.EngineWord.{EngineWord}
-use Rattle.journal_model.specs.Words.{Text, line, name_of, hex, mem_word}
+use Rattle.journal_model.specs.Words.{Text, line, name_of, mem_word}
 use Rattle.journal_model.specs.Cut.{cut_by, is_semicolon}
-use Rattle.journal_model.specs.Commands.{named, first_mentions, buffers_of_op}
-use Rattle.journal_model.specs.Spelling.{buffer_line, turn_line, command_words, op_words, parted}
-use Rattle.journal_model.specs.CommandRules.{is_between, is_declared, is_command, is_op, is_byte, command_len}
+use Rattle.journal_model.specs.Commands.{first_mentions, buffers_of_op}
+use Rattle.journal_model.specs.Spelling.{buffer_line, turn_line, command_words}
+use Rattle.journal_model.specs.CommandRules.{is_between, is_declared, is_command, is_byte, command_len}
 use Rattle.journal_model.specs.ScriptRules.{is_turn_line}
 use Rattle.journal_model.specs.Reading.{known, names_of, number_in, offset_of, bytes_of, mem_of, engine_of, is_plain, read_on}
-use Rattle.journal_model.specs.LineWords.{plain_line, write_line, read_line, move_line, touch_line, op_of, is_no_op, ops_of, submit_of_ops, submit_line}
-use Rattle.journal_model.specs.LineRules.{lacks_number_in_op, lacks_name_in_op, lacks_byte_in_op, is_broken_engine, is_missing_engine, are_wrong_bytes, bytes_pass, has_wrong_range, is_more_than, passes, passes_in_op, names_one_twice, is_big_job, buffers_of_word, len_of_word}
+use Rattle.journal_model.specs.LineWords.{plain_line, write_line, read_line, move_line, touch_line, op_of, is_no_op, ops_of, submit_line}
+use Rattle.journal_model.specs.LineRules.{lacks_number_in_op, is_broken_engine, is_missing_engine, are_wrong_bytes, bytes_pass, has_wrong_range, is_more_than, passes_in_op, names_one_twice, is_big_job, buffers_of_word, len_of_word}
 use Rattle.journal_model.specs.FirstFault.{or_zero, or_first, plain_command, first_word, with_line, with_command, with_job, onto_last, op_in, engine_in}
 use Rattle.script_law.proofs.NumberLaws.{between, is_in}
 use Rattle.script_law.proofs.CutLaws.{cut_some}
@@ -39,9 +34,9 @@ use Rattle.script_law.proofs.LineLaws.{made, either, name_word, offset_word, num
 use Rattle.script_law.proofs.KindLaws.{engine_takes, engine_chosen}
 use Rattle.script_law.proofs.SubmitLaws.{AreGood, ops_take}
 use Rattle.script_law.proofs.CommandFits.{three, four, number_small, known_there, range_fits, passes_fits, not_more, bytes_small, ops_fit, names_are, lens_are}
-use Rattle.script_law.proofs.ListFacts.{all_nil, joint, and_true, is_le, le_is, all_put, few_put, last_put, length_put, onto_is, sum_put, text_put, length_map, has_few, last_len, put_last}
-use Rattle.script_law.proofs.Sound.{frame, seats, six, command_text, thread_text, body, Stage, Sound, text_of, Grows}
-use Rattle.script_law.proofs.HeadSteps.{at, there}
+use Rattle.script_law.proofs.ListFacts.{all_nil, joint, is_le, all_put, few_put, last_put, length_put, onto_is, sum_put, text_put, length_map, has_few, last_len}
+use Rattle.script_law.proofs.Sound.{frame, seats, six, command_text, thread_text, Sound, text_of, Grows}
+use Rattle.script_law.proofs.HeadSteps.{at}
 
 -- ---- one more command
 

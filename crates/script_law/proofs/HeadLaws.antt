@@ -1,19 +1,12 @@
 -- The words of the head's lines, of schedules and of lists of places.
-use Rattle.std.proofs.Common.{◌≡◌, ℕ, ◌<◌, ◌≤◌, ◌^◌, Bool, true, false, cond, eqb, List, [], ◌∷◌, ◌++◌, length, map, Option, Some, None, refl, sym, ap, subst, ◌∙◌, arith, bytes_eq}
-use Rattle.std.specs.Prelude.{◌&&◌, ◌||◌, not, codes, decimal, is_none, unwrap_or, option_map, if◌then◌else◌}
+use Rattle.std.proofs.Common.{◌≡◌, ℕ, ◌<◌, ◌^◌, Bool, true, false, cond, eqb, List, [], ◌∷◌, map, Option, refl, sym, ap, ◌∙◌, arith}
+use Rattle.std.specs.Prelude.{not, decimal, is_none}
 use Rattle.std.specs.List.{list_any, list_all, join_with_byte}
 use Rattle.std.proofs.lemmas.Bool.{eqb-true}
-use Rattle.std.proofs.lemmas.Bool.Decides.{nat_tests}
 use Rattle.std.proofs.lemmas.Fmt.{decimal-digits_value}
-use Rattle.ttm_base.specs.declared.Mem.{Mem}
 use Rattle.ttm_base.specs.declared.Actor.{Actor}
 use Rattle.ttm_base.specs.declared.Actor.TheVariants as actor
-use Rattle.ttm_base.specs.declared.FlaggedPlace.{FlaggedPlace}
-use Rattle.journal_model.specs.declared.script.Script.{Script}
-use Rattle.journal_model.specs.declared.script.Command.TheVariants as command
-use Rattle.journal_model.specs.declared.line.Progress.{Progress}
 use Rattle.journal_model.specs.declared.line.Line.{Line}
-use Rattle.journal_model.specs.declared.line.Line.TheVariants as line
 use Rattle.journal_model.specs.declared.line.ActorWord.{ActorWord}
 use Rattle.journal_model.specs.declared.line.ActorWord.TheVariants as read_as
 use Rattle.journal_model.specs.declared.line.PlaceWord.{PlaceWord}
@@ -21,16 +14,14 @@ use Rattle.journal_model.specs.declared.line.PlaceWord.TheVariants as place_word
 use Rattle.journal_model.specs.Words.{Text, actor_word}
 use Rattle.journal_model.specs.Cut.{cut_at}
 use Rattle.journal_model.specs.CommandRules.{is_between}
-use Rattle.journal_model.specs.Spelling.{flagged_word, words_of_places, command_words}
-use Rattle.journal_model.specs.Reading.{known, names_of, mem_of, number_in, is_plain, has_no_leading_zero, is_digit, read_on, actor_of, thread_actor, engine_actor, place_of, places_of}
-use Rattle.journal_model.specs.LineWords.{size_line, version_line, vram_line, move_line}
-use Rattle.journal_model.specs.LineRules.{is_broken_actor, is_missing_actor, is_no_place, is_broken_place}
-use Rattle.journal_model.specs.LineWords.{is_no_actor}
-use Rattle.journal_model.specs.FirstFault.{or_zero, or_first, first_word, actor_in, place_in}
+use Rattle.journal_model.specs.Spelling.{flagged_word, words_of_places}
+use Rattle.journal_model.specs.Reading.{number_in, is_plain, has_no_leading_zero, is_digit, read_on, actor_of, thread_actor, engine_actor, place_of, places_of}
+use Rattle.journal_model.specs.LineWords.{size_line}
+use Rattle.journal_model.specs.LineRules.{is_no_place, is_broken_place}
+use Rattle.journal_model.specs.FirstFault.{or_zero, first_word, place_in}
 use Rattle.script_law.proofs.CutLaws.{joined}
 use Rattle.script_law.proofs.NumberLaws.{own, both, lead, between}
-use Rattle.script_law.proofs.WordLaws.{bytes_are, mem_is, IsMemOf}
-use Rattle.script_law.proofs.LineLaws.{made, either, number_word, name_word, Breaks_none, IsSaid}
+use Rattle.script_law.proofs.LineLaws.{made, either, number_word}
 use Rattle.script_law.proofs.PlaceLaws.{is, place_takes}
 
 -- ---- a keyword and a number

@@ -1,5 +1,5 @@
 -- The lines of the head.
-use Rattle.std.proofs.Common.{◌≡◌, ℕ, ◌<◌, ◌≤◌, ◌^◌, Bool, true, false, cond, List, [], ◌∷◌, ◌++◌, length, Option, Some, None, refl, sym, ap, subst, ◌∙◌, arith, bytes_eq, inl, inr, ◌⊎◌}
+use Rattle.std.proofs.Common.{◌≡◌, ℕ, ◌<◌, ◌≤◌, ◌^◌, Bool, true, false, cond, List, [], ◌∷◌, ◌++◌, Option, Some, None, refl, sym, ap, subst, ◌∙◌, arith, bytes_eq, inl, inr}
 use Rattle.std.specs.Prelude.{◌&&◌, codes, decimal, is_none, flat_map, nat_le}
 use Rattle.std.specs.Fmt.{digits}
 use Rattle.std.specs.List.{list_all}
@@ -216,11 +216,15 @@ pub record IsVram (ws : List Text) (l : Line) : Type 0 where
 vram_chosen : (a b : Bool) (w kind size : Text) (l : Line) → w ≡ codes "vram" → (a ≡ true → kind ≡ codes "range") → (b ≡ true → kind ≡ codes "buddy")
     → cond a (made (says.Vram false (number_in 0 16384 size))) (cond b (made (says.Vram true (number_in 0 16384 size))) None) ≡ made l → IsVram (w ∷ kind ∷ size ∷ []) l
 vram_chosen true b w kind size l k p q h = record {
-  buddy = false; n = number_in 0 16384 size; is = cc;
+  buddy = false;
+  n = number_in 0 16384 size;
+  is = cc;
   good = λ r. let t = number_there 0 16384 size (omega arith) r in (ap (λ v. v ∷ kind ∷ size ∷ []) k ∙ ap (λ v. codes "vram" ∷ v ∷ size ∷ []) (p refl) ∙ ap (λ v. codes "vram" ∷ codes "range" ∷ v ∷ []) t.0, t.2);
 }
 vram_chosen false true w kind size l k p q h = record {
-  buddy = true; n = number_in 0 16384 size; is = cc;
+  buddy = true;
+  n = number_in 0 16384 size;
+  is = cc;
   good = λ r. let t = number_there 0 16384 size (omega arith) r in (ap (λ v. v ∷ kind ∷ size ∷ []) k ∙ ap (λ v. codes "vram" ∷ v ∷ size ∷ []) (q refl) ∙ ap (λ v. codes "vram" ∷ codes "buddy" ∷ v ∷ []) t.0, t.2);
 }
 vram_chosen false false w kind size l k p q h = absurd cc

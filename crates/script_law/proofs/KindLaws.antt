@@ -1,27 +1,24 @@
 -- The words of the other kinds of line are those of what the line says.
-use Rattle.std.proofs.Common.{◌≡◌, ℕ, ◌<◌, ◌^◌, Bool, true, false, cond, List, [], ◌∷◌, ◌++◌, length, map, Option, Some, None, refl, sym, ap, subst, ◌∙◌, arith, bytes_eq, inl, inr, ◌⊎◌}
-use Rattle.std.specs.Prelude.{◌&&◌, ◌||◌, not, codes, decimal, is_none, unwrap_or, option_map, if◌then◌else◌}
+use Rattle.std.proofs.Common.{◌≡◌, ℕ, ◌<◌, ◌^◌, Bool, true, false, cond, List, [], ◌∷◌, map, Option, Some, None, refl, sym, ap, subst, ◌∙◌, arith, bytes_eq, inl, inr, ◌⊎◌}
+use Rattle.std.specs.Prelude.{not, codes, decimal, is_none, unwrap_or, option_map}
 use Rattle.std.specs.List.{list_any}
 use Rattle.ttm_base.specs.declared.Mem.{Mem}
-use Rattle.ttm_base.specs.declared.Actor.{Actor}
 use Rattle.journal_model.specs.declared.script.Script.{Script}
 use Rattle.journal_model.specs.declared.script.Command.TheVariants as command
 use Rattle.journal_model.specs.declared.line.Progress.{Progress}
 use Rattle.journal_model.specs.declared.line.Line.{Line}
 use Rattle.journal_model.specs.declared.line.Line.TheVariants as line
-use Rattle.journal_model.specs.declared.line.BufferHead.{BufferHead}
 use Rattle.journal_model.specs.declared.line.ActorWord.{ActorWord}
 use Rattle.journal_model.specs.declared.line.ActorWord.TheVariants as read_as
-use Rattle.journal_model.specs.declared.line.EngineWord.{EngineWord}
 use Rattle.journal_model.specs.declared.line.EngineWord.TheVariants as engine_as
 use Rattle.journal_model.specs.Words.{Text, actor_word, mem_word, name_of}
 use Rattle.journal_model.specs.CommandRules.{is_between}
-use Rattle.journal_model.specs.Spelling.{command_words, group_word, placement_words}
-use Rattle.journal_model.specs.Reading.{known, names_of, mem_of, number_in, group_of, is_plain, read_on, actor_of, engine_of, places_of}
-use Rattle.journal_model.specs.LineWords.{version_line, vram_line, move_line, is_no_actor, turn_of_actors, turn_line_of, has_head_words, head_of}
-use Rattle.journal_model.specs.LineRules.{is_broken_actor, is_missing_actor, lacks_number_in_head, is_broken_engine, is_missing_engine}
+use Rattle.journal_model.specs.Spelling.{group_word}
+use Rattle.journal_model.specs.Reading.{known, names_of, mem_of, number_in, group_of, is_plain, read_on, actor_of, engine_of}
+use Rattle.journal_model.specs.LineWords.{version_line, move_line, is_no_actor}
+use Rattle.journal_model.specs.LineRules.{is_broken_actor, is_missing_actor, is_broken_engine, is_missing_engine}
 use Rattle.journal_model.specs.FirstFault.{or_zero, or_first, first_word, actor_in, engine_in}
-use Rattle.script_law.proofs.NumberLaws.{both, between}
+use Rattle.script_law.proofs.NumberLaws.{between}
 use Rattle.script_law.proofs.WordLaws.{bytes_are, mem_is, IsMemOf}
 use Rattle.script_law.proofs.LineLaws.{made, either, number_word, name_word, Breaks_none, IsSaid}
 use Rattle.script_law.proofs.HeadLaws.{actor_takes, an_actor, plain_word}

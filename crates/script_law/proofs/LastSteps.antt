@@ -1,6 +1,6 @@
 -- The lines that begin a thread, the schedules, and the last line.
-use Rattle.std.proofs.Common.{◌≡◌, ℕ, ◌+◌, ◌<◌, ◌≤◌, ◌^◌, Bool, true, false, cond, eqb, List, [], ◌∷◌, ◌++◌, length, map, Option, Some, None, refl, sym, ap, subst, ◌∙◌, append_assoc, arith}
-use Rattle.std.specs.Prelude.{◌&&◌, ◌||◌, not, codes, flat_map, sum_by, nat_le, nat_lt}
+use Rattle.std.proofs.Common.{◌≡◌, ℕ, ◌<◌, ◌^◌, Bool, true, false, cond, eqb, List, [], ◌∷◌, ◌++◌, length, map, None, refl, sym, ap, subst, ◌∙◌, append_assoc, arith}
+use Rattle.std.specs.Prelude.{◌&&◌, not, codes, flat_map, sum_by, nat_le}
 use Rattle.std.specs.List.{list_any, list_all}
 use Rattle.std.proofs.lemmas.Bool.Decides.{nat_tests}
 use Rattle.std.proofs.lemmas.List.{append-nil}
@@ -9,8 +9,6 @@ use Rattle.std.proofs.lemmas.Grind.{flat_map-append}
 use Rattle.ttm_base.specs.declared.Actor.{Actor}
 use Rattle.ttm_base.specs.declared.Actor.TheVariants as actor
 use Rattle.journal_model.specs.declared.script.Script.{Script}
-use Rattle.journal_model.specs.declared.script.Command.{Command}
-use Rattle.journal_model.specs.declared.line.Progress.{Progress}
 use Rattle.journal_model.specs.declared.line.Phase.{Phase}
 use Rattle.journal_model.specs.declared.line.Phase.TheVariants as phase
 use Rattle.journal_model.specs.declared.line.Line.{Line}
@@ -22,7 +20,7 @@ use Rattle.journal_model.specs.Spelling.{buffer_line, turn_line}
 use Rattle.journal_model.specs.CommandRules.{is_between, is_command, command_len}
 use Rattle.journal_model.specs.ScriptRules.{is_actor, is_turn_line}
 use Rattle.journal_model.specs.Reading.{is_plain, read_on, actor_of, thread_actor, engine_actor}
-use Rattle.journal_model.specs.LineWords.{alone, turn_line_of, turn_of_actors, is_no_actor}
+use Rattle.journal_model.specs.LineWords.{alone, turn_line_of, is_no_actor}
 use Rattle.journal_model.specs.LineRules.{is_broken_actor, is_missing_actor}
 use Rattle.journal_model.specs.FirstFault.{first_word, with_line, actor_in}
 use Rattle.script_law.proofs.NumberLaws.{between}
@@ -30,8 +28,8 @@ use Rattle.script_law.proofs.LineLaws.{made, either, Breaks_none}
 use Rattle.script_law.proofs.HeadLaws.{an_actor, numbered}
 use Rattle.script_law.proofs.KindLaws.{actors_take, good_actor}
 use Rattle.script_law.proofs.CommandSteps.{grown}
-use Rattle.script_law.proofs.ListFacts.{all_nil, all_more, length_more, last_new, sum_more, joint, both, is_le, le_is, length_map, has_few, last_len}
-use Rattle.script_law.proofs.Sound.{frame, seats, six, thread_text, body, text, Sound, text_of, Grows}
+use Rattle.script_law.proofs.ListFacts.{all_nil, all_more, length_more, last_new, sum_more, joint, both, is_le, le_is, length_map, has_few}
+use Rattle.script_law.proofs.Sound.{frame, seats, six, thread_text, body, Sound, text_of, Grows}
 use Rattle.script_law.proofs.HeadSteps.{at, sizes_fit}
 
 -- ---- a word alone

@@ -1,8 +1,7 @@
 -- The words of a line that breaks no rule are the words of what it says.
-use Rattle.std.proofs.Common.{◌≡◌, ℕ, ◌<◌, ◌^◌, Bool, true, false, cond, List, [], ◌∷◌, length, Option, Some, None, refl, sym, ap, subst, ◌∙◌, arith}
-use Rattle.std.specs.Prelude.{◌&&◌, ◌||◌, not, codes, decimal, is_none, unwrap_or}
+use Rattle.std.proofs.Common.{◌≡◌, ℕ, ◌<◌, ◌^◌, Bool, true, false, cond, List, [], ◌∷◌, Option, Some, None, refl, sym, ap, subst, ◌∙◌, arith}
+use Rattle.std.specs.Prelude.{◌||◌, codes, decimal, is_none, unwrap_or}
 use Rattle.ttm_base.specs.declared.BufId.{BufId}
-use Rattle.ttm_base.specs.declared.Mem.{Mem}
 use Rattle.journal_model.specs.declared.script.Script.{Script}
 use Rattle.journal_model.specs.declared.script.Command.{Command}
 use Rattle.journal_model.specs.declared.script.Command.TheVariants as command
@@ -11,14 +10,14 @@ use Rattle.journal_model.specs.declared.line.Line.{Line}
 use Rattle.journal_model.specs.declared.line.Line.TheVariants as line
 use Rattle.journal_model.specs.declared.line.Verb.{Verb}
 use Rattle.journal_model.specs.declared.line.Verb.TheVariants as verb
-use Rattle.journal_model.specs.Words.{Text, name_of, hex, mem_word}
+use Rattle.journal_model.specs.Words.{Text, name_of, hex}
 use Rattle.journal_model.specs.Spelling.{command_words}
-use Rattle.journal_model.specs.Reading.{known, names_of, number_in, offset_of, bytes_of, mem_of}
-use Rattle.journal_model.specs.LineWords.{plain_line, write_line, read_line, move_line, touch_line, size_line}
+use Rattle.journal_model.specs.Reading.{known, names_of, number_in, offset_of, bytes_of}
+use Rattle.journal_model.specs.LineWords.{plain_line, write_line, read_line, touch_line}
 use Rattle.journal_model.specs.LineRules.{lacks_number, lacks_name, lacks_place, has_range_fault, has_byte_fault, has_job_fault, lacks_actor, is_one_too_many, is_too_long, rule_broken, are_wrong_bytes}
 use Rattle.journal_model.specs.FirstFault.{or_zero, or_first, plain_command, first_word}
 use Rattle.script_law.proofs.NumberLaws.{number_takes}
-use Rattle.script_law.proofs.WordLaws.{known_is, verb_word, mem_is}
+use Rattle.script_law.proofs.WordLaws.{known_is, verb_word}
 use Rattle.script_law.proofs.HexLaws.{bytes_take}
 
 abbrev none : Option ℕ

@@ -1,21 +1,20 @@
 -- Lines that were written are read one by one.
-use Rattle.std.proofs.Common.{◌≡◌, ℕ, zero, suc, ◌+◌, ◌-◌, ◌<◌, ◌≤◌, Bool, true, false, cond, eqb, List, [], ◌∷◌, ◌++◌, length, take, Option, Some, None, Result, Ok, Err, refl, sym, ap, subst, ◌∙◌, append_assoc, arith}
-use Rattle.std.specs.Prelude.{◌&&◌, ◌||◌, not, slice_get, nat_lt}
-use Rattle.std.specs.List.{list_any, list_all, join_with_byte}
+use Rattle.std.proofs.Common.{◌≡◌, ℕ, ◌+◌, ◌-◌, ◌<◌, ◌≤◌, Bool, true, false, cond, eqb, List, [], ◌∷◌, ◌++◌, length, take, Option, Some, None, Result, Ok, Err, refl, ap, ◌∙◌, append_assoc, arith}
+use Rattle.std.specs.Prelude.{◌||◌, not, slice_get, nat_lt}
+use Rattle.std.specs.List.{list_any, list_all}
 use Rattle.std.proofs.lemmas.Bool.Decides.{nat_tests}
-use Rattle.std.proofs.lemmas.List.{append-nil}
 use Rattle.journal_model.specs.declared.script.Script.{Script}
 use Rattle.journal_model.specs.declared.line.Progress.{Progress}
 use Rattle.journal_model.specs.declared.line.Keyword.{Keyword}
 use Rattle.journal_model.specs.declared.line.Line.{Line}
 use Rattle.journal_model.specs.Words.{Text, spaced, line}
 use Rattle.journal_model.specs.Cut.{onto, cut_at, lines_of}
-use Rattle.journal_model.specs.LineWords.{keyword_of, may_come, parts_of, line_of, is_empty}
+use Rattle.journal_model.specs.LineWords.{keyword_of, may_come, parts_of, line_of}
 use Rattle.journal_model.specs.LineRules.{rule_broken, lacks_number, lacks_name, lacks_place, has_range_fault, has_byte_fault, has_job_fault, lacks_actor, is_one_too_many, is_too_long}
 use Rattle.journal_model.specs.FirstFault.{first_word, with_line, unless_broken, fault_of_parts, after_words, after_line, breaks_text, ends_line, is_line_feed, is_shown, without_end, script_from}
-use Rattle.script_law.proofs.CutLaws.{lacks, cut_again}
+use Rattle.script_law.proofs.CutLaws.{cut_again}
 use Rattle.script_law.proofs.LineLaws.{made, Breaks_none}
-use Rattle.script_law.proofs.ListFacts.{both, joint}
+use Rattle.script_law.proofs.ListFacts.{both}
 use Rattle.script_law.proofs.Solid.{is_word, words_lack, none_empty, spaced_shown}
 
 -- whatever the rest says from there on, the text and the rest say too

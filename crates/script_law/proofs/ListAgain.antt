@@ -1,7 +1,7 @@
 -- Places and lists of places that were written are read.
-use Rattle.std.proofs.Common.{◌≡◌, ℕ, suc, ◌+◌, ◌<◌, ◌≤◌, ◌^◌, Bool, true, false, cond, eqb, ltb, List, [], ◌∷◌, ◌++◌, length, map, filter, take, drop, Option, Some, None, refl, sym, ap, subst, ◌∙◌, append_assoc, arith}
+use Rattle.std.proofs.Common.{◌≡◌, ℕ, suc, ◌<◌, ◌≤◌, ◌^◌, Bool, true, false, cond, eqb, ltb, List, [], ◌∷◌, ◌++◌, length, map, Some, refl, sym, ap, ◌∙◌, append_assoc, arith}
 use Rattle.std.specs.Prelude.{◌&&◌, ◌||◌, not, codes, decimal, nat_le, nat_lt}
-use Rattle.std.specs.List.{list_any, list_all, join_with_byte}
+use Rattle.std.specs.List.{list_any, list_all}
 use Rattle.std.proofs.lemmas.Bool.Decides.{nat_tests}
 use Rattle.std.proofs.lemmas.List.{append-nil}
 use Rattle.std.proofs.lemmas.List.Folds.{list_all-append}
@@ -16,9 +16,8 @@ use Rattle.journal_model.specs.declared.line.PlaceWord.TheVariants as read_as
 use Rattle.journal_model.specs.Words.{Text, mem_word}
 use Rattle.journal_model.specs.Cut.{cut_at}
 use Rattle.journal_model.specs.Spelling.{flag, reach_word, place_word, flagged_word, words_of_places}
-use Rattle.journal_model.specs.CommandRules.{is_between}
 use Rattle.journal_model.specs.ScriptRules.{is_letter_or_digit, is_place_of, is_place, is_flagged}
-use Rattle.journal_model.specs.Reading.{number_in, mem_of, flags_of, flagged, ranged, is_system, is_digit, two_numbers_place, reach_place, based_place, at_place, plus_place, place_of, places_of}
+use Rattle.journal_model.specs.Reading.{number_in, flags_of, flagged, ranged, is_system, is_digit, reach_place, based_place, at_place, plus_place, place_of, places_of}
 use Rattle.journal_model.specs.LineWords.{is_empty}
 use Rattle.script_law.proofs.CutLaws.{lacks, cut_free, cut_append, cut_again}
 use Rattle.script_law.proofs.NumberLaws.{own, number_again}

@@ -1,42 +1,29 @@
 -- Names, engines, actors, groups and operations that were written are read.
-use Rattle.std.proofs.Common.{◌≡◌, ℕ, zero, suc, ◌+◌, ◌<◌, ◌≤◌, ◌^◌, Bool, true, false, cond, eqb, List, [], ◌∷◌, ◌++◌, length, map, Option, Some, None, refl, sym, ap, subst, ◌∙◌, arith, bytes_eq}
-use Rattle.std.specs.Prelude.{◌&&◌, ◌||◌, ◌/◌, ◌%◌, ◌*◌, not, codes, decimal, flat_map, sum_by, is_none, unwrap_or, option_map, position, slice_get, nat_lt, nat_le}
-use Rattle.std.specs.List.{list_any, list_all, position_or_len}
-use Rattle.std.specs.Char.{digit_char}
+use Rattle.std.proofs.Common.{◌≡◌, ℕ, zero, suc, ◌<◌, ◌≤◌, ◌^◌, Bool, true, false, cond, List, [], ◌∷◌, length, Option, Some, None, refl, sym, ap, ◌∙◌, arith, bytes_eq}
+use Rattle.std.specs.Prelude.{◌&&◌, ◌||◌, not, codes, decimal, unwrap_or, option_map, slice_get, nat_lt}
+use Rattle.std.specs.List.{list_any, list_all}
 use Rattle.std.proofs.lemmas.Bool.Decides.{nat_tests}
-use Rattle.std.proofs.lemmas.List.Concat.{flat_map-cons}
-use Rattle.std.proofs.lemmas.List.Sums.{sum_by-cons}
 use Rattle.std.proofs.lemmas.Fmt.{digits_decimal, decimal_nonempty}
 use Rattle.ttm_base.specs.declared.BufId.{BufId}
-use Rattle.ttm_base.specs.declared.Op.{Op}
-use Rattle.ttm_base.specs.declared.Op.TheVariants as op
 use Rattle.ttm_base.specs.declared.Actor.{Actor}
 use Rattle.ttm_base.specs.declared.Actor.TheVariants as actor
-use Rattle.ttm_base.specs.Cutting.{op_len}
 use Rattle.journal_model.specs.declared.script.Script.{Script}
 use Rattle.journal_model.specs.declared.script.Decl.{Decl}
-use Rattle.journal_model.specs.declared.line.OpWord.{OpWord}
-use Rattle.journal_model.specs.declared.line.OpWord.TheVariants as op_word
 use Rattle.journal_model.specs.declared.line.EngineWord.TheVariants as engine_as
-use Rattle.journal_model.specs.declared.line.ActorWord.{ActorWord}
 use Rattle.journal_model.specs.declared.line.ActorWord.TheVariants as read_as
-use Rattle.journal_model.specs.Words.{Text, name_of, hex_byte, actor_word}
-use Rattle.journal_model.specs.Cut.{cut_by, is_semicolon}
-use Rattle.journal_model.specs.Commands.{decl, undeclared, buffers_of_op}
-use Rattle.journal_model.specs.Spelling.{op_words, parted, group_word}
-use Rattle.journal_model.specs.CommandRules.{is_between, is_declared, is_range_of, is_op, is_byte}
+use Rattle.journal_model.specs.Words.{Text, name_of, actor_word}
+use Rattle.journal_model.specs.Commands.{undeclared}
+use Rattle.journal_model.specs.Spelling.{group_word}
+use Rattle.journal_model.specs.CommandRules.{is_between, is_declared}
 use Rattle.journal_model.specs.ScriptRules.{is_name, same_text, has_distinct_names, is_decl, is_group, is_actor}
-use Rattle.journal_model.specs.Reading.{known, names_of, offset_of, number_in, byte_of, group_of, engine_of, actor_of, thread_actor, engine_actor, is_plain, is_digit, read_on, is_hex, hex_value}
-use Rattle.journal_model.specs.LineWords.{op_of, ops_of, is_empty}
-use Rattle.journal_model.specs.LineRules.{buffers_of_word, len_of_word, has_wrong_range, passes, passes_in_op, names_one_twice}
-use Rattle.journal_model.specs.FirstFault.{op_in}
-use Rattle.script_law.proofs.CutLaws.{cut_free, cut_append}
-use Rattle.script_law.proofs.NumberLaws.{own, number_again, between, is_in}
+use Rattle.journal_model.specs.Reading.{known, names_of, number_in, group_of, engine_of, actor_of, thread_actor, engine_actor, is_plain, is_digit, read_on}
+use Rattle.journal_model.specs.LineWords.{is_empty}
+use Rattle.script_law.proofs.NumberLaws.{own, number_again, between}
 use Rattle.script_law.proofs.WordLaws.{bytes_are}
-use Rattle.script_law.proofs.AgainLaws.{distinct, place_of_name, offset_again, digit_again}
+use Rattle.script_law.proofs.AgainLaws.{distinct, place_of_name}
 use Rattle.script_law.proofs.BufferSteps.{same_is}
-use Rattle.script_law.proofs.ListFacts.{both, joint, le_is, is_le, length_map}
-use Rattle.script_law.proofs.Solid.{is_solid, is_word, is_small, small_word, small_no_sign, number_small_word, name_small, byte_small_word}
+use Rattle.script_law.proofs.ListFacts.{both, joint, le_is, length_map}
+use Rattle.script_law.proofs.Solid.{is_solid, is_word, is_small, small_word, number_small_word, name_small}
 
 -- ---- names
 

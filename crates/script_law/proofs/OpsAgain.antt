@@ -1,5 +1,5 @@
 -- The operations of a job that were written are read.
-use Rattle.std.proofs.Common.{◌≡◌, ℕ, ◌+◌, ◌*◌, ◌<◌, ◌≤◌, ◌^◌, Bool, true, false, cond, eqb, List, [], ◌∷◌, ◌++◌, length, map, Option, Some, None, refl, sym, ap, subst, ◌∙◌, arith, bytes_eq}
+use Rattle.std.proofs.Common.{◌≡◌, ℕ, ◌+◌, ◌*◌, ◌<◌, ◌≤◌, Bool, true, false, cond, eqb, List, [], ◌∷◌, ◌++◌, length, map, Some, None, refl, sym, ap, ◌∙◌, arith}
 use Rattle.std.specs.Prelude.{◌&&◌, ◌||◌, ◌/◌, ◌%◌, not, codes, decimal, flat_map, sum_by, nat_lt, nat_le}
 use Rattle.std.specs.List.{list_any, list_all}
 use Rattle.std.specs.Char.{digit_char}
@@ -26,7 +26,7 @@ use Rattle.journal_model.specs.FirstFault.{op_in}
 use Rattle.script_law.proofs.CutLaws.{cut_free, cut_append}
 use Rattle.script_law.proofs.NumberLaws.{between}
 use Rattle.script_law.proofs.AgainLaws.{offset_again, digit_again}
-use Rattle.script_law.proofs.ListFacts.{both, joint, le_is, is_le, length_map}
+use Rattle.script_law.proofs.ListFacts.{both, joint, le_is}
 use Rattle.script_law.proofs.NamesAgain.{IsNamed, known_again, name_word_small}
 use Rattle.script_law.proofs.Solid.{is_word, is_small, small_word, small_no_sign, number_small_word, byte_small_word}
 

@@ -1,17 +1,12 @@
 -- A place that is spelled is cut into its base and its flags again.
-use Rattle.std.proofs.Common.{◌≡◌, ℕ, ◌<◌, ◌^◌, Bool, true, false, cond, eqb, List, [], ◌∷◌, ◌++◌, Option, Some, None, refl, sym, ap, subst, ◌∙◌, append_assoc, arith}
+use Rattle.std.proofs.Common.{◌≡◌, ℕ, ◌<◌, ◌^◌, Bool, true, false, cond, eqb, List, [], ◌∷◌, ◌++◌, Some, refl, sym, ap, ◌∙◌}
 use Rattle.std.specs.Prelude.{◌&&◌, ◌||◌, not, codes, decimal}
-use Rattle.std.specs.List.{list_all, list_any, join_with_byte}
+use Rattle.std.specs.List.{list_all, list_any}
 use Rattle.std.proofs.lemmas.Bool.{eqb-true}
-use Rattle.std.proofs.lemmas.Bool.Decides.{nat_tests}
-use Rattle.std.proofs.lemmas.List.{append-nil}
 use Rattle.std.proofs.lemmas.Fmt.{digits_decimal}
-use Rattle.ttm_base.specs.declared.Mem.{Mem}
-use Rattle.ttm_base.specs.declared.Mem.TheVariants.{System, Tt, Vram}
 use Rattle.journal_model.specs.declared.line.Flags.{Flags}
-use Rattle.journal_model.specs.Words.{Text, mem_word}
+use Rattle.journal_model.specs.Words.{Text}
 use Rattle.journal_model.specs.Cut.{cut_at}
-use Rattle.journal_model.specs.Spelling.{flag}
 use Rattle.journal_model.specs.Reading.{is_digit, flags_of}
 use Rattle.script_law.proofs.CutLaws.{lacks, cut_again}
 use Rattle.script_law.proofs.NumberLaws.{own, both}

@@ -1,6 +1,6 @@
 -- A place that is read is spelled so.
-use Rattle.std.proofs.Common.{◌≡◌, ℕ, zero, suc, ◌<◌, ◌^◌, Bool, true, false, cond, eqb, ltb, List, [], ◌∷◌, ◌++◌, length, Option, Some, None, refl, sym, ap, subst, ◌∙◌, append_assoc, arith, bytes_eq}
-use Rattle.std.specs.Prelude.{◌&&◌, ◌||◌, not, codes, decimal, nat_lt}
+use Rattle.std.proofs.Common.{◌≡◌, ℕ, ◌<◌, ◌^◌, Bool, true, false, cond, eqb, ltb, List, [], ◌∷◌, ◌++◌, length, Option, Some, None, refl, sym, ap, subst, ◌∙◌, append_assoc, arith, bytes_eq}
+use Rattle.std.specs.Prelude.{◌&&◌, ◌||◌, not, codes, decimal}
 use Rattle.std.specs.List.{join_with_byte}
 use Rattle.std.proofs.lemmas.List.{append-nil}
 use Rattle.std.proofs.lemmas.Bool.Decides.{nat_tests}
@@ -12,7 +12,7 @@ use Rattle.journal_model.specs.declared.line.PlaceWord.TheVariants as place_word
 use Rattle.journal_model.specs.Words.{Text, mem_word}
 use Rattle.journal_model.specs.Cut.{cut_at}
 use Rattle.journal_model.specs.Spelling.{flag, reach_word, flagged_word}
-use Rattle.journal_model.specs.Reading.{number_in, mem_of, last_flags_of, contig_flags_of, flags_of, flagged, ranged, is_system, two_numbers_place, reach_place, based_place, at_place, plus_place, place_of}
+use Rattle.journal_model.specs.Reading.{number_in, mem_of, last_flags_of, contig_flags_of, flags_of, flagged, ranged, is_system, reach_place, based_place, at_place, plus_place, place_of}
 use Rattle.script_law.proofs.CutLaws.{joined}
 use Rattle.script_law.proofs.NumberLaws.{number_takes}
 use Rattle.script_law.proofs.WordLaws.{bytes_are, mem_is, IsMemOf}

@@ -1,48 +1,42 @@
 -- The bytes of a script say that script.
-use Rattle.std.proofs.Common.{◌≡◌, ℕ, zero, suc, ◌+◌, ◌*◌, ◌<◌, ◌≤◌, ◌^◌, Bool, true, false, cond, eqb, List, [], ◌∷◌, ◌++◌, length, map, Option, Some, None, Result, Ok, Err, refl, sym, ap, subst, ◌∙◌, append_assoc, arith, bytes_eq, inl, inr, ◌⊎◌}
+use Rattle.std.proofs.Common.{◌≡◌, ℕ, suc, ◌+◌, ◌<◌, ◌≤◌, ◌^◌, Bool, true, false, cond, eqb, List, [], ◌∷◌, ◌++◌, length, Option, Some, Ok, Err, refl, sym, ap, subst, ◌∙◌, append_assoc, arith, bytes_eq, inl, inr}
 use Rattle.std.specs.Prelude.{◌&&◌, ◌||◌, ◌-◌, not, codes, decimal, flat_map, sum_by, nat_le, nat_lt, IsTrue, unwrap_or, slice_get}
 use Rattle.std.specs.Fmt.{digits}
 use Rattle.std.specs.List.{list_any, list_all}
 use Rattle.std.proofs.lemmas.Bool.Decides.{nat_tests}
 use Rattle.std.proofs.lemmas.List.{append-nil}
 use Rattle.std.proofs.lemmas.List.Concat.{flat_map-cons}
-use Rattle.std.proofs.lemmas.List.Sums.{sum_by-cons}
 use Rattle.ttm_base.specs.declared.Actor.{Actor}
 use Rattle.journal_model.specs.declared.script.Script.{Script}
 use Rattle.journal_model.specs.declared.script.Sizes.{Sizes}
 use Rattle.journal_model.specs.declared.script.Decl.{Decl}
 use Rattle.journal_model.specs.declared.script.Command.{Command}
 use Rattle.journal_model.specs.declared.line.Progress.{Progress}
-use Rattle.journal_model.specs.declared.line.Phase.{Phase}
 use Rattle.journal_model.specs.declared.line.Phase.TheVariants as phase
 use Rattle.journal_model.specs.declared.line.Keyword.{Keyword}
 use Rattle.journal_model.specs.declared.line.Keyword.TheVariants as key
 use Rattle.journal_model.specs.declared.line.Line.{Line}
 use Rattle.journal_model.specs.declared.line.Line.TheVariants as line_of
-use Rattle.journal_model.specs.declared.line.ActorWord.{ActorWord}
-use Rattle.journal_model.specs.declared.line.ActorWord.TheVariants as read_as
-use Rattle.journal_model.specs.Words.{Text, line, actor_word}
+use Rattle.journal_model.specs.Words.{Text, line}
 use Rattle.journal_model.specs.Cut.{lines_of}
-use Rattle.journal_model.specs.Spelling.{buffer_line, turn_line, spelling}
+use Rattle.journal_model.specs.Spelling.{buffer_line, turn_line}
 use Rattle.journal_model.specs.CommandRules.{is_between, is_command, command_len}
 use Rattle.journal_model.specs.MarkRules.{have_marks, has_few_lines, are_in_order, is_in_thread}
 use Rattle.journal_model.specs.Commands.{commands_of}
 use Rattle.ttm_base.specs.ListWords.{count_from}
 use Rattle.journal_model.specs.Complete.{thread_numbers}
-use Rattle.journal_model.specs.ScriptRules.{has_sizes, is_decl, has_distinct_names, same_text, is_actor, is_turn_line, is_script, IsScript}
-use Rattle.journal_model.specs.Reading.{names_of, number_in, actor_of}
-use Rattle.journal_model.specs.LineWords.{keyword_of, may_come, parts_of, is_no_actor}
-use Rattle.journal_model.specs.LineRules.{is_broken_actor, is_missing_actor}
-use Rattle.journal_model.specs.FirstFault.{with_line, with_job, onto_last, actor_in, nothing_read, script_from, script_of, after_words}
-use Rattle.script_law.specs.ScriptLaws.{IsPlainScript, ReadsScripts}
-use Rattle.script_law.proofs.NumberLaws.{number_again, between, is_in}
+use Rattle.journal_model.specs.ScriptRules.{has_sizes, is_decl, has_distinct_names, same_text, is_turn_line, is_script}
+use Rattle.journal_model.specs.Reading.{names_of, number_in}
+use Rattle.journal_model.specs.LineWords.{keyword_of, may_come, parts_of}
+use Rattle.journal_model.specs.FirstFault.{with_line, nothing_read, script_from}
+use Rattle.script_law.specs.ScriptLaws.{ReadsScripts}
+use Rattle.script_law.proofs.NumberLaws.{number_again}
 use Rattle.script_law.proofs.LineLaws.{made, Breaks_none}
 use Rattle.script_law.proofs.AgainLaws.{turned}
 use Rattle.script_law.proofs.BufferSteps.{same_is}
 use Rattle.script_law.proofs.HeadSteps.{at, kind_word, sizes_fit}
-use Rattle.script_law.proofs.Sound.{frame, first, second, third, fourth, fifth, sixth, six, command_text, thread_text, body}
-use Rattle.script_law.proofs.ListFacts.{both, joint, le_is, length_map, length_more, has_few, put_last, onto_is}
-use Rattle.script_law.proofs.NamesAgain.{IsNamed, actor_again, actor_solid}
+use Rattle.script_law.proofs.Sound.{frame, first, second, third, fourth, fifth, sixth, six, thread_text, body}
+use Rattle.script_law.proofs.ListFacts.{both, joint, le_is, has_few}
 use Rattle.script_law.proofs.ThreadsAgain.{threads_run, turns_run, end_runs}
 use Rattle.script_law.proofs.BufferAgain.{MayDeclare, decl_is, buffer_runs, one_or_two}
 use Rattle.script_law.proofs.LineRuns.{Runs, runs_none, runs_both, line_runs, says, keeps_all}

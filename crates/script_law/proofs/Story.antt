@@ -1,11 +1,8 @@
 -- What follows from the two laws on reading.
 use Rattle.std.proofs.Common.{◌≡◌, ℕ, Option, Some, None, Result, Ok, Err, refl, sym, ap, ◌∙◌}
-use Rattle.std.specs.Prelude.{◌↔◌}
 use Rattle.journal_model.specs.declared.script.Script.{Script}
-use Rattle.journal_model.specs.Words.{Text}
-use Rattle.journal_model.specs.ScriptRules.{IsScript}
-use Rattle.journal_model.specs.FirstFault.{script_of, first_fault}
-use Rattle.script_law.specs.ScriptLaws.{IsPlainScript, OneSpelling, OneValue, FaultWhereNoScript}
+use Rattle.journal_model.specs.FirstFault.{script_of}
+use Rattle.script_law.specs.ScriptLaws.{OneSpelling, OneValue, FaultWhereNoScript}
 use Rattle.script_law.proofs.TakesScript.{takes_scripts}
 use Rattle.script_law.proofs.ReadsScript.{reads_scripts}
 

@@ -1,27 +1,21 @@
 -- The words of a job are those of its operations, with a lone semicolon between each two.
-use Rattle.std.proofs.Common.{◌≡◌, ℕ, ◌+◌, ◌*◌, ◌<◌, Bool, true, false, cond, List, [], ◌∷◌, ◌++◌, length, map, Option, Some, None, refl, sym, ap, subst, ◌∙◌, arith, bytes_eq}
-use Rattle.std.specs.Prelude.{◌||◌, ◌&&◌, codes, decimal, is_none, unwrap_or}
+use Rattle.std.proofs.Common.{◌≡◌, ℕ, ◌+◌, ◌*◌, ◌<◌, Bool, true, false, cond, List, [], ◌∷◌, ◌++◌, length, map, Option, Some, None, refl, sym, ap, ◌∙◌, arith, bytes_eq}
+use Rattle.std.specs.Prelude.{◌||◌, ◌&&◌, codes, decimal, is_none}
 use Rattle.std.specs.List.{list_any}
-use Rattle.ttm_base.specs.declared.Op.{Op}
-use Rattle.ttm_base.specs.declared.Mem.{Mem}
 use Rattle.journal_model.specs.declared.script.Script.{Script}
-use Rattle.journal_model.specs.declared.script.Command.TheVariants as command
-use Rattle.journal_model.specs.declared.line.Progress.{Progress}
-use Rattle.journal_model.specs.declared.line.Line.{Line}
-use Rattle.journal_model.specs.declared.line.Line.TheVariants as line
 use Rattle.journal_model.specs.declared.line.OpWord.{OpWord}
 use Rattle.journal_model.specs.declared.line.OpWord.TheVariants as op_word
-use Rattle.journal_model.specs.Words.{Text, name_of, hex_byte, mem_word}
+use Rattle.journal_model.specs.Words.{Text, name_of, hex_byte}
 use Rattle.journal_model.specs.Cut.{onto, cut_by, is_semicolon}
-use Rattle.journal_model.specs.Spelling.{op_words, parted, command_words}
-use Rattle.journal_model.specs.Reading.{known, names_of, offset_of, byte_of, is_hex, hex_value, mem_of}
-use Rattle.journal_model.specs.LineWords.{op_of, is_no_op, ops_of, move_line}
+use Rattle.journal_model.specs.Spelling.{op_words, parted}
+use Rattle.journal_model.specs.Reading.{known, names_of, offset_of, byte_of, is_hex, hex_value}
+use Rattle.journal_model.specs.LineWords.{op_of, is_no_op, ops_of}
 use Rattle.journal_model.specs.LineRules.{lacks_number_in_op, lacks_name_in_op, lacks_byte_in_op}
-use Rattle.journal_model.specs.FirstFault.{or_zero, or_first, op_in, first_word}
+use Rattle.journal_model.specs.FirstFault.{or_zero, or_first, op_in}
 use Rattle.script_law.proofs.CutLaws.{cut_some}
-use Rattle.script_law.proofs.WordLaws.{bytes_are, mem_is, IsMemOf}
+use Rattle.script_law.proofs.WordLaws.{bytes_are}
 use Rattle.script_law.proofs.HexLaws.{two_digits}
-use Rattle.script_law.proofs.LineLaws.{made, either, offset_word, name_word, Breaks_none, IsSaid}
+use Rattle.script_law.proofs.LineLaws.{either, offset_word, name_word}
 
 parted_onto : (x : Text) (parts : List (List Text)) → parted (onto x parts) ≡ x ∷ parted parts
 parted_onto x [] = refl

@@ -1,13 +1,10 @@
 -- What the lines say is a script with these bytes.
-use Rattle.std.proofs.Common.{◌≡◌, ℕ, ◌+◌, ◌-◌, ◌<◌, ◌≤◌, ◌^◌, Bool, true, false, cond, eqb, List, [], ◌∷◌, ◌++◌, length, map, Option, Some, None, Result, Ok, Err, refl, sym, ap, subst, ◌∙◌, append_assoc, arith}
-use Rattle.std.specs.Prelude.{◌&&◌, ◌||◌, not, codes, flat_map, sum_by, filter, nat_le, nat_lt, slice_get, unwrap_or, IsTrue}
-use Rattle.std.specs.List.{list_any, list_all, enumerate_from, filter_map}
-use Rattle.std.proofs.lemmas.Bool.Decides.{nat_tests}
+use Rattle.std.proofs.Common.{◌≡◌, ℕ, ◌+◌, Bool, true, false, cond, List, [], ◌∷◌, ◌++◌, Option, Some, None, Result, Ok, Err, refl, sym, ap, subst, ◌∙◌, append_assoc}
+use Rattle.std.specs.Prelude.{◌||◌, not, flat_map}
+use Rattle.std.specs.List.{list_any}
 use Rattle.std.proofs.lemmas.List.{append-nil}
 use Rattle.std.proofs.lemmas.List.Concat.{flat_map-cons}
 use Rattle.journal_model.specs.declared.script.Script.{Script}
-use Rattle.journal_model.specs.declared.script.Command.{Command}
-use Rattle.journal_model.specs.declared.script.MarkKind.{MarkKind}
 use Rattle.journal_model.specs.declared.line.Progress.{Progress}
 use Rattle.journal_model.specs.declared.line.Phase.{Phase}
 use Rattle.journal_model.specs.declared.line.Phase.TheVariants as phase
@@ -15,18 +12,18 @@ use Rattle.journal_model.specs.declared.line.Keyword.{Keyword}
 use Rattle.journal_model.specs.declared.line.Keyword.TheVariants as key
 use Rattle.journal_model.specs.declared.line.Line.{Line}
 use Rattle.journal_model.specs.Words.{Text, line}
-use Rattle.journal_model.specs.Cut.{onto, cut_at, lines_of}
+use Rattle.journal_model.specs.Cut.{cut_at}
 use Rattle.journal_model.specs.LineWords.{keyword_of, may_come, parts_of, line_of, is_empty}
 use Rattle.journal_model.specs.LineRules.{rule_broken}
-use Rattle.journal_model.specs.FirstFault.{first_word, with_line, unless_broken, fault_of_parts, after_words, after_line, breaks_text, ends_line, without_end, is_over, nothing_read, script_from, script_of}
+use Rattle.journal_model.specs.FirstFault.{first_word, with_line, unless_broken, fault_of_parts, after_words, after_line, breaks_text, ends_line, without_end, is_over, script_from}
 use Rattle.script_law.proofs.WordLaws.{IsWordOf, keyword_is}
-use Rattle.script_law.proofs.LineLaws.{made, either, breaks_none, Breaks_none}
+use Rattle.script_law.proofs.LineLaws.{made, breaks_none, Breaks_none}
 use Rattle.script_law.proofs.TextLaws.{text_is_line}
 use Rattle.script_law.proofs.CommandSteps.{command_step, plain_tells, write_tells, read_tells, move_tells, touch_tells, submit_tells, not_false}
 use Rattle.script_law.proofs.BufferSteps.{buffer_step, buffer_says}
 use Rattle.script_law.proofs.LastSteps.{thread_from_buffers, thread_from_threads, turn_from_buffers, turn_from_threads, turn_from_turns, end_from_buffers, end_from_threads, end_from_turns, few_seats}
 use Rattle.script_law.proofs.HeadSteps.{at, version_step, vram_step, tt_step, frames_step, swap_step, engines_step}
-use Rattle.script_law.proofs.Sound.{Sound, text_of, Grows, IsEarly}
+use Rattle.script_law.proofs.Sound.{Sound, text_of, Grows}
 
 -- ---- a line
 
@@ -126,7 +123,10 @@ goes (Ok next) p n text texts s h e rest r =
     let g = line_grows p next text h e in
     let z = rest next g.sound r in
     record {
-      q = z.q; sound = z.sound; over = z.over; is = z.is;
+      q = z.q;
+      sound = z.sound;
+      over = z.over;
+      is = z.is;
       more = z.more ∙ ap (λ t. t ++ all_of texts) g.more ∙ append_assoc (text_of p) text (all_of texts) ∙ ap (λ t. text_of p ++ t) (sym (flat_map-cons (λ t. t) text texts));
     }
 

@@ -1,9 +1,8 @@
 -- What the lines say is a script with these bytes.
-use Rattle.std.proofs.Common.{◌≡◌, ℕ, ◌+◌, ◌<◌, ◌≤◌, Bool, true, false, cond, eqb, List, [], ◌∷◌, ◌++◌, length, Result, Ok, Err, refl, sym, ap, subst, ◌∙◌, append_assoc, arith}
+use Rattle.std.proofs.Common.{◌≡◌, ℕ, ◌≤◌, Bool, true, false, cond, eqb, List, [], ◌∷◌, ◌++◌, length, Result, Ok, Err, refl, sym, ap, subst, ◌∙◌, arith}
 use Rattle.std.specs.Prelude.{◌&&◌, codes, flat_map, sum_by, nat_le, nat_lt, IsTrue}
 use Rattle.std.specs.List.{list_all}
 use Rattle.std.proofs.lemmas.Bool.Decides.{nat_tests}
-use Rattle.std.proofs.lemmas.List.{append-nil}
 use Rattle.std.proofs.lemmas.List.Concat.{flat_map-cons}
 use Rattle.journal_model.specs.declared.script.Script.{Script}
 use Rattle.journal_model.specs.declared.line.Progress.{Progress}
@@ -14,12 +13,12 @@ use Rattle.journal_model.specs.Cut.{onto, lines_of}
 use Rattle.journal_model.specs.Spelling.{spelling}
 use Rattle.journal_model.specs.CommandRules.{is_between, is_command, command_len}
 use Rattle.journal_model.specs.MarkRules.{have_marks}
-use Rattle.journal_model.specs.ScriptRules.{has_sizes, is_decl, has_distinct_names, is_turn_line, is_script, IsScript}
-use Rattle.journal_model.specs.FirstFault.{is_over, nothing_read, script_from, script_of}
+use Rattle.journal_model.specs.ScriptRules.{has_sizes, is_decl, has_distinct_names, is_turn_line, is_script}
+use Rattle.journal_model.specs.FirstFault.{is_over, nothing_read, script_from}
 use Rattle.script_law.specs.ScriptLaws.{IsPlainScript, TakesScripts}
 use Rattle.script_law.proofs.ListFacts.{is_le}
-use Rattle.script_law.proofs.Sound.{Sound, text, text_of, body, IsEarly}
-use Rattle.script_law.proofs.Takes.{Ends, runs}
+use Rattle.script_law.proofs.Sound.{Sound, text, body}
+use Rattle.script_law.proofs.Takes.{runs}
 use Rattle.script_law.proofs.Unmarked.{plain_spelling, no_marks_fit}
 
 -- ---- the lines of a text are the text
@@ -77,8 +76,20 @@ keeps_rules q h =
 
 nothing_sound : Sound nothing_read
 nothing_sound = record {
-  version = refl; sizes = refl; few_buffers = omega arith; decls = refl; names = refl; few_threads = omega arith; commands = refl; few_lines = refl;
-  lines = refl; lens = refl; short = omega arith; turns = refl; marks = refl; stage = record { buffers = refl; threads = refl; turns = refl };
+  version = refl;
+  sizes = refl;
+  few_buffers = omega arith;
+  decls = refl;
+  names = refl;
+  few_threads = omega arith;
+  commands = refl;
+  few_lines = refl;
+  lines = refl;
+  lens = refl;
+  short = omega arith;
+  turns = refl;
+  marks = refl;
+  stage = record { buffers = refl; threads = refl; turns = refl };
 }
 
 within : (b : Bool) (r : Result Script (ℕ × ℕ)) (s : Script) → (let x : Result Script (ℕ × ℕ) = cond b (Err (0, 1)) r in x ≡ Ok s) → (b ≡ false) × (r ≡ Ok s)

@@ -1,12 +1,10 @@
 -- A line is its words and a line feed.
-use Rattle.std.proofs.Common.{◌≡◌, ℕ, zero, suc, ◌+◌, ◌-◌, ◌<◌, Bool, true, false, cond, eqb, List, [], ◌∷◌, ◌++◌, length, take, drop, Option, Some, None, refl, sym, ap, ◌∙◌, arith}
+use Rattle.std.proofs.Common.{◌≡◌, ℕ, zero, suc, ◌+◌, ◌-◌, Bool, true, false, [], ◌∷◌, ◌++◌, length, take, Option, Some, None, refl, sym, ap, ◌∙◌, arith}
 use Rattle.std.specs.Prelude.{slice_get, ◌||◌, not}
-use Rattle.std.specs.List.{join_with_byte, list_any}
 use Rattle.std.proofs.lemmas.Bool.{eqb-true}
-use Rattle.std.proofs.lemmas.Grind.{common_steps}
 use Rattle.journal_model.specs.Words.{Text, line}
 use Rattle.journal_model.specs.Cut.{cut_at}
-use Rattle.journal_model.specs.FirstFault.{without_end, ends_line, is_line_feed, breaks_text, is_shown}
+use Rattle.journal_model.specs.FirstFault.{without_end, ends_line, is_line_feed}
 use Rattle.script_law.proofs.CutLaws.{joined}
 
 feed : (o : Option ℕ) → is_line_feed o ≡ true → o ≡ Some 10

@@ -1,5 +1,5 @@
 -- Threads and schedules that were written are read.
-use Rattle.std.proofs.Common.{◌≡◌, ℕ, zero, suc, ◌+◌, ◌*◌, ◌<◌, ◌≤◌, ◌^◌, Bool, true, false, cond, eqb, List, [], ◌∷◌, ◌++◌, length, map, Option, Some, None, Result, Ok, Err, refl, sym, ap, subst, ◌∙◌, append_assoc, arith}
+use Rattle.std.proofs.Common.{◌≡◌, ℕ, ◌+◌, ◌<◌, ◌≤◌, ◌^◌, Bool, true, false, cond, List, [], ◌∷◌, ◌++◌, length, map, None, Ok, refl, sym, ap, subst, ◌∙◌, append_assoc, arith}
 use Rattle.std.specs.Prelude.{◌&&◌, ◌||◌, not, codes, flat_map, sum_by, nat_le, nat_lt}
 use Rattle.std.specs.List.{list_any, list_all}
 use Rattle.std.proofs.lemmas.Bool.Decides.{nat_tests}
@@ -13,7 +13,6 @@ use Rattle.journal_model.specs.declared.line.Progress.{Progress}
 use Rattle.journal_model.specs.declared.line.Phase.{Phase}
 use Rattle.journal_model.specs.declared.line.Phase.TheVariants as phase
 use Rattle.journal_model.specs.declared.line.Keyword.TheVariants as key
-use Rattle.journal_model.specs.declared.line.Line.{Line}
 use Rattle.journal_model.specs.declared.line.Line.TheVariants as line_of
 use Rattle.journal_model.specs.declared.line.ActorWord.{ActorWord}
 use Rattle.journal_model.specs.declared.line.ActorWord.TheVariants as read_as
@@ -24,11 +23,11 @@ use Rattle.journal_model.specs.ScriptRules.{is_actor, is_turn_line}
 use Rattle.journal_model.specs.Reading.{actor_of}
 use Rattle.journal_model.specs.LineWords.{may_come, turn_of_actors, is_no_actor}
 use Rattle.journal_model.specs.LineRules.{is_broken_actor, is_missing_actor}
-use Rattle.journal_model.specs.FirstFault.{with_line, with_job, onto_last, actor_in}
+use Rattle.journal_model.specs.FirstFault.{with_line, with_job, actor_in}
 use Rattle.script_law.proofs.LineLaws.{made, Breaks_none}
 use Rattle.script_law.proofs.HeadSteps.{at}
-use Rattle.script_law.proofs.Sound.{frame, command_text, thread_text}
-use Rattle.script_law.proofs.ListFacts.{both, joint, le_is, length_map, length_more, has_few, put_last, onto_is}
+use Rattle.script_law.proofs.Sound.{command_text, thread_text}
+use Rattle.script_law.proofs.ListFacts.{both, joint, le_is, length_map, has_few, put_last, onto_is}
 use Rattle.script_law.proofs.NamesAgain.{IsNamed, actor_again, actor_solid}
 use Rattle.script_law.proofs.CommandAgain.{IsRoom, command_runs}
 use Rattle.script_law.proofs.LineRuns.{Runs, runs_none, runs_both, line_runs, says, keeps_all}
@@ -55,7 +54,9 @@ pub record Past (p : Progress) (t : Text) (s : Script) (total : ℕ) : Type 0 wh
 pub commands_run : (s : Script) (done : List (List Command)) (xs cs : List Command) (n m : ℕ) → IsNamed s → s.sizes.engines < 2 ^ 64 → list_all (is_command s) cs ≡ true → n + length cs ≤ 4096 → m + sum_by command_len cs ≤ 67108864
     → Past (at phase.Threads (threaded s (done ++ xs ∷ [])) n m) (flat_map (command_text s) cs) (threaded s (done ++ (xs ++ cs) ∷ [])) (m + sum_by command_len cs)
 commands_run s done xs [] n m h small k few short = record {
-  n = n; m = m; is = omega arith;
+  n = n;
+  m = m;
+  is = omega arith;
   runs = subst (λ (x : List Command). Runs (at phase.Threads (threaded s (done ++ xs ∷ [])) n m) [] (at phase.Threads (threaded s (done ++ x ∷ [])) n m)) (sym (append-nil xs)) (runs_none _);
 }
 commands_run s done xs (c ∷ cs) n m h small k few short =
@@ -71,7 +72,9 @@ commands_run s done xs (c ∷ cs) n m h small k few short =
     let q : List Command → Progress = λ x. at phase.Threads (threaded s (done ++ x ∷ [])) r.n r.m in
     let total = r.is in
     record {
-      n = r.n; m = r.m; is = omega (arith, total, sum);
+      n = r.n;
+      m = r.m;
+      is = omega (arith, total, sum);
       runs = subst (λ (t : Text). Runs p t (q (xs ++ c ∷ cs))) (sym (flat_map-cons (command_text s) c cs))
           (subst (λ (x : List Command). Runs p (command_text s c ++ flat_map (command_text s) cs) (q x)) (append_assoc xs (c ∷ []) cs)
           (runs_both p next (q ((xs ++ c ∷ []) ++ cs)) (command_text s c) (flat_map (command_text s) cs) first r.runs));
@@ -109,7 +112,12 @@ pub threads_run : (ts : List (List Command)) (s : Script) (done : List (List Com
     → length (done ++ ts) ≤ 16 → list_all has_few ts ≡ true → list_all (list_all (is_command s)) ts ≡ true → m + sum_by (sum_by command_len) ts ≤ 67108864
     → Behind (at ph (threaded s done) n m) (flat_map (thread_text s) ts) (threaded s (done ++ ts))
 threads_run [] s done ph n m c d e h small few each fit short = record {
-  ph = ph; n = n; m = m; schedule = d; last = e; short = omega (arith, short);
+  ph = ph;
+  n = n;
+  m = m;
+  schedule = d;
+  last = e;
+  short = omega (arith, short);
   runs = subst (λ (x : List (List Command)). Runs (at ph (threaded s done) n m) [] (at ph (threaded s x) n m)) (sym (append-nil done)) (runs_none _);
 }
 threads_run (cs ∷ ts) s done ph n m c d e h small few each fit short =
@@ -129,7 +137,12 @@ threads_run (cs ∷ ts) s done ph n m c d e h small few each fit short =
     let z = threads_run ts s (done ++ cs ∷ []) phase.Threads r.n r.m refl refl refl h small (subst (λ (x : List (List Command)). length x ≤ 16) (sym regroup) few) f.1 g.1 (omega (arith, short, sum, total)) in
     let q : List (List Command) → Progress = λ x. at z.ph (threaded s x) z.n z.m in
     record {
-      ph = z.ph; n = z.n; m = z.m; schedule = z.schedule; last = z.last; short = z.short;
+      ph = z.ph;
+      n = z.n;
+      m = z.m;
+      schedule = z.schedule;
+      last = z.last;
+      short = z.short;
       runs = subst (λ (t : Text). Runs p t (q (done ++ cs ∷ ts))) (sym (flat_map-cons (thread_text s) cs ts))
           (subst (λ (x : List (List Command)). Runs p (thread_text s cs ++ flat_map (thread_text s) ts) (q x)) regroup
           (runs_both p over (q ((done ++ cs ∷ []) ++ ts)) (thread_text s cs) (flat_map (thread_text s) ts) thread z.runs));
@@ -180,7 +193,12 @@ turn_runs ph s n m xs c t e h short =
 pub turns_run : (xs : List (List Actor)) (s : Script) (done : List (List Actor)) (ph : Phase) (n m : ℕ) → may_come ph key.Schedule ≡ true → may_come ph key.End ≡ true → length s.threads < 2 ^ 64 → s.sizes.engines < 2 ^ 64
     → list_all (is_turn_line s) xs ≡ true → m ≤ 67108864 → Behind (at ph (steered s done) n m) (flat_map turn_line xs) (steered s (done ++ xs))
 turns_run [] s done ph n m c d t e h short = record {
-  ph = ph; n = n; m = m; schedule = c; last = d; short = short;
+  ph = ph;
+  n = n;
+  m = m;
+  schedule = c;
+  last = d;
+  short = short;
   runs = subst (λ (x : List (List Actor)). Runs (at ph (steered s done) n m) [] (at ph (steered s x) n m)) (sym (append-nil done)) (runs_none _);
 }
 turns_run (x ∷ xs) s done ph n m c d t e h short =
@@ -191,7 +209,12 @@ turns_run (x ∷ xs) s done ph n m c d t e h short =
     let z = turns_run xs s (done ++ x ∷ []) phase.Turns n m refl refl t e f.1 short in
     let q : List (List Actor) → Progress = λ y. at z.ph (steered s y) z.n z.m in
     record {
-      ph = z.ph; n = z.n; m = z.m; schedule = z.schedule; last = z.last; short = z.short;
+      ph = z.ph;
+      n = z.n;
+      m = z.m;
+      schedule = z.schedule;
+      last = z.last;
+      short = z.short;
       runs = subst (λ (w : Text). Runs p w (q (done ++ x ∷ xs))) (sym (flat_map-cons turn_line x xs))
           (subst (λ (y : List (List Actor)). Runs p (turn_line x ++ flat_map turn_line xs) (q y)) (append_assoc done (x ∷ []) xs)
           (runs_both p next (q ((done ++ x ∷ []) ++ xs)) (turn_line x) (flat_map turn_line xs) first z.runs));

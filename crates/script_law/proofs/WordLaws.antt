@@ -1,9 +1,9 @@
 -- Words are spelled as they were read, and read as they are spelled.
-use Rattle.std.proofs.Common.{◌≡◌, ℕ, zero, suc, ◌+◌, ◌-◌, ◌*◌, ◌<◌, ◌≤◌, ◌^◌, Bool, true, false, cond, eqb, ltb, List, [], ◌∷◌, length, map, Option, Some, None, refl, sym, ap, subst, ◌∙◌, arith, inl, inr, bytes_eq}
-use Rattle.std.specs.Prelude.{◌&&◌, ◌||◌, ◌/◌, ◌%◌, not, codes, decimal, option_map, position, slice_get, unwrap_or, nat_lt, flat_map}
-use Rattle.std.specs.List.{list_all, position_or_len, prefix_len}
+use Rattle.std.proofs.Common.{◌≡◌, ℕ, zero, suc, ◌+◌, ◌<◌, Bool, true, false, cond, List, [], ◌∷◌, length, map, Option, Some, None, refl, sym, ap, subst, ◌∙◌, arith, bytes_eq}
+use Rattle.std.specs.Prelude.{not, codes, option_map, slice_get, unwrap_or, nat_lt}
+use Rattle.std.specs.List.{position_or_len}
 use Rattle.std.proofs.lemmas.Slice.Eq.{bytes_eq-Decides}
-use Rattle.std.proofs.lemmas.Bool.{cases_lt, ltb-true}
+use Rattle.std.proofs.lemmas.Bool.{ltb-true}
 use Rattle.ttm_base.specs.declared.BufId.{BufId}
 use Rattle.ttm_base.specs.declared.Mem.{Mem}
 use Rattle.ttm_base.specs.declared.Mem.TheVariants.{System, Tt, Vram}
@@ -14,7 +14,7 @@ use Rattle.journal_model.specs.declared.line.Keyword.TheVariants as key
 use Rattle.journal_model.specs.declared.line.Verb.{Verb}
 use Rattle.journal_model.specs.declared.line.Verb.TheVariants as verb
 use Rattle.journal_model.specs.Words.{Text, mem_word, name_of}
-use Rattle.journal_model.specs.Commands.{decl, undeclared}
+use Rattle.journal_model.specs.Commands.{undeclared}
 use Rattle.journal_model.specs.Reading.{known, names_of, mem_of}
 use Rattle.journal_model.specs.LineWords.{keyword_of, command_keyword_of, verb_of, or_other}
 

@@ -1,6 +1,6 @@
 -- The laws that make the spelling of a script and the first fault of its bytes one story. They speak of scripts without
 -- marks, as the first fault does.
-use Rattle.std.specs.Prelude.{◌≡◌, ◌↔◌, ℕ, List, [], Option, None, Result, Ok}
+use Rattle.std.specs.Prelude.{◌≡◌, ◌↔◌, [], None, Ok}
 use Rattle.journal_model.specs.declared.script.Script.{Script}
 use Rattle.journal_model.specs.Words.{Text}
 use Rattle.journal_model.specs.ScriptRules.{IsScript}
