@@ -4,6 +4,11 @@ use Rattle.std.specs.Prelude.{IfOk, IsOk}
 use Rattle.journal_model.specs.declared.script.Script.{Script}
 use Rattle.script_text.specs.declared.ScriptFault.{ScriptFault}
 use Rattle.script_text.specs.declared.ScriptFault.TheVariants as fault
+use Rattle.journal_model.specs.Words.{Text}
+use Rattle.journal_model.specs.FirstFault.{script_of}
+use Rattle.script_law.specs.ScriptLaws.{IsPlainScript}
+use Rattle.script_law.proofs.TakesScript.{takes_scripts}
+use Rattle.script_law.proofs.ReadsScript.{reads_scripts}
 use Rattle.script_text.specs.Steps.{Gives}
 
 abbrev pub fault_of : Result Script (ℕ × ℕ) → Option (ℕ × ℕ)
@@ -42,3 +47,27 @@ takes (Ok script) read h e = inl refl
 takes (Err fault.NoMemory) read h e = inr refl
 takes (Err (fault.Bad l k)) (Ok s) h e = absurd cc
 takes (Err (fault.Bad l k)) (Err f) h e = absurd cc
+
+-- ---- the spelling
+
+pub spells : (bytes : Text) (r : Result Script ScriptFault) → Gives r (script_of bytes) → IfOk r (λ script. IsPlainScript bytes script)
+spells bytes (Ok script) h = takes_scripts bytes script h
+spells bytes (Err e) h = tt
+
+same_script : (read : Result Script (ℕ × ℕ)) (s t : Script) → read ≡ Ok s → read ≡ Ok t → s ≡ t
+same_script (Ok x) s t h k = let a : x ≡ s = cc in let b : x ≡ t = cc in sym a ∙ b
+same_script (Err e) s t h k = absurd cc
+
+no_fault : (read : Result Script (ℕ × ℕ)) (s : Script) (l k : ℕ) → read ≡ Ok s → read ≡ Err (l, k) → ⊥
+no_fault (Ok x) s l k h e = absurd cc
+no_fault (Err x) s l k h e = absurd cc
+
+pub reads_spelling : (bytes : Text) (r : Result Script ScriptFault) (s : Script) → Gives r (script_of bytes) → IsPlainScript bytes s → (r ≡ Ok s) ⊎ (r ≡ Err fault.NoMemory)
+reads_spelling bytes (Ok t) s h k = inl (ap (λ x. Ok x) (same_script (script_of bytes) t s h (reads_scripts bytes s k)))
+reads_spelling bytes (Err fault.NoMemory) s h k = inr refl
+reads_spelling bytes (Err (fault.Bad line rule)) s h k = absurd (no_fault (script_of bytes) s line rule (reads_scripts bytes s k) h)
+
+pub no_spelling : (bytes : Text) (r : Result Script ScriptFault) (line rule : ℕ) (s : Script) → Gives r (script_of bytes) → r ≡ Err (fault.Bad line rule) → IsPlainScript bytes s → ⊥
+no_spelling bytes (Ok t) line rule s h e k = absurd cc
+no_spelling bytes (Err fault.NoMemory) line rule s h e k = absurd cc
+no_spelling bytes (Err (fault.Bad l j)) line rule s h e k = no_fault (script_of bytes) s l j (reads_scripts bytes s k) h

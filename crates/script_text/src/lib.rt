@@ -4,6 +4,7 @@
 ghost use Rattle.std.specs.Prelude.{◌≡◌, ◌≤◌, ℕ, ◌⊎◌, Some, None, Ok, Err, IfOk, IsOk, length};
 ghost use Rattle.journal_model.specs.FirstFault.{script_of, first_fault, script_from, nothing_read};
 ghost use Rattle.journal_model.specs.Cut.{lines_of};
+ghost use Rattle.script_law.specs.ScriptLaws.{IsPlainScript};
 ghost use Rattle.script_text.specs.Steps.{Gives};
 
 use journal_model::Script;
@@ -64,12 +65,17 @@ fn read_all(alloc: Global, bytes: &[u8]) -> Result<Script, ScriptFault>
     read_lines(alloc, bytes)
 }
 
-/// Reads a script, or finds its first broken line and on it the least broken rule.
+/// Reads a script, or finds its first broken line and on it the least broken rule. Lines that map buffers or speak of
+/// addresses aren't read yet: they break rule 3.
 pub fn read_script(alloc: Global, bytes: &[u8]) -> Result<Script, ScriptFault>
-    // What is read is what the lines say.
+    // What is read is what the lines say, and the bytes are its spelling.
     ensures ok { IfOk result (λ script. script_of bytes.now ≡ Ok script) }
-    // A fault is the first one, and on its line the least.
+    ensures spelled { IfOk result (λ script. IsPlainScript bytes.now script) }
+    // The spelling of a script is read, unless memory runs out.
+    ensures reads { (script : Script) → IsPlainScript bytes.now script → (result ≡ Ok script) ⊎ (result ≡ Err ScriptFault.NoMemory) }
+    // A fault is the first one, and on its line the least; then the bytes are the spelling of no script.
     ensures bad { (line rule : ℕ) → result ≡ Err (ScriptFault.Bad line rule) → first_fault bytes.now ≡ Some (line, rule) }
+    ensures no_script { (line rule : ℕ) (script : Script) → result ≡ Err (ScriptFault.Bad line rule) → ¬ IsPlainScript bytes.now script }
     // Bytes with a fault aren't read, unless memory runs out first.
     ensures found { (line rule : ℕ) → first_fault bytes.now ≡ Some (line, rule)
         → (result ≡ Err (ScriptFault.Bad line rule)) ⊎ (result ≡ Err ScriptFault.NoMemory) }
