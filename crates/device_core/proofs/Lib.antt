@@ -1,1 +1,3 @@
 pub mod ReadyLaws
+pub mod DeviceLaws
+pub mod DoneGrows

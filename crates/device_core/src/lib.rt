@@ -1,2 +1,8 @@
-//! A memory manager with the journal of what it did.
+//! A memory manager with the journal of what it did: each turn of an actor makes the entry that is legal next, if there is one.
 #![tactic(auto)]
+
+
+
+
+
+
