@@ -2,3 +2,7 @@
 #![tactic(auto)]
 
 mod room;
+mod rooms;
+mod pages;
+
+pub use pages::StorePage;
