@@ -1,2 +1,4 @@
 pub mod RoomLaws
 pub mod KeptLaws
+pub mod MapLaws
+pub mod PutLaws

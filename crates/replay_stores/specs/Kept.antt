@@ -11,9 +11,9 @@ has_page sizes (vram p) = nat_lt p sizes.vram
 has_page sizes (frame f) = nat_lt f sizes.frames
 has_page sizes (slot k) = nat_lt k sizes.swap
 
--- the bytes of the pages that there are, and zeros elsewhere
-abbrev pub within : Sizes → PageBytes → PageBytes
-within sizes bytes = λ page o. if has_page sizes page && nat_lt o 4096 then bytes page o else 0
+-- these bytes where there are pages; elsewhere nothing changes
+abbrev pub within : Sizes → PageBytes → PageBytes → PageBytes
+within sizes bytes old = λ page o. if has_page sizes page && nat_lt o 4096 then bytes page o else old page o
 
 -- the bytes of three lists
 abbrev pub bytes_in : (vram_room frame_room slot_room : List ℕ) → PageBytes
@@ -39,11 +39,7 @@ pub record KeptBytes : Type 0 where
 abbrev pub bytes_of : KeptBytes → PageBytes
 bytes_of k = bytes_in k.vram k.frames k.slots
 
--- zeros everywhere
-abbrev pub zero_bytes : PageBytes
-zero_bytes = λ page o. 0
-
--- the sizes stay, and the bytes are these where there are pages, and zeros elsewhere
+-- the sizes stay, and the bytes of all pages that there are become these; elsewhere nothing changes
 pub record BecomesBytes (old new : KeptBytes) (bytes : PageBytes) : Type 0 where
   pub same_sizes : new.sizes ≡ old.sizes
-  pub bytes_are : bytes_of new ≡ within old.sizes bytes
+  pub bytes_are : bytes_of new ≡ within old.sizes bytes (bytes_of old)

@@ -1,3 +1,4 @@
 pub mod Room
 pub mod Kept
 pub mod StorePages
+pub mod Maps

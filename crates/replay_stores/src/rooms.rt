@@ -1,7 +1,8 @@
 ghost use Rattle.std.specs.Prelude.{◌≡◌, ℕ, ◌+◌, ◌<◌, Some, length, slice_index, IfOk};
 ghost use Rattle.ttm_base.specs.Pages.{with_bytes};
+ghost use Rattle.journal_model.specs.Stores.{zeros};
 ghost use Rattle.replay_stores.specs.StorePages.{page_of};
-ghost use Rattle.replay_stores.specs.Kept.{BecomesBytes, bytes_of, zero_bytes};
+ghost use Rattle.replay_stores.specs.Kept.{BecomesBytes, bytes_of};
 
 use crate::pages::StorePage;
 use crate::room::Room;
@@ -33,7 +34,7 @@ impl Rooms {
     /// Zeros in so many pages, frames and slots.
     pub fn new(alloc: Global, sizes: Sizes) -> Result<Rooms, NoMemory>
         ensures sizes { IfOk result (λ s. s.sizes ≡ sizes) }
-        ensures bytes { IfOk result (λ s. bytes_of s ≡ zero_bytes) }
+        ensures bytes { IfOk result (λ s. bytes_of s ≡ zeros) }
     {
         Ok(Rooms {
             sizes,
