@@ -2,3 +2,4 @@ pub mod RoomLaws
 pub mod KeptLaws
 pub mod MapLaws
 pub mod PutLaws
+pub mod EntryLaws

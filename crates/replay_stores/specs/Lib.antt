@@ -2,3 +2,4 @@ pub mod Room
 pub mod Kept
 pub mod StorePages
 pub mod Maps
+pub mod Writes

@@ -1,10 +1,11 @@
 //! The bytes of VRAM, of frames and of swap slots, as plain lists: what an entry does to them, and what it shows of them.
 #![tactic(auto)]
 
+mod entries;
 mod pages;
 mod parts;
 mod room;
-mod rooms;
+mod shown;
 mod stores;
 
 pub use pages::StorePage;

@@ -1,6 +1,6 @@
 use Rattle.std.proofs.Common.{◌∙◌, ◌<◌, length, arith}
 use Rattle.replay_stores.proofs.KeptLaws.{becomes_cut}
-use Rattle.replay_stores.proofs.parts.copy_part.Goals as goal
+use Rattle.replay_stores.proofs.parts.copy_through.Goals as goal
 
 pub returns : goal.returns
 returns c =

@@ -1,7 +1,7 @@
 use Rattle.std.proofs.Common.{◌*◌, ◌≡◌, replicate, ap, ◌∙◌}
 use Rattle.replay_stores.specs.Kept.{bytes_in}
 use Rattle.replay_stores.proofs.KeptLaws.{bytes_in-zeros}
-use Rattle.replay_stores.proofs.rooms.Rooms.new.Goals as goal
+use Rattle.replay_stores.proofs.stores.PlainStores.new.Goals as goal
 
 pub returns-clause-bytes : goal.returns-clause-bytes
 returns-clause-bytes c =

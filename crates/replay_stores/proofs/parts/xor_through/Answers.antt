@@ -3,11 +3,11 @@ use Rattle.std.specs.Prelude.{bit_xor, slice_index}
 use Rattle.replay_stores.specs.StorePages.{page_of}
 use Rattle.replay_stores.specs.Kept.{bytes_of}
 use Rattle.replay_stores.proofs.KeptLaws.{becomes_cut}
-use Rattle.replay_stores.proofs.parts.xor_part.Goals as goal
+use Rattle.replay_stores.proofs.parts.xor_through.Goals as goal
 
 pub returns : goal.returns
 returns c =
-    let value = λ (i : ℕ). bit_xor (bytes_of c.args.rooms.now (page_of c.args.to.page) (c.args.to.off + i)) (bytes_of c.args.rooms.now (page_of c.args.from.page) (c.args.from.off + i)) in
+    let value = λ (i : ℕ). bit_xor (bytes_of c.args.stores.now (page_of c.args.to.page) (c.args.to.off + i)) (bytes_of c.args.stores.now (page_of c.args.from.page) (c.args.from.off + i)) in
     becomes_cut _ _ _ _ _ _ (slice_index c.xor_into.new.bytes) value c.write.ensures (c.xor_into.auto.bytes ∙ c.read.auto.into ∙ c.requires.through)
     (λ i h.
       let first : i < length c.read.new.into = omega arith in
