@@ -7,7 +7,7 @@ use Rattle.ttm_base.specs.ListWords.{count_from}
 use Rattle.replay_state.proofs.PageLaws.{count_from-push}
 
 -- a count in two parts
-count_from-split : (a b start : ℕ) → count_from 1 (a + b) start ≡ count_from 1 a start ++ count_from 1 b (start + a)
+pub count_from-split : (a b start : ℕ) → count_from 1 (a + b) start ≡ count_from 1 a start ++ count_from 1 b (start + a)
 count_from-split zero b start = grind (arith, common_steps)
 count_from-split (suc a) b start =
     let sum : suc a + b ≡ suc (a + b) = omega arith in

@@ -1,0 +1,5 @@
+pub mod Least
+pub mod Marks
+pub mod Fits
+pub mod Candidates
+pub mod Starts
