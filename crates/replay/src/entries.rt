@@ -4,28 +4,9 @@ ghost use Rattle.replay.specs.Ready.{IsReady};
 
 use crate::{commands, jobs, moves, pages, searches, tickets, victims};
 use journal_model::{Entry, Kind, Script, State};
+use replay_parts::actors::{engine_of, thread_of};
 use std::alloc::Global;
-use ttm_base::{Actor, NoMemory};
-
-/// The thread of an actor, or 0.
-fn thread_of(who: Actor) -> u32
-    ensures { result ≡ words.thread_of who }
-{
-    match who {
-        Actor::Thread(t) => t,
-        Actor::Engine(_) | Actor::Reaper => 0,
-    }
-}
-
-/// The context of an actor, or 0.
-fn engine_of(who: Actor) -> u32
-    ensures { result ≡ words.engine_of who }
-{
-    match who {
-        Actor::Engine(e) => e,
-        Actor::Thread(_) | Actor::Reaper => 0,
-    }
-}
+use ttm_base::NoMemory;
 
 /// The state after an entry that is legal next.
 pub fn apply(

@@ -1,3 +1,4 @@
 pub mod CauseLaws
 pub mod LastLaws
 pub mod ThreadLaws
+pub mod RoomLaws

@@ -2,6 +2,7 @@
 //! in eviction order, by memory type and priority (ttm_lru_item, ttm_lru_bulk_move).
 #![tactic(auto)]
 
+pub mod actors;
 pub mod buffers;
 pub mod courses;
 pub mod grips;

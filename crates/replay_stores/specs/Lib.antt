@@ -1,2 +1,5 @@
 pub mod Room
 pub mod Kept
+pub mod StorePages
+pub mod Maps
+pub mod Writes

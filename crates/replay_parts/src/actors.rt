@@ -1,0 +1,24 @@
+ghost use Rattle.std.specs.Prelude.{◌≡◌};
+ghost use Rattle.journal_model.specs.Apply as words;
+
+use ttm_base::Actor;
+
+/// The thread of an actor, or 0.
+pub fn thread_of(who: Actor) -> u32
+    ensures { result ≡ words.thread_of who }
+{
+    match who {
+        Actor::Thread(t) => t,
+        Actor::Engine(_) | Actor::Reaper => 0,
+    }
+}
+
+/// The context of an actor, or 0.
+pub fn engine_of(who: Actor) -> u32
+    ensures { result ≡ words.engine_of who }
+{
+    match who {
+        Actor::Engine(e) => e,
+        Actor::Thread(_) | Actor::Reaper => 0,
+    }
+}
