@@ -1,22 +1,16 @@
 -- What is spelled is read: names, bytes, and a line of each of some kinds.
 use Rattle.std.proofs.Common.{◌≡◌, ℕ, zero, suc, ◌+◌, ◌*◌, ◌<◌, ◌≤◌, Bool, true, false, cond, List, [], ◌∷◌, Option, Some, None, refl, sym, ap, ◌∙◌, arith, bytes_eq}
-use Rattle.std.specs.Prelude.{◌&&◌, ◌||◌, ◌/◌, ◌%◌, not, decimal, option_map, slice_get}
+use Rattle.std.specs.Prelude.{◌&&◌, ◌/◌, ◌%◌, not, decimal, option_map, slice_get}
 use Rattle.std.specs.List.{list_all, list_any, position_or_len}
 use Rattle.std.specs.Char.{digit_char}
 use Rattle.std.proofs.lemmas.Slice.Eq.{bytes_eq-Decides}
 use Rattle.std.proofs.lemmas.Bool.Decides.{nat_tests}
 use Rattle.std.proofs.lemmas.List.Concat.{flat_map-cons}
-use Rattle.ttm_base.specs.declared.BufId.{BufId}
-use Rattle.journal_model.specs.declared.script.Script.{Script}
-use Rattle.journal_model.specs.declared.script.Command.TheVariants as command
-use Rattle.journal_model.specs.declared.line.Line.TheVariants as line
-use Rattle.journal_model.specs.Words.{Text, hex, hex_byte, name_of}
-use Rattle.journal_model.specs.Spelling.{command_words}
+use Rattle.journal_model.specs.Words.{Text, hex, hex_byte}
 use Rattle.journal_model.specs.CommandRules.{is_byte}
-use Rattle.journal_model.specs.Reading.{known, names_of, offset_of, bytes_of, is_hex, hex_value}
-use Rattle.journal_model.specs.LineWords.{keyword_of, parts_of}
-use Rattle.journal_model.specs.FirstFault.{first_word}
-use Rattle.script_law.proofs.NumberLaws.{number_again, both}
+use Rattle.journal_model.specs.Reading.{offset_of, bytes_of, is_hex, hex_value}
+use Rattle.script_law.proofs.NumberLaws.{number_again}
+use Rattle.script_law.proofs.Tests.{not_true, either, both, differ}
 
 -- ---- bytes
 
@@ -49,39 +43,19 @@ bytes_again (b ∷ bs) h =
 pub offset_again : (n : ℕ) → n ≤ 16777216 → offset_of (decimal n) ≡ Some n
 offset_again n h = number_again 0 16777216 n (omega arith) (omega arith) h
 
--- a read is read from its words, where its name is known
-pub read_again : (script : Script) (b : BufId) (off len : ℕ) → known (names_of script.buffers) (name_of script b) ≡ Some b → off ≤ 16777216 → len ≤ 16777216
-    → parts_of script (keyword_of (first_word (command_words script (command.Read b off len)))) (command_words script (command.Read b off len)) ≡ Some (line.Read (Some b) (Some off) (Some len))
-read_again script b off len name o l =
-    ap (λ x. Some (line.Read x (offset_of (decimal off)) (offset_of (decimal len)))) name
-    ∙ ap (λ x. Some (line.Read (Some b) x (offset_of (decimal len)))) (offset_again off o)
-    ∙ ap (λ x. Some (line.Read (Some b) (Some off) x)) (offset_again len l)
-
 -- ---- names
 
 abbrev pub distinct : List Text → Bool
 distinct [] = true
 distinct (w ∷ ws) = not (list_any (bytes_eq w) ws) && distinct ws
 
-not_true : (b : Bool) → not b ≡ true → b ≡ false
-not_true true h = absurd cc
-not_true false h = refl
-
-free : (a b : Bool) → (a || b) ≡ false → (a ≡ false) × (b ≡ false)
-free true b h = absurd cc
-free false true h = absurd cc
-free false false h = (refl, refl)
-
 abbrev some_text : Text → Option Text
 some_text w = Some w
 
 other : (x w : Text) (ws : List Text) (i : ℕ) → list_any (bytes_eq x) ws ≡ false → slice_get ws i ≡ some_text w → bytes_eq x w ≡ false
 other x w [] i h e = absurd cc
-other x w (v ∷ ws) zero h e = let same : v ≡ w = cc in ap (bytes_eq x) (sym same) ∙ (free (bytes_eq x v) (list_any (bytes_eq x) ws) h).0
-other x w (v ∷ ws) (suc i) h e = other x w ws i (free (bytes_eq x v) (list_any (bytes_eq x) ws) h).1 e
-
-differ : true ≡ false → ⊥
-differ h = absurd cc
+other x w (v ∷ ws) zero h e = let same : v ≡ w = cc in ap (bytes_eq x) (sym same) ∙ (either (bytes_eq x v) (list_any (bytes_eq x) ws) h).0
+other x w (v ∷ ws) (suc i) h e = other x w ws i (either (bytes_eq x v) (list_any (bytes_eq x) ws) h).1 e
 
 no_test : (b : Bool) (x w : Text) → bytes_eq w x ≡ b → bytes_eq x w ≡ false → b ≡ false
 no_test false x w e h = refl

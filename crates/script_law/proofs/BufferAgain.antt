@@ -26,11 +26,12 @@ use Rattle.journal_model.specs.FirstFault.{with_buffer, place_in, wanted, taken_
 use Rattle.script_law.proofs.NumberLaws.{number_again, between}
 use Rattle.script_law.proofs.LineLaws.{made, Breaks_none}
 use Rattle.script_law.proofs.HeadSteps.{at}
-use Rattle.script_law.proofs.ListFacts.{both, joint, le_is, length_map}
+use Rattle.script_law.proofs.ListFacts.{length_map}
 use Rattle.script_law.proofs.NamesAgain.{group_again, group_solid}
 use Rattle.script_law.proofs.ListAgain.{there, unflagged_place, new_list_again, old_list_again}
 use Rattle.script_law.proofs.LineRuns.{Runs, line_runs, says, keeps_all}
 use Rattle.script_law.proofs.Solid.{is_word, small_word, number_small_word, name_small}
+use Rattle.script_law.proofs.Tests.{not_true, neither, both, joint, four_facts, le_is, true_lt, not_long}
 
 -- ---- the lists of version 1, by what the places say
 
@@ -67,10 +68,6 @@ all_pressed (f ∷ fs) h k =
 
 abbrev place_of : FlaggedPlace → Place
 place_of f = f.place
-
-not_true : (b : Bool) → not b ≡ true → b ≡ false
-not_true true h = absurd cc
-not_true false h = refl
 
 none_first : (bs : List FlaggedPlace) → list_all is_pressed bs ≡ true → first_places bs ≡ []
 none_first [] h = refl
@@ -125,13 +122,6 @@ places_fit [] h = refl
 places_fit (f ∷ fs) h =
     let a = both (is_flagged f) (list_all is_flagged fs) h in
     joint (is_place f.place) (list_all is_place (map place_of fs)) (both (is_place f.place) (not (f.desired && f.fallback)) a.0).0 (places_fit fs a.1)
-
-four_facts : (a b c d : Bool) → (a && b && c && d) ≡ true → (a ≡ true) × (b ≡ true) × (c ≡ true) × (d ≡ true)
-four_facts true true true true h = (refl, refl, refl, refl)
-four_facts false b c d h = absurd cc
-four_facts true false c d h = absurd cc
-four_facts true true false d h = absurd cc
-four_facts true true true false h = absurd cc
 
 -- a list of version 1, in its two parts
 record IsOld (list : List FlaggedPlace) : Type 0 where
@@ -231,11 +221,6 @@ pub record MayDeclare (s : Script) (m : ℕ) (d : Decl) : Type 0 where
   pub few : length s.buffers < 256
   pub short : m ≤ 67108864
 
-neither : (a b : Bool) → a ≡ false → b ≡ false → (a || b) ≡ false
-neither false false p q = refl
-neither true b p q = absurd cc
-neither false true p q = absurd cc
-
 none_read : {X : Type 0} (P : PlaceWord → Bool) (f : X → PlaceWord) → ((x : X) → P (f x) ≡ false) → (xs : List X) → list_any P (map f xs) ≡ false
 none_read P f h [] = refl
 none_read P f h (x ∷ xs) = ap (λ b. b || list_any P (map f xs)) (h x) ∙ none_read P f h xs
@@ -247,9 +232,6 @@ right_list most f xs h =
 
 room_left : (n : ℕ) → n < 256 → nat_le 256 n ≡ false
 room_left n h = grind (arith, nat_tests)
-
-not_long : (n : ℕ) → n ≤ 67108864 → nat_lt 67108864 n ≡ false
-not_long n h = grind (arith, nat_tests)
 
 right_name : (s : Script) (m : ℕ) (d : Decl) → MayDeclare s m d → has_wrong_name (names_of s.buffers) (whole_head d) ≡ false
 right_name s m d h = neither (not (is_name d.name)) (list_any (bytes_eq d.name) (names_of s.buffers)) (ap not h.decl.name) h.free
@@ -294,9 +276,6 @@ old_runs s n m d one h =
     ∙ ap (λ x. made (line_of.Buffer head x (places_of false bt))) wa.0 ∙ ap (λ x. made (line_of.Buffer head xs x)) ba.0 in
     let read = says p key.Buffer (codes "buffer" ∷ head_words d rest) l refl refl words parts (keeps_all p l r) ∙ ap (λ x. Ok (with_buffer p (with_list d x))) o.again in
     subst (λ (t : Text). Runs p t (with_buffer p d)) (sym text) (line_runs p (with_buffer p d) (codes "buffer") (head_words d rest) words read)
-
-true_lt : (n m : ℕ) → nat_lt n m ≡ true → n < m
-true_lt n m h = grind (arith, nat_tests, h)
 
 some_forced : (b : Bool) (f : FlaggedPlace) (fs : List FlaggedPlace) (t : Bool) → not f.desired ≡ b → (0 < length (forced_places fs) → t ≡ true) → 0 < length (map (λ p. p.place) (cond b (f ∷ filter (λ p. not p.desired) fs) (filter (λ p. not p.desired) fs))) → (b || t) ≡ true
 some_forced true f fs t e h k = refl

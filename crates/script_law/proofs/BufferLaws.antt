@@ -16,9 +16,9 @@ use Rattle.journal_model.specs.Reading.{number_in, mem_of, last_flags_of, contig
 use Rattle.journal_model.specs.LineRules.{is_no_place, is_broken_place}
 use Rattle.journal_model.specs.FirstFault.{place_in, wanted, taken_under_pressure}
 use Rattle.script_law.proofs.CutLaws.{joined}
-use Rattle.script_law.proofs.LineLaws.{either}
 use Rattle.script_law.proofs.PlaceLaws.{is, some_flags, flag_made, chosen, unless, place_takes}
 use Rattle.script_law.proofs.HeadLaws.{good_place}
+use Rattle.script_law.proofs.Tests.{either}
 
 -- the place of a word, without its flags
 abbrev pub bare : PlaceWord → Place

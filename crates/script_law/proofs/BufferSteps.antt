@@ -24,7 +24,7 @@ use Rattle.journal_model.specs.LineRules.{lacks_number_in_head, has_wrong_name, 
 use Rattle.journal_model.specs.FirstFault.{or_zero, first_word, with_line, with_buffer, decl_of, place_in, wanted, taken_under_pressure}
 use Rattle.script_law.proofs.NumberLaws.{is_in}
 use Rattle.script_law.proofs.WordLaws.{bytes_are}
-use Rattle.script_law.proofs.LineLaws.{made, either, Breaks_none}
+use Rattle.script_law.proofs.LineLaws.{made, Breaks_none}
 use Rattle.script_law.proofs.HeadLaws.{places_take}
 use Rattle.script_law.proofs.KindLaws.{group_takes}
 use Rattle.script_law.proofs.BufferLaws.{two_lists_take}
@@ -32,9 +32,10 @@ use Rattle.script_law.proofs.AgainLaws.{turned}
 use Rattle.script_law.proofs.CommandFits.{number_small}
 use Rattle.script_law.proofs.CommandSteps.{not_false}
 use Rattle.script_law.proofs.PlaceFits.{old_lists_fit, new_list_fits, not_no_list}
-use Rattle.script_law.proofs.ListFacts.{all_nil, all_more, length_more, joint, both, is_le}
+use Rattle.script_law.proofs.ListFacts.{all_nil, all_more, length_more}
 use Rattle.script_law.proofs.Sound.{frame, seats, six, thread_text, Sound, text_of, Grows}
 use Rattle.script_law.proofs.HeadSteps.{at, number_there}
+use Rattle.script_law.proofs.Tests.{not_true, either, both, joint, three_facts, is_le}
 
 -- ---- names
 
@@ -49,10 +50,6 @@ any_more p [] x h k = ap (λ b. b || false) k
 any_more p (y ∷ xs) x h k =
     let f = either (p y) (list_any p xs) h in
     ap (λ b. b || list_any p (xs ++ x ∷ [])) f.0 ∙ any_more p xs x f.1 k
-
-not_true : (b : Bool) → not b ≡ true → b ≡ false
-not_true true h = absurd cc
-not_true false h = refl
 
 pub distinct_more : (ds : List Decl) (d : Decl) → has_distinct_names ds ≡ true → list_any (bytes_eq d.name) (names_of ds) ≡ false → has_distinct_names (ds ++ d ∷ []) ≡ true
 distinct_more [] d h k = refl
@@ -120,12 +117,6 @@ six_facts true true false d e f p q r s t u = absurd cc
 six_facts true true true false e f p q r s t u = absurd cc
 six_facts true true true true false f p q r s t u = absurd cc
 
-three_facts : (a b c : Bool) → (a && b && c) ≡ true → (a ≡ true) × (b ≡ true) × (c ≡ true)
-three_facts true true true h = (refl, refl, refl)
-three_facts false b c h = absurd cc
-three_facts true false c h = absurd cc
-three_facts true true false h = absurd cc
-
 four_nones : (a b c d : Bool) → (a || b || c || d) ≡ false → (a ≡ false) × (b ≡ false) × (c ≡ false) × (d ≡ false)
 four_nones false false false false h = (refl, refl, refl, refl)
 four_nones true b c d h = absurd cc
@@ -141,7 +132,7 @@ group_chosen false None h = refl
 group_fits : (w : Text) → is_group (unwrap_or (group_of w) None) ≡ true
 group_fits w = group_chosen (bytes_eq w (codes "-")) (number_in 0 15 w) (number_small 0 15 w)
 
-some_if : (b : Bool) (x l : Line) → cond b (made x) None ≡ made l → (b ≡ true) × (x ≡ l)
+pub some_if : (b : Bool) (x l : Line) → cond b (made x) None ≡ made l → (b ≡ true) × (x ≡ l)
 some_if true x l h = (refl, cc)
 some_if false x l h = absurd cc
 

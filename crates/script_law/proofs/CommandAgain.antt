@@ -1,6 +1,6 @@
 -- Commands that were written are read.
-use Rattle.std.proofs.Common.{◌≡◌, ℕ, ◌+◌, ◌<◌, ◌≤◌, ◌^◌, Bool, true, false, cond, List, [], ◌∷◌, length, map, Some, None, Ok, refl, ap, ◌∙◌, arith}
-use Rattle.std.specs.Prelude.{◌&&◌, ◌||◌, not, codes, decimal, flat_map, sum_by, option_map, nat_lt, nat_le}
+use Rattle.std.proofs.Common.{◌≡◌, ℕ, ◌+◌, ◌<◌, ◌≤◌, ◌^◌, true, false, cond, List, [], ◌∷◌, length, map, Some, None, Ok, refl, ap, ◌∙◌, arith}
+use Rattle.std.specs.Prelude.{not, codes, decimal, flat_map, sum_by, option_map, nat_lt, nat_le}
 use Rattle.std.specs.List.{list_any, list_all}
 use Rattle.std.proofs.lemmas.Bool.Decides.{nat_tests}
 use Rattle.ttm_base.specs.declared.BufId.{BufId}
@@ -35,11 +35,12 @@ use Rattle.script_law.proofs.AgainLaws.{offset_again, bytes_again}
 use Rattle.script_law.proofs.CommandSteps.{no_len, plain_len}
 use Rattle.script_law.proofs.HeadSteps.{at}
 use Rattle.script_law.proofs.Sound.{command_text}
-use Rattle.script_law.proofs.ListFacts.{both, joint, le_is, length_map}
+use Rattle.script_law.proofs.ListFacts.{length_map}
 use Rattle.script_law.proofs.NamesAgain.{IsNamed, known_again, name_word_small, engine_again}
-use Rattle.script_law.proofs.OpsAgain.{four_facts, whole_op, range_is, right_range, ops_again, ops_words, none_of, ops_inside, names_again, lens_again, ops_said}
+use Rattle.script_law.proofs.OpsAgain.{whole_op, range_is, right_range, ops_again, ops_words, none_of, ops_inside, names_again, lens_again, ops_said}
 use Rattle.script_law.proofs.LineRuns.{Runs, line_runs, says, keeps_all}
 use Rattle.script_law.proofs.Solid.{is_word, small_word, number_small_word, hex_word}
+use Rattle.script_law.proofs.Tests.{neither, both, joint, three_facts, four_facts, le_is, at_most, not_long}
 
 -- what holds where a command is read
 pub record IsRoom (s : Script) (n m : ℕ) (c : Command) : Type 0 where
@@ -49,9 +50,6 @@ pub record IsRoom (s : Script) (n m : ℕ) (c : Command) : Type 0 where
 
 not_more : (n : ℕ) → n < 4096 → nat_le 4096 n ≡ false
 not_more n h = grind (arith, nat_tests)
-
-not_long : (n : ℕ) → n ≤ 67108864 → nat_lt 67108864 n ≡ false
-not_long n h = grind (arith, nat_tests)
 
 -- a line that says a command
 told : (s : Script) (n m : ℕ) (c : Command) (w : Text) (ws : List Text) (l : Line) → list_all is_word (w ∷ ws) ≡ true
@@ -64,20 +62,6 @@ name_solid s b h d = small_word (name_of s b) (name_word_small s b h d)
 
 offset_solid : (n : ℕ) → n ≤ 16777216 → is_word (decimal n) ≡ true
 offset_solid n h = small_word (decimal n) (number_small_word n (omega (arith, h)))
-
-three_facts : (a b c : Bool) → (a && b && c) ≡ true → (a ≡ true) × (b ≡ true) × (c ≡ true)
-three_facts true true true h = (refl, refl, refl)
-three_facts false b c h = absurd cc
-three_facts true false c h = absurd cc
-three_facts true true false h = absurd cc
-
-neither : (a b : Bool) → a ≡ false → b ≡ false → (a || b) ≡ false
-neither false false p q = refl
-neither true b p q = absurd cc
-neither false true p q = absurd cc
-
-at_most : (n : ℕ) → nat_le n 256 ≡ true → nat_lt 256 n ≡ false
-at_most n h = grind (arith, nat_tests, h)
 
 not_over : (most n : ℕ) → n ≤ most → nat_lt most n ≡ false
 not_over most n h = grind (arith, nat_tests)

@@ -1,5 +1,5 @@
 -- A command that was read keeps its rules.
-use Rattle.std.proofs.Common.{◌≡◌, ℕ, ◌+◌, ◌*◌, ◌<◌, ◌≤◌, Bool, true, false, cond, eqb, List, [], ◌∷◌, ◌++◌, length, map, Option, Some, None, refl, sym, ap, subst, ◌∙◌, arith, bytes_eq}
+use Rattle.std.proofs.Common.{◌≡◌, ℕ, ◌+◌, ◌*◌, ◌≤◌, Bool, true, false, cond, eqb, List, [], ◌∷◌, ◌++◌, length, map, Option, Some, None, refl, sym, ap, subst, ◌∙◌, arith, bytes_eq}
 use Rattle.std.specs.Prelude.{◌&&◌, ◌||◌, not, codes, is_none, option_map, flat_map, sum_by, nat_le, nat_lt, option_to_list}
 use Rattle.std.specs.List.{list_any, list_all}
 use Rattle.std.proofs.lemmas.Bool.Decides.{nat_tests}
@@ -19,10 +19,9 @@ use Rattle.journal_model.specs.LineRules.{has_wrong_range, passes, passes_in_op,
 use Rattle.journal_model.specs.FirstFault.{or_zero, or_first, op_in}
 use Rattle.script_law.proofs.NumberLaws.{between, is_in}
 use Rattle.script_law.proofs.WordLaws.{known_is}
-use Rattle.script_law.proofs.LineLaws.{either}
 use Rattle.script_law.proofs.SubmitLaws.{IsGood, AreGood, first_good, others_good}
 use Rattle.script_law.proofs.HeadSteps.{there}
-use Rattle.script_law.proofs.ListFacts.{joint, is_le}
+use Rattle.script_law.proofs.Tests.{either, joint, second, differ, three, four, is_le, lt_is}
 
 -- ---- numbers and names
 
@@ -30,17 +29,10 @@ small_choice : (b : Bool) (n low high : ℕ) → (b ≡ true → n ≤ high) →
 small_choice true n low high h = h refl
 small_choice false n low high h = omega arith
 
-second : (a b : Bool) → (a && b) ≡ true → b ≡ true
-second true b h = h
-second false b h = absurd cc
-
 -- what is read of a number is in its range, or 0
 pub number_small : (low high : ℕ) (w : Text) → or_zero (number_in low high w) ≤ high
 number_small low high w =
     small_choice (is_plain w && is_between low high (read_on 0 w)) (read_on 0 w) low high (λ e. (between low high (read_on 0 w) (second (is_plain w) (is_between low high (read_on 0 w)) e)).1)
-
-lt_is : (n m : ℕ) → n < m → nat_lt n m ≡ true
-lt_is n m h = grind (arith, nat_tests)
 
 pub known_there : (s : Script) (w : Text) → is_none (known (names_of s.buffers) w) ≡ false → is_declared s (or_first (known (names_of s.buffers) w)) ≡ true
 known_there s w h =
@@ -48,13 +40,6 @@ known_there s w h =
     lt_is b.0 (length s.buffers) (known_is s w b (there (known (names_of s.buffers) w) or_first (λ x. refl) h)).1
 
 -- ---- ranges
-
-pub four : (a b c d : Bool) → a ≡ true → b ≡ true → c ≡ true → d ≡ true → (a && b && c && d) ≡ true
-four true true true true p q r s = refl
-four false b c d p q r s = absurd cc
-four true false c d p q r s = absurd cc
-four true true false d p q r s = absurd cc
-four true true true false p q r s = absurd cc
 
 not_lt : (n m : ℕ) → nat_lt n m ≡ false → nat_le m n ≡ true
 not_lt n m h = grind (arith, nat_tests, h)
@@ -153,15 +138,6 @@ op_in_range s (w ∷ d ∷ doff ∷ t ∷ soff ∷ len ∷ []) =
     choose (InRange s) (bytes_eq w (codes "copy")) _ _ (known_there s d, known_there s t, offset_small doff, offset_small soff, offset_small len)
     (choose (InRange s) (bytes_eq w (codes "xor")) _ op_word.Malformed (known_there s d, known_there s t, offset_small doff, offset_small soff, offset_small len) tt)
 op_in_range s (w ∷ d ∷ doff ∷ t ∷ soff ∷ len ∷ x ∷ xs) = tt
-
-pub differ : true ≡ false → ⊥
-differ h = absurd cc
-
-pub three : (a b c : Bool) → a ≡ true → b ≡ true → c ≡ true → (a && b && c) ≡ true
-three true true true p q r = refl
-three false b c p q r = absurd cc
-three true false c p q r = absurd cc
-three true true false p q r = absurd cc
 
 not_twice : (a b : Option BufId) → is_none a ≡ false → is_none b ≡ false → same_known a b ≡ false → not (eqb (or_first a).0 (or_first b).0) ≡ true
 not_twice (Some a) (Some b) p q h = ap not h

@@ -30,22 +30,20 @@ use Rattle.script_law.proofs.NumberLaws.{between, is_in}
 use Rattle.script_law.proofs.CutLaws.{cut_some}
 use Rattle.script_law.proofs.WordLaws.{verb_word, mem_is, IsMemOf}
 use Rattle.script_law.proofs.HexLaws.{bytes_take}
-use Rattle.script_law.proofs.LineLaws.{made, either, name_word, offset_word, number_word, plain_words, Breaks_none}
+use Rattle.script_law.proofs.LineLaws.{made, name_word, offset_word, number_word, plain_words, Breaks_none}
 use Rattle.script_law.proofs.KindLaws.{engine_takes, engine_chosen}
 use Rattle.script_law.proofs.SubmitLaws.{AreGood, ops_take}
-use Rattle.script_law.proofs.CommandFits.{three, four, number_small, known_there, range_fits, passes_fits, not_more, bytes_small, ops_fit, names_are, lens_are}
-use Rattle.script_law.proofs.ListFacts.{all_nil, joint, is_le, all_put, few_put, last_put, length_put, onto_is, sum_put, text_put, length_map, has_few, last_len}
+use Rattle.script_law.proofs.CommandFits.{number_small, known_there, range_fits, passes_fits, not_more, bytes_small, ops_fit, names_are, lens_are}
+use Rattle.script_law.proofs.ListFacts.{all_nil, all_put, few_put, last_put, length_put, onto_is, sum_put, text_put, length_map, has_few, last_len}
 use Rattle.script_law.proofs.Sound.{frame, seats, six, command_text, thread_text, Sound, text_of, Grows}
 use Rattle.script_law.proofs.HeadSteps.{at}
+use Rattle.script_law.proofs.Tests.{either, joint, three, four, is_le, not_less}
 
 -- ---- one more command
 
 pub not_false : (b : Bool) → not b ≡ false → b ≡ true
 not_false true h = refl
 not_false false h = absurd cc
-
-pub not_less : (n m : ℕ) → nat_lt n m ≡ false → m ≤ n
-not_less n m h = grind (arith, nat_tests, h)
 
 -- a line says a command that keeps its rules
 pub record Tells (s : Script) (n m : ℕ) (ws : List Text) (l : Line) : Type 0 where

@@ -1,12 +1,11 @@
 -- The words of the head's lines, of schedules and of lists of places.
-use Rattle.std.proofs.Common.{◌≡◌, ℕ, ◌<◌, ◌^◌, Bool, true, false, cond, eqb, List, [], ◌∷◌, map, Option, refl, sym, ap, ◌∙◌, arith}
-use Rattle.std.specs.Prelude.{not, decimal, is_none}
+use Rattle.std.proofs.Common.{◌≡◌, ℕ, ◌<◌, ◌^◌, Bool, true, false, cond, eqb, List, [], ◌∷◌, map, refl, sym, ap, ◌∙◌, arith}
+use Rattle.std.specs.Prelude.{not, decimal}
 use Rattle.std.specs.List.{list_any, list_all, join_with_byte}
 use Rattle.std.proofs.lemmas.Bool.{eqb-true}
 use Rattle.std.proofs.lemmas.Fmt.{decimal-digits_value}
 use Rattle.ttm_base.specs.declared.Actor.{Actor}
 use Rattle.ttm_base.specs.declared.Actor.TheVariants as actor
-use Rattle.journal_model.specs.declared.line.Line.{Line}
 use Rattle.journal_model.specs.declared.line.ActorWord.{ActorWord}
 use Rattle.journal_model.specs.declared.line.ActorWord.TheVariants as read_as
 use Rattle.journal_model.specs.declared.line.PlaceWord.{PlaceWord}
@@ -15,25 +14,16 @@ use Rattle.journal_model.specs.Words.{Text, actor_word}
 use Rattle.journal_model.specs.Cut.{cut_at}
 use Rattle.journal_model.specs.CommandRules.{is_between}
 use Rattle.journal_model.specs.Spelling.{flagged_word, words_of_places}
-use Rattle.journal_model.specs.Reading.{number_in, is_plain, has_no_leading_zero, is_digit, read_on, actor_of, thread_actor, engine_actor, place_of, places_of}
-use Rattle.journal_model.specs.LineWords.{size_line}
+use Rattle.journal_model.specs.Reading.{is_plain, has_no_leading_zero, is_digit, read_on, actor_of, thread_actor, engine_actor, place_of, places_of}
 use Rattle.journal_model.specs.LineRules.{is_no_place, is_broken_place}
-use Rattle.journal_model.specs.FirstFault.{or_zero, first_word, place_in}
+use Rattle.journal_model.specs.FirstFault.{place_in}
 use Rattle.script_law.proofs.CutLaws.{joined}
-use Rattle.script_law.proofs.NumberLaws.{own, both, lead, between}
-use Rattle.script_law.proofs.LineLaws.{made, either, number_word}
+use Rattle.script_law.proofs.NumberLaws.{own, lead, between}
+use Rattle.script_law.proofs.LineLaws.{made}
 use Rattle.script_law.proofs.PlaceLaws.{is, place_takes}
+use Rattle.script_law.proofs.Tests.{either, both}
 
 -- ---- a keyword and a number
-
-pub size_said : (sized : Option ℕ → Line) (high : ℕ) (word : Text) (ws : List Text) (l : Line) → high < 2 ^ 64 → first_word ws ≡ word → size_line sized high ws ≡ made l
-    → (n : Option ℕ) × (l ≡ sized n) × (is_none n ≡ false → ws ≡ word ∷ decimal (or_zero n) ∷ [])
-size_said sized high word [] l small k h = absurd cc
-size_said sized high word (w ∷ []) l small k h = absurd cc
-size_said sized high word (w ∷ size ∷ []) l small k h =
-    let e : sized (number_in 0 high size) ≡ l = cc in
-    (number_in 0 high size, sym e, λ r. ap (λ t. t ∷ size ∷ []) k ∙ ap (λ t. word ∷ t ∷ []) (number_word 0 high size small r))
-size_said sized high word (w ∷ size ∷ x ∷ xs) l small k h = absurd cc
 
 -- ---- actors
 

@@ -22,8 +22,9 @@ use Rattle.script_law.proofs.NumberLaws.{number_takes}
 use Rattle.script_law.proofs.WordLaws.{bytes_are}
 use Rattle.script_law.proofs.LineLaws.{made, Breaks_none}
 use Rattle.script_law.proofs.KindLaws.{version_said}
-use Rattle.script_law.proofs.ListFacts.{all_nil, is_le}
+use Rattle.script_law.proofs.ListFacts.{all_nil}
 use Rattle.script_law.proofs.Sound.{frame, seats, six, thread_text, IsEarly, Stage, Sound, text_of, Grows}
+use Rattle.script_law.proofs.Tests.{is_le}
 
 -- ---- a size
 
@@ -167,11 +168,11 @@ engines_step s n m ws l k e r h =
 
 -- ---- the first two lines
 
-one : decimal 1 ≡ codes "1"
+pub one : decimal 1 ≡ codes "1"
 unfolding digits
 one = refl
 
-two : decimal 2 ≡ codes "2"
+pub two : decimal 2 ≡ codes "2"
 unfolding digits
 two = refl
 

@@ -1,27 +1,24 @@
 -- The words of the other kinds of line are those of what the line says.
-use Rattle.std.proofs.Common.{◌≡◌, ℕ, ◌<◌, ◌^◌, Bool, true, false, cond, List, [], ◌∷◌, map, Option, Some, None, refl, sym, ap, subst, ◌∙◌, arith, bytes_eq, inl, inr, ◌⊎◌}
+use Rattle.std.proofs.Common.{◌≡◌, ℕ, ◌<◌, ◌^◌, Bool, true, false, cond, List, [], ◌∷◌, map, Option, Some, None, refl, sym, ap, ◌∙◌, arith, bytes_eq, inl, inr, ◌⊎◌}
 use Rattle.std.specs.Prelude.{not, codes, decimal, is_none, unwrap_or, option_map}
 use Rattle.std.specs.List.{list_any}
-use Rattle.ttm_base.specs.declared.Mem.{Mem}
-use Rattle.journal_model.specs.declared.script.Script.{Script}
-use Rattle.journal_model.specs.declared.script.Command.TheVariants as command
-use Rattle.journal_model.specs.declared.line.Progress.{Progress}
 use Rattle.journal_model.specs.declared.line.Line.{Line}
 use Rattle.journal_model.specs.declared.line.Line.TheVariants as line
 use Rattle.journal_model.specs.declared.line.ActorWord.{ActorWord}
 use Rattle.journal_model.specs.declared.line.ActorWord.TheVariants as read_as
 use Rattle.journal_model.specs.declared.line.EngineWord.TheVariants as engine_as
-use Rattle.journal_model.specs.Words.{Text, actor_word, mem_word, name_of}
+use Rattle.journal_model.specs.Words.{Text, actor_word}
 use Rattle.journal_model.specs.CommandRules.{is_between}
 use Rattle.journal_model.specs.Spelling.{group_word}
-use Rattle.journal_model.specs.Reading.{known, names_of, mem_of, number_in, group_of, is_plain, read_on, actor_of, engine_of}
-use Rattle.journal_model.specs.LineWords.{version_line, move_line, is_no_actor}
+use Rattle.journal_model.specs.Reading.{number_in, group_of, is_plain, read_on, actor_of, engine_of}
+use Rattle.journal_model.specs.LineWords.{version_line, is_no_actor}
 use Rattle.journal_model.specs.LineRules.{is_broken_actor, is_missing_actor, is_broken_engine, is_missing_engine}
-use Rattle.journal_model.specs.FirstFault.{or_zero, or_first, first_word, actor_in, engine_in}
+use Rattle.journal_model.specs.FirstFault.{or_zero, first_word, actor_in, engine_in}
 use Rattle.script_law.proofs.NumberLaws.{between}
-use Rattle.script_law.proofs.WordLaws.{bytes_are, mem_is, IsMemOf}
-use Rattle.script_law.proofs.LineLaws.{made, either, number_word, name_word, Breaks_none, IsSaid}
+use Rattle.script_law.proofs.WordLaws.{bytes_are}
+use Rattle.script_law.proofs.LineLaws.{made, number_word}
 use Rattle.script_law.proofs.HeadLaws.{actor_takes, an_actor, plain_word}
+use Rattle.script_law.proofs.Tests.{either}
 
 -- ---- the first two lines
 
@@ -75,26 +72,6 @@ actors_take threads engines (w ∷ ws) s t a b c =
     ∙ ap (λ vs. actor_word (actor_in x) ∷ vs) (actors_take threads engines ws s t e.1 f.1 g.1)
 
 -- ---- move
-
-move_chosen : (script : Script) (w b m : Text) (o : Option Mem) (l : Line) → mem_of m ≡ o → w ≡ codes "move"
-    → option_map (λ x. line.Move (known (names_of script.buffers) b) x) o ≡ made l → (p : Progress) → p.script ≡ script → Breaks_none p l → IsSaid script (w ∷ b ∷ m ∷ []) l
-move_chosen script w b m None l q k h p same r = absurd cc
-move_chosen script w b m (Some mem) l q k h p same r =
-    let e : line.Move (known (names_of script.buffers) b) mem ≡ l = cc in
-    let word : m ≡ mem_word mem = subst (IsMemOf m) q (mem_is m) in
-    subst (λ (x : Line). Breaks_none p x → IsSaid script (w ∷ b ∷ m ∷ []) x) e (λ r. (
-      command.Move (or_first (known (names_of script.buffers) b)) mem,
-      refl,
-      ap (λ t. t ∷ b ∷ m ∷ []) k ∙ ap (λ t. codes "move" ∷ t ∷ m ∷ []) (name_word script b r.names)
-          ∙ ap (λ t. codes "move" ∷ name_of script (or_first (known (names_of script.buffers) b)) ∷ t ∷ []) word,
-    )) r
-
-pub move_said : (p : Progress) (ws : List Text) (l : Line) → first_word ws ≡ codes "move" → move_line (names_of p.script.buffers) ws ≡ made l → Breaks_none p l → IsSaid p.script ws l
-move_said p [] l k h r = absurd cc
-move_said p (w ∷ []) l k h r = absurd cc
-move_said p (w ∷ b ∷ []) l k h r = absurd cc
-move_said p (w ∷ b ∷ m ∷ []) l k h r = move_chosen p.script w b m (mem_of m) l refl k h p refl r
-move_said p (w ∷ b ∷ m ∷ x ∷ xs) l k h r = absurd cc
 
 -- ---- the head of a buffer line
 

@@ -1,5 +1,5 @@
 -- The lines that begin a thread, the schedules, and the last line.
-use Rattle.std.proofs.Common.{◌≡◌, ℕ, ◌<◌, ◌^◌, Bool, true, false, cond, eqb, List, [], ◌∷◌, ◌++◌, length, map, None, refl, sym, ap, subst, ◌∙◌, append_assoc, arith}
+use Rattle.std.proofs.Common.{◌≡◌, ℕ, ◌<◌, ◌^◌, Bool, true, false, cond, eqb, List, [], ◌∷◌, ◌++◌, length, map, refl, sym, ap, subst, ◌∙◌, append_assoc, arith}
 use Rattle.std.specs.Prelude.{◌&&◌, not, codes, flat_map, sum_by, nat_le}
 use Rattle.std.specs.List.{list_any, list_all}
 use Rattle.std.proofs.lemmas.Bool.Decides.{nat_tests}
@@ -24,13 +24,15 @@ use Rattle.journal_model.specs.LineWords.{alone, turn_line_of, is_no_actor}
 use Rattle.journal_model.specs.LineRules.{is_broken_actor, is_missing_actor}
 use Rattle.journal_model.specs.FirstFault.{first_word, with_line, actor_in}
 use Rattle.script_law.proofs.NumberLaws.{between}
-use Rattle.script_law.proofs.LineLaws.{made, either, Breaks_none}
+use Rattle.script_law.proofs.LineLaws.{made, Breaks_none}
 use Rattle.script_law.proofs.HeadLaws.{an_actor, numbered}
 use Rattle.script_law.proofs.KindLaws.{actors_take, good_actor}
 use Rattle.script_law.proofs.CommandSteps.{grown}
-use Rattle.script_law.proofs.ListFacts.{all_nil, all_more, length_more, last_new, sum_more, joint, both, is_le, le_is, length_map, has_few}
+use Rattle.script_law.proofs.ListFacts.{all_nil, all_more, length_more, last_new, sum_more, length_map, has_few}
 use Rattle.script_law.proofs.Sound.{frame, seats, six, thread_text, body, Sound, text_of, Grows}
 use Rattle.script_law.proofs.HeadSteps.{at, sizes_fit}
+use Rattle.script_law.proofs.Tests.{not_true, either, both, joint, le_is, is_le}
+use Rattle.script_law.proofs.BufferSteps.{some_if}
 
 -- ---- a word alone
 
@@ -130,14 +132,6 @@ pub record Steers (s : Script) (ws : List Text) (l : Line) : Type 0 where
   pub actors : List ActorWord
   pub is : says.Turn actors ≡ l
   pub good : list_any is_broken_actor actors ≡ false → list_any is_missing_actor actors ≡ false → (ws ≡ codes "schedule" ∷ map actor_word (map actor_in actors)) × (is_turn_line s (map actor_in actors) ≡ true)
-
-some_if : (b : Bool) (x l : Line) → cond b (made x) None ≡ made l → (b ≡ true) × (x ≡ l)
-some_if true x l h = (refl, cc)
-some_if false x l h = absurd cc
-
-not_true : (b : Bool) → not b ≡ true → b ≡ false
-not_true true h = absurd cc
-not_true false h = refl
 
 pub turn_says : (s : Script) (ws : List Text) (l : Line) → length s.threads < 2 ^ 64 → s.sizes.engines < 2 ^ 64 → first_word ws ≡ codes "schedule" → turn_line_of (length s.threads) s.sizes.engines ws ≡ made l → Steers s ws l
 turn_says s [] l t e k h = absurd cc

@@ -1,3 +1,4 @@
+pub mod Tests
 pub mod CutLaws
 pub mod NumberLaws
 pub mod WordLaws

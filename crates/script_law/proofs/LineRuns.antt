@@ -14,8 +14,8 @@ use Rattle.journal_model.specs.LineRules.{rule_broken, lacks_number, lacks_name,
 use Rattle.journal_model.specs.FirstFault.{first_word, with_line, unless_broken, fault_of_parts, after_words, after_line, breaks_text, ends_line, is_line_feed, is_shown, without_end, script_from}
 use Rattle.script_law.proofs.CutLaws.{cut_again}
 use Rattle.script_law.proofs.LineLaws.{made, Breaks_none}
-use Rattle.script_law.proofs.ListFacts.{both}
 use Rattle.script_law.proofs.Solid.{is_word, words_lack, none_empty, spaced_shown}
+use Rattle.script_law.proofs.Tests.{either, both, three_false}
 
 -- whatever the rest says from there on, the text and the rest say too
 abbrev pub Runs : Progress → Text → Progress → Type 0
@@ -28,11 +28,6 @@ pub runs_both : (p q r : Progress) (a b : Text) → Runs p a q → Runs q b r �
 runs_both p q r a b f g n rest s k = ap (λ t. script_from p n (lines_of t)) (append_assoc a b rest) ∙ f n (b ++ rest) s (λ m. g m rest s k)
 
 -- ---- the first line of a text
-
-either : (a b : Bool) → (a || b) ≡ false → (a ≡ false) × (b ≡ false)
-either true b h = absurd cc
-either false true h = absurd cc
-either false false h = (refl, refl)
 
 first_line : (w rest : Text) → list_any (λ b. eqb b 10) w ≡ false → lines_of ((w ++ 10 ∷ []) ++ rest) ≡ (w ++ 10 ∷ []) ∷ lines_of rest
 first_line [] rest h = refl
@@ -72,12 +67,6 @@ none_hidden (x ∷ w) h =
     let f = both (is_shown x) (list_all is_shown w) h in
     ap (λ b. not b || list_any (λ y. not (is_shown y)) w) f.0 ∙ none_hidden w f.1
 
-three_false : (a b c : Bool) → a ≡ false → b ≡ false → c ≡ false → (a || b || c) ≡ false
-three_false false false false p q r = refl
-three_false true b c p q r = absurd cc
-three_false false true c p q r = absurd cc
-three_false false false true p q r = absurd cc
-
 enough : (n : ℕ) → 2 ≤ n → nat_lt n 2 ≡ false
 enough n h = grind (arith, nat_tests)
 
@@ -92,7 +81,7 @@ unbroken w some h =
 
 -- ---- a line of words
 
-abbrev led : Result Progress ℕ → ℕ → List Text → Result Script (ℕ × ℕ)
+abbrev pub led : Result Progress ℕ → ℕ → List Text → Result Script (ℕ × ℕ)
 led after n texts = elim after [ Ok next ↦ script_from next (n + 1) texts | Err rule ↦ Err (n + 1, rule) ]
 
 spaced_some : (w : Text) (ws : List Text) → is_word w ≡ true → 0 < length (spaced (w ∷ ws))

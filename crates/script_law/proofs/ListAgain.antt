@@ -1,5 +1,5 @@
 -- Places and lists of places that were written are read.
-use Rattle.std.proofs.Common.{◌≡◌, ℕ, suc, ◌<◌, ◌≤◌, ◌^◌, Bool, true, false, cond, eqb, ltb, List, [], ◌∷◌, ◌++◌, length, map, Some, refl, sym, ap, ◌∙◌, append_assoc, arith}
+use Rattle.std.proofs.Common.{◌≡◌, ℕ, ◌<◌, ◌≤◌, ◌^◌, Bool, true, false, cond, eqb, ltb, List, [], ◌∷◌, ◌++◌, length, map, Some, refl, sym, ap, ◌∙◌, append_assoc, arith}
 use Rattle.std.specs.Prelude.{◌&&◌, ◌||◌, not, codes, decimal, nat_le, nat_lt}
 use Rattle.std.specs.List.{list_any, list_all}
 use Rattle.std.proofs.lemmas.Bool.Decides.{nat_tests}
@@ -24,8 +24,10 @@ use Rattle.script_law.proofs.NumberLaws.{own, number_again}
 use Rattle.script_law.proofs.WordLaws.{mem_again}
 use Rattle.script_law.proofs.PlaceLaws.{all_flags}
 use Rattle.script_law.proofs.PlaceAgain.{lacks_by, flag_list, flags_again, fallback_again, bare_again, cut_flags}
-use Rattle.script_law.proofs.ListFacts.{both, joint, le_is}
 use Rattle.script_law.proofs.Solid.{is_solid, is_word}
+use Rattle.script_law.proofs.Tests.{either, both, joint, three_facts, three_false, le_is}
+use Rattle.script_law.proofs.Solid.{not_empty}
+use Rattle.script_law.proofs.ListFacts.{length_map}
 
 -- ---- the bytes of a place
 
@@ -72,14 +74,9 @@ pages_base x y h k = list_all-append is_base_byte (decimal x) (45 ∷ decimal y)
 digits_lack : (c n : ℕ) → is_digit c ≡ false → n < 2 ^ 64 → list_any (λ b. eqb b c) (decimal n) ≡ false
 digits_lack c n nay h = lacks_by is_digit c (decimal n) nay (digits_decimal own n h)
 
-parts_false : (a b : Bool) → (a || b) ≡ false → (a ≡ false) × (b ≡ false)
-parts_false true b h = absurd cc
-parts_false false true h = absurd cc
-parts_false false false h = (refl, refl)
-
 any_append : (p : ℕ → Bool) (xs ys : Text) → list_any p xs ≡ false → list_any p ys ≡ false → list_any p (xs ++ ys) ≡ false
 any_append p [] ys h k = k
-any_append p (x ∷ xs) ys h k = let f = parts_false (p x) (list_any p xs) h in ap (λ b. b || list_any p (xs ++ ys)) f.0 ∙ any_append p xs ys f.1 k
+any_append p (x ∷ xs) ys h k = let f = either (p x) (list_any p xs) h in ap (λ b. b || list_any p (xs ++ ys)) f.0 ∙ any_append p xs ys f.1 k
 
 pages_lack_at : (x y : ℕ) → x < 2 ^ 64 → y < 2 ^ 64 → list_any (λ b. eqb b 64) (pages_word x y) ≡ false
 pages_lack_at x y h k = any_append (λ b. eqb b 64) (decimal x) (45 ∷ decimal y) (digits_lack 64 x refl h) (digits_lack 64 y refl k)
@@ -110,12 +107,6 @@ whole_again mem f =
 some_pages : (w : Text) → 0 < length w → eqb (length w) 0 ≡ false
 some_pages w h = grind (arith, nat_tests, h)
 
-three_false : (a b c : Bool) → a ≡ false → b ≡ false → c ≡ false → (a || b || c) ≡ false
-three_false false false false p q r = refl
-three_false true b c p q r = absurd cc
-three_false false true c p q r = absurd cc
-three_false false false true p q r = absurd cc
-
 -- the place of a reach that is written
 reach_again : (mem : Mem) (x y : ℕ) (f : Flags) → is_system mem ≡ false → x ≤ 16384 → y ≤ 16384 → ((eqb y 0 && not (eqb x 0)) || ltb x y) ≡ true
     → at_place (cut_at 64 (mem_word mem ++ 64 ∷ pages_word x y)) (Some f) ≡ flagged mem x y f
@@ -139,12 +130,6 @@ IsBase p = (f : Flags) → at_place (cut_at 64 (base_word p)) (Some f) ≡ flagg
 
 right_order : (x y : ℕ) → (eqb y 0 || nat_lt x y) ≡ true → (eqb x 0 && eqb y 0) ≡ false → ((eqb y 0 && not (eqb x 0)) || ltb x y) ≡ true
 right_order x y h k = grind (arith, nat_tests, h, k)
-
-three_facts : (a b c : Bool) → (a && b && c) ≡ true → (a ≡ true) × (b ≡ true) × (c ≡ true)
-three_facts true true true h = (refl, refl, refl)
-three_facts false b c h = absurd cc
-three_facts true false c h = absurd cc
-three_facts true true false h = absurd cc
 
 zeros : (x y : ℕ) → (eqb x 0 && eqb y 0) ≡ true → (x ≡ 0) × (y ≡ 0)
 zeros x y h = (grind (arith, nat_tests, h), grind (arith, nat_tests, h))
@@ -297,9 +282,6 @@ joined_some [] s h = absurd (omega (arith, s))
 joined_some (w ∷ []) s h = (some_solid w (both (is_list_word w) true h).0).0
 joined_some (w ∷ v ∷ ws) s h = longer w (44 ∷ words_of_places (v ∷ ws)) (some_solid w (both (is_list_word w) (list_all is_list_word (v ∷ ws)) h).0).0
 
-not_empty : (w : Text) → 0 < length w → not (is_empty w) ≡ true
-not_empty w h = grind (arith, nat_tests, h)
-
 list_solid : (ws : List Text) → 0 < length ws → list_all is_list_word ws ≡ true → is_word (words_of_places ws) ≡ true
 list_solid ws some h = joint (not (is_empty (words_of_places ws))) (list_all is_solid (words_of_places ws)) (not_empty (words_of_places ws) (joined_some ws some h)) (joined_solid ws h)
 
@@ -334,14 +316,10 @@ each_place (p ∷ ps) h =
     let g = both (is_place p) (list_all is_place ps) h in
     ap (λ x. x ∷ map (place_of false) (map place_word ps)) (old_place_again p g.0) ∙ ap (λ xs. there (unflagged_place p) ∷ xs) (each_place ps g.1)
 
-length_mapped : {X Y : Type 0} (f : X → Y) (xs : List X) → length (map f xs) ≡ length xs
-length_mapped f [] = refl
-length_mapped f (x ∷ xs) = ap suc (length_mapped f xs)
-
 -- the list of version 2 is read, and is a word
 pub new_list_again : (fs : List FlaggedPlace) → 0 < length fs → list_all is_flagged fs ≡ true → (places_of true (words_of_places (map flagged_word fs)) ≡ map there fs) × (is_word (words_of_places (map flagged_word fs)) ≡ true)
 new_list_again fs some h =
-    let e = length_mapped flagged_word fs in
+    let e = length_map flagged_word fs in
     let s : 0 < length (map flagged_word fs) = omega (arith, e, some) in
     let l = flagged_list fs h in
     (ap (map (place_of true)) (cut_list (map flagged_word fs) s l) ∙ each_flagged fs h, list_solid (map flagged_word fs) s l)
@@ -350,7 +328,7 @@ new_list_again fs some h =
 pub old_list_again : (ps : List Place) → 0 < length ps → list_all is_place ps ≡ true
     → (places_of false (words_of_places (map place_word ps)) ≡ map (λ p. there (unflagged_place p)) ps) × (is_word (words_of_places (map place_word ps)) ≡ true)
 old_list_again ps some h =
-    let e = length_mapped place_word ps in
+    let e = length_map place_word ps in
     let s : 0 < length (map place_word ps) = omega (arith, e, some) in
     let l = place_list ps h in
     (ap (map (place_of false)) (cut_list (map place_word ps) s l) ∙ each_place ps h, list_solid (map place_word ps) s l)

@@ -1,33 +1,13 @@
 -- Lists that grow at their end, and the last of a list of lists.
-use Rattle.std.proofs.Common.{◌≡◌, ℕ, suc, ◌+◌, ◌-◌, ◌<◌, ◌≤◌, Bool, true, false, List, [], ◌∷◌, ◌++◌, length, map, Option, Some, None, refl, sym, ap, ◌∙◌, append_assoc, arith}
-use Rattle.std.specs.Prelude.{◌&&◌, sum_by, flat_map, slice_get, slice_set, nat_le}
+use Rattle.std.proofs.Common.{◌≡◌, ℕ, suc, ◌+◌, ◌-◌, ◌<◌, Bool, true, List, [], ◌∷◌, ◌++◌, length, map, Option, Some, None, refl, sym, ap, ◌∙◌, append_assoc, arith}
+use Rattle.std.specs.Prelude.{sum_by, flat_map, slice_get, slice_set, nat_le}
 use Rattle.std.specs.List.{list_all}
 use Rattle.std.proofs.lemmas.List.{append-nil}
 use Rattle.std.proofs.lemmas.List.Concat.{flat_map-cons}
 use Rattle.std.proofs.lemmas.List.Sums.{sum_by-append, sum_by-cons}
 use Rattle.std.proofs.lemmas.Grind.{flat_map-append}
-use Rattle.std.proofs.lemmas.Bool.Decides.{nat_tests}
 use Rattle.journal_model.specs.FirstFault.{onto_last}
-
-pub both : (a b : Bool) → (a && b) ≡ true → (a ≡ true) × (b ≡ true)
-both true true h = (refl, refl)
-both true false h = absurd cc
-both false b h = absurd cc
-
-pub joint : (a b : Bool) → a ≡ true → b ≡ true → (a && b) ≡ true
-joint true true p q = refl
-joint true false p q = absurd cc
-joint false b p q = absurd cc
-
-pub and_true : (a : Bool) → a ≡ true → (a && true) ≡ true
-and_true true h = refl
-and_true false h = absurd cc
-
-pub le_is : (n m : ℕ) → nat_le n m ≡ true → n ≤ m
-le_is n m h = grind (arith, nat_tests, h)
-
-pub is_le : (n m : ℕ) → n ≤ m → nat_le n m ≡ true
-is_le n m h = grind (arith, nat_tests)
+use Rattle.script_law.proofs.Tests.{both, joint, and_true, is_le}
 
 pub all_nil : {X : Type 0} (p : X → Bool) (xs : List X) → xs ≡ [] → list_all p xs ≡ true
 all_nil p [] h = refl
@@ -40,17 +20,9 @@ all_more p (y ∷ xs) x h k =
     let f = both (p y) (list_all p xs) h in
     joint (p y) (list_all p (xs ++ x ∷ [])) f.0 (all_more p xs x f.1 k)
 
-pub all_same : {X : Type 0} (p q : X → Bool) (xs : List X) → ((x : X) → p x ≡ q x) → list_all p xs ≡ list_all q xs
-all_same p q [] h = refl
-all_same p q (x ∷ xs) h = ap (λ b. b && list_all p xs) (h x) ∙ ap (λ b. q x && b) (all_same p q xs h)
-
 pub length_more : {X : Type 0} (xs : List X) (x : X) → length (xs ++ x ∷ []) ≡ length xs + 1
 length_more [] x = refl
 length_more (y ∷ xs) x = let e = length_more xs x in omega (arith, e)
-
-pub map_same : {X Y : Type 0} (f g : X → Y) (xs : List X) → ((x : X) → f x ≡ g x) → map f xs ≡ map g xs
-map_same f g [] h = refl
-map_same f g (x ∷ xs) h = ap (λ y. y ∷ map f xs) (h x) ∙ ap (λ ys. g x ∷ ys) (map_same f g xs h)
 
 pub length_map : {X Y : Type 0} (f : X → Y) (xs : List X) → length (map f xs) ≡ length xs
 length_map f [] = refl

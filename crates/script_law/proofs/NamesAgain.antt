@@ -22,8 +22,9 @@ use Rattle.script_law.proofs.NumberLaws.{own, number_again, between}
 use Rattle.script_law.proofs.WordLaws.{bytes_are}
 use Rattle.script_law.proofs.AgainLaws.{distinct, place_of_name}
 use Rattle.script_law.proofs.BufferSteps.{same_is}
-use Rattle.script_law.proofs.ListFacts.{both, joint, le_is, length_map}
+use Rattle.script_law.proofs.ListFacts.{length_map}
 use Rattle.script_law.proofs.Solid.{is_solid, is_word, is_small, small_word, number_small_word, name_small}
+use Rattle.script_law.proofs.Tests.{both, joint, le_is, lt_is, true_lt, apart}
 
 -- ---- names
 
@@ -51,15 +52,9 @@ name_fits v [] i a h = absurd (omega (arith, h))
 name_fits v (d ∷ ds) zero a h = first_of_six (is_name d.name) _ _ _ _ _ (both (is_decl v d) (list_all (is_decl v) ds) a).0
 name_fits v (d ∷ ds) (suc i) a h = name_fits v ds i (both (is_decl v d) (list_all (is_decl v) ds) a).1 (omega (arith, h))
 
-lt_true : (n m : ℕ) → n < m → nat_lt n m ≡ true
-lt_true n m h = grind (arith, nat_tests)
-
-true_lt : (n m : ℕ) → nat_lt n m ≡ true → n < m
-true_lt n m h = grind (arith, nat_tests, h)
-
 found : (n i len : ℕ) (b : BufId) (made : ℕ → BufId) → n ≡ i → i < len → made i ≡ b → option_map made (cond (nat_lt n len) (Some n) None) ≡ Some b
 found n i len b made e h same =
-    ap (λ k. option_map made (cond (nat_lt k len) (Some k) None)) e ∙ ap (λ t. option_map made (cond t (Some i) None)) (lt_true i len h) ∙ ap (λ (x : BufId). Some x) same
+    ap (λ k. option_map made (cond (nat_lt k len) (Some k) None)) e ∙ ap (λ t. option_map made (cond t (Some i) None)) (lt_is i len h) ∙ ap (λ (x : BufId). Some x) same
 
 -- the buffers of a script are declared once, by names
 pub record IsNamed (s : Script) : Type 0 where
@@ -78,12 +73,9 @@ name_word_small s b h d = name_small (name_of s b) (name_fits s.version s.buffer
 
 -- ---- groups
 
-differ : false ≡ true → ⊥
-differ h = absurd cc
-
 not_dash : (b : Bool) (w : Text) → bytes_eq w (codes "-") ≡ b → list_all is_digit w ≡ true → b ≡ false
 not_dash false w e h = refl
-not_dash true w e h = absurd (differ (ap (list_all is_digit) (sym (bytes_are w (codes "-") e)) ∙ h))
+not_dash true w e h = absurd (apart (ap (list_all is_digit) (sym (bytes_are w (codes "-") e)) ∙ h))
 
 pub group_again : (g : Option ℕ) → is_group g ≡ true → group_of (group_word g) ≡ Some g
 group_again None h = refl

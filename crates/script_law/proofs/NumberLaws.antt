@@ -10,14 +10,10 @@ use Rattle.std.proofs.lemmas.Fmt.{decimal-digits_value, digits_decimal, digits_v
 use Rattle.journal_model.specs.Words.{Text}
 use Rattle.journal_model.specs.Reading.{is_digit, is_plain, has_no_leading_zero, read_on, number_in}
 use Rattle.journal_model.specs.CommandRules.{is_between}
+use Rattle.script_law.proofs.Tests.{both}
 
 pub own : IsNumeralModel (λ ds. list_all is_digit ds ≡ true) (read_on 0)
 own = numerals_by_fold _ (search rules) read_on (search rules)
-
-pub both : (a b : Bool) → (a && b) ≡ true → (a ≡ true) × (b ≡ true)
-both true true h = (refl, refl)
-both true false h = absurd cc
-both false b h = absurd cc
 
 chosen : (b : Bool) (m n : ℕ) → cond b (Some m) None ≡ Some n → (b ≡ true) × (m ≡ n)
 chosen true m n h = (refl, cc)

@@ -26,9 +26,9 @@ use Rattle.journal_model.specs.FirstFault.{op_in}
 use Rattle.script_law.proofs.CutLaws.{cut_free, cut_append}
 use Rattle.script_law.proofs.NumberLaws.{between}
 use Rattle.script_law.proofs.AgainLaws.{offset_again, digit_again}
-use Rattle.script_law.proofs.ListFacts.{both, joint, le_is}
 use Rattle.script_law.proofs.NamesAgain.{IsNamed, known_again, name_word_small}
 use Rattle.script_law.proofs.Solid.{is_word, is_small, small_word, small_no_sign, number_small_word, byte_small_word}
+use Rattle.script_law.proofs.Tests.{not_true, both, joint, three_facts, four_facts, le_is, at_most}
 
 -- ---- a byte
 
@@ -53,13 +53,6 @@ pub record IsRange (s : Script) (b : BufId) (off len : ℕ) : Type 0 where
   pub len_small : len ≤ 16777216
   pub inside : nat_lt (4096 * (decl s b).pages) (off + len) ≡ false
 
-pub four_facts : (a b c d : Bool) → (a && b && c && d) ≡ true → (a ≡ true) × (b ≡ true) × (c ≡ true) × (d ≡ true)
-four_facts true true true true h = (refl, refl, refl, refl)
-four_facts false b c d h = absurd cc
-four_facts true false c d h = absurd cc
-four_facts true true false d h = absurd cc
-four_facts true true true false h = absurd cc
-
 le_not : (n m : ℕ) → nat_le m n ≡ true → nat_lt n m ≡ false
 le_not n m h = grind (arith, nat_tests, h)
 
@@ -83,12 +76,6 @@ whole_op (op.Fill dst off len byte) = op_word.Fill (Some dst) (Some off) (Some l
 whole_op (op.Copy dst doff src soff len) = op_word.Copy (Some dst) (Some doff) (Some src) (Some soff) (Some len)
 whole_op (op.Xor dst doff src soff len) = op_word.Xor (Some dst) (Some doff) (Some src) (Some soff) (Some len)
 whole_op (op.Probe src off len) = op_word.Probe (Some src) (Some off) (Some len)
-
-three_facts : (a b c : Bool) → (a && b && c) ≡ true → (a ≡ true) × (b ≡ true) × (c ≡ true)
-three_facts true true true h = (refl, refl, refl)
-three_facts false b c h = absurd cc
-three_facts true false c h = absurd cc
-three_facts true true false h = absurd cc
 
 op_again : (s : Script) (o : Op) → IsNamed s → is_op s o ≡ true → op_of (names_of s.buffers) (op_words s o) ≡ whole_op o
 op_again s (op.Fill dst off len byte) h k =
@@ -208,13 +195,6 @@ three_or false false c p q = refl
 three_or true b c p q = absurd cc
 three_or false true c p q = absurd cc
 
-more_not : (n : ℕ) → nat_le n 256 ≡ true → nat_lt 256 n ≡ false
-more_not n h = grind (arith, nat_tests, h)
-
-not_true : (b : Bool) → not b ≡ true → b ≡ false
-not_true true h = absurd cc
-not_true false h = refl
-
 op_inside : (s : Script) (o : Op) → is_op s o ≡ true → passes_in_op s (whole_op o) ≡ false
 op_inside s (op.Fill dst off len byte) k = right_range s dst off len (range_is s dst off len (both (is_range_of s dst off len) (is_byte byte) k).0)
 op_inside s (op.Copy dst doff src soff len) k =
@@ -225,7 +205,7 @@ op_inside s (op.Xor dst doff src soff len) k =
     three_or (has_wrong_range s (Some dst) (Some doff) (Some len)) _ true (right_range s dst doff len (range_is s dst doff len f.0)) (range_is s src soff len f.1).inside
 op_inside s (op.Probe src off len) k =
     let f = both (is_range_of s src off len) (nat_le len 256) k in
-    three_or (has_wrong_range s (Some src) (Some off) (Some len)) _ true (right_range s src off len (range_is s src off len f.0)) (more_not len f.1)
+    three_or (has_wrong_range s (Some src) (Some off) (Some len)) _ true (right_range s src off len (range_is s src off len f.0)) (at_most len f.1)
 
 op_apart : (s : Script) (o : Op) → is_op s o ≡ true → names_one_twice (whole_op o) ≡ false
 op_apart s (op.Fill dst off len byte) k = refl

@@ -1,28 +1,19 @@
 -- A place that is spelled is cut into its base and its flags again.
-use Rattle.std.proofs.Common.{◌≡◌, ℕ, ◌<◌, ◌^◌, Bool, true, false, cond, eqb, List, [], ◌∷◌, ◌++◌, Some, refl, sym, ap, ◌∙◌}
-use Rattle.std.specs.Prelude.{◌&&◌, ◌||◌, not, codes, decimal}
+use Rattle.std.proofs.Common.{◌≡◌, ℕ, Bool, true, false, cond, eqb, List, [], ◌∷◌, ◌++◌, Some, refl, sym, ap, ◌∙◌}
+use Rattle.std.specs.Prelude.{◌||◌, codes}
 use Rattle.std.specs.List.{list_all, list_any}
 use Rattle.std.proofs.lemmas.Bool.{eqb-true}
-use Rattle.std.proofs.lemmas.Fmt.{digits_decimal}
 use Rattle.journal_model.specs.declared.line.Flags.{Flags}
 use Rattle.journal_model.specs.Words.{Text}
 use Rattle.journal_model.specs.Cut.{cut_at}
-use Rattle.journal_model.specs.Reading.{is_digit, flags_of}
+use Rattle.journal_model.specs.Reading.{flags_of}
 use Rattle.script_law.proofs.CutLaws.{lacks, cut_again}
-use Rattle.script_law.proofs.NumberLaws.{own, both}
 use Rattle.script_law.proofs.PlaceLaws.{tail, join_tail, all_flags}
-
-differ : true ≡ false → ⊥
-differ h = absurd cc
+use Rattle.script_law.proofs.Tests.{both, joint, differ}
 
 pub not_same : (p : ℕ → Bool) (x c : ℕ) (b : Bool) → eqb x c ≡ b → p x ≡ true → p c ≡ false → b ≡ false
 not_same p x c false e ay nay = refl
 not_same p x c true e ay nay = absurd (differ (sym ay ∙ ap p (eqb-true x c e) ∙ nay))
-
-joint : (a b : Bool) → a ≡ true → b ≡ true → (a && b) ≡ true
-joint true true p q = refl
-joint true false p q = absurd cc
-joint false b p q = absurd cc
 
 -- what passes a test that the separator fails has no separator
 pub lacks_by : (p : ℕ → Bool) (c : ℕ) (w : Text) → p c ≡ false → list_all p w ≡ true → list_any (λ b. eqb b c) w ≡ false
@@ -30,9 +21,6 @@ lacks_by p c [] nay h = refl
 lacks_by p c (x ∷ xs) nay h =
     let f = both (p x) (list_all p xs) h in
     ap (λ b. b || list_any (λ y. eqb y c) xs) (not_same p x c (eqb x c) refl f.0 nay) ∙ lacks_by p c xs nay f.1
-
-pub decimal_lacks : (c n : ℕ) → is_digit c ≡ false → n < 2 ^ 64 → lacks c (decimal n) ≡ true
-decimal_lacks c n nay small = ap not (lacks_by is_digit c (decimal n) nay (digits_decimal own n small))
 
 abbrev pub listed_flag : Bool → Text → List Text → List Text
 listed_flag b word words = cond b (word ∷ words) words

@@ -18,13 +18,13 @@ use Rattle.journal_model.specs.ScriptRules.{is_place_of, is_place, is_flagged, i
 use Rattle.journal_model.specs.Reading.{number_in, mem_of, last_flags_of, contig_flags_of, flags_of, flagged, ranged, is_system, reach_place, based_place, at_place, plus_place, place_of, places_of}
 use Rattle.journal_model.specs.LineRules.{is_no_place, is_broken_place, may_force, is_no_list}
 use Rattle.journal_model.specs.FirstFault.{or_zero, place_in, wanted, taken_under_pressure}
-use Rattle.script_law.proofs.LineLaws.{either}
 use Rattle.script_law.proofs.PlaceLaws.{is, some_flags, flag_made, chosen}
 use Rattle.script_law.proofs.HeadLaws.{good_place}
 use Rattle.script_law.proofs.BufferLaws.{bare, first_of, forced_of}
 use Rattle.script_law.proofs.CommandFits.{number_small}
 use Rattle.script_law.proofs.CommandSteps.{not_false}
-use Rattle.script_law.proofs.ListFacts.{joint, both, is_le, length_map}
+use Rattle.script_law.proofs.ListFacts.{length_map}
+use Rattle.script_law.proofs.Tests.{either, both, joint, three, four, is_le, lt_is}
 
 -- ---- at most one flag
 
@@ -75,12 +75,6 @@ whole_fits Vram t c = refl
 
 in_order : (x y : ℕ) → ((eqb y 0 && not (eqb x 0)) || ltb x y) ≡ true → (eqb y 0 || nat_lt x y) ≡ true
 in_order x y h = grind (arith, nat_tests, h)
-
-three : (a b c : Bool) → a ≡ true → b ≡ true → c ≡ true → (a && b && c) ≡ true
-three true true true p q r = refl
-three false b c p q r = absurd cc
-three true false c p q r = absurd cc
-three true true false p q r = absurd cc
 
 range_is : (mem : Mem) (x y : ℕ) (t c : Bool) → is_system mem ≡ false → x ≤ 16384 → y ≤ 16384 → (eqb y 0 || nat_lt x y) ≡ true
     → is_place_of mem (record { mem = mem; first = x; last = y; topdown = t; contig = c }) ≡ true
@@ -159,9 +153,6 @@ forced_some (read_as.Malformed ∷ xs) a b h = absurd cc
 pub not_no_list : (most : ℕ) (xs : List PlaceWord) → is_no_list most xs ≡ false → (list_any is_no_place xs ≡ false) × (is_between 1 most (length xs) ≡ true)
 not_no_list most xs h = let e = either (list_any is_no_place xs) (not (is_between 1 most (length xs))) h in (e.0, not_false (is_between 1 most (length xs)) e.1)
 
-lt_is : (n m : ℕ) → n < m → nat_lt n m ≡ true
-lt_is n m h = grind (arith, nat_tests)
-
 -- the list of version 2
 pub new_list_fits : (w : Text) → is_no_list 8 (places_of true w) ≡ false → list_any is_broken_place (places_of true w) ≡ false → list_any may_force (places_of true w) ≡ true → is_place_list 2 (map place_in (places_of true w)) ≡ true
 new_list_fits w a b h =
@@ -181,13 +172,6 @@ drop_front (x ∷ xs) ys = drop_front xs ys
 all_made : {X : Type 0} (p : FlaggedPlace → Bool) (f : X → FlaggedPlace) (xs : List X) → ((x : X) → p (f x) ≡ true) → list_all p (map f xs) ≡ true
 all_made p f [] h = refl
 all_made p f (x ∷ xs) h = joint (p (f x)) (list_all p (map f xs)) (h x) (all_made p f xs h)
-
-four : (a b c d : Bool) → a ≡ true → b ≡ true → c ≡ true → d ≡ true → (a && b && c && d) ≡ true
-four true true true true p q r s = refl
-four false b c d p q r s = absurd cc
-four true false c d p q r s = absurd cc
-four true true false d p q r s = absurd cc
-four true true true false p q r s = absurd cc
 
 flags_kept : (f : FlaggedPlace) → is_flagged f ≡ true → (is_place f.place && true) ≡ true
 flags_kept f h = joint (is_place f.place) true (both (is_place f.place) (not (f.desired && f.fallback)) h).0 refl

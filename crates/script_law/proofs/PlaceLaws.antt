@@ -16,6 +16,7 @@ use Rattle.journal_model.specs.Reading.{number_in, mem_of, last_flags_of, contig
 use Rattle.script_law.proofs.CutLaws.{joined}
 use Rattle.script_law.proofs.NumberLaws.{number_takes}
 use Rattle.script_law.proofs.WordLaws.{bytes_are, mem_is, IsMemOf}
+use Rattle.script_law.proofs.Tests.{second}
 
 abbrev pub some_flags : Flags → Option Flags
 some_flags f = Some f
@@ -51,15 +52,11 @@ one_flag t c false true w g p q h =
     subst (λ (x : Flags). IsLast t c (w ∷ []) x) e (record { words = ap (λ v. 43 ∷ v ++ []) (q refl); first = refl; second = refl })
 one_flag t c false false w g p q h = absurd cc
 
-second_of : (a b : Bool) → (a && b) ≡ true → b ≡ true
-second_of true b h = h
-second_of false b h = absurd cc
-
 last_is : (two t c : Bool) (ws : List Text) (f : Flags) → last_flags_of two t c ws ≡ some_flags f → IsLast t c ws f
 last_is two t c [] f h = subst (λ (x : Flags). IsLast t c [] x) (flag_made t c false false f h) (record { words = refl; first = refl; second = refl })
 last_is two t c (w ∷ []) f h =
     one_flag t c (two && bytes_eq w (codes "desired")) (two && bytes_eq w (codes "fallback")) w f
-    (λ e. bytes_are w (codes "desired") (second_of two (bytes_eq w (codes "desired")) e)) (λ e. bytes_are w (codes "fallback") (second_of two (bytes_eq w (codes "fallback")) e)) h
+    (λ e. bytes_are w (codes "desired") (second two (bytes_eq w (codes "desired")) e)) (λ e. bytes_are w (codes "fallback") (second two (bytes_eq w (codes "fallback")) e)) h
 last_is two t c (w ∷ x ∷ ws) f h = absurd cc
 
 pub record IsContig (topdown : Bool) (ws : List Text) (f : Flags) : Type 0 where

@@ -1,7 +1,6 @@
 -- The bytes of a script say that script.
 use Rattle.std.proofs.Common.{◌≡◌, ℕ, suc, ◌+◌, ◌<◌, ◌≤◌, ◌^◌, Bool, true, false, cond, eqb, List, [], ◌∷◌, ◌++◌, length, Option, Some, Ok, Err, refl, sym, ap, subst, ◌∙◌, append_assoc, arith, bytes_eq, inl, inr}
 use Rattle.std.specs.Prelude.{◌&&◌, ◌||◌, ◌-◌, not, codes, decimal, flat_map, sum_by, nat_le, nat_lt, IsTrue, unwrap_or, slice_get}
-use Rattle.std.specs.Fmt.{digits}
 use Rattle.std.specs.List.{list_any, list_all}
 use Rattle.std.proofs.lemmas.Bool.Decides.{nat_tests}
 use Rattle.std.proofs.lemmas.List.{append-nil}
@@ -36,12 +35,16 @@ use Rattle.script_law.proofs.AgainLaws.{turned}
 use Rattle.script_law.proofs.BufferSteps.{same_is}
 use Rattle.script_law.proofs.HeadSteps.{at, kind_word, sizes_fit}
 use Rattle.script_law.proofs.Sound.{frame, first, second, third, fourth, fifth, sixth, six, thread_text, body}
-use Rattle.script_law.proofs.ListFacts.{both, joint, le_is, has_few}
+use Rattle.script_law.proofs.ListFacts.{has_few}
 use Rattle.script_law.proofs.ThreadsAgain.{threads_run, turns_run, end_runs}
 use Rattle.script_law.proofs.BufferAgain.{MayDeclare, decl_is, buffer_runs, one_or_two}
 use Rattle.script_law.proofs.LineRuns.{Runs, runs_none, runs_both, line_runs, says, keeps_all}
 use Rattle.script_law.proofs.Unmarked.{plain_spelling}
 use Rattle.script_law.proofs.Solid.{is_word, small_word, number_small_word}
+use Rattle.script_law.proofs.Tests.{not_true, either, both, joint, le_is}
+use Rattle.script_law.proofs.HeadSteps.{one}
+use Rattle.script_law.proofs.HeadSteps.{two}
+use Rattle.script_law.proofs.ThreadsAgain.{shorter}
 
 -- ---- a script by its parts
 
@@ -49,14 +52,6 @@ abbrev made_of : ℕ → Sizes → List Decl → List (List Command) → List (L
 made_of v sizes buffers threads turns = record { version = v; sizes = sizes; buffers = buffers; threads = threads; turns = turns; marks = [] }
 
 -- ---- the head
-
-one : decimal 1 ≡ codes "1"
-unfolding digits
-one = refl
-
-two : decimal 2 ≡ codes "2"
-unfolding digits
-two = refl
 
 abbrev no_sizes : Sizes
 no_sizes = record { buddy = false; vram = 0; tt = 0; frames = 0; swap = 0; engines = 0 }
@@ -146,18 +141,9 @@ head_runs s v h =
 
 -- ---- buffers
 
-not_true : (b : Bool) → not b ≡ true → b ≡ false
-not_true true h = absurd cc
-not_true false h = refl
-
-nothing_in : (a b : Bool) → (a || b) ≡ false → (a ≡ false) × (b ≡ false)
-nothing_in true b h = absurd cc
-nothing_in false true h = absurd cc
-nothing_in false false h = (refl, refl)
-
 absent : (p : Decl → Bool) (done : List Decl) (d : Decl) (ds : List Decl) → list_any p (done ++ d ∷ ds) ≡ false → p d ≡ false
-absent p [] d ds h = (nothing_in (p d) (list_any p ds) h).0
-absent p (e ∷ done) d ds h = absent p done d ds (nothing_in (p e) (list_any p (done ++ d ∷ ds)) h).1
+absent p [] d ds h = (either (p d) (list_any p ds) h).0
+absent p (e ∷ done) d ds h = absent p done d ds (either (p e) (list_any p (done ++ d ∷ ds)) h).1
 
 -- a name that comes later is none of those before
 free_name : (done : List Decl) (d : Decl) (ds : List Decl) → has_distinct_names (done ++ d ∷ ds) ≡ true → list_any (bytes_eq d.name) (names_of done) ≡ false
@@ -167,10 +153,6 @@ free_name (e ∷ done) d ds h =
     let f = both (not (list_any p (done ++ d ∷ ds))) (has_distinct_names (done ++ d ∷ ds)) h in
     let other : bytes_eq e.name d.name ≡ false = sym (same_is e.name d.name) ∙ absent p done d ds (not_true (list_any p (done ++ d ∷ ds)) f.0) in
     ap (λ b. b || list_any (bytes_eq d.name) (names_of done)) (turned e.name d.name other) ∙ free_name done d ds f.1
-
-shorter : {X : Type 0} (done : List X) (d : X) (ds : List X) → length done < length (done ++ d ∷ ds)
-shorter [] d ds = omega arith
-shorter (e ∷ done) d ds = let r = shorter done d ds in omega (arith, r)
 
 buffers_run : (v : ℕ) (sizes : Sizes) (done ds : List Decl) → is_between 1 2 v ≡ true → list_all (is_decl v) ds ≡ true → has_distinct_names (done ++ ds) ≡ true → length (done ++ ds) ≤ 256
     → Runs (at phase.Buffers (made_of v sizes done [] []) 0 0) (flat_map (buffer_line v) ds) (at phase.Buffers (made_of v sizes (done ++ ds) [] []) 0 0)

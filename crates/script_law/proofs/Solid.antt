@@ -18,7 +18,7 @@ use Rattle.script_law.proofs.CutLaws.{lacks}
 use Rattle.script_law.proofs.NumberLaws.{own}
 use Rattle.script_law.proofs.WordLaws.{bytes_are}
 use Rattle.script_law.proofs.PlaceAgain.{lacks_by}
-use Rattle.script_law.proofs.ListFacts.{both, joint, le_is}
+use Rattle.script_law.proofs.Tests.{not_true, both, joint, three_facts, le_is, apart}
 
 -- a byte that shows and is no space
 abbrev pub is_solid : ℕ → Bool
@@ -44,18 +44,15 @@ small_word w h =
     let f = both (not (is_empty w)) (list_all is_letter_or_digit w) h in
     joint (not (is_empty w)) (list_all is_solid w) f.0 (implied is_letter_or_digit is_solid w letter_solid f.1)
 
-differ : false ≡ true → ⊥
-differ h = absurd cc
-
 no_sign : (b : Bool) (w : Text) → list_all is_letter_or_digit w ≡ true → is_semicolon w ≡ b → b ≡ false
 no_sign false w h e = refl
-no_sign true w h e = absurd (differ (ap (list_all is_letter_or_digit) (sym (bytes_are w (codes ";") e)) ∙ h))
+no_sign true w h e = absurd (apart (ap (list_all is_letter_or_digit) (sym (bytes_are w (codes ";") e)) ∙ h))
 
 -- a word of letters and digits is no semicolon
 pub small_no_sign : (w : Text) → is_small w ≡ true → is_semicolon w ≡ false
 small_no_sign w h = no_sign (is_semicolon w) w (both (not (is_empty w)) (list_all is_letter_or_digit w) h).1 refl
 
-not_empty : (w : Text) → 0 < length w → not (is_empty w) ≡ true
+pub not_empty : (w : Text) → 0 < length w → not (is_empty w) ≡ true
 not_empty w h = grind (arith, nat_tests, h)
 
 digit_small : (c : ℕ) → is_digit c ≡ true → is_letter_or_digit c ≡ true
@@ -67,12 +64,6 @@ number_small_word n h =
 
 letter_small : (c : ℕ) → is_letter c ≡ true → is_letter_or_digit c ≡ true
 letter_small c h = ap (λ b. b || is_between 48 57 c) h
-
-three_facts : (a b c : Bool) → (a && b && c) ≡ true → (a ≡ true) × (b ≡ true) × (c ≡ true)
-three_facts true true true h = (refl, refl, refl)
-three_facts false b c h = absurd cc
-three_facts true false c h = absurd cc
-three_facts true true false h = absurd cc
 
 pub name_small : (w : Text) → is_name w ≡ true → is_small w ≡ true
 name_small [] h = absurd cc
@@ -113,10 +104,6 @@ solid_lacks c w nay h = ap not (lacks_by is_solid c w nay h)
 
 pub words_lack : (c : ℕ) (ws : List Text) → is_solid c ≡ false → list_all is_word ws ≡ true → list_all (lacks c) ws ≡ true
 words_lack c ws nay h = implied is_word (lacks c) ws (λ w k. solid_lacks c w nay (both (not (is_empty w)) (list_all is_solid w) k).1) h
-
-not_true : (b : Bool) → not b ≡ true → b ≡ false
-not_true true h = absurd cc
-not_true false h = refl
 
 -- no word is empty
 pub none_empty : (ws : List Text) → list_all is_word ws ≡ true → list_any is_empty ws ≡ false

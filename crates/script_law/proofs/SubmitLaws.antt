@@ -15,7 +15,8 @@ use Rattle.journal_model.specs.FirstFault.{or_zero, or_first, op_in}
 use Rattle.script_law.proofs.CutLaws.{cut_some}
 use Rattle.script_law.proofs.WordLaws.{bytes_are}
 use Rattle.script_law.proofs.HexLaws.{two_digits}
-use Rattle.script_law.proofs.LineLaws.{either, offset_word, name_word}
+use Rattle.script_law.proofs.LineLaws.{offset_word, name_word}
+use Rattle.script_law.proofs.Tests.{either, differ}
 
 parted_onto : (x : Text) (parts : List (List Text)) → parted (onto x parts) ≡ x ∷ parted parts
 parted_onto x [] = refl
@@ -39,9 +40,6 @@ pub record IsGood (x : OpWord) : Type 0 where
   pub numbers : lacks_number_in_op x ≡ false
   pub names : lacks_name_in_op x ≡ false
   pub bytes : lacks_byte_in_op x ≡ false
-
-differ : true ≡ false → ⊥
-differ h = absurd cc
 
 byte_pair : (c d : ℕ) (a b : Bool) → is_hex c ≡ a → is_hex d ≡ b → let o : Option ℕ = cond (a && b) (Some (hex_value c * 16 + hex_value d)) None in is_none o ≡ false → c ∷ d ∷ [] ≡ hex_byte (or_zero o)
 byte_pair c d true true p q h = sym (two_digits c d p q)

@@ -24,6 +24,7 @@ use Rattle.script_law.proofs.BufferSteps.{buffer_step, buffer_says}
 use Rattle.script_law.proofs.LastSteps.{thread_from_buffers, thread_from_threads, turn_from_buffers, turn_from_threads, turn_from_turns, end_from_buffers, end_from_threads, end_from_turns, few_seats}
 use Rattle.script_law.proofs.HeadSteps.{at, version_step, vram_step, tt_step, frames_step, swap_step, engines_step}
 use Rattle.script_law.proofs.Sound.{Sound, text_of, Grows}
+use Rattle.script_law.proofs.LineRuns.{led}
 
 -- ---- a line
 
@@ -99,7 +100,7 @@ line_grows p q text h e =
 
 -- ---- all lines
 
-abbrev all_of : List Text → Text
+abbrev pub all_of : List Text → Text
 all_of texts = flat_map (λ t. t) texts
 
 pub record Ends (p : Progress) (texts : List Text) (s : Script) : Type 0 where
@@ -112,9 +113,6 @@ pub record Ends (p : Progress) (texts : List Text) (s : Script) : Type 0 where
 over_is : (b : Bool) (x s : Script) (n : ℕ) → (let r : Result Script (ℕ × ℕ) = cond b (Ok x) (Err (n + 1, 3)) in r ≡ Ok s) → (b ≡ true) × (x ≡ s)
 over_is true x s n h = (refl, cc)
 over_is false x s n h = absurd cc
-
-abbrev led : Result Progress ℕ → ℕ → List Text → Result Script (ℕ × ℕ)
-led after n texts = elim after [ Ok next ↦ script_from next (n + 1) texts | Err rule ↦ Err (n + 1, rule) ]
 
 goes : (a : Result Progress ℕ) (p : Progress) (n : ℕ) (text : Text) (texts : List Text) (s : Script) → Sound p → after_line p text ≡ a
     → ((next : Progress) → Sound next → script_from next (n + 1) texts ≡ Ok s → Ends next texts s) → led a n texts ≡ Ok s → Ends p (text ∷ texts) s

@@ -1,8 +1,7 @@
 -- What the lines say is a script with these bytes.
-use Rattle.std.proofs.Common.{◌≡◌, ℕ, ◌≤◌, Bool, true, false, cond, eqb, List, [], ◌∷◌, ◌++◌, length, Result, Ok, Err, refl, sym, ap, subst, ◌∙◌, arith}
-use Rattle.std.specs.Prelude.{◌&&◌, codes, flat_map, sum_by, nat_le, nat_lt, IsTrue}
+use Rattle.std.proofs.Common.{◌≡◌, ℕ, Bool, true, false, cond, eqb, List, [], ◌∷◌, ◌++◌, length, Result, Ok, Err, refl, sym, ap, subst, ◌∙◌, arith}
+use Rattle.std.specs.Prelude.{◌&&◌, codes, sum_by, nat_le, nat_lt, IsTrue}
 use Rattle.std.specs.List.{list_all}
-use Rattle.std.proofs.lemmas.Bool.Decides.{nat_tests}
 use Rattle.std.proofs.lemmas.List.Concat.{flat_map-cons}
 use Rattle.journal_model.specs.declared.script.Script.{Script}
 use Rattle.journal_model.specs.declared.line.Progress.{Progress}
@@ -16,15 +15,13 @@ use Rattle.journal_model.specs.MarkRules.{have_marks}
 use Rattle.journal_model.specs.ScriptRules.{has_sizes, is_decl, has_distinct_names, is_turn_line, is_script}
 use Rattle.journal_model.specs.FirstFault.{is_over, nothing_read, script_from}
 use Rattle.script_law.specs.ScriptLaws.{IsPlainScript, TakesScripts}
-use Rattle.script_law.proofs.ListFacts.{is_le}
 use Rattle.script_law.proofs.Sound.{Sound, text, body}
 use Rattle.script_law.proofs.Takes.{runs}
 use Rattle.script_law.proofs.Unmarked.{plain_spelling, no_marks_fit}
+use Rattle.script_law.proofs.Tests.{is_le, not_less}
+use Rattle.script_law.proofs.Takes.{all_of}
 
 -- ---- the lines of a text are the text
-
-abbrev all_of : List Text → Text
-all_of texts = flat_map (λ t. t) texts
 
 onto_all : (b : ℕ) (parts : List Text) → all_of (onto b parts) ≡ b ∷ all_of parts
 onto_all b [] = flat_map-cons (λ (t : Text). t) (b ∷ []) []
@@ -95,9 +92,6 @@ nothing_sound = record {
 within : (b : Bool) (r : Result Script (ℕ × ℕ)) (s : Script) → (let x : Result Script (ℕ × ℕ) = cond b (Err (0, 1)) r in x ≡ Ok s) → (b ≡ false) × (r ≡ Ok s)
 within true r s h = absurd cc
 within false r s h = (refl, h)
-
-not_less : (n m : ℕ) → nat_lt n m ≡ false → m ≤ n
-not_less n m h = grind (arith, nat_tests, h)
 
 true_is : (b : Bool) → b ≡ true → IsTrue b
 true_is b h = h

@@ -1,6 +1,6 @@
 -- A line is its words and a line feed.
-use Rattle.std.proofs.Common.{◌≡◌, ℕ, zero, suc, ◌+◌, ◌-◌, Bool, true, false, [], ◌∷◌, ◌++◌, length, take, Option, Some, None, refl, sym, ap, ◌∙◌, arith}
-use Rattle.std.specs.Prelude.{slice_get, ◌||◌, not}
+use Rattle.std.proofs.Common.{◌≡◌, ℕ, zero, suc, ◌+◌, ◌-◌, true, [], ◌∷◌, ◌++◌, length, take, Option, Some, None, sym, ap, ◌∙◌, arith}
+use Rattle.std.specs.Prelude.{slice_get}
 use Rattle.std.proofs.lemmas.Bool.{eqb-true}
 use Rattle.journal_model.specs.Words.{Text, line}
 use Rattle.journal_model.specs.Cut.{cut_at}
@@ -20,15 +20,6 @@ last_of (x ∷ xs) (suc n) h e = ap (λ ys. x ∷ ys) (last_of xs n h (omega (ar
 some_length : (text : Text) → slice_get text (length text - 1) ≡ Some 10 → length text - 1 + 1 ≡ length text
 some_length [] h = absurd cc
 some_length (b ∷ bs) h = omega arith
-
-both : (a b : Bool) → (a || b) ≡ false → (a ≡ false) × (b ≡ false)
-both true b h = absurd cc
-both false true h = absurd cc
-both false false h = (refl, refl)
-
-not_false : (b : Bool) → not b ≡ false → b ≡ true
-not_false true h = refl
-not_false false h = absurd cc
 
 pub text_is_line : (text : Text) → ends_line text ≡ true → text ≡ line (cut_at 32 (without_end text))
 text_is_line text h =

@@ -1,6 +1,6 @@
 -- Threads and schedules that were written are read.
 use Rattle.std.proofs.Common.{◌≡◌, ℕ, ◌+◌, ◌<◌, ◌≤◌, ◌^◌, Bool, true, false, cond, List, [], ◌∷◌, ◌++◌, length, map, None, Ok, refl, sym, ap, subst, ◌∙◌, append_assoc, arith}
-use Rattle.std.specs.Prelude.{◌&&◌, ◌||◌, not, codes, flat_map, sum_by, nat_le, nat_lt}
+use Rattle.std.specs.Prelude.{◌&&◌, ◌||◌, not, codes, flat_map, sum_by, nat_le}
 use Rattle.std.specs.List.{list_any, list_all}
 use Rattle.std.proofs.lemmas.Bool.Decides.{nat_tests}
 use Rattle.std.proofs.lemmas.List.{append-nil}
@@ -15,7 +15,6 @@ use Rattle.journal_model.specs.declared.line.Phase.TheVariants as phase
 use Rattle.journal_model.specs.declared.line.Keyword.TheVariants as key
 use Rattle.journal_model.specs.declared.line.Line.TheVariants as line_of
 use Rattle.journal_model.specs.declared.line.ActorWord.{ActorWord}
-use Rattle.journal_model.specs.declared.line.ActorWord.TheVariants as read_as
 use Rattle.journal_model.specs.Words.{Text, line, actor_word}
 use Rattle.journal_model.specs.Spelling.{turn_line}
 use Rattle.journal_model.specs.CommandRules.{is_between, is_command, command_len}
@@ -27,11 +26,13 @@ use Rattle.journal_model.specs.FirstFault.{with_line, with_job, actor_in}
 use Rattle.script_law.proofs.LineLaws.{made, Breaks_none}
 use Rattle.script_law.proofs.HeadSteps.{at}
 use Rattle.script_law.proofs.Sound.{command_text, thread_text}
-use Rattle.script_law.proofs.ListFacts.{both, joint, le_is, length_map, has_few, put_last, onto_is}
+use Rattle.script_law.proofs.ListFacts.{length_map, has_few, put_last, onto_is}
 use Rattle.script_law.proofs.NamesAgain.{IsNamed, actor_again, actor_solid}
 use Rattle.script_law.proofs.CommandAgain.{IsRoom, command_runs}
 use Rattle.script_law.proofs.LineRuns.{Runs, runs_none, runs_both, line_runs, says, keeps_all}
 use Rattle.script_law.proofs.Solid.{is_word}
+use Rattle.script_law.proofs.Tests.{both, joint, le_is, not_long}
+use Rattle.script_law.proofs.HeadLaws.{an_actor}
 
 -- ---- commands
 
@@ -85,9 +86,6 @@ commands_run s done xs (c ∷ cs) n m h small k few short =
 not_full : (n : ℕ) → n < 16 → nat_le 16 n ≡ false
 not_full n h = grind (arith, nat_tests)
 
-not_long : (n : ℕ) → n ≤ 67108864 → nat_lt 67108864 n ≡ false
-not_long n h = grind (arith, nat_tests)
-
 thread_runs : (ph : Phase) (s : Script) (n m : ℕ) → may_come ph key.Thread ≡ true → length s.threads < 16 → m ≤ 67108864 → Runs (at ph s n m) (line (codes "thread" ∷ [])) (at phase.Threads (threaded s (s.threads ++ [] ∷ [])) 0 m)
 thread_runs ph s n m c few short =
     let p = at ph s n m in
@@ -104,7 +102,7 @@ pub record Behind (p : Progress) (t : Text) (s : Script) : Type 0 where
   pub short : m ≤ 67108864
   pub runs : Runs p t (at ph s n m)
 
-shorter : {X : Type 0} (done : List X) (d : X) (ds : List X) → length done < length (done ++ d ∷ ds)
+pub shorter : {X : Type 0} (done : List X) (d : X) (ds : List X) → length done < length (done ++ d ∷ ds)
 shorter [] d ds = omega arith
 shorter (e ∷ done) d ds = let r = shorter done d ds in omega (arith, r)
 
@@ -152,9 +150,6 @@ threads_run (cs ∷ ts) s done ph n m c d e h small few each fit short =
 
 abbrev pub steered : Script → List (List Actor) → Script
 steered s turns = record s { turns = turns }
-
-abbrev an_actor : Actor → ActorWord
-an_actor who = read_as.Is who
 
 none_of : (P : ActorWord → Bool) → ((who : Actor) → P (an_actor who) ≡ false) → (xs : List Actor) → list_any P (map an_actor xs) ≡ false
 none_of P h [] = refl

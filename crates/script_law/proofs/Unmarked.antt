@@ -13,8 +13,9 @@ use Rattle.journal_model.specs.Complete.{thread_numbers}
 use Rattle.journal_model.specs.Marks.{marks_of, marks_at, is_mapped, addressed}
 use Rattle.journal_model.specs.Spelling.{command_words, mapped_words, addressed_words, mark_line, mark_lines, command_line, command_lines, thread_lines, turn_line, buffer_line, spelling}
 use Rattle.journal_model.specs.MarkRules.{Desk, empty_desk, desk_after, are_marks, marks_fit, is_line, has_few_lines, are_in_order, is_in_thread, have_marks}
-use Rattle.script_law.proofs.ListFacts.{joint, both, all_nil, has_few}
+use Rattle.script_law.proofs.ListFacts.{all_nil, has_few}
 use Rattle.script_law.proofs.Sound.{frame, six, command_text, thread_text, body}
+use Rattle.script_law.proofs.Tests.{both, joint}
 
 -- ---- the text
 

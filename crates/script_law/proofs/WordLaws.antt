@@ -17,12 +17,10 @@ use Rattle.journal_model.specs.Words.{Text, mem_word, name_of}
 use Rattle.journal_model.specs.Commands.{undeclared}
 use Rattle.journal_model.specs.Reading.{known, names_of, mem_of}
 use Rattle.journal_model.specs.LineWords.{keyword_of, command_keyword_of, verb_of, or_other}
+use Rattle.script_law.proofs.ListFacts.{length_map}
 
 pub bytes_are : (a b : Text) → bytes_eq a b ≡ true → a ≡ b
 bytes_are a b h = (bytes_eq-Decides a b).0 h
-
-pub bytes_same : (a : Text) → bytes_eq a a ≡ true
-bytes_same a = (bytes_eq-Decides a a).1 refl
 
 pick : {A : Type 0} (P : A → Type 0) (b : Bool) (x y : A) → (b ≡ true → P x) → P y → P (cond b x y)
 pick P true x y h k = h refl
@@ -130,10 +128,6 @@ named [] i w h = absurd cc
 named (d ∷ ds) zero w h = cc
 named (d ∷ ds) (suc i) w h = named ds i w h
 
-within : {X Y : Type 0} (f : X → Y) (xs : List X) → length (map f xs) ≡ length xs
-within f [] = refl
-within f (x ∷ xs) = ap suc (within f xs)
-
 some_at : (t : Bool) (n : ℕ) (b : BufId) (made : ℕ → BufId) → ((i : ℕ) → (made i).0 ≡ i) → option_map made (cond t (Some n) None) ≡ Some b → (t ≡ true) × (n ≡ b.0)
 some_at true n b made same h = let e : made n ≡ b = cc in (refl, sym (same n) ∙ ap (λ (c : BufId). c.0) e)
 some_at false n b made same h = absurd cc
@@ -148,7 +142,7 @@ known_is script w b h =
     let f = found_at (bytes_eq w) names lt in
     let name = named script.buffers n f.0 f.1 in
     let here : (unwrap_or (slice_get script.buffers b.0) undeclared).name ≡ f.0 = subst (λ k. (unwrap_or (slice_get script.buffers k) undeclared).name ≡ f.0) s.1 name in
-    (here ∙ sym (bytes_are w f.0 f.2), omega (arith, lt, s.1, within (λ (d : Decl). d.name) script.buffers))
+    (here ∙ sym (bytes_are w f.0 f.2), omega (arith, lt, s.1, length_map (λ (d : Decl). d.name) script.buffers))
 
 pub keyword_again : (v : Verb) → keyword_of (verb_word v) ≡ key.Plain v
 keyword_again verb.New = refl

@@ -4,15 +4,17 @@ ghost use Rattle.std.specs.Prelude.{◌≡◌, ◌≤◌, ◌<◌, ◌+◌, ◌-
 ghost use Rattle.std.specs.List.{list_any};
 ghost use Rattle.journal_model.specs.LineWords.{keyword_of};
 ghost use Rattle.journal_model.specs.FirstFault.{with_sizes, with_buffer, with_command, with_job, with_line, is_shown, without_end, ends_line, breaks_text, first_word, after_words, after_line, nothing_read, is_over};
-ghost use Rattle.journal_model.specs.LineRules.{len_of_word};
+ghost use Rattle.journal_model.specs.LineRules.{len_of_word, is_too_long};
 ghost use Rattle.script_text.specs.Steps.{IsSteady, IsClean, Leads};
 
 use crate::rules::{broken, lens_within};
 use crate::values::{
-    actors_of, bytes_of, declared, engine_of, first_of, list_of, ops_of, plain_of, put_command,
-    two_lists_of, zero_of,
+    actors_of, declared, engine_of, first_of, list_of, move_of, ops_of, plain_of, put_command,
+    read_of, touch_of, two_lists_of, write_of, zero_of,
 };
-use journal_model::line::{Keyword, Line, OpWord, Phase, Progress};
+use journal_model::line::{
+    ActorWords, EngineWord, Keyword, Line, OpWord, OpWords, Phase, Progress,
+};
 use journal_model::{
     Bytes, Command, CommandLists, Commands, Decl, Decls, Marks, Script, Sizes, TurnLines,
 };
@@ -28,6 +30,64 @@ fn set_sizes(progress: &mut Progress, next: Phase, sizes: Sizes)
 {
     progress.phase = next;
     progress.script.sizes = sizes;
+}
+
+fn set_version(progress: &mut Progress, version: u32)
+    ensures { progress.new ≡ with_line progress.old (Line.Version version) }
+{
+    progress.phase = Phase::Vram;
+    progress.script.version = version;
+}
+
+fn set_vram(progress: &mut Progress, buddy: bool, size: Option<u32>)
+    ensures { progress.new ≡ with_line progress.old (Line.Vram buddy size) }
+{
+    let sizes = Sizes {
+        buddy,
+        vram: zero_of(size),
+        ..progress.script.sizes
+    };
+    set_sizes(progress, Phase::Tt, sizes);
+}
+
+fn set_tt(progress: &mut Progress, size: Option<u32>)
+    ensures { progress.new ≡ with_line progress.old (Line.Tt size) }
+{
+    let sizes = Sizes {
+        tt: zero_of(size),
+        ..progress.script.sizes
+    };
+    set_sizes(progress, Phase::Frames, sizes);
+}
+
+fn set_frames(progress: &mut Progress, size: Option<u32>)
+    ensures { progress.new ≡ with_line progress.old (Line.Frames size) }
+{
+    let sizes = Sizes {
+        frames: zero_of(size),
+        ..progress.script.sizes
+    };
+    set_sizes(progress, Phase::Swap, sizes);
+}
+
+fn set_swap(progress: &mut Progress, size: Option<u32>)
+    ensures { progress.new ≡ with_line progress.old (Line.Swap size) }
+{
+    let sizes = Sizes {
+        swap: zero_of(size),
+        ..progress.script.sizes
+    };
+    set_sizes(progress, Phase::Engines, sizes);
+}
+
+fn set_engines(progress: &mut Progress, size: Option<u32>)
+    ensures { progress.new ≡ with_line progress.old (Line.Engines size) }
+{
+    let sizes = Sizes {
+        engines: zero_of(size),
+        ..progress.script.sizes
+    };
+    set_sizes(progress, Phase::Buffers, sizes);
 }
 
 fn put_buffer(
@@ -85,6 +145,32 @@ fn lens(left: u64, ops: &[OpWord]) -> u64
     }
 }
 
+fn put_turn(alloc: Global, progress: &mut Progress, actors: ActorWords) -> Result<(), NoMemory>
+    ensures { OnOk result (progress.new ≡ with_line progress.old (Line.Turn actors)) }
+{
+    let actors = actors_of(alloc, actors.items())?;
+    progress.script.turns.push(actors)?;
+    progress.phase = Phase::Turns;
+    Ok(())
+}
+
+fn put_submit(
+    alloc: Global,
+    progress: &mut Progress,
+    engine: EngineWord,
+    ops: OpWords,
+) -> Result<(), NoMemory>
+    requires lines { progress.old.lines < 4096 }
+    requires before { progress.old.lens ≤ 67108864 }
+    requires short { is_too_long progress.old (Line.Submit engine ops) ≡ false }
+    ensures { OnOk result (progress.new ≡ with_line progress.old (Line.Submit engine ops)) }
+{
+    let lens = lens(67_108_864 - progress.lens, ops.items());
+    let ops = ops_of(alloc, ops.items())?;
+    let engine = engine_of(engine);
+    put_job(progress, Command::Submit { engine, ops }, lens)
+}
+
 /// Takes a line that breaks no rule.
 fn accept(
     alloc: Global,
@@ -98,114 +184,31 @@ fn accept(
     ensures steady { OnOk result (IsSteady names.new progress.new) }
 {
     match line {
-        Line::Version { version } => {
-            progress.phase = Phase::Vram;
-            progress.script.version = version;
-            Ok(())
-        }
-        Line::Vram { buddy, size } => {
-            let sizes = Sizes {
-                buddy,
-                vram: zero_of(size),
-                ..progress.script.sizes
-            };
-            set_sizes(progress, Phase::Tt, sizes);
-            Ok(())
-        }
-        Line::Tt { size } => {
-            let sizes = Sizes {
-                tt: zero_of(size),
-                ..progress.script.sizes
-            };
-            set_sizes(progress, Phase::Frames, sizes);
-            Ok(())
-        }
-        Line::Frames { size } => {
-            let sizes = Sizes {
-                frames: zero_of(size),
-                ..progress.script.sizes
-            };
-            set_sizes(progress, Phase::Swap, sizes);
-            Ok(())
-        }
-        Line::Swap { size } => {
-            let sizes = Sizes {
-                swap: zero_of(size),
-                ..progress.script.sizes
-            };
-            set_sizes(progress, Phase::Engines, sizes);
-            Ok(())
-        }
-        Line::Engines { size } => {
-            let sizes = Sizes {
-                engines: zero_of(size),
-                ..progress.script.sizes
-            };
-            set_sizes(progress, Phase::Buffers, sizes);
-            Ok(())
-        }
+        Line::Version { version } => set_version(progress, version),
+        Line::Vram { buddy, size } => set_vram(progress, buddy, size),
+        Line::Tt { size } => set_tt(progress, size),
+        Line::Frames { size } => set_frames(progress, size),
+        Line::Swap { size } => set_swap(progress, size),
+        Line::Engines { size } => set_engines(progress, size),
         Line::Buffer { head, want, busy } => {
             let list = two_lists_of(alloc, want.items(), busy.items())?;
-            put_buffer(alloc, names, progress, declared(head, list))
+            put_buffer(alloc, names, progress, declared(head, list))?;
         }
         Line::Placed { head, list } => {
             let list = list_of(alloc, list.items())?;
-            put_buffer(alloc, names, progress, declared(head, list))
+            put_buffer(alloc, names, progress, declared(head, list))?;
         }
-        Line::Thread => put_thread(alloc, progress),
-        Line::Turn { actors } => {
-            let actors = actors_of(alloc, actors.items())?;
-            progress.script.turns.push(actors)?;
-            progress.phase = Phase::Turns;
-            Ok(())
-        }
-        Line::End => {
-            progress.phase = Phase::After;
-            Ok(())
-        }
-        Line::Plain { verb, b } => put(progress, plain_of(verb, first_of(b))),
-        Line::Write { b, off, bytes } => put(
-            progress,
-            Command::Write {
-                b: first_of(b),
-                off: zero_of(off),
-                bytes: bytes_of(alloc, bytes),
-            },
-        ),
-        Line::Read { b, off, len } => put(
-            progress,
-            Command::Read {
-                b: first_of(b),
-                off: zero_of(off),
-                len: zero_of(len),
-            },
-        ),
-        Line::Move { b, mem } => put(
-            progress,
-            Command::Move {
-                b: first_of(b),
-                mem,
-            },
-        ),
-        Line::Touch { group } => put(
-            progress,
-            Command::Touch {
-                group: zero_of(group),
-            },
-        ),
-        Line::Submit { engine, ops } => {
-            let lens = lens(67_108_864 - progress.lens, ops.items());
-            let ops = ops_of(alloc, ops.items())?;
-            put_job(
-                progress,
-                Command::Submit {
-                    engine: engine_of(engine),
-                    ops,
-                },
-                lens,
-            )
-        }
+        Line::Thread => put_thread(alloc, progress)?,
+        Line::Turn { actors } => put_turn(alloc, progress, actors)?,
+        Line::End => progress.phase = Phase::After,
+        Line::Plain { verb, b } => put(progress, plain_of(verb, first_of(b)))?,
+        Line::Write { b, off, bytes } => put(progress, write_of(alloc, b, off, bytes))?,
+        Line::Read { b, off, len } => put(progress, read_of(b, off, len))?,
+        Line::Move { b, mem } => put(progress, move_of(b, mem))?,
+        Line::Touch { group } => put(progress, touch_of(group))?,
+        Line::Submit { engine, ops } => put_submit(alloc, progress, engine, ops)?,
     }
+    Ok(())
 }
 
 fn has_hidden(text: &[u8]) -> bool

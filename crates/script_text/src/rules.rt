@@ -551,17 +551,16 @@ pub fn broken(
     requires lens { progress.now.lens ≤ 67108864 }
     ensures { IfOk result (λ rule. rule ≡ rule_broken progress.now line.now) }
 {
-    let script = &progress.script;
     if breaks_number(line) {
         return Ok(Some(5));
     }
-    if breaks_name(names, script, line) {
+    if breaks_name(names, &progress.script, line) {
         return Ok(Some(6));
     }
     if breaks_place(line) {
         return Ok(Some(7));
     }
-    if breaks_range(script, line) {
+    if breaks_range(&progress.script, line) {
         return Ok(Some(8));
     }
     if breaks_bytes(line) {

@@ -2,6 +2,7 @@
 
 ghost use Rattle.std.specs.Prelude.{◌≡◌, ◌≤◌, IfOk, length};
 ghost use Rattle.std.specs.List.{list_any};
+ghost use Rattle.journal_model.specs.Reading.{known, offset_of, byte_of};
 ghost use Rattle.journal_model.specs.LineWords.{op_of, is_no_op, ops_of, submit_of_ops, submit_line};
 
 use crate::names::Names;
@@ -11,6 +12,56 @@ use journal_model::line::{EngineWord, Line, OpWord, OpWords};
 use std::alloc::Global;
 use ttm_base::NoMemory;
 
+fn probe(names: &Names, b: &[u8], off: &[u8], len: &[u8]) -> OpWord
+    requires { length names.now ≤ 256 }
+    ensures { result ≡ OpWord.Probe (known names.now b.now) (offset_of off.now) (offset_of len.now) }
+{
+    OpWord::Probe {
+        src: names.find(b),
+        off: offset(off),
+        len: offset(len),
+    }
+}
+
+fn fill(names: &Names, b: &[u8], off: &[u8], len: &[u8], value: &[u8]) -> OpWord
+    requires { length names.now ≤ 256 }
+    ensures { result ≡ OpWord.Fill (known names.now b.now) (offset_of off.now) (offset_of len.now) (byte_of value.now) }
+{
+    OpWord::Fill {
+        dst: names.find(b),
+        off: offset(off),
+        len: offset(len),
+        byte: byte(value),
+    }
+}
+
+fn copy(names: &Names, d: &[u8], doff: &[u8], s: &[u8], soff: &[u8], len: &[u8]) -> OpWord
+    requires { length names.now ≤ 256 }
+    ensures { result ≡ OpWord.Copy (known names.now d.now) (offset_of doff.now) (known names.now s.now) (offset_of soff.now) (offset_of len.now) }
+{
+    OpWord::Copy {
+        dst: names.find(d),
+        doff: offset(doff),
+        src: names.find(s),
+        soff: offset(soff),
+        len: offset(len),
+    }
+}
+
+fn xor(names: &Names, d: &[u8], doff: &[u8], s: &[u8], soff: &[u8], len: &[u8]) -> OpWord
+    requires { length names.now ≤ 256 }
+    ensures { result ≡ OpWord.Xor (known names.now d.now) (offset_of doff.now) (known names.now s.now) (offset_of soff.now) (offset_of len.now) }
+{
+    OpWord::Xor {
+        dst: names.find(d),
+        doff: offset(doff),
+        src: names.find(s),
+        soff: offset(soff),
+        len: offset(len),
+    }
+}
+
+/// An operation by its words.
 fn op(names: &Names, words: &[Bytes]) -> OpWord
     requires { length names.now ≤ 256 }
     ensures { result ≡ op_of names.now words.now }
@@ -18,47 +69,25 @@ fn op(names: &Names, words: &[Bytes]) -> OpWord
     match words {
         [w, b, off, len] => {
             if is(w.items(), b"probe") {
-                OpWord::Probe {
-                    src: names.find(b.items()),
-                    off: offset(off.items()),
-                    len: offset(len.items()),
-                }
-            } else {
-                OpWord::Malformed
+                return probe(names, b.items(), off.items(), len.items());
             }
+            OpWord::Malformed
         }
-        [w, b, off, len, value] => {
+        [w, b, off, len, byte] => {
             if is(w.items(), b"fill") {
-                OpWord::Fill {
-                    dst: names.find(b.items()),
-                    off: offset(off.items()),
-                    len: offset(len.items()),
-                    byte: byte(value.items()),
-                }
-            } else {
-                OpWord::Malformed
+                return fill(names, b.items(), off.items(), len.items(), byte.items());
             }
+            OpWord::Malformed
         }
         [w, d, doff, s, soff, len] => {
+            let (d, doff, s, soff) = (d.items(), doff.items(), s.items(), soff.items());
             if is(w.items(), b"copy") {
-                OpWord::Copy {
-                    dst: names.find(d.items()),
-                    doff: offset(doff.items()),
-                    src: names.find(s.items()),
-                    soff: offset(soff.items()),
-                    len: offset(len.items()),
-                }
-            } else if is(w.items(), b"xor") {
-                OpWord::Xor {
-                    dst: names.find(d.items()),
-                    doff: offset(doff.items()),
-                    src: names.find(s.items()),
-                    soff: offset(soff.items()),
-                    len: offset(len.items()),
-                }
-            } else {
-                OpWord::Malformed
+                return copy(names, d, doff, s, soff, len.items());
             }
+            if is(w.items(), b"xor") {
+                return xor(names, d, doff, s, soff, len.items());
+            }
+            OpWord::Malformed
         }
         _ => OpWord::Malformed,
     }
