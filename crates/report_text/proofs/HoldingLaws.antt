@@ -1,6 +1,6 @@
 -- The accounts as sums over buffers and ghosts.
-use Rattle.std.proofs.Common.{◌≡◌, ℕ, ◌+◌, List, [], ◌∷◌, Option, Some, None, length, ap, refl, ◌∙◌, sym, arith}
-use Rattle.std.specs.Prelude.{sum_by, filter_map, flat_map}
+use Rattle.std.proofs.Common.{◌≡◌, ℕ, ◌+◌, List, [], ◌∷◌, Option, Some, None, ap, refl, ◌∙◌, sym, arith}
+use Rattle.std.specs.Prelude.{sum_by, filter_map}
 use Rattle.std.specs.List.{enumerate_from}
 use Rattle.std.proofs.lemmas.List.Sums.{sum_by-cons}
 use Rattle.std.proofs.lemmas.List.Concat.{length-flat_map}
@@ -44,7 +44,7 @@ live_slots script c = length-flat_map (λ e. slots_of e.1) (live_buffers c) ∙ 
 
 -- an account by its parts
 pub same_account : (a : model.Account) (free live target held : ℕ) → free ≡ a.free → live ≡ a.live → target ≡ a.target → held ≡ a.ghost
-  → (let b : model.Account = record { free = free; live = live; target = target; ghost = held } in b ≡ a)
+    → (let b : model.Account = record { free = free; live = live; target = target; ghost = held } in b ≡ a)
 same_account a free live target held f l t g =
     let of : ℕ → ℕ → ℕ → ℕ → model.Account = λ n m k j. record { free = n; live = m; target = k; ghost = j } in
     ap (λ n. of n live target held) f ∙ ap (λ n. of a.free n target held) l ∙ ap (λ n. of a.free a.live n held) t ∙ ap (λ n. of a.free a.live a.target n) g

@@ -1,5 +1,5 @@
 -- What a filter keeps of a list, and where.
-use Rattle.std.proofs.Common.{◌≡◌, ℕ, zero, suc, ◌≤◌, List, [], ◌∷◌, length, take, Option, Some, None, ap, refl, ◌∙◌, arith}
+use Rattle.std.proofs.Common.{◌≡◌, ℕ, zero, suc, ◌≤◌, List, [], ◌∷◌, length, take, Option, Some, None, ap, ◌∙◌, arith}
 use Rattle.std.specs.Prelude.{slice_get, filter_map}
 use Rattle.std.specs.List.{cons_option}
 
@@ -26,21 +26,21 @@ at_most (Some y) ys n h = omega arith
 
 -- an item of which nothing is kept
 pub kept_before-dropped : {X Y : Type 0} (h : X → Option Y) (xs : List X) (i : ℕ) (x : X) → slice_get xs i ≡ Some x → h x ≡ None
-  → kept_before h xs (suc i) ≡ kept_before h xs i
+    → kept_before h xs (suc i) ≡ kept_before h xs i
 kept_before-dropped h [] i x e n = cc
 kept_before-dropped h (z ∷ xs) zero x e n = let z_is : z ≡ x = cc in ap (λ o. length (cons_option o [])) (ap h z_is ∙ n)
 kept_before-dropped h (z ∷ xs) (suc i) x e n = same_length (h z) (filter_map h (take (suc i) xs)) (filter_map h (take i xs)) (kept_before-dropped h xs i x e n)
 
 -- an item of which something is kept
 pub kept_before-kept : {X Y : Type 0} (h : X → Option Y) (xs : List X) (i : ℕ) (x : X) (y : Y) → slice_get xs i ≡ Some x → h x ≡ Some y
-  → kept_before h xs (suc i) ≡ suc (kept_before h xs i)
+    → kept_before h xs (suc i) ≡ suc (kept_before h xs i)
 kept_before-kept h [] i x y e k = cc
 kept_before-kept h (z ∷ xs) zero x y e k = let z_is : z ≡ x = cc in ap (λ o. length (cons_option o [])) (ap h z_is ∙ k)
 kept_before-kept h (z ∷ xs) (suc i) x y e k = longer (h z) (filter_map h (take (suc i) xs)) (filter_map h (take i xs)) (kept_before-kept h xs i x y e k)
 
 -- where it stands
 pub kept_at : {X Y : Type 0} (h : X → Option Y) (xs : List X) (i : ℕ) (x : X) (y : Y) → slice_get xs i ≡ Some x → h x ≡ Some y
-  → slice_get (filter_map h xs) (kept_before h xs i) ≡ Some y
+    → slice_get (filter_map h xs) (kept_before h xs i) ≡ Some y
 kept_at h [] i x y e k = cc
 kept_at h (z ∷ xs) zero x y e k = let z_is : z ≡ x = cc in ap (λ o. slice_get (cons_option o (filter_map h xs)) 0) (ap h z_is ∙ k)
 kept_at h (z ∷ xs) (suc i) x y e k = behind (h z) (filter_map h xs) (filter_map h (take i xs)) y (kept_at h xs i x y e k)

@@ -8,8 +8,6 @@ use Rattle.io_edge.proofs.Told.{append_known-twice, front_of_first, front_of_nex
 use Rattle.journal_model.specs.declared.script.Script.{Script}
 use Rattle.journal_model.specs.declared.entry.Entry.{Entry}
 use Rattle.journal_model.specs.declared.state.Core.{Core}
-use Rattle.ttm_base.specs.declared.Mem.TheVariants.{Tt, Vram}
-use Rattle.journal_model.specs.Account.{account_of, frame_account, slot_account}
 use Rattle.journal_model.specs.Words.{Text, line}
 use Rattle.journal_model.specs.Marks.{is_map, is_vmap}
 use Rattle.journal_model.specs.Complete.{thread_numbers}
@@ -17,7 +15,7 @@ use Rattle.journal_model.specs.Legal.{state_of}
 use Rattle.journal_model.specs.EntryText.{entry_line}
 use Rattle.journal_model.specs.ReportText.{account_line, account_lines, maps_part, report, spaces_part, thread_results}
 use Rattle.report_text.specs.declared.accounts.Accounts.{Accounts}
-use Rattle.report_text.specs.Accounts.{AreAccountsOf, told}
+use Rattle.report_text.specs.Accounts.{AreAccountsOf}
 use Rattle.report_text.specs.Parts.{four_lines, journal_part, outcome_part}
 
 -- two parts written are one
@@ -30,11 +28,11 @@ pub first_of_three : {T E : Type 0} (r : Result T E) (o n : Option (List ℕ)) (
 first_of_three r o n a b c h front = writes_refused r o n ((a ++ b) ++ c) h (front_of_first c (front_of_first b front))
 
 pub second_of_three : {T E : Type 0} (r : Result T E) (o m n : Option (List ℕ)) (a b c : Text) → IsErr r → m ≡ append_known o a → AppendsFront m n b
-  → Writes r o n ((a ++ b) ++ c)
+    → Writes r o n ((a ++ b) ++ c)
 second_of_three r o m n a b c h one front = writes_refused r o n ((a ++ b) ++ c) h (front_of_first c (front_of_next a one front))
 
 pub last_of_three : {T E : Type 0} (r : Result T E) (o m m' n : Option (List ℕ)) (a b c : Text) → m ≡ append_known o a → m' ≡ append_known m b → Writes r m' n c
-  → Writes r o n ((a ++ b) ++ c)
+    → Writes r o n ((a ++ b) ++ c)
 last_of_three r o m m' n a b c one two last = writes_next r o m' n (a ++ b) c (wrote_two o m m' a b one two) last
 
 -- ---- four parts
@@ -43,16 +41,16 @@ pub first_of_four : {T E : Type 0} (r : Result T E) (o n : Option (List ℕ)) (a
 first_of_four r o n a b c d h front = writes_refused r o n (((a ++ b) ++ c) ++ d) h (front_of_first d (front_of_first c (front_of_first b front)))
 
 pub second_of_four : {T E : Type 0} (r : Result T E) (o m n : Option (List ℕ)) (a b c d : Text) → IsErr r → m ≡ append_known o a → AppendsFront m n b
-  → Writes r o n (((a ++ b) ++ c) ++ d)
+    → Writes r o n (((a ++ b) ++ c) ++ d)
 second_of_four r o m n a b c d h one front = writes_refused r o n (((a ++ b) ++ c) ++ d) h (front_of_first d (front_of_first c (front_of_next a one front)))
 
 pub third_of_four : {T E : Type 0} (r : Result T E) (o m m' n : Option (List ℕ)) (a b c d : Text) → IsErr r → m ≡ append_known o a → m' ≡ append_known m b
-  → AppendsFront m' n c → Writes r o n (((a ++ b) ++ c) ++ d)
+    → AppendsFront m' n c → Writes r o n (((a ++ b) ++ c) ++ d)
 third_of_four r o m m' n a b c d h one two front =
     writes_refused r o n (((a ++ b) ++ c) ++ d) h (front_of_first d (front_of_next (a ++ b) (wrote_two o m m' a b one two) front))
 
 pub last_of_four : {T E : Type 0} (r : Result T E) (o m m' m'' n : Option (List ℕ)) (a b c d : Text) → m ≡ append_known o a → m' ≡ append_known m b
-  → m'' ≡ append_known m' c → Writes r m'' n d → Writes r o n (((a ++ b) ++ c) ++ d)
+    → m'' ≡ append_known m' c → Writes r m'' n d → Writes r o n (((a ++ b) ++ c) ++ d)
 last_of_four r o m m' m'' n a b c d one two three last =
     writes_next r o m'' n ((a ++ b) ++ c) d (wrote_two o m' m'' (a ++ b) c (wrote_two o m m' a b one two) three) last
 
@@ -78,15 +76,15 @@ two_parts : (a b c h rs k ac : Text) → ((((((a ++ b) ++ c) ++ h) ++ rs) ++ k) 
 two_parts a b c h rs k ac = simp append_assoc
 
 regrouped : (a b c h rs k ac ac' m s z : Text) → ac ≡ ac' → m ≡ [] → s ≡ []
-  → (((((((((a ++ b) ++ c) ++ h) ++ rs) ++ k) ++ ac) ++ m) ++ s) ++ z) ≡ ((((a ++ b) ++ c) ++ (((h ++ rs) ++ k) ++ ac')) ++ z)
+    → (((((((((a ++ b) ++ c) ++ h) ++ rs) ++ k) ++ ac) ++ m) ++ s) ++ z) ≡ ((((a ++ b) ++ c) ++ (((h ++ rs) ++ k) ++ ac')) ++ z)
 regrouped a b c h rs k ac ac' m s z same no_m no_s =
     let whole : Text = ((((((a ++ b) ++ c) ++ h) ++ rs) ++ k) ++ ac) in
     ap (λ t. t ++ z) (
-      ap (λ t. (whole ++ m) ++ t) no_s ∙ append-nil (whole ++ m) ∙ ap (λ t. whole ++ t) no_m ∙ append-nil whole
-      ∙ ap (λ t. ((((((a ++ b) ++ c) ++ h) ++ rs) ++ k) ++ t)) same ∙ two_parts a b c h rs k ac')
+    ap (λ t. (whole ++ m) ++ t) no_s ∙ append-nil (whole ++ m) ∙ ap (λ t. whole ++ t) no_m ∙ append-nil whole
+    ∙ ap (λ t. ((((((a ++ b) ++ c) ++ h) ++ rs) ++ k) ++ t)) same ∙ two_parts a b c h rs k ac')
 
 pub report_by_parts : (script : Script) (journal : List Entry) (a : Accounts) → script.marks ≡ [] → AreAccountsOf script (state_of script journal).core a
-  → report script journal ≡ (journal_part script journal ++ outcome_part script journal a) ++ line (codes "end" ∷ [])
+    → report script journal ≡ (journal_part script journal ++ outcome_part script journal a) ++ line (codes "end" ∷ [])
 report_by_parts script journal a none h =
     regrouped (line (codes "report" ∷ decimal script.version ∷ [])) (line (codes "journal" ∷ decimal (length journal) ∷ []))
     (flat_map (entry_line script) (enumerate_from 1 journal)) (line (codes "results" ∷ [])) (flat_map (thread_results journal) (thread_numbers script))

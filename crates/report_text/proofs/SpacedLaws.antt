@@ -1,5 +1,5 @@
 -- Words with a separator between each two are the first, and each other one behind a separator.
-use Rattle.std.proofs.Common.{◌≡◌, ℕ, List, [], ◌∷◌, ◌++◌, map, drop, Some, ap, refl, ◌∙◌, sym, append-nil, append_assoc}
+use Rattle.std.proofs.Common.{◌≡◌, ℕ, List, [], ◌∷◌, ◌++◌, map, drop, Some, ap, ◌∙◌, sym, append-nil, append_assoc}
 use Rattle.std.specs.Prelude.{slice_get}
 use Rattle.std.specs.List.{join_with_byte}
 use Rattle.journal_model.specs.Words.{Text, line, listed, spaced}
@@ -11,7 +11,7 @@ join_with_byte-cons c w (v ∷ ws) = ap (λ t. w ++ (c ∷ t)) (join_with_byte-c
 
 -- a list of items: the first, and then the others behind a comma
 pub listed_after : {X : Type 0} (word : X → Text) (old mid new : Text) (xs : List X) (x : X) (more : List X) → xs ≡ x ∷ more → mid ≡ old ++ word x
-  → new ≡ mid ++ behind_each 44 (map word more) → new ≡ old ++ listed (map word xs)
+    → new ≡ mid ++ behind_each 44 (map word more) → new ≡ old ++ listed (map word xs)
 listed_after word old mid new xs x more whole first rest =
     rest ∙ ap (λ t. t ++ behind_each 44 (map word more)) first
     ∙ append_assoc old (word x) (behind_each 44 (map word more))
@@ -25,12 +25,12 @@ words_by_first (v ∷ ws) w h = let e : v ≡ w = cc in ap (λ u. u ∷ ws) e
 
 -- a line of two words and then others, of which the first is known
 pub line_of_two : (n a w t t' t'' : Text) (ws : List Text) → slice_get ws 0 ≡ Some w → t ≡ ((n ++ 32 ∷ []) ++ a) ++ 32 ∷ w
-  → t' ≡ t ++ spaced_out (drop 1 ws) → t'' ≡ t' ++ 10 ∷ [] → t'' ≡ line (n ∷ a ∷ ws)
+    → t' ≡ t ++ spaced_out (drop 1 ws) → t'' ≡ t' ++ 10 ∷ [] → t'' ≡ line (n ∷ a ∷ ws)
 line_of_two n a w t t' t'' ws first e e' e'' =
     e'' ∙ ap (λ s. s ++ 10 ∷ []) (
-      e' ∙ ap (λ s. s ++ spaced_out (drop 1 ws)) e
-      ∙ append_assoc ((n ++ 32 ∷ []) ++ a) (32 ∷ w) (spaced_out (drop 1 ws))
-      ∙ ap (λ vs. ((n ++ 32 ∷ []) ++ a) ++ spaced_out vs) (sym (words_by_first ws w first))
-      ∙ append_assoc (n ++ 32 ∷ []) a (spaced_out ws)
-      ∙ ap (λ s. (n ++ 32 ∷ []) ++ s) (sym (join_with_byte-cons 32 a ws))
-      ∙ append_assoc n (32 ∷ []) (spaced (a ∷ ws)))
+    e' ∙ ap (λ s. s ++ spaced_out (drop 1 ws)) e
+    ∙ append_assoc ((n ++ 32 ∷ []) ++ a) (32 ∷ w) (spaced_out (drop 1 ws))
+    ∙ ap (λ vs. ((n ++ 32 ∷ []) ++ a) ++ spaced_out vs) (sym (words_by_first ws w first))
+    ∙ append_assoc (n ++ 32 ∷ []) a (spaced_out ws)
+    ∙ ap (λ s. (n ++ 32 ∷ []) ++ s) (sym (join_with_byte-cons 32 a ws))
+    ∙ append_assoc n (32 ∷ []) (spaced (a ∷ ws)))

@@ -1,5 +1,5 @@
 -- What was written of lines.
-use Rattle.std.proofs.Common.{◌≡◌, ℕ, zero, suc, ◌+◌, List, [], ◌∷◌, ◌++◌, ◌<◌, ◌≤◌, length, take, drop, get_or, Option, None, Some, Result, ap, refl, ◌∙◌, sym, length-append, append_assoc, append-nil, arith}
+use Rattle.std.proofs.Common.{◌≡◌, ℕ, zero, suc, ◌+◌, List, [], ◌∷◌, ◌++◌, ◌<◌, ◌≤◌, length, take, drop, get_or, Option, Some, Result, ap, refl, ◌∙◌, sym, length-append, append_assoc, append-nil, arith}
 use Rattle.std.specs.Prelude.{IsErr, slice_get, flat_map}
 use Rattle.std.specs.List.{enumerate_from}
 use Rattle.std.proofs.lemmas.List.{take_all}
@@ -27,7 +27,7 @@ flat_map_next f (y ∷ xs) (suc i) x h = ap (λ t. f y ++ t) (flat_map_next f xs
 
 -- those before an item, its own, and those behind it
 pub flat_map_around : {X : Type 0} (f : X → Text) (xs : List X) (i : ℕ) (x : X) → slice_get xs i ≡ Some x
-  → flat_map f xs ≡ (flat_map f (take i xs) ++ f x) ++ flat_map f (drop (suc i) xs)
+    → flat_map f xs ≡ (flat_map f (take i xs) ++ f x) ++ flat_map f (drop (suc i) xs)
 flat_map_around f [] i x h = cc
 flat_map_around f (y ∷ xs) zero x h = let e : y ≡ x = cc in ap (λ z. f z ++ flat_map f xs) e
 flat_map_around f (y ∷ xs) (suc i) x h =
@@ -37,7 +37,7 @@ flat_map_around f (y ∷ xs) (suc i) x h =
 
 -- the items so far were written, and now the next
 pub loop_goes_on : {X : Type 0} (f : X → Text) (xs : List X) (i : ℕ) (x : X) (old mid new : Option (List ℕ)) → slice_get xs i ≡ Some x
-  → mid ≡ append_known old (flat_map f (take i xs)) → new ≡ append_known mid (f x) → new ≡ append_known old (flat_map f (take (i + 1) xs))
+    → mid ≡ append_known old (flat_map f (take i xs)) → new ≡ append_known mid (f x) → new ≡ append_known old (flat_map f (take (i + 1) xs))
 loop_goes_on f xs i x old mid new h before now =
     let e : i + 1 ≡ suc i = omega arith in
     now ∙ ap (λ t. append_known t (f x)) before ∙ append_known-twice old (flat_map f (take i xs)) (f x)
@@ -45,10 +45,10 @@ loop_goes_on f xs i x old mid new h before now =
 
 -- the items so far were written, and a front of the next
 pub loop_stops : {X T E : Type 0} (f : X → Text) (xs : List X) (i : ℕ) (x : X) (r : Result T E) (old mid new : Option (List ℕ)) → slice_get xs i ≡ Some x → IsErr r
-  → mid ≡ append_known old (flat_map f (take i xs)) → AppendsFront mid new (f x) → Writes r old new (flat_map f xs)
+    → mid ≡ append_known old (flat_map f (take i xs)) → AppendsFront mid new (f x) → Writes r old new (flat_map f xs)
 loop_stops f xs i x r old mid new h failed before now =
     rw (flat_map_around f xs i x h) (writes_refused r old new _ failed
-      (front_of_first (flat_map f (drop (suc i) xs)) (front_of_next (flat_map f (take i xs)) before now)))
+    (front_of_first (flat_map f (drop (suc i) xs)) (front_of_next (flat_map f (take i xs)) before now)))
 
 -- a numbered item
 pub numbered_at : {X : Type 0} (n : ℕ) (xs : List X) (i : ℕ) (x : X) → slice_get xs i ≡ Some x → slice_get (enumerate_from n xs) i ≡ Some (n + i, x)
@@ -65,5 +65,5 @@ read_numbered xs i x h read =
 
 -- all items were written
 pub loop_ends : {X : Type 0} (f : X → Text) (xs : List X) (i : ℕ) (old new : Option (List ℕ)) → length xs ≤ i → new ≡ append_known old (flat_map f (take i xs))
-  → new ≡ append_known old (flat_map f xs)
+    → new ≡ append_known old (flat_map f xs)
 loop_ends f xs i old new h e = e ∙ ap (λ ys. append_known old (flat_map f ys)) (take_all i xs h)

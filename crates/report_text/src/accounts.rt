@@ -1,6 +1,5 @@
 use ttm_base::Mem;
 
-
 /// How the pages, frames or slots are held, by number.
 #[derive(Clone, Copy, Debug, PartialEq, Eq)]
 pub struct Account {

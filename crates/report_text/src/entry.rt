@@ -74,7 +74,12 @@ fn put_arguments(line: &mut Line, script: &Script, kind: &Kind) -> Result<(), No
         Kind::Take { b, mem, spans } => put_range(line, script, *b, *mem, spans.items()),
         Kind::Untake { b, mem } => put_mem(line, script, *b, *mem),
         Kind::Populate { b, page, frame } => put_pages(line, script, *b, &[*page, *frame]),
-        Kind::SwapIn { b, page, slot, frame } => put_pages(line, script, *b, &[*page, *slot, *frame]),
+        Kind::SwapIn {
+            b,
+            page,
+            slot,
+            frame,
+        } => put_pages(line, script, *b, &[*page, *slot, *frame]),
         Kind::Depopulate { b } => line.word(name_of(script, *b)),
         Kind::Bind { b } => line.word(name_of(script, *b)),
         Kind::Unbind { b } => line.word(name_of(script, *b)),

@@ -11,3 +11,6 @@ mod words;
 pub use accounts::{Account, Accounts};
 pub use counts::accounts_of;
 pub use report::{WriteFault, write_report};
+
+#[cfg(test)]
+mod tests;

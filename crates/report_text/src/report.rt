@@ -103,7 +103,12 @@ fn make_heading(line: &mut Line, word: &[u8]) -> Result<(), NoMemory>
 }
 
 /// Writes a line of a word and a number.
-fn write_count<K: Sink>(line: &mut Line, word: &[u8], number: u64, sink: &mut K) -> Result<(), WriteFault>
+fn write_count<K: Sink>(
+    line: &mut Line,
+    word: &[u8],
+    number: u64,
+    sink: &mut K,
+) -> Result<(), WriteFault>
     ensures text { Writes result (K.written sink.old) (K.written sink.new) (line_of (word.now ∷ decimal number ∷ [])) }
     ensures faults { K.faults sink.new ≡ faults_after_writing result (K.faults sink.old) }
 {
@@ -215,7 +220,12 @@ fn write_account<K: Sink>(
     write_line(line, sink)
 }
 
-fn make_account_line(line: &mut Line, name: &[u8], size: u32, account: &Account) -> Result<(), NoMemory>
+fn make_account_line(
+    line: &mut Line,
+    name: &[u8],
+    size: u32,
+    account: &Account,
+) -> Result<(), NoMemory>
     ensures { OnOk result (line.new ≡ account_line name.now size (told account.now)) }
 {
     line.clear();
@@ -252,7 +262,7 @@ fn write_accounts<K: Sink>(
 }
 
 /// Writes the parts before the results.
-fn write_journal<K: Sink>(
+pub(crate) fn write_journal<K: Sink>(
     line: &mut Line,
     script: &Script,
     journal: &[Entry],
@@ -267,7 +277,7 @@ fn write_journal<K: Sink>(
 }
 
 /// Writes the results and the accounts.
-fn write_outcome<K: Sink>(
+pub(crate) fn write_outcome<K: Sink>(
     line: &mut Line,
     script: &Script,
     journal: &[Entry],

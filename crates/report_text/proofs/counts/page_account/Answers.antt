@@ -1,8 +1,5 @@
-use Rattle.std.proofs.Common.{◌≡◌, ◌∙◌, ap, arith}
-use Rattle.std.specs.Prelude.{sum_by}
+use Rattle.std.proofs.Common.{arith}
 use Rattle.journal_model.specs.Account.{account_of}
-use Rattle.report_text.specs.declared.accounts.Holding.TheVariants.{Pages}
-use Rattle.report_text.specs.Holdings.{amount_of_ghost}
 use Rattle.report_text.proofs.HoldingLaws.{live_pages, target_pages, same_account}
 use Rattle.report_text.proofs.counts.page_account.Goals as goal
 

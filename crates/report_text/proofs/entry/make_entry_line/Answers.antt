@@ -1,4 +1,4 @@
-use Rattle.std.proofs.Common.{◌∙◌, ◌∷◌, ◌++◌, [], ap, decimal, arith}
+use Rattle.std.proofs.Common.{decimal, arith}
 use Rattle.std.proofs.lemmas.Result.{on_ok_weaker}
 use Rattle.std.proofs.lemmas.Grind.{common_steps}
 use Rattle.journal_model.specs.Words.{actor_word}
@@ -12,5 +12,5 @@ returns c =
     let entry = c.args.entry.now in
     on_ok_weaker c.put_byte-2.result
     (λ end. line_of_two (decimal c.args.number) (actor_word entry.who) c.verb.result.now c.word.new.self c.put_arguments.new.line c.put_byte-2.new.self
-      (kind_words script entry.kind) (c.verb.ensures script) (grind (arith, common_steps)) c.in_ok-put_arguments.ensures end)
+    (kind_words script entry.kind) (c.verb.ensures script) (grind (arith, common_steps)) c.in_ok-put_arguments.ensures end)
     c.put_byte-2.ensures

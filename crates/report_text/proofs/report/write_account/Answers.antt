@@ -8,5 +8,5 @@ returns-in_err-make_account_line-clause-text g c =
     let a = c.args.account.now in
     line_is_not_made c.from_residual.result _
     (c.args.name.now ∷ codes "size" ∷ decimal c.args.size ∷ codes "free" ∷ decimal a.free ∷ codes "live" ∷ decimal a.live
-      ∷ codes "target" ∷ decimal a.target ∷ codes "ghost" ∷ decimal a.ghosts ∷ [])
+    ∷ codes "target" ∷ decimal a.target ∷ codes "ghost" ∷ decimal a.ghosts ∷ [])
     c.from_residual.ensures.0

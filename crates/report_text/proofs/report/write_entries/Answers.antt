@@ -13,12 +13,12 @@ returns-in_err-write_entry-clause-text g c =
 
 pub loop-i-preserved : goal.loop-i-preserved
 loop-i-preserved g c = record {
-    text =
+  text =
       loop_goes_on (entry_line c.args.script.now) (enumerate_from 1 c.args.journal.now) c.loop-i.i (c.loop-i.i + 1, c.index-journal-i.result) _ _ _
       (read_numbered c.args.journal.now c.loop-i.i c.index-journal-i.result (omega arith) c.index-journal-i.is)
       c.loop-i.invariant.text c.in_ok-write_entry.ensures.text;
-    faults = grind arith;
-  }
+  faults = grind arith;
+}
 
 pub returns-clause-text : goal.returns-clause-text
 returns-clause-text g c =

@@ -10,22 +10,22 @@ pub returns-in_err-write_journal-clause-text : goal.returns-in_err-write_journal
 returns-in_err-write_journal-clause-text g c =
     let whole = report_by_parts c.args.script.now c.args.journal.now c.args.accounts.now c.requires.marks c.requires.accounts in
     subst (λ (t : Text). Writes c.from_residual.result (g.K.Sink.written c.args.sink.now) (g.K.Sink.written c.write_journal.new.sink) t) (sym whole) (
-      first_of_three c.from_residual.result _ _
-      (journal_part c.args.script.now c.args.journal.now) (outcome_part c.args.script.now c.args.journal.now c.args.accounts.now) (line (codes "end" ∷ []))
-      c.from_residual.ensures.0 c.in_err-write_journal.ensures.text)
+    first_of_three c.from_residual.result _ _
+    (journal_part c.args.script.now c.args.journal.now) (outcome_part c.args.script.now c.args.journal.now c.args.accounts.now) (line (codes "end" ∷ []))
+    c.from_residual.ensures.0 c.in_err-write_journal.ensures.text)
 
 pub returns-in_err-write_outcome-clause-text : goal.returns-in_err-write_outcome-clause-text
 returns-in_err-write_outcome-clause-text g c =
     let whole = report_by_parts c.args.script.now c.args.journal.now c.args.accounts.now c.requires.marks c.requires.accounts in
     subst (λ (t : Text). Writes c.from_residual-in_err-write_outcome.result (g.K.Sink.written c.args.sink.now) (g.K.Sink.written c.write_outcome.new.sink) t) (sym whole) (
-      second_of_three c.from_residual-in_err-write_outcome.result _ _ _
-      (journal_part c.args.script.now c.args.journal.now) (outcome_part c.args.script.now c.args.journal.now c.args.accounts.now) (line (codes "end" ∷ []))
-      c.from_residual-in_err-write_outcome.ensures.0 c.in_ok-write_journal.ensures.text c.in_err-write_outcome.ensures.text)
+    second_of_three c.from_residual-in_err-write_outcome.result _ _ _
+    (journal_part c.args.script.now c.args.journal.now) (outcome_part c.args.script.now c.args.journal.now c.args.accounts.now) (line (codes "end" ∷ []))
+    c.from_residual-in_err-write_outcome.ensures.0 c.in_ok-write_journal.ensures.text c.in_err-write_outcome.ensures.text)
 
 pub returns-clause-text : goal.returns-clause-text
 returns-clause-text g c =
     let whole = report_by_parts c.args.script.now c.args.journal.now c.args.accounts.now c.requires.marks c.requires.accounts in
     subst (λ (t : Text). Writes c.write_heading.result (g.K.Sink.written c.args.sink.now) (g.K.Sink.written c.write_heading.new.sink) t) (sym whole) (
-      last_of_three c.write_heading.result _ _ _ _
-      (journal_part c.args.script.now c.args.journal.now) (outcome_part c.args.script.now c.args.journal.now c.args.accounts.now) (line (codes "end" ∷ []))
-      c.in_ok-write_journal.ensures.text c.in_ok-write_outcome.ensures.text c.write_heading.ensures.text)
+    last_of_three c.write_heading.result _ _ _ _
+    (journal_part c.args.script.now c.args.journal.now) (outcome_part c.args.script.now c.args.journal.now c.args.accounts.now) (line (codes "end" ∷ []))
+    c.in_ok-write_journal.ensures.text c.in_ok-write_outcome.ensures.text c.write_heading.ensures.text)

@@ -24,12 +24,12 @@ returns-in_err-write_thread_results-clause-text g c =
 
 pub loop-index-preserved : goal.loop-index-preserved
 loop-index-preserved g c = record {
-    text =
+  text =
       loop_goes_on (thread_results c.args.journal.now) (thread_numbers c.args.script.now) c.loop-index.index (c.loop-index.index + 1) _ _ _
       (counted (length c.args.script.now.threads) 1 c.loop-index.index (omega arith))
       c.loop-index.invariant.text c.in_ok-write_thread_results.ensures.text;
-    faults = grind arith;
-  }
+  faults = grind arith;
+}
 
 pub returns-clause-text : goal.returns-clause-text
 returns-clause-text g c =

@@ -1,4 +1,4 @@
-use Rattle.std.proofs.Common.{◌≡◌, ℕ, suc, ◌+◌, ◌<◌, ◌≤◌, ◌∙◌, Bool, true, false, cond, List, [], length, take, get_or, Option, Some, None, unwrap_or, is_some, ap, refl, sym, arith}
+use Rattle.std.proofs.Common.{◌≡◌, ℕ, suc, ◌+◌, ◌<◌, ◌∙◌, Bool, true, false, cond, List, [], length, take, get_or, Option, Some, None, unwrap_or, is_some, ap, refl, sym, arith}
 use Rattle.std.specs.Prelude.{slice_get, filter_map, flat_map}
 use Rattle.std.specs.List.{enumerate_from}
 use Rattle.std.proofs.lemmas.List.FromFn.{length-enumerate_from}
@@ -27,8 +27,8 @@ nothing (Some x) h = cc
 
 -- the entry that was read has the next number among the answers
 next_answer : (thread : ℕ) (journal : List Entry) (i number : ℕ) (e : Entry) → i < length journal → e ≡ get_or journal i e
-  → number ≡ kept_before (answer_of thread) journal i + 1 → is_some (answer_of thread e) ≡ true
-  → slice_get (enumerate_from 1 (filter_map (answer_of thread) journal)) (kept_before (answer_of thread) journal i) ≡ Some (number, unwrap_or (answer_words e.kind) [])
+    → number ≡ kept_before (answer_of thread) journal i + 1 → is_some (answer_of thread e) ≡ true
+    → slice_get (enumerate_from 1 (filter_map (answer_of thread) journal)) (kept_before (answer_of thread) journal i) ≡ Some (number, unwrap_or (answer_words e.kind) [])
 next_answer thread journal i number e h read same some =
     let k = kept_before (answer_of thread) journal i in
     let ws = unwrap_or (answer_words e.kind) [] in
@@ -39,7 +39,7 @@ next_answer thread journal i number e h read same some =
 
 -- one answer more
 answered : (thread : ℕ) (journal : List Entry) (i : ℕ) (e : Entry) → i < length journal → e ≡ get_or journal i e → is_some (answer_of thread e) ≡ true
-  → kept_before (answer_of thread) journal (i + 1) ≡ kept_before (answer_of thread) journal i + 1
+    → kept_before (answer_of thread) journal (i + 1) ≡ kept_before (answer_of thread) journal i + 1
 answered thread journal i e h read some =
     let at : slice_get journal i ≡ Some e = slice_get_read journal (length journal) i e refl h read in
     let more = kept_before-kept (answer_of thread) journal i e _ at (words_of_kind (is_by_thread thread e.who) (answer_words e.kind) some) in
@@ -48,7 +48,7 @@ answered thread journal i e h read some =
 
 -- none more
 passed : (thread : ℕ) (journal : List Entry) (i : ℕ) (e : Entry) → i < length journal → e ≡ get_or journal i e → is_some (answer_of thread e) ≡ false
-  → kept_before (answer_of thread) journal (i + 1) ≡ kept_before (answer_of thread) journal i
+    → kept_before (answer_of thread) journal (i + 1) ≡ kept_before (answer_of thread) journal i
 passed thread journal i e h read none =
     let at : slice_get journal i ≡ Some e = slice_get_read journal (length journal) i e refl h read in
     let f : i + 1 ≡ suc i = omega arith in
@@ -83,11 +83,11 @@ loop-entry-preserved g c =
           record {
             number = omega (arith, more, w.number-is, c.loop-entry.invariant.number);
             text =
-              ap g.K.Sink.written w.sink-is
-              ∙ loop_goes_on (answer_line thread) ys (kept_before (answer_of thread) journal i) (c.loop-entry.number, unwrap_or (answer_words e.kind) []) old _ _
+                ap g.K.Sink.written w.sink-is
+                ∙ loop_goes_on (answer_line thread) ys (kept_before (answer_of thread) journal i) (c.loop-entry.number, unwrap_or (answer_words e.kind) []) old _ _
                 (next_answer thread journal i c.loop-entry.number e (omega arith) c.entry-item.is c.loop-entry.invariant.number some)
                 c.loop-entry.invariant.text w.in_ok-write_answer.ensures.text
-              ∙ ap (λ n. append_known old (flat_map (answer_line thread) (take n ys))) (sym more);
+                ∙ ap (λ n. append_known old (flat_map (answer_line thread) (take n ys))) (sym more);
             faults = ap g.K.Sink.faults w.sink-is ∙ w.in_ok-write_answer.ensures.faults ∙ c.loop-entry.invariant.faults;
           }
       | else-answers w ↦

@@ -13,6 +13,6 @@ invariant-loop-entry g l =
     record {
       number : l.number ≡ before + 1;
       text : g.K.Sink.written l.sink ≡ append_known (g.K.Sink.written l.fn.sink)
-        (flat_map (answer_line l.thread) (take before (enumerate_from 1 (filter_map (answer_of l.thread) l.journal))));
+          (flat_map (answer_line l.thread) (take before (enumerate_from 1 (filter_map (answer_of l.thread) l.journal))));
       faults : g.K.Sink.faults l.sink ≡ g.K.Sink.faults l.fn.sink;
     }
