@@ -1,6 +1,7 @@
-ghost use Rattle.std.specs.Prelude.{◌≡◌, OnOk, OnErr};
+ghost use Rattle.std.specs.Prelude.{◌≡◌, OnOk, OnErr, false};
 ghost use Rattle.journal_model.specs.Apply as words;
 ghost use Rattle.replay.specs.Ready.{IsReady};
+ghost use Rattle.replay.specs.Sure.{takes_no_memory};
 
 use crate::{commands, jobs, moves, pages, searches, tickets, victims};
 use journal_model::{Entry, Kind, Script, State};
@@ -8,7 +9,11 @@ use replay_parts::actors::{engine_of, thread_of};
 use std::alloc::Global;
 use ttm_base::NoMemory;
 
-/// The state after an entry that is legal next.
+/// The state after an entry that is legal next. Steps of pages and packets take no memory.
+///
+/// # Errors
+///
+/// Want of memory; nothing is changed.
 pub fn apply(
     state: &mut State,
     alloc: Global,
@@ -18,6 +23,7 @@ pub fn apply(
     requires { IsReady script.now state.old entry.now }
     ensures ok { OnOk result (state.new ≡ words.applied script.now state.old entry.now.who entry.now.kind) }
     ensures err { OnErr result (state.new ≡ state.old) }
+    ensures sure { OnErr result (takes_no_memory entry.now.kind ≡ false) }
 {
     let thread = thread_of(entry.who);
     let ctx = engine_of(entry.who);
