@@ -1,3 +1,2 @@
 pub mod ReadyLaws
 pub mod DeviceLaws
-pub mod DoneGrows

@@ -6,9 +6,9 @@ use Rattle.std.proofs.lemmas.Bool.Decides.{nat_tests}
 use Rattle.std.proofs.lemmas.List.{get_or_past, get_or-replicate, length-replicate}
 use Rattle.journal_model.specs.declared.script.Sizes.{Sizes}
 use Rattle.ttm_base.specs.Pages.{Page, nowhere, vram, frame, slot, PageBytes, same_page, with_bytes}
-use Rattle.journal_model.specs.Stores.{zeros}
+use Rattle.journal_model.specs.Stores.{zeros, is_there}
 use Rattle.replay_stores.specs.Room.{room_byte, byte_after}
-use Rattle.replay_stores.specs.Kept.{KeptBytes, BecomesBytes, HasSizes, bytes_of, bytes_in, has_page, within}
+use Rattle.replay_stores.specs.Kept.{KeptBytes, BecomesBytes, HasSizes, bytes_of, bytes_in, within}
 
 -- ---- zeros
 
@@ -121,7 +121,7 @@ becomes_cut old new page off n len value value' h e v =
 
 -- nothing changes
 unchanged_at : (sizes : Sizes) (bytes : PageBytes) (p : Page) (o : ℕ) → bytes p o ≡ within sizes bytes bytes p o
-unchanged_at sizes bytes p o = stays (has_page sizes p && nat_lt o 4096) (bytes p o)
+unchanged_at sizes bytes p o = stays (is_there sizes p && nat_lt o 4096) (bytes p o)
 
 pub becomes_same : (kept : KeptBytes) → BecomesBytes kept kept (bytes_of kept)
 becomes_same kept = record { same_sizes = refl; bytes_are = λ i p o. unchanged_at kept.sizes (bytes_of kept) p o i }

@@ -9,7 +9,8 @@ use Rattle.journal_model.specs.declared.state.Buffer.{Buffer}
 use Rattle.ttm_base.specs.Pages.{Page, PageBytes, same_page, with_bytes}
 use Rattle.journal_model.specs.Places.{page_at}
 use Rattle.journal_model.specs.Stores.{put_bytes}
-use Rattle.replay_stores.specs.Kept.{KeptBytes, BecomesBytes, bytes_of, has_page, within}
+use Rattle.journal_model.specs.Stores.{is_there}
+use Rattle.replay_stores.specs.Kept.{KeptBytes, BecomesBytes, bytes_of, within}
 
 -- first some bytes, and then others behind them
 put_bytes-append : (x : Buffer) (off : ℕ) (xs ys : List ℕ) (bytes : PageBytes) → put_bytes x off (xs ++ ys) bytes ≡ put_bytes x (off + length xs) ys (put_bytes x off xs bytes)
@@ -79,7 +80,7 @@ put_agrees x off (b ∷ xs) first second p o h =
     put_agrees x (off + 1) xs _ _ p o (ap (λ old. if same_page p (page_at x (off / 4096)) && nat_le (off % 4096) o && nat_lt o (off % 4096 + 1) then b else old) h)
 
 -- bytes on one page, and then others behind them
-put_at : (sizes : Sizes) (x : Buffer) (off : ℕ) (xs ys : List ℕ) (bytes : PageBytes) → off % 4096 + length xs ≤ 4096 → (p : Page) (o : ℕ) (there : Bool) → there ≡ (has_page sizes p && nat_lt o 4096) →
+put_at : (sizes : Sizes) (x : Buffer) (off : ℕ) (xs ys : List ℕ) (bytes : PageBytes) → off % 4096 + length xs ≤ 4096 → (p : Page) (o : ℕ) (there : Bool) → there ≡ (is_there sizes p && nat_lt o 4096) →
     let mid = within sizes (with_bytes bytes (page_at x (off / 4096)) (off % 4096) (length xs) (slice_index xs)) bytes in
     (if there then put_bytes x (off + length xs) ys mid p o else mid p o) ≡ (if there then put_bytes x off (xs ++ ys) bytes p o else bytes p o)
 put_at sizes x off xs ys bytes h p o true e =
@@ -102,7 +103,7 @@ becomes_put old mid new x off xs ys h first second =
       bytes_are =
         second.bytes_are
         ∙ (λ i. within (first.same_sizes i) (put_bytes x (off + length xs) ys (first.bytes_are i)) (first.bytes_are i))
-        ∙ (λ i p o. put_at old.sizes x off xs ys (bytes_of old) h p o (has_page old.sizes p && nat_lt o 4096) refl i);
+        ∙ (λ i p o. put_at old.sizes x off xs ys (bytes_of old) h p o (is_there old.sizes p && nat_lt o 4096) refl i);
     }
 
 -- one write alone

@@ -2,18 +2,12 @@
 use Rattle.std.specs.Prelude.{◌≡◌, ℕ, ◌*◌, Bool, false, List, length, ◌&&◌, nat_lt, if◌then◌else◌}
 use Rattle.journal_model.specs.declared.script.Sizes.{Sizes}
 use Rattle.ttm_base.specs.Pages.{Page, nowhere, vram, frame, slot, PageBytes}
+use Rattle.journal_model.specs.Stores.{is_there}
 use Rattle.replay_stores.specs.Room.{room_byte}
-
--- the page is one of those that there are
-abbrev pub has_page : Sizes → Page → Bool
-has_page sizes nowhere = false
-has_page sizes (vram p) = nat_lt p sizes.vram
-has_page sizes (frame f) = nat_lt f sizes.frames
-has_page sizes (slot k) = nat_lt k sizes.swap
 
 -- these bytes where there are pages; elsewhere nothing changes
 abbrev pub within : Sizes → PageBytes → PageBytes → PageBytes
-within sizes bytes old = λ page o. if has_page sizes page && nat_lt o 4096 then bytes page o else old page o
+within sizes bytes old = λ page o. if is_there sizes page && nat_lt o 4096 then bytes page o else old page o
 
 -- the bytes of three lists
 abbrev pub bytes_in : (vram_room frame_room slot_room : List ℕ) → PageBytes

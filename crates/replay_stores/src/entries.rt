@@ -80,7 +80,7 @@ fn run_packet(stores: &mut PlainStores, core: &Core, packet: Packet)
 }
 
 /// Puts the bytes of a write at the places of its buffer.
-fn write(stores: &mut PlainStores, state: &State, command: &Command)
+pub fn put_write(stores: &mut PlainStores, state: &State, command: &Command)
     requires { IsShortWrite (Some command.now) }
     ensures { BecomesBytes stores.old stores.new (words.written state.now (Some command.now) (bytes_of stores.old)) }
 {
@@ -95,7 +95,7 @@ fn answer(stores: &mut PlainStores, script: &Script, state: &State, thread: u32)
     ensures { BecomesBytes stores.old stores.new (words.written state.now (command_at_work script.now state.now thread) (bytes_of stores.old)) }
 {
     if let Some(command) = command_at_work(script, state, thread) {
-        write(stores, state, command);
+        put_write(stores, state, command);
     }
 }
 

@@ -8,5 +8,6 @@ mod room;
 mod shown;
 mod stores;
 
+pub use entries::put_write;
 pub use pages::StorePage;
 pub use stores::PlainStores;
