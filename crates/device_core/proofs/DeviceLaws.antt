@@ -1,6 +1,6 @@
 -- A device that holds the state of its journal answers by the definitions, and holds it again after an entry.
-use Rattle.std.proofs.Common.{◌≡◌, ℕ, ◌+◌, ◌^◌, ◌<◌, ◌≤◌, Bool, true, false, List, [], ◌∷◌, ◌++◌, length, Option, Some, None, Result, Ok, Err, IsTrue, refl, sym, subst, ◌∙◌, ap, arith}
-use Rattle.std.specs.Prelude.{nat_le, nat_lt, ◌&&◌, if◌then◌else◌}
+use Rattle.std.proofs.Common.{◌≡◌, ℕ, zero, suc, ◌+◌, ◌^◌, ◌<◌, ◌≤◌, Bool, true, false, List, [], ◌∷◌, ◌++◌, length, Option, Some, None, Result, Ok, Err, IsTrue, refl, sym, subst, ◌∙◌, ap, arith}
+use Rattle.std.specs.Prelude.{nat_le, nat_lt, ◌&&◌, remove, slice_get, if◌then◌else◌}
 use Rattle.std.specs.List.{list_all}
 use Rattle.std.proofs.lemmas.Bool.Decides.{nat_tests}
 use Rattle.ttm_base.specs.declared.Actor.{Actor}
@@ -15,11 +15,12 @@ use Rattle.journal_model.specs.declared.entry.Entry.{Entry}
 use Rattle.journal_model.specs.declared.entry.Kind.{Kind}
 use Rattle.journal_model.specs.declared.entry.Kind.TheVariants as kind
 use Rattle.journal_model.specs.Commands.{command_at_work}
+use Rattle.journal_model.specs.ScriptRules.{is_script}
 use Rattle.journal_model.specs.Next.{next}
 use Rattle.journal_model.specs.Apply.{apply, applied, thread_of}
-use Rattle.journal_model.specs.Stores.{is_there, within, stores_after, showing}
+use Rattle.journal_model.specs.Stores.{is_there, within, zeros, stores_after, showing}
 use Rattle.journal_model.specs.Complete.{is_over, is_complete}
-use Rattle.journal_model.specs.Legal.{World, IsLegal, IsLegalNext, state_of, stores_of, world_of, world_after, next_entry, shown_step}
+use Rattle.journal_model.specs.Legal.{World, first_state, IsLegal, IsLegalNext, state_of, stores_of, world_of, world_after, next_entry, shown_step}
 use Rattle.journal_model.proofs.JournalLaws.{world_of-append, IsLegal-append}
 use Rattle.journal_law.proofs.Counted.{over_law}
 use Rattle.journal_law.proofs.Shown.{LegalStep, legal_step}
@@ -32,6 +33,7 @@ use Rattle.replay.specs.Ready.{IsReady, IsReadyFor}
 use Rattle.device_core.specs.Kept.{Kept, entry_of, with_entry}
 use Rattle.device_core.specs.Held.{IsHeld, HasNoMore}
 use Rattle.replay_stores.specs.Kept as kept
+use Rattle.replay_stores.specs.Kept.{KeptBytes}
 use Rattle.device_core.proofs.ReadyLaws.{Known, has_room, ready}
 
 -- beyond the pages that there are, there is nothing
@@ -52,6 +54,31 @@ same_within sizes new old h = λ i page o. at page o i
         by : (b : Bool) → (is_there sizes page && nat_lt o 4096) ≡ b → (if b then new page o else old page o) ≡ (if b then new page o else 0)
         by true g = refl
         by false g = h page o g
+
+-- the last entry
+at_end : (xs : List Entry) (at : ℕ) (e x : Entry) → at ≡ length xs → slice_get (xs ++ e ∷ []) at ≡ Some x → e ≡ x
+at_end [] zero e x l h = cc
+at_end [] (suc at) e x l h = absurd (omega (arith, l))
+at_end (y ∷ ys) zero e x l h = absurd (omega (arith, l))
+at_end (y ∷ ys) (suc at) e x l h = at_end ys at e x (omega (arith, l)) h
+
+-- with it taken out again
+without_end : (xs : List Entry) (at : ℕ) (e : Entry) → at ≡ length xs → remove (xs ++ e ∷ []) at ≡ xs
+without_end [] zero e l = refl
+without_end [] (suc at) e l = absurd (omega (arith, l))
+without_end (y ∷ ys) zero e l = absurd (omega (arith, l))
+without_end (y ∷ ys) (suc at) e l = ap (λ zs. y ∷ zs) (without_end ys at e (omega (arith, l)))
+
+-- the same bytes
+within_same : (sizes : Sizes) (bytes : PageBytes) → kept.within sizes bytes bytes ≡ bytes
+within_same sizes bytes = λ i page o. at page o i
+  where
+    at : (page : Page) (o : ℕ) → kept.within sizes bytes bytes page o ≡ bytes page o
+    at page o = by (is_there sizes page && nat_lt o 4096)
+      where
+        by : (b : Bool) → (if b then bytes page o else bytes page o) ≡ bytes page o
+        by true = refl
+        by false = refl
 
 module _ (script : Script) (journal : List Entry) (state : State) (sizes : Sizes) (bytes : PageBytes) where
   -- what is known of the state
@@ -104,3 +131,62 @@ module _ (script : Script) (journal : List Entry) (state : State) (sizes : Sizes
       let legal : IsLegalNext script held_world e = subst (λ w. IsLegalNext script w e) (sym (world_is h)) (legal_next who e next) in
       let step = legal_step script held_world e legal in
       subst (λ f. IsReadyFor script state e.who f.kind) (sym step.entry) (ready script state (length journal) (known h short) bytes e.who step.kind step.step)
+
+  -- the next entry, with what it shows
+  pub entry_shown : IsHeld script journal state sizes bytes → (who : Actor) (k shown : Kind) → next script state who ≡ Ok k → shown ≡ showing script bytes state who k →
+      Ok (record { who = who; kind = shown }) ≡ entry_of (record { script = script; journal = journal }) who
+  entry_shown h who k shown n s =
+      ap (λ (f : Kind). Ok (record { who = who; kind = f })) s ∙ sym (ap (shown_step script held_world who) n) ∙ sym (entry_is h who)
+
+  -- the need
+  pub entry_needs : IsHeld script journal state sizes bytes → (who : Actor) (need : Need) → next script state who ≡ Err need → Err need ≡ entry_of (record { script = script; journal = journal }) who
+  entry_needs h who need n = sym (ap (shown_step script held_world who) n) ∙ sym (entry_is h who)
+
+-- ---- what a device's fields are after a call
+
+module _ (script : Script) (journal : List Entry) (state : State) (stores : KeptBytes) where
+  -- at the start
+  pub held_first : IsTrue (is_script script) → journal ≡ [] → state ≡ first_state script → stores.sizes ≡ script.sizes → kept.bytes_of stores ≡ zeros → IsHeld script journal state stores.sizes (kept.bytes_of stores)
+  held_first fits j s z b =
+      record {
+        fits = fits;
+        legal = subst (IsLegal script) (sym j) tt;
+        state_is = s ∙ ap (state_of script) (sym j);
+        sizes_are = z;
+        bytes_are = b ∙ ap (stores_of script) (sym j);
+        no_more = λ page o h. ap (λ (f : PageBytes). f page o) b;
+      }
+
+  -- where nothing was made
+  pub held_same : IsHeld script journal state stores.sizes (kept.bytes_of stores) → (at : ℕ) (pushed back : List Entry) (e : Entry) (z : State) (new : KeptBytes) →
+      at ≡ length journal → pushed ≡ journal ++ e ∷ [] → back ≡ remove pushed at → (z ≡ state) × kept.BecomesBytes stores new (kept.bytes_of stores) → IsHeld script back z new.sizes (kept.bytes_of new)
+  held_same h at pushed back e z new l p b same =
+      let journal_is : back ≡ journal = b ∙ ap (λ xs. remove xs at) p ∙ without_end journal at e l in
+      let bytes_is : kept.bytes_of new ≡ kept.bytes_of stores = same.1.bytes_are ∙ within_same stores.sizes (kept.bytes_of stores) in
+      subst (λ j. IsHeld script j z new.sizes (kept.bytes_of new)) (sym journal_is)
+          (subst (λ t. IsHeld script journal t new.sizes (kept.bytes_of new)) (sym same.0)
+              (subst (λ n. IsHeld script journal state n (kept.bytes_of new)) (sym same.1.same_sizes)
+                  (subst (λ m. IsHeld script journal state stores.sizes m) (sym bytes_is) h)))
+
+  -- where an entry was made
+  pub held_more : IsHeld script journal state stores.sizes (kept.bytes_of stores) → (at : ℕ) (pushed : List Entry) (e x : Entry) (z : State) (new : KeptBytes) →
+      at ≡ length journal → pushed ≡ journal ++ e ∷ [] → slice_get pushed at ≡ Some x → entry_of (record { script = script; journal = journal }) e.who ≡ Ok e →
+      z ≡ apply script state x → kept.BecomesBytes stores new (stores_after script state x.who x.kind (kept.bytes_of stores)) → IsHeld script pushed z new.sizes (kept.bytes_of new)
+  held_more h at pushed e x z new l p g next s b =
+      let same : e ≡ x = at_end journal at e x l (subst (λ xs. slice_get xs at ≡ Some x) p g) in
+      let state_is : z ≡ apply script state e = s ∙ ap (apply script state) (sym same) in
+      let bytes_is : kept.bytes_of new ≡ within stores.sizes (stores_after script state e.who e.kind (kept.bytes_of stores)) =
+          b.bytes_are ∙ same_within stores.sizes (stores_after script state x.who x.kind (kept.bytes_of stores)) (kept.bytes_of stores) h.no_more
+          ∙ ap (λ (f : Entry). within stores.sizes (stores_after script state f.who f.kind (kept.bytes_of stores))) (sym same) in
+      let after = held_after script journal state stores.sizes (kept.bytes_of stores) h e.who e next in
+      subst (λ j. IsHeld script j z new.sizes (kept.bytes_of new)) (sym p)
+          (subst (λ t. IsHeld script (journal ++ e ∷ []) t new.sizes (kept.bytes_of new)) (sym state_is)
+              (subst (λ n. IsHeld script (journal ++ e ∷ []) (apply script state e) n (kept.bytes_of new)) (sym b.same_sizes)
+                  (subst (λ m. IsHeld script (journal ++ e ∷ []) (apply script state e) stores.sizes m) (sym bytes_is) after)))
+
+  -- the entry that was pushed can be made
+  pub pushed_ready : IsHeld script journal state stores.sizes (kept.bytes_of stores) → length journal + 1 < 2 ^ 64 → (at : ℕ) (pushed : List Entry) (e x : Entry) →
+      at ≡ length journal → pushed ≡ journal ++ e ∷ [] → slice_get pushed at ≡ Some x → entry_of (record { script = script; journal = journal }) e.who ≡ Ok e → IsReady script state x
+  pushed_ready h short at pushed e x l p g next =
+      let same : e ≡ x = at_end journal at e x l (subst (λ xs. slice_get xs at ≡ Some x) p g) in
+      subst (IsReady script state) same (can_apply script journal state stores.sizes (kept.bytes_of stores) h short e.who e next)

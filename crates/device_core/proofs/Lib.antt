@@ -1,2 +1,3 @@
 pub mod ReadyLaws
 pub mod DeviceLaws
+pub mod EnactLaws

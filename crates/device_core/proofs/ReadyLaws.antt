@@ -282,11 +282,15 @@ few_pages script r b = ⊎_elim (λ lt. (declared_pages script r b lt).few) (λ 
 few_buffers : (script : Script) → IsTrue (is_script script) → length script.buffers ≤ 256
 few_buffers script h = grind (arith, nat_tests)
 
+few_threads : (script : Script) → IsTrue (is_script script) → length script.threads ≤ 16
+few_threads script h = grind (arith, nat_tests)
+
 -- the next entry can be written
 pub has_room : (script : Script) (s : State) (n : ℕ) → Known script s n → HasRoom script s
 has_room script s n k = record {
   pages = λ b. let l = few_pages script k.rules b in omega (arith, l);
   tables = λ b. let l = short_table script s n k b in omega (arith, l);
+  threads = let l = few_threads script k.fits in omega (arith, l);
   buffers = let m = k.good.many in let l = few_buffers script k.fits in omega (arith, m, l);
   stamps = let l = k.below.stamps in let f = k.short in omega (arith, l, f);
   ghosts = let l = k.below.ghosts in let f = k.short in omega (arith, l, f);

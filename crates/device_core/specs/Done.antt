@@ -22,6 +22,7 @@ done_of entries ctx = fold (λ n e. max n (done_by ctx e)) 0 entries
 
 -- ---- no done number falls when a journal grows
 
+max_at_least : (a b : ℕ) → a ≤ max a b
 max_at_least a b = grind arith
 
 fold_at_least : (ctx : ℕ) (es : List Entry) (n : ℕ) → n ≤ fold (λ n e. max n (done_by ctx e)) n es

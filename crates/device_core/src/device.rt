@@ -1,18 +1,27 @@
-ghost use Rattle.std.specs.Prelude.{◌≡◌, ◌+◌, ◌<◌, ◌^◌, ◌∷◌, ◌++◌, [], IfOk, OnOk, OnErr, Ok, Err, IsTrue, length};
-ghost use Rattle.ttm_base.specs.declared.Turn.TheVariants as turn;
+ghost use Rattle.std.specs.Prelude.{◌≡◌, ◌+◌, ◌<◌, ◌^◌, ◌∷◌, ◌++◌, [], IfOk, OnOk, OnErr, Ok, IsTrue, find, length, remove};
 ghost use Rattle.journal_model.specs.ScriptRules.{is_script};
 ghost use Rattle.journal_model.specs.Complete.{is_complete};
-ghost use Rattle.journal_model.specs.Stores.{showing};
-ghost use Rattle.device_core.specs.Kept.{Kept, entry_of, with_entry, turn_of, after_turn};
+ghost use Rattle.journal_model.specs.Legal.{state_of};
+ghost use Rattle.journal_model.specs.DeadEnd.{can_step};
+ghost use Rattle.journal_model.specs.Scheduled.{own_order};
+ghost use Rattle.device_core.specs.Kept.{entry_of, with_entry, turn_of, after_turn};
 
 use crate::enact::enact;
-use journal_model::{Entry, Kind, Script, State};
+use journal_model::{Entry, Script, State};
 use replay::first_state;
 use replay_next::{is_over, next, next_actor};
 use replay_stores::PlainStores;
 use std::alloc::Global;
 use std::marker::Model;
 use ttm_base::{Actor, ItemList, Need, NoMemory, Turn};
+
+/// Takes out the entry at a position, and those behind it move up.
+fn take_back(journal: &mut ItemList<Entry>, at: usize)
+    requires { at < length journal.old }
+    ensures { journal.new ≡ remove journal.old at }
+{
+    journal.remove(at);
+}
 
 /// A memory manager that runs a script, and the journal of what it did.
 #[derive(Drop)]
@@ -101,7 +110,8 @@ impl Device {
 
     /// Makes an entry.
     fn make(&mut self, entry: Entry) -> Result<(), NoMemory>
-        requires { entry_of self.old entry.who ≡ Ok entry }
+        requires next { entry_of self.old entry.who ≡ Ok entry }
+        requires short { length self.old.journal + 1 < 2 ^ 64 }
         ensures ok { OnOk result (self.new ≡ with_entry self.old entry) }
         ensures err { OnErr result (self.new ≡ self.old) }
     {
@@ -115,7 +125,7 @@ impl Device {
             self.journal.get(at),
         );
         if made.is_err() {
-            self.journal.remove(at);
+            take_back(&mut self.journal, at);
         }
         made
     }

@@ -34,11 +34,9 @@ impl Logged for Device {
     }
 
     fn done(&self, ctx: u32) -> u64 {
-        let mut most = 0;
-        for entry in self.journal() {
-            most = most.max(done_by(ctx, entry));
-        }
-        most
+        self.journal()
+            .iter()
+            .fold(0, |most, entry| most.max(done_by(ctx, entry)))
     }
 
     ghost done_grows = { done_of_grows };
