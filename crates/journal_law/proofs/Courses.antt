@@ -1,0 +1,231 @@
+-- What each entry does to the courses of threads.
+use Rattle.std.proofs.Common.{◌≡◌, ℕ, ◌+◌, ◌-◌, zero, suc, Bool, true, false, List, [], ◌∷◌, Option, Some, None, IsSome, Ok, refl, ◌∙◌, ap, arith}
+use Rattle.std.proofs.lemmas.Grind.{common_steps}
+use Rattle.std.proofs.lemmas.Bool.Decides.{nat_tests}
+use Rattle.std.specs.Prelude.{slice_get, slice_set, unwrap_or, if◌then◌else◌, ◌==◌}
+use Rattle.ttm_base.specs.declared.Actor.{Actor}
+use Rattle.ttm_base.specs.declared.Actor.TheVariants as actor
+use Rattle.ttm_base.specs.declared.BufId.{BufId}
+use Rattle.ttm_base.specs.declared.Deny.{Deny}
+use Rattle.ttm_base.specs.declared.Deny.TheVariants as deny
+use Rattle.journal_model.specs.declared.script.Script.{Script}
+use Rattle.journal_model.specs.declared.script.Command.{Command}
+use Rattle.journal_model.specs.declared.state.State.{State}
+use Rattle.journal_model.specs.declared.state.Course.{Course}
+use Rattle.journal_model.specs.declared.entry.Kind.{Kind}
+use Rattle.journal_model.specs.declared.entry.Kind.TheVariants as kind
+use Rattle.journal_model.specs.State.{course, course_of, new_course, with_course}
+use Rattle.journal_model.specs.Commands.{command_at_work}
+use Rattle.journal_model.specs.Search.{is_caught}
+use Rattle.journal_model.specs.Next.{next}
+use Rattle.journal_model.specs.Apply.{applied}
+use Rattle.journal_model.specs.ApplyPages.{search_over}
+use Rattle.journal_model.specs.ApplyVictims.{with_fail, course_after_dry}
+use Rattle.journal_model.specs.Complete.{is_answer}
+
+-- ---- who makes which kinds
+
+-- packets and their end
+abbrev pub is_of_engine : Kind → Bool
+is_of_engine (kind.Packet n k piece) = true
+is_of_engine (kind.Done n) = true
+is_of_engine _ = false
+
+-- the end of a ghost
+abbrev pub is_of_reaper : Kind → Bool
+is_of_reaper (kind.Reap g) = true
+is_of_reaper _ = false
+
+pub of_engine : (script : Script) (s : State) (e : ℕ) (k : Kind) → next script s (actor.Engine e) ≡ Ok k → is_of_engine k ≡ true
+of_engine script s e k h = grind (arith, common_steps)
+
+pub of_reaper : (script : Script) (s : State) (k : Kind) → next script s actor.Reaper ≡ Ok k → is_of_reaper k ≡ true
+of_reaper script s k h = grind (arith, common_steps)
+
+-- a thread that has an entry is there
+pub thread_is_there : (script : Script) (s : State) (t : ℕ) (k : Kind) → next script s (actor.Thread t) ≡ Ok k → IsSome (course_of s t)
+thread_is_there script s t k h = grind (arith, common_steps)
+
+-- ---- courses by number
+
+-- the course of a thread among these
+abbrev pub course_in : List Course → ℕ → Course
+course_in courses t = unwrap_or (if t == 0 then None else slice_get courses (t - 1)) (new_course 0)
+
+get_set_same : {X : Type 0} (xs : List X) (i : ℕ) (x : X) → IsSome (slice_get xs i) → slice_get (slice_set xs i x) i ≡ Some x
+get_set_same [] i x h = cc
+get_set_same (y ∷ ys) zero x h = refl
+get_set_same (y ∷ ys) (suc i) x h = get_set_same ys i x h
+
+get_set_other : {X : Type 0} (xs : List X) (i j : ℕ) (x : X) → (j ≡ i → ⊥) → slice_get (slice_set xs i x) j ≡ slice_get xs j
+get_set_other [] i j x h = refl
+get_set_other (y ∷ ys) zero zero x h = absurd (h refl)
+get_set_other (y ∷ ys) zero (suc j) x h = refl
+get_set_other (y ∷ ys) (suc i) zero x h = refl
+get_set_other (y ∷ ys) (suc i) (suc j) x h = get_set_other ys i j x (λ e. h (ap (λ n. suc n) e))
+
+picked_set : (b : Bool) (courses : List Course) (i : ℕ) (c : Course) → IsSome (if b then None else slice_get courses i) →
+    unwrap_or (if b then None else slice_get (slice_set courses i c) i) (new_course 0) ≡ c
+picked_set true courses i c h = cc
+picked_set false courses i c h = ap (λ o. unwrap_or o (new_course 0)) (get_set_same courses i c h)
+
+-- the thread's own course was set
+pub course_set : (courses : List Course) (t : ℕ) (c : Course) → IsSome (if t == 0 then None else slice_get courses (t - 1)) → course_in (with_course courses t c) t ≡ c
+course_set courses t c h = picked_set (t == 0) courses (t - 1) c h
+
+picked_kept : (a b : Bool) (courses : List Course) (i j : ℕ) (c : Course) → IsSome (if a then None else slice_get courses i) → (a ≡ false → b ≡ false → j ≡ i → ⊥) →
+    unwrap_or (if b then None else slice_get (slice_set courses i c) j) (new_course 0) ≡ unwrap_or (if b then None else slice_get courses j) (new_course 0)
+picked_kept true b courses i j c h d = cc
+picked_kept false true courses i j c h d = refl
+picked_kept false false courses i j c h d = ap (λ o. unwrap_or o (new_course 0)) (get_set_other courses i j c (d refl refl))
+
+apart_below : (t u : ℕ) → (u ≡ t → ⊥) → (t == 0) ≡ false → (u == 0) ≡ false → u - 1 ≡ t - 1 → ⊥
+apart_below t u d a b e = grind (arith, nat_tests)
+
+-- that of another thread stays
+pub course_kept : (courses : List Course) (t u : ℕ) (c : Course) → IsSome (if t == 0 then None else slice_get courses (t - 1)) → (u ≡ t → ⊥) → course_in (with_course courses t c) u ≡ course_in courses u
+course_kept courses t u c h d = picked_kept (t == 0) (u == 0) courses (t - 1) (u - 1) c h (apart_below t u d)
+
+-- ---- how many commands are answered
+
+fail_keeps : (b : BufId) (d : Deny) (c : Course) → (with_fail b d c).answered ≡ c.answered
+fail_keeps b d c = by (is_caught c b) refl
+  where
+    by : (q : Bool) → is_caught c b ≡ q → (with_fail b d c).answered ≡ c.answered
+    by true e = simp e
+    by false e = simp e
+
+search_keeps : (b : BufId) (c : Course) → (search_over b c).answered ≡ c.answered
+search_keeps b c = by (is_caught c b) refl
+  where
+    by : (q : Bool) → is_caught c b ≡ q → (search_over b c).answered ≡ c.answered
+    by true e = simp e
+    by false e = simp e
+
+dry_keeps : (script : Script) (s : State) (b : BufId) (k : ℕ) (cmd : Option Command) (c : Course) → (course_after_dry script s b k cmd c).answered ≡ c.answered
+dry_keeps script s b k None c = refl
+dry_keeps script s b k (Some cmd) c = by (is_caught c b) refl
+  where
+    by : (q : Bool) → is_caught c b ≡ q → (course_after_dry script s b k (Some cmd) c).answered ≡ c.answered
+    by true e = simp e
+    by false e = simp e
+
+-- one more, if it is so
+abbrev pub one_more_if : Bool → ℕ → ℕ
+one_more_if true n = n + 1
+one_more_if false n = n
+
+-- the thread that made the entry
+pub own_answered : (script : Script) (s : State) (t : ℕ) (k : Kind) → IsSome (course_of s t) → (course (applied script s (actor.Thread t) k) t).answered ≡ one_more_if (is_answer k) (course s t).answered
+own_answered script s t (kind.Ticket stamp) here = ap (λ c. c.answered) (course_set s.courses t _ here)
+own_answered script s t (kind.Reserve b) here = ap (λ c. c.answered) (course_set s.courses t _ here)
+own_answered script s t (kind.Backoff b stamp) here = ap (λ c. c.answered) (course_set s.courses t _ here)
+own_answered script s t (kind.New b) here = ap (λ c. c.answered) (course_set s.courses t _ here)
+own_answered script s t (kind.Free b g) here = ap (λ c. c.answered) (course_set s.courses t _ here)
+own_answered script s t (kind.Take b mem spans) here = ap (λ c. c.answered) (course_set s.courses t _ here) ∙ search_keeps b (course s t)
+own_answered script s t (kind.Untake b mem) here = refl
+own_answered script s t (kind.Populate b page frame) here = refl
+own_answered script s t (kind.SwapIn b page slot frame) here = refl
+own_answered script s t (kind.Depopulate b) here = refl
+own_answered script s t (kind.Bind b) here = refl
+own_answered script s t (kind.Unbind b) here = refl
+own_answered script s t (kind.Move b mem n l) here = refl
+own_answered script s t (kind.Catch b w) here = ap (λ c. c.answered) (course_set s.courses t _ here)
+own_answered script s t (kind.Loose b) here = ap (λ c. c.answered) (course_set s.courses t _ here)
+own_answered script s t (kind.Skip b) here = ap (λ c. c.answered) (course_set s.courses t _ here)
+own_answered script s t (kind.Dry b k w) here = ap (λ c. c.answered) (course_set s.courses t _ here) ∙ dry_keeps script s b k (command_at_work script s t) (course s t)
+own_answered script s t (kind.SwapOut b page slot) here = refl
+own_answered script s t (kind.NoPages b) here = ap (λ c. c.answered) (course_set s.courses t _ here) ∙ fail_keeps b deny.NoPages (course s t)
+own_answered script s t (kind.Arm engine n) here = ap (λ c. c.answered) (course_set s.courses t _ here)
+own_answered script s t (kind.Packet n k piece) here = refl
+own_answered script s t (kind.Done n) here = refl
+own_answered script s t (kind.Reap g) here = refl
+own_answered script s t (kind.Bulk group) here = ap (λ c. c.answered) (course_set s.courses t _ here)
+own_answered script s t (kind.Result r) here = ap (λ c. c.answered) (course_set s.courses t _ here)
+own_answered script s t (kind.Refused d) here = ap (λ c. c.answered) (course_set s.courses t _ here)
+
+-- the other threads
+pub others_kept : (script : Script) (s : State) (t u : ℕ) (k : Kind) → IsSome (course_of s t) → (u ≡ t → ⊥) → course (applied script s (actor.Thread t) k) u ≡ course s u
+others_kept script s t u (kind.Ticket stamp) here other = course_kept s.courses t u _ here other
+others_kept script s t u (kind.Reserve b) here other = course_kept s.courses t u _ here other
+others_kept script s t u (kind.Backoff b stamp) here other = course_kept s.courses t u _ here other
+others_kept script s t u (kind.New b) here other = course_kept s.courses t u _ here other
+others_kept script s t u (kind.Free b g) here other = course_kept s.courses t u _ here other
+others_kept script s t u (kind.Take b mem spans) here other = course_kept s.courses t u _ here other
+others_kept script s t u (kind.Untake b mem) here other = refl
+others_kept script s t u (kind.Populate b page frame) here other = refl
+others_kept script s t u (kind.SwapIn b page slot frame) here other = refl
+others_kept script s t u (kind.Depopulate b) here other = refl
+others_kept script s t u (kind.Bind b) here other = refl
+others_kept script s t u (kind.Unbind b) here other = refl
+others_kept script s t u (kind.Move b mem n l) here other = refl
+others_kept script s t u (kind.Catch b w) here other = course_kept s.courses t u _ here other
+others_kept script s t u (kind.Loose b) here other = course_kept s.courses t u _ here other
+others_kept script s t u (kind.Skip b) here other = course_kept s.courses t u _ here other
+others_kept script s t u (kind.Dry b k w) here other = course_kept s.courses t u _ here other
+others_kept script s t u (kind.SwapOut b page slot) here other = refl
+others_kept script s t u (kind.NoPages b) here other = course_kept s.courses t u _ here other
+others_kept script s t u (kind.Arm engine n) here other = course_kept s.courses t u _ here other
+others_kept script s t u (kind.Packet n k piece) here other = refl
+others_kept script s t u (kind.Done n) here other = refl
+others_kept script s t u (kind.Reap g) here other = refl
+others_kept script s t u (kind.Bulk group) here other = course_kept s.courses t u _ here other
+others_kept script s t u (kind.Result r) here other = course_kept s.courses t u _ here other
+others_kept script s t u (kind.Refused d) here other = course_kept s.courses t u _ here other
+
+-- engines and the reaper leave all courses alone
+pub engine_keeps : (script : Script) (s : State) (who : Actor) (k : Kind) → is_of_engine k ≡ true → (applied script s who k).courses ≡ s.courses
+engine_keeps script s who (kind.Ticket stamp) h = cc
+engine_keeps script s who (kind.Reserve b) h = cc
+engine_keeps script s who (kind.Backoff b stamp) h = cc
+engine_keeps script s who (kind.New b) h = cc
+engine_keeps script s who (kind.Free b g) h = cc
+engine_keeps script s who (kind.Take b mem spans) h = cc
+engine_keeps script s who (kind.Untake b mem) h = cc
+engine_keeps script s who (kind.Populate b page frame) h = cc
+engine_keeps script s who (kind.SwapIn b page slot frame) h = cc
+engine_keeps script s who (kind.Depopulate b) h = cc
+engine_keeps script s who (kind.Bind b) h = cc
+engine_keeps script s who (kind.Unbind b) h = cc
+engine_keeps script s who (kind.Move b mem n l) h = cc
+engine_keeps script s who (kind.Catch b w) h = cc
+engine_keeps script s who (kind.Loose b) h = cc
+engine_keeps script s who (kind.Skip b) h = cc
+engine_keeps script s who (kind.Dry b k w) h = cc
+engine_keeps script s who (kind.SwapOut b page slot) h = cc
+engine_keeps script s who (kind.NoPages b) h = cc
+engine_keeps script s who (kind.Arm engine n) h = cc
+engine_keeps script s who (kind.Packet n k piece) h = refl
+engine_keeps script s who (kind.Done n) h = refl
+engine_keeps script s who (kind.Reap g) h = cc
+engine_keeps script s who (kind.Bulk group) h = cc
+engine_keeps script s who (kind.Result r) h = cc
+engine_keeps script s who (kind.Refused d) h = cc
+
+pub reaper_keeps : (script : Script) (s : State) (who : Actor) (k : Kind) → is_of_reaper k ≡ true → (applied script s who k).courses ≡ s.courses
+reaper_keeps script s who (kind.Ticket stamp) h = cc
+reaper_keeps script s who (kind.Reserve b) h = cc
+reaper_keeps script s who (kind.Backoff b stamp) h = cc
+reaper_keeps script s who (kind.New b) h = cc
+reaper_keeps script s who (kind.Free b g) h = cc
+reaper_keeps script s who (kind.Take b mem spans) h = cc
+reaper_keeps script s who (kind.Untake b mem) h = cc
+reaper_keeps script s who (kind.Populate b page frame) h = cc
+reaper_keeps script s who (kind.SwapIn b page slot frame) h = cc
+reaper_keeps script s who (kind.Depopulate b) h = cc
+reaper_keeps script s who (kind.Bind b) h = cc
+reaper_keeps script s who (kind.Unbind b) h = cc
+reaper_keeps script s who (kind.Move b mem n l) h = cc
+reaper_keeps script s who (kind.Catch b w) h = cc
+reaper_keeps script s who (kind.Loose b) h = cc
+reaper_keeps script s who (kind.Skip b) h = cc
+reaper_keeps script s who (kind.Dry b k w) h = cc
+reaper_keeps script s who (kind.SwapOut b page slot) h = cc
+reaper_keeps script s who (kind.NoPages b) h = cc
+reaper_keeps script s who (kind.Arm engine n) h = cc
+reaper_keeps script s who (kind.Packet n k piece) h = cc
+reaper_keeps script s who (kind.Done n) h = cc
+reaper_keeps script s who (kind.Reap g) h = refl
+reaper_keeps script s who (kind.Bulk group) h = cc
+reaper_keeps script s who (kind.Result r) h = cc
+reaper_keeps script s who (kind.Refused d) h = cc

@@ -1,0 +1,4 @@
+pub mod Shown
+pub mod Courses
+pub mod Counted
+pub mod Turns

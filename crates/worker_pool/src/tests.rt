@@ -1,0 +1,107 @@
+ghost use Rattle.std.specs.Prelude.{◌≡◌, ◌<◌};
+ghost use Rattle.turn_lock.specs.Locks.{lock_id, context_count};
+ghost use Rattle.turn_lock.specs.Turning.{IsFree, IsOnward};
+
+mod counter;
+
+use crate::{Gate, work_all};
+use counter::Counter;
+use std::sync::Wait;
+use std::sync::atomic::AtomicBool;
+use std::sync::atomic::Ordering::SeqCst;
+use std::test::Fail;
+use ttm_base::{Actor, Logged, Stepper};
+use turn_lock::{Pass, Turns};
+
+// One turn for the actor, after which the word of context 0 is raised to what is done there.
+fn turn_of<R: Wait>(rt: &R, turns: &Turns<Counter>, pass: &mut Pass<Counter>, who: Actor) -> u64
+    requires own { (pass.old.table_id ≡ lock_id turns.now) × (0 < context_count turns.now) }
+    requires free { IsFree pass.old }
+    ensures { IsOnward pass.old pass.new }
+{
+    let mut held = turns.take(rt, pass);
+    let value = held.value();
+    let _ = value.step(who);
+    let num = value.done(0);
+    turns.give(pass, held);
+    turns.raise_fence(pass, 0, num);
+    num
+}
+
+#[test]
+fn a_raised_word_is_seen(rt: HostRuntime) -> Result<(), Fail> {
+    let (turns, mut pass) = Turns::new(rt.alloc(), Counter::new(rt.alloc(), 10), 1)
+        .ok()
+        .ok_or("memory")?;
+    let mut other = turns.split(&mut pass);
+    for _i in 0..3 {
+        turn_of(&rt, &turns, &mut pass, Actor::Thread(1));
+        turn_of(&rt, &turns, &mut pass, Actor::Engine(0));
+    }
+    let first = turns.peek_fence(&mut pass, 0, 1);
+    let second = turns.peek_fence(&mut pass, 0, 2);
+    let third = turns.peek_fence(&mut pass, 0, 3);
+    let fourth = turns.peek_fence(&mut pass, 0, 4);
+    let others = turns.peek_fence(&mut other, 0, 3);
+    assert_eq!(rt;
+        (first, second, third, fourth, others),
+        (true, true, true, false, true)
+    );
+    turns.join(&mut pass, other);
+    let counter = turns.close(&rt, pass);
+    assert_eq!(rt; counter.journal().len(), 6);
+    Ok(())
+}
+
+// The first calls of the workers 1 and 2 each wait for the other's.
+#[derive(Drop)]
+struct Meeting {
+    first: AtomicBool,
+    second: AtomicBool,
+    late: AtomicBool,
+}
+
+impl Meeting {
+    fn wait_for(&self, other: &AtomicBool) {
+        for _look in 0..1_000_000_000u64 {
+            if other.load(SeqCst) {
+                return;
+            }
+        }
+        self.late.store(true, SeqCst);
+    }
+}
+
+impl Gate for Meeting {
+    fn before_turn(&self, worker: u32, turn: u64) {
+        if turn != 1 {
+            return;
+        }
+        if worker == 1 {
+            self.first.store(true, SeqCst);
+            self.wait_for(&self.second);
+        }
+        if worker == 2 {
+            self.second.store(true, SeqCst);
+            self.wait_for(&self.first);
+        }
+    }
+}
+
+#[test]
+fn two_workers_are_at_work_at_once(rt: HostRuntime) -> Result<(), Fail> {
+    let (turns, pass) = Turns::new(rt.alloc(), Counter::new(rt.alloc(), 10), 1)
+        .ok()
+        .ok_or("memory")?;
+    let meeting = Meeting {
+        first: AtomicBool::new(false),
+        second: AtomicBool::new(false),
+        late: AtomicBool::new(false),
+    };
+    let actors = [Actor::Thread(1), Actor::Thread(2), Actor::Engine(0)];
+    let (answer, pass) = work_all(&rt, rt.alloc(), &turns, pass, &meeting, &actors);
+    let counter = turns.close(&rt, pass);
+    assert!(rt; answer.is_ok() && !meeting.late.load(SeqCst));
+    assert_eq!(rt; counter.journal().len(), 20);
+    Ok(())
+}
