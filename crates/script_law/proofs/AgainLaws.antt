@@ -14,6 +14,7 @@ use Rattle.script_law.proofs.Tests.{not_true, either, both, differ}
 
 -- ---- bytes
 
+-- a digit of a byte is read
 pub digit_again : (n : ℕ) → n < 16 → (is_hex (digit_char n) ≡ true) × (hex_value (digit_char n) ≡ n)
 digit_again n h = (grind (arith, nat_tests, h), grind (arith, nat_tests, h))
 
@@ -40,11 +41,13 @@ bytes_again (b ∷ bs) h =
 
 -- ---- lines
 
+-- an offset is read
 pub offset_again : (n : ℕ) → n ≤ 16777216 → offset_of (decimal n) ≡ Some n
 offset_again n h = number_again 0 16777216 n (omega arith) (omega arith) h
 
 -- ---- names
 
+-- no name stands twice
 abbrev pub distinct : List Text → Bool
 distinct [] = true
 distinct (w ∷ ws) = not (list_any (bytes_eq w) ws) && distinct ws
@@ -64,6 +67,7 @@ no_test true x w e h =
     let yes : bytes_eq x w ≡ true = (bytes_eq-Decides x w).1 (sym same) in
     absurd (differ (sym yes ∙ h))
 
+-- two texts differ either way round
 pub turned : (x w : Text) → bytes_eq x w ≡ false → bytes_eq w x ≡ false
 turned x w h = no_test (bytes_eq w x) x w refl h
 

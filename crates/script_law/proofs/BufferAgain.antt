@@ -185,6 +185,7 @@ six_facts true true true false e f h = absurd cc
 six_facts true true true true false f h = absurd cc
 six_facts true true true true true false h = absurd cc
 
+-- the limits of a declaration, each for itself
 pub decl_is : (v : ℕ) (d : Decl) → is_decl v d ≡ true → IsDecl v d
 decl_is v d h =
     let f = six_facts (is_name d.name) (is_between 1 4096 d.pages) (nat_le d.prio 3) (is_group d.group) (is_between 1 4096 d.align) (is_place_list v d.placement.list) h in
@@ -323,6 +324,7 @@ by_two : (b : Bool) (v : ℕ) → eqb v 1 ≡ b → is_between 1 2 v ≡ true �
 by_two true v e h = inl (grind (arith, nat_tests, e))
 by_two false v e h = inr (grind (arith, nat_tests, e, h))
 
+-- there are two versions
 pub one_or_two : (v : ℕ) → is_between 1 2 v ≡ true → (v ≡ 1) ⊎ (v ≡ 2)
 one_or_two v h = by_two (eqb v 1) v refl h
 

@@ -39,6 +39,7 @@ use Rattle.script_law.proofs.Tests.{not_true, either, both, joint, three_facts, 
 
 -- ---- names
 
+-- both tests of texts are one
 pub same_is : (a b : Text) → same_text a b ≡ bytes_eq a b
 same_is [] [] = refl
 same_is (x ∷ a) (y ∷ b) = ap (λ t. eqb x y && t) (same_is a b)
@@ -51,6 +52,7 @@ any_more p (y ∷ xs) x h k =
     let f = either (p y) (list_any p xs) h in
     ap (λ b. b || list_any p (xs ++ x ∷ [])) f.0 ∙ any_more p xs x f.1 k
 
+-- a free name leaves the names distinct
 pub distinct_more : (ds : List Decl) (d : Decl) → has_distinct_names ds ≡ true → list_any (bytes_eq d.name) (names_of ds) ≡ false → has_distinct_names (ds ++ d ∷ []) ≡ true
 distinct_more [] d h k = refl
 distinct_more (e ∷ ds) d h k =
@@ -62,6 +64,7 @@ distinct_more (e ∷ ds) d h k =
 
 -- ---- one more buffer
 
+-- a line says a declaration that keeps its rules
 pub record Declares (s : Script) (n m : ℕ) (ws : List Text) (l : Line) : Type 0 where
   pub d : Decl
   pub taken : with_line (at phase.Buffers s n m) l ≡ with_buffer (at phase.Buffers s n m) d
@@ -95,6 +98,7 @@ with_one s n m d h fit free few = record {
   stage = h.stage;
 }
 
+-- a buffer line
 pub buffer_step : (s : Script) (n m : ℕ) (ws : List Text) (l : Line) → Declares s n m ws l → Sound (at phase.Buffers s n m) → Grows (at phase.Buffers s n m) l ws
 buffer_step s n m ws l t h =
     let p = at phase.Buffers s n m in
@@ -132,6 +136,7 @@ group_chosen false None h = refl
 group_fits : (w : Text) → is_group (unwrap_or (group_of w) None) ≡ true
 group_fits w = group_chosen (bytes_eq w (codes "-")) (number_in 0 15 w) (number_small 0 15 w)
 
+-- what a choice answers
 pub some_if : (b : Bool) (x l : Line) → cond b (made x) None ≡ made l → (b ≡ true) × (x ≡ l)
 some_if true x l h = (refl, cc)
 some_if false x l h = absurd cc
@@ -253,6 +258,7 @@ rest_says s n m w name pages a prio b group c align (d ∷ want ∷ e ∷ busy �
     old_says s n m w name pages a prio b group c align d want e busy l k (is_one s.version v z.0) z.1 r
 rest_says s n m w name pages a prio b group c align (d ∷ x ∷ y ∷ z ∷ u ∷ us) l k v h r = absurd cc
 
+-- a buffer line that breaks no rule says a declaration
 pub buffer_says : (s : Script) (n m : ℕ) (ws : List Text) (l : Line) → first_word ws ≡ codes "buffer" → is_between 1 2 s.version ≡ true → buffer_line_of (eqb s.version 2) ws ≡ made l → Breaks_none (at phase.Buffers s n m) l → Declares s n m ws l
 buffer_says s n m [] l k v h r = absurd cc
 buffer_says s n m (w ∷ []) l k v h r = absurd cc

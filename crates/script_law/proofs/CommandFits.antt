@@ -34,6 +34,7 @@ pub number_small : (low high : ℕ) (w : Text) → or_zero (number_in low high w
 number_small low high w =
     small_choice (is_plain w && is_between low high (read_on 0 w)) (read_on 0 w) low high (λ e. (between low high (read_on 0 w) (second (is_plain w) (is_between low high (read_on 0 w)) e)).1)
 
+-- a known name is that of a declared buffer
 pub known_there : (s : Script) (w : Text) → is_none (known (names_of s.buffers) w) ≡ false → is_declared s (or_first (known (names_of s.buffers) w)) ≡ true
 known_there s w h =
     let b = or_first (known (names_of s.buffers) w) in
@@ -64,6 +65,7 @@ len_there : (len : Option ℕ) → is_none len ≡ false → (s : Script) (b : O
 len_there None h s b off k = absurd cc
 len_there (Some n) h s b off k = let f = either (eqb n 0) (passes s b off (Some n)) k in (some_len n f.0, f.1)
 
+-- a range that is not wrong, and not empty
 pub range_fits : (s : Script) (b : Option BufId) (off len : Option ℕ) → is_none b ≡ false → is_none off ≡ false → is_none len ≡ false
     → has_wrong_range s b off len ≡ false → (is_none b ≡ false → is_declared s (or_first b) ≡ true) → or_zero off ≤ 16777216 → or_zero len ≤ 16777216
     → (is_range_of s (or_first b) (or_zero off) (or_zero len) ≡ true) × (1 ≤ or_zero len)
@@ -71,6 +73,7 @@ range_fits s b off len p q r h d o m =
     let t = len_there len r s b off h in
     (passes_fits s b off len p q r t.1 d o t.0 m, t.0)
 
+-- a length that is not too great
 pub not_more : (most : ℕ) (o : Option ℕ) → is_none o ≡ false → is_more_than most o ≡ false → nat_le (or_zero o) most ≡ true
 not_more most None h k = absurd cc
 not_more most (Some n) h k = not_lt most n k
@@ -92,6 +95,7 @@ bytes_step c d true true None bytes p q rest h = absurd cc
 bytes_step c d true false o bytes p q rest h = absurd cc
 bytes_step c d false b o bytes p q rest h = absurd cc
 
+-- what is read of bytes is bytes
 pub bytes_small : (w : Text) (bytes : List ℕ) → bytes_of w ≡ Some bytes → list_all is_byte bytes ≡ true
 bytes_small [] bytes h = let e : [] ≡ bytes = cc in ap (list_all is_byte) (sym e)
 bytes_small (c ∷ []) bytes h = absurd cc
@@ -192,6 +196,7 @@ named_is (op_word.Xor dst doff src soff len) g = let n = either (is_none dst) (i
 named_is (op_word.Probe src off len) g = only src g.names
 named_is op_word.Malformed g = absurd (differ g.shape)
 
+-- a job names the buffers of its words
 pub names_are : (xs : List OpWord) → AreGood xs → flat_map buffers_of_word xs ≡ flat_map buffers_of_op (map op_in xs)
 names_are [] h = refl
 names_are (x ∷ xs) h =
@@ -205,6 +210,7 @@ len_is (op_word.Xor dst doff src soff len) = refl
 len_is (op_word.Probe src off len) = refl
 len_is op_word.Malformed = refl
 
+-- a job is as long as its words say
 pub lens_are : (xs : List OpWord) → sum_by len_of_word xs ≡ sum_by op_len (map op_in xs)
 lens_are [] = refl
 lens_are (x ∷ xs) = sum_by-cons len_of_word x xs ∙ ap (λ n. n + sum_by len_of_word xs) (len_is x) ∙ ap (λ n. op_len (op_in x) + n) (lens_are xs) ∙ sym (sum_by-cons op_len (op_in x) (map op_in xs))

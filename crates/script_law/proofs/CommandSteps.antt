@@ -41,6 +41,7 @@ use Rattle.script_law.proofs.Tests.{either, joint, three, four, is_le, not_less}
 
 -- ---- one more command
 
+-- a test that does not fail
 pub not_false : (b : Bool) → not b ≡ false → b ≡ true
 not_false true h = refl
 not_false false h = absurd cc
@@ -54,11 +55,13 @@ pub record Tells (s : Script) (n m : ℕ) (ws : List Text) (l : Line) : Type 0 w
   pub few : n < 4096
   pub short : m + command_len c ≤ 67108864
 
+-- a part grows, where nothing follows it
 pub grown : {C : Type 0} (a b d x : Text) (k : C → Text) (cs : List C) → cs ≡ [] → d ≡ b ++ x → a ++ d ++ flat_map k cs ≡ (a ++ b ++ flat_map k cs) ++ x
 grown a b d x k [] p q =
     append-nil (a ++ d) ∙ ap (λ t. a ++ t) q ∙ sym (append_assoc a b x) ∙ ap (λ t. t ++ x) (sym (append-nil (a ++ b)))
 grown a b d x k (c ∷ cs) p q = absurd cc
 
+-- there is room for a command
 pub less : (n : ℕ) → nat_le 4096 n ≡ false → n < 4096
 less n h = grind (arith, nat_tests, h)
 
@@ -102,6 +105,7 @@ command_step s n m ws l t h =
 abbrev with_lens : Progress → Command → ℕ → Progress
 with_lens p c k = record p { script = record (p.script) { threads = onto_last c p.script.threads }; lines = p.lines + 1; lens = k }
 
+-- a command without operations
 pub no_len : (p : Progress) (c : Command) → command_len c ≡ 0 → with_command p c ≡ with_job p c (command_len c)
 no_len p c h = let e : p.lens ≡ p.lens + command_len c = omega (arith, h) in ap (with_lens p c) e
 
@@ -113,6 +117,7 @@ plain_fits s verb.Unpin b h = h
 plain_fits s verb.Find b h = h
 plain_fits s verb.SwapOut b h = h
 
+-- a verb has no operations
 pub plain_len : (v : Verb) (b : BufId) → command_len (plain_command v b) ≡ 0
 plain_len verb.New b = refl
 plain_len verb.Free b = refl
@@ -124,6 +129,7 @@ plain_len verb.SwapOut b = refl
 still_short : (m k : ℕ) → nat_lt 67108864 (m + 0) ≡ false → k ≡ 0 → m + k ≤ 67108864
 still_short m k h e = let f = fits_in (m + 0) h in omega (arith, f, e)
 
+-- a verb and a name
 pub plain_tells : (s : Script) (n m : ℕ) (v : Verb) (ws : List Text) (l : Line) → first_word ws ≡ verb_word v → plain_line (names_of s.buffers) v ws ≡ made l → Breaks_none (at phase.Threads s n m) l → Tells s n m ws l
 plain_tells s n m v [] l k h r = absurd cc
 plain_tells s n m v (w ∷ []) l k h r = absurd cc
@@ -141,6 +147,7 @@ plain_tells s n m v (w ∷ b ∷ []) l k h r =
     }) r
 plain_tells s n m v (w ∷ b ∷ x ∷ xs) l k h r = absurd cc
 
+-- a touch
 pub touch_tells : (s : Script) (n m : ℕ) (ws : List Text) (l : Line) → first_word ws ≡ codes "touch" → touch_line ws ≡ made l → Breaks_none (at phase.Threads s n m) l → Tells s n m ws l
 touch_tells s n m [] l k h r = absurd cc
 touch_tells s n m (w ∷ []) l k h r = absurd cc
@@ -174,6 +181,7 @@ move_chosen s n m w b t (Some mem) l q k h r =
       short = still_short m 0 r.lens refl;
     }) r
 
+-- a move
 pub move_tells : (s : Script) (n m : ℕ) (ws : List Text) (l : Line) → first_word ws ≡ codes "move" → move_line (names_of s.buffers) ws ≡ made l → Breaks_none (at phase.Threads s n m) l → Tells s n m ws l
 move_tells s n m [] l k h r = absurd cc
 move_tells s n m (w ∷ []) l k h r = absurd cc
@@ -181,6 +189,7 @@ move_tells s n m (w ∷ b ∷ []) l k h r = absurd cc
 move_tells s n m (w ∷ b ∷ t ∷ []) l k h r = move_chosen s n m w b t (mem_of t) l refl k h r
 move_tells s n m (w ∷ b ∷ t ∷ x ∷ xs) l k h r = absurd cc
 
+-- a read
 pub read_tells : (s : Script) (n m : ℕ) (ws : List Text) (l : Line) → first_word ws ≡ codes "read" → read_line (names_of s.buffers) ws ≡ made l → Breaks_none (at phase.Threads s n m) l → Tells s n m ws l
 read_tells s n m [] l k h r = absurd cc
 read_tells s n m (w ∷ []) l k h r = absurd cc
@@ -220,6 +229,7 @@ write_fits s b off (Some bytes) p q w h d o a =
     let f = between 1 256 (length bytes) (not_false (is_between 1 256 (length bytes)) w) in
     three _ (nat_le (length bytes) 256) (list_all is_byte bytes) (passes_fits s b off (Some (length bytes)) p q refl h d o f.0 (omega (arith, f.1))) (is_le (length bytes) 256 f.1) a
 
+-- a write
 pub write_tells : (s : Script) (n m : ℕ) (ws : List Text) (l : Line) → first_word ws ≡ codes "write" → write_line (names_of s.buffers) ws ≡ made l → Breaks_none (at phase.Threads s n m) l → Tells s n m ws l
 write_tells s n m [] l k h r = absurd cc
 write_tells s n m (w ∷ []) l k h r = absurd cc
@@ -275,6 +285,7 @@ job_fits s engine ws good p t big a b =
     let few : nat_le (length (first_mentions [] (flat_map buffers_of_op (map op_in xs)))) 16 ≡ true = ap (λ bs. nat_le (length (first_mentions [] bs)) 16) (sym (names_are xs good)) ∙ is_le (length (first_mentions [] (flat_map buffers_of_word xs))) 16 (not_less 16 _ z.1) in
     four _ _ _ _ (engine_there s.sizes.engines engine a b) (some_ops is_no_op groups f (cut_some is_semicolon ws) z.0) (ops_fit s groups good p t) few
 
+-- a job
 pub submit_tells : (s : Script) (n m : ℕ) (ws : List Text) (l : Line) → s.sizes.engines < 2 ^ 64 → first_word ws ≡ codes "submit" → submit_line (names_of s.buffers) s.sizes.engines ws ≡ made l → Breaks_none (at phase.Threads s n m) l → Tells s n m ws l
 submit_tells s n m [] l small k h r = absurd cc
 submit_tells s n m (w ∷ []) l small k h r = absurd cc

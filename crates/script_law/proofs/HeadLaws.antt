@@ -27,15 +27,18 @@ use Rattle.script_law.proofs.Tests.{either, both}
 
 -- ---- actors
 
+-- a plain number is spelled as it was read
 pub plain_word : (w : Text) → is_plain w ≡ true → read_on 0 w < 2 ^ 64 → w ≡ decimal (read_on 0 w)
 plain_word w h small =
     let g = both (has_no_leading_zero w) (list_all is_digit w) h in
     let l = lead w g.0 in
     sym (decimal-digits_value own w g.1 l.0 l.1 small)
 
+-- a word that is an actor
 abbrev pub an_actor : Actor → ActorWord
 an_actor who = read_as.Is who
 
+-- what a number of an actor says
 pub numbered : (p b : Bool) (n : ℕ) (who : Actor) (made : ℕ → Actor) → cond (not p) read_as.BrokenNumber (cond b (an_actor (made n)) read_as.Missing) ≡ an_actor who → (p ≡ true) × (b ≡ true) × (made n ≡ who)
 numbered true true n who made h = (refl, refl, cc)
 numbered true false n who made h = absurd cc
@@ -73,6 +76,7 @@ actor_takes threads engines (c ∷ d ∷ number) who s t h =
 
 -- ---- lists of places
 
+-- a word that is a place
 pub good_place : (x : PlaceWord) → is_no_place x ≡ false → is_broken_place x ≡ false → x ≡ is (place_in x)
 good_place (place_word.Is f) a b = refl
 good_place place_word.BrokenNumber a b = absurd cc

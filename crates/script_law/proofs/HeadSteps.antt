@@ -28,14 +28,17 @@ use Rattle.script_law.proofs.Tests.{is_le}
 
 -- ---- a size
 
+-- an option with a value
 pub there : {X : Type 0} (o : Option X) (f : Option X → X) → ((x : X) → f (Some x) ≡ x) → is_none o ≡ false → o ≡ Some (f o)
 there None f s h = absurd cc
 there (Some x) f s h = ap (λ y. Some y) (sym (s x))
 
+-- a number that is there is spelled so, and in its range
 pub number_there : (low high : ℕ) (w : Text) → high < 2 ^ 64 → is_none (number_in low high w) ≡ false
     → (w ≡ decimal (or_zero (number_in low high w))) × (low ≤ or_zero (number_in low high w)) × (or_zero (number_in low high w) ≤ high)
 number_there low high w small h = number_takes low high w (or_zero (number_in low high w)) small (there (number_in low high w) or_zero (λ x. refl) h)
 
+-- a line of a keyword and a number
 pub record IsSize (sized : Option ℕ → Line) (high : ℕ) (word : Text) (ws : List Text) (l : Line) : Type 0 where
   pub n : Option ℕ
   pub is : sized n ≡ l
@@ -53,6 +56,7 @@ size_says sized high word (w ∷ size ∷ x ∷ xs) l small k h = absurd cc
 
 -- ---- sizes
 
+-- the limits of the sizes, each for itself
 pub record SizesFit (s : Sizes) : Type 0 where
   pub vram : nat_le s.vram 16384 ≡ true
   pub tt_pages : nat_le s.tt 16384 ≡ true
@@ -76,11 +80,13 @@ five_joint true true false d e p q r s t = absurd cc
 five_joint true true true false e p q r s t = absurd cc
 five_joint true true true true false p q r s t = absurd cc
 
+-- the sizes of a script are within their limits
 pub sizes_fit : (s : Script) → has_sizes s ≡ true → SizesFit s.sizes
 sizes_fit s h =
     let f = five (nat_le s.sizes.vram 16384) (nat_le s.sizes.tt 16384) (nat_le s.sizes.frames 16384) (nat_le s.sizes.swap 32768) (nat_le s.sizes.engines 8) h in
     record { vram = f.0; tt_pages = f.1; frames = f.2; swap = f.3; engines = f.4 }
 
+-- and the other way round
 pub fit_sizes : (s : Script) → SizesFit s.sizes → has_sizes s ≡ true
 fit_sizes s f =
     five_joint (nat_le s.sizes.vram 16384) (nat_le s.sizes.tt 16384) (nat_le s.sizes.frames 16384) (nat_le s.sizes.swap 32768) (nat_le s.sizes.engines 8) f.vram f.tt_pages f.frames f.swap f.engines
@@ -106,9 +112,11 @@ sized p next sizes h early fit stage = record {
 
 -- ---- the lines
 
+-- the lines so far, by their parts
 abbrev pub at : Phase → Script → ℕ → ℕ → Progress
 at ph s n m = record { phase = ph; script = s; lines = n; lens = m }
 
+-- the line of TT
 pub tt_step : (s : Script) (n m : ℕ) (ws : List Text) (l : Line) → first_word ws ≡ codes "tt" → size_line says.Tt 16384 ws ≡ made l → Breaks_none (at phase.Tt s n m) l → Sound (at phase.Tt s n m) → Grows (at phase.Tt s n m) l ws
 tt_step s n m ws l k e r h =
     let p = at phase.Tt s n m in
@@ -121,6 +129,7 @@ tt_step s n m ws l k e r h =
       more = ap (λ x. text_of p ++ line x) (sym g.0);
     }) r
 
+-- the line of the frames
 pub frames_step : (s : Script) (n m : ℕ) (ws : List Text) (l : Line) → first_word ws ≡ codes "frames" → size_line says.Frames 16384 ws ≡ made l → Breaks_none (at phase.Frames s n m) l → Sound (at phase.Frames s n m) → Grows (at phase.Frames s n m) l ws
 frames_step s n m ws l k e r h =
     let p = at phase.Frames s n m in
@@ -133,6 +142,7 @@ frames_step s n m ws l k e r h =
       more = ap (λ x. text_of p ++ line x) (sym g.0);
     }) r
 
+-- the line of the slots
 pub swap_step : (s : Script) (n m : ℕ) (ws : List Text) (l : Line) → first_word ws ≡ codes "swap" → size_line says.Swap 32768 ws ≡ made l → Breaks_none (at phase.Swap s n m) l → Sound (at phase.Swap s n m) → Grows (at phase.Swap s n m) l ws
 swap_step s n m ws l k e r h =
     let p = at phase.Swap s n m in
@@ -153,6 +163,7 @@ bare_body t f g k (a ∷ xs) bs cs p q r = absurd cc
 bare_body t f g k [] (b ∷ bs) cs p q r = absurd cc
 bare_body t f g k [] [] (c ∷ cs) p q r = absurd cc
 
+-- the line of the engines
 pub engines_step : (s : Script) (n m : ℕ) (ws : List Text) (l : Line) → first_word ws ≡ codes "engines" → size_line says.Engines 8 ws ≡ made l → Breaks_none (at phase.Engines s n m) l → Sound (at phase.Engines s n m) → Grows (at phase.Engines s n m) l ws
 engines_step s n m ws l k e r h =
     let p = at phase.Engines s n m in
@@ -168,10 +179,12 @@ engines_step s n m ws l k e r h =
 
 -- ---- the first two lines
 
+-- the first version as a word
 pub one : decimal 1 ≡ codes "1"
 unfolding digits
 one = refl
 
+-- the second version as a word
 pub two : decimal 2 ≡ codes "2"
 unfolding digits
 two = refl
@@ -197,6 +210,7 @@ versioned s n m ws v between e h = record {
   more = ap line (sym e);
 }
 
+-- the first line
 pub version_step : (s : Script) (n m : ℕ) (ws : List Text) (l : Line) → first_word ws ≡ codes "ttm" → version_line ws ≡ made l → Sound (at phase.Version s n m) → Grows (at phase.Version s n m) l ws
 version_step s n m ws l k e h =
     let p = at phase.Version s n m in
@@ -205,9 +219,11 @@ version_step s n m ws l k e h =
       | inr a ↦ subst (λ (x : Line). Grows p x ws) (sym a.1) (versioned s n m ws 2 refl (a.0 ∙ ap (λ t. codes "ttm" ∷ t ∷ []) (sym two)) h)
     ]
 
+-- the word of a manager
 abbrev pub kind_word : Bool → Text
 kind_word b = cond b (codes "buddy") (codes "range")
 
+-- a line of VRAM
 pub record IsVram (ws : List Text) (l : Line) : Type 0 where
   pub buddy : Bool
   pub n : Option ℕ
@@ -237,6 +253,7 @@ vram_says (w ∷ v ∷ []) l k h = absurd cc
 vram_says (w ∷ v ∷ size ∷ []) l k h = vram_chosen (bytes_eq v (codes "range")) (bytes_eq v (codes "buddy")) w v size l k (bytes_are v (codes "range")) (bytes_are v (codes "buddy")) h
 vram_says (w ∷ v ∷ size ∷ x ∷ xs) l k h = absurd cc
 
+-- the line of VRAM
 pub vram_step : (s : Script) (n m : ℕ) (ws : List Text) (l : Line) → first_word ws ≡ codes "vram" → vram_line ws ≡ made l → Breaks_none (at phase.Vram s n m) l → Sound (at phase.Vram s n m) → Grows (at phase.Vram s n m) l ws
 vram_step s n m ws l k e r h =
     let p = at phase.Vram s n m in

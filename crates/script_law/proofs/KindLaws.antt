@@ -28,6 +28,7 @@ version_chosen true b version l p q h = let e : line.Version 1 ≡ l = cc in inl
 version_chosen false true version l p q h = let e : line.Version 2 ≡ l = cc in inr (q refl, sym e)
 version_chosen false false version l p q h = absurd cc
 
+-- the words of the first line
 pub version_said : (ws : List Text) (l : Line) → first_word ws ≡ codes "ttm" → version_line ws ≡ made l
     → ((ws ≡ codes "ttm" ∷ codes "1" ∷ []) × (l ≡ line.Version 1)) ⊎ ((ws ≡ codes "ttm" ∷ codes "2" ∷ []) × (l ≡ line.Version 2))
 version_said [] l k h = absurd cc
@@ -41,16 +42,19 @@ version_said (w ∷ v ∷ x ∷ xs) l k h = absurd cc
 
 -- ---- engines and actors
 
+-- what a word of an engine says
 pub engine_chosen : (p b : Bool) (n : ℕ) → let x = cond (not p) engine_as.BrokenNumber (cond b (engine_as.Is n) engine_as.Missing) in is_broken_engine x ≡ false → is_missing_engine x ≡ false → (p ≡ true) × (b ≡ true) × (engine_in x ≡ n)
 engine_chosen true true n r s = (refl, refl, refl)
 engine_chosen true false n r s = absurd cc
 engine_chosen false b n r s = absurd cc
 
+-- an engine is spelled as it was read
 pub engine_takes : (engines : ℕ) (w : Text) → engines < 2 ^ 64 → is_broken_engine (engine_of engines w) ≡ false → is_missing_engine (engine_of engines w) ≡ false → w ≡ decimal (engine_in (engine_of engines w))
 engine_takes engines w small r s =
     let c = engine_chosen (is_plain w) (is_between 1 engines (read_on 0 w)) (read_on 0 w) r s in
     plain_word w c.0 (omega (arith, (between 1 engines (read_on 0 w) c.1).1, small)) ∙ ap decimal (sym c.2)
 
+-- a word that is an actor
 pub good_actor : (x : ActorWord) → is_no_actor x ≡ false → is_broken_actor x ≡ false → is_missing_actor x ≡ false → x ≡ an_actor (actor_in x)
 good_actor (read_as.Is who) a b c = refl
 good_actor read_as.BrokenNumber a b c = absurd cc
@@ -81,5 +85,6 @@ group_chosen true o w p q h = p refl
 group_chosen false (Some n) w p q h = q refl
 group_chosen false None w p q h = absurd cc
 
+-- a group is spelled as it was read
 pub group_takes : (w : Text) → is_none (group_of w) ≡ false → w ≡ group_word (unwrap_or (group_of w) None)
 group_takes w h = group_chosen (bytes_eq w (codes "-")) (number_in 0 15 w) w (bytes_are w (codes "-")) (number_word 0 15 w (omega arith)) h

@@ -73,6 +73,7 @@ thread_text_more s none =
     grown (six s ++ flat_map (buffer_line s.version) s.buffers) (flat_map f s.threads) _ (line (codes "thread" ∷ [])) turn_line s.turns none
     (flat_map-append f s.threads ([] ∷ []) ∙ ap (λ x. flat_map f s.threads ++ x) (flat_map-cons f [] [] ∙ append-nil (f []) ∙ append-nil (line (codes "thread" ∷ []))))
 
+-- the first thread
 pub thread_from_buffers : (s : Script) (n m : ℕ) (ws : List Text) (l : Line) → first_word ws ≡ codes "thread" → alone says.Thread ws ≡ made l → Breaks_none (at phase.Buffers s n m) l → Sound (at phase.Buffers s n m) → Grows (at phase.Buffers s n m) l ws
 thread_from_buffers s n m ws l k e r h =
     let z = alone_says says.Thread l (codes "thread") ws k e in
@@ -81,6 +82,7 @@ thread_from_buffers s n m ws l k e r h =
       more = thread_text_more s h.stage.1 ∙ ap (λ x. body s ++ line x) (sym z.0);
     }) r
 
+-- another thread
 pub thread_from_threads : (s : Script) (n m : ℕ) (ws : List Text) (l : Line) → first_word ws ≡ codes "thread" → alone says.Thread ws ≡ made l → Breaks_none (at phase.Threads s n m) l → Sound (at phase.Threads s n m) → Grows (at phase.Threads s n m) l ws
 thread_from_threads s n m ws l k e r h =
     let z = alone_says says.Thread l (codes "thread") ws k e in
@@ -133,6 +135,7 @@ pub record Steers (s : Script) (ws : List Text) (l : Line) : Type 0 where
   pub is : says.Turn actors ≡ l
   pub good : list_any is_broken_actor actors ≡ false → list_any is_missing_actor actors ≡ false → (ws ≡ codes "schedule" ∷ map actor_word (map actor_in actors)) × (is_turn_line s (map actor_in actors) ≡ true)
 
+-- the words of a schedule
 pub turn_says : (s : Script) (ws : List Text) (l : Line) → length s.threads < 2 ^ 64 → s.sizes.engines < 2 ^ 64 → first_word ws ≡ codes "schedule" → turn_line_of (length s.threads) s.sizes.engines ws ≡ made l → Steers s ws l
 turn_says s [] l t e k h = absurd cc
 turn_says s (w ∷ ws) l t e k h =
@@ -176,6 +179,7 @@ turn_text_more s x =
     ap (λ t. a ++ t) (flat_map-append turn_line s.turns (x ∷ []) ∙ ap (λ t. flat_map turn_line s.turns ++ t) (flat_map-cons turn_line x [] ∙ append-nil (turn_line x)))
     ∙ sym (append_assoc a (flat_map turn_line s.turns) (turn_line x))
 
+-- there are few threads and engines
 pub few_seats : (ph : Phase) (s : Script) (n m : ℕ) → Sound (at ph s n m) → (length s.threads < 2 ^ 64) × (s.sizes.engines < 2 ^ 64)
 few_seats ph s n m h =
     let a = h.few_threads in
@@ -193,12 +197,15 @@ steered ph s n m ws l k e r h =
       turn_text_more s (map actor_in z.actors) ∙ ap (λ x. body s ++ line x) (sym g.0),
     )) r
 
+-- a schedule where there are no threads
 pub turn_from_buffers : (s : Script) (n m : ℕ) (ws : List Text) (l : Line) → first_word ws ≡ codes "schedule" → turn_line_of (length s.threads) s.sizes.engines ws ≡ made l → Breaks_none (at phase.Buffers s n m) l → Sound (at phase.Buffers s n m) → Grows (at phase.Buffers s n m) l ws
 turn_from_buffers s n m ws l k e r h = let g = steered phase.Buffers s n m ws l k e r h in record { sound = g.0; more = g.1 }
 
+-- the first schedule
 pub turn_from_threads : (s : Script) (n m : ℕ) (ws : List Text) (l : Line) → first_word ws ≡ codes "schedule" → turn_line_of (length s.threads) s.sizes.engines ws ≡ made l → Breaks_none (at phase.Threads s n m) l → Sound (at phase.Threads s n m) → Grows (at phase.Threads s n m) l ws
 turn_from_threads s n m ws l k e r h = let g = steered phase.Threads s n m ws l k e r h in record { sound = g.0; more = g.1 }
 
+-- another schedule
 pub turn_from_turns : (s : Script) (n m : ℕ) (ws : List Text) (l : Line) → first_word ws ≡ codes "schedule" → turn_line_of (length s.threads) s.sizes.engines ws ≡ made l → Breaks_none (at phase.Turns s n m) l → Sound (at phase.Turns s n m) → Grows (at phase.Turns s n m) l ws
 turn_from_turns s n m ws l k e r h = let g = steered phase.Turns s n m ws l k e r h in record { sound = g.0; more = g.1 }
 
@@ -228,11 +235,14 @@ last_line ph s n m ws l k e h =
     let z = alone_says says.End l (codes "end") ws k e in
     subst (λ (x : Line). Sound (with_line (at ph s n m) x) × (text_of (with_line (at ph s n m) x) ≡ body s ++ line ws)) z.1 (ended ph s n m h, ap (λ x. body s ++ line x) (sym z.0))
 
+-- the end behind the buffers
 pub end_from_buffers : (s : Script) (n m : ℕ) (ws : List Text) (l : Line) → first_word ws ≡ codes "end" → alone says.End ws ≡ made l → Sound (at phase.Buffers s n m) → Grows (at phase.Buffers s n m) l ws
 end_from_buffers s n m ws l k e h = let g = last_line phase.Buffers s n m ws l k e h in record { sound = g.0; more = g.1 }
 
+-- the end behind the threads
 pub end_from_threads : (s : Script) (n m : ℕ) (ws : List Text) (l : Line) → first_word ws ≡ codes "end" → alone says.End ws ≡ made l → Sound (at phase.Threads s n m) → Grows (at phase.Threads s n m) l ws
 end_from_threads s n m ws l k e h = let g = last_line phase.Threads s n m ws l k e h in record { sound = g.0; more = g.1 }
 
+-- the end behind the schedules
 pub end_from_turns : (s : Script) (n m : ℕ) (ws : List Text) (l : Line) → first_word ws ≡ codes "end" → alone says.End ws ≡ made l → Sound (at phase.Turns s n m) → Grows (at phase.Turns s n m) l ws
 end_from_turns s n m ws l k e h = let g = last_line phase.Turns s n m ws l k e h in record { sound = g.0; more = g.1 }

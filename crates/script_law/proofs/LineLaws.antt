@@ -18,6 +18,7 @@ use Rattle.script_law.proofs.WordLaws.{known_is, verb_word}
 abbrev none : Option ℕ
 none = None
 
+-- a line that is there
 abbrev pub made : Line → Option Line
 made l = Some l
 
@@ -37,6 +38,7 @@ step : (b : Bool) (rule : ℕ) (rest : Option ℕ) → cond b (Some rule) rest �
 step true rule rest h = absurd cc
 step false rule rest h = (refl, h)
 
+-- a line without a broken rule breaks none of them
 pub breaks_none : (p : Progress) (l : Line) → rule_broken p l ≡ none → Breaks_none p l
 breaks_none p l h =
     let a = step (lacks_number l) 5 _ h in
@@ -54,17 +56,21 @@ here : {X : Type 0} (o : Option X) (d : X) → is_none o ≡ false → o ≡ Som
 here None d h = absurd cc
 here (Some x) d h = refl
 
+-- a number is spelled as it was read
 pub number_word : (low high : ℕ) (w : Text) → high < 2 ^ 64 → is_none (number_in low high w) ≡ false → w ≡ decimal (or_zero (number_in low high w))
 number_word low high w small h = (number_takes low high w (or_zero (number_in low high w)) small (here (number_in low high w) 0 h)).0
 
+-- an offset is spelled as it was read
 pub offset_word : (w : Text) → is_none (offset_of w) ≡ false → w ≡ decimal (or_zero (offset_of w))
 offset_word w h = number_word 0 16777216 w (omega arith) h
 
+-- a name is spelled as it was read
 pub name_word : (script : Script) (w : Text) → is_none (known (names_of script.buffers) w) ≡ false → w ≡ name_of script (or_first (known (names_of script.buffers) w))
 name_word script w h = sym (known_is script w (or_first (known (names_of script.buffers) w)) (here (known (names_of script.buffers) w) (record { 0 = 0 }) h)).0
 
 -- ---- the words of what a command's line says
 
+-- the words of a verb and a name
 pub plain_words : (script : Script) (v : Verb) (b : BufId) → verb_word v ∷ name_of script b ∷ [] ≡ command_words script (plain_command v b)
 plain_words script verb.New b = refl
 plain_words script verb.Free b = refl

@@ -21,9 +21,11 @@ use Rattle.script_law.proofs.Tests.{either, both, three_false}
 abbrev pub Runs : Progress → Text → Progress → Type 0
 Runs p text q = (n : ℕ) (rest : Text) (s : Script) → ((m : ℕ) → script_from q m (lines_of rest) ≡ Ok s) → script_from p n (lines_of (text ++ rest)) ≡ Ok s
 
+-- nothing leads nowhere
 pub runs_none : (p : Progress) → Runs p [] p
 runs_none p n rest s k = k n
 
+-- two texts, one behind the other
 pub runs_both : (p q r : Progress) (a b : Text) → Runs p a q → Runs q b r → Runs p (a ++ b) r
 runs_both p q r a b f g n rest s k = ap (λ t. script_from p n (lines_of t)) (append_assoc a b rest) ∙ f n (b ++ rest) s (λ m. g m rest s k)
 
@@ -81,6 +83,7 @@ unbroken w some h =
 
 -- ---- a line of words
 
+-- where a line leads
 abbrev pub led : Result Progress ℕ → ℕ → List Text → Result Script (ℕ × ℕ)
 led after n texts = elim after [ Ok next ↦ script_from next (n + 1) texts | Err rule ↦ Err (n + 1, rule) ]
 
@@ -89,6 +92,7 @@ spaced_some [] ws h = absurd cc
 spaced_some (c ∷ w) [] h = omega arith
 spaced_some (c ∷ w) (v ∷ ws) h = omega arith
 
+-- a line of words that are read
 pub line_runs : (p q : Progress) (w : Text) (ws : List Text) → list_all is_word (w ∷ ws) ≡ true → after_words p (w ∷ ws) ≡ Ok q → Runs p (line (w ∷ ws)) q
 line_runs p q w ws words e n rest s k =
     let t = spaced (w ∷ ws) in

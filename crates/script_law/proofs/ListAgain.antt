@@ -205,6 +205,7 @@ place_again f h =
     ∙ ap (at_place (cut_at 64 (base_word f.place))) (by_flags f.place.topdown f.place.contig f.desired f.fallback g.1)
     ∙ base_again f.place g.0 (flags_in f)
 
+-- a place without a flag of its own
 abbrev pub unflagged_place : Place → FlaggedPlace
 unflagged_place p = record { place = p; desired = false; fallback = false }
 
@@ -301,6 +302,7 @@ place_list (p ∷ ps) h =
     let g = both (is_place p) (list_all is_place ps) h in
     joint (is_list_word (place_word p)) (list_all is_list_word (map place_word ps)) (list_word (place_word p) (place_some p) (place_bytes p g.0)) (place_list ps g.1)
 
+-- a word that is a place
 abbrev pub there : FlaggedPlace → PlaceWord
 there f = read_as.Is f
 

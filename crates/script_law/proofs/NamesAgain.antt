@@ -61,6 +61,7 @@ pub record IsNamed (s : Script) : Type 0 where
   pub decls : list_all (is_decl s.version) s.buffers ≡ true
   pub distinct_ones : has_distinct_names s.buffers ≡ true
 
+-- the name of a buffer is known
 pub known_again : (s : Script) (b : BufId) → IsNamed s → is_declared s b ≡ true → known (names_of s.buffers) (name_of s b) ≡ Some b
 known_again s b h d =
     let lt = true_lt b.0 (length s.buffers) d in
@@ -68,6 +69,7 @@ known_again s b h d =
     found _ b.0 (length (names_of s.buffers)) b (λ i. record { 0 = i })
     (place_of_name (names_of s.buffers) b.0 (name_of s b) (distinct_names s.buffers h.distinct_ones) (name_there s.buffers b.0 lt)) (omega (arith, lt, len)) refl
 
+-- the name of a buffer is of letters and digits
 pub name_word_small : (s : Script) (b : BufId) → IsNamed s → is_declared s b ≡ true → is_small (name_of s b) ≡ true
 name_word_small s b h d = name_small (name_of s b) (name_fits s.version s.buffers b.0 h.decls (true_lt b.0 (length s.buffers) d))
 
@@ -77,6 +79,7 @@ not_dash : (b : Bool) (w : Text) → bytes_eq w (codes "-") ≡ b → list_all i
 not_dash false w e h = refl
 not_dash true w e h = absurd (apart (ap (list_all is_digit) (sym (bytes_are w (codes "-") e)) ∙ h))
 
+-- a group is read
 pub group_again : (g : Option ℕ) → is_group g ≡ true → group_of (group_word g) ≡ Some g
 group_again None h = refl
 group_again (Some g) h =
@@ -85,6 +88,7 @@ group_again (Some g) h =
     ap (λ b. cond b (Some None) (option_map (λ n. Some n) (number_in 0 15 (decimal g)))) (not_dash (bytes_eq (decimal g) (codes "-")) (decimal g) refl (digits_decimal own g fits))
     ∙ ap (option_map (λ n. Some n)) (number_again 0 15 g (omega arith) (omega arith) small)
 
+-- a group is a word
 pub group_solid : (g : Option ℕ) → is_group g ≡ true → is_word (group_word g) ≡ true
 group_solid None h = refl
 group_solid (Some g) h = let small = le_is g 15 h in small_word (decimal g) (number_small_word g (omega (arith, small)))
@@ -95,12 +99,14 @@ some_is : (b : Bool) (n k : ℕ) → cond b (Some n) None ≡ Some k → (b ≡ 
 some_is true n k h = (refl, cc)
 some_is false n k h = absurd cc
 
+-- a number is plain and in its range
 pub plain_again : (low high n : ℕ) → high < 2 ^ 64 → low ≤ n → n ≤ high → (is_plain (decimal n) ≡ true) × (is_between low high (read_on 0 (decimal n)) ≡ true) × (read_on 0 (decimal n) ≡ n)
 plain_again low high n small a b =
     let c = some_is (is_plain (decimal n) && is_between low high (read_on 0 (decimal n))) (read_on 0 (decimal n)) n (number_again low high n small a b) in
     let f = both (is_plain (decimal n)) (is_between low high (read_on 0 (decimal n))) c.0 in
     (f.0, f.1, c.1)
 
+-- an engine is read
 pub engine_again : (engines n : ℕ) → engines < 2 ^ 64 → is_between 1 engines n ≡ true → engine_of engines (decimal n) ≡ engine_as.Is n
 engine_again engines n small h =
     let r = between 1 engines n h in
@@ -132,6 +138,7 @@ with_e : (threads engines : ℕ) (w : Text) → 0 < length w → actor_of thread
 with_e threads engines [] h = absurd (omega (arith, h))
 with_e threads engines (d ∷ w) h = refl
 
+-- an actor is read
 pub actor_again : (s : Script) (who : Actor) → length s.threads < 2 ^ 64 → s.sizes.engines < 2 ^ 64 → is_actor s who ≡ true → actor_of (length s.threads) s.sizes.engines (actor_word who) ≡ read_as.Is who
 actor_again s (actor.Thread n) t e h =
     let r = between 1 (length s.threads) n h in
@@ -147,6 +154,7 @@ some_word c w = grind (arith, nat_tests)
 behind_letter : (c : ℕ) (w : Text) → is_solid c ≡ true → list_all is_solid w ≡ true → is_word (c ∷ w) ≡ true
 behind_letter c w h k = joint (not (is_empty (c ∷ w))) (list_all is_solid (c ∷ w)) (some_word c w) (joint (is_solid c) (list_all is_solid w) h k)
 
+-- an actor is a word
 pub actor_solid : (s : Script) (who : Actor) → length s.threads < 2 ^ 64 → s.sizes.engines < 2 ^ 64 → is_actor s who ≡ true → is_word (actor_word who) ≡ true
 actor_solid s (actor.Thread n) t e h =
     let r = between 1 (length s.threads) n h in

@@ -12,6 +12,7 @@ use Rattle.journal_model.specs.Reading.{is_digit, is_plain, has_no_leading_zero,
 use Rattle.journal_model.specs.CommandRules.{is_between}
 use Rattle.script_law.proofs.Tests.{both}
 
+-- reading digits is a model of decimals
 pub own : IsNumeralModel (λ ds. list_all is_digit ds ≡ true) (read_on 0)
 own = numerals_by_fold _ (search rules) read_on (search rules)
 
@@ -19,10 +20,12 @@ chosen : (b : Bool) (m n : ℕ) → cond b (Some m) None ≡ Some n → (b ≡ t
 chosen true m n h = (refl, cc)
 chosen false m n h = absurd cc
 
+-- no leading zero but for zero itself
 pub lead : (w : Text) → has_no_leading_zero w ≡ true → (0 < length w) × (get_or w 0 0 ≡ 48 → length w ≡ 1)
 lead [] h = absurd cc
 lead (c ∷ cs) h = (omega arith, λ e. grind (arith, nat_tests, h, e))
 
+-- a number within limits
 pub between : (low high n : ℕ) → is_between low high n ≡ true → (low ≤ n) × (n ≤ high)
 between low high n h = (grind (arith, nat_tests, h), grind (arith, nat_tests, h))
 
@@ -42,6 +45,7 @@ no_zero [] s h = absurd (omega (arith, s))
 no_zero (c ∷ []) s h = grind (arith, nat_tests)
 no_zero (c ∷ d ∷ cs) s h = grind (arith, nat_tests, h)
 
+-- and the other way round
 pub is_in : (low high n : ℕ) → low ≤ n → n ≤ high → is_between low high n ≡ true
 is_in low high n a b = grind (arith, nat_tests)
 

@@ -46,6 +46,7 @@ byte_again b h =
 
 -- ---- ranges
 
+-- a range that may be written
 pub record IsRange (s : Script) (b : BufId) (off len : ℕ) : Type 0 where
   pub there : is_declared s b ≡ true
   pub off_small : off ≤ 16777216
@@ -56,6 +57,7 @@ pub record IsRange (s : Script) (b : BufId) (off len : ℕ) : Type 0 where
 le_not : (n m : ℕ) → nat_le m n ≡ true → nat_lt n m ≡ false
 le_not n m h = grind (arith, nat_tests, h)
 
+-- the limits of a range, each for itself
 pub range_is : (s : Script) (b : BufId) (off len : ℕ) → is_range_of s b off len ≡ true → IsRange s b off len
 range_is s b off len h =
     let f = four_facts (is_declared s b) (nat_le off 16777216) (is_between 1 16777216 len) (nat_le (off + len) (4096 * (decl s b).pages)) h in
@@ -65,6 +67,7 @@ range_is s b off len h =
 some_not : (n : ℕ) → 1 ≤ n → eqb n 0 ≡ false
 some_not n h = grind (arith, nat_tests)
 
+-- such a range is not wrong
 pub right_range : (s : Script) (b : BufId) (off len : ℕ) → IsRange s b off len → has_wrong_range s (Some b) (Some off) (Some len) ≡ false
 right_range s b off len r = ap (λ x. x || passes s (Some b) (Some off) (Some len)) (some_not len r.some) ∙ r.inside
 
@@ -175,6 +178,7 @@ each_again s (o ∷ ops) h k =
     let f = both (is_op s o) (list_all (is_op s) ops) k in
     ap (λ x. x ∷ map (op_of (names_of s.buffers)) (map (op_words s) ops)) (op_again s o h f.0) ∙ ap (λ xs. whole_op o ∷ xs) (each_again s ops h f.1)
 
+-- the operations of a job are words
 pub ops_words : (s : Script) (ops : List Op) → IsNamed s → list_all (is_op s) ops ≡ true → list_all is_word (parted (map (op_words s) ops)) ≡ true
 ops_words s ops h k = parted_words (map (op_words s) ops) (groups_small s ops h k)
 
@@ -186,6 +190,7 @@ ops_again s (o ∷ ops) some h k =
 
 -- ---- what whole operations keep
 
+-- no whole operation fails a test that each passes
 pub none_of : (P : OpWord → Bool) → ((o : Op) → P (whole_op o) ≡ false) → (ops : List Op) → list_any P (map whole_op ops) ≡ false
 none_of P h [] = refl
 none_of P h (o ∷ ops) = ap (λ b. b || list_any P (map whole_op ops)) (h o) ∙ none_of P h ops
@@ -213,6 +218,7 @@ op_apart s (op.Copy dst doff src soff len) k = not_true (eqb dst.0 src.0) (three
 op_apart s (op.Xor dst doff src soff len) k = not_true (eqb dst.0 src.0) (three_facts (is_range_of s dst doff len) (is_range_of s src soff len) (not (eqb dst.0 src.0)) k).2
 op_apart s (op.Probe src off len) k = refl
 
+-- operations stay inside their buffers and apart
 pub ops_inside : (s : Script) (ops : List Op) → list_all (is_op s) ops ≡ true → (list_any (passes_in_op s) (map whole_op ops) ≡ false) × (list_any names_one_twice (map whole_op ops) ≡ false)
 ops_inside s [] k = (refl, refl)
 ops_inside s (o ∷ ops) k =
@@ -228,6 +234,7 @@ names_of_op (op.Copy dst doff src soff len) = refl
 names_of_op (op.Xor dst doff src soff len) = refl
 names_of_op (op.Probe src off len) = refl
 
+-- whole operations name the buffers of theirs
 pub names_again : (ops : List Op) → flat_map buffers_of_word (map whole_op ops) ≡ flat_map buffers_of_op ops
 names_again [] = refl
 names_again (o ∷ ops) =
@@ -239,6 +246,7 @@ len_of_op (op.Copy dst doff src soff len) = refl
 len_of_op (op.Xor dst doff src soff len) = refl
 len_of_op (op.Probe src off len) = refl
 
+-- whole operations are as long as theirs
 pub lens_again : (ops : List Op) → sum_by len_of_word (map whole_op ops) ≡ sum_by op_len ops
 lens_again [] = refl
 lens_again (o ∷ ops) =
@@ -250,6 +258,7 @@ in_op (op.Copy dst doff src soff len) = refl
 in_op (op.Xor dst doff src soff len) = refl
 in_op (op.Probe src off len) = refl
 
+-- whole operations say theirs
 pub ops_said : (ops : List Op) → map op_in (map whole_op ops) ≡ ops
 ops_said [] = refl
 ops_said (o ∷ ops) = ap (λ x. x ∷ map op_in (map whole_op ops)) (in_op o) ∙ ap (λ xs. o ∷ xs) (ops_said ops)

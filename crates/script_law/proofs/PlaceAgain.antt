@@ -11,6 +11,7 @@ use Rattle.script_law.proofs.CutLaws.{lacks, cut_again}
 use Rattle.script_law.proofs.PlaceLaws.{tail, join_tail, all_flags}
 use Rattle.script_law.proofs.Tests.{both, joint, differ}
 
+-- a byte that passes is none that fails
 pub not_same : (p : ℕ → Bool) (x c : ℕ) (b : Bool) → eqb x c ≡ b → p x ≡ true → p c ≡ false → b ≡ false
 not_same p x c false e ay nay = refl
 not_same p x c true e ay nay = absurd (differ (sym ay ∙ ap p (eqb-true x c e) ∙ nay))
@@ -22,6 +23,7 @@ lacks_by p c (x ∷ xs) nay h =
     let f = both (p x) (list_all p xs) h in
     ap (λ b. b || list_any (λ y. eqb y c) xs) (not_same p x c (eqb x c) refl f.0 nay) ∙ lacks_by p c xs nay f.1
 
+-- a flag that may stand in a list
 abbrev pub listed_flag : Bool → Text → List Text → List Text
 listed_flag b word words = cond b (word ∷ words) words
 
@@ -40,12 +42,14 @@ flags_again false true false = refl
 flags_again false false true = refl
 flags_again false false false = refl
 
+-- a flag for busy memory is read
 pub fallback_again : (t c : Bool) → flags_of true (flag_list (record { topdown = t; contig = c; desired = false; fallback = true })) ≡ Some (record { topdown = t; contig = c; desired = false; fallback = true })
 fallback_again true true = refl
 fallback_again true false = refl
 fallback_again false true = refl
 fallback_again false false = refl
 
+-- flags of version 1 are read
 pub bare_again : (t c : Bool) → flags_of false (flag_list (record { topdown = t; contig = c; desired = false; fallback = false })) ≡ Some (record { topdown = t; contig = c; desired = false; fallback = false })
 bare_again true true = refl
 bare_again true false = refl

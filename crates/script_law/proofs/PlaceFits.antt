@@ -150,6 +150,7 @@ forced_some (read_as.Is f ∷ xs) a b h =
 forced_some (read_as.BrokenNumber ∷ xs) a b h = absurd cc
 forced_some (read_as.Malformed ∷ xs) a b h = absurd cc
 
+-- a list that is right
 pub not_no_list : (most : ℕ) (xs : List PlaceWord) → is_no_list most xs ≡ false → (list_any is_no_place xs ≡ false) × (is_between 1 most (length xs) ≡ true)
 not_no_list most xs h = let e = either (list_any is_no_place xs) (not (is_between 1 most (length xs))) h in (e.0, not_false (is_between 1 most (length xs)) e.1)
 

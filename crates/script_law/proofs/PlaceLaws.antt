@@ -18,6 +18,7 @@ use Rattle.script_law.proofs.NumberLaws.{number_takes}
 use Rattle.script_law.proofs.WordLaws.{bytes_are, mem_is, IsMemOf}
 use Rattle.script_law.proofs.Tests.{second}
 
+-- flags that are there
 abbrev pub some_flags : Flags → Option Flags
 some_flags f = Some f
 
@@ -26,18 +27,22 @@ abbrev pub tail : List Text → Text
 tail [] = []
 tail (w ∷ ws) = 43 ∷ w ++ tail ws
 
+-- joined parts are the first and the rest
 pub join_tail : (b : Text) (ws : List Text) → join_with_byte 43 (b ∷ ws) ≡ b ++ tail ws
 join_tail b [] = sym (append-nil b)
 join_tail b (w ∷ ws) = ap (λ t. b ++ 43 ∷ t) (join_tail w ws)
 
+-- the flags of version 2
 abbrev pub own_flags : Flags → Text
 own_flags f = flag f.desired (codes "+desired") ++ flag f.fallback (codes "+fallback")
 
+-- what the last flag says
 pub record IsLast (topdown contig : Bool) (ws : List Text) (f : Flags) : Type 0 where
   pub words : tail ws ≡ own_flags f
   pub first : f.topdown ≡ topdown
   pub second : f.contig ≡ contig
 
+-- flags by their parts
 pub flag_made : (t c d b : Bool) (f : Flags) → some_flags (record { topdown = t; contig = c; desired = d; fallback = b }) ≡ some_flags f → record { topdown = t; contig = c; desired = d; fallback = b } ≡ f
 flag_made t c d b f h = cc
 
@@ -59,6 +64,7 @@ last_is two t c (w ∷ []) f h =
     (λ e. bytes_are w (codes "desired") (second two (bytes_eq w (codes "desired")) e)) (λ e. bytes_are w (codes "fallback") (second two (bytes_eq w (codes "fallback")) e)) h
 last_is two t c (w ∷ x ∷ ws) f h = absurd cc
 
+-- what the flags behind `top` say
 pub record IsContig (topdown : Bool) (ws : List Text) (f : Flags) : Type 0 where
   pub words : tail ws ≡ flag f.contig (codes "+contig") ++ own_flags f
   pub first : f.topdown ≡ topdown
@@ -78,6 +84,7 @@ contig_is two t [] f h =
     record { words = l.words ∙ ap (λ b. flag b (codes "+contig") ++ own_flags f) (sym l.second); first = l.first }
 contig_is two t (w ∷ ws) f h = contig_chosen two t (bytes_eq w (codes "contig")) w ws f (bytes_are w (codes "contig")) h
 
+-- all flags of a place
 abbrev pub all_flags : Flags → Text
 all_flags f = flag f.topdown (codes "+top") ++ (flag f.contig (codes "+contig") ++ own_flags f)
 
@@ -90,6 +97,7 @@ top_chosen two false w ws f p h =
     let l = contig_is two false (w ∷ ws) f h in
     l.words ∙ ap (λ b. flag b (codes "+top") ++ (flag f.contig (codes "+contig") ++ own_flags f)) (sym l.first)
 
+-- flags are spelled as they were read
 pub flags_are : (two : Bool) (ws : List Text) (f : Flags) → flags_of two ws ≡ some_flags f → tail ws ≡ all_flags f
 flags_are two [] f h =
     let l = contig_is two false [] f h in
@@ -101,6 +109,7 @@ flags_are two (w ∷ ws) f h = top_chosen two (bytes_eq w (codes "top")) w ws f 
 abbrev word_of : Mem → ℕ → ℕ → Flags → Text
 word_of mem first last f = (mem_word mem ++ reach_word first last) ++ all_flags f
 
+-- a word that is a place
 abbrev pub is : FlaggedPlace → PlaceWord
 is f = place_word.Is f
 
@@ -111,10 +120,12 @@ regroup mem first last f place h =
     subst (λ (x : FlaggedPlace). flagged_word x ≡ word_of mem first last f) e
     (grind (arith, append_assoc))
 
+-- what a choice answers
 pub chosen : (b : Bool) (x : PlaceWord) (place : FlaggedPlace) → cond b x place_word.Malformed ≡ is place → (b ≡ true) × (x ≡ is place)
 chosen true x place h = (refl, h)
 chosen false x place h = absurd cc
 
+-- and the other way round
 pub unless : (b : Bool) (x : PlaceWord) (place : FlaggedPlace) → cond b place_word.Malformed x ≡ is place → x ≡ is place
 unless true x place h = absurd cc
 unless false x place h = h

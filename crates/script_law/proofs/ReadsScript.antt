@@ -268,6 +268,7 @@ not_more n m h = grind (arith, nat_tests)
 true_of : (b : Bool) → IsTrue b → b ≡ true
 true_of b h = h
 
+-- the spelling of a script says that script
 pub reads_scripts : ReadsScripts
 reads_scripts bytes s h =
     let f = facts_of s (true_of (is_script s) h.is.fits) in

@@ -39,6 +39,7 @@ implied p q (x ∷ xs) h k = let f = both (p x) (list_all p xs) k in joint (q x)
 letter_solid : (c : ℕ) → is_letter_or_digit c ≡ true → is_solid c ≡ true
 letter_solid c h = grind (arith, nat_tests, h)
 
+-- letters and digits make a word
 pub small_word : (w : Text) → is_small w ≡ true → is_word w ≡ true
 small_word w h =
     let f = both (not (is_empty w)) (list_all is_letter_or_digit w) h in
@@ -52,12 +53,14 @@ no_sign true w h e = absurd (apart (ap (list_all is_letter_or_digit) (sym (bytes
 pub small_no_sign : (w : Text) → is_small w ≡ true → is_semicolon w ≡ false
 small_no_sign w h = no_sign (is_semicolon w) w (both (not (is_empty w)) (list_all is_letter_or_digit w) h).1 refl
 
+-- a word with something in it
 pub not_empty : (w : Text) → 0 < length w → not (is_empty w) ≡ true
 not_empty w h = grind (arith, nat_tests, h)
 
 digit_small : (c : ℕ) → is_digit c ≡ true → is_letter_or_digit c ≡ true
 digit_small c h = grind (arith, nat_tests, h)
 
+-- a number is of digits
 pub number_small_word : (n : ℕ) → n < 2 ^ 64 → is_small (decimal n) ≡ true
 number_small_word n h =
     joint (not (is_empty (decimal n))) (list_all is_letter_or_digit (decimal n)) (not_empty (decimal n) (decimal_nonempty n h)) (implied is_digit is_letter_or_digit (decimal n) digit_small (digits_decimal own n h))
@@ -65,6 +68,7 @@ number_small_word n h =
 letter_small : (c : ℕ) → is_letter c ≡ true → is_letter_or_digit c ≡ true
 letter_small c h = ap (λ b. b || is_between 48 57 c) h
 
+-- a name is of letters and digits
 pub name_small : (w : Text) → is_name w ≡ true → is_small w ≡ true
 name_small [] h = absurd cc
 name_small (c ∷ cs) h =
@@ -80,6 +84,7 @@ byte_digits b h =
     joint (is_letter_or_digit (digit_char (b / 16))) (list_all is_letter_or_digit (digit_char (b % 16) ∷ [])) (hex_small (b / 16) (omega (arith, small)))
     (joint (is_letter_or_digit (digit_char (b % 16))) true (hex_small (b % 16) (omega (arith, small))) refl)
 
+-- a byte is of letters and digits
 pub byte_small_word : (b : ℕ) → is_byte b ≡ true → is_small (hex_byte b) ≡ true
 byte_small_word b h = joint (not (is_empty (hex_byte b))) (list_all is_letter_or_digit (hex_byte b)) (not_empty (hex_byte b) (omega arith)) (byte_digits b h)
 
@@ -94,6 +99,7 @@ hex_some : (bs : List ℕ) → 0 < length bs → 0 < length (hex bs)
 hex_some [] h = absurd (omega (arith, h))
 hex_some (b ∷ bs) h = let e = ap length (flat_map-cons hex_byte b bs) in omega (arith, e)
 
+-- bytes are of letters and digits
 pub hex_word : (bs : List ℕ) → 0 < length bs → list_all is_byte bs ≡ true → is_small (hex bs) ≡ true
 hex_word bs some h = joint (not (is_empty (hex bs))) (list_all is_letter_or_digit (hex bs)) (not_empty (hex bs) (hex_some bs some)) (hex_digits bs h)
 
@@ -102,6 +108,7 @@ hex_word bs some h = joint (not (is_empty (hex bs))) (list_all is_letter_or_digi
 solid_lacks : (c : ℕ) (w : Text) → is_solid c ≡ false → list_all is_solid w ≡ true → lacks c w ≡ true
 solid_lacks c w nay h = ap not (lacks_by is_solid c w nay h)
 
+-- words have no such byte
 pub words_lack : (c : ℕ) (ws : List Text) → is_solid c ≡ false → list_all is_word ws ≡ true → list_all (lacks c) ws ≡ true
 words_lack c ws nay h = implied is_word (lacks c) ws (λ w k. solid_lacks c w nay (both (not (is_empty w)) (list_all is_solid w) k).1) h
 

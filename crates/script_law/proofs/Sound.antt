@@ -25,30 +25,39 @@ seats s = record s { turns = []; marks = [] }
 
 -- ---- the text
 
+-- the line of the version
 abbrev pub first : Script → Text
 first s = line (codes "ttm" ∷ decimal s.version ∷ [])
 
+-- the line of VRAM
 abbrev pub second : Script → Text
 second s = line (codes "vram" ∷ (if s.sizes.buddy then codes "buddy" else codes "range") ∷ decimal s.sizes.vram ∷ [])
 
+-- the line of TT
 abbrev pub third : Script → Text
 third s = line (codes "tt" ∷ decimal s.sizes.tt ∷ [])
 
+-- the line of the frames
 abbrev pub fourth : Script → Text
 fourth s = line (codes "frames" ∷ decimal s.sizes.frames ∷ [])
 
+-- the line of the slots
 abbrev pub fifth : Script → Text
 fifth s = line (codes "swap" ∷ decimal s.sizes.swap ∷ [])
 
+-- the line of the engines
 abbrev pub sixth : Script → Text
 sixth s = line (codes "engines" ∷ decimal s.sizes.engines ∷ [])
 
+-- the head
 abbrev pub six : Script → Text
 six s = first s ++ second s ++ third s ++ fourth s ++ fifth s ++ sixth s
 
+-- the line of a command
 abbrev pub command_text : Script → Command → Text
 command_text s c = line (command_words s c)
 
+-- the lines of a thread
 abbrev pub thread_text : Script → List Command → Text
 thread_text s cs = line (codes "thread" ∷ []) ++ flat_map (command_text s) cs
 
@@ -71,6 +80,7 @@ text phase.After s = body s ++ line (codes "end" ∷ [])
 
 -- ---- the rules
 
+-- nothing stands behind the head yet
 pub record IsEarly (s : Script) : Type 0 where
   pub buffers : s.buffers ≡ []
   pub threads : s.threads ≡ []
@@ -89,6 +99,7 @@ Stage phase.Threads s = (0 < length s.threads) × (s.turns ≡ [])
 Stage phase.Turns s = Unit {0}
 Stage phase.After s = Unit {0}
 
+-- the script so far keeps its rules
 pub record Sound (p : Progress) : Type 0 where
   pub version : is_between 1 2 p.script.version ≡ true
   pub sizes : has_sizes p.script ≡ true
@@ -105,6 +116,7 @@ pub record Sound (p : Progress) : Type 0 where
   pub marks : p.script.marks ≡ []
   pub stage : Stage p.phase p.script
 
+-- the text of the lines so far
 abbrev pub text_of : Progress → Text
 text_of p = text p.phase p.script
 

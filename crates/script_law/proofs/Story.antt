@@ -6,6 +6,7 @@ use Rattle.script_law.specs.ScriptLaws.{OneSpelling, OneValue, FaultWhereNoScrip
 use Rattle.script_law.proofs.TakesScript.{takes_scripts}
 use Rattle.script_law.proofs.ReadsScript.{reads_scripts}
 
+-- a value has one spelling
 pub one_spelling : OneSpelling
 one_spelling a b script x y = x.spelled ∙ sym y.spelled
 
@@ -13,6 +14,7 @@ ok_is : (r : Result Script (ℕ × ℕ)) (s t : Script) → r ≡ Ok s → r ≡
 ok_is (Ok x) s t h k = let a : x ≡ s = cc in let b : x ≡ t = cc in sym a ∙ b
 ok_is (Err e) s t h k = absurd cc
 
+-- a spelling has one value
 pub one_value : OneValue
 one_value bytes s t x y = ok_is (script_of bytes) s t (reads_scripts bytes s x) (reads_scripts bytes t y)
 
@@ -23,6 +25,7 @@ read_of : (r : Result Script (ℕ × ℕ)) → fault_of r ≡ None → (script :
 read_of (Ok script) h = (script, refl)
 read_of (Err e) h = absurd cc
 
+-- a fault exactly where there is no script
 pub fault_where_no_script : FaultWhereNoScript
 fault_where_no_script bytes = (
   λ h. let r = read_of (script_of bytes) h in (r.0, takes_scripts bytes r.0 r.1),

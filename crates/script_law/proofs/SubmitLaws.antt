@@ -31,10 +31,12 @@ parted_step : (b : Bool) (x : Text) (parts : List (List Text)) → (b ≡ true �
 parted_step true x parts same some = parted_after parts some ∙ ap (λ y. y ∷ parted parts) (sym (same refl))
 parted_step false x parts same some = parted_onto x parts
 
+-- words are their groups joined
 pub parted_again : (ws : List Text) → parted (cut_by is_semicolon ws) ≡ ws
 parted_again [] = refl
 parted_again (x ∷ xs) = parted_step (is_semicolon x) x (cut_by is_semicolon xs) (bytes_are x (codes ";")) (cut_some is_semicolon xs) ∙ ap (λ ys. x ∷ ys) (parted_again xs)
 
+-- an operation that breaks no rule of words
 pub record IsGood (x : OpWord) : Type 0 where
   pub shape : is_no_op x ≡ false
   pub numbers : lacks_number_in_op x ≡ false
@@ -110,12 +112,14 @@ op_takes script (w ∷ b ∷ off ∷ len ∷ byte ∷ []) h = fill_is script (by
 op_takes script (w ∷ d ∷ doff ∷ s ∷ soff ∷ len ∷ []) h = copy_is script (bytes_eq w (codes "copy")) (bytes_eq w (codes "xor")) w d doff s soff len (bytes_are w (codes "copy")) (bytes_are w (codes "xor")) h
 op_takes script (w ∷ d ∷ doff ∷ s ∷ soff ∷ len ∷ x ∷ xs) h = absurd (differ h.shape)
 
+-- operations that break no rule of words
 pub record AreGood (xs : List OpWord) : Type 0 where
   pub shape : list_any is_no_op xs ≡ false
   pub numbers : list_any lacks_number_in_op xs ≡ false
   pub names : list_any lacks_name_in_op xs ≡ false
   pub bytes : list_any lacks_byte_in_op xs ≡ false
 
+-- the first of them
 pub first_good : (x : OpWord) (xs : List OpWord) → AreGood (x ∷ xs) → IsGood x
 first_good x xs g = record {
   shape = (either (is_no_op x) (list_any is_no_op xs) g.shape).0;
@@ -124,6 +128,7 @@ first_good x xs g = record {
   bytes = (either (lacks_byte_in_op x) (list_any lacks_byte_in_op xs) g.bytes).0;
 }
 
+-- the others
 pub others_good : (x : OpWord) (xs : List OpWord) → AreGood (x ∷ xs) → AreGood xs
 others_good x xs g = record {
   shape = (either (is_no_op x) (list_any is_no_op xs) g.shape).1;

@@ -100,9 +100,11 @@ line_grows p q text h e =
 
 -- ---- all lines
 
+-- texts joined
 abbrev pub all_of : List Text → Text
 all_of texts = flat_map (λ t. t) texts
 
+-- where all lines lead
 pub record Ends (p : Progress) (texts : List Text) (s : Script) : Type 0 where
   pub q : Progress
   pub sound : Sound q
@@ -128,6 +130,7 @@ goes (Ok next) p n text texts s h e rest r =
       more = z.more ∙ ap (λ t. t ++ all_of texts) g.more ∙ append_assoc (text_of p) text (all_of texts) ∙ ap (λ t. text_of p ++ t) (sym (flat_map-cons (λ t. t) text texts));
     }
 
+-- lines that say a script lead to it
 pub runs : (texts : List Text) (p : Progress) (n : ℕ) (s : Script) → Sound p → script_from p n texts ≡ Ok s → Ends p texts s
 runs [] p n s h r =
     let o = over_is (is_over p.phase) p.script s n r in

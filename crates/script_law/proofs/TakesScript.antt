@@ -96,6 +96,7 @@ within false r s h = (refl, h)
 true_is : (b : Bool) → b ≡ true → IsTrue b
 true_is b h = h
 
+-- bytes that say a script are its spelling
 pub takes_scripts : TakesScripts
 takes_scripts bytes s h =
     let w = within (nat_lt 1048576 (length bytes)) (script_from nothing_read 0 (lines_of bytes)) s h in

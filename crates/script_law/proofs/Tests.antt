@@ -32,10 +32,12 @@ joint true true p q = refl
 joint true false p q = absurd cc
 joint false b p q = absurd cc
 
+-- a test that holds, and another
 pub and_true : (a : Bool) → a ≡ true → (a && true) ≡ true
 and_true true h = refl
 and_true false h = absurd cc
 
+-- the second of two
 pub second : (a b : Bool) → (a && b) ≡ true → b ≡ true
 second true b h = h
 second false b h = absurd cc
@@ -85,15 +87,19 @@ four_facts true true true false h = absurd cc
 pub le_is : (n m : ℕ) → nat_le n m ≡ true → n ≤ m
 le_is n m h = grind (arith, nat_tests, h)
 
+-- and the other way round
 pub is_le : (n m : ℕ) → n ≤ m → nat_le n m ≡ true
 is_le n m h = grind (arith, nat_tests)
 
+-- a strict comparison
 pub lt_is : (n m : ℕ) → n < m → nat_lt n m ≡ true
 lt_is n m h = grind (arith, nat_tests)
 
+-- and the other way round
 pub true_lt : (n m : ℕ) → nat_lt n m ≡ true → n < m
 true_lt n m h = grind (arith, nat_tests, h)
 
+-- a strict comparison that fails
 pub not_less : (n m : ℕ) → nat_lt n m ≡ false → m ≤ n
 not_less n m h = grind (arith, nat_tests, h)
 
@@ -105,5 +111,6 @@ at_most n h = grind (arith, nat_tests, h)
 pub not_long : (n : ℕ) → n ≤ 67108864 → nat_lt 67108864 n ≡ false
 not_long n h = grind (arith, nat_tests)
 
+-- a test has one answer
 pub apart : false ≡ true → ⊥
 apart h = absurd cc

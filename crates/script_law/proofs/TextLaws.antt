@@ -21,6 +21,7 @@ some_length : (text : Text) → slice_get text (length text - 1) ≡ Some 10 →
 some_length [] h = absurd cc
 some_length (b ∷ bs) h = omega arith
 
+-- a text that ends is a line of its words
 pub text_is_line : (text : Text) → ends_line text ≡ true → text ≡ line (cut_at 32 (without_end text))
 text_is_line text h =
     let last = feed (slice_get text (length text - 1)) h in

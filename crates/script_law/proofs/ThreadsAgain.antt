@@ -52,6 +52,7 @@ pub record Past (p : Progress) (t : Text) (s : Script) (total : ℕ) : Type 0 wh
   pub is : m ≡ total
   pub runs : Runs p t (at phase.Threads s n m)
 
+-- the commands of a thread are read
 pub commands_run : (s : Script) (done : List (List Command)) (xs cs : List Command) (n m : ℕ) → IsNamed s → s.sizes.engines < 2 ^ 64 → list_all (is_command s) cs ≡ true → n + length cs ≤ 4096 → m + sum_by command_len cs ≤ 67108864
     → Past (at phase.Threads (threaded s (done ++ xs ∷ [])) n m) (flat_map (command_text s) cs) (threaded s (done ++ (xs ++ cs) ∷ [])) (m + sum_by command_len cs)
 commands_run s done xs [] n m h small k few short = record {
@@ -102,10 +103,12 @@ pub record Behind (p : Progress) (t : Text) (s : Script) : Type 0 where
   pub short : m ≤ 67108864
   pub runs : Runs p t (at ph s n m)
 
+-- there is one more to come
 pub shorter : {X : Type 0} (done : List X) (d : X) (ds : List X) → length done < length (done ++ d ∷ ds)
 shorter [] d ds = omega arith
 shorter (e ∷ done) d ds = let r = shorter done d ds in omega (arith, r)
 
+-- threads are read
 pub threads_run : (ts : List (List Command)) (s : Script) (done : List (List Command)) (ph : Phase) (n m : ℕ) → may_come ph key.Thread ≡ true → may_come ph key.Schedule ≡ true → may_come ph key.End ≡ true → IsNamed s → s.sizes.engines < 2 ^ 64
     → length (done ++ ts) ≤ 16 → list_all has_few ts ≡ true → list_all (list_all (is_command s)) ts ≡ true → m + sum_by (sum_by command_len) ts ≤ 67108864
     → Behind (at ph (threaded s done) n m) (flat_map (thread_text s) ts) (threaded s (done ++ ts))
@@ -148,6 +151,7 @@ threads_run (cs ∷ ts) s done ph n m c d e h small few each fit short =
 
 -- ---- schedules
 
+-- the script with other schedules
 abbrev pub steered : Script → List (List Actor) → Script
 steered s turns = record s { turns = turns }
 
@@ -185,6 +189,7 @@ turn_runs ph s n m xs c t e h short =
     line_runs p (at phase.Turns (steered s (s.turns ++ xs ∷ [])) n m) (codes "schedule") (map actor_word xs) words
     (says p key.Schedule (codes "schedule" ∷ map actor_word xs) l refl c words parts (keeps_all p l r) ∙ ap (λ x. Ok (at phase.Turns (steered s (s.turns ++ x ∷ [])) n m)) (said_actors xs))
 
+-- schedules are read
 pub turns_run : (xs : List (List Actor)) (s : Script) (done : List (List Actor)) (ph : Phase) (n m : ℕ) → may_come ph key.Schedule ≡ true → may_come ph key.End ≡ true → length s.threads < 2 ^ 64 → s.sizes.engines < 2 ^ 64
     → list_all (is_turn_line s) xs ≡ true → m ≤ 67108864 → Behind (at ph (steered s done) n m) (flat_map turn_line xs) (steered s (done ++ xs))
 turns_run [] s done ph n m c d t e h short = record {
@@ -217,6 +222,7 @@ turns_run (x ∷ xs) s done ph n m c d t e h short =
 
 -- ---- the last line
 
+-- the last line is read
 pub end_runs : (ph : Phase) (s : Script) (n m : ℕ) → may_come ph key.End ≡ true → m ≤ 67108864 → Runs (at ph s n m) (line (codes "end" ∷ [])) (at phase.After s n m)
 end_runs ph s n m c short =
     let p = at ph s n m in

@@ -19,6 +19,7 @@ use Rattle.journal_model.specs.Reading.{known, names_of, mem_of}
 use Rattle.journal_model.specs.LineWords.{keyword_of, command_keyword_of, verb_of, or_other}
 use Rattle.script_law.proofs.ListFacts.{length_map}
 
+-- equal texts are one
 pub bytes_are : (a b : Text) → bytes_eq a b ≡ true → a ≡ b
 bytes_are a b h = (bytes_eq-Decides a b).0 h
 
@@ -28,6 +29,7 @@ pick P false x y h k = k
 
 -- ---- keywords
 
+-- the word of a verb
 abbrev pub verb_word : Verb → Text
 verb_word verb.New = codes "new"
 verb_word verb.Free = codes "free"
@@ -36,6 +38,7 @@ verb_word verb.Unpin = codes "unpin"
 verb_word verb.Find = codes "find"
 verb_word verb.SwapOut = codes "swapout"
 
+-- the word of a keyword
 abbrev pub IsWordOf : Text → Keyword → Type 0
 IsWordOf w key.Ttm = w ≡ codes "ttm"
 IsWordOf w key.Vram = w ≡ codes "vram"
@@ -91,16 +94,19 @@ keyword_is w =
 
 -- ---- memory types
 
+-- the word of a memory type
 abbrev pub IsMemOf : Text → Option Mem → Type 0
 IsMemOf w (Some mem) = w ≡ mem_word mem
 IsMemOf w None = Unit {0}
 
+-- a memory type is spelled as it was read
 pub mem_is : (w : Text) → IsMemOf w (mem_of w)
 mem_is w =
     pick (IsMemOf w) (bytes_eq w (codes "sys")) (Some System) _ (bytes_are w (codes "sys"))
     (pick (IsMemOf w) (bytes_eq w (codes "tt")) (Some Tt) _ (bytes_are w (codes "tt"))
     (pick (IsMemOf w) (bytes_eq w (codes "vram")) (Some Vram) None (bytes_are w (codes "vram")) tt))
 
+-- a memory type is read
 pub mem_again : (mem : Mem) → mem_of (mem_word mem) ≡ Some mem
 mem_again System = refl
 mem_again Tt = refl
@@ -144,6 +150,7 @@ known_is script w b h =
     let here : (unwrap_or (slice_get script.buffers b.0) undeclared).name ≡ f.0 = subst (λ k. (unwrap_or (slice_get script.buffers k) undeclared).name ≡ f.0) s.1 name in
     (here ∙ sym (bytes_are w f.0 f.2), omega (arith, lt, s.1, length_map (λ (d : Decl). d.name) script.buffers))
 
+-- a verb is read
 pub keyword_again : (v : Verb) → keyword_of (verb_word v) ≡ key.Plain v
 keyword_again verb.New = refl
 keyword_again verb.Free = refl
