@@ -67,14 +67,24 @@ fn run_packet(stores: &mut PlainStores, core: &Core, packet: Packet)
             from,
             foff,
             len,
-        } => copy_part(stores, part_of(core, to, toff), part_of(core, from, foff), len),
+        } => copy_part(
+            stores,
+            part_of(core, to, toff),
+            part_of(core, from, foff),
+            len,
+        ),
         Packet::Xor {
             to,
             toff,
             from,
             foff,
             len,
-        } => xor_part(stores, part_of(core, to, toff), part_of(core, from, foff), len),
+        } => xor_part(
+            stores,
+            part_of(core, to, toff),
+            part_of(core, from, foff),
+            len,
+        ),
         Packet::Probe { .. } => {}
     }
 }

@@ -1,4 +1,4 @@
-use Rattle.std.proofs.Common.{◌<◌, length, replicate, arith}
+use Rattle.std.proofs.Common.{◌<◌, replicate, arith}
 use Rattle.std.proofs.lemmas.List.{length-replicate, get_or-replicate}
 use Rattle.replay_stores.proofs.RoomLaws.{page_write}
 use Rattle.replay_stores.proofs.room.Room.fill.Goals as goal
