@@ -7,6 +7,9 @@ mod parts;
 mod room;
 mod shown;
 mod stores;
+#[cfg(test)]
+mod tests;
 
+pub use entries::can_store;
 pub use pages::StorePage;
 pub use stores::PlainStores;
