@@ -1,19 +1,16 @@
 -- What must hold of a state for an entry to be applied. Each entry that is legal next meets it.
-use Rattle.std.specs.Prelude.{ℕ, ◌+◌, ◌^◌, ◌<◌, Bool, List, Option, Some, IsTrue, ◌||◌, not, nat_lt, length, IsSome}
+use Rattle.std.specs.Prelude.{ℕ, ◌+◌, ◌^◌, ◌<◌, Bool, IsTrue, ◌||◌, not, nat_lt, length, IsSome}
 use Rattle.std.specs.List.{list_all}
 use Rattle.ttm_base.specs.declared.BufId.{BufId}
 use Rattle.ttm_base.specs.declared.JobId.{JobId}
 use Rattle.ttm_base.specs.declared.Actor.{Actor}
 use Rattle.journal_model.specs.declared.script.Script.{Script}
-use Rattle.journal_model.specs.declared.script.Command.{Command}
-use Rattle.journal_model.specs.declared.script.Command.TheVariants as command
 use Rattle.journal_model.specs.declared.state.State.{State}
-use Rattle.journal_model.specs.declared.state.Grip.{Grip}
 use Rattle.journal_model.specs.declared.state.Job.{Job}
 use Rattle.journal_model.specs.declared.entry.Entry.{Entry}
 use Rattle.journal_model.specs.declared.entry.Kind.{Kind}
 use Rattle.journal_model.specs.declared.entry.Kind.TheVariants as kind
-use Rattle.journal_model.specs.State.{course_of, course, grip_in, buffer}
+use Rattle.journal_model.specs.State.{course_of, course, buffer}
 use Rattle.replay_parts.specs.Pins.{HasPinsLeft}
 use Rattle.journal_model.specs.Commands.{command_at_work}
 use Rattle.journal_model.specs.Waits.{same_job}

@@ -6,11 +6,9 @@ ghost use Rattle.journal_model.specs.Lists.{touched};
 ghost use Rattle.replay_parts.specs.Pins.{HasPinsLeft};
 ghost use Rattle.replay.specs.Ready.{IsThread, CanShowResult};
 
+use journal_model::{BufIds, Buffer, Command, Core, Ghost, Grip, Grips, Lists, Script, State};
 use replay_parts::buffers::put_buffer;
 use replay_parts::grips::{change_pins, put_grip, release_all};
-use journal_model::{
-    BufIds, Buffer, Command, Core, Ghost, Grip, Grips, Lists, Script, State,
-};
 use replay_parts::lists::{listed_in, members_last, taken_off, touched_all};
 use replay_state::{
     buffer_in, command_at_work, dead_buffer, declared_pages, frames_of, has_buffer,
@@ -43,12 +41,7 @@ pub fn make(
 }
 
 /// What a buffer with unfinished jobs leaves when it is freed.
-fn ghost_of_freed(
-    alloc: Global,
-    core: &Core,
-    buffer: &Buffer,
-    num: u64,
-) -> Result<Ghost, NoMemory>
+fn ghost_of_freed(alloc: Global, core: &Core, buffer: &Buffer, num: u64) -> Result<Ghost, NoMemory>
     ensures { IfOk result (λ left. left ≡ rows.ghost_of_freed core.now buffer.now num) }
 {
     let mut vram = Spans::new(alloc);

@@ -6,9 +6,9 @@ ghost use Rattle.journal_model.specs.ApplyJobs as rows;
 ghost use Rattle.replay.specs.Ready.{IsThread, CanRun, has_packets_left};
 ghost use Rattle.replay_parts.specs.Undo.{without_last};
 
-use replay_parts::buffers::{add_fence, drop_last_fence};
 use crate::commands::buffers_of;
 use journal_model::{Buffers, Command, Core, Ghosts, Job, JobIds, Jobs, Numbers, Script, State};
+use replay_parts::buffers::{add_fence, drop_last_fence};
 use replay_state::{command_at_work, jobs_before_use, packets_of, same_job, use_of};
 use std::alloc::Global;
 use ttm_base::{BufId, JobId, NoMemory, Op};
@@ -54,12 +54,7 @@ fn push_jobs(jobs: &mut JobIds, more: &[JobId]) -> Result<(), NoMemory>
 }
 
 /// The jobs that a job waits for at its buffers.
-fn waits_at(
-    alloc: Global,
-    core: &Core,
-    ops: &[Op],
-    bs: &[BufId],
-) -> Result<JobIds, NoMemory>
+fn waits_at(alloc: Global, core: &Core, ops: &[Op], bs: &[BufId]) -> Result<JobIds, NoMemory>
     ensures { IfOk result (λ jobs. jobs ≡ flat_map (waits.jobs_before_use core.now ops.now) bs.now) }
 {
     let mut jobs = JobIds::new(alloc);
@@ -72,12 +67,7 @@ fn waits_at(
 
 /// Gives each of these buffers the job as a fence, in the way in which it uses the buffer.
 #[tactic(auto, using(replay_parts::proofs::UndoLaws::fence_undone))]
-fn add_uses(
-    buffers: &mut Buffers,
-    job: JobId,
-    ops: &[Op],
-    bs: &[BufId],
-) -> Result<(), NoMemory>
+fn add_uses(buffers: &mut Buffers, job: JobId, ops: &[Op], bs: &[BufId]) -> Result<(), NoMemory>
     ensures ok { OnOk result (buffers.new ≡ fold (with_use job ops.now) buffers.old bs.now) }
     ensures err { OnErr result (buffers.new ≡ buffers.old) }
 {

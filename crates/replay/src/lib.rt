@@ -6,10 +6,14 @@ mod entries;
 mod jobs;
 mod moves;
 mod pages;
+mod ready;
 mod searches;
 mod start;
+#[cfg(test)]
+mod tests;
 mod tickets;
 mod victims;
 
 pub use entries::apply;
+pub use ready::is_ready;
 pub use start::first_state;

@@ -6,9 +6,11 @@ ghost use Rattle.journal_model.specs.ApplyMoves as rows;
 ghost use Rattle.replay.specs.Ready.{HasShortTable};
 ghost use Rattle.replay_parts.specs.Undo.{without_last};
 
-use replay_parts::buffers::carry;
 use crate::jobs::{drop_last_job, set_last_job};
-use journal_model::{Buffer, Core, Frames, Ghost, Ghosts, Job, JobIds, Left, Packets, Script, State};
+use journal_model::{
+    Buffer, Core, Frames, Ghost, Ghosts, Job, JobIds, Left, Packets, Script, State,
+};
+use replay_parts::buffers::carry;
 use replay_parts::lists::relisted;
 use replay_state::{
     buffer_in, dead_buffer, frames_of, jobs_before_write, name_in_spans, packet_place, push_spans,
@@ -94,12 +96,7 @@ fn only(alloc: Global, id: JobId) -> Result<JobIds, NoMemory>
 }
 
 /// The ghost that a moved buffer leaves until the job is done.
-fn ghost_of_moved(
-    alloc: Global,
-    buffer: &Buffer,
-    id: JobId,
-    num: u64,
-) -> Result<Ghost, NoMemory>
+fn ghost_of_moved(alloc: Global, buffer: &Buffer, id: JobId, num: u64) -> Result<Ghost, NoMemory>
     ensures { IfOk result (λ left. left ≡ rows.ghost_of_moved buffer.now id num) }
 {
     Ok(Ghost {

@@ -3,9 +3,9 @@ ghost use Rattle.journal_model.specs.Waits.{jobs_before_target};
 ghost use Rattle.replay.specs.Ready.{IsThread};
 ghost use Rattle.journal_model.specs.ApplyPages.{after_take, after_bind, after_unbind, after_untake, after_populate, after_swap_in, after_swap_out, after_depopulate};
 
-use replay_parts::{buffers, courses};
 use journal_model::{Core, Script, State};
 use replay_parts::lists::relisted;
+use replay_parts::{buffers, courses};
 use replay_state::is_unfinished;
 use std::alloc::Global;
 use ttm_base::{BufId, JobId, Loc, Mem, NoMemory, Spans};

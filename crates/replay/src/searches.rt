@@ -4,8 +4,8 @@ ghost use Rattle.journal_model.specs.Search as words;
 ghost use Rattle.journal_model.specs.ApplyVictims.{after_dry};
 ghost use Rattle.replay.specs.Ready.{CanGoDry};
 
-use replay_parts::courses::{fail_search, go_dry};
 use journal_model::{Command, Course, Script, State};
+use replay_parts::courses::{fail_search, go_dry};
 use replay_state::{command_at_work, forced_places, is_caught, quest_at_work};
 use std::alloc::Global;
 use ttm_base::{BufId, Deny, NoMemory};

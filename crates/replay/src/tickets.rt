@@ -2,8 +2,8 @@ ghost use Rattle.std.specs.Prelude.{◌≡◌, OnOk, OnErr};
 ghost use Rattle.journal_model.specs.ApplyCommands.{after_ticket, after_reserve, after_backoff, after_refusal};
 ghost use Rattle.replay.specs.Ready.{IsThread, CanAnswer};
 
-use replay_parts::grips;
 use journal_model::{BufIds, State};
+use replay_parts::grips;
 use replay_state::new_course;
 use std::alloc::Global;
 use ttm_base::{BufId, NoMemory, Stamp};

@@ -2,9 +2,9 @@ ghost use Rattle.std.specs.Prelude.{◌≡◌, OnOk, OnErr};
 ghost use Rattle.journal_model.specs.ApplyVictims.{after_no_pages, after_skip, after_catch, after_loose};
 ghost use Rattle.replay.specs.Ready.{IsThread};
 
-use replay_parts::{buffers, courses, grips};
 use journal_model::{Script, State, Why};
 use replay_parts::lists::touched;
+use replay_parts::{buffers, courses, grips};
 use std::alloc::Global;
 use ttm_base::{BufId, Deny, NoMemory};
 

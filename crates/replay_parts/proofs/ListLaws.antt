@@ -5,7 +5,7 @@ use Rattle.std.specs.Prelude.{IsTrue, filter, remove, map, slice_get, slice_set}
 use Rattle.std.specs.List.{list_all}
 use Rattle.std.proofs.lemmas.Option.{get_or_from_slice_get, slice_get_within}
 use Rattle.std.proofs.lemmas.List.Edits.{map_over_more}
-use Rattle.std.proofs.lemmas.List.Elements.{filter-append, filter_more}
+use Rattle.std.proofs.lemmas.List.Elements.{filter_more}
 
 -- one step of a loop that writes f x over each element x
 pub map_over_step : {X : Type 0} (f : X → X) (xs ys : List X) (i : ℕ) (x : X) → i < length xs → ys ≡ map f (take i xs) ++ drop i xs → slice_get ys i ≡ Some x → slice_set ys i (f x) ≡ map f (take (i + 1) xs) ++ drop (i + 1) xs

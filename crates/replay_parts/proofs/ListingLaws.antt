@@ -1,5 +1,5 @@
 -- Where a buffer is listed is all that the lists depend on.
-use Rattle.std.proofs.Common.{◌≡◌, ℕ, zero, suc, Bool, true, false, List, [], ◌∷◌, Some, None, Option, refl, ap, ◌∙◌}
+use Rattle.std.proofs.Common.{◌≡◌, ℕ, zero, suc, true, false, List, [], ◌∷◌, Some, None, Option, refl, ap, ◌∙◌}
 use Rattle.std.specs.Prelude.{◌==◌, option_map, option_and_then, slice_get, slice_set, unwrap_or, if◌then◌else◌}
 use Rattle.ttm_base.specs.declared.Mem.{Mem}
 use Rattle.ttm_base.specs.declared.BufId.{BufId}
@@ -29,7 +29,6 @@ live_at f (x ∷ xs) (suc i) = live_at f xs i
 -- a buffer that was changed is live where it was
 pub live_in-changed : (f : Buffer → Buffer) (buffers : List (Option Buffer)) (b : BufId) → live_in (changed f buffers b) b ≡ option_map f (live_in buffers b)
 live_in-changed f buffers b = live_at f buffers b.0
-
 
 -- a buffer that went to a memory type
 listed_mem-map : (f : Buffer → Buffer) (mem : Mem) → ((x : Buffer) → (f x).mem ≡ mem) → (g : Grip) (x : Option Buffer) → listed_mem g (option_map f x) ≡ option_map (λ m. mem) (listed_mem g x)

@@ -1,5 +1,5 @@
 -- Pins that can be counted once held buffers are let go.
-use Rattle.std.proofs.Common.{◌≡◌, ◌<◌, List, Option, Some, None, subst, sym}
+use Rattle.std.proofs.Common.{List, Some}
 use Rattle.ttm_base.specs.declared.BufId.{BufId}
 use Rattle.journal_model.specs.declared.script.Command.{Command}
 use Rattle.journal_model.specs.declared.script.Command.TheVariants as command

@@ -1,5 +1,5 @@
 -- Whether a buffer can be pinned once more.
-use Rattle.std.specs.Prelude.{ℕ, ◌<◌, List, Option, Some}
+use Rattle.std.specs.Prelude.{◌<◌, List, Option, Some}
 use Rattle.ttm_base.specs.declared.BufId.{BufId}
 use Rattle.journal_model.specs.declared.script.Command.{Command}
 use Rattle.journal_model.specs.declared.script.Command.TheVariants as command

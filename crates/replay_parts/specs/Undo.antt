@@ -1,5 +1,5 @@
 -- What takes back an addition at the end, where a later one finds no memory.
-use Rattle.std.specs.Prelude.{◌-◌, List, length, remove, take}
+use Rattle.std.specs.Prelude.{◌-◌, List, length, take}
 use Rattle.journal_model.specs.declared.state.Buffer.{Buffer}
 
 -- a list without its last element

@@ -1,3 +1,5 @@
+#![tactic(auto, using(ttm_base::proofs::ListLaws::set_same))]
+
 ghost use Rattle.std.specs.Prelude.{◌≡◌, [], Some, None, unwrap_or, OnOk, OnErr, map, option_to_list, slice_set};
 ghost use Rattle.ttm_base.specs.declared.Usage.TheVariants as usage;
 ghost use Rattle.journal_model.specs.State.{changed, target_of, with_target};
@@ -21,7 +23,6 @@ pub fn put_buffer(buffers: &mut Buffers, b: BufId, buffer: Option<Buffer>)
 }
 
 /// Gives a page of a buffer another place, if the buffer is live.
-#[tactic(auto, using(ttm_base::proofs::ListLaws::set_same))]
 pub fn set_page(buffers: &mut Buffers, b: BufId, page: u32, place: Loc)
     ensures { buffers.new ≡ changed (with_page page place) buffers.old b }
 {
@@ -47,7 +48,6 @@ pub fn set_target(targets: &mut Targets, mem: Mem, spans: Option<Spans>)
 }
 
 /// Gives a buffer a target, if it is live, and a fence that everyone waits for, if there is a job.
-#[tactic(auto, using(ttm_base::proofs::ListLaws::set_same))]
 pub fn give_target(
     buffers: &mut Buffers,
     b: BufId,
@@ -74,7 +74,6 @@ pub fn give_target(
 }
 
 /// Takes a target from a buffer, if it is live.
-#[tactic(auto, using(ttm_base::proofs::ListLaws::set_same))]
 pub fn drop_target(buffers: &mut Buffers, b: BufId, mem: Mem)
     ensures { buffers.new ≡ changed (with_spans mem None) buffers.old b }
 {
@@ -106,7 +105,6 @@ pub fn drop_frames(table: &mut Table)
 }
 
 /// Takes the frames from a buffer, if it is live.
-#[tactic(auto, using(ttm_base::proofs::ListLaws::set_same))]
 pub fn depopulate(buffers: &mut Buffers, b: BufId)
     ensures { buffers.new ≡ changed without_frames buffers.old b }
 {
@@ -119,7 +117,6 @@ pub fn depopulate(buffers: &mut Buffers, b: BufId)
 }
 
 /// Sends a victim in TT to SYSTEM.
-#[tactic(auto, using(ttm_base::proofs::ListLaws::set_same))]
 pub fn leave_tt(alloc: Global, buffers: &mut Buffers, b: BufId)
     ensures { buffers.new ≡ changed (λ x. leaves_tt x.mem x) buffers.old b }
 {
@@ -145,7 +142,6 @@ fn take_target(alloc: Global, target: &mut Option<Spans>) -> Spans
 }
 
 /// Carries a buffer from SYSTEM to TT, if it is live.
-#[tactic(auto, using(ttm_base::proofs::ListLaws::set_same))]
 pub fn bind(alloc: Global, buffers: &mut Buffers, b: BufId)
     ensures { buffers.new ≡ changed bound buffers.old b }
 {
@@ -159,7 +155,6 @@ pub fn bind(alloc: Global, buffers: &mut Buffers, b: BufId)
 }
 
 /// Carries a buffer from TT to SYSTEM, if it is live.
-#[tactic(auto, using(ttm_base::proofs::ListLaws::set_same))]
 pub fn unbind(alloc: Global, buffers: &mut Buffers, b: BufId)
     ensures { buffers.new ≡ changed unbound buffers.old b }
 {
@@ -174,7 +169,6 @@ pub fn unbind(alloc: Global, buffers: &mut Buffers, b: BufId)
 }
 
 /// Takes the last fence from a buffer, if it is live.
-#[tactic(auto, using(ttm_base::proofs::ListLaws::set_same))]
 pub fn drop_last_fence(buffers: &mut Buffers, b: BufId)
     ensures { buffers.new ≡ changed without_last_fence buffers.old b }
 {
@@ -190,13 +184,7 @@ pub fn drop_last_fence(buffers: &mut Buffers, b: BufId)
 }
 
 /// Gives a buffer one more fence, if it is live.
-#[tactic(auto, using(ttm_base::proofs::ListLaws::set_same))]
-pub fn add_fence(
-    buffers: &mut Buffers,
-    b: BufId,
-    job: JobId,
-    usage: Usage,
-) -> Result<(), NoMemory>
+pub fn add_fence(buffers: &mut Buffers, b: BufId, job: JobId, usage: Usage) -> Result<(), NoMemory>
     ensures ok { OnOk result (buffers.new ≡ changed (with_fence job usage) buffers.old b) }
     ensures err { OnErr result (buffers.new ≡ buffers.old) }
 {
@@ -233,7 +221,6 @@ fn take_spans(alloc: Global, targets: &mut Targets, mem: Mem) -> Spans
 }
 
 /// Carries a buffer to its target in a memory type by a job, if it is live.
-#[tactic(auto, using(ttm_base::proofs::ListLaws::set_same))]
 pub fn carry(
     alloc: Global,
     buffers: &mut Buffers,

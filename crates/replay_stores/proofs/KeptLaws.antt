@@ -1,11 +1,11 @@
 -- The bytes of all pages after some of one were written.
-use Rattle.std.proofs.Common.{◌≡◌, ℕ, ◌+◌, ◌-◌, ◌*◌, ◌≤◌, ◌<◌, Bool, true, false, inl, inr, List, length, min, get_or, replicate, refl, ap, sym, ◌∙◌, ◌⊎◌, arith, if◌then◌else◌}
-use Rattle.std.specs.Prelude.{◌==◌, ◌&&◌, nat_le, nat_lt, slice_index}
+use Rattle.std.proofs.Common.{◌≡◌, ℕ, ◌+◌, ◌-◌, ◌*◌, ◌<◌, Bool, true, false, inl, inr, List, length, min, replicate, refl, ◌∙◌, arith, if◌then◌else◌}
+use Rattle.std.specs.Prelude.{◌==◌, ◌&&◌, nat_le, nat_lt}
 use Rattle.std.proofs.lemmas.Bool.{cases_lt}
 use Rattle.std.proofs.lemmas.Bool.Decides.{nat_tests}
 use Rattle.std.proofs.lemmas.List.{get_or_past, get_or-replicate, length-replicate}
 use Rattle.journal_model.specs.declared.script.Sizes.{Sizes}
-use Rattle.ttm_base.specs.Pages.{Page, nowhere, vram, frame, slot, PageBytes, same_page, with_bytes}
+use Rattle.ttm_base.specs.Pages.{Page, nowhere, vram, frame, slot, PageBytes, with_bytes}
 use Rattle.journal_model.specs.Stores.{zeros, is_there}
 use Rattle.replay_stores.specs.Room.{room_byte, byte_after}
 use Rattle.replay_stores.specs.Kept.{KeptBytes, BecomesBytes, HasSizes, bytes_of, bytes_in, within}

@@ -1,19 +1,16 @@
 -- The frame at a page of TT, looked for span by span and holder by holder.
-use Rattle.std.proofs.Common.{◌≡◌, ℕ, zero, suc, ◌+◌, ◌-◌, ◌<◌, Bool, true, false, List, [], ◌∷◌, ◌++◌, length, drop, get_or, drop-cons, inl, inr, Option, Some, None, refl, ap, sym, ◌∙◌, arith, if◌then◌else◌}
+use Rattle.std.proofs.Common.{◌≡◌, ℕ, zero, suc, ◌+◌, ◌-◌, ◌<◌, true, false, List, [], ◌∷◌, ◌++◌, length, drop, get_or, drop-cons, inl, inr, Option, Some, None, refl, ap, sym, ◌∙◌, arith, if◌then◌else◌}
 use Rattle.std.specs.Prelude.{◌==◌, ◌&&◌, nat_le, nat_lt, filter_map, flat_map, find, option_map, option_and_then, slice_get, zip}
 use Rattle.std.specs.Option.{option_or}
 use Rattle.std.specs.List.{cons_option}
 use Rattle.std.proofs.lemmas.Grind.{common_steps}
 use Rattle.std.proofs.lemmas.Bool.{cases_lt}
 use Rattle.std.proofs.lemmas.Bool.Decides.{nat_tests}
-use Rattle.std.proofs.lemmas.List.Folds.{find-append}
 use Rattle.ttm_base.specs.declared.Span.{Span}
 use Rattle.ttm_base.specs.declared.Loc.{Loc}
 use Rattle.ttm_base.specs.ListWords.{count_from}
 use Rattle.ttm_base.specs.Reach.{length_of}
-use Rattle.ttm_base.specs.Holes.{has_page}
 use Rattle.journal_model.specs.declared.state.Buffer.{Buffer}
-use Rattle.journal_model.specs.declared.state.Ghost.{Ghost}
 use Rattle.journal_model.specs.declared.state.Core.{Core}
 use Rattle.journal_model.specs.Places.{pages_of, frame_of, mapped_in, aperture}
 use Rattle.replay_stores.specs.Maps.{frame_beside, frame_in_table, frame_in_frames, at_span, live_mapped, ghost_mapped}
@@ -64,7 +61,7 @@ place_first frame page n start t table rest =
 beside_count : {X : Type 0} (frame : X → Option ℕ) (page n start : ℕ) (more : List ℕ) (table : List X) →
     frame_beside page (filter_map (named frame) (zip (count_from 1 n start ++ more) table)) ≡ option_or (at_place frame table page start (start + n)) (frame_beside page (filter_map (named frame) (zip more (drop n table))))
 beside_count frame page zero start more table = grind (arith, nat_tests)
-beside_count {X = X} frame page (suc n) start more [] = 
+beside_count {X = X} frame page (suc n) start more [] =
     let z = zip-none {X = X} more in
     elim (nat_le start page && nat_lt page (start + suc n)) as (λ b. None ≡ option_or (if b then None else None) (frame_beside page (filter_map (named frame) (zip more [])))) [
       | true ↦ rw z

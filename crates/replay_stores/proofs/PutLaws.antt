@@ -1,5 +1,5 @@
 -- Bytes that are put into a buffer, page by page.
-use Rattle.std.proofs.Common.{◌≡◌, ℕ, zero, suc, ◌+◌, ◌-◌, ◌/◌, ◌%◌, ◌≤◌, ◌<◌, Bool, true, false, inl, inr, List, [], ◌∷◌, ◌++◌, length, min, take, drop, get_or, refl, ap, sym, subst, ◌∙◌, arith, if◌then◌else◌}
+use Rattle.std.proofs.Common.{◌≡◌, ℕ, suc, ◌+◌, ◌-◌, ◌/◌, ◌%◌, ◌≤◌, Bool, true, false, inl, inr, List, [], ◌∷◌, ◌++◌, length, min, take, drop, get_or, refl, ap, sym, subst, ◌∙◌, arith, if◌then◌else◌}
 use Rattle.std.specs.Prelude.{◌&&◌, nat_le, nat_lt, slice_index}
 use Rattle.std.proofs.lemmas.List.{take-append-drop, length-take-le, length-drop, take_all}
 use Rattle.std.proofs.lemmas.Bool.{cases_lt}
@@ -68,7 +68,7 @@ put_on_page x off (b ∷ c ∷ xs) bytes h =
     let more : (off + 1) % 4096 ≡ off % 4096 + 1 = omega arith in
     let rest = put_on_page x (off + 1) (c ∷ xs) next (omega arith) in
     let moved : with_bytes next (page_at x ((off + 1) / 4096)) ((off + 1) % 4096) (suc (length xs)) (slice_index (c ∷ xs)) ≡ with_bytes next page (off % 4096 + 1) (suc (length xs)) (slice_index (c ∷ xs)) =
-      λ i. with_bytes next (page_at x (same i)) (more i) (suc (length xs)) (slice_index (c ∷ xs)) in
+    λ i. with_bytes next (page_at x (same i)) (more i) (suc (length xs)) (slice_index (c ∷ xs)) in
     rest ∙ moved ∙ (λ i p o. more_cells (same_page p page) (c ∷ xs) b (off % 4096) o (bytes p o) i)
 
 -- ---- where only some pages are kept
@@ -101,9 +101,9 @@ becomes_put old mid new x off xs ys h first second =
     record {
       same_sizes = second.same_sizes ∙ first.same_sizes;
       bytes_are =
-        second.bytes_are
-        ∙ (λ i. within (first.same_sizes i) (put_bytes x (off + length xs) ys (first.bytes_are i)) (first.bytes_are i))
-        ∙ (λ i p o. put_at old.sizes x off xs ys (bytes_of old) h p o (is_there old.sizes p && nat_lt o 4096) refl i);
+          second.bytes_are
+          ∙ (λ i. within (first.same_sizes i) (put_bytes x (off + length xs) ys (first.bytes_are i)) (first.bytes_are i))
+          ∙ (λ i p o. put_at old.sizes x off xs ys (bytes_of old) h p o (is_there old.sizes p && nat_lt o 4096) refl i);
     }
 
 -- one write alone
@@ -134,7 +134,7 @@ module _ (old mid : KeptBytes) (x : Buffer) (off count : ℕ) (all : List ℕ) (
   put_parts new second =
       let rest : take (length all - count) (drop count all) ≡ drop count all = take_all (length all - count) (drop count all) (omega (arith, length-drop count all)) in
       let behind : BecomesBytes mid new (put_bytes x (off + length (take count all)) (drop count all) (bytes_of mid)) =
-        subst (λ n. BecomesBytes mid new (put_bytes x (off + n) (drop count all) (bytes_of mid))) (sym fits)
-        (subst (λ (ys : List ℕ). BecomesBytes mid new (put_bytes x (off + count) ys (bytes_of mid))) rest second) in
+      subst (λ n. BecomesBytes mid new (put_bytes x (off + n) (drop count all) (bytes_of mid))) (sym fits)
+      (subst (λ (ys : List ℕ). BecomesBytes mid new (put_bytes x (off + count) ys (bytes_of mid))) rest second) in
       subst (λ (xs : List ℕ). BecomesBytes old new (put_bytes x off xs (bytes_of old))) (take-append-drop count all)
       (becomes_put old mid new x off (take count all) (drop count all) (omega (arith, fits)) first_here behind)

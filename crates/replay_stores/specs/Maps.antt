@@ -1,6 +1,5 @@
 -- The frames at pages of TT: those of live buffers, and those of ghosts.
 use Rattle.std.specs.Prelude.{ℕ, List, [], Option, None, Some, ◌==◌, ◌-◌, filter_map, find, option_map, option_and_then, slice_get, zip, if◌then◌else◌}
-use Rattle.ttm_base.specs.declared.Mem.{Mem}
 use Rattle.ttm_base.specs.declared.Span.{Span}
 use Rattle.ttm_base.specs.declared.Loc.{Loc}
 use Rattle.ttm_base.specs.Holes.{has_page}

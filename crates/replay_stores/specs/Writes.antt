@@ -1,5 +1,5 @@
 -- What must hold for an entry's bytes to be stored. A script that meets the grammar meets it in each state.
-use Rattle.std.specs.Prelude.{ℕ, ◌<◌, ◌^◌, Option, Some, length}
+use Rattle.std.specs.Prelude.{◌<◌, ◌^◌, Option, Some, length}
 use Rattle.ttm_base.specs.declared.Actor.{Actor}
 use Rattle.journal_model.specs.declared.script.Script.{Script}
 use Rattle.journal_model.specs.declared.script.Command.{Command}

@@ -1,4 +1,4 @@
-ghost use Rattle.std.specs.Prelude.{◌≡◌, Some, find, option_copied};
+ghost use Rattle.std.specs.Prelude.{◌≡◌, ◌↔◌, IsTrue, Some, find, option_copied};
 ghost use Rattle.ttm_base.specs.Pages.{translated};
 ghost use Rattle.ttm_base.specs.Packets.{after_packet};
 ghost use Rattle.replay_stores.specs.StorePages.{page_of};
@@ -15,7 +15,7 @@ use crate::stores::PlainStores;
 use journal_model::{Command, Core, Entry, Job, Kind, Script, State};
 use replay_parts::actors::{engine_of, thread_of};
 use replay_state::{command_at_work, same_job};
-use ttm_base::{JobId, Packet, PagePlace};
+use ttm_base::{Actor, JobId, Packet, PagePlace};
 
 /// The job of this name, if there is one.
 fn job_named(jobs: &[Job], id: JobId) -> Option<&Job>
@@ -67,14 +67,24 @@ fn run_packet(stores: &mut PlainStores, core: &Core, packet: Packet)
             from,
             foff,
             len,
-        } => copy_part(stores, part_of(core, to, toff), part_of(core, from, foff), len),
+        } => copy_part(
+            stores,
+            part_of(core, to, toff),
+            part_of(core, from, foff),
+            len,
+        ),
         Packet::Xor {
             to,
             toff,
             from,
             foff,
             len,
-        } => xor_part(stores, part_of(core, to, toff), part_of(core, from, foff), len),
+        } => xor_part(
+            stores,
+            part_of(core, to, toff),
+            part_of(core, from, foff),
+            len,
+        ),
         Packet::Probe { .. } => {}
     }
 }
@@ -141,5 +151,18 @@ impl PlainStores {
             Kind::Result { .. } => answer(self, script, state, thread_of(entry.who)),
             _ => {}
         }
+    }
+}
+
+/// The entry's bytes can be stored. Those of each entry can for a script that meets the grammar.
+pub fn can_store(script: &Script, state: &State, who: Actor, kind: &Kind) -> bool
+    ensures { IsTrue result ↔ CanStore script.now state.now who kind.now }
+{
+    match kind {
+        Kind::Result { .. } => match command_at_work(script, state, thread_of(who)) {
+            Some(Command::Write { bytes, .. }) => bytes.len() <= u32::MAX as usize,
+            _ => true,
+        },
+        _ => true,
     }
 }

@@ -7,7 +7,9 @@ mod parts;
 mod room;
 mod shown;
 mod stores;
+#[cfg(test)]
+mod tests;
 
-pub use entries::put_write;
+pub use entries::{can_store, put_write};
 pub use pages::StorePage;
 pub use stores::PlainStores;

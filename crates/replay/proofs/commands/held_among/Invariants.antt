@@ -1,6 +1,6 @@
-use Rattle.std.proofs.Common.{◌≡◌, [], None, take, replicate}
-use Rattle.std.specs.Prelude.{filter, map}
-use Rattle.journal_model.specs.State.{has_buffer, no_grip, new_course}
+use Rattle.std.proofs.Common.{◌≡◌, take}
+use Rattle.std.specs.Prelude.{filter}
+use Rattle.journal_model.specs.State.{has_buffer}
 use Rattle.replay.proofs.commands.held_among.Given as goal
 
 abbrev pub invariant-loop-b : goal.invariant-loop-b

@@ -1,7 +1,6 @@
-use Rattle.std.proofs.Common.{◌≡◌, take}
+use Rattle.std.proofs.Common.{◌≡◌}
 use Rattle.std.specs.Prelude.{map}
 use Rattle.ttm_base.specs.ListWords.{count_from}
-use Rattle.journal_model.specs.State.{target_spans}
 use Rattle.journal_model.specs.Places.{packet_place, name_in_spans}
 use Rattle.journal_model.specs.ApplyMoves.{copy_of_page}
 use Rattle.replay.proofs.moves.move_packets.Given as goal

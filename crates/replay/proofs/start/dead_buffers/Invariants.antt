@@ -1,6 +1,5 @@
-use Rattle.std.proofs.Common.{◌≡◌, [], None, take, replicate}
-use Rattle.std.specs.Prelude.{filter, map}
-use Rattle.journal_model.specs.State.{has_buffer, no_grip, new_course}
+use Rattle.std.proofs.Common.{◌≡◌, None, take}
+use Rattle.std.specs.Prelude.{map}
 use Rattle.replay.proofs.start.dead_buffers.Given as goal
 
 abbrev pub invariant-loop-decl : goal.invariant-loop-decl

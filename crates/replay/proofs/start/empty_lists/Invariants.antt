@@ -1,6 +1,4 @@
-use Rattle.std.proofs.Common.{◌≡◌, [], None, take, replicate}
-use Rattle.std.specs.Prelude.{filter, map}
-use Rattle.journal_model.specs.State.{has_buffer, no_grip, new_course}
+use Rattle.std.proofs.Common.{◌≡◌, [], replicate}
 use Rattle.replay.proofs.start.empty_lists.Given as goal
 
 abbrev pub invariant-loop-list : goal.invariant-loop-list

@@ -1,6 +1,6 @@
-use Rattle.std.proofs.Common.{◌≡◌, [], None, take, replicate}
-use Rattle.std.specs.Prelude.{filter, map}
-use Rattle.journal_model.specs.State.{has_buffer, no_grip, new_course}
+use Rattle.std.proofs.Common.{◌≡◌, take}
+use Rattle.std.specs.Prelude.{map}
+use Rattle.journal_model.specs.State.{no_grip}
 use Rattle.replay.proofs.start.no_grips.Given as goal
 
 abbrev pub invariant-loop-decl : goal.invariant-loop-decl

@@ -1,4 +1,4 @@
-use Rattle.std.proofs.Common.{sym, arith}
+use Rattle.std.proofs.Common.{arith}
 use Rattle.std.proofs.lemmas.Bool.Decides.{nat_tests}
 use Rattle.replay_parts.proofs.ListLaws.{keeps_none, keeps_less, keeps_more, keeps_all}
 use Rattle.replay_parts.proofs.courses.remove_victim.Goals as goal

@@ -1,6 +1,6 @@
-use Rattle.std.proofs.Common.{◌≡◌, ◌++◌, take, length, unwrap_or}
-use Rattle.std.specs.Prelude.{fold, filter, map, not}
-use Rattle.journal_model.specs.Lists.{taken_off, behind_last, is_mate, touched, is_member, members_last}
+use Rattle.std.proofs.Common.{◌≡◌, ◌++◌, take}
+use Rattle.std.specs.Prelude.{filter, not}
+use Rattle.journal_model.specs.Lists.{is_member}
 use Rattle.replay_parts.proofs.lists.add_others.Given as goal
 
 abbrev pub invariant-loop-b : goal.invariant-loop-b

@@ -1,6 +1,6 @@
 use Rattle.std.proofs.Common.{◌≡◌, drop}
 use Rattle.std.specs.Prelude.{flat_map}
-use Rattle.replay_stores.specs.Maps.{frame_beside, live_mapped, ghost_mapped}
+use Rattle.replay_stores.specs.Maps.{frame_beside, live_mapped}
 use Rattle.replay_stores.proofs.pages.frame_in_buffers.Given as goal
 
 abbrev pub invariant-loop-slot : goal.invariant-loop-slot

@@ -1,4 +1,3 @@
-use Rattle.std.proofs.Common.{length}
 use Rattle.ttm_base.specs.declared.Span.{Span}
 use Rattle.replay_stores.proofs.MapLaws.{table_span, first_found, first_passed}
 use Rattle.replay_stores.proofs.pages.frame_in_table.Goals as goal

@@ -1,8 +1,6 @@
 use Rattle.std.proofs.Common.{◌≡◌}
-use Rattle.ttm_base.specs.Pages.{read_bytes}
 use Rattle.journal_model.specs.State.{buffer_in}
 use Rattle.journal_model.specs.Stores as words
-use Rattle.replay_stores.specs.StorePages.{page_of}
 use Rattle.replay_stores.specs.Kept.{bytes_of}
 use Rattle.replay_stores.proofs.shown.buffer_bytes.Given as goal
 

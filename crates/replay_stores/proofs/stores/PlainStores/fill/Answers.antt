@@ -1,6 +1,4 @@
 use Rattle.std.proofs.Common.{refl}
-use Rattle.std.specs.Prelude.{slice_index}
-use Rattle.replay_stores.specs.Kept.{BecomesBytes}
 use Rattle.replay_stores.proofs.KeptLaws.{wrote_vram, wrote_frame, wrote_slot, wrote_nowhere}
 use Rattle.replay_stores.proofs.stores.PlainStores.fill.Goals as goal
 

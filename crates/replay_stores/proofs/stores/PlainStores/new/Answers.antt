@@ -1,5 +1,4 @@
-use Rattle.std.proofs.Common.{◌*◌, ◌≡◌, replicate, ap, ◌∙◌}
-use Rattle.replay_stores.specs.Kept.{bytes_in}
+use Rattle.std.proofs.Common.{◌*◌}
 use Rattle.replay_stores.proofs.KeptLaws.{bytes_in-zeros}
 use Rattle.replay_stores.proofs.stores.PlainStores.new.Goals as goal
 
