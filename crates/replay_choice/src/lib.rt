@@ -8,5 +8,7 @@ mod candidates;
 mod choices;
 mod pages;
 mod ranges;
+#[cfg(test)]
+mod tests;
 
 pub use choices::choice;

@@ -10,6 +10,8 @@ mod room;
 mod schedule;
 mod search;
 mod tasks;
+#[cfg(test)]
+mod tests;
 
 pub use actors::next;
 use journal_model::Kind;

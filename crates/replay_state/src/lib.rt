@@ -11,6 +11,8 @@ mod packets;
 mod placement;
 mod places;
 mod quests;
+#[cfg(test)]
+mod tests;
 mod waits;
 
 pub use buffers::{
