@@ -1,0 +1,20 @@
+-- Parts of a list of bytes.
+use Rattle.std.specs.Prelude.{ℕ, ◌+◌, List, ◌++◌, [], ◌∷◌, length, take, drop, replicate, bit_xor}
+
+-- len bytes from a place on
+abbrev pub part : List ℕ → ℕ → ℕ → List ℕ
+part bytes at len = take len (drop at bytes)
+
+-- the bytes with others over those from a place on
+abbrev pub overwritten : List ℕ → ℕ → List ℕ → List ℕ
+overwritten bytes at others = take at bytes ++ others ++ drop (at + length others) bytes
+
+-- so many times one byte; it computes only where it is unfolded, since a page of bytes is a long list
+unfoldable pub filled : ℕ → ℕ → List ℕ
+filled len byte = replicate len byte
+
+-- the exclusive or, byte by byte, as far as both have bytes
+abbrev pub xored : List ℕ → List ℕ → List ℕ
+xored [] ys = []
+xored (x ∷ xs) [] = []
+xored (x ∷ xs) (y ∷ ys) = bit_xor x y ∷ xored xs ys
