@@ -1,6 +1,6 @@
 use Rattle.std.proofs.Common.{◌≡◌, min, take, length, sum_by, flat_map}
 use Rattle.journal_model.specs.Scheduled.{packets_in}
-use Rattle.ttm.proofs.limit.packets_of_commands.Given as goal
+use Rattle.sim_drive.proofs.limit.packets_of_commands.Given as goal
 
 abbrev pub invariant-loop-command : goal.invariant-loop-command
 invariant-loop-command l = l.n ≡ min (sum_by packets_in (take l.command-index l.commands)) 18446744073709551615

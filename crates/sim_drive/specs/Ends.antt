@@ -1,0 +1,15 @@
+-- After how many turns a run ends.
+use Rattle.std.specs.Prelude.{◌≡◌, ℕ, ◌<◌, ◌≤◌, true, false, ◌⊎◌}
+use Rattle.journal_model.specs.declared.script.Script.{Script}
+use Rattle.journal_model.specs.Complete.{is_complete}
+use Rattle.journal_model.specs.Scheduled.{scheduled}
+
+-- the journal isn't complete after any lesser number of turns
+abbrev pub NotBefore : Script → ℕ → Type 0
+NotBefore script n = (m : ℕ) → m < n → is_complete script (scheduled script m) ≡ false
+
+-- the least number of turns that makes the journal complete, or all that are allowed
+pub record EndsAfter (script : Script) (allowed n : ℕ) : Type 0 where
+  pub not_before : NotBefore script n
+  pub within : n ≤ allowed
+  pub ends : (is_complete script (scheduled script n) ≡ true) ⊎ (n ≡ allowed)
