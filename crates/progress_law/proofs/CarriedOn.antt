@@ -16,7 +16,7 @@ use Rattle.journal_model.specs.State.{has_target, target_spans, target_of}
 use Rattle.journal_model.specs.Ready.{meets, is_in_place, has_some_target}
 use Rattle.journal_model.specs.ApplyPages.{bound, unbound}
 use Rattle.progress_law.proofs.Measure.{steps_left, carries_left}
-use Rattle.progress_law.proofs.Sound.{Carried, Targeted, Fits, at_target, system_tt, system_vram, system_both, tt_system, tt_tt, tt_vram, vram_vram, vram_tt, vram_system, vram_both}
+use Rattle.progress_law.specs.Sound.{Carried, Targeted, Fits, at_target, system_tt, system_vram, system_both, tt_system, tt_tt, tt_vram, vram_vram, vram_tt, vram_system, vram_both}
 
 -- whether a buffer meets its command is read from where it stands
 meets_alike : (script : Script) (cmd : Command) (b : BufId) (x y : Buffer) → x.mem ≡ y.mem → x.spans ≡ y.spans → meets script cmd b x ≡ meets script cmd b y

@@ -19,13 +19,10 @@ use Rattle.journal_model.specs.Commands.{commands_of, command_at_work}
 use Rattle.journal_model.specs.Waits.{waited_for, named_job}
 use Rattle.journal_model.specs.DeadEnd.{can_step}
 use Rattle.journal_model.specs.Complete.{is_over, has_answered, thread_numbers}
-use Rattle.progress_law.proofs.EnginesGoOn.{WaitsGoBack, engine_goes_on, reaper_goes_on, none_waited_for, open_job}
+use Rattle.progress_law.proofs.EnginesGoOn.{engine_goes_on, reaper_goes_on, none_waited_for, open_job}
 use Rattle.progress_law.proofs.ThreadsGoOn.{Quiet}
 use Rattle.progress_law.proofs.NoDeadEnd.{Holding, some_thread_goes_on}
-use Rattle.progress_law.proofs.Sound.{Sound}
-
-abbrev SomeGoesOn : Script → State → Type 0
-SomeGoesOn script s = (who : Actor) × (can_step script s who ≡ true)
+use Rattle.progress_law.specs.Sound.{WaitsGoBack, SomeGoesOn, Sound}
 
 bool_cases : (b : Bool) → (b ≡ true) ⊎ (b ≡ false)
 bool_cases true = inl refl

@@ -12,18 +12,11 @@ use Rattle.journal_model.specs.declared.state.Ghost.{Ghost}
 use Rattle.journal_model.specs.Waits.{same_job, is_unfinished, unfinished, waited_for, named_job}
 use Rattle.journal_model.specs.Next.{next, head_of, step_of_engine, step_of_job, step_of_reaper}
 use Rattle.journal_model.specs.DeadEnd.{can_step}
+use Rattle.progress_law.specs.Sound.{WaitsGoBack, waits_for_none_of}
 
 bool_cases : (b : Bool) → (b ≡ true) ⊎ (b ≡ false)
 bool_cases true = inl refl
 bool_cases false = inr refl
-
--- no job waits for itself or for one that was emitted after it
-abbrev pub waits_for_none_of : List Job → Job → Bool
-waits_for_none_of js j = list_all (λ i. not (list_any (λ h. same_job i h.id) js)) j.waits
-
-abbrev pub WaitsGoBack : List Job → Type 0
-WaitsGoBack [] = Unit {0}
-WaitsGoBack (j ∷ js) = (waits_for_none_of (j ∷ js) j ≡ true) × WaitsGoBack js
 
 abbrev pub open_job : Job → Bool
 open_job j = not j.finished

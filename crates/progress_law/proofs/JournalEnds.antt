@@ -18,7 +18,7 @@ use Rattle.journal_model.specs.Complete.{is_over}
 use Rattle.journal_model.specs.DeadEnd.{can_step}
 use Rattle.journal_model.specs.Scheduled.{Run, run_of, stepped, appended, actor_of_turn, own_order, scheduled, scheduled_actors}
 use Rattle.progress_law.proofs.Measure.{measure}
-use Rattle.progress_law.proofs.Sound.{Sound}
+use Rattle.progress_law.specs.Sound.{Sound}
 
 -- what an entry shows changes no state
 shown_alike : (script : Script) (stores : Stores) (s z : State) (who : Actor) (k : Kind) → applied script s who (showing script stores z who k) ≡ applied script s who k

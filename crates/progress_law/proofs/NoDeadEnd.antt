@@ -17,11 +17,8 @@ use Rattle.journal_model.specs.Tasks.{first_missing, starts}
 use Rattle.journal_model.specs.Search.{is_caught}
 use Rattle.journal_model.specs.Next.{backs_off}
 use Rattle.journal_model.specs.DeadEnd.{can_step}
-use Rattle.progress_law.proofs.ThreadsGoOn.{Quiet, wants, wanted, thread_goes_on, locking_goes_on}
-
--- the thread holds the buffer, as a named one or as a victim
-abbrev pub Has : State → ℕ → BufId → Type 0
-Has s t b = (has_buffer (course s t).held b ≡ true) ⊎ (is_caught (course s t) b ≡ true)
+use Rattle.progress_law.proofs.ThreadsGoOn.{Quiet, thread_goes_on, locking_goes_on}
+use Rattle.progress_law.specs.Sound.{wants, wanted, Has}
 
 pub record Holding (script : Script) (s : State) : Type 0 where
   -- a holder's stamp is that of a thread that has the buffer

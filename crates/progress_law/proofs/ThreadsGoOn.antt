@@ -38,20 +38,12 @@ use Rattle.journal_model.specs.Search.{Step, Quest, quest, is_caught, step_of_qu
 use Rattle.journal_model.specs.PageSteps.{step_of_fill, step_without_frame, step_without_victim, step_of_empty, step_of_swap_out, step_of_give_back, once_idle, unless_waiting}
 use Rattle.journal_model.specs.Next.{next, step_of_task, step_of_act, step_of_start, step_of_lock, step_of_holder, backs_off}
 use Rattle.journal_model.specs.DeadEnd.{can_step}
+use Rattle.progress_law.specs.Sound.{wants, wanted}
 
 -- all jobs are done and all ghosts are gone
 pub record Quiet (s : State) : Type 0 where
   pub jobs : (is : List JobId) → waited_for s.core is ≡ None
   pub ghosts : s.core.ghosts ≡ []
-
--- what a command waits for, if it waits for a holder
-abbrev pub wanted : (made began : Bool) → Option BufId → Option BufId
-wanted true began m = None
-wanted false true m = None
-wanted false false m = m
-
-abbrev pub wants : Course → Command → Option BufId
-wants c cmd = wanted c.made (starts c cmd) (first_missing c cmd)
 
 module _ (script : Script) (s : State) (quiet : Quiet s) where
   no_ghost_in : (place : Place) → ghost_in script s place ≡ None
