@@ -1,10 +1,9 @@
 -- What holds in every state that a legal journal reaches, as far as endings need it.
-use Rattle.std.proofs.Common.{◌≡◌, ℕ, ◌<◌, ◌≤◌, Bool, true, false, List, [], ◌∷◌, ◌++◌, Option, Some, None, ◌⊎◌, IsTrue}
-use Rattle.std.specs.Prelude.{Contains, map, length, slice_get, unwrap_or, is_some, not, ◌&&◌}
+use Rattle.std.proofs.Common.{◌≡◌, ℕ, ◌<◌, ◌≤◌, Bool, true, false, List, [], ◌∷◌, ◌++◌, Option, Some, None, ◌⊎◌}
+use Rattle.std.specs.Prelude.{Contains, map, length, slice_get, unwrap_or, not, ◌&&◌}
 use Rattle.std.specs.List.{list_any, list_all}
 use Rattle.ttm_base.specs.declared.Mem.{Mem}
 use Rattle.ttm_base.specs.declared.Mem.TheVariants.{System, Tt, Vram}
-use Rattle.ttm_base.specs.declared.Span.{Span}
 use Rattle.ttm_base.specs.declared.BufId.{BufId}
 use Rattle.ttm_base.specs.declared.Stamp.{Stamp}
 use Rattle.ttm_base.specs.declared.Deny.{Deny}
@@ -14,13 +13,12 @@ use Rattle.journal_model.specs.declared.state.State.{State}
 use Rattle.journal_model.specs.declared.state.Buffer.{Buffer}
 use Rattle.journal_model.specs.declared.state.Course.{Course}
 use Rattle.journal_model.specs.declared.state.Victim.{Victim}
-use Rattle.journal_model.specs.declared.state.Targets.{Targets}
 use Rattle.journal_model.specs.declared.state.Job.{Job}
 use Rattle.journal_model.specs.declared.entry.Why.{Why}
 use Rattle.journal_model.specs.declared.entry.Why.TheVariants as why
 use Rattle.journal_model.specs.declared.script.Command.{Command}
 use Rattle.journal_model.specs.declared.script.Command.TheVariants as command
-use Rattle.journal_model.specs.State.{buffer, grip, live_in, course, has_buffer, has_target, target_of, no_targets}
+use Rattle.journal_model.specs.State.{buffer, grip, live_in, course, has_buffer, has_target, target_of}
 use Rattle.journal_model.specs.Commands.{commands_of, command_at_work, named, decl, asked_places}
 use Rattle.ttm_base.specs.Placement.{forced_places}
 use Rattle.journal_model.specs.Waits.{same_job, jobs_before_write}
