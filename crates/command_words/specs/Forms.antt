@@ -1,9 +1,9 @@
 -- The words that the program knows.
-use Rattle.std.specs.Prelude.{ℕ, List, [], ◌∷◌, Option, Some, None, option_map, bytes_eq, codes, ◌&&◌, if◌then◌else◌}
+use Rattle.std.specs.Prelude.{List, [], ◌∷◌, Option, Some, None, option_map, bytes_eq, codes, ◌&&◌, if◌then◌else◌}
 use Rattle.journal_model.specs.Words.{Text}
 use Rattle.journal_model.specs.Reading.{number_in}
-use Rattle.ttm.specs.declared.forms.Form.{Form}
-use Rattle.ttm.specs.declared.forms.Form.TheVariants as form
+use Rattle.command_words.specs.declared.Form.{Form}
+use Rattle.command_words.specs.declared.Form.TheVariants as form
 
 -- one word alone
 abbrev pub form_of_word : Text → Option Form

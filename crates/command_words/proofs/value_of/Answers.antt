@@ -1,6 +1,6 @@
 use Rattle.std.proofs.Common.{◌<◌, length, arith}
-use Rattle.ttm.proofs.Numbers.{capped_step}
-use Rattle.ttm.proofs.forms.value_of.Goals as goal
+use Rattle.command_words.proofs.Numbers.{capped_step}
+use Rattle.command_words.proofs.value_of.Goals as goal
 
 pub loop-c-preserved : goal.loop-c-preserved
 loop-c-preserved c =

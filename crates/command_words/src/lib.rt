@@ -1,8 +1,9 @@
-//! The words after the program's name.
+//! The words after the program's name: what they ask for.
+#![tactic(auto)]
 
 ghost use Rattle.std.specs.Prelude.{◌≡◌, ◌++◌, ◌∷◌, [], ◌+◌, ◌*◌, ◌-◌, ◌==◌, min, OnOk, OnErr, bytes_eq, string_bytes};
 ghost use Rattle.journal_model.specs.Reading.{number_in, read_on};
-ghost use Rattle.ttm.specs.Forms.{form_of, form_of_word};
+ghost use Rattle.command_words.specs.Forms.{form_of, form_of_word};
 
 use journal_model::Bytes;
 use script_words::words::{is, is_plain_number, owned};
@@ -116,3 +117,6 @@ pub fn read_words(words: &Words) -> Option<Form>
         _ => None,
     }
 }
+
+#[cfg(test)]
+mod tests;

@@ -1,8 +1,0 @@
-#![tactic(auto)]
-
-mod forms;
-mod limit;
-
-fn main(rt: HostRuntime) -> anyhow::Result<()> {
-    Ok(())
-}
