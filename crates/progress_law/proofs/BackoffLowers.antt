@@ -1,6 +1,6 @@
 -- The number of the threads that aren't held back, its digits by age, falls at a backoff.
-use Rattle.std.proofs.Common.{◌≡◌, ℕ, ◌+◌, ◌≤◌, ◌<◌, Bool, true, false, List, [], ◌∷◌, length, refl, arith}
-use Rattle.std.specs.Prelude.{zero, suc, if◌then◌else◌}
+use Rattle.std.proofs.Common.{ℕ, ◌+◌, ◌≤◌, ◌<◌, Bool, true, false, List, [], ◌∷◌, length, arith}
+use Rattle.std.specs.Prelude.{zero, suc}
 use Rattle.progress_law.proofs.Measure.{binary, one_if}
 
 -- no digit of the second rises

@@ -1,22 +1,18 @@
 -- Carrying a named buffer: each step brings it nearer to its place.
-use Rattle.std.proofs.Common.{◌≡◌, subst, ℕ, ◌<◌, ◌≤◌, ◌+◌, ◌*◌, zero, suc, Bool, true, false, List, [], ◌∷◌, Option, Some, None, refl, sym, ◌∙◌, ap, ap₂, arith, ◌⊎◌, inl, inr, ⊎_elim}
+use Rattle.std.proofs.Common.{◌≡◌, ℕ, ◌≤◌, ◌+◌, ◌*◌, zero, suc, true, false, None, refl, ◌∙◌, arith}
 use Rattle.std.proofs.lemmas.Grind.{common_steps}
-use Rattle.std.specs.Prelude.{◌&&◌, ◌||◌, not, if◌then◌else◌, unwrap_or}
-use Rattle.ttm_base.specs.declared.Mem.{Mem}
-use Rattle.ttm_base.specs.declared.Mem.TheVariants.{System, Tt, Vram}
+use Rattle.ttm_base.specs.declared.Mem.TheVariants.{System, Tt}
 use Rattle.ttm_base.specs.declared.BufId.{BufId}
-use Rattle.ttm_base.specs.declared.Deny.{Deny}
 use Rattle.journal_model.specs.declared.script.Script.{Script}
 use Rattle.journal_model.specs.declared.state.Course.{Course}
 use Rattle.journal_model.specs.declared.state.Buffer.{Buffer}
-use Rattle.journal_model.specs.declared.state.Targets.{Targets}
 use Rattle.journal_model.specs.declared.script.Command.{Command}
 use Rattle.journal_model.specs.declared.script.Command.TheVariants as command
-use Rattle.journal_model.specs.State.{has_target, target_spans, target_of}
-use Rattle.journal_model.specs.Ready.{meets, is_in_place, has_some_target}
-use Rattle.journal_model.specs.ApplyPages.{bound, unbound}
+use Rattle.journal_model.specs.State.{has_target}
+use Rattle.journal_model.specs.Ready.{meets, has_some_target}
+use Rattle.journal_model.specs.ApplyPages.{bound}
 use Rattle.progress_law.proofs.Measure.{steps_left, carries_left}
-use Rattle.progress_law.proofs.Sound.{Carried, Targeted, Fits, at_target, system_tt, system_vram, system_both, tt_system, tt_tt, tt_vram, vram_vram, vram_tt, vram_system, vram_both}
+use Rattle.progress_law.specs.Sound.{Carried, Fits, at_target, system_tt, system_vram, system_both, tt_system, tt_tt, tt_vram, vram_vram, vram_tt, vram_system, vram_both}
 
 -- whether a buffer meets its command is read from where it stands
 meets_alike : (script : Script) (cmd : Command) (b : BufId) (x y : Buffer) → x.mem ≡ y.mem → x.spans ≡ y.spans → meets script cmd b x ≡ meets script cmd b y

@@ -1,13 +1,11 @@
 -- Where the journal isn't over some actor has an entry.
-use Rattle.std.proofs.Common.{◌≡◌, subst, ℕ, ◌<◌, ◌≤◌, ◌+◌, zero, suc, Bool, true, false, List, [], ◌∷◌, Option, Some, None, refl, sym, ◌∙◌, ap, arith, ◌⊎◌, inl, inr, ⊎_elim}
+use Rattle.std.proofs.Common.{◌≡◌, ℕ, ◌<◌, ◌≤◌, ◌+◌, zero, suc, Bool, true, false, List, [], ◌∷◌, Some, refl, ap, arith, ◌⊎◌, inl, inr, ⊎_elim}
 use Rattle.std.proofs.lemmas.Grind.{common_steps}
 use Rattle.std.proofs.lemmas.Bool.Decides.{nat_tests}
-use Rattle.std.specs.Prelude.{◌-◌, ◌&&◌, ◌==◌, not, find, slice_get, length, option_and_then}
+use Rattle.std.specs.Prelude.{◌-◌, ◌&&◌, ◌==◌, find, slice_get, length}
 use Rattle.std.specs.List.{list_all}
 use Rattle.ttm_base.specs.ListWords.{count_from}
 use Rattle.journal_model.specs.declared.state.Course.{Course}
-use Rattle.ttm_base.specs.declared.JobId.{JobId}
-use Rattle.ttm_base.specs.declared.Actor.{Actor}
 use Rattle.ttm_base.specs.declared.Actor.TheVariants as actor
 use Rattle.journal_model.specs.declared.script.Script.{Script}
 use Rattle.journal_model.specs.declared.state.State.{State}
@@ -16,16 +14,12 @@ use Rattle.journal_model.specs.declared.state.Ghost.{Ghost}
 use Rattle.journal_model.specs.declared.script.Command.{Command}
 use Rattle.journal_model.specs.State.{course, course_of}
 use Rattle.journal_model.specs.Commands.{commands_of, command_at_work}
-use Rattle.journal_model.specs.Waits.{waited_for, named_job}
-use Rattle.journal_model.specs.DeadEnd.{can_step}
+use Rattle.journal_model.specs.Waits.{named_job}
 use Rattle.journal_model.specs.Complete.{is_over, has_answered, thread_numbers}
-use Rattle.progress_law.proofs.EnginesGoOn.{WaitsGoBack, engine_goes_on, reaper_goes_on, none_waited_for, open_job}
+use Rattle.progress_law.proofs.EnginesGoOn.{engine_goes_on, reaper_goes_on, none_waited_for, open_job}
 use Rattle.progress_law.proofs.ThreadsGoOn.{Quiet}
 use Rattle.progress_law.proofs.NoDeadEnd.{Holding, some_thread_goes_on}
-use Rattle.progress_law.proofs.Sound.{Sound}
-
-abbrev SomeGoesOn : Script → State → Type 0
-SomeGoesOn script s = (who : Actor) × (can_step script s who ≡ true)
+use Rattle.progress_law.specs.Sound.{SomeGoesOn, Sound}
 
 bool_cases : (b : Bool) → (b ≡ true) ⊎ (b ≡ false)
 bool_cases true = inl refl

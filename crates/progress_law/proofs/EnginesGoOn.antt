@@ -1,7 +1,7 @@
 -- While a job is unfinished some engine has an entry, and while there is a ghost beside finished jobs the reaper has one.
-use Rattle.std.proofs.Common.{◌≡◌, ℕ, Bool, true, false, List, [], ◌∷◌, Option, Some, None, refl, sym, ◌∙◌, ap, arith, ◌⊎◌, inl, inr, ⊎_elim}
+use Rattle.std.proofs.Common.{◌≡◌, Bool, true, false, List, [], ◌∷◌, Some, None, refl, sym, ◌∙◌, ap, arith, ◌⊎◌, inl, inr, ⊎_elim}
 use Rattle.std.proofs.lemmas.Grind.{common_steps}
-use Rattle.std.specs.Prelude.{◌==◌, ◌&&◌, not, find, filter, slice_get, is_ok, nat_lt, length}
+use Rattle.std.specs.Prelude.{◌==◌, ◌&&◌, not, find, filter, slice_get}
 use Rattle.std.specs.List.{list_any, list_all}
 use Rattle.ttm_base.specs.declared.JobId.{JobId}
 use Rattle.ttm_base.specs.declared.Actor.TheVariants as actor
@@ -10,20 +10,13 @@ use Rattle.journal_model.specs.declared.state.State.{State}
 use Rattle.journal_model.specs.declared.state.Job.{Job}
 use Rattle.journal_model.specs.declared.state.Ghost.{Ghost}
 use Rattle.journal_model.specs.Waits.{same_job, is_unfinished, unfinished, waited_for, named_job}
-use Rattle.journal_model.specs.Next.{next, head_of, step_of_engine, step_of_job, step_of_reaper}
+use Rattle.journal_model.specs.Next.{head_of}
 use Rattle.journal_model.specs.DeadEnd.{can_step}
+use Rattle.progress_law.specs.Sound.{WaitsGoBack}
 
 bool_cases : (b : Bool) → (b ≡ true) ⊎ (b ≡ false)
 bool_cases true = inl refl
 bool_cases false = inr refl
-
--- no job waits for itself or for one that was emitted after it
-abbrev pub waits_for_none_of : List Job → Job → Bool
-waits_for_none_of js j = list_all (λ i. not (list_any (λ h. same_job i h.id) js)) j.waits
-
-abbrev pub WaitsGoBack : List Job → Type 0
-WaitsGoBack [] = Unit {0}
-WaitsGoBack (j ∷ js) = (waits_for_none_of (j ∷ js) j ≡ true) × WaitsGoBack js
 
 abbrev pub open_job : Job → Bool
 open_job j = not j.finished
@@ -73,7 +66,7 @@ first_waits_for_none (h ∷ js) j w e =
     let none : list_all (λ i. not (list_any (λ k. same_job i k.id) (h ∷ js))) h.waits ≡ true = w.0 in
     ap (λ k. filter (λ i. list_any (names_open i) (h ∷ js)) k.waits) (sym it)
     ∙ none_open h.waits (λ i. list_any (names_open i) (h ∷ js))
-        (all_weaker h.waits (λ i. list_any (λ k. same_job i k.id) (h ∷ js)) (λ i. list_any (names_open i) (h ∷ js)) (λ i. names_less i (h ∷ js)) none))
+    (all_weaker h.waits (λ i. list_any (λ k. same_job i k.id) (h ∷ js)) (λ i. list_any (names_open i) (h ∷ js)) (λ i. names_less i (h ∷ js)) none))
     (bool_cases h.finished)
   where
     filter_same : (p q : JobId → Bool) (is : List JobId) → ((i : JobId) → p i ≡ q i) → filter p is ≡ filter q is

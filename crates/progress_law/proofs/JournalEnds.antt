@@ -1,7 +1,5 @@
 -- A legal journal has at most as many entries as the measure of the first state says, and the simulator's own schedule ends.
-use Rattle.std.proofs.Common.{◌≡◌, subst, ℕ, ◌<◌, ◌≤◌, ◌+◌, zero, suc, Bool, true, false, List, [], ◌∷◌, ◌++◌, Option, Some, None, Result, Ok, Err, refl, sym, ◌∙◌, ap, ap₂, arith, ◌⊎◌, inl, inr, ⊎_elim}
-use Rattle.std.proofs.lemmas.Grind.{common_steps}
-use Rattle.std.proofs.lemmas.Bool.Decides.{nat_tests}
+use Rattle.std.proofs.Common.{◌≡◌, subst, ℕ, ◌<◌, ◌≤◌, ◌+◌, zero, suc, Bool, true, false, List, [], ◌∷◌, Option, Some, None, Result, Ok, Err, refl, sym, ◌∙◌, ap, arith, ◌⊎◌, inl, inr, ⊎_elim}
 use Rattle.std.specs.Prelude.{length, find, slice_get, is_ok}
 use Rattle.ttm_base.specs.declared.Actor.{Actor}
 use Rattle.ttm_base.specs.declared.Need.{Need}
@@ -13,12 +11,12 @@ use Rattle.journal_model.specs.declared.entry.Kind.TheVariants as kind
 use Rattle.journal_model.specs.Next.{next}
 use Rattle.journal_model.specs.Apply.{applied}
 use Rattle.journal_model.specs.Stores.{Stores, showing}
-use Rattle.journal_model.specs.Legal.{World, first_world, first_state, world_after, world_along, world_of, state_of, shown_step, IsLegalNext, IsLegalFrom, IsLegal}
+use Rattle.journal_model.specs.Legal.{World, first_world, first_state, world_after, world_along, state_of, shown_step, IsLegalNext, IsLegalFrom, IsLegal}
 use Rattle.journal_model.specs.Complete.{is_over}
 use Rattle.journal_model.specs.DeadEnd.{can_step}
-use Rattle.journal_model.specs.Scheduled.{Run, run_of, stepped, appended, actor_of_turn, own_order, scheduled, scheduled_actors}
+use Rattle.journal_model.specs.Scheduled.{Run, run_of, stepped, appended, actor_of_turn, own_order, scheduled_actors}
 use Rattle.progress_law.proofs.Measure.{measure}
-use Rattle.progress_law.proofs.Sound.{Sound}
+use Rattle.progress_law.specs.Sound.{Sound}
 
 -- what an entry shows changes no state
 shown_alike : (script : Script) (stores : Stores) (s z : State) (who : Actor) (k : Kind) → applied script s who (showing script stores z who k) ≡ applied script s who k
@@ -66,9 +64,10 @@ module _ (script : Script)
   pub next_falls : (w : World) (e : Entry) → Sound script w.state → IsLegalNext script w e →
       Sound script (world_after script w e).state × (measure script (world_after script w e).state + 1 ≤ measure script w.state)
   next_falls w e sound h =
-      let k = legal_kind w e h in
-      ( subst (Sound script) (sym k.2) (keeps w.state e.who k.0 sound k.1)
-      , subst (λ s. measure script s + 1 ≤ measure script w.state) (sym k.2) (falls w.state e.who k.0 sound k.1))
+      let k = legal_kind w e h in (
+        subst (Sound script) (sym k.2) (keeps w.state e.who k.0 sound k.1),
+        subst (λ s. measure script s + 1 ≤ measure script w.state) (sym k.2) (falls w.state e.who k.0 sound k.1),
+      )
 
   pub ends_from : (w : World) (es : List Entry) → Sound script w.state → IsLegalFrom script w es → length es + measure script (world_along script w es).state ≤ measure script w.state
   ends_from w [] sound h = omega arith
@@ -100,9 +99,10 @@ module _ (script : Script)
           Sound script (appended script r (shown_step script r.world who step)).world.state × (measure script (appended script r (shown_step script r.world who step)).world.state ≤ measure script r.world.state)
       by_step (Ok k) n =
           let same : applied script r.world.state who (showing script r.world.stores r.world.state who k) ≡ applied script r.world.state who k = shown_alike script r.world.stores r.world.state r.world.state who k in
-          let less : measure script (applied script r.world.state who k) + 1 ≤ measure script r.world.state = falls r.world.state who k sound n in
-          ( subst (Sound script) (sym same) (keeps r.world.state who k sound n)
-          , subst (λ s. measure script s ≤ measure script r.world.state) (sym same) (omega arith))
+          let less : measure script (applied script r.world.state who k) + 1 ≤ measure script r.world.state = falls r.world.state who k sound n in (
+            subst (Sound script) (sym same) (keeps r.world.state who k sound n),
+            subst (λ s. measure script s ≤ measure script r.world.state) (sym same) (omega arith),
+          )
       by_step (Err need) n = (sound, omega arith)
 
   -- and one that makes an entry lowers it

@@ -1,7 +1,6 @@
 pub mod EnginesGoOn
 pub mod ThreadsGoOn
 pub mod NoDeadEnd
-pub mod Sound
 pub mod DeadEnds
 pub mod Measure
 pub mod OthersSame

@@ -1,8 +1,7 @@
 -- A number that each legal entry lowers, so that journals end.
-use Rattle.std.specs.Prelude.{ℕ, zero, suc, ◌+◌, ◌-◌, ◌*◌, Bool, true, false, List, [], ◌∷◌, Option, Some, None, ◌==◌, ◌&&◌, ◌||◌, not, nat_lt, nat_le, filter_map, map, drop, length, sum_by, count_by, is_none, is_some, option_and_then, if◌then◌else◌}
+use Rattle.std.specs.Prelude.{ℕ, ◌+◌, ◌-◌, ◌*◌, Bool, true, false, List, [], ◌∷◌, Option, Some, None, ◌==◌, ◌&&◌, ◌||◌, not, nat_lt, nat_le, filter_map, map, drop, length, sum_by, count_by, is_none, is_some, if◌then◌else◌}
 use Rattle.std.specs.List.{list_any, enumerate_from}
-use Rattle.ttm_base.specs.ListWords.{count_from, last_of}
-use Rattle.ttm_base.specs.declared.Mem.{Mem}
+use Rattle.ttm_base.specs.ListWords.{last_of}
 use Rattle.ttm_base.specs.declared.Mem.TheVariants.{System, Tt, Vram}
 use Rattle.ttm_base.specs.declared.BufId.{BufId}
 use Rattle.ttm_base.specs.declared.Stamp.{Stamp}
@@ -13,7 +12,6 @@ use Rattle.ttm_base.specs.Cutting.{pieces_of}
 use Rattle.journal_model.specs.declared.script.Script.{Script}
 use Rattle.journal_model.specs.declared.state.Course.{Course}
 use Rattle.journal_model.specs.declared.state.Victim.{Victim}
-use Rattle.journal_model.specs.declared.entry.Why.{Why}
 use Rattle.journal_model.specs.declared.entry.Why.TheVariants as why
 use Rattle.journal_model.specs.declared.script.Command.{Command}
 use Rattle.journal_model.specs.declared.script.Command.TheVariants as command
@@ -23,7 +21,7 @@ use Rattle.journal_model.specs.declared.state.Job.{Job}
 use Rattle.journal_model.specs.State.{buffer, grip, course, has_buffer, same_buffer, has_target}
 use Rattle.journal_model.specs.Commands.{commands_of, command_at_work, named}
 use Rattle.journal_model.specs.Places.{is_frame}
-use Rattle.journal_model.specs.Holds.{live_buffers, free_slot}
+use Rattle.journal_model.specs.Holds.{free_slot}
 use Rattle.journal_model.specs.Dry.{has_frame}
 use Rattle.journal_model.specs.Ready.{has_some_target, is_in_place}
 use Rattle.journal_model.specs.Tasks.{first_missing}

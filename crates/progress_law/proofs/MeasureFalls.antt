@@ -1,8 +1,7 @@
 -- Entries lower the measure: those of the engines and of the reaper, and sums.
-use Rattle.std.proofs.Common.{◌≡◌, subst, ℕ, ◌<◌, ◌≤◌, ◌+◌, ◌-◌, zero, suc, Bool, true, false, List, [], ◌∷◌, ◌++◌, Option, Some, None, refl, sym, ◌∙◌, ap, arith, ◌⊎◌, inl, inr, ⊎_elim}
-use Rattle.std.proofs.lemmas.Grind.{common_steps}
+use Rattle.std.proofs.Common.{◌≡◌, subst, ℕ, ◌<◌, ◌≤◌, ◌+◌, zero, suc, Bool, true, false, List, [], ◌∷◌, Some, refl, sym, ◌∙◌, ap, arith, ◌⊎◌, inl, inr, ⊎_elim}
 use Rattle.std.proofs.lemmas.Bool.Decides.{nat_tests}
-use Rattle.std.specs.Prelude.{if◌then◌else◌, ◌&&◌, ◌==◌, not, nat_lt, find, filter, map, sum_by, slice_get, slice_set, length}
+use Rattle.std.specs.Prelude.{if◌then◌else◌, ◌&&◌, ◌==◌, not, nat_lt, find, filter, sum_by, slice_get, slice_set, length}
 use Rattle.std.proofs.lemmas.List.Sums.{sum_by-cons}
 use Rattle.ttm_base.specs.ListWords.{count_from}
 use Rattle.ttm_base.specs.declared.JobId.{JobId}
@@ -43,7 +42,7 @@ sum_but_one f g t k (suc n) from low high others mine =
     (λ there.
     let it : f from ≤ g from = others from there in
     let rest : sum_by f (count_from 1 n (1 + from)) + k ≤ sum_by g (count_from 1 n (1 + from)) =
-        sum_but_one f g t k n (1 + from) (let ne : from ≡ t → ⊥ = there in grind arith) (omega arith) others mine in
+    sum_but_one f g t k n (1 + from) (let ne : from ≡ t → ⊥ = there in grind arith) (omega arith) others mine in
     omega (arith, sum_by-cons f from (count_from 1 n (1 + from)), sum_by-cons g from (count_from 1 n (1 + from))))
     (same_or_not from t)
   where
@@ -139,7 +138,7 @@ pub packet_lowers : (script : Script) (s : State) (e : ℕ) (j : Job) → head_o
     measure script (after_packet_run s j.id) + 1 ≤ measure script s
 packet_lowers script s e j head left undone =
     let h : sum_by job_left (changed_job (λ j. record j { ran = j.ran + 1 }) j.id s.core.jobs) + 1 ≤ sum_by job_left s.core.jobs =
-        changed_less (λ j. record j { ran = j.ran + 1 }) (λ j. (j.id.ctx == e) && not j.finished) s.core.jobs j head less mine in
+    changed_less (λ j. record j { ran = j.ran + 1 }) (λ j. (j.id.ctx == e) && not j.finished) s.core.jobs j head less mine in
     omega arith
   where
     less : (h : Job) → job_left (record h { ran = h.ran + 1 }) ≤ job_left h
@@ -151,7 +150,7 @@ packet_lowers script s e j head left undone =
 pub done_lowers : (script : Script) (s : State) (e : ℕ) (j : Job) → head_of s e ≡ Some j → j.finished ≡ false → measure script (after_done s j.id) + 1 ≤ measure script s
 done_lowers script s e j head undone =
     let h : sum_by job_left (changed_job (λ j. record j { finished = true }) j.id s.core.jobs) + 1 ≤ sum_by job_left s.core.jobs =
-        changed_less (λ j. record j { finished = true }) (λ j. (j.id.ctx == e) && not j.finished) s.core.jobs j head (λ h. omega arith) mine in
+    changed_less (λ j. record j { finished = true }) (λ j. (j.id.ctx == e) && not j.finished) s.core.jobs j head (λ h. omega arith) mine in
     omega arith
   where
     mine : job_left (record j { finished = true }) + 1 ≤ job_left j

@@ -2,8 +2,7 @@
 use Rattle.std.proofs.Common.{◌≡◌, subst, ℕ, ◌<◌, ◌≤◌, ◌+◌, zero, suc, Bool, true, false, List, [], ◌∷◌, Option, Some, None, refl, sym, ◌∙◌, ap, arith, ◌⊎◌, inl, inr, ⊎_elim}
 use Rattle.std.proofs.lemmas.Grind.{common_steps}
 use Rattle.std.proofs.lemmas.Bool.Decides.{nat_tests}
-use Rattle.std.specs.Prelude.{◌&&◌, ◌++◌, not, find, nat_lt, length, option_to_list}
-use Rattle.std.specs.List.{list_any}
+use Rattle.std.specs.Prelude.{◌++◌, not, find, nat_lt, length, option_to_list}
 use Rattle.ttm_base.specs.declared.BufId.{BufId}
 use Rattle.ttm_base.specs.declared.Stamp.{Stamp}
 use Rattle.ttm_base.specs.declared.Actor.TheVariants as actor
@@ -11,17 +10,14 @@ use Rattle.journal_model.specs.declared.script.Script.{Script}
 use Rattle.journal_model.specs.declared.state.State.{State}
 use Rattle.journal_model.specs.declared.state.Course.{Course}
 use Rattle.journal_model.specs.declared.script.Command.{Command}
-use Rattle.journal_model.specs.State.{course, grip, has_buffer, same_buffer}
+use Rattle.journal_model.specs.State.{course, grip, has_buffer}
 use Rattle.journal_model.specs.Commands.{command_at_work, named}
 use Rattle.journal_model.specs.Tasks.{first_missing, starts}
 use Rattle.journal_model.specs.Search.{is_caught}
 use Rattle.journal_model.specs.Next.{backs_off}
 use Rattle.journal_model.specs.DeadEnd.{can_step}
-use Rattle.progress_law.proofs.ThreadsGoOn.{Quiet, wants, wanted, thread_goes_on, locking_goes_on}
-
--- the thread holds the buffer, as a named one or as a victim
-abbrev pub Has : State → ℕ → BufId → Type 0
-Has s t b = (has_buffer (course s t).held b ≡ true) ⊎ (is_caught (course s t) b ≡ true)
+use Rattle.progress_law.proofs.ThreadsGoOn.{Quiet, thread_goes_on, locking_goes_on}
+use Rattle.progress_law.specs.Sound.{wants, wanted, Has}
 
 pub record Holding (script : Script) (s : State) : Type 0 where
   -- a holder's stamp is that of a thread that has the buffer

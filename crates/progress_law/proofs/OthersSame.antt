@@ -1,6 +1,5 @@
 -- What a thread may still cost reads no buffers but those that it has, once it works.
-use Rattle.std.proofs.Common.{◌≡◌, subst, ℕ, ◌<◌, ◌≤◌, ◌+◌, ◌*◌, zero, suc, Bool, true, false, List, [], ◌∷◌, ◌++◌, Option, Some, None, refl, sym, ◌∙◌, ap, ap₂, arith, ◌⊎◌, inl, inr, ⊎_elim}
-use Rattle.std.proofs.lemmas.Grind.{common_steps}
+use Rattle.std.proofs.Common.{◌≡◌, ℕ, ◌+◌, ◌*◌, Bool, true, false, List, [], ◌∷◌, Option, Some, None, refl, sym, ◌∙◌, ap, ap₂, arith}
 use Rattle.std.proofs.lemmas.Bool.Decides.{nat_tests}
 use Rattle.std.proofs.lemmas.List.Sums.{sum_by-cons}
 use Rattle.std.specs.Prelude.{if◌then◌else◌, ◌-◌, ◌||◌, map, sum_by, is_none, unwrap_or, option_and_then, length, slice_get}
@@ -12,11 +11,10 @@ use Rattle.journal_model.specs.declared.script.Script.{Script}
 use Rattle.journal_model.specs.declared.state.State.{State}
 use Rattle.journal_model.specs.declared.script.Decl.{Decl}
 use Rattle.journal_model.specs.declared.state.Course.{Course}
-use Rattle.journal_model.specs.declared.state.Buffer.{Buffer}
 use Rattle.journal_model.specs.declared.state.Victim.{Victim}
 use Rattle.journal_model.specs.declared.script.Command.{Command}
-use Rattle.journal_model.specs.State.{new_course, buffer, course, course_of, has_buffer, same_buffer}
-use Rattle.journal_model.specs.Commands.{named, command_at_work, commands_of}
+use Rattle.journal_model.specs.State.{new_course, buffer, course_of, has_buffer, same_buffer}
+use Rattle.journal_model.specs.Commands.{named, commands_of}
 use Rattle.journal_model.specs.Search.{is_caught}
 use Rattle.journal_model.specs.Tasks.{first_missing}
 use Rattle.progress_law.proofs.Measure.{thread_left, command_left, held_left, search_left, search_share, named_left, if_named, not_skipped, victim_left, to_give_back, packet_count, room_for_victims, whole_command, locking_left, later_commands, steps_left, slots_to_fill}
@@ -46,7 +44,7 @@ victims_same s s' [] h = refl
 victims_same s s' (v ∷ vs) h =
     let first : has_buffer (map (λ v. v.b) (v ∷ vs)) v.b ≡ true = (let t : same_buffer v.b v.b ≡ true = same_self v.b in grind arith) in
     let rest : sum_by (λ v. victim_left (buffer s' v.b) v) vs ≡ sum_by (λ v. victim_left (buffer s v.b) v) vs =
-        victims_same s s' vs (λ b k. h b (grind arith)) in
+    victims_same s s' vs (λ b k. h b (grind arith)) in
     sum_by-cons (λ v. victim_left (buffer s' v.b) v) v vs
     ∙ ap₂ (λ a b. a + b) (ap (λ x. victim_left x v) (h v.b first)) rest
     ∙ sym (sum_by-cons (λ v. victim_left (buffer s v.b) v) v vs)
@@ -60,9 +58,9 @@ or_second a b e = grind arith
 search_same : (script : Script) (s s' : State) (c : Course) (cmd : Command) → SameHad s s' c cmd → search_left script s' c cmd ≡ search_left script s c cmd
 search_same script s s' c cmd same =
     let v : sum_by (λ v. victim_left (buffer s' v.b) v) c.caught ≡ sum_by (λ v. victim_left (buffer s v.b) v) c.caught =
-        victims_same s s' c.caught (λ b k. same b (or_second (has_buffer (named cmd) b) (is_caught c b) k)) in
+    victims_same s s' c.caught (λ b k. same b (or_second (has_buffer (named cmd) b) (is_caught c b) k)) in
     let n : sum_by (search_share script s' c cmd) (enumerate_from 0 script.buffers) ≡ sum_by (search_share script s c cmd) (enumerate_from 0 script.buffers) =
-        sum_same (search_share script s' c cmd) (search_share script s c cmd) (enumerate_from 0 script.buffers) (λ e. share e) in
+    sum_same (search_share script s' c cmd) (search_share script s c cmd) (enumerate_from 0 script.buffers) (λ e. share e) in
     ap₂ (λ a b. 4194320 + (8 - c.dry) + 3 * room_for_victims (last_of c.caught) + a + b) v n
   where
     share : (e : ℕ × Decl) → search_share script s' c cmd e ≡ search_share script s c cmd e

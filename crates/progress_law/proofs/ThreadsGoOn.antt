@@ -1,8 +1,7 @@
 -- Where every job is finished and there is no ghost, a thread at a command has an entry, unless it waits for a holder.
-use Rattle.std.proofs.Common.{◌≡◌, subst, Err, ℕ, ◌<◌, ◌≤◌, ◌+◌, zero, suc, Bool, true, false, List, [], ◌∷◌, Option, Some, None, refl, sym, ◌∙◌, ap, arith, ◌⊎◌, inl, inr, ⊎_elim}
+use Rattle.std.proofs.Common.{◌≡◌, subst, Err, ℕ, Bool, true, false, List, [], Option, Some, None, refl, sym, arith}
 use Rattle.std.proofs.lemmas.Grind.{common_steps}
-use Rattle.std.specs.Prelude.{◌==◌, ◌&&◌, ◌||◌, Ok, not, find, filter, slice_get, is_ok, is_none, is_some, nat_lt, length}
-use Rattle.std.specs.List.{list_any, list_all}
+use Rattle.std.specs.Prelude.{Ok, is_ok}
 use Rattle.ttm_base.specs.declared.Mem.{Mem}
 use Rattle.ttm_base.specs.declared.Mem.TheVariants.{System, Tt, Vram}
 use Rattle.ttm_base.specs.declared.Deny.{Deny}
@@ -27,31 +26,22 @@ use Rattle.journal_model.specs.declared.script.Command.{Command}
 use Rattle.journal_model.specs.declared.script.Command.TheVariants as command
 use Rattle.journal_model.specs.declared.state.Task.{Task}
 use Rattle.journal_model.specs.declared.state.Task.TheVariants as task
-use Rattle.journal_model.specs.declared.state.Aim.TheVariants.{Asked, Hop}
-use Rattle.journal_model.specs.State.{course, buffer, grip, is_live, has_buffer}
-use Rattle.journal_model.specs.Commands.{command_at_work, named}
-use Rattle.journal_model.specs.Waits.{waited_for, jobs_before_write, jobs_before_read, named_job}
+use Rattle.journal_model.specs.State.{course, buffer, grip, is_live}
+use Rattle.journal_model.specs.Commands.{command_at_work}
+use Rattle.journal_model.specs.Waits.{waited_for, jobs_before_write, jobs_before_read}
 use Rattle.journal_model.specs.Dry.{ghost_in, ghost_with_frame}
 use Rattle.journal_model.specs.Ready.{is_in_place, first_unready}
-use Rattle.journal_model.specs.Tasks.{carried, task_of_misplaced, task_of_unready, task_of_failed, gives_back, forbidden, task_of, task_of_command, task_of_held, task_of_victim, task_in_vram, first_missing, starts}
-use Rattle.journal_model.specs.Search.{Step, Quest, quest, is_caught, step_of_quest, step_of_forced, step_of_forced_place, step_of_crowded}
-use Rattle.journal_model.specs.PageSteps.{step_of_fill, step_without_frame, step_without_victim, step_of_empty, step_of_swap_out, step_of_give_back, once_idle, unless_waiting}
-use Rattle.journal_model.specs.Next.{next, step_of_task, step_of_act, step_of_start, step_of_lock, step_of_holder, backs_off}
+use Rattle.journal_model.specs.Tasks.{carried, task_of_misplaced, task_of_unready, task_of_failed, gives_back, forbidden, task_of_command, task_of_held, task_of_victim, first_missing, starts}
+use Rattle.journal_model.specs.Search.{Step, Quest, quest, step_of_quest, step_of_forced, step_of_forced_place, step_of_crowded}
+use Rattle.journal_model.specs.PageSteps.{step_of_fill, step_without_frame, step_without_victim, step_of_empty, step_of_swap_out, once_idle}
+use Rattle.journal_model.specs.Next.{step_of_task, step_of_act, step_of_start, step_of_lock, step_of_holder, backs_off}
 use Rattle.journal_model.specs.DeadEnd.{can_step}
+use Rattle.progress_law.specs.Sound.{wants, wanted}
 
 -- all jobs are done and all ghosts are gone
 pub record Quiet (s : State) : Type 0 where
   pub jobs : (is : List JobId) → waited_for s.core is ≡ None
   pub ghosts : s.core.ghosts ≡ []
-
--- what a command waits for, if it waits for a holder
-abbrev pub wanted : (made began : Bool) → Option BufId → Option BufId
-wanted true began m = None
-wanted false true m = None
-wanted false false m = m
-
-abbrev pub wants : Course → Command → Option BufId
-wants c cmd = wanted c.made (starts c cmd) (first_missing c cmd)
 
 module _ (script : Script) (s : State) (quiet : Quiet s) where
   no_ghost_in : (place : Place) → ghost_in script s place ≡ None
@@ -211,7 +201,7 @@ module _ (script : Script) (s : State) (quiet : Quiet s) where
   pub thread_goes_on : (t : ℕ) (cmd : Command) → command_at_work script s t ≡ Some cmd → wants (course s t) cmd ≡ None → can_step script s (actor.Thread t) ≡ true
   thread_goes_on t cmd w h =
       let k : is_ok (step_of_task script s (course s t) cmd (task_of_command script s (course s t) cmd)) ≡ true =
-          task_ok (course s t) cmd (task_of_command script s (course s t) cmd) (task_goes_on (course s t) cmd h) in
+      task_ok (course s t) cmd (task_of_command script s (course s t) cmd) (task_goes_on (course s t) cmd h) in
       subst (λ o. is_ok (step_at (course s t) o (task_at (course s t) o)) ≡ true) (sym w) k
 
   -- a thread that wants a buffer has an entry, but where it needs its holder
@@ -221,7 +211,7 @@ module _ (script : Script) (s : State) (quiet : Quiet s) where
       let lock : task_of_command script s (course s t) cmd ≡ task.Lock b = is_lock (course s t) cmd b h in
       let k : is_ok (step_of_lock s (course s t) b) ≡ true = lock_ok (course s t) b (is_live s b) (grip s b).holder backs in
       let m : is_ok (step_of_task script s (course s t) cmd (task_of_command script s (course s t) cmd)) ≡ true =
-          subst (λ d. is_ok (step_of_task script s (course s t) cmd d) ≡ true) (sym lock) k in
+      subst (λ d. is_ok (step_of_task script s (course s t) cmd d) ≡ true) (sym lock) k in
       subst (λ o. is_ok (step_at (course s t) o (task_at (course s t) o)) ≡ true) (sym w) m
     where
       is_lock : (c : Course) (cmd : Command) (b : BufId) → wants c cmd ≡ Some b → task_of_command script s c cmd ≡ task.Lock b

@@ -1,10 +1,8 @@
 -- Each entry raises each counter by one at most.
-use Rattle.std.proofs.Common.{◌≡◌, ℕ, ◌+◌, ◌-◌, ◌<◌, ◌≤◌, zero, suc, Bool, true, false, List, [], ◌∷◌, length, Option, Some, None, Result, Ok, Err, refl, sym, subst, ◌∙◌, ap, arith, ◌⊎◌, inl, inr, ⊎_elim}
-use Rattle.std.specs.Prelude.{slice_get, slice_set, not, ◌==◌, ◌&&◌, ◌||◌, unwrap_or, option_and_then, replicate, if◌then◌else◌}
+use Rattle.std.proofs.Common.{◌≡◌, ℕ, ◌+◌, ◌≤◌, zero, suc, Bool, true, false, List, [], ◌∷◌, length, Ok, refl, sym, subst, ap, arith, ⊎_elim}
+use Rattle.std.specs.Prelude.{slice_set, ◌==◌, ◌&&◌, ◌||◌, unwrap_or, replicate, if◌then◌else◌}
 use Rattle.std.proofs.lemmas.Grind.{common_steps}
 use Rattle.std.proofs.lemmas.Bool.Decides.{nat_tests}
-use Rattle.ttm_base.specs.declared.Mem.{Mem}
-use Rattle.ttm_base.specs.declared.BufId.{BufId}
 use Rattle.ttm_base.specs.declared.Actor.{Actor}
 use Rattle.ttm_base.specs.declared.Actor.TheVariants as actor
 use Rattle.journal_model.specs.declared.script.Script.{Script}
@@ -24,13 +22,13 @@ use Rattle.journal_model.specs.PageSteps.{next_job, next_ghost}
 use Rattle.journal_model.specs.Next.{next, step_of_task, step_of_act, step_of_start}
 use Rattle.journal_model.specs.Apply.{applied}
 use Rattle.journal_model.specs.ApplyMoves.{last_ghost_left}
-use Rattle.journal_model.specs.Legal.{World, first_state, first_world, world_after, world_along, state_of, IsLegalFrom, IsLegal}
-use Rattle.journal_law.proofs.Shown.{LegalStep, legal_step}
+use Rattle.journal_model.specs.Legal.{World, first_world, world_after, world_along, state_of, IsLegalFrom, IsLegal}
+use Rattle.journal_law.proofs.Shown.{legal_step}
 use Rattle.journal_law.proofs.Courses.{is_of_engine, is_of_reaper, of_engine, of_reaper}
 use Rattle.state_law.specs.GoodState.{last_number}
 use Rattle.state_law.specs.Counters.{Below}
 use Rattle.state_law.proofs.Lists.{set_at}
-use Rattle.state_law.proofs.Moves.{ThreadStep, thread_step}
+use Rattle.state_law.proofs.Moves.{thread_step}
 
 -- the next ghost, or none
 abbrev pub is_left : State → Left → Bool

@@ -1,7 +1,7 @@
 -- What a thread's entry tells of its course: only commands that make something are made, a result is of a made command or one that
 -- nothing forbids, and only a place that there is goes dry.
-use Rattle.std.proofs.Common.{◌≡◌, ℕ, ◌+◌, ◌<◌, ◌≤◌, Bool, true, false, List, [], ◌∷◌, Option, Some, None, Result, Ok, Err, refl, sym, subst, ◌∙◌, ap, arith}
-use Rattle.std.specs.Prelude.{not, ◌&&◌, ◌||◌, ◌==◌, nat_lt, length, find, is_none, is_some, slice_get, unwrap_or, if◌then◌else◌}
+use Rattle.std.proofs.Common.{◌≡◌, ℕ, ◌<◌, Bool, true, false, List, Option, Some, None, Ok, refl, ap, arith}
+use Rattle.std.specs.Prelude.{nat_lt, length, is_none, slice_get, unwrap_or}
 use Rattle.std.proofs.lemmas.Grind.{common_steps}
 use Rattle.std.proofs.lemmas.Bool.Decides.{nat_tests}
 use Rattle.ttm_base.specs.ListWords.{last_of}
@@ -24,12 +24,12 @@ use Rattle.journal_model.specs.declared.state.Task.{Task}
 use Rattle.journal_model.specs.declared.state.Task.TheVariants as task
 use Rattle.journal_model.specs.declared.entry.Kind.{Kind}
 use Rattle.journal_model.specs.declared.entry.Kind.TheVariants as kind
-use Rattle.journal_model.specs.State.{buffer, grip, course}
+use Rattle.journal_model.specs.State.{buffer, grip}
 use Rattle.journal_model.specs.Commands.{whole}
 use Rattle.journal_model.specs.Choice.{choice}
 use Rattle.journal_model.specs.Ready.{is_in_place, first_unready}
 use Rattle.journal_model.specs.Tasks.{carried, task_of_misplaced, task_of_unready, task_of_failed, gives_back, forbidden, task_of_command, task_of_held, task_of_victim, first_missing, starts}
-use Rattle.journal_model.specs.Search.{Step, Quest, quest, step_of_quest, step_of_forced, step_of_forced_place, step_of_crowded, first_choice}
+use Rattle.journal_model.specs.Search.{Step, Quest, step_of_quest, step_of_forced, step_of_forced_place, step_of_crowded, first_choice}
 use Rattle.journal_model.specs.Next.{step_of_task, step_of_act, step_of_start}
 use Rattle.state_law.specs.Courses.{makes}
 use Rattle.state_law.proofs.Lists.{get_within}

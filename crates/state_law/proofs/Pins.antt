@@ -1,7 +1,6 @@
 -- Pins are at most 255, and only a command that makes something is made.
-use Rattle.std.proofs.Common.{◌≡◌, ℕ, ◌+◌, ◌-◌, ◌<◌, ◌≤◌, zero, suc, Bool, true, false, List, [], ◌∷◌, length, Option, Some, None, Result, Ok, Err, IsSome, refl, sym, subst, ◌∙◌, ap, arith, ◌⊎◌, inl, inr, ⊎_elim}
-use Rattle.std.specs.Prelude.{slice_get, slice_set, map, fold, not, ◌==◌, ◌&&◌, ◌||◌, unwrap_or, option_and_then, is_none, replicate, if◌then◌else◌}
-use Rattle.std.proofs.lemmas.Grind.{common_steps}
+use Rattle.std.proofs.Common.{◌≡◌, ℕ, ◌-◌, ◌<◌, ◌≤◌, zero, suc, Bool, true, false, List, [], ◌∷◌, Option, Some, None, Ok, IsSome, refl, sym, subst, ◌∙◌, ap, arith, ⊎_elim}
+use Rattle.std.specs.Prelude.{slice_get, slice_set, map, ◌==◌, unwrap_or, option_and_then, is_none, if◌then◌else◌}
 use Rattle.std.proofs.lemmas.Bool.Decides.{nat_tests}
 use Rattle.std.proofs.lemmas.Bool.{cases_eq}
 use Rattle.ttm_base.specs.declared.BufId.{BufId}
@@ -24,16 +23,16 @@ use Rattle.journal_model.specs.declared.entry.Kind.{Kind}
 use Rattle.journal_model.specs.declared.entry.Kind.TheVariants as kind
 use Rattle.journal_model.specs.State.{course, course_of, grip, grip_in, no_grip, regripped, new_course}
 use Rattle.journal_model.specs.Commands.{commands_of, command_at_work}
-use Rattle.journal_model.specs.Tasks.{forbidden, task_of_command}
+use Rattle.journal_model.specs.Tasks.{forbidden}
 use Rattle.journal_model.specs.Search.{is_caught}
 use Rattle.journal_model.specs.Complete.{is_answer}
-use Rattle.journal_model.specs.Next.{next, step_of_task}
+use Rattle.journal_model.specs.Next.{next}
 use Rattle.journal_model.specs.Apply.{applied}
 use Rattle.journal_model.specs.ApplyCommands.{with_holder, released, pinned_more, pinned_less, with_pins}
 use Rattle.journal_model.specs.ApplyPages.{search_over}
 use Rattle.journal_model.specs.ApplyVictims.{with_fail, course_after_dry}
 use Rattle.journal_model.specs.Legal.{World, first_state, first_world, world_after, world_along, state_of, IsLegalFrom, IsLegal}
-use Rattle.journal_law.proofs.Shown.{LegalStep, legal_step}
+use Rattle.journal_law.proofs.Shown.{legal_step}
 use Rattle.journal_law.proofs.Courses.{is_of_engine, is_of_reaper, of_engine, of_reaper, thread_is_there, others_kept, own_answered, one_more_if, course_set, engine_keeps, reaper_keeps, course_in}
 use Rattle.state_law.specs.Courses.{makes, HaveFewPins, GoodCourses}
 use Rattle.state_law.proofs.Lists.{set_at}
@@ -144,8 +143,8 @@ pub result_pins : (script : Script) (s : State) (t : ℕ) (shown : Shown) → Go
 result_pins script s t shown good st =
     subst (HasPinLeft s.grips) (sym st.at_work)
     (pin_left s (course s t) st.cmd st.task good.pins (good.makes t st.cmd (at_number script s t st.cmd st.at_work))
-        (subst (λ k. may s (course s t) st.cmd k ≡ true) (sym st.is_task) (command_may script s (course s t) st.cmd)) shown
-        (shown_by_task script s (course s t) st.cmd st.task (kind.Result shown) st.step))
+    (subst (λ k. may s (course s t) st.cmd k ≡ true) (sym st.is_task) (command_may script s (course s t) st.cmd)) shown
+    (shown_by_task script s (course s t) st.cmd st.task (kind.Result shown) st.step))
 
 -- ---- each kind
 
@@ -731,7 +730,7 @@ thread_makes : (script : Script) (s : State) (t : ℕ) (k : Kind) → GoodCourse
 thread_makes script s t k good st here u cmd at made = ⊎_elim
     (λ e. own (subst (λ v. slice_get (commands_of script v) (course (applied script s (actor.Thread t) k) v).answered ≡ Some cmd) e at) (subst (λ v. (course (applied script s (actor.Thread t) k) v).made ≡ true) e made))
     (λ d. let same = others_kept script s t u k here d in
-      good.makes u cmd (subst (λ c. slice_get (commands_of script u) c.answered ≡ Some cmd) same at) (subst (λ c. c.made ≡ true) same made))
+    good.makes u cmd (subst (λ c. slice_get (commands_of script u) c.answered ≡ Some cmd) same at) (subst (λ c. c.made ≡ true) same made))
     (cases_eq u t)
   where
     was : slice_get (commands_of script t) (course s t).answered ≡ Some st.cmd
@@ -741,8 +740,8 @@ thread_makes script s t k good st here u cmd at made = ⊎_elim
     own now is_made =
         own_makes script s t k cmd st.cmd st.task (shown_by_task script s (course s t) st.cmd st.task k st.step) (good.makes t st.cmd was)
         (λ none.
-          let kept : (course (applied script s (actor.Thread t) k) t).answered ≡ (course s t).answered = own_answered script s t k here ∙ ap (λ b. one_more_if b (course s t).answered) none in
-          one_command (slice_get (commands_of script t) (course s t).answered) cmd st.cmd (subst (λ n. slice_get (commands_of script t) n ≡ Some cmd) kept now) was)
+        let kept : (course (applied script s (actor.Thread t) k) t).answered ≡ (course s t).answered = own_answered script s t k here ∙ ap (λ b. one_more_if b (course s t).answered) none in
+        one_command (slice_get (commands_of script t) (course s t).answered) cmd st.cmd (subst (λ n. slice_get (commands_of script t) n ≡ Some cmd) kept now) was)
         (sym (own_made script s t k here) ∙ is_made)
 
 pub courses_keep : (script : Script) (s : State) (who : Actor) (k : Kind) → GoodCourses script s → next script s who ≡ Ok k → GoodCourses script (applied script s who k)

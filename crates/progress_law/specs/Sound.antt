@@ -1,10 +1,9 @@
 -- What holds in every state that a legal journal reaches, as far as endings need it.
-use Rattle.std.proofs.Common.{◌≡◌, ℕ, ◌<◌, ◌≤◌, Bool, true, false, List, [], ◌∷◌, ◌++◌, Option, Some, None, ◌⊎◌, IsTrue}
-use Rattle.std.specs.Prelude.{Contains, map, length, slice_get, unwrap_or, is_some, not, ◌&&◌}
-use Rattle.std.specs.List.{list_any}
+use Rattle.std.proofs.Common.{◌≡◌, ℕ, ◌<◌, ◌≤◌, Bool, true, false, List, [], ◌∷◌, ◌++◌, Option, Some, None, ◌⊎◌}
+use Rattle.std.specs.Prelude.{Contains, map, length, slice_get, unwrap_or, not, ◌&&◌}
+use Rattle.std.specs.List.{list_any, list_all}
 use Rattle.ttm_base.specs.declared.Mem.{Mem}
 use Rattle.ttm_base.specs.declared.Mem.TheVariants.{System, Tt, Vram}
-use Rattle.ttm_base.specs.declared.Span.{Span}
 use Rattle.ttm_base.specs.declared.BufId.{BufId}
 use Rattle.ttm_base.specs.declared.Stamp.{Stamp}
 use Rattle.ttm_base.specs.declared.Deny.{Deny}
@@ -14,22 +13,46 @@ use Rattle.journal_model.specs.declared.state.State.{State}
 use Rattle.journal_model.specs.declared.state.Buffer.{Buffer}
 use Rattle.journal_model.specs.declared.state.Course.{Course}
 use Rattle.journal_model.specs.declared.state.Victim.{Victim}
-use Rattle.journal_model.specs.declared.state.Targets.{Targets}
 use Rattle.journal_model.specs.declared.state.Job.{Job}
 use Rattle.journal_model.specs.declared.entry.Why.{Why}
 use Rattle.journal_model.specs.declared.entry.Why.TheVariants as why
 use Rattle.journal_model.specs.declared.script.Command.{Command}
 use Rattle.journal_model.specs.declared.script.Command.TheVariants as command
-use Rattle.journal_model.specs.State.{buffer, grip, live_in, course, has_buffer, has_target, target_of, no_targets}
+use Rattle.journal_model.specs.State.{buffer, grip, live_in, course, has_buffer, has_target, target_of}
 use Rattle.journal_model.specs.Commands.{commands_of, command_at_work, named, decl, asked_places}
 use Rattle.ttm_base.specs.Placement.{forced_places}
 use Rattle.journal_model.specs.Waits.{same_job, jobs_before_write}
 use Rattle.journal_model.specs.Lists.{in_order}
 use Rattle.journal_model.specs.Ready.{meets, is_in_place, has_some_target, first_unready}
 use Rattle.journal_model.specs.Search.{is_caught}
-use Rattle.progress_law.proofs.EnginesGoOn.{WaitsGoBack}
-use Rattle.progress_law.proofs.ThreadsGoOn.{wants}
-use Rattle.progress_law.proofs.NoDeadEnd.{Has}
+use Rattle.journal_model.specs.Tasks.{first_missing, starts}
+use Rattle.journal_model.specs.DeadEnd.{can_step}
+use Rattle.ttm_base.specs.declared.Actor.{Actor}
+
+-- what a command waits for, if it waits for a holder
+abbrev pub wanted : (made began : Bool) → Option BufId → Option BufId
+wanted true began m = None
+wanted false true m = None
+wanted false false m = m
+
+abbrev pub wants : Course → Command → Option BufId
+wants c cmd = wanted c.made (starts c cmd) (first_missing c cmd)
+
+-- the thread holds the buffer, as a named one or as a victim
+abbrev pub Has : State → ℕ → BufId → Type 0
+Has s t b = (has_buffer (course s t).held b ≡ true) ⊎ (is_caught (course s t) b ≡ true)
+
+-- no job waits for itself or for one that was emitted after it
+abbrev pub waits_for_none_of : List Job → Job → Bool
+waits_for_none_of js j = list_all (λ i. not (list_any (λ h. same_job i h.id) js)) j.waits
+
+abbrev pub WaitsGoBack : List Job → Type 0
+WaitsGoBack [] = Unit {0}
+WaitsGoBack (j ∷ js) = (waits_for_none_of (j ∷ js) j ≡ true) × WaitsGoBack js
+
+-- some actor has an entry
+abbrev pub SomeGoesOn : Script → State → Type 0
+SomeGoesOn script s = (who : Actor) × (can_step script s who ≡ true)
 
 -- ---- jobs
 
