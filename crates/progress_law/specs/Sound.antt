@@ -1,4 +1,4 @@
--- What holds in every state that a legal journal reaches, as far as endings need it.
+-- What a sound state is: what the laws on going on need of jobs, holders and searches.
 use Rattle.std.proofs.Common.{◌≡◌, ℕ, ◌<◌, ◌≤◌, Bool, true, false, List, [], ◌∷◌, ◌++◌, Option, Some, None, ◌⊎◌}
 use Rattle.std.specs.Prelude.{Contains, map, length, slice_get, unwrap_or, not, ◌&&◌}
 use Rattle.std.specs.List.{list_any, list_all}

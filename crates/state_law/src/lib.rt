@@ -20,7 +20,7 @@ pub fn counters_are_low()
     ensures { (script : Script) (journal : List Entry) → IsLegal script journal → Below (length journal) (state_of script journal) }
 {}
 
-/// Threads hold what their commands name, and a command that lets go of a pin has one to let go of.
+/// No buffer has more pins than can be counted, and only a command that makes something stands as made.
 pub fn courses_are_good()
     ensures { (script : Script) (journal : List Entry) → IsLegal script journal → GoodCourses script (state_of script journal) }
 {}
