@@ -735,7 +735,6 @@ thread_makes script s t k good st here u cmd at made = ⊎_elim
   where
     was : slice_get (commands_of script t) (course s t).answered ≡ Some st.cmd
     was = at_number script s t st.cmd st.at_work
-
     own : slice_get (commands_of script t) (course (applied script s (actor.Thread t) k) t).answered ≡ Some cmd → (course (applied script s (actor.Thread t) k) t).made ≡ true → makes cmd ≡ true
     own now is_made =
         own_makes script s t k cmd st.cmd st.task (shown_by_task script s (course s t) st.cmd st.task k st.step) (good.makes t st.cmd was)
