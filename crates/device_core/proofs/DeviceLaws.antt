@@ -164,9 +164,9 @@ module _ (script : Script) (journal : List Entry) (state : State) (stores : Kept
       let journal_is : back ≡ journal = b ∙ ap (λ xs. remove xs at) p ∙ without_end journal at e l in
       let bytes_is : kept.bytes_of new ≡ kept.bytes_of stores = same.1.bytes_are ∙ within_same stores.sizes (kept.bytes_of stores) in
       subst (λ j. IsHeld script j z new.sizes (kept.bytes_of new)) (sym journal_is)
-          (subst (λ t. IsHeld script journal t new.sizes (kept.bytes_of new)) (sym same.0)
-              (subst (λ n. IsHeld script journal state n (kept.bytes_of new)) (sym same.1.same_sizes)
-                  (subst (λ m. IsHeld script journal state stores.sizes m) (sym bytes_is) h)))
+      (subst (λ t. IsHeld script journal t new.sizes (kept.bytes_of new)) (sym same.0)
+      (subst (λ n. IsHeld script journal state n (kept.bytes_of new)) (sym same.1.same_sizes)
+      (subst (λ m. IsHeld script journal state stores.sizes m) (sym bytes_is) h)))
 
   -- where an entry was made
   pub held_more : IsHeld script journal state stores.sizes (kept.bytes_of stores) → (at : ℕ) (pushed : List Entry) (e x : Entry) (z : State) (new : KeptBytes) →
@@ -176,13 +176,13 @@ module _ (script : Script) (journal : List Entry) (state : State) (stores : Kept
       let same : e ≡ x = at_end journal at e x l (subst (λ xs. slice_get xs at ≡ Some x) p g) in
       let state_is : z ≡ apply script state e = s ∙ ap (apply script state) (sym same) in
       let bytes_is : kept.bytes_of new ≡ within stores.sizes (stores_after script state e.who e.kind (kept.bytes_of stores)) =
-          b.bytes_are ∙ same_within stores.sizes (stores_after script state x.who x.kind (kept.bytes_of stores)) (kept.bytes_of stores) h.no_more
-          ∙ ap (λ (f : Entry). within stores.sizes (stores_after script state f.who f.kind (kept.bytes_of stores))) (sym same) in
+      b.bytes_are ∙ same_within stores.sizes (stores_after script state x.who x.kind (kept.bytes_of stores)) (kept.bytes_of stores) h.no_more
+      ∙ ap (λ (f : Entry). within stores.sizes (stores_after script state f.who f.kind (kept.bytes_of stores))) (sym same) in
       let after = held_after script journal state stores.sizes (kept.bytes_of stores) h e.who e next in
       subst (λ j. IsHeld script j z new.sizes (kept.bytes_of new)) (sym p)
-          (subst (λ t. IsHeld script (journal ++ e ∷ []) t new.sizes (kept.bytes_of new)) (sym state_is)
-              (subst (λ n. IsHeld script (journal ++ e ∷ []) (apply script state e) n (kept.bytes_of new)) (sym b.same_sizes)
-                  (subst (λ m. IsHeld script (journal ++ e ∷ []) (apply script state e) stores.sizes m) (sym bytes_is) after)))
+      (subst (λ t. IsHeld script (journal ++ e ∷ []) t new.sizes (kept.bytes_of new)) (sym state_is)
+      (subst (λ n. IsHeld script (journal ++ e ∷ []) (apply script state e) n (kept.bytes_of new)) (sym b.same_sizes)
+      (subst (λ m. IsHeld script (journal ++ e ∷ []) (apply script state e) stores.sizes m) (sym bytes_is) after)))
 
   -- the entry that was pushed can be made
   pub pushed_ready : IsHeld script journal state stores.sizes (kept.bytes_of stores) → length journal + 1 < 2 ^ 64 → (at : ℕ) (pushed : List Entry) (e x : Entry) →

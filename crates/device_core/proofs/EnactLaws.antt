@@ -132,7 +132,6 @@ short_write script r (command.Write b off bytes) h = few (length bytes) (part (i
 
     few : (n : ℕ) → nat_le n 256 ≡ true → n < 4294967296
     few n t = grind (arith, nat_tests)
-
 short_write script r (command.Read b off len) h = tt
 short_write script r (command.Move b mem) h = tt
 short_write script r (command.Touch group) h = tt

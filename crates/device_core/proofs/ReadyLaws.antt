@@ -73,7 +73,7 @@ fourth a b c d e t = grind arith
 lines_of : (script : Script) → IsTrue (is_script script) → list_all (has_few_lines script) (thread_numbers script) ≡ true
 lines_of script h =
     fourth ((script.version == 2) || (length script.marks == 0)) (are_in_order script.marks) (list_all (is_in_thread script) script.marks) (list_all (has_few_lines script) (thread_numbers script)) (list_all (λ t. marks_fit script t 0 empty_desk (commands_of script t)) (thread_numbers script))
-        (tenth (is_between 1 2 script.version) (has_sizes script) (nat_le (length script.buffers) 256) (list_all (is_decl script.version) script.buffers) (has_distinct_names script.buffers) (nat_le (length script.threads) 16) (list_all (list_all (is_command script)) script.threads) (nat_le (sum_by (sum_by command_len) script.threads) 67108864) (list_all (is_turn_line script) script.turns) (have_marks script) h)
+    (tenth (is_between 1 2 script.version) (has_sizes script) (nat_le (length script.buffers) 256) (list_all (is_decl script.version) script.buffers) (has_distinct_names script.buffers) (nat_le (length script.threads) 16) (list_all (list_all (is_command script)) script.threads) (nat_le (sum_by (sum_by command_len) script.threads) 67108864) (list_all (is_turn_line script) script.turns) (have_marks script) h)
 
 no_commands : (script : Script) (t : ℕ) → length script.threads < t → length (commands_of script t) ≤ 4096
 no_commands script t h = by (t == 0)

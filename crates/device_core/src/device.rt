@@ -101,7 +101,9 @@ impl Device {
     {
         match next(self.alloc, &self.script, &self.state, who)? {
             Ok(kind) => {
-                let kind = self.stores.showing(self.alloc, &self.script, &self.state, who, kind)?;
+                let kind = self
+                    .stores
+                    .showing(self.alloc, &self.script, &self.state, who, kind)?;
                 Ok(Ok(Entry { who, kind }))
             }
             Err(need) => Ok(Err(need)),

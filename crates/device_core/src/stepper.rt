@@ -2,7 +2,7 @@ ghost use Rattle.std.specs.Prelude.{◌≡◌};
 ghost use Rattle.device_core.specs.Done as words;
 
 use crate::Device;
-use journal_model::{Entry, Script, Kind};
+use journal_model::{Entry, Kind, Script};
 use ttm_base::{Actor, Logged, NoMemory, Stepper, Turn};
 
 /// The number of the job of a context that an entry ends, or 0.
@@ -21,7 +21,6 @@ impl Logged for Device {
     type Root = Script;
 
     ghost use Rattle.device_core.specs.Done.{done_of, done_of_grows};
-
 
     ghost list = { λ s. s.journal };
 

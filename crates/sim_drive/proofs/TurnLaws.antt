@@ -1,6 +1,5 @@
 -- A turn of the device is a turn of the simulator.
 use Rattle.std.proofs.Common.{◌≡◌, ℕ, ◌+◌, add-one, Bool, true, false, List, ◌∷◌, ◌++◌, [], Option, Some, None, Result, Ok, Err, refl, sym, subst, ◌∙◌, ap}
-
 use Rattle.ttm_base.specs.declared.Actor.{Actor}
 use Rattle.ttm_base.specs.declared.Need.{Need}
 use Rattle.journal_model.specs.declared.script.Script.{Script}
@@ -45,7 +44,7 @@ module _ (script : Script) (n : ℕ) where
   some_turn who turn h =
       after_incomplete who (is_complete script (scheduled script n)) refl h
       ∙ kept_is (entry_of at who) (scheduled script (n + 1))
-          (same_step (entry_of at who) ∙ ap (λ w. (appended script (run_of script n) (next_entry script w who)).journal) (sym leads) ∙ sym (next_journal (Some who) turn))
+      (same_step (entry_of at who) ∙ ap (λ w. (appended script (run_of script n) (next_entry script w who)).journal) (sym leads) ∙ sym (next_journal (Some who) turn))
 
   -- nobody's turn
   pub no_turn : actor_of_turn script (state_of script (scheduled script n)) n ≡ None → scheduled script (n + 1) ≡ scheduled script n

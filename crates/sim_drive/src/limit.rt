@@ -80,7 +80,9 @@ pub fn turn_limit(script: &Script) -> u64
 {
     let commands = command_count(script.threads.items()).saturating_add(17);
     let pages = page_count(script.buffers.items()).saturating_add(17);
-    let work = 134_217_728u64.saturating_mul(commands).saturating_mul(pages);
+    let work = 134_217_728u64
+        .saturating_mul(commands)
+        .saturating_mul(pages);
     scheduled_turns(script.turns.items())
         .saturating_add(work)
         .saturating_add(packets_of_threads(script.threads.items()))

@@ -131,7 +131,6 @@ pin_left s c (command.Move b mem) t pins m h shown g = tt
 pin_left s c (command.Touch group) t pins m h shown g = tt
 pin_left s c (command.Submit engine ops) t pins m h shown g = tt
 
--- the command at work, by its number
 pub at_number : (script : Script) (s : State) (t : ℕ) (cmd : Command) → command_at_work script s t ≡ Some cmd → slice_get (commands_of script t) (course s t).answered ≡ Some cmd
 at_number script s t cmd h = by (course_of s t) h
   where
@@ -735,6 +734,7 @@ thread_makes script s t k good st here u cmd at made = ⊎_elim
   where
     was : slice_get (commands_of script t) (course s t).answered ≡ Some st.cmd
     was = at_number script s t st.cmd st.at_work
+
     own : slice_get (commands_of script t) (course (applied script s (actor.Thread t) k) t).answered ≡ Some cmd → (course (applied script s (actor.Thread t) k) t).made ≡ true → makes cmd ≡ true
     own now is_made =
         own_makes script s t k cmd st.cmd st.task (shown_by_task script s (course s t) st.cmd st.task k st.step) (good.makes t st.cmd was)

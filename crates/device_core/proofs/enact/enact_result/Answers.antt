@@ -9,5 +9,5 @@ pub returns-in-Some-clause-bytes : goal.returns-in-Some-clause-bytes
 returns-in-Some-clause-bytes c =
     let there : Some c.in-Some.command.now ≡ command_at_work c.args.script.now c.args.state.now (thread_of c.args.entry.now.who) = rw (← c.thread_of.ensures) c.in-Some.ensures in
     subst (λ bytes. BecomesBytes c.args.stores.now c.put_write.new.stores bytes)
-        (answered_write c.args.script.now c.args.state.now c.apply.new.state c.args.entry.now (Some c.in-Some.command.now) (bytes_of c.args.stores.now) c.requires.result c.in_ok-apply.ensures.ok there)
-        c.put_write.ensures
+    (answered_write c.args.script.now c.args.state.now c.apply.new.state c.args.entry.now (Some c.in-Some.command.now) (bytes_of c.args.stores.now) c.requires.result c.in_ok-apply.ensures.ok there)
+    c.put_write.ensures

@@ -11,9 +11,9 @@ use Rattle.device_core.proofs.device.Device.make.Goals as goal
 pub enact-made-requires-clause-ready : goal.enact-made-requires-clause-ready
 enact-made-requires-clause-ready c =
     pushed_ready c.self.inside.script c.self.inside.journal c.self.inside.state c.self.inside.stores c.self.invariant
-        (subst (λ k. length k.journal + 1 < 2 ^ 64) (sym c.self.view_is) c.requires.short)
-        c.len-at.result c.push.new.self c.args.entry c.get.result.now c.len-at.ensures c.in_ok-push.ensures.ok c.get.ensures
-        (subst (λ k. entry_of k c.args.entry.who ≡ Ok c.args.entry) (sym c.self.view_is) c.requires.next)
+    (subst (λ k. length k.journal + 1 < 2 ^ 64) (sym c.self.view_is) c.requires.short)
+    c.len-at.result c.push.new.self c.args.entry c.get.result.now c.len-at.ensures c.in_ok-push.ensures.ok c.get.ensures
+    (subst (λ k. entry_of k c.args.entry.who ≡ Ok c.args.entry) (sym c.self.view_is) c.requires.next)
 
 pub enact-made-requires-clause-short : goal.enact-made-requires-clause-short
 enact-made-requires-clause-short c = can_store c.self.inside.script (rules_of c.self.inside.script c.self.invariant.fits) c.self.inside.state c.get.result.now.who c.get.result.now.kind
@@ -21,13 +21,13 @@ enact-made-requires-clause-short c = can_store c.self.inside.script (rules_of c.
 pub invariant_of-self-then-is_err : goal.invariant_of-self-then-is_err
 invariant_of-self-then-is_err c =
     held_same c.self.inside.script c.self.inside.journal c.self.inside.state c.self.inside.stores c.self.invariant
-        c.len-at.result c.push.new.self c.take_back.new.journal c.args.entry c.enact-made.new.state c.enact-made.new.stores c.len-at.ensures c.in_ok-push.ensures.ok c.take_back.ensures
-        (of_err ((c.enact-made.new.state ≡ c.self.inside.state) × BecomesBytes c.self.inside.stores c.enact-made.new.stores (bytes_of c.self.inside.stores)) c.enact-made.result (sym c.is_err.ensures.value ∙ c.if-is_err.true) c.enact-made.ensures.err)
+    c.len-at.result c.push.new.self c.take_back.new.journal c.args.entry c.enact-made.new.state c.enact-made.new.stores c.len-at.ensures c.in_ok-push.ensures.ok c.take_back.ensures
+    (of_err ((c.enact-made.new.state ≡ c.self.inside.state) × BecomesBytes c.self.inside.stores c.enact-made.new.stores (bytes_of c.self.inside.stores)) c.enact-made.result (sym c.is_err.ensures.value ∙ c.if-is_err.true) c.enact-made.ensures.err)
 
 pub invariant_of-self-else-is_err : goal.invariant_of-self-else-is_err
 invariant_of-self-else-is_err c =
     held_more c.self.inside.script c.self.inside.journal c.self.inside.state c.self.inside.stores c.self.invariant
-        c.len-at.result c.push.new.self c.args.entry c.get.result.now c.enact-made.new.state c.enact-made.new.stores c.len-at.ensures c.in_ok-push.ensures.ok c.get.ensures
-        (subst (λ k. entry_of k c.args.entry.who ≡ Ok c.args.entry) (sym c.self.view_is) c.requires.next)
-        (of_ok (c.enact-made.new.state ≡ apply c.self.inside.script c.self.inside.state c.get.result.now) c.enact-made.result (sym c.is_err.ensures.value ∙ c.if-is_err.false) c.enact-made.ensures.state)
-        (of_ok (BecomesBytes c.self.inside.stores c.enact-made.new.stores (stores_after c.self.inside.script c.self.inside.state c.get.result.now.who c.get.result.now.kind (bytes_of c.self.inside.stores))) c.enact-made.result (sym c.is_err.ensures.value ∙ c.if-is_err.false) c.enact-made.ensures.bytes)
+    c.len-at.result c.push.new.self c.args.entry c.get.result.now c.enact-made.new.state c.enact-made.new.stores c.len-at.ensures c.in_ok-push.ensures.ok c.get.ensures
+    (subst (λ k. entry_of k c.args.entry.who ≡ Ok c.args.entry) (sym c.self.view_is) c.requires.next)
+    (of_ok (c.enact-made.new.state ≡ apply c.self.inside.script c.self.inside.state c.get.result.now) c.enact-made.result (sym c.is_err.ensures.value ∙ c.if-is_err.false) c.enact-made.ensures.state)
+    (of_ok (BecomesBytes c.self.inside.stores c.enact-made.new.stores (stores_after c.self.inside.script c.self.inside.state c.get.result.now.who c.get.result.now.kind (bytes_of c.self.inside.stores))) c.enact-made.result (sym c.is_err.ensures.value ∙ c.if-is_err.false) c.enact-made.ensures.bytes)

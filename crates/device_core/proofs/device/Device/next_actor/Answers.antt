@@ -11,4 +11,4 @@ next_actor-requires c =
     let is = c.len.ensures in
     let short : length c.self.inside.journal + 1 < 2 ^ 64 = grind (arith, nat_tests) in
     has_room c.self.inside.script c.self.inside.state (length c.self.inside.journal)
-        (known c.self.inside.script c.self.inside.journal c.self.inside.state c.self.inside.stores.sizes (bytes_of c.self.inside.stores) c.self.invariant short)
+    (known c.self.inside.script c.self.inside.journal c.self.inside.state c.self.inside.stores.sizes (bytes_of c.self.inside.stores) c.self.invariant short)

@@ -7,4 +7,4 @@ use Rattle.device_core.proofs.device.Device.over.Goals as goal
 pub returns : goal.returns
 returns c =
     subst (λ k. c.is_over.result ≡ is_complete k.script k.journal) c.self.view_is
-        (c.is_over.ensures ∙ over c.self.inside.script c.self.inside.journal c.self.inside.state c.self.inside.stores.sizes (bytes_of c.self.inside.stores) c.self.invariant)
+    (c.is_over.ensures ∙ over c.self.inside.script c.self.inside.journal c.self.inside.state c.self.inside.stores.sizes (bytes_of c.self.inside.stores) c.self.invariant)
