@@ -1,3 +1,5 @@
+ghost use Rattle.std.specs.Prelude.{◌≡◌, ◌++◌, ◌∷◌, ◌-◌, [], OnOk, length, replicate, take};
+
 use journal_model::line::ActorWord;
 use script_words::words::actor;
 use std::alloc::Global;
@@ -90,7 +92,7 @@ impl Case {
                 self.steps.push(who)?;
             }
         } else if let Some(count) = line.strip_prefix("letters ") {
-            self.put_letters(count.parse::<u32>().map_err(|_| broken())?)?;
+            self.put_letters(alloc, count.parse::<u32>().map_err(|_| broken())?)?;
         } else if line == "to the end" {
             self.to_the_end = true;
         } else if line == "aperture" {
@@ -102,22 +104,27 @@ impl Case {
     }
 
     /// Puts so many letters x at the end of the text.
-    fn put_letters(&mut self, count: u32) -> Result<()> {
-        for _ in 0..count {
-            self.text.push(b'x')?;
-        }
+    fn put_letters(&mut self, alloc: Global, count: u32) -> Result<()>
+        ensures { OnOk result (self.new.text.items ≡ self.old.text.items ++ replicate count 120) }
+    {
+        let letters = vec![in alloc; b'x'; count as usize]?;
+        self.text.extend_from_slice(&letters)?;
         Ok(())
     }
 
     /// Puts a line at the end of the text.
-    pub(crate) fn put_line(&mut self, line: &str) -> Result<()> {
+    pub(crate) fn put_line(&mut self, line: &str) -> Result<()>
+        ensures { OnOk result (self.new.text.items ≡ self.old.text.items ++ line.now ++ 10 ∷ []) }
+    {
         self.text.extend_from_slice(line.as_bytes())?;
         self.text.push(b'\n')?;
         Ok(())
     }
 
     /// Takes the last byte of the text away.
-    pub(crate) fn cut_last(&mut self) {
+    pub(crate) fn cut_last(&mut self)
+        ensures { self.new.text.items ≡ take (length self.old.text.items - 1) self.old.text.items }
+    {
         let _ = self.text.pop();
     }
 }
