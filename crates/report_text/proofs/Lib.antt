@@ -3,4 +3,3 @@ pub mod Digits
 pub mod WrittenLines
 pub mod Kept
 pub mod Parts
-pub mod HoldingLaws

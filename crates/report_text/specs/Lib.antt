@@ -2,4 +2,3 @@ pub mod Spaced
 pub mod WriteFault
 pub mod Accounts
 pub mod Parts
-pub mod Holdings

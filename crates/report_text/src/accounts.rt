@@ -1,5 +1,3 @@
-use ttm_base::Mem;
-
 /// How the pages, frames or slots are held, by number.
 #[derive(Clone, Copy, Debug, PartialEq, Eq)]
 pub struct Account {
@@ -16,15 +14,4 @@ pub struct Accounts {
     pub tt: Account,
     pub frames: Account,
     pub swap: Account,
-}
-
-/// What is counted of a buffer or a ghost.
-#[derive(Clone, Copy, Debug)]
-pub enum Holding {
-    /// Pages that it has in a memory type.
-    Pages(Mem),
-    /// Pages of its target in a memory type.
-    Targets(Mem),
-    Frames,
-    Slots,
 }

@@ -2,14 +2,12 @@
 #![tactic(auto)]
 
 pub mod accounts;
-mod counts;
 mod entry;
 mod line;
 pub mod report;
 mod words;
 
 pub use accounts::{Account, Accounts};
-pub use counts::accounts_of;
 pub use report::{WriteFault, write_report};
 
 #[cfg(test)]

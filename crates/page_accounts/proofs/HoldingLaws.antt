@@ -1,6 +1,6 @@
 -- The accounts as sums over buffers and ghosts.
 use Rattle.std.proofs.Common.{◌≡◌, ℕ, ◌+◌, List, [], ◌∷◌, Option, Some, None, ap, refl, ◌∙◌, sym, arith}
-use Rattle.std.specs.Prelude.{sum_by, filter_map}
+use Rattle.std.specs.Prelude.{sum_by, filter, filter_map, length}
 use Rattle.std.specs.List.{enumerate_from}
 use Rattle.std.proofs.lemmas.List.Sums.{sum_by-cons}
 use Rattle.std.proofs.lemmas.List.Concat.{length-flat_map}
@@ -10,11 +10,12 @@ use Rattle.journal_model.specs.declared.script.Script.{Script}
 use Rattle.journal_model.specs.declared.state.Core.{Core}
 use Rattle.journal_model.specs.declared.state.Buffer.{Buffer}
 use Rattle.journal_model.specs.Places.{frames_of, slots_of}
-use Rattle.journal_model.specs.Holds.{live_buffers, live_entry}
+use Rattle.ttm_base.specs.ListWords.{count_from}
+use Rattle.journal_model.specs.Holds.{live_buffers, live_entry, held_frames, is_free_page, size_of}
 use Rattle.journal_model.specs.Account as model
-use Rattle.report_text.specs.declared.accounts.Holding.{Holding}
-use Rattle.report_text.specs.declared.accounts.Holding.TheVariants.{Pages, Targets, Frames, Slots}
-use Rattle.report_text.specs.Holdings.{amount, amount_of_ghost, amount_where_live}
+use Rattle.page_accounts.specs.declared.Holding.{Holding}
+use Rattle.page_accounts.specs.declared.Holding.TheVariants.{Pages, Targets, Frames, Slots}
+use Rattle.page_accounts.specs.Holdings.{amount, amount_of_ghost, amount_where_live}
 
 -- a sum over the live buffers
 live_sum : (what : Holding) (k : ℕ) (buffers : List (Option Buffer)) → sum_by (λ e. amount what e.1) (filter_map live_entry (enumerate_from k buffers)) ≡ sum_by (amount_where_live what) buffers
@@ -48,3 +49,23 @@ pub same_account : (a : model.Account) (free live target held : ℕ) → free �
 same_account a free live target held f l t g =
     let of : ℕ → ℕ → ℕ → ℕ → model.Account = λ n m k j. record { free = n; live = m; target = k; ghost = j } in
     ap (λ n. of n live target held) f ∙ ap (λ n. of a.free n target held) l ∙ ap (λ n. of a.free a.live n held) t ∙ ap (λ n. of a.free a.live a.target n) g
+
+-- ---- the accounts by these sums
+
+pub pages_by_sums : (script : Script) (mem : Mem) (c : Core)
+    → model.account_of mem script c ≡ record {
+      free = length (filter (is_free_page mem c) (count_from 1 (size_of script mem) 0));
+      live = sum_by (amount_where_live (Pages mem)) c.buffers;
+      target = sum_by (amount_where_live (Targets mem)) c.buffers;
+      ghost = sum_by (amount_of_ghost (Pages mem)) c.ghosts;
+    }
+pages_by_sums script mem c = sym (same_account (model.account_of mem script c) _ _ _ _ refl (sym (live_pages script mem c)) (sym (target_pages script mem c)) refl)
+
+pub frames_by_sums : (script : Script) (c : Core)
+    → model.frame_account script c ≡ record {
+      free = model.count_free (held_frames c) script.sizes.frames;
+      live = sum_by (amount_where_live Frames) c.buffers;
+      target = 0;
+      ghost = sum_by (amount_of_ghost Frames) c.ghosts;
+    }
+frames_by_sums script c = sym (same_account (model.frame_account script c) _ _ _ _ refl (sym (live_frames script c)) refl (sym (ghost_frames script c)))

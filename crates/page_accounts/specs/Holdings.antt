@@ -6,8 +6,8 @@ use Rattle.journal_model.specs.State.{target_spans}
 use Rattle.journal_model.specs.Places.{frames_of, slots_of}
 use Rattle.journal_model.specs.Holds.{ghost_spans, spans_in}
 use Rattle.journal_model.specs.Account.{count_spans}
-use Rattle.report_text.specs.declared.accounts.Holding.{Holding}
-use Rattle.report_text.specs.declared.accounts.Holding.TheVariants.{Pages, Targets, Frames, Slots}
+use Rattle.page_accounts.specs.declared.Holding.{Holding}
+use Rattle.page_accounts.specs.declared.Holding.TheVariants.{Pages, Targets, Frames, Slots}
 
 -- a buffer
 abbrev pub amount : Holding → Buffer → ℕ
