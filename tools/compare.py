@@ -12,7 +12,7 @@ import pathlib
 import subprocess
 import sys
 
-MARKS = (b"map ", b"unmap ", b"peek ", b"poke ", b"vmap ", b"vunmap ", b"vsubmit ")
+MARKS = (b"map", b"unmap", b"peek", b"poke", b"vmap", b"vunmap", b"vsubmit")
 TTM = pathlib.Path(__file__).resolve().parent.parent / "ttm"
 
 
@@ -38,7 +38,7 @@ def main():
     statuses = {}
     while agreed < count:
         for text in scripts_of(oracle, first + seed):
-            if any(line.startswith(MARKS) for line in text.split(b"\n")):
+            if any(line.split(b" ")[0] in MARKS for line in text.split(b"\n")):
                 left_out += 1
                 continue
             ours, theirs = run([str(TTM), "sim"], text), run([oracle, "sim"], text)

@@ -1,0 +1,130 @@
+ghost use Rattle.std.specs.Prelude.{◌≡◌, ◌++◌, ◌∷◌, ◌-◌, [], OnOk, length, replicate, take};
+
+use journal_model::line::ActorWord;
+use script_words::words::actor;
+use std::alloc::Global;
+use std::io::{Error, ErrorKind, Result};
+use ttm_base::Actor;
+
+/// What a program is given, and how.
+#[derive(Debug, Drop)]
+pub struct Case {
+    pub name: String,
+    /// The words after the program's name.
+    pub words: Vec<String>,
+    /// How many bytes a read or a write moves at most: one run for each number.
+    pub chunks: Vec<u64>,
+    /// The reads that fail, counted from 1.
+    pub read_fails: Vec<u64>,
+    /// The writes that fail, counted from 1.
+    pub write_fails: Vec<u64>,
+    /// Whose turns these are.
+    pub steps: Vec<Actor>,
+    /// After the steps, turns in the simulator's order until all is over.
+    pub to_the_end: bool,
+    /// At the end, which frame each page of TT stands for.
+    pub shows_aperture: bool,
+    pub text: Vec<u8>,
+}
+
+/// The line says nothing of a case, or comes where it may not.
+fn broken() -> Error {
+    Error::from(ErrorKind::InvalidData)
+}
+
+fn numbers(alloc: Global, words: &str) -> Result<Vec<u64>> {
+    let mut found = Vec::new(alloc);
+    for word in words.split_whitespace() {
+        found.push(word.parse::<u64>().map_err(|_| broken())?)?;
+    }
+    Ok(found)
+}
+
+fn actors(alloc: Global, words: &str) -> Result<Vec<Actor>> {
+    let mut found = Vec::new(alloc);
+    for word in words.split_whitespace() {
+        match actor(u32::MAX, u32::MAX, word.as_bytes()) {
+            ActorWord::Is(who) => found.push(who)?,
+            _ => return Err(broken()),
+        }
+    }
+    Ok(found)
+}
+
+impl Case {
+    /// The case that a line begins, with an empty text. It is run with 1 and with 4,096 bytes at a time.
+    pub(crate) fn begin(alloc: Global, line: &str) -> Result<Case> {
+        let Some(title) = line.strip_prefix("case ") else {
+            return Err(broken());
+        };
+        let mut words = Vec::new(alloc);
+        let mut name = String::new(alloc);
+        for word in title.split_whitespace() {
+            if name.is_empty() {
+                name.push_str(word)?;
+            } else {
+                words.push(String::from_str(alloc, word)?)?;
+            }
+        }
+        Ok(Case {
+            name,
+            words,
+            chunks: Vec::from_slice(alloc, &[1, 4096])?,
+            read_fails: Vec::new(alloc),
+            write_fails: Vec::new(alloc),
+            steps: Vec::new(alloc),
+            to_the_end: false,
+            shows_aperture: false,
+            text: Vec::new(alloc),
+        })
+    }
+
+    /// Takes a line between the first and `text`.
+    pub(crate) fn set(&mut self, alloc: Global, line: &str) -> Result<()> {
+        if let Some(words) = line.strip_prefix("chunks ") {
+            self.chunks = numbers(alloc, words)?;
+        } else if let Some(words) = line.strip_prefix("read fails ") {
+            self.read_fails = numbers(alloc, words)?;
+        } else if let Some(words) = line.strip_prefix("write fails ") {
+            self.write_fails = numbers(alloc, words)?;
+        } else if let Some(words) = line.strip_prefix("steps ") {
+            for who in actors(alloc, words)? {
+                self.steps.push(who)?;
+            }
+        } else if let Some(count) = line.strip_prefix("letters ") {
+            self.put_letters(alloc, count.parse::<u32>().map_err(|_| broken())?)?;
+        } else if line == "to the end" {
+            self.to_the_end = true;
+        } else if line == "aperture" {
+            self.shows_aperture = true;
+        } else {
+            return Err(broken());
+        }
+        Ok(())
+    }
+
+    /// Puts so many letters x at the end of the text.
+    fn put_letters(&mut self, alloc: Global, count: u32) -> Result<()>
+        ensures { OnOk result (self.new.text.items ≡ self.old.text.items ++ replicate count 120) }
+    {
+        let letters = vec![in alloc; b'x'; count as usize]?;
+        self.text.extend_from_slice(&letters)?;
+        Ok(())
+    }
+
+    /// Puts a line at the end of the text.
+    pub(crate) fn put_line(&mut self, line: &str) -> Result<()>
+        ensures { OnOk result (self.new.text.items ≡ self.old.text.items ++ line.now ++ 10 ∷ []) }
+    {
+        self.text.extend_from_slice(line.as_bytes())?;
+        self.text.push(b'\n')?;
+        Ok(())
+    }
+
+    /// Takes the last byte of the text away.
+    pub(crate) fn cut_last(&mut self)
+        ensures { self.new.text.items ≡ take (length self.old.text.items - 1) self.old.text.items }
+    {
+        let _ = self.text.pop();
+    }
+}
