@@ -15,37 +15,9 @@ use Rattle.journal_model.specs.Legal.{World, first_world, first_state, world_aft
 use Rattle.journal_model.specs.Complete.{is_over}
 use Rattle.journal_model.specs.DeadEnd.{can_step}
 use Rattle.journal_model.specs.Scheduled.{Run, run_of, stepped, appended, actor_of_turn, own_order, scheduled_actors}
+use Rattle.journal_law.proofs.Shown.{shown_alike}
 use Rattle.progress_law.proofs.Measure.{measure}
 use Rattle.progress_law.specs.Sound.{Sound}
-
--- what an entry shows changes no state
-shown_alike : (script : Script) (stores : Stores) (s z : State) (who : Actor) (k : Kind) → applied script s who (showing script stores z who k) ≡ applied script s who k
-shown_alike script stores s z who (kind.Ticket stamp) = refl
-shown_alike script stores s z who (kind.Reserve b) = refl
-shown_alike script stores s z who (kind.Backoff b stamp) = refl
-shown_alike script stores s z who (kind.New b) = refl
-shown_alike script stores s z who (kind.Free b g) = refl
-shown_alike script stores s z who (kind.Take b mem spans) = refl
-shown_alike script stores s z who (kind.Untake b mem) = refl
-shown_alike script stores s z who (kind.Populate b page frame) = refl
-shown_alike script stores s z who (kind.SwapIn b page slot frame) = refl
-shown_alike script stores s z who (kind.Depopulate b) = refl
-shown_alike script stores s z who (kind.Bind b) = refl
-shown_alike script stores s z who (kind.Unbind b) = refl
-shown_alike script stores s z who (kind.Move b mem n l) = refl
-shown_alike script stores s z who (kind.Catch b w) = refl
-shown_alike script stores s z who (kind.Loose b) = refl
-shown_alike script stores s z who (kind.Skip b) = refl
-shown_alike script stores s z who (kind.Dry b k w) = refl
-shown_alike script stores s z who (kind.SwapOut b page slot) = refl
-shown_alike script stores s z who (kind.NoPages b) = refl
-shown_alike script stores s z who (kind.Arm engine n) = refl
-shown_alike script stores s z who (kind.Packet n k piece) = refl
-shown_alike script stores s z who (kind.Done n) = refl
-shown_alike script stores s z who (kind.Reap g) = refl
-shown_alike script stores s z who (kind.Bulk group) = refl
-shown_alike script stores s z who (kind.Result r) = refl
-shown_alike script stores s z who (kind.Refused d) = refl
 
 -- the two laws that the kinds' lemmas give
 module _ (script : Script)

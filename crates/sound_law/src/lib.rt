@@ -1,0 +1,2 @@
+//! Laws on the states that legal journals lead to: some actor always goes on until the journal is complete.
+#![tactic(auto)]
