@@ -14,7 +14,7 @@ use Rattle.sound_law.proofs.Bufs.{same_or_other}
 some_is : (o : Option Stamp) (st su : Stamp) → o ≡ Some st → o ≡ Some su → st ≡ su
 some_is o st su e f = let it : Some st ≡ Some su = sym e ∙ f in cc
 
-none_or : (o : Option Stamp) (st : Stamp) → o ≡ None → o ≡ Some st → ⊥
+pub none_or : (o : Option Stamp) (st : Stamp) → o ≡ None → o ≡ Some st → ⊥
 none_or o st e f = let it : None ≡ Some st = sym e ∙ f in cc
 
 -- the lists stay as long
