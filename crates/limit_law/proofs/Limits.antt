@@ -1,7 +1,7 @@
 -- The parts of the limit of turns, each bounded by the script's rules or by the length of its text.
 use Rattle.std.proofs.Common.{◌≡◌, ℕ, ◌<◌, ◌≤◌, ◌+◌, ◌*◌, ◌-◌, zero, suc, Bool, true, false, List, [], ◌∷◌, ◌++◌, length, length-append, Option, Some, None, IsTrue, refl, sym, ◌∙◌, ap, ap₂, subst, arith, ⊎_elim}
-use Rattle.std.specs.Prelude.{slice_get, map, flat_map, sum_by, unwrap_or, nat_le, filter, codes, ◌==◌, ◌&&◌, ◌||◌, if◌then◌else◌}
-use Rattle.std.specs.List.{list_all, join_with_byte}
+use Rattle.std.specs.Prelude.{slice_get, map, flat_map, sum_by, unwrap_or, nat_le, filter, codes, decimal, ◌==◌, ◌&&◌, ◌||◌, if◌then◌else◌}
+use Rattle.std.specs.List.{list_all, join_with_byte, enumerate_from}
 use Rattle.std.proofs.lemmas.Bool.{cases_eq, and_parts}
 use Rattle.std.proofs.lemmas.Bool.Decides.{nat_tests}
 use Rattle.std.proofs.lemmas.List.Sums.{sum_by-cons}
@@ -19,7 +19,7 @@ use Rattle.journal_model.specs.Commands.{commands_of}
 use Rattle.journal_model.specs.CommandRules.{is_between, is_command, command_len}
 use Rattle.journal_model.specs.MarkRules.{empty_desk, marks_fit, are_in_order, is_in_thread, has_few_lines, have_marks}
 use Rattle.journal_model.specs.ScriptRules.{is_script, is_decl, has_sizes, has_distinct_names, is_turn_line, IsScript}
-use Rattle.journal_model.specs.Spelling.{turn_line, spelling}
+use Rattle.journal_model.specs.Spelling.{buffer_line, thread_lines, turn_line, spelling}
 use Rattle.journal_model.specs.Complete.{thread_numbers}
 use Rattle.journal_model.specs.Scheduled.{scheduled_actors, packets_in, turn_limit}
 use Rattle.state_law.proofs.JobsKeep.{few_packets}
@@ -197,9 +197,22 @@ behind n xs ys h = let both = length-append xs ys in omega (arith, both)
 before : (n : ℕ) (xs ys : Text) → n ≤ length xs → n ≤ length (xs ++ ys)
 before n xs ys h = let both = length-append xs ys in omega (arith, both)
 
+-- the lines before those of the schedule
+abbrev first_lines : Script → Text
+first_lines script =
+    line (codes "ttm" ∷ decimal script.version ∷ [])
+    ++ line (codes "vram" ∷ (if script.sizes.buddy then codes "buddy" else codes "range") ∷ decimal script.sizes.vram ∷ [])
+    ++ line (codes "tt" ∷ decimal script.sizes.tt ∷ [])
+    ++ line (codes "frames" ∷ decimal script.sizes.frames ∷ [])
+    ++ line (codes "swap" ∷ decimal script.sizes.swap ∷ [])
+    ++ line (codes "engines" ∷ decimal script.sizes.engines ∷ [])
+    ++ flat_map (buffer_line script.version) script.buffers
+    ++ flat_map (thread_lines script) (enumerate_from 1 script.threads)
+
 schedule_most : (script : Script) → length (scheduled_actors script) ≤ length (spelling script)
 schedule_most script =
-    before (length (scheduled_actors script)) _ _ (behind (length (scheduled_actors script)) _ (flat_map turn_line script.turns) (turns_most script.turns))
+    before (length (scheduled_actors script)) (first_lines script ++ flat_map turn_line script.turns) (line (codes "end" ∷ []))
+    (behind (length (scheduled_actors script)) (first_lines script) (flat_map turn_line script.turns) (turns_most script.turns))
 
 -- ---- all of it
 

@@ -6,3 +6,4 @@ pub mod Slots
 pub mod Sums
 pub mod Border
 pub mod Locking
+pub mod Ends

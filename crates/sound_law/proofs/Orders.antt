@@ -110,7 +110,7 @@ found_one {X = X} p x (z ∷ xs) h k = by (p z) refl h (λ w. found_one p x xs w
     by false e (inl w) rest = absurd (clash (sym k ∙ (ap p w ∙ e)))
     by false e (inr w) rest = rest w
 
-none_passes : {X : Type 0} (p : X → Bool) (xs : List X) → ((x : X) → p x ≡ false) → find p xs ≡ None
+pub none_passes : {X : Type 0} (p : X → Bool) (xs : List X) → ((x : X) → p x ≡ false) → find p xs ≡ None
 none_passes p [] h = refl
 none_passes p (x ∷ xs) h = ap (λ q. cond q (Some x) (find p xs)) (h x) ∙ none_passes p xs h
 

@@ -247,11 +247,11 @@ module _ (script : Script) (s : State) (t : ℕ) (cmd : Command) (here : IsSome 
   ok = o.steady t
 
   -- a thread without a stamp has nothing
-  bare : (course s t).stamp ≡ None → (d : BufId) → HasIn (course s t) d → ⊥
+  pub bare : (course s t).stamp ≡ None → (d : BufId) → HasIn (course s t) d → ⊥
   bare e d h = let w = o.held t d h in none_or (course s t).stamp w.0 e w.3
 
   -- nor has one whose command locks nothing
-  unlocked : locks cmd ≡ false → (d : BufId) → HasIn (course s t) d → ⊥
+  pub unlocked : locks cmd ≡ false → (d : BufId) → HasIn (course s t) d → ⊥
   unlocked l d h =
       let w = o.held t d h in
       let k = ok.at_work w.0 w.3 in
@@ -259,7 +259,7 @@ module _ (script : Script) (s : State) (t : ℕ) (cmd : Command) (here : IsSome 
       let same : cmd ≡ k.0 = cc in
       clash (sym (ap locks same ∙ k.2) ∙ l)
 
-  unlocked_alone : locks cmd ≡ false → (course s t).caught ≡ []
+  pub unlocked_alone : locks cmd ≡ false → (course s t).caught ≡ []
   unlocked_alone l = by (course s t).caught refl
     where
       by : (vs : List Victim) → (course s t).caught ≡ vs → vs ≡ []
@@ -286,7 +286,7 @@ module _ (script : Script) (s : State) (t : ℕ) (cmd : Command) (here : IsSome 
       (subst (Steady script t) (sym (own_course script s t (kind.Ticket stamp) here)) (ticket_steady script t (course s t) cmd ok at stamp l (λ b h. bare e b (inr h))))
 
   -- a course that began has a stamp
-  has_stamp : locks cmd ≡ true → starts (course s t) cmd ≡ false → (st : Stamp) × ((course s t).stamp ≡ Some st)
+  pub has_stamp : locks cmd ≡ true → starts (course s t) cmd ≡ false → (st : Stamp) × ((course s t).stamp ≡ Some st)
   has_stamp l n = by (course s t).stamp refl
     where
       by : (p : Option Stamp) → (course s t).stamp ≡ p → (st : Stamp) × ((course s t).stamp ≡ Some st)
@@ -307,7 +307,7 @@ module _ (script : Script) (s : State) (t : ℕ) (cmd : Command) (here : IsSome 
           begins (command.Submit engine ops) q e = ap is_none e
 
   -- only a command that locks gets beyond its start
-  begun_locks : starts (course s t) cmd ≡ false → locks cmd ≡ true
+  pub begun_locks : starts (course s t) cmd ≡ false → locks cmd ≡ true
   begun_locks n = by cmd n
     where
       by : (x : Command) → starts (course s t) x ≡ false → locks x ≡ true
