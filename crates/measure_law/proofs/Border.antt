@@ -1,6 +1,6 @@
 -- Entries that begin and end commands lower the measure.
 use Rattle.std.proofs.Common.{◌≡◌, ℕ, ◌<◌, ◌≤◌, ◌+◌, ◌*◌, ◌-◌, zero, suc, Bool, true, false, List, [], ◌∷◌, ◌++◌, length, length-append, Option, Some, None, IsSome, refl, sym, ◌∙◌, ap, subst, arith, ◌⊎◌, inl, inr, ⊎_elim}
-use Rattle.std.specs.Prelude.{slice_get, slice_set, sum_by, unwrap_or, is_none, drop, ◌==◌, if◌then◌else◌}
+use Rattle.std.specs.Prelude.{slice_get, slice_set, sum_by, flat_map, unwrap_or, is_none, drop, ◌==◌, if◌then◌else◌}
 use Rattle.std.proofs.lemmas.Bool.{cases_Bool}
 use Rattle.ttm_base.specs.declared.BufId.{BufId}
 use Rattle.ttm_base.specs.declared.JobId.{JobId}
@@ -23,6 +23,7 @@ use Rattle.journal_model.specs.State.{new_buffer, new_course, buffer, buffer_in,
 use Rattle.journal_model.specs.Commands.{commands_of, command_at_work, decl}
 use Rattle.journal_model.specs.Places.{packet_place}
 use Rattle.journal_model.specs.Tasks.{starts, first_missing}
+use Rattle.journal_model.specs.Waits.{jobs_before_use}
 use Rattle.journal_model.specs.Apply.{applied}
 use Rattle.journal_model.specs.ApplyCommands.{has_made, on_to_next, named_in, ghost_of_freed}
 use Rattle.journal_model.specs.ApplyJobs.{ops_of}
@@ -209,7 +210,15 @@ arm_falls script s t engine n ops stamp known st is e on fine =
     (uses_fewer (record { ctx = engine; num = n }) (ops_of (command_at_work script s t)) s.core.buffers (named_in (command_at_work script s t)))
     (let was = held_was script s t (kind.Arm engine n) known st stamp e on.works fine in
     let buffers = uses_left (record { ctx = engine; num = n }) (ops_of (command_at_work script s t)) s.core.buffers (named_in (command_at_work script s t)) in
-    let jobs = sum_pushed job_left s.core.jobs _ in
+    let jobs =
+    sum_pushed job_left s.core.jobs
+    (record {
+      id = record { ctx = engine; num = n };
+      waits = flat_map (jobs_before_use s.core (ops_of (command_at_work script s t))) (named_in (command_at_work script s t));
+      packets = packets_of (λ b. packet_place (buffer_in s.core b)) (ops_of (command_at_work script s t));
+      ran = 0;
+      finished = false;
+    }) in
     let packets = length-packets (λ b. packet_place (buffer_in s.core b)) (ops_of (command_at_work script s t)) in
     let same : sum_by (λ op. length (pieces_of op)) (ops_of (command_at_work script s t)) ≡ packet_count st.step.cmd =
     ap (λ p. sum_by (λ op. length (pieces_of op)) (ops_of p)) (st.step.at_work ∙ ap Some is) ∙ sym (ap packet_count is) in

@@ -107,50 +107,50 @@ module _ (script : Script) (s : State) (t : ℕ) (known : Known script s) where
     stamp_of n = has_stamp script s t st.step.cmd st.here st.at known.owned (begun_locks script s t st.step.cmd st.here st.at known.owned n) n
 
   thread_falls : (k : Kind) (st : Stepped script s t k) (cmd : Command) → st.step.cmd ≡ cmd → (x : Task) → Turn script s (course s t) cmd x → Gives script s (course s t) cmd x k → (is_searching x k ≡ true → Lower k) → Lower k
-  thread_falls k st cmd e x (answer m) answers search = next_falls script s t k known st refl refl
-  thread_falls k st cmd e x (start m q) (makes {b} is dead) search =
+  thread_falls k st cmd e x (answer m) answers rest = next_falls script s t k known st refl refl
+  thread_falls k st cmd e x (start m q) (makes {b} is dead) rest =
       let l : locks st.step.cmd ≡ false = ap locks (e ∙ is) in
       new_falls script s t b known st m (no_stamp k st l) (no_victim k st l) (new_fewer s.core.buffers b.0 (decl script b).pages)
-  thread_falls k st cmd e x (start m q) (exists is) search = next_falls script s t k known st refl refl
-  thread_falls k st cmd e x (start m q) (shifts {group} is) search =
+  thread_falls k st cmd e x (start m q) (exists is) rest = next_falls script s t k known st refl refl
+  thread_falls k st cmd e x (start m q) (shifts {group} is) rest =
       let l : locks st.step.cmd ≡ false = ap locks (e ∙ is) in bulk_falls script s t group known st m (no_stamp k st l) (no_victim k st l)
-  thread_falls k st cmd e x (start m q) (draws l) search =
+  thread_falls k st cmd e x (start m q) (draws l) rest =
       let none = locking_command (course s t) cmd q l in ticket_falls script s t (record { 0 = s.last_stamp + 1 }) known st m none (bare_victim k st none)
-  thread_falls k st cmd e x (lock m n f) (no_buffer dead) search = next_falls script s t k known st refl refl
-  thread_falls k st cmd e x (lock m n f) (reserves {b} live free) search =
+  thread_falls k st cmd e x (lock m n f) (no_buffer dead) rest = next_falls script s t k known st refl refl
+  thread_falls k st cmd e x (lock m n f) (reserves {b} live free) rest =
       let n' = subst (λ z. starts (course s t) z ≡ false) (sym e) n in
       let f' = subst (λ z. first_missing (course s t) z ≡ Some b) (sym e) f in
       let stamp = stamp_of k st n' in
       reserve_falls script s t b stamp.0 known st stamp.1 m f' free (lock_victim k st b m n' f')
-  thread_falls k st cmd e x (lock m n f) (backs {b} {holder} live held older) search =
+  thread_falls k st cmd e x (lock m n f) (backs {b} {st = holder} live held older) rest =
       let n' = subst (λ z. starts (course s t) z ≡ false) (sym e) n in
       let f' = subst (λ z. first_missing (course s t) z ≡ Some b) (sym e) f in
       let stamp = stamp_of k st n' in
       backoff_falls script s t b holder stamp.0 known st stamp.1 m f' held older (lock_victim k st b m n' f')
-  thread_falls k st cmd e x turn (seeks sought) search = search refl
-  thread_falls k st cmd e x turn binds search = search refl
-  thread_falls k st cmd e x turn (unbinds i) search = search refl
-  thread_falls k st cmd e x turn moves search = search refl
-  thread_falls k st cmd e x turn (fills filled) search = search refl
-  thread_falls k st cmd e x turn lets_go search = search refl
-  thread_falls k st cmd e x turn (empties w f g) search = search refl
-  thread_falls k st cmd e x turn (depopulates m f) search = search refl
-  thread_falls k st cmd e x turn (untakes n) search = search refl
-  thread_falls k st cmd e x turn skips search = search refl
-  thread_falls k st cmd e x turn gives_up search = next_falls script s t k known st refl refl
-  thread_falls k st cmd e x turn refuses search = next_falls script s t k known st refl refl
-  thread_falls k st cmd e x (act on a f u) (arms {engine} ops is) search =
+  thread_falls k st cmd e x turn (seeks sought) rest = rest refl
+  thread_falls k st cmd e x turn binds rest = rest refl
+  thread_falls k st cmd e x turn (unbinds i) rest = rest refl
+  thread_falls k st cmd e x turn moves rest = rest refl
+  thread_falls k st cmd e x turn (fills filled) rest = rest refl
+  thread_falls k st cmd e x turn lets_go rest = rest refl
+  thread_falls k st cmd e x turn (empties w f g) rest = rest refl
+  thread_falls k st cmd e x turn (depopulates m f) rest = rest refl
+  thread_falls k st cmd e x turn (untakes n) rest = rest refl
+  thread_falls k st cmd e x turn skips rest = rest refl
+  thread_falls k st cmd e x turn gives_up rest = next_falls script s t k known st refl refl
+  thread_falls k st cmd e x turn refuses rest = next_falls script s t k known st refl refl
+  thread_falls k st cmd e x (act on a f u) (arms {engine} ops is) rest =
       let on' = subst (λ z. OnNamed s (course s t) z) (sym e) on in
       let stamp = stamp_of k st on'.works.begun in
       arm_falls script s t engine (next_job s engine) ops stamp.0 known st (e ∙ is) stamp.1 on' f
-  thread_falls k st cmd e x (act on a f u) (frees {b} {g} is q) search =
+  thread_falls k st cmd e x (act on a f u) (frees {b} {g} is q) rest =
       let on' = subst (λ z. OnNamed s (course s t) z) (sym e) on in
       let stamp = stamp_of k st on'.works.begun in
       free_falls script s t b g stamp.0 known st stamp.1 on' f
-  thread_falls k st cmd e x turn (swaps is f g) search = search refl
-  thread_falls k st cmd e x turn (no_swap is) search = next_falls script s t k known st refl refl
-  thread_falls k st cmd e x turn acts search = next_falls script s t k known st refl refl
+  thread_falls k st cmd e x turn (swaps is f g) rest = rest refl
+  thread_falls k st cmd e x turn (no_swap is) rest = next_falls script s t k known st refl refl
+  thread_falls k st cmd e x turn acts rest = next_falls script s t k known st refl refl
 
   -- the entry of a thread, where those of searches do
   pub entry_falls : (k : Kind) (st : Stepped script s t k) → (is_searching st.step.task k ≡ true → Lower k) → Lower k
-  entry_falls k st search = thread_falls k st st.step.cmd refl st.step.task st.turn st.gives search
+  entry_falls k st rest = thread_falls k st st.step.cmd refl st.step.task st.turn st.gives rest

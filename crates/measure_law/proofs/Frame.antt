@@ -139,20 +139,20 @@ module _ (script : Script) (s : State) (c : Course) (cmd : Command) where
   turn_has x b (victim_fill v on i f q r) e = of_victim v b on e
   turn_has x b (victim_search v on i f q) e = of_victim v b on e
   turn_has x b (refuse on r) e = nothing_is b e
-  turn_has x b (give {a} d on l f u g) e = of_first a b on.works u e
+  turn_has x b (give {b = a} d on l f u g) e = of_first a b on.works u e
   turn_has x b (give_up on l f u) e = nothing_is b e
   turn_has x b (act on l f u) e = nothing_is b e
-  turn_has x b (fill_in_place {a} on i) e = of_buffer a b on e
-  turn_has x b (ask {a} on n) e = of_buffer a b on.on e
-  turn_has x b (bind {a} on q r) e = of_buffer a b on.on.on e
-  turn_has x b (fill_to_bind {a} on q r) e = of_buffer a b on.on.on e
-  turn_has x b (hop_up {a} on q) e = of_buffer a b on.on.on e
-  turn_has x b (unbind {a} on q) e = of_buffer a b on.on.on e
-  turn_has x b (move_up {a} on q) e = of_buffer a b on.on.on e
-  turn_has x b (move_across {a} on q) e = of_buffer a b on.on.on e
-  turn_has x b (move_down {a} on q r p) e = of_buffer a b on.on.on e
-  turn_has x b (fill_to_move {a} on q r p) e = of_buffer a b on.on.on e
-  turn_has x b (hop_down {a} on q r) e = of_buffer a b on.on.on e
+  turn_has x b (fill_in_place {b = a} on i) e = of_buffer a b on e
+  turn_has x b (ask {b = a} on n) e = of_buffer a b on.on e
+  turn_has x b (bind {b = a} on q r) e = of_buffer a b on.on.on e
+  turn_has x b (fill_to_bind {b = a} on q r) e = of_buffer a b on.on.on e
+  turn_has x b (hop_up {b = a} on q) e = of_buffer a b on.on.on e
+  turn_has x b (unbind {b = a} on q) e = of_buffer a b on.on.on e
+  turn_has x b (move_up {b = a} on q) e = of_buffer a b on.on.on e
+  turn_has x b (move_across {b = a} on q) e = of_buffer a b on.on.on e
+  turn_has x b (move_down {b = a} on q r p) e = of_buffer a b on.on.on e
+  turn_has x b (fill_to_move {b = a} on q r p) e = of_buffer a b on.on.on e
+  turn_has x b (hop_down {b = a} on q r) e = of_buffer a b on.on.on e
 
 module _ (script : Script) (s : State) (t : ℕ) (cmd : Command) (at : command_at_work script s t ≡ Some cmd) (o : Owned script s) where
   dead_free : (b : BufId) → is_live s b ≡ false → (grip s b).holder ≡ None

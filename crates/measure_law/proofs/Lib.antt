@@ -7,3 +7,4 @@ pub mod Sums
 pub mod Border
 pub mod Locking
 pub mod Ends
+pub mod Falls

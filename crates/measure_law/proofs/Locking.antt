@@ -76,8 +76,8 @@ count_falls p q b (x ∷ bs) h no_more one_more k =
     ⊎_elim
     (λ e.
     let is : b ≡ x = same_is b x e in
-    let now : cond (p x) 1 0 ≡ 0 = ap (λ t. cond t 1 0) (subst (λ z. p z ≡ false) is no_more) in
-    let was : cond (q x) 1 0 ≡ 1 = ap (λ t. cond t 1 0) (subst (λ z. q z ≡ true) is one_more) in
+    let now : ◌≡◌ {A = ℕ} (cond (p x) 1 0) 0 = ap (λ t. cond t 1 0) (subst (λ z. p z ≡ false) is no_more) in
+    let was : ◌≡◌ {A = ℕ} (cond (q x) 1 0) 1 = ap (λ t. cond t 1 0) (subst (λ z. q z ≡ true) is one_more) in
     let rest = count_less p q bs h in
     omega (arith, a, c, now, was, rest))
     (λ e.

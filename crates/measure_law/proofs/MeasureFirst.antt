@@ -19,6 +19,7 @@ use Rattle.journal_model.specs.Scheduled.{ticketed, packets_in, turn_limit, sche
 use Rattle.progress_law.proofs.DeadEnds.{command_is}
 use Rattle.progress_law.proofs.OthersSame.{sum_same}
 use Rattle.progress_law.proofs.Measure.{all_pages, packet_count, whole_command, command_left, later_commands, thread_left, slot_debts, left_of_buffer, missing, binary, by_age, may_lock, locks_left, measure, missing_of, waits_for_elder}
+use Rattle.measure_law.proofs.Slots.{no_debts}
 use Rattle.sound_law.proofs.Along.{first_course, sound_first}
 
 -- ---- sums and products
@@ -95,7 +96,7 @@ module _ (script : Script) where
   threads_first = numbered (thread_left script (first_state script)) (sum_by (whole_command script)) script.threads 1 (λ i cs e. thread_first (1 + i) ∙ ap (sum_by (whole_command script)) (commands_at i cs e))
 
   debts_first : sum_by (slot_debts script (first_state script)) (thread_numbers script) ≡ 0
-  debts_first = sum_zero (slot_debts script (first_state script)) (thread_numbers script) (λ t. ap (λ c. sum_by _ c.caught) (first_course script t))
+  debts_first = sum_zero (slot_debts script (first_state script)) (thread_numbers script) (λ t. no_debts script (first_state script) t (ap (λ c. c.caught) (first_course script t)))
 
   buffers_first : {X : Type 0} (xs : List X) → sum_by left_of_buffer (map (λ d. None) xs) ≡ 0
   buffers_first [] = refl

@@ -1,5 +1,5 @@
 -- Sums of which one part changes.
-use Rattle.std.proofs.Common.{◌≡◌, ℕ, ◌<◌, ◌≤◌, ◌+◌, ◌-◌, zero, suc, Bool, true, false, List, [], ◌∷◌, ◌++◌, length, length-append, Option, Some, None, refl, sym, ◌∙◌, ap, subst, arith, ⊎_elim}
+use Rattle.std.proofs.Common.{◌≡◌, ℕ, ◌<◌, ◌≤◌, ◌+◌, ◌*◌, ◌-◌, zero, suc, Bool, true, false, List, [], ◌∷◌, ◌++◌, length, length-append, Option, Some, None, refl, sym, ◌∙◌, ap, subst, arith, ⊎_elim}
 use Rattle.std.specs.Prelude.{slice_get, slice_set, sum_by, map, flat_map, fold, unwrap_or, drop, replicate, option_map, option_and_then}
 use Rattle.std.proofs.lemmas.Bool.{cases_eq}
 use Rattle.std.proofs.lemmas.List.Sums.{sum_by-cons}
@@ -107,7 +107,8 @@ decl_most script b = by (slice_get script.buffers b.0) refl
 
 -- the command at a place, and those behind it
 pub drop_at : {X : Type 0} (w : X → ℕ) (xs : List X) (i : ℕ) → elim (slice_get xs i) [ None ↦ 0 | Some x ↦ w x + sum_by w (drop (i + 1) xs) ] ≡ sum_by w (drop i xs)
-drop_at w [] i = refl
+drop_at w [] zero = refl
+drop_at w [] (suc i) = refl
 drop_at w (x ∷ xs) zero = sym (sum_by-cons w x xs)
 drop_at w (x ∷ xs) (suc i) =
     let on : suc i + 1 ≡ suc (i + 1) = omega arith in
