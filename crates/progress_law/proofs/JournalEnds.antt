@@ -7,10 +7,9 @@ use Rattle.journal_model.specs.declared.script.Script.{Script}
 use Rattle.journal_model.specs.declared.state.State.{State}
 use Rattle.journal_model.specs.declared.entry.Entry.{Entry}
 use Rattle.journal_model.specs.declared.entry.Kind.{Kind}
-use Rattle.journal_model.specs.declared.entry.Kind.TheVariants as kind
 use Rattle.journal_model.specs.Next.{next}
 use Rattle.journal_model.specs.Apply.{applied}
-use Rattle.journal_model.specs.Stores.{Stores, showing}
+use Rattle.journal_model.specs.Stores.{showing}
 use Rattle.journal_model.specs.Legal.{World, first_world, first_state, world_after, world_along, state_of, shown_step, IsLegalNext, IsLegalFrom, IsLegal}
 use Rattle.journal_model.specs.Complete.{is_over}
 use Rattle.journal_model.specs.DeadEnd.{can_step}

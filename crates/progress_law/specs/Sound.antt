@@ -1,5 +1,5 @@
 -- What a sound state is: what the laws on going on need of jobs, holders and searches.
-use Rattle.std.proofs.Common.{◌≡◌, ℕ, ◌<◌, ◌≤◌, Bool, true, false, List, [], ◌∷◌, ◌++◌, Option, Some, None, ◌⊎◌}
+use Rattle.std.proofs.Common.{◌≡◌, ℕ, ◌<◌, ◌≤◌, Bool, true, false, List, [], ◌∷◌, Option, Some, None, ◌⊎◌}
 use Rattle.std.specs.Prelude.{Contains, map, length, slice_get, unwrap_or, not, nat_le}
 use Rattle.std.specs.List.{list_any, list_all}
 use Rattle.ttm_base.specs.declared.Mem.{Mem}

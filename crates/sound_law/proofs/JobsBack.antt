@@ -122,10 +122,10 @@ pushed_back script last jobs y sound mine new good =
     record {
       contexts = contexts_from script last (jobs ++ y ∷ []) good;
       waits_known =
-        list_all-append (waits_for_some_of (jobs ++ y ∷ [])) jobs (y ∷ [])
-        ∙ and_from (list_all (waits_for_some_of (jobs ++ y ∷ [])) jobs) (waits_for_some_of (jobs ++ y ∷ []) y && true)
-        (all_more (waits_for_some_of jobs) (waits_for_some_of (jobs ++ y ∷ [])) jobs (λ j h. more j.waits h) sound.waits_known)
-        (and_from (waits_for_some_of (jobs ++ y ∷ []) y) true (more y.waits mine) refl);
+          list_all-append (waits_for_some_of (jobs ++ y ∷ [])) jobs (y ∷ [])
+          ∙ and_from (list_all (waits_for_some_of (jobs ++ y ∷ [])) jobs) (waits_for_some_of (jobs ++ y ∷ []) y && true)
+          (all_more (waits_for_some_of jobs) (waits_for_some_of (jobs ++ y ∷ [])) jobs (λ j h. more j.waits h) sound.waits_known)
+          (and_from (waits_for_some_of (jobs ++ y ∷ []) y) true (more y.waits mine) refl);
       waits_back = back_pushed jobs jobs y sound.waits_known mine new sound.waits_back;
     }
   where
@@ -165,10 +165,12 @@ module _ (f : Job → Job) (n : JobId) (names : (j : Job) → (f j).id ≡ j.id)
 
   back_same : (js : List Job) → WaitsGoBack js → WaitsGoBack (changed_job f n js)
   back_same [] h = tt
-  back_same (j ∷ js) h =
-      (ap (list_all (λ i. not (is_among (changed_job f n (j ∷ js)) i))) (step_waits j)
-      ∙ all_alike (λ i. not (is_among (changed_job f n (j ∷ js)) i)) (λ i. not (is_among (j ∷ js) i)) j.waits (λ i. ap not (among_same (j ∷ js) i))
-      ∙ h.0, back_same js h.1)
+  back_same (j ∷ js) h = (
+    ap (list_all (λ i. not (is_among (changed_job f n (j ∷ js)) i))) (step_waits j)
+        ∙ all_alike (λ i. not (is_among (changed_job f n (j ∷ js)) i)) (λ i. not (is_among (j ∷ js) i)) j.waits (λ i. ap not (among_same (j ∷ js) i))
+        ∙ h.0,
+    back_same js h.1,
+  )
 
   pub changed_back : (script : Script) (last : List ℕ) (jobs : List Job) → SoundJobs script jobs → GoodJobs script.sizes.engines last (changed_job f n jobs) → SoundJobs script (changed_job f n jobs)
   changed_back script last jobs sound good =

@@ -179,9 +179,12 @@ module _ (script : Script) (s s' : State) (t : ℕ) (one : OneCourse s s' t) (o 
           (λ q.
           ⊎_elim
           (λ h. subst (λ v. (st' : Stamp) × (is_live s' d ≡ true) × ((grip s' d).holder ≡ Some st') × ((course s' v).stamp ≡ Some st')) (sym q) (old t d h))
-          (λ e.
-          (st, g.live d ∙ subst (λ z. is_live s z ≡ true) (sym e) g.here, subst (λ z. (grip s' z).holder ≡ Some st) (sym e) g.now,
-          subst (λ v. (course s' v).stamp ≡ Some st) (sym q) (g.stamp_same ∙ g.stamp)))
+          (λ e. (
+            st,
+            g.live d ∙ subst (λ z. is_live s z ≡ true) (sym e) g.here,
+            subst (λ z. (grip s' z).holder ≡ Some st) (sym e) g.now,
+            subst (λ v. (course s' v).stamp ≡ Some st) (sym q) (g.stamp_same ∙ g.stamp),
+          ))
           (g.less d (subst (λ v. Has s' v d) q now)))
           (λ n. old u d (had u d n now))
           (cases_eq u t)
@@ -205,9 +208,9 @@ module _ (script : Script) (s s' : State) (t : ℕ) (one : OneCourse s s' t) (o 
         steady = steady_on mine;
         holder = λ b st' e. let h = o.holder b st' (sym (w.same b) ∙ e) in let d = not_t h.0 b h.2 in (h.0, stamp_kept h.0 st' d h.1, has_kept h.0 b d h.2);
         held = λ u b h.
-          let d = not_now u b h in
-          let k = o.held u b (had u b d h) in
-          (k.0, w.live b ∙ k.1, w.same b ∙ k.2, stamp_kept u k.0 d k.3);
+            let d = not_now u b h in
+            let k = o.held u b (had u b d h) in
+            (k.0, w.live b ∙ k.1, w.same b ∙ k.2, stamp_kept u k.0 d k.3);
         one = one_on;
         below = below_on;
       }

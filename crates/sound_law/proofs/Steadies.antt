@@ -149,9 +149,9 @@ module _ (script : Script) (t : ℕ) (c : Course) (cmd : Command) (ok : Steady s
         apart = λ d h. absurd (locks_alone b d (lock_wants c cmd b m st f) h);
         at_work = ok.at_work;
         named_held = λ d x e h.
-          ⊎_elim (λ k. ok.named_held d x e k)
-          (λ k. subst (λ z. has_buffer (named z) d ≡ true) (only x e) (subst (λ z. has_buffer (named cmd) z ≡ true) (sym k) (missing_is_named c cmd b f (ok.named_first b cmd at))))
-          (has_pushed c.held b d h);
+            ⊎_elim (λ k. ok.named_held d x e k)
+            (λ k. subst (λ z. has_buffer (named z) d ≡ true) (only x e) (subst (λ z. has_buffer (named cmd) z ≡ true) (sym k) (missing_is_named c cmd b f (ok.named_first b cmd at))))
+            (has_pushed c.held b d h);
         named_first = ok.named_first;
         searching = λ d x e h. absurd (locks_alone b d (lock_wants c cmd b m st f) h);
         unfailed = ok.unfailed;

@@ -19,10 +19,8 @@ pub fn states_are_sound()
 
 /// Until a legal journal is complete, some actor has an entry.
 pub fn some_actor_goes_on()
-    ensures {
-        (script : Script) (journal : List Entry) → IsTrue (is_script script) → IsLegal script journal
-        → is_complete script journal ≡ false → SomeGoesOn script (state_of script journal)
-    }
+    ensures { (script : Script) (journal : List Entry) → IsTrue (is_script script) → IsLegal script journal
+        → is_complete script journal ≡ false → SomeGoesOn script (state_of script journal) }
 {}
 
 /// No legal journal is a dead end.
@@ -32,16 +30,12 @@ pub fn no_journal_is_a_dead_end()
 
 /// Where a legal journal has come to its end, nobody has an entry.
 pub fn nobody_goes_on_behind_the_end()
-    ensures {
-        (script : Script) (journal : List Entry) → IsTrue (is_script script) → IsLegal script journal
-        → is_over script (state_of script journal) ≡ true → (who : Actor) → can_step script (state_of script journal) who ≡ false
-    }
+    ensures { (script : Script) (journal : List Entry) → IsTrue (is_script script) → IsLegal script journal
+        → is_over script (state_of script journal) ≡ true → (who : Actor) → can_step script (state_of script journal) who ≡ false }
 {}
 
 /// Before that the simulator's own order finds an actor that has one.
 pub fn own_order_finds_who_goes_on()
-    ensures {
-        (script : Script) (journal : List Entry) → IsTrue (is_script script) → IsLegal script journal
-        → is_over script (state_of script journal) ≡ false → FindsOne script (state_of script journal)
-    }
+    ensures { (script : Script) (journal : List Entry) → IsTrue (is_script script) → IsLegal script journal
+        → is_over script (state_of script journal) ≡ false → FindsOne script (state_of script journal) }
 {}
