@@ -27,7 +27,7 @@ pub binary_falls : {bs cs : List Bool} → OneFalls bs cs → binary cs < binary
 binary_falls (here r) = let h = binary_keeps r in omega arith
 binary_falls (later {b} {c} r) = let h = binary_falls r in let d = digit_most c in omega arith
 
-abbrev two_to : ℕ → ℕ
+abbrev pub two_to : ℕ → ℕ
 two_to zero = 1
 two_to (suc n) = two_to n + two_to n
 

@@ -1,8 +1,8 @@
 -- Where the journal isn't over some actor has an entry.
-use Rattle.std.proofs.Common.{◌≡◌, ℕ, ◌<◌, ◌≤◌, ◌+◌, zero, suc, Bool, true, false, List, [], ◌∷◌, Some, refl, ap, arith, ◌⊎◌, inl, inr, ⊎_elim}
+use Rattle.std.proofs.Common.{◌≡◌, ℕ, ◌<◌, ◌≤◌, ◌+◌, zero, suc, Bool, true, false, List, [], ◌∷◌, Option, Some, None, refl, sym, ◌∙◌, ap, arith, ◌⊎◌, inl, inr, ⊎_elim}
 use Rattle.std.proofs.lemmas.Grind.{common_steps}
 use Rattle.std.proofs.lemmas.Bool.Decides.{nat_tests}
-use Rattle.std.specs.Prelude.{◌-◌, ◌&&◌, ◌==◌, find, slice_get, length}
+use Rattle.std.specs.Prelude.{◌-◌, ◌&&◌, ◌==◌, find, slice_get, length, unwrap_or, option_and_then, if◌then◌else◌}
 use Rattle.std.specs.List.{list_all}
 use Rattle.ttm_base.specs.ListWords.{count_from}
 use Rattle.journal_model.specs.declared.state.Course.{Course}
@@ -12,18 +12,40 @@ use Rattle.journal_model.specs.declared.state.State.{State}
 use Rattle.journal_model.specs.declared.state.Job.{Job}
 use Rattle.journal_model.specs.declared.state.Ghost.{Ghost}
 use Rattle.journal_model.specs.declared.script.Command.{Command}
-use Rattle.journal_model.specs.State.{course, course_of}
+use Rattle.journal_model.specs.State.{course, course_of, new_course}
 use Rattle.journal_model.specs.Commands.{commands_of, command_at_work}
 use Rattle.journal_model.specs.Waits.{named_job}
 use Rattle.journal_model.specs.Complete.{is_over, has_answered, thread_numbers}
 use Rattle.progress_law.proofs.EnginesGoOn.{engine_goes_on, reaper_goes_on, none_waited_for, open_job}
 use Rattle.progress_law.proofs.ThreadsGoOn.{Quiet}
 use Rattle.progress_law.proofs.NoDeadEnd.{Holding, some_thread_goes_on}
-use Rattle.progress_law.specs.Sound.{SomeGoesOn, Sound}
+use Rattle.progress_law.specs.Sound.{SomeGoesOn, Sound, command_of}
 
 bool_cases : (b : Bool) → (b ≡ true) ⊎ (b ≡ false)
 bool_cases true = inl refl
 bool_cases false = inr refl
+
+no_commands : {X Y : Type 0} (xs : List X) (ys : List (List Y)) → length xs ≡ length ys → (i j : ℕ) → slice_get xs i ≡ None → slice_get (unwrap_or (slice_get ys i) []) j ≡ None
+no_commands [] [] l i j h = refl
+no_commands [] (y ∷ ys) l i j h = absurd (omega arith)
+no_commands (x ∷ xs) [] l i j h = absurd (omega arith)
+no_commands (x ∷ xs) (y ∷ ys) l zero j h = cc
+no_commands (x ∷ xs) (y ∷ ys) l (suc i) j h = no_commands xs ys (omega arith) i j h
+
+-- the command at work is that of the course
+pub command_is : (script : Script) (s : State) → length s.courses ≡ length script.threads → (t : ℕ) → command_at_work script s t ≡ command_of script t (course s t)
+command_is script s l t = by_number (t == 0)
+  where
+    by_course : (o : Option Course) → slice_get s.courses (t - 1) ≡ o →
+        option_and_then (λ c. slice_get (unwrap_or (slice_get script.threads (t - 1)) []) c.answered) o ≡ slice_get (unwrap_or (slice_get script.threads (t - 1)) []) (unwrap_or o (new_course 0)).answered
+    by_course (Some c) e = refl
+    by_course None e = sym (no_commands s.courses script.threads l (t - 1) 0 e)
+
+    by_number : (q : Bool) →
+        option_and_then (λ c. slice_get (if q then [] else unwrap_or (slice_get script.threads (t - 1)) []) c.answered) (if q then None else slice_get s.courses (t - 1))
+        ≡ slice_get (if q then [] else unwrap_or (slice_get script.threads (t - 1)) []) (unwrap_or (if q then None else slice_get s.courses (t - 1)) (new_course 0)).answered
+    by_number true = refl
+    by_number false = by_course (slice_get s.courses (t - 1)) refl
 
 holding : (script : Script) (s : State) → Sound script s → Holding script s
 holding script s sound =
@@ -31,8 +53,8 @@ holding script s sound =
       holder = sound.owned.holder;
       one = sound.owned.one;
       below = sound.owned.below;
-      at_work = λ t st e. let w = sound.owned.at_work t st e in (w.0, w.1);
-      searching = sound.owned.searching;
+      at_work = λ t st e. let w = (sound.owned.steady t).at_work st e in (w.0, command_is script s sound.owned.courses t ∙ w.1);
+      searching = λ t cmd b e h. (sound.owned.steady t).searching b cmd (sym (command_is script s sound.owned.courses t) ∙ e) h;
     }
 
 -- an unfinished job is found
@@ -70,7 +92,7 @@ module _ (script : Script) (s : State) (sound : Sound script s) where
       let n : length s.courses ≡ length script.threads = sound.owned.courses in
       let at = get_below s.courses (t - 1) (omega arith) in
       let is : course_of s t ≡ Some at.0 = course_there at.0 at.1 in
-      let few : (course s t).answered ≤ length (commands_of script t) = sound.owned.answered t in
+      let few : (course s t).answered ≤ length (commands_of script t) = (sound.owned.steady t).answered in
       let other : (course s t).answered ≡ length (commands_of script t) → ⊥ = λ e. clash e h in
       let less : (course s t).answered < length (commands_of script t) = grind arith in
       let cmd = get_below (commands_of script t) (course s t).answered less in

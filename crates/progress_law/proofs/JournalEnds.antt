@@ -7,50 +7,20 @@ use Rattle.journal_model.specs.declared.script.Script.{Script}
 use Rattle.journal_model.specs.declared.state.State.{State}
 use Rattle.journal_model.specs.declared.entry.Entry.{Entry}
 use Rattle.journal_model.specs.declared.entry.Kind.{Kind}
-use Rattle.journal_model.specs.declared.entry.Kind.TheVariants as kind
 use Rattle.journal_model.specs.Next.{next}
 use Rattle.journal_model.specs.Apply.{applied}
-use Rattle.journal_model.specs.Stores.{Stores, showing}
+use Rattle.journal_model.specs.Stores.{showing}
 use Rattle.journal_model.specs.Legal.{World, first_world, first_state, world_after, world_along, state_of, shown_step, IsLegalNext, IsLegalFrom, IsLegal}
 use Rattle.journal_model.specs.Complete.{is_over}
 use Rattle.journal_model.specs.DeadEnd.{can_step}
 use Rattle.journal_model.specs.Scheduled.{Run, run_of, stepped, appended, actor_of_turn, own_order, scheduled_actors}
+use Rattle.journal_law.proofs.Shown.{shown_alike}
 use Rattle.progress_law.proofs.Measure.{measure}
-use Rattle.progress_law.specs.Sound.{Sound}
 
--- what an entry shows changes no state
-shown_alike : (script : Script) (stores : Stores) (s z : State) (who : Actor) (k : Kind) → applied script s who (showing script stores z who k) ≡ applied script s who k
-shown_alike script stores s z who (kind.Ticket stamp) = refl
-shown_alike script stores s z who (kind.Reserve b) = refl
-shown_alike script stores s z who (kind.Backoff b stamp) = refl
-shown_alike script stores s z who (kind.New b) = refl
-shown_alike script stores s z who (kind.Free b g) = refl
-shown_alike script stores s z who (kind.Take b mem spans) = refl
-shown_alike script stores s z who (kind.Untake b mem) = refl
-shown_alike script stores s z who (kind.Populate b page frame) = refl
-shown_alike script stores s z who (kind.SwapIn b page slot frame) = refl
-shown_alike script stores s z who (kind.Depopulate b) = refl
-shown_alike script stores s z who (kind.Bind b) = refl
-shown_alike script stores s z who (kind.Unbind b) = refl
-shown_alike script stores s z who (kind.Move b mem n l) = refl
-shown_alike script stores s z who (kind.Catch b w) = refl
-shown_alike script stores s z who (kind.Loose b) = refl
-shown_alike script stores s z who (kind.Skip b) = refl
-shown_alike script stores s z who (kind.Dry b k w) = refl
-shown_alike script stores s z who (kind.SwapOut b page slot) = refl
-shown_alike script stores s z who (kind.NoPages b) = refl
-shown_alike script stores s z who (kind.Arm engine n) = refl
-shown_alike script stores s z who (kind.Packet n k piece) = refl
-shown_alike script stores s z who (kind.Done n) = refl
-shown_alike script stores s z who (kind.Reap g) = refl
-shown_alike script stores s z who (kind.Bulk group) = refl
-shown_alike script stores s z who (kind.Result r) = refl
-shown_alike script stores s z who (kind.Refused d) = refl
-
--- the two laws that the kinds' lemmas give
-module _ (script : Script)
-    (keeps : (s : State) (who : Actor) (k : Kind) → Sound script s → next script s who ≡ Ok k → Sound script (applied script s who k))
-    (falls : (s : State) (who : Actor) (k : Kind) → Sound script s → next script s who ≡ Ok k → measure script (applied script s who k) + 1 ≤ measure script s) where
+-- an invariant, and the two laws that the kinds' lemmas give
+module _ (script : Script) (Inv : State → Type 0)
+    (keeps : (s : State) (who : Actor) (k : Kind) → Inv s → next script s who ≡ Ok k → Inv (applied script s who k))
+    (falls : (s : State) (who : Actor) (k : Kind) → Inv s → next script s who ≡ Ok k → measure script (applied script s who k) + 1 ≤ measure script s) where
   -- the state after an entry that is legal next
   legal_kind : (w : World) (e : Entry) → IsLegalNext script w e → (k : Kind) × (next script w.state e.who ≡ Ok k) × ((world_after script w e).state ≡ applied script w.state e.who k)
   legal_kind w e h = by_step (next script w.state e.who) refl h
@@ -61,15 +31,15 @@ module _ (script : Script)
           (k, n, ap (λ f. applied script w.state f.who f.kind) (sym it) ∙ shown_alike script w.stores w.state w.state e.who k)
       by_step (Err need) n h = cc
 
-  pub next_falls : (w : World) (e : Entry) → Sound script w.state → IsLegalNext script w e →
-      Sound script (world_after script w e).state × (measure script (world_after script w e).state + 1 ≤ measure script w.state)
+  pub next_falls : (w : World) (e : Entry) → Inv w.state → IsLegalNext script w e →
+      Inv (world_after script w e).state × (measure script (world_after script w e).state + 1 ≤ measure script w.state)
   next_falls w e sound h =
       let k = legal_kind w e h in (
-        subst (Sound script) (sym k.2) (keeps w.state e.who k.0 sound k.1),
+        subst Inv (sym k.2) (keeps w.state e.who k.0 sound k.1),
         subst (λ s. measure script s + 1 ≤ measure script w.state) (sym k.2) (falls w.state e.who k.0 sound k.1),
       )
 
-  pub ends_from : (w : World) (es : List Entry) → Sound script w.state → IsLegalFrom script w es → length es + measure script (world_along script w es).state ≤ measure script w.state
+  pub ends_from : (w : World) (es : List Entry) → Inv w.state → IsLegalFrom script w es → length es + measure script (world_along script w es).state ≤ measure script w.state
   ends_from w [] sound h = omega arith
   ends_from w (e ∷ es) sound h =
       let n = next_falls w e sound h.0 in
@@ -78,7 +48,7 @@ module _ (script : Script)
       omega arith
 
   -- each legal journal, under whatever schedule
-  pub journal_ends : (journal : List Entry) → Sound script (first_state script) → IsLegal script journal → length journal ≤ measure script (first_state script)
+  pub journal_ends : (journal : List Entry) → Inv (first_state script) → IsLegal script journal → length journal ≤ measure script (first_state script)
   journal_ends journal sound h =
       let a : length journal + measure script (state_of script journal) ≤ measure script (first_state script) = ends_from (first_world script) journal sound h in omega arith
 
@@ -90,23 +60,23 @@ module _ (script : Script)
   get_beyond (x ∷ xs) (suc i) h = get_beyond xs i (omega arith)
 
   -- a turn keeps what is sound, and never raises the measure
-  turn_keeps : (r : Run) (who : Option Actor) → Sound script r.world.state →
-      Sound script (stepped script r who).world.state × (measure script (stepped script r who).world.state ≤ measure script r.world.state)
+  turn_keeps : (r : Run) (who : Option Actor) → Inv r.world.state →
+      Inv (stepped script r who).world.state × (measure script (stepped script r who).world.state ≤ measure script r.world.state)
   turn_keeps r None sound = (sound, omega arith)
   turn_keeps r (Some who) sound = by_step (next script r.world.state who) refl
     where
       by_step : (step : Result Kind Need) → next script r.world.state who ≡ step →
-          Sound script (appended script r (shown_step script r.world who step)).world.state × (measure script (appended script r (shown_step script r.world who step)).world.state ≤ measure script r.world.state)
+          Inv (appended script r (shown_step script r.world who step)).world.state × (measure script (appended script r (shown_step script r.world who step)).world.state ≤ measure script r.world.state)
       by_step (Ok k) n =
           let same : applied script r.world.state who (showing script r.world.stores r.world.state who k) ≡ applied script r.world.state who k = shown_alike script r.world.stores r.world.state r.world.state who k in
           let less : measure script (applied script r.world.state who k) + 1 ≤ measure script r.world.state = falls r.world.state who k sound n in (
-            subst (Sound script) (sym same) (keeps r.world.state who k sound n),
+            subst Inv (sym same) (keeps r.world.state who k sound n),
             subst (λ s. measure script s ≤ measure script r.world.state) (sym same) (omega arith),
           )
       by_step (Err need) n = (sound, omega arith)
 
   -- and one that makes an entry lowers it
-  turn_lowers : (r : Run) (who : Actor) → Sound script r.world.state → can_step script r.world.state who ≡ true →
+  turn_lowers : (r : Run) (who : Actor) → Inv r.world.state → can_step script r.world.state who ≡ true →
       measure script (stepped script r (Some who)).world.state + 1 ≤ measure script r.world.state
   turn_lowers r who sound can = by_step (next script r.world.state who) refl can
     where
@@ -117,10 +87,10 @@ module _ (script : Script)
           subst (λ s. measure script s + 1 ≤ measure script r.world.state) (sym same) (falls r.world.state who k sound n)
       by_step (Err need) n c = cc
 
-  module _ (sound_first : Sound script (first_state script))
-      (goes : (s : State) → Sound script s → is_over script s ≡ false → (who : Actor) × (find (can_step script s) (own_order script s) ≡ Some who) × (can_step script s who ≡ true))
-      (rests : (s : State) → is_over script s ≡ true → find (can_step script s) (own_order script s) ≡ None) where
-    run_sound : (n : ℕ) → Sound script (run_of script n).world.state × (measure script (run_of script n).world.state ≤ measure script (first_state script))
+  module _ (sound_first : Inv (first_state script))
+      (goes : (s : State) → Inv s → is_over script s ≡ false → (who : Actor) × (find (can_step script s) (own_order script s) ≡ Some who) × (can_step script s who ≡ true))
+      (rests : (s : State) → Inv s → is_over script s ≡ true → find (can_step script s) (own_order script s) ≡ None) where
+    run_sound : (n : ℕ) → Inv (run_of script n).world.state × (measure script (run_of script n).world.state ≤ measure script (first_state script))
     run_sound zero = (sound_first, omega arith)
     run_sound (suc n) =
         let before = run_sound n in
@@ -145,7 +115,7 @@ module _ (script : Script)
         by_over : (q : Bool) → is_over script (at_turn turn) ≡ q → (is_over script (at_turn turn) ≡ true) ⊎ (measure script (at_turn turn) + n ≤ measure script (first_state script)) →
             (is_over script (at_turn (suc turn)) ≡ true) ⊎ (measure script (at_turn (suc turn)) + suc n ≤ measure script (first_state script))
         by_over true o before =
-            inl (ap (λ who. is_over script (stepped script (run_of script turn) who).world.state) (own None (rests (at_turn turn) o)) ∙ o)
+            inl (ap (λ who. is_over script (stepped script (run_of script turn) who).world.state) (own None (rests (at_turn turn) (run_sound turn).0 o)) ∙ o)
         by_over false o before =
             let g = goes (at_turn turn) (run_sound turn).0 o in
             let who : actor_of_turn script (at_turn turn) turn ≡ Some g.0 = own (Some g.0) g.1 in

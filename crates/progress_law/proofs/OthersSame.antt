@@ -89,7 +89,7 @@ held_same script s s' c cmd same = by_fail c.fail
     by_fail (Some d) = ap (λ n. 2097153 + n) give
     by_fail None = ap (λ n. packet_count cmd + n) (search_same script s s' c cmd same)
 
-command_same : (script : Script) (s s' : State) (c : Course) (cmd : Command) → (first_missing c cmd ≡ None → SameHad s s' c cmd) → command_left script s' c cmd ≡ command_left script s c cmd
+pub command_same : (script : Script) (s s' : State) (c : Course) (cmd : Command) → (first_missing c cmd ≡ None → SameHad s s' c cmd) → command_left script s' c cmd ≡ command_left script s c cmd
 command_same script s s' c cmd same = by_phase c.made (is_none c.stamp) (first_missing c cmd) refl
   where
     by_phase : (made fresh : Bool) (m : Option BufId) → first_missing c cmd ≡ m →

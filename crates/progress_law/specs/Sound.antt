@@ -1,6 +1,6 @@
 -- What a sound state is: what the laws on going on need of jobs, holders and searches.
-use Rattle.std.proofs.Common.{◌≡◌, ℕ, ◌<◌, ◌≤◌, Bool, true, false, List, [], ◌∷◌, ◌++◌, Option, Some, None, ◌⊎◌}
-use Rattle.std.specs.Prelude.{Contains, map, length, slice_get, unwrap_or, not, ◌&&◌}
+use Rattle.std.proofs.Common.{◌≡◌, ℕ, ◌<◌, ◌≤◌, Bool, true, false, List, [], ◌∷◌, Option, Some, None, ◌⊎◌}
+use Rattle.std.specs.Prelude.{Contains, map, length, slice_get, unwrap_or, not, nat_le}
 use Rattle.std.specs.List.{list_any, list_all}
 use Rattle.ttm_base.specs.declared.Mem.{Mem}
 use Rattle.ttm_base.specs.declared.Mem.TheVariants.{System, Tt, Vram}
@@ -18,10 +18,10 @@ use Rattle.journal_model.specs.declared.entry.Why.{Why}
 use Rattle.journal_model.specs.declared.entry.Why.TheVariants as why
 use Rattle.journal_model.specs.declared.script.Command.{Command}
 use Rattle.journal_model.specs.declared.script.Command.TheVariants as command
-use Rattle.journal_model.specs.State.{buffer, grip, live_in, course, has_buffer, has_target, target_of}
+use Rattle.journal_model.specs.State.{buffer, grip, is_live, live_in, course, has_buffer, has_target, target_of}
 use Rattle.journal_model.specs.Commands.{commands_of, command_at_work, named, decl, asked_places}
 use Rattle.ttm_base.specs.Placement.{forced_places}
-use Rattle.journal_model.specs.Waits.{same_job, jobs_before_write}
+use Rattle.journal_model.specs.Waits.{same_job}
 use Rattle.journal_model.specs.Lists.{in_order}
 use Rattle.journal_model.specs.Ready.{meets, is_in_place, has_some_target, first_unready}
 use Rattle.journal_model.specs.Search.{is_caught}
@@ -56,16 +56,17 @@ SomeGoesOn script s = (who : Actor) × (can_step script s who ≡ true)
 
 -- ---- jobs
 
-abbrev pub is_job : State → JobId → Bool
-is_job s i = list_any (λ j. same_job i j.id) s.core.jobs
+abbrev pub is_among : List Job → JobId → Bool
+is_among js i = list_any (λ h. same_job i h.id) js
 
-pub record SoundJobs (script : Script) (s : State) : Type 0 where
-  pub contexts : (j : Job) → Contains s.core.jobs j → j.id.ctx ≤ script.sizes.engines
-  pub numbers : (j : Job) → Contains s.core.jobs j → j.id.num ≤ unwrap_or (slice_get s.last_jobs j.id.ctx) 0
-  pub known : (b : BufId) (i : JobId) → Contains (jobs_before_write (buffer s b)) i → is_job s i ≡ true
-  pub waits_known : (j : Job) (i : JobId) → Contains s.core.jobs j → Contains j.waits i → is_job s i ≡ true
-  pub move_known : (i : JobId) → s.core.move_job ≡ Some i → is_job s i ≡ true
-  pub waits_back : WaitsGoBack s.core.jobs
+-- each job that is waited for was emitted
+abbrev pub waits_for_some_of : List Job → Job → Bool
+waits_for_some_of js j = list_all (is_among js) j.waits
+
+pub record SoundJobs (script : Script) (jobs : List Job) : Type 0 where
+  pub contexts : list_all (λ j. nat_le j.id.ctx script.sizes.engines) jobs ≡ true
+  pub waits_known : list_all (waits_for_some_of jobs) jobs ≡ true
+  pub waits_back : WaitsGoBack jobs
 
 -- ---- who has what
 
@@ -78,23 +79,34 @@ locks _ = true
 abbrev pub victims : Course → List BufId
 victims c = map (λ v. v.b) c.caught
 
-abbrev pub distinct : List BufId → Bool
-distinct [] = true
-distinct (b ∷ bs) = not (has_buffer bs b) && distinct bs
+-- the command of a course
+abbrev pub command_of : Script → ℕ → Course → Option Command
+command_of script t c = slice_get (commands_of script t) c.answered
 
+-- what a thread's course tells by itself
+pub record Steady (script : Script) (t : ℕ) (c : Course) : Type 0 where
+  pub answered : c.answered ≤ length (commands_of script t)
+  pub apart : (b : BufId) → is_caught c b ≡ true → has_buffer c.held b ≡ false
+  pub at_work : (st : Stamp) → c.stamp ≡ Some st → (cmd : Command) × (command_of script t c ≡ Some cmd) × (locks cmd ≡ true)
+  pub named_held : (b : BufId) (cmd : Command) → command_of script t c ≡ Some cmd → has_buffer c.held b ≡ true → has_buffer (named cmd) b ≡ true
+  pub named_first : (b : BufId) (cmd : Command) → command_of script t c ≡ Some cmd → c.first ≡ Some b → has_buffer (named cmd) b ≡ true
+  pub searching : (b : BufId) (cmd : Command) → command_of script t c ≡ Some cmd → is_caught c b ≡ true → wants c cmd ≡ None
+  pub unfailed : (b : BufId) → is_caught c b ≡ true → c.fail ≡ None
+  pub finished : c.made ≡ true → c.caught ≡ []
+
+-- who has a live buffer is told by its holder
 pub record Owned (script : Script) (s : State) : Type 0 where
   pub courses : length s.courses ≡ length script.threads
-  pub answered : (t : ℕ) → (course s t).answered ≤ length (commands_of script t)
+  pub grips : length s.grips ≡ length s.core.buffers
+  pub steady : (t : ℕ) → Steady script t (course s t)
   pub holder : (b : BufId) (st : Stamp) → (grip s b).holder ≡ Some st → (t : ℕ) × ((course s t).stamp ≡ Some st) × Has s t b
-  pub held : (t : ℕ) (b : BufId) → Has s t b → (x : Buffer) × (st : Stamp) × (live_in s.core.buffers b ≡ Some x) × ((grip s b).holder ≡ Some st) × ((course s t).stamp ≡ Some st)
-  pub once : (t : ℕ) → distinct ((course s t).held ++ victims (course s t)) ≡ true
+  pub held : (t : ℕ) (b : BufId) → Has s t b → (st : Stamp) × (is_live s b ≡ true) × ((grip s b).holder ≡ Some st) × ((course s t).stamp ≡ Some st)
   pub one : (t u : ℕ) (st : Stamp) → (course s t).stamp ≡ Some st → (course s u).stamp ≡ Some st → t ≡ u
   pub below : (t : ℕ) (st : Stamp) → (course s t).stamp ≡ Some st → st.0 ≤ s.last_stamp
-  pub at_work : (t : ℕ) (st : Stamp) → (course s t).stamp ≡ Some st → (cmd : Command) × (command_at_work script s t ≡ Some cmd) × (locks cmd ≡ true)
-  pub named_held : (t : ℕ) (b : BufId) (cmd : Command) → command_at_work script s t ≡ Some cmd → has_buffer (course s t).held b ≡ true → has_buffer (named cmd) b ≡ true
-  pub named_first : (t : ℕ) (b : BufId) (cmd : Command) → command_at_work script s t ≡ Some cmd → (course s t).first ≡ Some b → has_buffer (named cmd) b ≡ true
-  pub searching : (t : ℕ) (cmd : Command) (b : BufId) → command_at_work script s t ≡ Some cmd → is_caught (course s t) b ≡ true → wants (course s t) cmd ≡ None
-  pub fails_not : (t : ℕ) (b : BufId) → is_caught (course s t) b ≡ true → (course s t).fail ≡ None
+
+pub record Sound (script : Script) (s : State) : Type 0 where
+  pub jobs : SoundJobs script s.core.jobs
+  pub owned : Owned script s
 
 -- ---- searches
 
@@ -181,8 +193,3 @@ pub record Searched (script : Script) (s : State) : Type 0 where
   pub dry : (t : ℕ) (cmd : Command) → command_at_work script s t ≡ Some cmd → (course s t).made ≡ false → (course s t).fail ≡ None →
       0 < (course s t).dry → GoneDry script s (course s t) cmd
   pub makes : (t : ℕ) (cmd : Command) → command_at_work script s t ≡ Some cmd → (course s t).made ≡ true → asks_to_make cmd ≡ true
-
-pub record Sound (script : Script) (s : State) : Type 0 where
-  pub jobs : SoundJobs script s
-  pub owned : Owned script s
-  pub searched : Searched script s

@@ -1,0 +1,10 @@
+pub mod Turns
+pub mod Gifts
+pub mod Bufs
+pub mod JobsBack
+pub mod Steadies
+pub mod Owners
+pub mod Grips
+pub mod OwnedKeeps
+pub mod Along
+pub mod Orders
