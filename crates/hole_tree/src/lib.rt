@@ -1,0 +1,9 @@
+//! The holes of a range of pages, in a balanced tree (drm_mm's hole trees).
+#![tactic(auto)]
+
+mod holes;
+mod request;
+mod search;
+mod tree;
+
+pub use holes::Holes;
