@@ -39,9 +39,9 @@ or_none (Some x) = refl
 last_fit : (m : Mode) (q : Request) (xs : List Span) → option_map (λ f. f.hole) (last_of (all_fits m q xs)) ≡ find_last (fits m q) xs
 last_fit m q [] = refl
 last_fit m q (x ∷ xs) = elim (cases_Bool (fits m q x)) [
-      | inl e ↦ rw e (last_cons (fit_of m q x) (all_fits m q xs) ∙ ap (λ o. option_or o (Some x)) (last_fit m q xs))
-      | inr e ↦ rw (e, or_none (find_last (fits m q) xs)) (last_fit m q xs)
-    ]
+  | inl e ↦ rw e (last_cons (fit_of m q x) (all_fits m q xs) ∙ ap (λ o. option_or o (Some x)) (last_fit m q xs))
+  | inr e ↦ rw (e, or_none (find_last (fits m q) xs)) (last_fit m q xs)
+]
 
 pub chosen_high : (q : Request) (xs : List Span) → chosen_hole High xs q.pages q.align q.first q.last ≡ find_last (fits High q) xs
 chosen_high q xs = last_fit High q xs
@@ -53,9 +53,9 @@ least_cons f (Some g) = elim (ltb (length_of g.hole) (length_of f.hole)) as (λ 
 least_fit : (m : Mode) (q : Request) (xs : List Span) → option_map (λ f. f.hole) (least_by (λ g. length_of g.hole) (all_fits m q xs)) ≡ find_shortest (fits m q) xs
 least_fit m q [] = refl
 least_fit m q (x ∷ xs) = elim (cases_Bool (fits m q x)) [
-      | inl e ↦ rw e (least_cons (fit_of m q x) (least_by (λ g. length_of g.hole) (all_fits m q xs)) ∙ ap (λ o. Some (first_least length_of x o)) (least_fit m q xs))
-      | inr e ↦ rw e (least_fit m q xs)
-    ]
+  | inl e ↦ rw e (least_cons (fit_of m q x) (least_by (λ g. length_of g.hole) (all_fits m q xs)) ∙ ap (λ o. Some (first_least length_of x o)) (least_fit m q xs))
+  | inr e ↦ rw e (least_fit m q xs)
+]
 
 pub chosen_best : (q : Request) (xs : List Span) → chosen_hole Best xs q.pages q.align q.first q.last ≡ find_shortest (fits Best q) xs
 chosen_best q xs = least_fit Best q xs
@@ -70,12 +70,12 @@ shorter_first x (Some y) (Some z) = grind (arith, nat_tests)
 shortest_append : (test : Span → Bool) (l m : List Span) → find_shortest test (l ++ m) ≡ shorter (find_shortest test l) (find_shortest test m)
 shortest_append test [] m = refl
 shortest_append test (x ∷ l) m = elim (cases_Bool (test x)) [
-      | inl e ↦ rw e (ap (λ o. Some (first_least length_of x o)) (shortest_append test l m) ∙ shorter_first x (find_shortest test l) (find_shortest test m))
-      | inr e ↦ rw e (shortest_append test l m)
-    ]
+  | inl e ↦ rw e (ap (λ o. Some (first_least length_of x o)) (shortest_append test l m) ∙ shorter_first x (find_shortest test l) (find_shortest test m))
+  | inr e ↦ rw e (shortest_append test l m)
+]
 
 pub shortest_node : (test : Span → Bool) (l : List Span) (k : Span) (r : List Span) → find_shortest test (l ++ k ∷ r) ≡ shorter (find_shortest test l) (shorter (cond (test k) (Some k) None) (find_shortest test r))
 shortest_node test l k r = shortest_append test l (k ∷ r) ∙ elim (cases_Bool (test k)) [
-      | inl e ↦ rw e
-      | inr e ↦ rw e
-    ]
+  | inl e ↦ rw e
+  | inr e ↦ rw e
+]

@@ -47,9 +47,9 @@ with_right x (y ∷ t) k r h s =
 past_with : (page : ℕ) (x : Span) (ys : List Span) → page < x.start → IsPast page ys → IsPast page (with_hole x ys)
 past_with page x [] p h = (p, tt)
 past_with page x (y ∷ ys) p h = elim (ltb x.start y.start) as (λ b. IsPast page (cond b (x ∷ y ∷ ys) (y ∷ with_hole x ys))) [
-      | true ↦ (p, h)
-      | false ↦ (h.0, past_with page x ys p h.1)
-    ]
+  | true ↦ (p, h)
+  | false ↦ (h.0, past_with page x ys p h.1)
+]
 
 past_lower : (page below : ℕ) (ys : List Span) → below ≤ page → IsPast page ys → IsPast below ys
 past_lower page below [] p h = tt
@@ -61,15 +61,15 @@ front_past x y ys p h = let q : y.start ≤ y.end = h.0 in (p, past_lower y.end 
 
 apart_above : (x y : Span) → x.start ≤ x.end → y.start ≤ y.end → is_apart x y ≡ true → x.start < y.start → x.end < y.start
 apart_above x y p q e l = elim (or_cases (ltb x.end y.start) (ltb y.end x.start) e) [
-      | inl a ↦ ltb-true x.end y.start a
-      | inr b ↦ let c : y.end < x.start = ltb-true y.end x.start b in absurd (omega arith)
-    ]
+  | inl a ↦ ltb-true x.end y.start a
+  | inr b ↦ let c : y.end < x.start = ltb-true y.end x.start b in absurd (omega arith)
+]
 
 apart_below : (x y : Span) → x.start ≤ x.end → y.start ≤ y.end → is_apart x y ≡ true → y.start ≤ x.start → y.end < x.start
 apart_below x y p q e l = elim (or_cases (ltb x.end y.start) (ltb y.end x.start) e) [
-      | inl a ↦ let c : x.end < y.start = ltb-true x.end y.start a in absurd (omega arith)
-      | inr b ↦ ltb-true y.end x.start b
-    ]
+  | inl a ↦ let c : x.end < y.start = ltb-true x.end y.start a in absurd (omega arith)
+  | inr b ↦ ltb-true y.end x.start b
+]
 
 pub rising_with : (x : Span) (ys : List Span) → x.start ≤ x.end → list_all (is_apart x) ys ≡ true → IsRising ys → IsRising (with_hole x ys)
 rising_with x [] p a h = (p, tt, tt)
@@ -89,16 +89,16 @@ rising_with x (y ∷ ys) p a h =
 past_filter : (page : ℕ) (test : Span → Bool) (ys : List Span) → IsPast page ys → IsPast page (filter test ys)
 past_filter page test [] h = tt
 past_filter page test (y ∷ ys) h = elim (test y) as (λ b. IsPast page (cond b (y ∷ filter test ys) (filter test ys))) [
-      | true ↦ (h.0, past_filter page test ys h.1)
-      | false ↦ past_filter page test ys h.1
-    ]
+  | true ↦ (h.0, past_filter page test ys h.1)
+  | false ↦ past_filter page test ys h.1
+]
 
 pub rising_filter : (test : Span → Bool) (ys : List Span) → IsRising ys → IsRising (filter test ys)
 rising_filter test [] h = tt
 rising_filter test (y ∷ ys) h = elim (test y) as (λ b. IsRising (cond b (y ∷ filter test ys) (filter test ys))) [
-      | true ↦ (h.0, past_filter y.end test ys h.1, rising_filter test ys h.2)
-      | false ↦ rising_filter test ys h.2
-    ]
+  | true ↦ (h.0, past_filter y.end test ys h.1, rising_filter test ys h.2)
+  | false ↦ rising_filter test ys h.2
+]
 
 record IsElsewhere (start : ℕ) (ys : List Span) : Type 0 where
   found : find (starts_at start) ys ≡ None

@@ -110,15 +110,15 @@ past_miss m q page (x ∷ r) s h =
 
 left_miss : (m : Mode) (q : Request) (l : List Span) (k : Span) (r : List Span) → IsRising (l ++ k ∷ r) → reaches_left q (longest l) k ≡ false → AllMiss (fits m q) l
 left_miss m q l k r s e = elim (and_cases (leb q.pages (longest l)) (ltb q.first k.start) e) [
-      | inl a ↦ short_miss m q l (leb-false q.pages (longest l) a)
-      | inr b ↦ low_miss m q l k r s (ltb-false q.first k.start b)
-    ]
+  | inl a ↦ short_miss m q l (leb-false q.pages (longest l) a)
+  | inr b ↦ low_miss m q l k r s (ltb-false q.first k.start b)
+]
 
 right_miss : (m : Mode) (q : Request) (l : List Span) (k : Span) (r : List Span) → IsRising (l ++ k ∷ r) → reaches_right q (longest r) k ≡ false → AllMiss (fits m q) r
 right_miss m q l k r s e = elim (and_cases (leb q.pages (longest r)) (ltb k.end q.last) e) [
-      | inl a ↦ short_miss m q r (leb-false q.pages (longest r) a)
-      | inr b ↦ past_miss m q k.end r (rising_root l k r s).1 (ltb-false k.end q.last b)
-    ]
+  | inl a ↦ short_miss m q r (leb-false q.pages (longest r) a)
+  | inr b ↦ past_miss m q k.end r (rising_root l k r s).1 (ltb-false k.end q.last b)
+]
 
 pub left_none : (m : Mode) (q : Request) (l : List Span) (k : Span) (r : List Span) → IsRising (l ++ k ∷ r) → reaches_left q (longest l) k ≡ false → find (fits m q) l ≡ None
 left_none m q l k r s e = miss_find (fits m q) l (left_miss m q l k r s e)
@@ -135,9 +135,9 @@ right_none_last m q l k r s e = miss_last (fits m q) r (right_miss m q l k r s e
 wide_any : (m : Mode) (q : Request) (xs : List Span) → IsWide q xs → 0 < q.pages → q.pages ≤ longest xs → list_any (fits m q) xs ≡ true
 wide_any m q [] w p h = absurd (omega arith)
 wide_any m q (x ∷ xs) w p h = elim (cases_lt (length_of x) q.pages) [
-      | inl s ↦ or_right _ _ (wide_any m q xs (record { align = w.align; first = w.first; last = w.last.1 }) p (omega arith))
-      | inr t ↦ or_left _ _ (wide_fits m q x w.align w.first w.last.0 p t)
-    ]
+  | inl s ↦ or_right _ _ (wide_any m q xs (record { align = w.align; first = w.first; last = w.last.1 }) p (omega arith))
+  | inr t ↦ or_left _ _ (wide_fits m q x w.align w.first w.last.0 p t)
+]
 
 some_or : (a b : Option Span) → is_some b ≡ true → is_some (option_or a b) ≡ true
 some_or None b h = h
@@ -150,16 +150,16 @@ some_or_left (Some x) b h = refl
 any_find : (test : Span → Bool) (xs : List Span) → list_any test xs ≡ true → is_some (find test xs) ≡ true
 any_find test [] h = absurd (both_ways false refl h)
 any_find test (x ∷ xs) h = elim (cases_Bool (test x)) [
-      | inl e ↦ rw e
-      | inr e ↦ rw e (any_find test xs (rw e at h))
-    ]
+  | inl e ↦ rw e
+  | inr e ↦ rw e (any_find test xs (rw e at h))
+]
 
 any_last : (test : Span → Bool) (xs : List Span) → list_any test xs ≡ true → is_some (find_last test xs) ≡ true
 any_last test [] h = absurd (both_ways false refl h)
 any_last test (x ∷ xs) h = elim (cases_Bool (test x)) [
-      | inl e ↦ some_or (find_last test xs) _ (rw e)
-      | inr e ↦ some_or_left (find_last test xs) _ (any_last test xs (rw e at h))
-    ]
+  | inl e ↦ some_or (find_last test xs) _ (rw e)
+  | inr e ↦ some_or_left (find_last test xs) _ (any_last test xs (rw e at h))
+]
 
 -- a search without limits finds a hole wherever one is long enough
 pub wide_find : (m : Mode) (q : Request) (xs : List Span) → IsWide q xs → 0 < q.pages → q.pages ≤ longest xs → find (fits m q) xs ≡ None → ⊥

@@ -51,7 +51,6 @@ impl Holes {
     }
 
     /// Makes room for `n` holes more, if there isn't.
-    #[tactic(none)]
     pub fn ready(&mut self, n: u32) -> Result<(), NoMemory>
         ensures holes { self.new.holes ≡ self.old.holes }
         ensures ok { OnOk result (self.new.spare ≡ max self.old.spare n) }
@@ -67,7 +66,6 @@ impl Holes {
     }
 
     /// One hole more. It takes no memory.
-    #[tactic(none)]
     pub fn add(&mut self, hole: Span)
         requires spare { 1 ≤ self.old.spare }
         requires whole { hole.start ≤ hole.end }
@@ -86,7 +84,6 @@ impl Holes {
     }
 
     /// Takes out the hole that begins at a page. It takes no memory.
-    #[tactic(none)]
     pub fn remove(&mut self, start: u32) -> Span
         requires { IsSome (find (starts_at start) self.old.holes) }
         ensures hole { find (starts_at start) self.old.holes ≡ Some result }
@@ -105,37 +102,48 @@ impl Holes {
     }
 
     /// The shortest hole that has `pages` pages at a multiple of `align`, from `first` up to `last`.
-    #[tactic(none)]
     pub fn best(&self, pages: u32, align: u32, first: u32, last: u32) -> Option<Span>
         requires { 1 ≤ align }
         ensures { result ≡ chosen_hole Best self.now.holes pages align first last }
     {
-        let request = Request { pages, align, first, last };
+        let request = Request {
+            pages,
+            align,
+            first,
+            last,
+        };
         self.choose::<Brand>(Mode::Best, request, Blank::new(1))
     }
 
     /// The lowest such hole.
-    #[tactic(none)]
     pub fn lowest(&self, pages: u32, align: u32, first: u32, last: u32) -> Option<Span>
         requires { 1 ≤ align }
         ensures { result ≡ chosen_hole Low self.now.holes pages align first last }
     {
-        let request = Request { pages, align, first, last };
+        let request = Request {
+            pages,
+            align,
+            first,
+            last,
+        };
         self.choose::<Brand>(Mode::Low, request, Blank::new(1))
     }
 
     /// The highest such hole.
-    #[tactic(none)]
     pub fn highest(&self, pages: u32, align: u32, first: u32, last: u32) -> Option<Span>
         requires { 1 ≤ align }
         ensures { result ≡ chosen_hole High self.now.holes pages align first last }
     {
-        let request = Request { pages, align, first, last };
+        let request = Request {
+            pages,
+            align,
+            first,
+            last,
+        };
         self.choose::<Brand>(Mode::High, request, Blank::new(1))
     }
 
     /// The lowest such hole, where a step is a node that is opened.
-    #[tactic(none)]
     pub fn lowest_counted<L: Ledger>(
         &self,
         pages: u32,
@@ -151,12 +159,16 @@ impl Holes {
     {
         // (its levels bound the steps)
         let _levels = self.tree.height();
-        let request = Request { pages, align, first, last };
+        let request = Request {
+            pages,
+            align,
+            first,
+            last,
+        };
         self.tree.lowest(request, pages > 0, steps)
     }
 
     /// The highest such hole, where a step is a node that is opened.
-    #[tactic(none)]
     pub fn highest_counted<L: Ledger>(
         &self,
         pages: u32,
@@ -172,12 +184,16 @@ impl Holes {
     {
         // (its levels bound the steps)
         let _levels = self.tree.height();
-        let request = Request { pages, align, first, last };
+        let request = Request {
+            pages,
+            align,
+            first,
+            last,
+        };
         self.tree.highest(request, pages > 0, steps)
     }
 
     /// The hole of the range choice, with a counter of its own.
-    #[tactic(none)]
     fn choose<L: Ledger>(&self, mode: Mode, request: Request, blank: Blank) -> Option<Span>
         requires align { 1 ≤ request.align }
         requires name { blank.name ≡ L.name }
@@ -203,7 +219,7 @@ fn fill(spare: &mut Vec<Box<Node>>, n: usize) -> Result<(), NoMemory>
     ensures capacity { vec_capacity spare.old ≤ vec_capacity spare.new }
 {
     let alloc = *spare.allocator();
-    for _ in spare.len()..n {
+    for _i in spare.len()..n {
         spare.push(Box::new(alloc, Node::blank())?)?;
     }
     Ok(())

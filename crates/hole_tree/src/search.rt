@@ -15,8 +15,12 @@ use ttm_base::{Mode, Span};
 
 impl Tree {
     /// The lowest hole that fits. Where it isn't `worth` a look, no node is opened.
-    #[tactic(none)]
-    pub fn lowest<L: Ledger>(&self, request: Request, worth: bool, steps: &mut Steps<L>) -> Option<Span>
+    pub fn lowest<L: Ledger>(
+        &self,
+        request: Request,
+        worth: bool,
+        steps: &mut Steps<L>,
+    ) -> Option<Span>
         requires rising { IsRising self.now.spans }
         requires align { 1 ≤ request.align }
         requires worth { worth ≡ false → find (fits Low request) self.now.spans ≡ None }
@@ -42,8 +46,12 @@ impl Tree {
     }
 
     /// The highest hole that fits. Where it isn't `worth` a look, no node is opened.
-    #[tactic(none)]
-    pub fn highest<L: Ledger>(&self, request: Request, worth: bool, steps: &mut Steps<L>) -> Option<Span>
+    pub fn highest<L: Ledger>(
+        &self,
+        request: Request,
+        worth: bool,
+        steps: &mut Steps<L>,
+    ) -> Option<Span>
         requires rising { IsRising self.now.spans }
         requires align { 1 ≤ request.align }
         requires worth { worth ≡ false → find_last (fits High request) self.now.spans ≡ None }
@@ -69,8 +77,12 @@ impl Tree {
     }
 
     /// The shortest hole that fits, the lowest among equals.
-    #[tactic(none)]
-    pub fn shortest<L: Ledger>(&self, request: Request, worth: bool, steps: &mut Steps<L>) -> Option<Span>
+    pub fn shortest<L: Ledger>(
+        &self,
+        request: Request,
+        worth: bool,
+        steps: &mut Steps<L>,
+    ) -> Option<Span>
         requires rising { IsRising self.now.spans }
         requires align { 1 ≤ request.align }
         requires worth { worth ≡ false → find_shortest (fits Best request) self.now.spans ≡ None }

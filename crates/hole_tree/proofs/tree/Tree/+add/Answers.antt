@@ -7,7 +7,7 @@ use Rattle.hole_tree.proofs.tree.Tree.+add.Goals as goal
 pub add-requires : goal.add-requires
 add-requires t c =
     let count : length c.args.self.spans ≡ length c.in-Some.left.spans + length c.in-Some.right.spans + 1 = node_count c.in-Some.ensures.some in
-    (first_of (omega arith, search rules), node_rising_left c.in-Some.ensures.some c.requires.rising, omega arith)
+    (first_of (omega arith, search rules), (node_rising_left c.in-Some.ensures.some c.requires.rising, omega arith))
 
 pub balanced-requires-clause-fits : goal.balanced-requires-clause-fits
 balanced-requires-clause-fits t c =
@@ -18,7 +18,7 @@ balanced-requires-clause-fits t c =
 pub add-requires-else-deref : goal.add-requires-else-deref
 add-requires-else-deref t c =
     let count : length c.args.self.spans ≡ length c.in-Some.left.spans + length c.in-Some.right.spans + 1 = node_count c.in-Some.ensures.some in
-    (first_of (omega arith, search rules), node_rising_right c.in-Some.ensures.some c.requires.rising, omega arith)
+    (first_of (omega arith, search rules), (node_rising_right c.in-Some.ensures.some c.requires.rising, omega arith))
 
 pub balanced-requires-else-deref-clause-fits : goal.balanced-requires-else-deref-clause-fits
 balanced-requires-else-deref-clause-fits t c =

@@ -8,7 +8,7 @@ use Rattle.hole_tree.proofs.tree.Tree.+remove.Goals as goal
 pub remove-requires : goal.remove-requires
 remove-requires t c =
     let count : length c.args.self.spans ≡ length c.in_ok-left.left.spans + length c.in_ok-left.right.spans + 1 = node_count c.in_ok-left.ensures.some in
-    (first_of (omega arith, search rules), node_rising_left c.in_ok-left.ensures.some c.requires.rising, omega arith)
+    (first_of (omega arith, search rules), (node_rising_left c.in_ok-left.ensures.some c.requires.rising, omega arith))
 
 pub returns-in_err-found-clause-found : goal.returns-in_err-found-clause-found
 returns-in_err-found-clause-found t c =
@@ -37,7 +37,7 @@ returns-then-start-deref-clause-left t c =
 pub remove-requires-then-deref-start : goal.remove-requires-then-deref-start
 remove-requires-then-deref-start t c =
     let count : length c.args.self.spans ≡ length c.in_ok-left.left.spans + length c.in_ok-left.right.spans + 1 = node_count c.in_ok-left.ensures.some in
-    (first_of (omega arith, search rules), node_rising_right c.in_ok-left.ensures.some c.requires.rising, omega arith)
+    (first_of (omega arith, search rules), (node_rising_right c.in_ok-left.ensures.some c.requires.rising, omega arith))
 
 pub returns-in_err-found-2-clause-found : goal.returns-in_err-found-2-clause-found
 returns-in_err-found-2-clause-found t c =
