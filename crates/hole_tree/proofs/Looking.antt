@@ -1,0 +1,122 @@
+-- One step of a search, at a node n that a tree s has as its root.
+use Rattle.std.proofs.Common.{◌≡◌, ℕ, ◌+◌, ◌≤◌, ◌<◌, max, Bool, true, false, cond, List, ◌∷◌, ◌++◌, Option, Some, None, refl, ap, sym, ◌∙◌, subst, inl, inr, leb, ltb, arith, length, length-append}
+use Rattle.std.specs.Option.{option_or, is_some}
+use Rattle.std.specs.List.{find}
+use Rattle.std.proofs.lemmas.Bool.{cases_Bool, and_parts, leb-true, both_ways}
+use Rattle.ttm_base.specs.declared.Span.{Span}
+use Rattle.ttm_base.specs.declared.Mode.{Mode}
+use Rattle.hole_tree.specs.declared.request.Request.{Request}
+use Rattle.hole_tree.specs.declared.tree.Node.{Node}
+use Rattle.hole_tree.specs.Longest.{longest}
+use Rattle.hole_tree.specs.Shape.{Shape}
+use Rattle.hole_tree.specs.Trees.{shape_of_node, IsSound}
+use Rattle.hole_tree.specs.Rising.{IsRising}
+use Rattle.hole_tree.specs.Choosing.{shorter, find_shortest}
+use Rattle.hole_tree.specs.Fitting.{fits, find_last, IsWide, reaches_left, reaches_right}
+use Rattle.hole_tree.proofs.Rises.{rising_left, rising_right}
+use Rattle.hole_tree.proofs.Choices.{shortest_node}
+use Rattle.hole_tree.proofs.Searching.{left_none, right_none, left_none_last, right_none_last, left_none_shortest, right_none_shortest, wide_left, wide_right, wide_find, wide_last, first_left, first_root, first_right, last_left, last_root, last_right}
+
+at_rising : (s : Shape) (n : Node) → s ≡ shape_of_node n → IsRising s.spans → IsRising (n.left.spans ++ n.hole ∷ n.right.spans)
+at_rising s n e h = let P : Shape → Type 0 = λ t. IsRising t.spans in subst P e h
+
+at_wide : (q : Request) (s : Shape) (n : Node) → s ≡ shape_of_node n → IsWide q s.spans → IsWide q (n.left.spans ++ n.hole ∷ n.right.spans)
+at_wide q s n e h = let P : Shape → Type 0 = λ t. IsWide q t.spans in subst P e h
+
+pub rising_below : (s : Shape) (n : Node) → s ≡ shape_of_node n → IsRising s.spans → IsRising n.left.spans
+rising_below s n e h = rising_left n.left.spans (n.hole ∷ n.right.spans) (at_rising s n e h)
+
+pub rising_above : (s : Shape) (n : Node) → s ≡ shape_of_node n → IsRising s.spans → IsRising n.right.spans
+rising_above s n e h = rising_right n.left.spans n.hole n.right.spans (at_rising s n e h)
+
+pub wide_below : (q : Request) (s : Shape) (n : Node) → s ≡ shape_of_node n → IsWide q s.spans → IsWide q n.left.spans
+wide_below q s n e h = wide_left q n.left.spans n.hole n.right.spans (at_wide q s n e h)
+
+pub wide_above : (q : Request) (s : Shape) (n : Node) → s ≡ shape_of_node n → IsWide q s.spans → IsWide q n.right.spans
+wide_above q s n e h = wide_right q n.left.spans n.hole n.right.spans (at_wide q s n e h)
+
+pub shorter_below : (s : Shape) (n : Node) → s ≡ shape_of_node n → length n.left.spans < length s.spans
+shorter_below s n e = let c : length s.spans ≡ length (n.left.spans ++ n.hole ∷ n.right.spans) = ap (λ t. length t.spans) e in omega (arith, length-append n.left.spans (n.hole ∷ n.right.spans))
+
+pub shorter_above : (s : Shape) (n : Node) → s ≡ shape_of_node n → length n.right.spans < length s.spans
+shorter_above s n e = let c : length s.spans ≡ length (n.left.spans ++ n.hole ∷ n.right.spans) = ap (λ t. length t.spans) e in omega (arith, length-append n.left.spans (n.hole ∷ n.right.spans))
+
+-- ---- a side that isn't worth a look
+
+known_left : (q : Request) (n : Node) (b : Bool) → IsSound n → b ≡ reaches_left q n.longest_left n.hole → reaches_left q (longest n.left.spans) n.hole ≡ b
+known_left q n b d w = ap (λ x. reaches_left q x n.hole) (sym d.longest_left) ∙ sym w
+
+known_right : (q : Request) (n : Node) (b : Bool) → IsSound n → b ≡ reaches_right q n.longest_right n.hole → reaches_right q (longest n.right.spans) n.hole ≡ b
+known_right q n b d w = ap (λ x. reaches_right q x n.hole) (sym d.longest_right) ∙ sym w
+
+pub worth_below : (m : Mode) (q : Request) (s : Shape) (n : Node) (b : Bool) → s ≡ shape_of_node n → IsSound n → IsRising s.spans → b ≡ reaches_left q n.longest_left n.hole → b ≡ false → find (fits m q) n.left.spans ≡ None
+worth_below m q s n b e d h w f = left_none m q n.left.spans n.hole n.right.spans (at_rising s n e h) (known_left q n b d w ∙ f)
+
+pub worth_above : (m : Mode) (q : Request) (s : Shape) (n : Node) (b : Bool) → s ≡ shape_of_node n → IsSound n → IsRising s.spans → b ≡ reaches_right q n.longest_right n.hole → b ≡ false → find (fits m q) n.right.spans ≡ None
+worth_above m q s n b e d h w f = right_none m q n.left.spans n.hole n.right.spans (at_rising s n e h) (known_right q n b d w ∙ f)
+
+pub worth_below_last : (m : Mode) (q : Request) (s : Shape) (n : Node) (b : Bool) → s ≡ shape_of_node n → IsSound n → IsRising s.spans → b ≡ reaches_left q n.longest_left n.hole → b ≡ false → find_last (fits m q) n.left.spans ≡ None
+worth_below_last m q s n b e d h w f = left_none_last m q n.left.spans n.hole n.right.spans (at_rising s n e h) (known_left q n b d w ∙ f)
+
+pub worth_above_last : (m : Mode) (q : Request) (s : Shape) (n : Node) (b : Bool) → s ≡ shape_of_node n → IsSound n → IsRising s.spans → b ≡ reaches_right q n.longest_right n.hole → b ≡ false → find_last (fits m q) n.right.spans ≡ None
+worth_above_last m q s n b e d h w f = right_none_last m q n.left.spans n.hole n.right.spans (at_rising s n e h) (known_right q n b d w ∙ f)
+
+pub worth_below_shortest : (m : Mode) (q : Request) (s : Shape) (n : Node) (b : Bool) → s ≡ shape_of_node n → IsSound n → IsRising s.spans → b ≡ reaches_left q n.longest_left n.hole → b ≡ false → find_shortest (fits m q) n.left.spans ≡ None
+worth_below_shortest m q s n b e d h w f = left_none_shortest m q n.left.spans n.hole n.right.spans (at_rising s n e h) (known_left q n b d w ∙ f)
+
+pub worth_above_shortest : (m : Mode) (q : Request) (s : Shape) (n : Node) (b : Bool) → s ≡ shape_of_node n → IsSound n → IsRising s.spans → b ≡ reaches_right q n.longest_right n.hole → b ≡ false → find_shortest (fits m q) n.right.spans ≡ None
+worth_above_shortest m q s n b e d h w f = right_none_shortest m q n.left.spans n.hole n.right.spans (at_rising s n e h) (known_right q n b d w ∙ f)
+
+-- ---- what the whole tree has
+
+none_of : (o : Option Span) → is_some o ≡ false → o ≡ None
+none_of None e = refl
+none_of (Some x) e = absurd (both_ways true e refl)
+
+pub first_below : (test : Span → Bool) (s : Shape) (n : Node) (o : Option Span) → s ≡ shape_of_node n → o ≡ find test n.left.spans → is_some o ≡ true → o ≡ find test s.spans
+first_below test s n None e f h = absurd (both_ways false refl h)
+first_below test s n (Some x) e f h = sym (ap (λ t. find test t.spans) e ∙ first_left test n.left.spans n.hole n.right.spans x (sym f))
+
+pub first_here : (test : Span → Bool) (s : Shape) (n : Node) (o : Option Span) → s ≡ shape_of_node n → o ≡ find test n.left.spans → is_some o ≡ false → test n.hole ≡ true → Some n.hole ≡ find test s.spans
+first_here test s n o e f h t = sym (ap (λ u. find test u.spans) e ∙ first_root test n.left.spans n.hole n.right.spans (sym f ∙ none_of o h) t)
+
+pub first_above : (test : Span → Bool) (s : Shape) (n : Node) (o : Option Span) → s ≡ shape_of_node n → o ≡ find test n.left.spans → is_some o ≡ false → test n.hole ≡ false → find test n.right.spans ≡ find test s.spans
+first_above test s n o e f h t = sym (ap (λ u. find test u.spans) e ∙ first_right test n.left.spans n.hole n.right.spans (sym f ∙ none_of o h) t)
+
+pub last_above : (test : Span → Bool) (s : Shape) (n : Node) (o : Option Span) → s ≡ shape_of_node n → o ≡ find_last test n.right.spans → is_some o ≡ true → o ≡ find_last test s.spans
+last_above test s n None e f h = absurd (both_ways false refl h)
+last_above test s n (Some x) e f h = sym (ap (λ t. find_last test t.spans) e ∙ last_right test n.left.spans n.hole n.right.spans x (sym f))
+
+pub last_here : (test : Span → Bool) (s : Shape) (n : Node) (o : Option Span) → s ≡ shape_of_node n → o ≡ find_last test n.right.spans → is_some o ≡ false → test n.hole ≡ true → Some n.hole ≡ find_last test s.spans
+last_here test s n o e f h t = sym (ap (λ u. find_last test u.spans) e ∙ last_root test n.left.spans n.hole n.right.spans (sym f ∙ none_of o h) t)
+
+pub last_below : (test : Span → Bool) (s : Shape) (n : Node) (o : Option Span) → s ≡ shape_of_node n → o ≡ find_last test n.right.spans → is_some o ≡ false → test n.hole ≡ false → find_last test n.left.spans ≡ find_last test s.spans
+last_below test s n o e f h t = sym (ap (λ u. find_last test u.spans) e ∙ last_left test n.left.spans n.hole n.right.spans (sym f ∙ none_of o h) t)
+
+pub shortest_here : (test : Span → Bool) (s : Shape) (n : Node) (a b o r : Option Span) → s ≡ shape_of_node n → a ≡ find_shortest test n.left.spans → o ≡ cond (test n.hole) (Some n.hole) None → b ≡ find_shortest test n.right.spans → r ≡ shorter a (shorter o b) → r ≡ find_shortest test s.spans
+shortest_here test s n a b o r e f h k j = j ∙ sym (ap (λ u. find_shortest test u.spans) e ∙ shortest_node test n.left.spans n.hole n.right.spans ∙ rw (f, h, k))
+
+-- ---- steps
+
+pub record Levels (s : Shape) (n : Node) : Type 0 where
+  pub below : n.left.height + 1 ≤ s.height
+  pub above : n.right.height + 1 ≤ s.height
+
+pub levels : (s : Shape) (n : Node) → s ≡ shape_of_node n → IsSound n → Levels s n
+levels s n e d =
+    let h : s.height ≡ n.height = ap (λ t. t.height) e in
+    let m : n.height ≡ max n.left.height n.right.height + 1 = d.height in
+    record { below = omega arith; above = omega arith }
+
+-- a side that was looked through for nothing cost no step
+pub idle_below : (m : Mode) (q : Request) (s : Shape) (n : Node) (b : Bool) (o : Option Span) → s ≡ shape_of_node n → IsSound n → b ≡ reaches_left q n.longest_left n.hole → o ≡ find (fits m q) n.left.spans → is_some o ≡ false → 0 < q.pages → IsWide q s.spans → b ≡ false
+idle_below m q s n true o e d w f h p i =
+    let long : q.pages ≤ longest n.left.spans = leb-true q.pages (longest n.left.spans) (and_parts (leb q.pages (longest n.left.spans)) (ltb q.first n.hole.start) (known_left q n true d w)).0 in
+    absurd (wide_find m q n.left.spans (wide_below q s n e i) p long (sym f ∙ none_of o h))
+idle_below m q s n false o e d w f h p i = refl
+
+pub idle_above : (m : Mode) (q : Request) (s : Shape) (n : Node) (b : Bool) (o : Option Span) → s ≡ shape_of_node n → IsSound n → b ≡ reaches_right q n.longest_right n.hole → o ≡ find_last (fits m q) n.right.spans → is_some o ≡ false → 0 < q.pages → IsWide q s.spans → b ≡ false
+idle_above m q s n true o e d w f h p i =
+    let long : q.pages ≤ longest n.right.spans = leb-true q.pages (longest n.right.spans) (and_parts (leb q.pages (longest n.right.spans)) (ltb n.hole.end q.last) (known_right q n true d w)).0 in
+    absurd (wide_last m q n.right.spans (wide_above q s n e i) p long (sym f ∙ none_of o h))
+idle_above m q s n false o e d w f h p i = refl

@@ -1,0 +1,13 @@
+-- What a tree is seen as.
+use Rattle.std.specs.Prelude.{ℕ, ◌+◌, ◌*◌, ◌^◌, ◌≤◌, List, length}
+use Rattle.ttm_base.specs.declared.Span.{Span}
+
+-- the holes in order, and the height
+pub record Shape : Type 0 where
+  pub spans : List Span
+  pub height : ℕ
+
+-- the tree is no higher than balance allows
+pub record IsLow (s : Shape) : Type 0 where
+  pub fewer : s.height ≤ length s.spans
+  pub square : 2 ^ s.height ≤ (length s.spans + 1) * (length s.spans + 1)

@@ -1,0 +1,59 @@
+ghost use Rattle.std.specs.Prelude.{◌≡◌, ◌≤◌, Some, None, if◌then◌else◌};
+ghost use Rattle.ttm_base.specs.declared.Mode.TheVariants.{Best};
+ghost use Rattle.ttm_base.specs.RangeChoice.{start_to_test};
+ghost use Rattle.ttm_base.specs.Reach.{common};
+ghost use Rattle.hole_tree.specs.Fitting.{fits, range_of, reaches_left, reaches_right};
+
+use ttm_base::{Mode, Span};
+
+/// So many pages at a multiple of `align`, from `first` up to `last`.
+#[derive(Clone, Copy)]
+pub struct Request {
+    pub pages: u32,
+    pub align: u32,
+    pub first: u32,
+    pub last: u32,
+}
+
+impl Request {
+    pub fn fits(self, mode: Mode, hole: Span) -> bool
+        requires { 1 ≤ self.align }
+        ensures { result ≡ fits mode self hole }
+    {
+        let start = hole.start.max(self.first) as u64;
+        let end = hole.end.min(self.last) as u64;
+        let pages = self.pages as u64;
+        let align = self.align as u64;
+        let tested = match mode {
+            Mode::Best | Mode::Low => (start + align - 1) / align * align,
+            Mode::High => end.saturating_sub(pages) / align * align,
+        };
+        pages > 0 && start <= tested && tested + pages <= end
+    }
+
+    /// The hole, if it fits.
+    pub fn fitting(self, hole: Span) -> Option<Span>
+        requires { 1 ≤ self.align }
+        ensures { result ≡ (if fits Best self hole then Some hole else None) }
+    {
+        if self.fits(Mode::Best, hole) {
+            Some(hole)
+        } else {
+            None
+        }
+    }
+
+    /// Some hole below the one at a root may fit, where the longest of them is so long.
+    pub fn reaches_left(self, longest: u32, root: Span) -> bool
+        ensures { result ≡ reaches_left self longest root }
+    {
+        self.pages <= longest && self.first < root.start
+    }
+
+    /// Some hole above it may.
+    pub fn reaches_right(self, longest: u32, root: Span) -> bool
+        ensures { result ≡ reaches_right self longest root }
+    {
+        self.pages <= longest && root.end < self.last
+    }
+}
