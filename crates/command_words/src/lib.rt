@@ -54,7 +54,8 @@ impl Words {
         self.words.push(word)
     }
 
-    fn items(&self) -> &[Bytes]
+    /// The words in order.
+    pub fn items(&self) -> &[Bytes]
         ensures { result.now ≡ self.now }
     {
         self.words.items()
@@ -76,7 +77,7 @@ fn value_of(word: &[u8]) -> u128
 }
 
 /// A plain number that 64 bits hold.
-fn turns_in(word: &[u8]) -> Option<u64>
+pub fn plain_number(word: &[u8]) -> Option<u64>
     ensures { result ≡ number_in 0 18446744073709551615 word.now }
 {
     let n = value_of(word);
@@ -109,7 +110,7 @@ pub fn read_words(words: &Words) -> Option<Form>
         [word] => form_of_one(word.items()),
         [word, flag, turns] => {
             if is(word.items(), b"sim") && is(flag.items(), b"--turns") {
-                turns_in(turns.items()).map(|n| Form::Sim(Some(n)))
+                plain_number(turns.items()).map(|n| Form::Sim(Some(n)))
             } else {
                 None
             }

@@ -1,8 +1,8 @@
-ghost use Rattle.std.specs.Prelude.{◌≡◌, ◌+◌, ◌++◌, [], OnOk, IfOk, false, flat_map};
+ghost use Rattle.std.specs.Prelude.{◌≡◌, ◌+◌, ◌++◌, [], OnOk, OnErr, IfOk, false, flat_map};
 ghost use Rattle.journal_model.specs.Complete.{is_complete};
 ghost use Rattle.journal_model.specs.Legal.{state_of};
 ghost use Rattle.journal_model.specs.Scheduled.{actor_of_turn, scheduled, scheduled_actors};
-ghost use Rattle.sim_drive.specs.Ends.{EndsAfter};
+ghost use Rattle.sim_drive.specs.Ends.{EndsAfter, HasTaken};
 
 use device_core::Device;
 use journal_model::TurnLine;
@@ -46,7 +46,8 @@ fn take_turn(device: &mut Device, schedule: &[Actor], turn: u64) -> Result<(), N
     requires schedule { schedule.now ≡ scheduled_actors device.old.script }
     requires journal { device.old.journal ≡ scheduled device.old.script turn }
     requires incomplete { is_complete device.old.script device.old.journal ≡ false }
-    ensures { OnOk result (device.new ≡ record { script = device.old.script; journal = scheduled device.old.script (turn + 1) }) }
+    ensures taken { OnOk result (device.new ≡ record { script = device.old.script; journal = scheduled device.old.script (turn + 1) }) }
+    ensures kept { OnErr result (device.new ≡ device.old) }
 {
     if let Some(who) = actor_at(device, schedule, turn)? {
         device.step(who)?;
@@ -58,11 +59,12 @@ fn take_turn(device: &mut Device, schedule: &[Actor], turn: u64) -> Result<(), N
 ///
 /// # Errors
 ///
-/// Want of memory.
+/// Want of memory; then fewer turns were taken.
 pub fn drive(alloc: Global, device: &mut Device, allowed: u64) -> Result<u64, NoMemory>
     requires { device.old.journal ≡ [] }
     ensures turns { IfOk result (λ n. EndsAfter device.old.script allowed n) }
     ensures journal { IfOk result (λ n. device.new ≡ record { script = device.old.script; journal = scheduled device.old.script n }) }
+    ensures refused { OnErr result (HasTaken device.old.script allowed device.new) }
 {
     let schedule = actors_of(alloc, device.script().turns.items())?;
     let mut turns = 0;

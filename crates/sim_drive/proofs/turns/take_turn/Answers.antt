@@ -7,9 +7,15 @@ use Rattle.sim_drive.proofs.TurnLaws.{moved, unmoved}
 use Rattle.sim_drive.proofs.turns.take_turn.Goals as goal
 
 pub returns-in_ok-step : goal.returns-in_ok-step
-returns-in_ok-step c =
-    c.in_ok-step.ensures.made
-    ∙ moved c.args.device.now c.args.turn c.in-Some.who c.requires.journal (sym c.in_ok-who.ensures ∙ c.in-Some.is) c.requires.incomplete
+returns-in_ok-step c = record {
+  taken =
+      c.in_ok-step.ensures.made
+      ∙ moved c.args.device.now c.args.turn c.in-Some.who c.requires.journal (sym c.in_ok-who.ensures ∙ c.in-Some.is) c.requires.incomplete;
+  kept = tt;
+}
 
 pub returns-in_default : goal.returns-in_default
-returns-in_default c = unmoved c.args.device.now c.args.turn c.in_ok-who.field-0 c.requires.journal (sym c.in_ok-who.ensures) c.in_default.not-Some
+returns-in_default c = record {
+  taken = unmoved c.args.device.now c.args.turn c.in_ok-who.field-0 c.requires.journal (sym c.in_ok-who.ensures) c.in_default.not-Some;
+  kept = tt;
+}

@@ -1,0 +1,66 @@
+-- What the program promises of a run, for all words, sources and sinks.
+use Rattle.std.specs.Prelude.{◌≡◌, ℕ, Option, None, Some, min, unwrap_or}
+use Rattle.journal_model.specs.declared.script.Script.{Script}
+use Rattle.journal_model.specs.Legal.{IsLegal}
+use Rattle.journal_model.specs.Scheduled.{scheduled, turn_limit}
+use Rattle.command_words.specs.declared.Form.{Form}
+use Rattle.command_words.specs.declared.Form.TheVariants as form
+use Rattle.device_core.specs.Kept.{Kept}
+use Rattle.sim_drive.specs.Ends.{EndsAfter}
+use Rattle.simulator.specs.declared.outcome.Status.{Status}
+use Rattle.simulator.specs.declared.outcome.Status.TheVariants as status
+use Rattle.simulator.specs.declared.outcome.Outcome.{Outcome}
+use Rattle.simulator.specs.declared.outcome.Outcome.TheVariants as outcome
+use Rattle.simulator.specs.Edges.{Edge, IsUntouched, IsFaultless, IsWritten, IsBroken, IsCut, WasCutOff}
+use Rattle.simulator.specs.Inputs.{GaveScript, GaveFault}
+use Rattle.simulator.specs.Outcomes.{status_of, text_of}
+
+-- the turns that are allowed: those asked for, or the limit of the script, as far as 64 bits hold it
+abbrev pub allowed : Option ℕ → Script → ℕ
+allowed turns script = unwrap_or turns (min (turn_limit script) 18446744073709551615)
+
+-- The journal is that of the stated interleaving after so many turns: it is legal, and the turns are the least number that
+-- makes it complete, or all that are allowed.
+pub record IsRunOf (script : Script) (turns : Option ℕ) (k : Kept) (taken : ℕ) : Type 0 where
+  pub run : k ≡ record { script = script; journal = scheduled script taken }
+  pub legal : IsLegal script (scheduled script taken)
+  pub ends : EndsAfter script (allowed turns script) taken
+
+-- a run of the script came out
+abbrev pub ComesRun : Script → Option ℕ → Outcome → Type 0
+ComesRun script turns (outcome.Ran k taken) = IsRunOf script turns k taken
+ComesRun script turns o = ⊥
+
+-- the source gave this script, which was run
+pub record HasRun (source : Edge) (turns : Option ℕ) (k : Kept) (taken : ℕ) : Type 0 where
+  pub script : Script
+  pub gave : GaveScript source script
+  pub ran : IsRunOf script turns k taken
+
+-- what the simulator comes to
+abbrev pub ComesSim : Option ℕ → Edge → Outcome → Type 0
+ComesSim turns source outcome.ReadFault = WasCutOff source 1048576
+ComesSim turns source (outcome.BadScript n rule) = GaveFault source n rule
+ComesSim turns source (outcome.Ran k taken) = HasRun source turns k taken
+ComesSim turns source outcome.Usage = ⊥
+ComesSim turns source outcome.Help = ⊥
+ComesSim turns source outcome.Version = ⊥
+
+-- what is asked and the source come to
+abbrev pub Comes : Option Form → Edge → Outcome → Type 0
+Comes None source o = (o ≡ outcome.Usage) × IsUntouched source
+Comes (Some form.Help) source o = (o ≡ outcome.Help) × IsUntouched source
+Comes (Some form.Version) source o = (o ≡ outcome.Version) × IsUntouched source
+Comes (Some (form.Sim turns)) source o = ComesSim turns source o
+
+-- The status: that of the outcome where its text was written whole; else a write failed or memory ran out, and a front of the
+-- text was written, or nothing where memory ran out before there was an outcome.
+pub data EndsWith (comes : Outcome → Type 0) (source sink : Edge) : Status → Type 0 where
+  told : (o : Outcome) → comes o → IsWritten sink (text_of o) → EndsWith comes source sink (status_of o)
+  broken : (o : Outcome) → comes o → IsBroken sink (text_of o) → EndsWith comes source sink status.WriteFault
+  cut : (o : Outcome) → comes o → IsCut sink (text_of o) → EndsWith comes source sink status.NoMemory
+  nothing : IsFaultless source → IsUntouched sink → EndsWith comes source sink status.NoMemory
+
+-- how the simulator ends
+abbrev pub Ends : Option Form → Edge → Edge → Status → Type 0
+Ends asked source sink s = EndsWith (Comes asked source) source sink s

@@ -1,0 +1,5 @@
+pub mod Edges
+pub mod Outcomes
+pub mod Inputs
+pub mod Ends
+pub mod Plain

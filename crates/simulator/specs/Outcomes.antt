@@ -1,0 +1,65 @@
+-- The text that is due for an outcome, and its status.
+use Rattle.std.specs.Prelude.{ℕ, List, [], ◌∷◌, ◌++◌, codes, decimal, if◌then◌else◌}
+use Rattle.journal_model.specs.Words.{Text, line}
+use Rattle.journal_model.specs.Complete.{is_complete}
+use Rattle.journal_model.specs.ReportText.{report}
+use Rattle.device_core.specs.Kept.{Kept}
+use Rattle.simulator.specs.declared.outcome.Status.{Status}
+use Rattle.simulator.specs.declared.outcome.Status.TheVariants as status
+use Rattle.simulator.specs.declared.outcome.Outcome.{Outcome}
+use Rattle.simulator.specs.declared.outcome.Outcome.TheVariants as outcome
+
+-- the exit status of the process
+abbrev pub code_of : Status → ℕ
+code_of status.Done = 0
+code_of status.Usage = 2
+code_of status.BadScript = 3
+code_of status.ReadFault = 4
+code_of status.WriteFault = 5
+code_of status.NoMemory = 6
+code_of status.Unfinished = 7
+
+-- of a device that has run
+abbrev pub status_of_run : Kept → Status
+status_of_run k = if is_complete k.script k.journal then status.Done else status.Unfinished
+
+-- the status, if the text is written
+abbrev pub status_of : Outcome → Status
+status_of outcome.Usage = status.Usage
+status_of outcome.Help = status.Done
+status_of outcome.Version = status.Done
+status_of outcome.ReadFault = status.ReadFault
+status_of (outcome.BadScript n rule) = status.BadScript
+status_of (outcome.Ran k turns) = status_of_run k
+
+-- what --help says
+abbrev pub help_text : Text
+help_text =
+    line (codes "Runs a script of a graphics memory manager, and reports each step." ∷ [])
+    ++ line (codes "" ∷ [])
+    ++ line (codes "ttm sim              reads a script from standard input, and writes its report" ∷ [])
+    ++ line (codes "ttm sim --turns N    the same, in at most N turns" ∷ [])
+    ++ line (codes "ttm --help           this text" ∷ [])
+    ++ line (codes "ttm --version        the version" ∷ [])
+    ++ line (codes "" ∷ [])
+    ++ line (codes "The exit status is 0 (done), 2 (unknown words), 3 (the input is no script), 4 (a read failed)," ∷ [])
+    ++ line (codes "5 (a write failed), 6 (no memory) or 7 (not over after N turns)." ∷ [])
+
+-- names the first broken line, and on it the least broken rule
+abbrev pub bad_script_text : ℕ → ℕ → Text
+bad_script_text n rule = codes "bad script: line " ++ decimal n ++ codes ", rule " ++ decimal rule ++ 10 ∷ []
+
+-- the report, behind a line that names the turns where it isn't complete
+abbrev pub run_text : Kept → ℕ → Text
+run_text k turns =
+    if is_complete k.script k.journal then report k.script k.journal
+    else line (codes "unfinished" ∷ decimal turns ∷ []) ++ report k.script k.journal
+
+-- the text that is due
+abbrev pub text_of : Outcome → Text
+text_of outcome.Usage = line (codes "usage" ∷ [])
+text_of outcome.Help = help_text
+text_of outcome.Version = line (codes "ttm 0.1.0" ∷ [])
+text_of outcome.ReadFault = line (codes "read fault" ∷ [])
+text_of (outcome.BadScript n rule) = bad_script_text n rule
+text_of (outcome.Ran k turns) = run_text k turns

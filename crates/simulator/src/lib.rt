@@ -1,0 +1,12 @@
+//! The simulator from words and bytes to a report and a status.
+#![tactic(auto)]
+
+mod input;
+mod outcome;
+mod tell;
+mod top;
+
+pub use input::{Input, read_input};
+pub use outcome::{Outcome, Status};
+pub use tell::write_outcome;
+pub use top::{sim_top, status_after};

@@ -1,0 +1,129 @@
+ghost use Rattle.std.specs.Prelude.{◌≡◌, ◌++◌, ◌∷◌, [], IfOk, codes, decimal, string_bytes};
+ghost use Rattle.io_edge.specs.Written.{Writes};
+ghost use Rattle.journal_model.specs.Words.{line as line_of};
+ghost use Rattle.journal_model.specs.ReportText.{report};
+ghost use Rattle.report_text.specs.WriteFault.{faults_after_writing};
+ghost use Rattle.simulator.specs.Outcomes.{bad_script_text, help_text, run_text, text_of};
+ghost use Rattle.simulator.specs.Plain.{IsPlain};
+
+use crate::outcome::Outcome;
+use device_core::Device;
+use io_edge::{Sink, write_all};
+use page_accounts::accounts_of;
+use report_text::{WriteFault, write_report};
+use std::alloc::Global;
+use ttm_base::NoMemory;
+
+const HELP: &[u8] = b"Runs a script of a graphics memory manager, and reports each step.
+
+ttm sim              reads a script from standard input, and writes its report
+ttm sim --turns N    the same, in at most N turns
+ttm --help           this text
+ttm --version        the version
+
+The exit status is 0 (done), 2 (unknown words), 3 (the input is no script), 4 (a read failed),
+5 (a write failed), 6 (no memory) or 7 (not over after N turns).
+";
+
+fn bad_script_line(alloc: Global, line: u32, rule: u32) -> Result<String, NoMemory>
+    ensures { IfOk result (λ text. string_bytes text ≡ bad_script_text line rule) }
+{
+    Ok(format!(in alloc; "bad script: line {line}, rule {rule}\n")?)
+}
+
+fn unfinished_line(alloc: Global, turns: u64) -> Result<String, NoMemory>
+    ensures { IfOk result (λ text. string_bytes text ≡ line_of (codes "unfinished" ∷ decimal turns ∷ [])) }
+{
+    Ok(format!(in alloc; "unfinished {turns}\n")?)
+}
+
+/// Writes a text as one piece.
+fn write_text<K: Sink>(text: &[u8], sink: &mut K) -> Result<(), WriteFault>
+    ensures text { Writes result (K.written sink.old) (K.written sink.new) text.now }
+    ensures faults { K.faults sink.new ≡ faults_after_writing result (K.faults sink.old) }
+{
+    write_all(sink, text)?;
+    Ok(())
+}
+
+fn write_bad_script<K: Sink>(
+    alloc: Global,
+    line: u32,
+    rule: u32,
+    sink: &mut K,
+) -> Result<(), WriteFault>
+    ensures text { Writes result (K.written sink.old) (K.written sink.new) (bad_script_text line rule) }
+    ensures faults { K.faults sink.new ≡ faults_after_writing result (K.faults sink.old) }
+{
+    let text = bad_script_line(alloc, line, rule)?;
+    write_text(text.as_bytes(), sink)
+}
+
+fn write_unfinished<K: Sink>(alloc: Global, turns: u64, sink: &mut K) -> Result<(), WriteFault>
+    ensures text { Writes result (K.written sink.old) (K.written sink.new) (line_of (codes "unfinished" ∷ decimal turns ∷ [])) }
+    ensures faults { K.faults sink.new ≡ faults_after_writing result (K.faults sink.old) }
+{
+    let text = unfinished_line(alloc, turns)?;
+    write_text(text.as_bytes(), sink)
+}
+
+/// Writes the report of a device.
+fn write_device<K: Sink>(alloc: Global, device: &Device, sink: &mut K) -> Result<(), WriteFault>
+    requires { device.now.script.marks ≡ [] }
+    ensures text { Writes result (K.written sink.old) (K.written sink.new) (report device.now.script device.now.journal) }
+    ensures faults { K.faults sink.new ≡ faults_after_writing result (K.faults sink.old) }
+{
+    let accounts = accounts_of(alloc, device.script(), device.state())?;
+    write_report(alloc, device.script(), device.journal(), &accounts, sink)
+}
+
+fn write_unfinished_run<K: Sink>(
+    alloc: Global,
+    device: &Device,
+    turns: u64,
+    sink: &mut K,
+) -> Result<(), WriteFault>
+    requires { device.now.script.marks ≡ [] }
+    ensures text { Writes result (K.written sink.old) (K.written sink.new) (line_of (codes "unfinished" ∷ decimal turns ∷ []) ++ report device.now.script device.now.journal) }
+    ensures faults { K.faults sink.new ≡ faults_after_writing result (K.faults sink.old) }
+{
+    write_unfinished(alloc, turns, sink)?;
+    write_device(alloc, device, sink)
+}
+
+fn write_run<K: Sink>(
+    alloc: Global,
+    device: &Device,
+    turns: u64,
+    sink: &mut K,
+) -> Result<(), WriteFault>
+    requires { device.now.script.marks ≡ [] }
+    ensures text { Writes result (K.written sink.old) (K.written sink.new) (run_text device.now turns) }
+    ensures faults { K.faults sink.new ≡ faults_after_writing result (K.faults sink.old) }
+{
+    if device.over() {
+        write_device(alloc, device, sink)
+    } else {
+        write_unfinished_run(alloc, device, turns, sink)
+    }
+}
+
+/// Writes the text that is due for an outcome.
+pub fn write_outcome<K: Sink>(
+    alloc: Global,
+    outcome: &Outcome,
+    sink: &mut K,
+) -> Result<(), WriteFault>
+    requires { IsPlain outcome.now }
+    ensures text { Writes result (K.written sink.old) (K.written sink.new) (text_of outcome.now) }
+    ensures faults { K.faults sink.new ≡ faults_after_writing result (K.faults sink.old) }
+{
+    match outcome {
+        Outcome::Usage => write_text(b"usage\n", sink),
+        Outcome::Help => write_text(HELP, sink),
+        Outcome::Version => write_text(b"ttm 0.1.0\n", sink),
+        Outcome::ReadFault => write_text(b"read fault\n", sink),
+        Outcome::BadScript { line, rule } => write_bad_script(alloc, *line, *rule, sink),
+        Outcome::Ran { device, turns } => write_run(alloc, device, *turns, sink),
+    }
+}

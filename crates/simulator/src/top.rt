@@ -1,0 +1,94 @@
+ghost use Rattle.std.specs.Prelude.{◌≡◌, [], IfOk, IsTrue, OnErr};
+ghost use Rattle.journal_model.specs.ScriptRules.{is_script};
+ghost use Rattle.command_words.specs.Forms.{form_of};
+ghost use Rattle.report_text.specs.WriteFault.{faults_after_writing};
+ghost use Rattle.simulator.specs.Edges.{Edge};
+ghost use Rattle.simulator.specs.Ends.{Comes, ComesSim, ComesRun, Ends};
+ghost use Rattle.simulator.specs.Plain.{IsPlain, status_after};
+
+use crate::input::{Input, read_input};
+use crate::outcome::{Outcome, Status};
+use crate::tell::write_outcome;
+use command_words::{Form, Words, read_words};
+use device_core::Device;
+use io_edge::{Sink, Source};
+use journal_model::Script;
+use report_text::WriteFault;
+use sim_drive::{drive, turn_limit};
+use std::alloc::Global;
+use ttm_base::NoMemory;
+
+/// Runs a script for the turns that were asked for, or up to its limit.
+fn run_script(alloc: Global, turns: Option<u64>, script: Script) -> Result<Outcome, NoMemory>
+    requires fits { IsTrue (is_script script) }
+    requires plain { script.marks ≡ [] }
+    ensures ran { IfOk result (ComesRun script turns) }
+    ensures plain { IfOk result IsPlain }
+{
+    let mut device = Device::new(alloc, script)?;
+    let allowed = turns.unwrap_or(turn_limit(device.script()));
+    let turns = drive(alloc, &mut device, allowed)?;
+    Ok(Outcome::Ran { device, turns })
+}
+
+/// Reads a script, and runs it.
+fn simulate<S: Source>(
+    alloc: Global,
+    turns: Option<u64>,
+    source: &mut S,
+) -> Result<Outcome, NoMemory>
+    ensures comes { IfOk result (ComesSim turns (record { before = S.left source.old; after = S.left source.new; faults_before = S.faults source.old; faults_after = S.faults source.new })) }
+    ensures plain { IfOk result IsPlain }
+    ensures faults { OnErr result (S.faults source.new ≡ S.faults source.old) }
+{
+    match read_input(alloc, source)? {
+        Input::Read(script) => run_script(alloc, turns, script),
+        Input::Bad { line, rule } => Ok(Outcome::BadScript { line, rule }),
+        Input::Failed => Ok(Outcome::ReadFault),
+    }
+}
+
+/// What the words and the source come to.
+fn outcome_of<S: Source>(alloc: Global, words: &Words, source: &mut S) -> Result<Outcome, NoMemory>
+    ensures comes { IfOk result (Comes (form_of words.now) (record { before = S.left source.old; after = S.left source.new; faults_before = S.faults source.old; faults_after = S.faults source.new })) }
+    ensures plain { IfOk result IsPlain }
+    ensures faults { OnErr result (S.faults source.new ≡ S.faults source.old) }
+{
+    match read_words(words) {
+        None => Ok(Outcome::Usage),
+        Some(Form::Help) => Ok(Outcome::Help),
+        Some(Form::Version) => Ok(Outcome::Version),
+        Some(Form::Sim(turns)) => simulate(alloc, turns, source),
+    }
+}
+
+/// The status after the text of an outcome was written.
+pub fn status_after(status: Status, written: Result<(), WriteFault>) -> Status
+    ensures { result ≡ status_after status written }
+{
+    match written {
+        Ok(()) => status,
+        Err(WriteFault::Failed) => Status::WriteFault,
+        Err(WriteFault::NoMemory) => Status::NoMemory,
+    }
+}
+
+/// Does what the words ask: runs the script that the source gives, and writes the report of what it did to the sink.
+pub fn sim_top<S: Source, K: Sink>(
+    alloc: Global,
+    words: &Words,
+    source: &mut S,
+    sink: &mut K,
+) -> Status
+    ensures { Ends (form_of words.now)
+        (record { before = S.left source.old; after = S.left source.new; faults_before = S.faults source.old; faults_after = S.faults source.new })
+        (record { before = K.written sink.old; after = K.written sink.new; faults_before = K.faults sink.old; faults_after = K.faults sink.new }) result }
+{
+    match outcome_of(alloc, words, source) {
+        Ok(outcome) => {
+            let status = outcome.status();
+            status_after(status, write_outcome(alloc, &outcome, sink))
+        }
+        Err(NoMemory) => Status::NoMemory,
+    }
+}

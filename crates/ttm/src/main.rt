@@ -1,0 +1,33 @@
+//! Runs scripts of a graphics memory manager, and reports each step.
+#![tactic(auto)]
+
+use command_words::Words;
+use io_edge::{StdSink, StdSource};
+use simulator::{Status, sim_top};
+use std::alloc::Global;
+use std::env;
+use std::process::ExitCode;
+use std::rt::Env;
+use ttm_base::NoMemory;
+
+/// The words after the program's name.
+fn words_of(rt: &(impl Env + Alloc), alloc: Global) -> Result<Words, NoMemory> {
+    let mut words = Words::new(alloc);
+    let Ok(all) = env::args(rt) else {
+        return Err(NoMemory);
+    };
+    for word in all.skip(1) {
+        words.push(word.as_bytes())?;
+    }
+    Ok(words)
+}
+
+fn main(rt: HostRuntime) -> ExitCode {
+    let mut source = StdSource::new(rt.stdin());
+    let mut sink = StdSink::new(rt.stdout());
+    let status = match words_of(&rt, rt.alloc()) {
+        Ok(words) => sim_top(rt.alloc(), &words, &mut source, &mut sink),
+        Err(NoMemory) => Status::NoMemory,
+    };
+    ExitCode::from(status.code())
+}
