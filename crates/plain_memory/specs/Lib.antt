@@ -1,0 +1,4 @@
+pub mod Kept
+pub mod Fits
+pub mod Along
+pub mod Mismatches

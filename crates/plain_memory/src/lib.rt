@@ -1,0 +1,14 @@
+//! The memory in which each buffer has its own place for good, as code: after the commands of a journal, and how many reads of
+//! the journal show other bytes.
+#![tactic(auto)]
+
+mod along;
+mod counts;
+mod memory;
+mod room;
+#[cfg(test)]
+mod tests;
+
+pub use along::mismatches;
+pub use counts::{answers, command_count};
+pub use memory::PlainMemory;

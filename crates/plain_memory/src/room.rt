@@ -1,0 +1,79 @@
+ghost use Rattle.std.specs.Prelude.{◌≡◌, ◌+◌, ◌*◌, ◌≤◌, ◌++◌, drop, length, replicate, slice_range, take, IfOk};
+
+use std::alloc::Global;
+use std::marker::Model;
+use ttm_base::NoMemory;
+
+/// Bytes of a page.
+const PAGE: usize = 4096;
+
+/// The bytes of one buffer. Nothing but `new` takes memory.
+#[derive(Drop)]
+pub struct Room {
+    bytes: Vec<u8>,
+}
+
+impl Model for Room {
+    ghost use Rattle.std.specs.Prelude.{ℕ, List};
+
+    ghost Value = { List ℕ };
+
+    ghost view = { λ s. s.bytes.items };
+}
+
+/// Writes bytes at an offset.
+fn write_at(room: &mut [u8], off: usize, from: &[u8])
+    requires { off + length from.now ≤ length room.old }
+    ensures { room.new ≡ take off room.old ++ (from.now ++ drop (off + length from.now) room.old) }
+{
+    room[off..off + from.len()].copy_from_slice(from);
+}
+
+/// Writes one byte so many times at an offset.
+fn fill_at(room: &mut [u8], off: usize, len: usize, byte: u8)
+    requires { off + len ≤ length room.old }
+    ensures { room.new ≡ take off room.old ++ (replicate len byte ++ drop (off + len) room.old) }
+{
+    room[off..off + len].fill(byte);
+}
+
+impl Room {
+    /// So many pages of zeros.
+    pub fn new(alloc: Global, pages: u32) -> Result<Room, NoMemory>
+        ensures { IfOk result (λ room. room ≡ replicate (4096 * pages) 0) }
+    {
+        let bytes = vec![in alloc; 0; pages as usize * PAGE]?;
+        Ok(Room { bytes })
+    }
+
+    /// Bytes from an offset on.
+    pub fn range(&self, off: usize, len: usize) -> &[u8]
+        requires { off + len ≤ length self.now }
+        ensures { result.now ≡ slice_range self.now off (off + len) }
+    {
+        &self.bytes[off..off + len]
+    }
+
+    /// Writes bytes from an offset on.
+    pub fn write(&mut self, off: usize, from: &[u8])
+        requires { off + length from.now ≤ length self.old }
+        ensures { self.new ≡ take off self.old ++ (from.now ++ drop (off + length from.now) self.old) }
+    {
+        write_at(self.bytes.as_mut_slice(), off, from);
+    }
+
+    /// Writes one byte so many times from an offset on.
+    pub fn fill(&mut self, off: usize, len: usize, byte: u8)
+        requires { off + len ≤ length self.old }
+        ensures { self.new ≡ take off self.old ++ (replicate len byte ++ drop (off + len) self.old) }
+    {
+        fill_at(self.bytes.as_mut_slice(), off, len, byte);
+    }
+
+    /// Makes all bytes zero.
+    pub fn clear(&mut self)
+        ensures { self.new ≡ replicate (length self.old) 0 }
+    {
+        self.bytes.as_mut_slice().fill(0);
+    }
+}
