@@ -110,7 +110,7 @@ module _ (r : Rings) (lists : List (List BufId)) (b : BufId) (x : Listing) (h : 
       (member_of_own (listings_of r) b g (group_is (listings_of r) b x found ∙ own))
       (subst (λ o. IsBlock (is_member (listings_of r) g) (list_at lists (number_of x)) o) at (h.blocks (number_of x) g join_below lg))
 
-  spot_at : (grp : Option ℕ) (range : Option Range) → x.group ≡ grp → range_for r.ranges grp (number_of x) ≡ range → AtSpot (listings_of r) (Some b) (number_of x) (spot_before r range (number_of x))
+  pub spot_at : (grp : Option ℕ) (range : Option Range) → x.group ≡ grp → range_for r.ranges grp (number_of x) ≡ range → AtSpot (listings_of r) (Some b) (number_of x) (spot_before r range (number_of x))
   spot_at grp None own at = last_at
   spot_at None (Some range) own at = absurd (cc)
   spot_at (Some g) (Some range) own at =
@@ -119,7 +119,7 @@ module _ (r : Rings) (lists : List (List BufId)) (b : BufId) (x : Listing) (h : 
       let all : Each P (map Of cut.front ++ Of range.last ∷ map Of cut.back) = subst (Each P) (ap (map Of) cut.split ∙ map_cut cut.front range.last cut.back) join_at.1 in
       (each_right P (map Of cut.front) (Of range.last ∷ map Of cut.back) all).0
 
-  behind_spot_at : (grp : Option ℕ) (range : Option Range) → x.group ≡ grp → range_for r.ranges grp (number_of x) ≡ range → AtSpot (listings_of r) (Some b) (number_of x) (next_at r (spot_before r range (number_of x)))
+  pub behind_spot_at : (grp : Option ℕ) (range : Option Range) → x.group ≡ grp → range_for r.ranges grp (number_of x) ≡ range → AtSpot (listings_of r) (Some b) (number_of x) (next_at r (spot_before r range (number_of x)))
   behind_spot_at grp None own at = subst (AtSpot (listings_of r) (Some b) (number_of x)) (sym end_behind) refl
   behind_spot_at None (Some range) own at = absurd (cc)
   behind_spot_at (Some g) (Some range) own at =

@@ -15,6 +15,8 @@ mod moves;
 mod nodes;
 mod rings;
 mod steps;
+#[cfg(test)]
+mod tests;
 
 pub use nodes::Listing;
 use rings::Rings;

@@ -6,6 +6,7 @@ use Rattle.lru_bulk.specs.declared.nodes.Listing.{Listing}
 use Rattle.lru_bulk.specs.declared.nodes.Spot.TheVariants.{End, Of}
 use Rattle.lru_bulk.specs.Lists.{IsGroup, number_of, listing_in, list_at, taken_off, put_on, members_last, is_member}
 use Rattle.lru_bulk.specs.Sound.{next_at, prev_at, listings_of, lists_of, range_for, spot_before, IsWhole}
+use Rattle.lru_bulk.specs.Relinks.{IsSpot}
 use Rattle.lru_bulk.proofs.WholeLaws.{join_ready, join_whole, listing_of_node, shown, same_trans, spot_kept}
 use Rattle.lru_bulk.proofs.rings.Rings.join.Goals as goal
 
@@ -22,24 +23,24 @@ links-right-requires g c =
     let r = c.args.self.now in
     let ready = join_ready r c.args.b c.at-node.result c.requires.sound c.at-node.ensures in
     let left_is = c.spot_before-left.ensures ∙ ap (λ (k : ℕ). spot_before r (range_for r.ranges c.at-node.result.listing.group k) k) c.list_number-list.ensures.number in
-    rw left_is ready.left
+    subst (λ s. IsSpot r s) (sym left_is) ready.left
 
 pub tie-requires : goal.tie-requires
 tie-requires g c =
     let r = c.args.self.now in
     let ready = join_ready r c.args.b c.at-node.result c.requires.sound c.at-node.ensures in
     let left_is = c.spot_before-left.ensures ∙ ap (λ (k : ℕ). spot_before r (range_for r.ranges c.at-node.result.listing.group k) k) c.list_number-list.ensures.number in
-    record { left = rw left_is ready.left; right = ready.own }
+    record { left = subst (λ s. IsSpot r s) (sym left_is) ready.left; right = ready.own }
 
-pub tie-2-requires : goal.tie-2-requires
-tie-2-requires g c =
+pub tie-requires-2 : goal.tie-requires-2
+tie-requires-2 g c =
     let r = c.args.self.now in
     let ready = join_ready r c.args.b c.at-node.result c.requires.sound c.at-node.ensures in
     let left_is = c.spot_before-left.ensures ∙ ap (λ (k : ℕ). spot_before r (range_for r.ranges c.at-node.result.listing.group k) k) c.list_number-list.ensures.number in
     let right_is = ap (λ (l : Links). l.next) c.links-right.ensures ∙ ap (next_at r) left_is in
     record {
       left = spot_kept r c.tie.new.self (Of c.args.b) c.tie.ensures.rest ready.own;
-      right = rw right_is (spot_kept r c.tie.new.self _ c.tie.ensures.rest ready.right);
+      right = subst (λ s. IsSpot c.tie.new.self s) (sym right_is) (spot_kept r c.tie.new.self (next_at r (spot_before r (range_for r.ranges c.at-node.result.listing.group (number_of c.at-node.result.listing)) (number_of c.at-node.result.listing))) c.tie.ensures.rest ready.right);
     }
 
 pub widen-requires : goal.widen-requires

@@ -6,6 +6,7 @@ use Rattle.lru_bulk.specs.declared.nodes.Listing.{Listing}
 use Rattle.lru_bulk.specs.declared.nodes.Spot.TheVariants.{End, Of}
 use Rattle.lru_bulk.specs.Lists.{IsGroup, number_of, listing_in, list_at, taken_off, put_on, members_last, is_member}
 use Rattle.lru_bulk.specs.Sound.{next_at, prev_at, listings_of, lists_of, range_for, spot_before, IsWhole}
+use Rattle.lru_bulk.specs.Relinks.{IsSpot}
 use Rattle.lru_bulk.proofs.WholeLaws.{splice_ready, splice_whole, shown, same_trans, spot_kept}
 use Rattle.lru_bulk.proofs.rings.Rings.splice_before.Goals as goal
 
@@ -18,10 +19,10 @@ links-end-requires g c = (splice_ready c.args.self.now c.args.group c.args.list 
 pub tie-requires : goal.tie-requires
 tie-requires g c =
     let ready = splice_ready c.args.self.now c.args.group c.args.list c.args.range c.requires.sound c.requires.group c.requires.list c.requires.range in
-    record { left = rw c.links-first.ensures ready.left; right = rw (← c.requires.behind) ready.right }
+    record { left = rw c.links-first.ensures ready.left; right = subst (λ s. IsSpot c.args.self.now s) c.requires.behind ready.right }
 
-pub tie-2-requires : goal.tie-2-requires
-tie-2-requires g c =
+pub tie-requires-2 : goal.tie-requires-2
+tie-requires-2 g c =
     let r = c.args.self.now in
     let ready = splice_ready r c.args.group c.args.list c.args.range c.requires.sound c.requires.group c.requires.list c.requires.range in
     record {
@@ -29,8 +30,8 @@ tie-2-requires g c =
       right = spot_kept r c.tie.new.self (Of c.args.range.first) c.tie.ensures.rest ready.first;
     }
 
-pub tie-3-requires : goal.tie-3-requires
-tie-3-requires g c =
+pub tie-requires-3 : goal.tie-requires-3
+tie-requires-3 g c =
     let r = c.args.self.now in
     let ready = splice_ready r c.args.group c.args.list c.args.range c.requires.sound c.requires.group c.requires.list c.requires.range in
     let rest = same_trans r c.tie.new.self c.tie-2.new.self c.tie.ensures.rest c.tie-2.ensures.rest in
