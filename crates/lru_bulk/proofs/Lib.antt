@@ -1,0 +1,16 @@
+pub mod Paths
+pub mod RingMoves
+pub mod NodeLaws
+pub mod ListingLaws
+pub mod Walks
+pub mod Blocks
+pub mod OwnBlock
+pub mod GroupLaws
+pub mod Neighbors
+pub mod SoundLaws
+pub mod LeaveLaws
+pub mod JoinLaws
+pub mod SpliceLaws
+pub mod NodeChange
+pub mod WholeLaws
+pub mod OrderLaws

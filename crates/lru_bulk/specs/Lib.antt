@@ -1,0 +1,5 @@
+pub mod Nodes
+pub mod Rings
+pub mod Lists
+pub mod Sound
+pub mod Relinks

@@ -1,0 +1,154 @@
+//! The twelve lists of buffers in eviction order, by memory type and priority, with bulk moves of groups (ttm_lru_item,
+//! ttm_lru_bulk_move). The nodes stand in a slab and are linked by their buffers' numbers. Each list is a ring through its
+//! end, and for each group and list the first and the last member are kept, so that a bulk move splices one range.
+#![tactic(auto)]
+
+ghost use Rattle.std.specs.Prelude.{◌≡◌, ◌+◌, ◌*◌, ◌<◌, ◌≤◌, ◌↔◌, ℕ, Some, None, IsSome, IsTrue, IfOk, OnOk, OnErr, length, slice_get};
+ghost use Rattle.lru_bulk.specs.Lists.{nothing_listed, listing_of, list_number, list_at, list_of, added, removed, touched, relisted, bulk_moved, behind, is_member, IsGroup, StandTogether};
+
+use std::alloc::Global;
+use std::marker::{Brand, Model};
+use std::sync::ledger::{Blank, Ledger};
+use ttm_base::{BufId, Mem, NoMemory};
+
+mod moves;
+mod nodes;
+mod rings;
+mod steps;
+#[cfg(test)]
+mod tests;
+
+pub use nodes::Listing;
+use rings::Rings;
+pub use steps::Steps;
+
+/// The twelve lists, seen as lists of buffers, with how each buffer is listed. A group is a number below that given to `new`.
+#[derive(Drop)]
+pub struct Lru {
+    rings: Rings,
+}
+
+impl Model for Lru {
+    ghost use Rattle.lru_bulk.specs.Lists.{Order};
+
+    ghost Value = { Order };
+
+    ghost use Rattle.std.specs.Prelude.{None};
+    ghost use Rattle.lru_bulk.specs.Sound.{order_of, IsWhole};
+
+    ghost view = { λ l. order_of l.rings };
+
+    ghost invariant = { λ l. IsWhole l.rings None };
+}
+
+impl Lru {
+    /// No buffer of so many is listed.
+    pub fn new(alloc: Global, buffers: u32, groups: u32) -> Result<Lru, NoMemory>
+        ensures { IfOk result (λ lru. lru ≡ nothing_listed buffers groups) }
+    {
+        let rings = Rings::new(alloc, buffers, groups)?;
+        Ok(Lru { rings })
+    }
+
+    /// Lists a buffer, behind the last of its group in its list, or at the list's end. It makes room for the buffer in the
+    /// lists of all memory types.
+    pub fn add(&mut self, b: BufId, mem: Mem, prio: u32, group: Option<u32>) -> Result<(), NoMemory>
+        requires known { b.0 < length self.old.listings }
+        requires absent { listing_of self.old b ≡ None }
+        requires prio { prio < 4 }
+        requires group { IsGroup self.old.groups group }
+        ensures ok { OnOk result (self.new ≡ added self.old b (record { mem = mem; prio = prio; group = group })) }
+        ensures err { OnErr result (self.new ≡ self.old) }
+    {
+        let listing = Listing { mem, prio, group };
+        self.rings.enlist::<Brand>(b, listing, Blank::new(1))
+    }
+
+    /// Takes a buffer off its list.
+    pub fn remove(&mut self, b: BufId)
+        requires { IsSome (listing_of self.old b) }
+        ensures { self.new ≡ removed self.old b }
+    {
+        self.rings.delist::<Brand>(b, Blank::new(1));
+    }
+
+    /// Places a buffer anew on its list: behind the last other of its group, or at the list's end.
+    pub fn touch(&mut self, b: BufId)
+        requires { IsSome (listing_of self.old b) }
+        ensures { self.new ≡ touched self.old b }
+    {
+        self.rings.replace::<Brand>(b, Blank::new(1));
+    }
+
+    /// Places a buffer on the list of another memory type, or anew on its own, with its priority and group.
+    pub fn relist(&mut self, b: BufId, mem: Mem)
+        requires { IsSome (listing_of self.old b) }
+        ensures { self.new ≡ relisted self.old b mem }
+    {
+        self.rings.rehome::<Brand>(b, mem, Blank::new(1));
+    }
+
+    /// Makes each list its non-members of a group followed by its members, each in their old order.
+    pub fn bulk_tail(&mut self, group: u32)
+        requires { group < self.old.groups }
+        ensures { self.new ≡ bulk_moved self.old group }
+    {
+        self.rings.splice_uncounted::<Brand>(group, Blank::new(1));
+    }
+
+    /// The same, where each link that is written counts one step: six at most for each of the twelve lists, however many
+    /// members the group has.
+    pub fn bulk_tail_counted<L: Ledger>(&mut self, group: u32, steps: &mut Steps<L>)
+        requires { group < self.old.groups }
+        ensures lists { self.new ≡ bulk_moved self.old group }
+        ensures cost { steps.new ≤ steps.old + 6 * 12 }
+    {
+        self.rings.splice_all(group, steps);
+    }
+
+    /// Whether a buffer is on a list.
+    pub fn is_listed(&self, b: BufId) -> bool
+        ensures { IsTrue result ↔ IsSome (listing_of self.now b) }
+    {
+        self.rings.nodes.has(b)
+    }
+
+    /// Whether `add` may be called: the buffer is one of those that `new` was told of and is on no list, and the group, if
+    /// there is one, is one of those.
+    pub fn can_add(&self, b: BufId, group: Option<u32>) -> bool
+        ensures known { IsTrue result → b.0 < length self.now.listings }
+        ensures absent { IsTrue result → listing_of self.now b ≡ None }
+        ensures group { IsTrue result → IsGroup self.now.groups group }
+        ensures can { b.0 < length self.now.listings → listing_of self.now b ≡ None → IsGroup self.now.groups group → IsTrue result }
+    {
+        let nodes = &self.rings.nodes;
+        let known = (b.0 as usize) < nodes.len() && !nodes.has(b);
+        match group {
+            None => known,
+            Some(group) => known && group < self.rings.groups,
+        }
+    }
+
+    /// The first buffer of a list: the one to be evicted first.
+    pub fn first(&self, mem: Mem, prio: u32) -> Option<BufId>
+        requires { prio < 4 }
+        ensures { result ≡ slice_get (list_at self.now.lists (list_number mem prio)) 0 }
+    {
+        self.rings.first(mem, prio)
+    }
+
+    /// The buffer behind another in its list.
+    pub fn next(&self, b: BufId) -> Option<BufId>
+        requires { IsSome (listing_of self.now b) }
+        ensures { result ≡ behind b (list_of self.now b) }
+    {
+        self.rings.next(b)
+    }
+
+    /// In each list the members of one group stand side by side. It does nothing: its contract is the law.
+    pub fn stand_together(&self)
+        ensures { (i g : ℕ) → i < 12 → g < self.now.groups → StandTogether (is_member self.now.listings g) (list_at self.now.lists i) }
+    {
+        let _groups = self.rings.groups;
+    }
+}

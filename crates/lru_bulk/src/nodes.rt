@@ -1,0 +1,145 @@
+ghost use Rattle.std.specs.Prelude.{◌≡◌, ◌<◌, ◌↔◌, Some, None, IsSome, IsTrue, IfOk, OnOk, OnErr, replicate, length, slice_index_or, slice_set};
+
+use slab::Slab;
+use std::alloc::Global;
+use std::marker::Model;
+use ttm_base::{BufId, ItemList, Mem, NoMemory};
+
+/// How a buffer is listed: the list of its memory type and priority, and its group.
+#[derive(Clone, Copy, Debug, PartialEq, Eq)]
+pub struct Listing {
+    pub mem: Mem,
+    pub prio: u32,
+    pub group: Option<u32>,
+}
+
+/// A place that links lead to: the end of a list, which stands before its first node and behind its last, or a buffer's node.
+#[derive(Clone, Copy, Debug, PartialEq, Eq)]
+pub enum Spot {
+    End(usize),
+    Of(BufId),
+}
+
+/// The links of a spot.
+#[derive(Clone, Copy, Debug, PartialEq, Eq)]
+pub struct Links {
+    pub next: Spot,
+    pub prev: Spot,
+}
+
+/// The node of a buffer.
+#[derive(Clone, Copy, Debug)]
+pub struct Node {
+    pub listing: Listing,
+    pub links: Links,
+}
+
+/// The nodes of buffers in a slab, seen as a list by the buffers' numbers.
+#[derive(Drop)]
+pub struct Nodes {
+    slab: Slab<Node>,
+    // The key of each buffer's node.
+    keys: ItemList<Option<usize>>,
+}
+
+impl Model for Nodes {
+    ghost use Rattle.std.specs.Prelude.{List, Option};
+    ghost use Rattle.lru_bulk.specs.declared.nodes.Node.{Node as Kept};
+
+    ghost Value = { List (Option Kept) };
+
+    ghost use Rattle.lru_bulk.specs.Nodes.{nodes_of, IsKeyed};
+
+    ghost view = { λ n. nodes_of n.slab n.keys };
+
+    ghost invariant = { λ n. IsKeyed n.slab n.keys };
+}
+
+/// So many items that are one.
+pub fn repeated<T: Copy + Drop>(
+    alloc: Global,
+    count: usize,
+    item: T,
+) -> Result<ItemList<T>, NoMemory>
+    ensures { IfOk result (λ list. list ≡ replicate count item) }
+{
+    let mut list = ItemList::new(alloc);
+    for _done in 0..count {
+        list.push(item)?;
+    }
+    Ok(list)
+}
+
+// The key of a buffer's node.
+fn key_of(keys: &ItemList<Option<usize>>, b: BufId) -> usize
+    requires { IsSome (slice_index_or keys.now b.0 None) }
+    ensures { slice_index_or keys.now b.0 None ≡ Some result }
+{
+    keys.at(b.0 as usize).unwrap()
+}
+
+impl Nodes {
+    /// No buffer of so many has a node.
+    pub fn new(alloc: Global, buffers: u32) -> Result<Nodes, NoMemory>
+        ensures { IfOk result (λ nodes. nodes ≡ replicate buffers None) }
+    {
+        let keys = repeated(alloc, buffers as usize, None)?;
+        Ok(Nodes {
+            slab: Slab::new(alloc),
+            keys,
+        })
+    }
+
+    /// Gives a buffer a node.
+    pub fn put(&mut self, b: BufId, node: Node) -> Result<(), NoMemory>
+        requires known { b.0 < length self.old }
+        requires absent { slice_index_or self.old b.0 None ≡ None }
+        ensures ok { OnOk result (self.new ≡ slice_set self.old b.0 (Some node)) }
+        ensures err { OnErr result (self.new ≡ self.old) }
+    {
+        let key = self.slab.insert(node)?;
+        self.keys.set(b.0 as usize, Some(key));
+        Ok(())
+    }
+
+    /// Takes the node of a buffer away.
+    pub fn take(&mut self, b: BufId)
+        requires { IsSome (slice_index_or self.old b.0 None) }
+        ensures { self.new ≡ slice_set self.old b.0 None }
+    {
+        let key = key_of(&self.keys, b);
+        self.slab.remove(key);
+        self.keys.set(b.0 as usize, None);
+    }
+
+    /// How many buffers there are.
+    pub fn len(&self) -> usize
+        ensures { result ≡ length self.now }
+    {
+        self.keys.len()
+    }
+
+    /// Whether a buffer has a node.
+    pub fn has(&self, b: BufId) -> bool
+        ensures { IsTrue result ↔ IsSome (slice_index_or self.now b.0 None) }
+    {
+        (b.0 as usize) < self.keys.len() && self.keys.at(b.0 as usize).is_some()
+    }
+
+    /// The node of a buffer.
+    pub fn at(&self, b: BufId) -> Node
+        requires { IsSome (slice_index_or self.now b.0 None) }
+        ensures { slice_index_or self.now b.0 None ≡ Some result }
+    {
+        self.slab[key_of(&self.keys, b)]
+    }
+
+    /// Puts another node in the place of a buffer's.
+    pub fn set(&mut self, b: BufId, node: Node)
+        requires { IsSome (slice_index_or self.old b.0 None) }
+        ensures { self.new ≡ slice_set self.old b.0 (Some node) }
+    {
+        let key = key_of(&self.keys, b);
+        self.slab[key] = node;
+    }
+}
