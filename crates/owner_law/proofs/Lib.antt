@@ -1,0 +1,9 @@
+pub mod Counts
+pub mod Weights
+pub mod Choices
+pub mod Blocks
+pub mod Given
+pub mod Keeps
+pub mod Taken
+pub mod Law
+pub mod Accounts
