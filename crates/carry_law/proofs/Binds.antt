@@ -1,5 +1,5 @@
 -- Between SYSTEM and TT: pages stay at their frames, and the aperture gives or takes pages that no packet goes to.
-use Rattle.std.proofs.Common.{◌≡◌, ℕ, ◌<◌, ◌≤◌, zero, suc, Bool, true, false, List, [], ◌∷◌, Option, Some, None, refl, sym, subst, ◌∙◌, ap, ap₂, arith, ◌⊎◌, inl, inr, ⊎_elim}
+use Rattle.std.proofs.Common.{◌≡◌, ℕ, Bool, true, false, List, [], ◌∷◌, Option, Some, None, refl, sym, subst, ◌∙◌, ap, ◌⊎◌, inl, inr, ⊎_elim}
 use Rattle.std.specs.Prelude.{slice_get, map, filter, option_map, option_and_then, unwrap_or, ◌||◌, if◌then◌else◌}
 use Rattle.std.specs.List.{list_any}
 use Rattle.std.proofs.lemmas.Bool.{cases_eq, or_cases}
@@ -14,13 +14,13 @@ use Rattle.journal_model.specs.declared.state.Core.{Core}
 use Rattle.journal_model.specs.declared.state.Buffer.{Buffer}
 use Rattle.journal_model.specs.declared.state.Fence.{Fence}
 use Rattle.journal_model.specs.State.{live_in, changed, new_buffer}
-use Rattle.journal_model.specs.Places.{aperture, place_of, page_at, page_in, page_in_table, loc_of}
+use Rattle.journal_model.specs.Places.{aperture, page_at, page_in, page_in_table, loc_of}
 use Rattle.journal_model.specs.Waits.{same_job, changes, waited_for, jobs_before_read, jobs_before_write}
 use Rattle.journal_model.specs.PlainMemory.{Memory, Dues}
 use Rattle.journal_model.specs.ApplyPages.{bound, unbound}
 use Rattle.state_law.proofs.Lists.{set_at}
 use Rattle.owner_law.proofs.Law.{AreHeldOnce}
-use Rattle.plain_law.specs.Memory.{Page, Nowhere, Frame, touched}
+use Rattle.plain_law.specs.Memory.{Nowhere, Frame, touched}
 use Rattle.plain_law.specs.View.{View, Good, Live, is_fence}
 use Rattle.plain_law.specs.Entries.{retitled}
 use Rattle.plain_law.proofs.Cpu.{done_untouched}
@@ -30,12 +30,12 @@ use Rattle.hold_law.specs.Maps.{BufferMaps, GhostMaps, Maps}
 use Rattle.hold_law.proofs.HeldOnce.{held_once}
 use Rattle.hold_law.proofs.Owner.{owner_of, owner_is}
 use Rattle.hold_law.proofs.Mapped.{aperture_maps, maps_aperture}
-use Rattle.view_law.proofs.World.{Seen, bare, IsChanging, IsUsing}
+use Rattle.view_law.proofs.World.{Seen, bare}
 use Rattle.view_law.proofs.Jobs.{waited_is_done}
-use Rattle.view_law.proofs.Kept.{keep_all, changing_kept, using_kept, ghostly_kept, mover_kept}
+use Rattle.view_law.proofs.Kept.{keep_all, changing_kept, using_kept, ghostly_kept}
 use Rattle.view_law.proofs.PacketStep.{no_bytes}
 use Rattle.view_law.proofs.Apertures.{Spared, unmapped_spared}
-use Rattle.view_law.proofs.Titles.{kept_by, SameHolds, owners_same, Retitled, retitled_seen}
+use Rattle.view_law.proofs.Titles.{SameHolds, owners_same, retitled_seen}
 
 -- ---- one buffer changed
 

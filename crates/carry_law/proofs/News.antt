@@ -1,10 +1,9 @@
 -- A buffer is made: it stands nowhere, and its bytes are zeros in the plain memory as before.
-use Rattle.std.proofs.Common.{◌≡◌, ℕ, ◌+◌, ◌*◌, ◌<◌, ◌≤◌, zero, suc, Bool, true, false, List, [], ◌∷◌, length, Option, Some, None, refl, sym, subst, ◌∙◌, ap, ap₂, arith, ◌⊎◌, inl, inr, ⊎_elim}
-use Rattle.std.specs.Prelude.{slice_get, slice_set, replicate, nat_lt, nat_eq, ◌==◌, option_and_then, unwrap_or, if◌then◌else◌}
+use Rattle.std.proofs.Common.{◌≡◌, ℕ, ◌+◌, ◌*◌, zero, suc, Bool, true, false, Option, Some, None, refl, sym, ◌∙◌, ap, ◌⊎◌, inl, inr, ⊎_elim}
+use Rattle.std.specs.Prelude.{slice_get, slice_set, replicate, nat_lt, ◌==◌, option_and_then, unwrap_or, if◌then◌else◌}
 use Rattle.std.specs.List.{list_any}
-use Rattle.std.proofs.lemmas.Bool.{cases_eq, cases_Bool, eqb-true}
+use Rattle.std.proofs.lemmas.Bool.{eqb-true}
 use Rattle.ttm_base.specs.declared.BufId.{BufId}
-use Rattle.ttm_base.specs.declared.Loc.{Loc}
 use Rattle.ttm_base.specs.declared.Loc.TheVariants as loc
 use Rattle.ttm_base.specs.Pages as pages
 use Rattle.journal_model.specs.declared.script.Script.{Script}
@@ -16,13 +15,13 @@ use Rattle.journal_model.specs.Waits.{same_job, jobs_before_read, jobs_before_wr
 use Rattle.journal_model.specs.PlainMemory.{Memory, Dues, with_zeros}
 use Rattle.state_law.proofs.Lists.{set_at}
 use Rattle.owner_law.proofs.Law.{AreHeldOnce}
-use Rattle.plain_law.specs.Memory.{Page, Nowhere, Own, Bytes, touched, written}
+use Rattle.plain_law.specs.Memory.{Nowhere, Own, Bytes, touched}
 use Rattle.plain_law.specs.View.{View, Good, rest}
 use Rattle.plain_law.specs.Entries.{retitled}
 use Rattle.plain_law.proofs.Cpu.{idle_untouched, untouched_unwritten, rest_unwritten}
 use Rattle.plain_law.proofs.Owners.{untake_keeps}
-use Rattle.hold_law.specs.Holding.{seen, live_at, kept_in, target_at, buffer_at, HeldOnce}
-use Rattle.hold_law.specs.Maps.{BufferMaps, GhostMaps, Maps}
+use Rattle.hold_law.specs.Holding.{seen, live_at, kept_in, target_at, buffer_at}
+use Rattle.hold_law.specs.Maps.{Maps}
 use Rattle.hold_law.proofs.HeldOnce.{held_once}
 use Rattle.hold_law.proofs.Owner.{owner_of}
 use Rattle.hold_law.proofs.Mapped.{aperture_maps, maps_aperture}
@@ -30,7 +29,7 @@ use Rattle.view_law.proofs.World.{Seen, bare}
 use Rattle.view_law.proofs.Kept.{keep_all, changing_kept, using_kept, ghostly_kept}
 use Rattle.view_law.proofs.PacketStep.{no_bytes}
 use Rattle.view_law.proofs.Apertures.{Spared, unmapped_spared}
-use Rattle.view_law.proofs.Titles.{SameHolds, owners_same, Retitled, retitled_seen}
+use Rattle.view_law.proofs.Titles.{SameHolds, owners_same, retitled_seen}
 
 -- another memory with the same pages
 pub with_memory : (script : Script) (c : Core) (dues : Dues) (m m' : Memory) (bytes : pages.PageBytes) (v : View) → Seen script c dues m bytes v →

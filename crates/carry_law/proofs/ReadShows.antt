@@ -1,7 +1,7 @@
 -- A read whose buffer no job changes any more shows the bytes of the plain memory.
 use mathlib.Core.Path.{fun_ext}
-use Rattle.std.proofs.Common.{◌≡◌, ℕ, ◌+◌, ◌*◌, ◌/◌, ◌%◌, ◌<◌, ◌≤◌, Bool, true, false, List, Option, Some, None, refl, sym, ◌∙◌, ap, arith, ⊎_elim}
-use Rattle.std.specs.Prelude.{map, nat_lt, ◌||◌, if◌then◌else◌}
+use Rattle.std.proofs.Common.{◌≡◌, ℕ, ◌+◌, ◌*◌, ◌/◌, ◌%◌, Bool, true, false, None, refl, sym, ◌∙◌, ap, arith}
+use Rattle.std.specs.Prelude.{map, ◌||◌, if◌then◌else◌}
 use Rattle.std.proofs.lemmas.Bool.{lt-ltb}
 use Rattle.ttm_base.specs.declared.BufId.{BufId}
 use Rattle.ttm_base.specs.ListWords.{count_from}
@@ -13,10 +13,8 @@ use Rattle.journal_model.specs.Places.{page_at}
 use Rattle.journal_model.specs.Waits.{waited_for, jobs_before_read}
 use Rattle.journal_model.specs.Stores.{byte_of, bytes_of}
 use Rattle.journal_model.specs.PlainMemory.{Memory, Dues, memory_range}
-use Rattle.plain_law.specs.Memory.{Own}
 use Rattle.plain_law.specs.View.{View, Good, is_fence}
 use Rattle.plain_law.proofs.Cpu.{cpu_reads}
-use Rattle.hold_law.specs.Holding.{seen, buffer_at}
 use Rattle.view_law.proofs.World.{Seen}
 use Rattle.view_law.proofs.Jobs.{waited_is_done}
 use Rattle.view_law.proofs.PacketStep.{no_bytes}

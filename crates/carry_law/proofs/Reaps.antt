@@ -1,9 +1,8 @@
 -- A ghost goes once its jobs are done: no packet that is left goes to its pages.
-use Rattle.std.proofs.Common.{◌≡◌, ℕ, ◌<◌, ◌≤◌, zero, suc, Bool, true, false, List, [], ◌∷◌, Option, Some, None, refl, sym, subst, ◌∙◌, ap, ap₂, arith, ◌⊎◌, inl, inr, ⊎_elim}
+use Rattle.std.proofs.Common.{◌≡◌, ℕ, zero, suc, Bool, true, false, List, [], ◌∷◌, Option, Some, None, refl, sym, subst, ◌∙◌, ap, ap₂, ◌⊎◌, inl, inr, ⊎_elim}
 use Rattle.std.specs.Prelude.{slice_get, filter, not, nat_eq, ◌==◌, ◌&&◌, ◌||◌, if◌then◌else◌}
 use Rattle.std.specs.List.{list_any}
 use Rattle.std.proofs.lemmas.Bool.{cases_Bool, cases_eq, eqb-true, and_parts, ne_eqb, eq-eqb}
-use Rattle.std.proofs.lemmas.Bool.Decides.{nat_tests}
 use Rattle.ttm_base.specs.Pages as pages
 use Rattle.journal_model.specs.declared.script.Script.{Script}
 use Rattle.journal_model.specs.declared.state.Core.{Core}
@@ -15,13 +14,13 @@ use Rattle.journal_model.specs.PlainMemory.{Memory, Dues}
 use Rattle.owner_law.proofs.Law.{AreHeldOnce}
 use Rattle.plain_law.specs.Memory as memory
 use Rattle.plain_law.specs.Memory.{Page, Nowhere, Frame, touched, written}
-use Rattle.plain_law.specs.View.{View, Good, Fences, Owner, Idle, Free, Live, Kept, Target, Ghost, Guarded}
+use Rattle.plain_law.specs.View.{View, Good, Owner, Idle, Free, Live, Kept, Target, Ghost, Guarded}
 use Rattle.plain_law.specs.Entries.{retitled}
 use Rattle.plain_law.proofs.Actions.{bool_cases}
 use Rattle.plain_law.proofs.Engine.{covered, not_done}
 use Rattle.plain_law.proofs.Owners.{reap_keeps}
 use Rattle.hold_law.specs.Holding.{seen, Holds, HeldOnce}
-use Rattle.hold_law.specs.Maps.{BufferMaps, GhostMaps, Maps}
+use Rattle.hold_law.specs.Maps.{Maps}
 use Rattle.hold_law.proofs.HeldOnce.{held_once}
 use Rattle.hold_law.proofs.Owner.{owner_of, owner_is, owner_same}
 use Rattle.hold_law.proofs.Mapped.{aperture_maps, maps_aperture}
@@ -30,7 +29,7 @@ use Rattle.view_law.proofs.Jobs.{waited_is_done}
 use Rattle.view_law.proofs.Kept.{keep_all, changing_kept, using_kept}
 use Rattle.view_law.proofs.PacketStep.{no_bytes}
 use Rattle.view_law.proofs.Apertures.{Spared, unmapped_spared}
-use Rattle.view_law.proofs.Titles.{Retitled, retitled_seen}
+use Rattle.view_law.proofs.Titles.{retitled_seen}
 
 -- ---- filters by position
 

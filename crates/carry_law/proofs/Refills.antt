@@ -1,10 +1,9 @@
 -- A page of a buffer in SYSTEM gets a frame or a slot at once: fresh, swapped in, or swapped out.
-use Rattle.std.proofs.Common.{◌≡◌, ℕ, ◌+◌, ◌-◌, ◌*◌, ◌<◌, ◌≤◌, zero, suc, Bool, true, false, List, [], ◌∷◌, length, Option, Some, None, refl, sym, subst, ◌∙◌, ap, ap₂, arith, ◌⊎◌, inl, inr, ⊎_elim}
-use Rattle.std.specs.Prelude.{slice_get, slice_set, nat_eq, nat_le, nat_lt, ◌==◌, ◌&&◌, cond, drop, option_map, option_and_then, unwrap_or, if◌then◌else◌}
+use Rattle.std.proofs.Common.{◌≡◌, ℕ, ◌+◌, ◌-◌, ◌<◌, zero, suc, Bool, true, false, List, [], ◌∷◌, length, Option, Some, refl, sym, subst, ◌∙◌, ap, ap₂, arith, ◌⊎◌, inl, inr, ⊎_elim}
+use Rattle.std.specs.Prelude.{slice_get, slice_set, nat_eq, nat_le, nat_lt, ◌&&◌, cond, drop, option_map, option_and_then, unwrap_or, if◌then◌else◌}
 use Rattle.std.specs.List.{list_any}
-use Rattle.std.proofs.lemmas.Bool.{cases_Bool, cases_eq, eqb-true, eq-eqb, ne_eqb, and_parts}
+use Rattle.std.proofs.lemmas.Bool.{cases_eq, eqb-true, eq-eqb, and_parts}
 use Rattle.std.proofs.lemmas.Bool.Decides.{nat_tests}
-use Rattle.ttm_base.specs.declared.Mem.{Mem}
 use Rattle.ttm_base.specs.declared.Mem.TheVariants as mem
 use Rattle.ttm_base.specs.declared.BufId.{BufId}
 use Rattle.ttm_base.specs.declared.Loc.{Loc}
@@ -21,17 +20,14 @@ use Rattle.journal_model.specs.Stores as stores
 use Rattle.journal_model.specs.PlainMemory.{Memory, Dues}
 use Rattle.journal_model.specs.ApplyPages.{with_page}
 use Rattle.owner_law.proofs.Law.{AreHeldOnce}
-use Rattle.plain_law.specs.Memory as memory
-use Rattle.plain_law.specs.Memory.{Page, Nowhere, Vram, Frame, Slot, Own, same_page, put, touched}
+use Rattle.plain_law.specs.Memory.{Page, Nowhere, Vram, Frame, Slot, Own, same_page, touched}
 use Rattle.plain_law.specs.View.{View, Good, Owner, Idle, Free, Live, Kept, Target, Ghost}
 use Rattle.plain_law.specs.Entries.{relocated}
 use Rattle.plain_law.proofs.Actions.{same_page-refl, same_page-true}
 use Rattle.plain_law.proofs.Cpu.{relocate_keeps}
 use Rattle.hold_law.specs.Holding.{seen, live_at, kept_in, target_at, buffer_at, Holds, HeldOnce}
-use Rattle.hold_law.specs.Maps.{BufferMaps, Maps}
-use Rattle.hold_law.proofs.HeldOnce.{held_once, Located, in_table_is}
+use Rattle.hold_law.proofs.HeldOnce.{held_once}
 use Rattle.hold_law.proofs.Owner.{owner_of, owner_is, owner_none, owner_same, unheld}
-use Rattle.view_law.specs.Seen.{steps_from}
 use Rattle.view_law.proofs.World.{Seen, bare}
 use Rattle.view_law.proofs.Kept.{keep_all, changing_kept, using_kept, ghostly_kept}
 use Rattle.view_law.proofs.PacketStep.{no_bytes, same_seen, same-true, within_same, within_cut}

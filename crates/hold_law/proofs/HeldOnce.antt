@@ -1,6 +1,6 @@
 -- Where each page, frame and slot is held once at most, a page has one owner.
-use Rattle.std.proofs.Common.{◌≡◌, ℕ, ◌+◌, ◌<◌, ◌≤◌, zero, suc, Bool, true, false, List, [], ◌∷◌, Option, Some, None, refl, sym, subst, ◌∙◌, ap, ap₂, arith, ◌⊎◌, inl, inr, ⊎_elim}
-use Rattle.std.specs.Prelude.{slice_get, nat_lt, unwrap_or, option_and_then, if◌then◌else◌}
+use Rattle.std.proofs.Common.{◌≡◌, ℕ, ◌+◌, ◌≤◌, Bool, true, false, List, [], Option, Some, None, refl, sym, subst, ◌∙◌, ap, ap₂, arith, ◌⊎◌, inl, inr, ⊎_elim}
+use Rattle.std.specs.Prelude.{slice_get, nat_lt, unwrap_or, if◌then◌else◌}
 use Rattle.std.proofs.lemmas.Bool.{cases_eq}
 use Rattle.ttm_base.specs.declared.Mem.{Mem}
 use Rattle.ttm_base.specs.declared.Mem.TheVariants as mem
@@ -12,13 +12,13 @@ use Rattle.journal_model.specs.declared.script.Script.{Script}
 use Rattle.journal_model.specs.declared.state.Core.{Core}
 use Rattle.journal_model.specs.declared.state.Buffer.{Buffer}
 use Rattle.journal_model.specs.declared.state.Ghost as ghosts
-use Rattle.journal_model.specs.State.{live_in, buffer_in, new_buffer, target_spans}
-use Rattle.journal_model.specs.Places.{pages_of, frame_of, slot_of, loc_of, page_in, page_in_vram, page_in_table, frames_of, slots_of}
-use Rattle.journal_model.specs.Holds.{spans_in, has_number}
+use Rattle.journal_model.specs.State.{live_in, new_buffer, target_spans}
+use Rattle.journal_model.specs.Places.{pages_of, frame_of, slot_of, loc_of, page_in, page_in_vram, page_in_table}
+use Rattle.journal_model.specs.Holds.{spans_in}
 use Rattle.plain_law.specs.Memory.{Page, Nowhere, Vram, Frame, Slot, Own}
 use Rattle.plain_law.specs.View.{Owner, Idle, Free, Live, Kept, Target, Ghost}
 use Rattle.owner_law.proofs.Counts.{one, times, stands, summed, weigh}
-use Rattle.owner_law.proofs.Weights.{Room, vram_pages, tt_pages, frames, slots, room_size, of_buffer, of_ghost, weight}
+use Rattle.owner_law.proofs.Weights.{Room, vram_pages, frames, slots, room_size, of_buffer, of_ghost, weight}
 use Rattle.owner_law.proofs.Keeps.{new_weighs_none}
 use Rattle.owner_law.proofs.Law.{AreHeldOnce}
 use Rattle.hold_law.specs.Holding.{seen, live_at, kept_in, target_at, in_ghost, buffer_at, Holds, HeldOnce}

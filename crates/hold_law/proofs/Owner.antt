@@ -1,5 +1,5 @@
 -- The owner of each page, found in the lists of the state.
-use Rattle.std.proofs.Common.{◌≡◌, ℕ, ◌+◌, ◌<◌, ◌≤◌, zero, suc, Bool, true, false, List, [], ◌∷◌, length, Option, Some, None, refl, sym, subst, ◌∙◌, ap, arith, ◌⊎◌, inl, inr, ⊎_elim}
+use Rattle.std.proofs.Common.{◌≡◌, ℕ, ◌+◌, ◌<◌, ◌≤◌, zero, suc, true, false, List, [], ◌∷◌, length, Option, Some, None, refl, sym, subst, ◌∙◌, ap, arith, ◌⊎◌, inl, inr, ⊎_elim}
 use Rattle.std.specs.Prelude.{slice_get, unwrap_or, option_and_then}
 use Rattle.std.proofs.lemmas.Bool.{cases_lt, cases_Bool, true≢false}
 use Rattle.ttm_base.specs.declared.Mem.{Mem}
@@ -8,7 +8,7 @@ use Rattle.ttm_base.specs.declared.Loc.TheVariants as loc
 use Rattle.journal_model.specs.declared.state.Core.{Core}
 use Rattle.journal_model.specs.declared.state.Buffer.{Buffer}
 use Rattle.journal_model.specs.declared.state.Ghost as ghosts
-use Rattle.journal_model.specs.State.{live_in, new_buffer, target_spans}
+use Rattle.journal_model.specs.State.{new_buffer, target_spans}
 use Rattle.journal_model.specs.Places.{pages_of, page_in, page_in_vram, page_in_table, loc_of}
 use Rattle.plain_law.specs.Memory.{Page, Nowhere, Vram, Frame, Slot, Own, same_page}
 use Rattle.plain_law.specs.View.{Owner, Idle, Free, Live, Kept, Target, Ghost}

@@ -1,5 +1,5 @@
 -- Which frame each page of TT is mapped to, as buffers and ghosts tell it.
-use Rattle.std.specs.Prelude.{◌≡◌, ℕ, List, Option, Some, slice_get, ◌⊎◌}
+use Rattle.std.specs.Prelude.{◌≡◌, ℕ, Some, slice_get, ◌⊎◌}
 use Rattle.ttm_base.specs.declared.BufId.{BufId}
 use Rattle.ttm_base.specs.declared.Mem.TheVariants.{Tt}
 use Rattle.ttm_base.specs.declared.Loc.TheVariants as loc

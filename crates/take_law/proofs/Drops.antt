@@ -1,6 +1,6 @@
 -- A buffer gives back its target in VRAM, or in VRAM the frames in its table: their pages are nobody's.
-use Rattle.std.proofs.Common.{◌≡◌, ℕ, ◌≤◌, zero, suc, Bool, true, false, List, [], ◌∷◌, Option, Some, None, refl, sym, subst, ◌∙◌, ap, arith, ◌⊎◌, inl, inr, ⊎_elim, ◌≢◌}
-use Rattle.std.specs.Prelude.{slice_get, map, filter, option_map, unwrap_or}
+use Rattle.std.proofs.Common.{◌≡◌, ℕ, zero, suc, Bool, true, List, [], ◌∷◌, None, refl, sym, subst, ◌∙◌, ap, ◌⊎◌, inl, inr, ⊎_elim, ◌≢◌}
+use Rattle.std.specs.Prelude.{slice_get, map, filter, unwrap_or}
 use Rattle.std.specs.List.{list_any}
 use Rattle.ttm_base.specs.declared.Mem.{Mem}
 use Rattle.ttm_base.specs.declared.Mem.TheVariants as mem
@@ -24,15 +24,14 @@ use Rattle.plain_law.specs.View.{View, Good, Owner, Idle, Free, Live, Kept, Targ
 use Rattle.plain_law.specs.Entries.{retitled}
 use Rattle.plain_law.proofs.Owners.{retitle_keeps}
 use Rattle.hold_law.specs.Holding.{seen, live_at, kept_in, target_at, buffer_at, Holds, HeldOnce}
-use Rattle.hold_law.specs.Maps.{BufferMaps, Maps}
-use Rattle.hold_law.proofs.HeldOnce.{held_once, in_vram_is}
-use Rattle.hold_law.proofs.Owner.{owner_of, owner_is, owner_none, owning, unheld}
+use Rattle.hold_law.proofs.HeldOnce.{in_vram_is}
+use Rattle.hold_law.proofs.Owner.{owner_of, owner_is, owning, unheld}
 use Rattle.view_law.proofs.World.{Seen, bare}
 use Rattle.view_law.proofs.Kept.{keep_all, changing_kept, using_kept, ghostly_kept}
 use Rattle.view_law.proofs.PacketStep.{no_bytes}
 use Rattle.view_law.proofs.Apertures.{Spared}
-use Rattle.view_law.proofs.Titles.{Retitled, retitled_seen}
-use Rattle.carry_law.proofs.Binds.{IsAt, at_is, live_either, all_kept, spared_but}
+use Rattle.view_law.proofs.Titles.{retitled_seen}
+use Rattle.carry_law.proofs.Binds.{IsAt, at_is, live_either, all_kept}
 
 -- as before, or gone
 abbrev pub SameOrGone : Page → Page → Type 0

@@ -1,5 +1,5 @@
 -- Free pages of VRAM become the target of a buffer, and the job that moved the last victim out becomes one of its fences.
-use Rattle.std.proofs.Common.{◌≡◌, ℕ, ◌<◌, ◌≤◌, zero, suc, Bool, true, false, List, [], ◌∷◌, ◌++◌, Option, Some, None, refl, sym, subst, ◌∙◌, ap, ap₂, arith, ◌⊎◌, inl, inr, ⊎_elim}
+use Rattle.std.proofs.Common.{◌≡◌, ℕ, zero, suc, Bool, true, false, List, [], ◌∷◌, ◌++◌, Option, Some, None, refl, sym, subst, ◌∙◌, ap, ap₂, ◌⊎◌, inl, inr, ⊎_elim}
 use Rattle.std.specs.Prelude.{slice_get, slice_set, map, filter, not, nat_eq, option_map, option_and_then, unwrap_or, ◌&&◌, ◌||◌, option_to_list, if◌then◌else◌}
 use Rattle.std.specs.List.{list_any}
 use Rattle.std.proofs.lemmas.Bool.{cases_eq, cases_Bool, eqb-true, eq-eqb, and_parts, or_cases, not-true}
@@ -27,18 +27,16 @@ use Rattle.plain_law.specs.View.{View, Good, Owner, Idle, Free, Live, Kept, Targ
 use Rattle.plain_law.specs.Entries.{retitled, taking}
 use Rattle.plain_law.proofs.Owners.{take_keeps}
 use Rattle.hold_law.specs.Holding.{seen, live_at, kept_in, target_at, buffer_at, Holds, HeldOnce}
-use Rattle.hold_law.specs.Maps.{BufferMaps, Maps}
-use Rattle.hold_law.proofs.HeldOnce.{held_once, in_vram_is}
-use Rattle.hold_law.proofs.Owner.{owner_of, owner_is, owner_none, owning, unheld}
-use Rattle.hold_law.proofs.Mapped.{aperture_maps, maps_aperture}
-use Rattle.view_law.proofs.World.{Seen, bare, IsChanging, IsUsing}
+use Rattle.hold_law.proofs.HeldOnce.{in_vram_is}
+use Rattle.hold_law.proofs.Owner.{owner_of, owner_is, owner_none, owning}
+use Rattle.view_law.proofs.World.{Seen, bare, IsChanging}
 use Rattle.view_law.proofs.Jobs.{same_job-refl}
 use Rattle.view_law.proofs.Kept.{keep_all, changing_kept, using_kept, ghostly_kept}
 use Rattle.view_law.proofs.PacketStep.{no_bytes}
-use Rattle.view_law.proofs.Apertures.{Spared, unmapped_spared}
+use Rattle.view_law.proofs.Apertures.{Spared}
 use Rattle.view_law.proofs.Quiet.{aperture_same}
-use Rattle.view_law.proofs.Titles.{kept_by, buffer_either, Retitled, retitled_seen}
-use Rattle.carry_law.proofs.Binds.{IsAt, at_is, live_either, all_kept}
+use Rattle.view_law.proofs.Titles.{kept_by, buffer_either, retitled_seen}
+use Rattle.carry_law.proofs.Binds.{IsAt, at_is, live_either}
 
 -- ---- fences change no page
 
