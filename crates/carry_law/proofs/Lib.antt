@@ -1,0 +1,5 @@
+pub mod Binds
+pub mod Reaps
+pub mod Refills
+pub mod ReadShows
+pub mod News

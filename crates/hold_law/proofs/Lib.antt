@@ -1,0 +1,4 @@
+pub mod Positions
+pub mod HeldOnce
+pub mod Owner
+pub mod Mapped
