@@ -58,13 +58,7 @@ fn put_write(
     text.end_line()
 }
 
-fn put_read(
-    text: &mut Text,
-    script: &Script,
-    b: BufId,
-    off: u32,
-    len: u32,
-) -> Result<(), NoMemory>
+fn put_read(text: &mut Text, script: &Script, b: BufId, off: u32, len: u32) -> Result<(), NoMemory>
     ensures { OnOk result (text.new ≡ text.old ++ line (codes "read" ∷ name_of script.now b ∷ decimal off ∷ decimal len ∷ [])) }
 {
     text.put(b"read")?;
@@ -139,14 +133,30 @@ fn put_op(text: &mut Text, script: &Script, op: Op) -> Result<(), NoMemory>
             src,
             soff,
             len,
-        } => put_pair(text, b"copy", name_of(script, dst), doff, name_of(script, src), soff, len),
+        } => put_pair(
+            text,
+            b"copy",
+            name_of(script, dst),
+            doff,
+            name_of(script, src),
+            soff,
+            len,
+        ),
         Op::Xor {
             dst,
             doff,
             src,
             soff,
             len,
-        } => put_pair(text, b"xor", name_of(script, dst), doff, name_of(script, src), soff, len),
+        } => put_pair(
+            text,
+            b"xor",
+            name_of(script, dst),
+            doff,
+            name_of(script, src),
+            soff,
+            len,
+        ),
         Op::Probe { src, off, len } => put_range(text, b"probe", name_of(script, src), off, len),
     }
 }
@@ -161,13 +171,7 @@ fn put_fill(text: &mut Text, name: &[u8], off: u32, len: u32, byte: u8) -> Resul
 }
 
 /// Puts an operation on a range of a named buffer.
-fn put_range(
-    text: &mut Text,
-    word: &[u8],
-    name: &[u8],
-    off: u32,
-    len: u32,
-) -> Result<(), NoMemory>
+fn put_range(text: &mut Text, word: &[u8], name: &[u8], off: u32, len: u32) -> Result<(), NoMemory>
     ensures { OnOk result (text.new ≡ text.old ++ spaced_out (word.now ∷ name.now ∷ decimal off ∷ decimal len ∷ [])) }
 {
     text.word(word)?;

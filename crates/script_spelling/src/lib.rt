@@ -8,4 +8,3 @@ mod text;
 mod words;
 
 pub use script::write_script;
-

@@ -114,9 +114,5 @@ fn put_reach(text: &mut Text, first: u32, last: u32) -> Result<(), NoMemory>
 fn put_flag(text: &mut Text, is_wanted: bool, word: &[u8]) -> Result<(), NoMemory>
     ensures { OnOk result (text.new ≡ text.old ++ flag is_wanted word.now) }
 {
-    if is_wanted {
-        text.put(word)
-    } else {
-        Ok(())
-    }
+    if is_wanted { text.put(word) } else { Ok(()) }
 }

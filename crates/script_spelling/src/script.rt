@@ -59,7 +59,11 @@ fn put_vram(text: &mut Text, script: &Script) -> Result<(), NoMemory>
     ensures { OnOk result (text.new ≡ text.old ++ vram_line script.now) }
 {
     text.put(b"vram")?;
-    text.word(if script.sizes.buddy { b"buddy" } else { b"range" })?;
+    text.word(if script.sizes.buddy {
+        b"buddy"
+    } else {
+        b"range"
+    })?;
     text.number(script.sizes.vram)?;
     text.end_line()
 }
