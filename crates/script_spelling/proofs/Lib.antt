@@ -1,0 +1,4 @@
+pub mod Digits
+pub mod SpacedLaws
+pub mod PartLaws
+pub mod WholeText

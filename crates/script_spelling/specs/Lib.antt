@@ -1,0 +1,3 @@
+pub mod Spaced
+pub mod Parts
+pub mod Lists

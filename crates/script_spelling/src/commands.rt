@@ -1,0 +1,201 @@
+ghost use Rattle.std.specs.Prelude.{◌≡◌, ◌++◌, ◌∷◌, [], OnOk, codes, decimal, map};
+ghost use Rattle.journal_model.specs.Words.{hex, hex_byte, line, mem_word, name_of};
+ghost use Rattle.journal_model.specs.Spelling.{op_words, parted};
+ghost use Rattle.script_spelling.specs.Parts.{command_text};
+ghost use Rattle.script_spelling.specs.Spaced.{parted_out, spaced_out};
+
+use crate::text::Text;
+use crate::words::{mem_word, name_of, put_hex, put_hex_byte};
+use journal_model::{Command, Script};
+use ttm_base::{BufId, Mem, NoMemory, Op};
+
+/// Puts the line of a command.
+pub(crate) fn put_command(
+    text: &mut Text,
+    script: &Script,
+    command: &Command,
+) -> Result<(), NoMemory>
+    ensures { OnOk result (text.new ≡ text.old ++ command_text script.now command.now) }
+{
+    match command {
+        Command::New { b } => put_named(text, script, b"new", *b),
+        Command::Free { b } => put_named(text, script, b"free", *b),
+        Command::Pin { b } => put_named(text, script, b"pin", *b),
+        Command::Unpin { b } => put_named(text, script, b"unpin", *b),
+        Command::Find { b } => put_named(text, script, b"find", *b),
+        Command::SwapOut { b } => put_named(text, script, b"swapout", *b),
+        Command::Write { b, off, bytes } => put_write(text, script, *b, *off, bytes.items()),
+        Command::Read { b, off, len } => put_read(text, script, *b, *off, *len),
+        Command::Move { b, mem } => put_move(text, script, *b, *mem),
+        Command::Touch { group } => put_touch(text, *group),
+        Command::Submit { engine, ops } => put_submit(text, script, *engine, ops.items()),
+    }
+}
+
+/// Puts the line of a command that names a buffer and no more.
+fn put_named(text: &mut Text, script: &Script, word: &[u8], b: BufId) -> Result<(), NoMemory>
+    ensures { OnOk result (text.new ≡ text.old ++ line (word.now ∷ name_of script.now b ∷ [])) }
+{
+    text.put(word)?;
+    text.word(name_of(script, b))?;
+    text.end_line()
+}
+
+fn put_write(
+    text: &mut Text,
+    script: &Script,
+    b: BufId,
+    off: u32,
+    bytes: &[u8],
+) -> Result<(), NoMemory>
+    ensures { OnOk result (text.new ≡ text.old ++ line (codes "write" ∷ name_of script.now b ∷ decimal off ∷ hex bytes.now ∷ [])) }
+{
+    text.put(b"write")?;
+    text.word(name_of(script, b))?;
+    text.number(off)?;
+    text.put_byte(b' ')?;
+    put_hex(text, bytes)?;
+    text.end_line()
+}
+
+fn put_read(text: &mut Text, script: &Script, b: BufId, off: u32, len: u32) -> Result<(), NoMemory>
+    ensures { OnOk result (text.new ≡ text.old ++ line (codes "read" ∷ name_of script.now b ∷ decimal off ∷ decimal len ∷ [])) }
+{
+    text.put(b"read")?;
+    text.word(name_of(script, b))?;
+    text.number(off)?;
+    text.number(len)?;
+    text.end_line()
+}
+
+fn put_move(text: &mut Text, script: &Script, b: BufId, mem: Mem) -> Result<(), NoMemory>
+    ensures { OnOk result (text.new ≡ text.old ++ line (codes "move" ∷ name_of script.now b ∷ mem_word mem ∷ [])) }
+{
+    text.put(b"move")?;
+    text.word(name_of(script, b))?;
+    text.word(mem_word(mem))?;
+    text.end_line()
+}
+
+fn put_touch(text: &mut Text, group: u32) -> Result<(), NoMemory>
+    ensures { OnOk result (text.new ≡ text.old ++ line (codes "touch" ∷ decimal group ∷ [])) }
+{
+    text.put(b"touch")?;
+    text.number(group)?;
+    text.end_line()
+}
+
+fn put_submit(text: &mut Text, script: &Script, engine: u32, ops: &[Op]) -> Result<(), NoMemory>
+    ensures { OnOk result (text.new ≡ text.old ++ line (codes "submit" ∷ decimal engine ∷ parted (map (op_words script.now) ops.now))) }
+{
+    text.put(b"submit")?;
+    text.number(engine)?;
+    put_ops(text, script, ops)?;
+    text.end_line()
+}
+
+fn put_ops(text: &mut Text, script: &Script, ops: &[Op]) -> Result<(), NoMemory>
+    ensures { OnOk result (text.new ≡ text.old ++ spaced_out (parted (map (op_words script.now) ops.now))) }
+{
+    match ops.split_first() {
+        None => Ok(()),
+        Some((first, rest)) => {
+            put_op(text, script, *first)?;
+            put_more_ops(text, script, rest)
+        }
+    }
+}
+
+/// Puts each operation behind a semicolon.
+fn put_more_ops(text: &mut Text, script: &Script, ops: &[Op]) -> Result<(), NoMemory>
+    ensures { OnOk result (text.new ≡ text.old ++ spaced_out (parted_out (map (op_words script.now) ops.now))) }
+{
+    for op in ops {
+        text.word(b";")?;
+        put_op(text, script, *op)?;
+    }
+    Ok(())
+}
+
+fn put_op(text: &mut Text, script: &Script, op: Op) -> Result<(), NoMemory>
+    ensures { OnOk result (text.new ≡ text.old ++ spaced_out (op_words script.now op)) }
+{
+    match op {
+        Op::Fill {
+            dst,
+            off,
+            len,
+            byte,
+        } => put_fill(text, name_of(script, dst), off, len, byte),
+        Op::Copy {
+            dst,
+            doff,
+            src,
+            soff,
+            len,
+        } => put_pair(
+            text,
+            b"copy",
+            name_of(script, dst),
+            doff,
+            name_of(script, src),
+            soff,
+            len,
+        ),
+        Op::Xor {
+            dst,
+            doff,
+            src,
+            soff,
+            len,
+        } => put_pair(
+            text,
+            b"xor",
+            name_of(script, dst),
+            doff,
+            name_of(script, src),
+            soff,
+            len,
+        ),
+        Op::Probe { src, off, len } => put_range(text, b"probe", name_of(script, src), off, len),
+    }
+}
+
+/// Puts a fill of a named buffer.
+fn put_fill(text: &mut Text, name: &[u8], off: u32, len: u32, byte: u8) -> Result<(), NoMemory>
+    ensures { OnOk result (text.new ≡ text.old ++ spaced_out (codes "fill" ∷ name.now ∷ decimal off ∷ decimal len ∷ hex_byte byte ∷ [])) }
+{
+    put_range(text, b"fill", name, off, len)?;
+    text.put_byte(b' ')?;
+    put_hex_byte(text, byte)
+}
+
+/// Puts an operation on a range of a named buffer.
+fn put_range(text: &mut Text, word: &[u8], name: &[u8], off: u32, len: u32) -> Result<(), NoMemory>
+    ensures { OnOk result (text.new ≡ text.old ++ spaced_out (word.now ∷ name.now ∷ decimal off ∷ decimal len ∷ [])) }
+{
+    text.word(word)?;
+    text.word(name)?;
+    text.number(off)?;
+    text.number(len)
+}
+
+/// Puts an operation on two ranges of named buffers.
+fn put_pair(
+    text: &mut Text,
+    word: &[u8],
+    to: &[u8],
+    to_off: u32,
+    from: &[u8],
+    from_off: u32,
+    len: u32,
+) -> Result<(), NoMemory>
+    ensures { OnOk result (text.new ≡ text.old ++ spaced_out (word.now ∷ to.now ∷ decimal to_off ∷ from.now ∷ decimal from_off ∷ decimal len ∷ [])) }
+{
+    text.word(word)?;
+    text.word(to)?;
+    text.number(to_off)?;
+    text.word(from)?;
+    text.number(from_off)?;
+    text.number(len)
+}

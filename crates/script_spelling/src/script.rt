@@ -1,0 +1,163 @@
+ghost use Rattle.std.specs.Prelude.{◌≡◌, ◌++◌, ◌∷◌, [], IfOk, OnOk, codes, decimal, flat_map, map};
+ghost use Rattle.journal_model.specs.Words.{actor_word, line};
+ghost use Rattle.journal_model.specs.Spelling.{buffer_line, group_word, spelling, turn_line};
+ghost use Rattle.script_spelling.specs.Parts.{command_text, head_lines, shape_words, thread_text, vram_line};
+ghost use Rattle.script_spelling.specs.Spaced.{spaced_out};
+
+use crate::commands::put_command;
+use crate::places::put_placement;
+use crate::text::Text;
+use crate::words::put_actor;
+use journal_model::{Command, Decl, Script};
+use std::alloc::Global;
+use ttm_base::{Actor, NoMemory};
+
+/// The bytes of a script without marks.
+pub fn write_script(alloc: Global, script: &Script) -> Result<Vec<u8>, NoMemory>
+    requires marks { script.now.marks ≡ [] }
+    ensures { IfOk result (λ bytes. bytes.items ≡ spelling script.now) }
+{
+    let mut text = Text::new(alloc);
+    put_head(&mut text, script)?;
+    put_buffers(&mut text, script)?;
+    put_threads(&mut text, script)?;
+    put_turns(&mut text, script)?;
+    put_heading(&mut text, b"end")?;
+    Ok(text.into_bytes())
+}
+
+/// Puts the lines above the buffers.
+fn put_head(text: &mut Text, script: &Script) -> Result<(), NoMemory>
+    ensures { OnOk result (text.new ≡ text.old ++ head_lines script.now) }
+{
+    put_count(text, b"ttm", script.version)?;
+    put_vram(text, script)?;
+    put_count(text, b"tt", script.sizes.tt)?;
+    put_count(text, b"frames", script.sizes.frames)?;
+    put_count(text, b"swap", script.sizes.swap)?;
+    put_count(text, b"engines", script.sizes.engines)
+}
+
+/// Puts a line of one word.
+fn put_heading(text: &mut Text, word: &[u8]) -> Result<(), NoMemory>
+    ensures { OnOk result (text.new ≡ text.old ++ line (word.now ∷ [])) }
+{
+    text.put(word)?;
+    text.end_line()
+}
+
+/// Puts a line of a word and a number.
+fn put_count(text: &mut Text, word: &[u8], count: u32) -> Result<(), NoMemory>
+    ensures { OnOk result (text.new ≡ text.old ++ line (word.now ∷ decimal count ∷ [])) }
+{
+    text.put(word)?;
+    text.number(count)?;
+    text.end_line()
+}
+
+fn put_vram(text: &mut Text, script: &Script) -> Result<(), NoMemory>
+    ensures { OnOk result (text.new ≡ text.old ++ vram_line script.now) }
+{
+    text.put(b"vram")?;
+    text.word(if script.sizes.buddy {
+        b"buddy"
+    } else {
+        b"range"
+    })?;
+    text.number(script.sizes.vram)?;
+    text.end_line()
+}
+
+fn put_buffers(text: &mut Text, script: &Script) -> Result<(), NoMemory>
+    ensures { OnOk result (text.new ≡ text.old ++ flat_map (buffer_line script.now.version) script.now.buffers) }
+{
+    for decl in script.buffers.items() {
+        put_buffer(text, script.version, decl)?;
+    }
+    Ok(())
+}
+
+fn put_buffer(text: &mut Text, version: u32, decl: &Decl) -> Result<(), NoMemory>
+    ensures { OnOk result (text.new ≡ text.old ++ buffer_line version decl.now) }
+{
+    text.put(b"buffer")?;
+    put_shape(text, decl)?;
+    put_placement(text, version, decl.placement.list.items())?;
+    text.end_line()
+}
+
+/// Puts the words between `buffer` and the places.
+fn put_shape(text: &mut Text, decl: &Decl) -> Result<(), NoMemory>
+    ensures { OnOk result (text.new ≡ text.old ++ spaced_out (shape_words decl.now)) }
+{
+    text.word(decl.name.items())?;
+    text.number(decl.pages)?;
+    text.word(b"prio")?;
+    text.number(decl.prio)?;
+    text.word(b"group")?;
+    put_group(text, decl.group)?;
+    text.word(b"align")?;
+    text.number(decl.align)
+}
+
+fn put_group(text: &mut Text, group: Option<u32>) -> Result<(), NoMemory>
+    ensures { OnOk result (text.new ≡ text.old ++ 32 ∷ group_word group) }
+{
+    match group {
+        None => text.word(b"-"),
+        Some(group) => text.number(group),
+    }
+}
+
+fn put_threads(text: &mut Text, script: &Script) -> Result<(), NoMemory>
+    ensures { OnOk result (text.new ≡ text.old ++ flat_map (thread_text script.now) script.now.threads) }
+{
+    for commands in script.threads.items() {
+        put_thread(text, script, commands.items())?;
+    }
+    Ok(())
+}
+
+fn put_thread(text: &mut Text, script: &Script, commands: &[Command]) -> Result<(), NoMemory>
+    ensures { OnOk result (text.new ≡ text.old ++ thread_text script.now commands.now) }
+{
+    put_heading(text, b"thread")?;
+    put_commands(text, script, commands)
+}
+
+fn put_commands(text: &mut Text, script: &Script, commands: &[Command]) -> Result<(), NoMemory>
+    ensures { OnOk result (text.new ≡ text.old ++ flat_map (command_text script.now) commands.now) }
+{
+    for command in commands {
+        put_command(text, script, command)?;
+    }
+    Ok(())
+}
+
+fn put_turns(text: &mut Text, script: &Script) -> Result<(), NoMemory>
+    ensures { OnOk result (text.new ≡ text.old ++ flat_map turn_line script.now.turns) }
+{
+    for turns in script.turns.items() {
+        put_turn_line(text, turns.items())?;
+    }
+    Ok(())
+}
+
+fn put_turn_line(text: &mut Text, actors: &[Actor]) -> Result<(), NoMemory>
+    ensures { OnOk result (text.new ≡ text.old ++ turn_line actors.now) }
+{
+    text.put(b"schedule")?;
+    put_actors(text, actors)?;
+    text.end_line()
+}
+
+/// Puts each actor behind a space.
+fn put_actors(text: &mut Text, actors: &[Actor]) -> Result<(), NoMemory>
+    ensures { OnOk result (text.new ≡ text.old ++ spaced_out (map actor_word actors.now)) }
+{
+    for who in actors {
+        text.put_byte(b' ')?;
+        put_actor(text, *who)?;
+    }
+    Ok(())
+}
