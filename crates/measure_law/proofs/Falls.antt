@@ -1,6 +1,6 @@
 -- Entries that begin and end commands, and those of engines and the reaper, lower the measure; those of searches are left.
-use Rattle.std.proofs.Common.{◌≡◌, ℕ, ◌<◌, ◌≤◌, ◌+◌, zero, suc, Bool, true, false, List, [], ◌∷◌, Option, Some, None, Result, Ok, Err, IsTrue, refl, sym, ◌∙◌, ap, subst, arith, ⊎_elim, inr}
-use Rattle.std.specs.Prelude.{slice_get, slice_set, replicate, filter_map, find, nat_lt, not, length, ◌==◌, ◌&&◌, ◌||◌}
+use Rattle.std.proofs.Common.{◌≡◌, ℕ, ◌<◌, ◌≤◌, ◌+◌, zero, suc, Bool, true, false, List, [], ◌∷◌, Option, Some, None, Result, Ok, Err, IsTrue, refl, sym, ◌∙◌, ap, subst, arith, ⊎_elim, inl, inr}
+use Rattle.std.specs.Prelude.{slice_get, slice_set, replicate, filter_map, find, nat_lt, not, unwrap_or, is_some, length, ◌==◌, ◌&&◌, ◌||◌}
 use Rattle.std.proofs.lemmas.Bool.{and_parts, not-true}
 use Rattle.std.proofs.lemmas.Bool.Decides.{nat_tests}
 use Rattle.ttm_base.specs.declared.BufId.{BufId}
@@ -22,10 +22,13 @@ use Rattle.journal_model.specs.declared.state.Task.{Task}
 use Rattle.journal_model.specs.declared.state.Task.TheVariants as task
 use Rattle.journal_model.specs.declared.entry.Kind.{Kind}
 use Rattle.journal_model.specs.declared.entry.Kind.TheVariants as kind
-use Rattle.journal_model.specs.State.{new_buffer, course, course_of, grip, has_buffer}
+use Rattle.journal_model.specs.State.{new_buffer, buffer, course, course_of, grip, has_buffer, has_target, live_in}
 use Rattle.journal_model.specs.Tasks.{starts, first_missing}
-use Rattle.journal_model.specs.PageSteps.{next_job}
-use Rattle.journal_model.specs.Commands.{decl}
+use Rattle.journal_model.specs.PageSteps.{next_job, target_to_untake}
+use Rattle.ttm_base.specs.declared.Mem.TheVariants.{Vram}
+use Rattle.journal_model.specs.Commands.{decl, named}
+use Rattle.journal_model.specs.Dry.{has_frame}
+use Rattle.journal_model.specs.Ready.{first_unready, is_ready}
 use Rattle.journal_model.specs.Search.{is_caught}
 use Rattle.journal_model.specs.Places.{slots_of}
 use Rattle.journal_model.specs.Holds.{has_number}
@@ -33,13 +36,15 @@ use Rattle.journal_model.specs.Apply.{applied}
 use Rattle.progress_law.specs.Sound.{locks, command_of}
 use Rattle.progress_law.proofs.Measure.{measure}
 use Rattle.sound_law.proofs.Along.{Stepped}
-use Rattle.sound_law.proofs.Turns.{Turn, OnNamed, answer, start, lock, refuse, give_up, act}
+use Rattle.sound_law.proofs.Turns.{Turn, Works, OnNamed, OnVictim, answer, start, lock, refuse, give, give_up, victim_skip, act}
 use Rattle.sound_law.proofs.Gifts.{Gives, answers, makes, exists, shifts, draws, no_buffer, reserves, backs, seeks, binds, unbinds, moves, fills, lets_go, empties, depopulates, untakes, skips, gives_up, refuses, arms, frees, swaps, no_swap, acts}
-use Rattle.sound_law.proofs.Bufs.{victims_of, same_self}
+use Rattle.sound_law.proofs.Bufs.{victims_of, same_self, has_found, none_missing, none_last, last_caught}
 use Rattle.sound_law.proofs.Steadies.{locking_command, lock_wants, locks_alone}
 use Rattle.sound_law.proofs.OwnedKeeps.{HasIn, bare, unlocked, unlocked_alone, has_stamp, begun_locks}
 use Rattle.measure_law.proofs.Slots.{OneFewer, Fewer, same_one, same_all}
 use Rattle.measure_law.proofs.Border.{Known, next_falls, new_falls, bulk_falls, ticket_falls, free_falls, arm_falls}
+use Rattle.measure_law.proofs.Skipping.{skip_falls}
+use Rattle.measure_law.proofs.Giving.{target_there, depopulate_falls, untake_falls}
 use Rattle.measure_law.proofs.Locking.{reserve_falls, backoff_falls}
 
 -- ---- a new buffer holds no slot
@@ -106,6 +111,22 @@ module _ (script : Script) (s : State) (t : ℕ) (known : Known script s) where
     stamp_of : starts (course s t) st.step.cmd ≡ false → (x : Stamp) × ((course s t).stamp ≡ Some x)
     stamp_of n = has_stamp script s t st.step.cmd st.here st.at known.owned (begun_locks script s t st.step.cmd st.here st.at known.owned n) n
 
+  -- a named buffer that is at work is live
+  pub record AtWork (cmd : Command) (b : BufId) : Type 0 where
+    pub buffer : Buffer
+    pub live : live_in s.core.buffers b ≡ Some buffer
+    pub member : has_buffer (named cmd) b ≡ true
+
+  at_work : (cmd : Command) (b : BufId) → Works (course s t) cmd → first_unready script s cmd ≡ Some b → AtWork cmd b
+  at_work cmd b works u =
+      let member = has_found (λ y. not (is_ready script s cmd y)) (named cmd) b u in
+      let w = known.owned.held t b (inl (none_missing (course s t) cmd b works.whole member)) in
+      by (live_in s.core.buffers b) refl w.1 member
+    where
+      by : (o : Option Buffer) → live_in s.core.buffers b ≡ o → is_some o ≡ true → has_buffer (named cmd) b ≡ true → AtWork cmd b
+      by None q h m = cc
+      by (Some y) q h m = record { buffer = y; live = q; member = m }
+
   thread_falls : (k : Kind) (st : Stepped script s t k) (cmd : Command) → st.step.cmd ≡ cmd → (x : Task) → Turn script s (course s t) cmd x → Gives script s (course s t) cmd x k → (is_searching x k ≡ true → Lower k) → Lower k
   thread_falls k st cmd e x (answer m) answers rest = next_falls script s t k known st refl refl
   thread_falls k st cmd e x (start m q) (makes {b} is dead) rest =
@@ -134,9 +155,26 @@ module _ (script : Script) (s : State) (t : ℕ) (known : Known script s) where
   thread_falls k st cmd e x turn (fills filled) rest = rest refl
   thread_falls k st cmd e x turn lets_go rest = rest refl
   thread_falls k st cmd e x turn (empties w f g) rest = rest refl
+  thread_falls k st cmd e x (give {b = b} d on l fail u g) (depopulates m f) rest =
+      let on' = subst (λ z. OnNamed s (course s t) z) (sym e) on in
+      let w = at_work st.step.cmd b on'.works (subst (λ z. first_unready script s z ≡ Some b) (sym e) u) in
+      let is : buffer s b ≡ w.buffer = ap (λ o. unwrap_or o (new_buffer 0)) w.live in
+      let stamp = stamp_of k st on'.works.begun in
+      depopulate_falls script s t b w.buffer stamp.0 d known st w.live w.member (none_last (course s t).caught on'.alone) on'.works stamp.1 fail
+      (subst (λ y. y.mem ≡ Vram) is m) (subst (λ y. has_frame y ≡ true) is f)
   thread_falls k st cmd e x turn (depopulates m f) rest = rest refl
+  thread_falls k st cmd e x (give {b = b} d on l fail u g) (untakes n) rest =
+      let on' = subst (λ z. OnNamed s (course s t) z) (sym e) on in
+      let w = at_work st.step.cmd b on'.works (subst (λ z. first_unready script s z ≡ Some b) (sym e) u) in
+      let is : buffer s b ≡ w.buffer = ap (λ o. unwrap_or o (new_buffer 0)) w.live in
+      let stamp = stamp_of k st on'.works.begun in
+      untake_falls script s t b w.buffer stamp.0 d (target_to_untake (buffer s b)) known st w.live w.member (none_last (course s t).caught on'.alone) on'.works stamp.1 fail
+      (subst (λ y. has_target (target_to_untake (buffer s b)) y ≡ true) is (target_there (buffer s b) g n))
   thread_falls k st cmd e x turn (untakes n) rest = rest refl
-  thread_falls k st cmd e x turn skips rest = rest refl
+  thread_falls k st cmd e x (victim_skip v d on vram fail g) skips rest =
+      let on' = subst (λ z. OnVictim (course s t) z v) (sym e) on in
+      let stamp = stamp_of k st on'.works.begun in
+      skip_falls script s t v d stamp.0 known st stamp.1 on' ((known.owned.steady t).unfailed v.b (last_caught (course s t) v on'.last)) vram fail
   thread_falls k st cmd e x turn gives_up rest = next_falls script s t k known st refl refl
   thread_falls k st cmd e x turn refuses rest = next_falls script s t k known st refl refl
   thread_falls k st cmd e x (act on a f u) (arms {engine} ops is) rest =

@@ -6,5 +6,7 @@ pub mod Slots
 pub mod Sums
 pub mod Border
 pub mod Locking
+pub mod Skipping
+pub mod Giving
 pub mod Ends
 pub mod Falls

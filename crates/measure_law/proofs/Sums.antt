@@ -62,7 +62,7 @@ sum_kept g same (x ∷ xs) (suc i) =
     let rest = sum_kept g same xs i in
     omega (arith, rest, sum_by-cons left_of_buffer x xs, sum_by-cons left_of_buffer x (slice_set xs i (g (option_and_then (λ x. x) (slice_get xs i)))))
 
-fewer_kept : (g : Option Buffer → Option Buffer) → ((o : Option Buffer) → OneFewer o (g o)) → (xs : List (Option Buffer)) (i : ℕ) → Fewer xs (slice_set xs i (g (option_and_then (λ x. x) (slice_get xs i))))
+pub fewer_kept : (g : Option Buffer → Option Buffer) → ((o : Option Buffer) → OneFewer o (g o)) → (xs : List (Option Buffer)) (i : ℕ) → Fewer xs (slice_set xs i (g (option_and_then (λ x. x) (slice_get xs i))))
 fewer_kept g less [] i = tt
 fewer_kept g less (x ∷ xs) zero = (less x, same_all xs)
 fewer_kept g less (x ∷ xs) (suc i) = (same_one x, fewer_kept g less xs i)
