@@ -4,8 +4,6 @@
 mod holes;
 mod request;
 mod search;
-#[cfg(test)]
-mod tests;
 mod tree;
 
 pub use holes::Holes;
