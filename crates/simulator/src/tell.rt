@@ -18,6 +18,7 @@ const HELP: &[u8] = b"Runs a script of a graphics memory manager, and reports ea
 
 ttm sim              reads a script from standard input, and writes its report
 ttm sim --turns N    the same, in at most N turns
+ttm run              runs the script on threads, one for each actor
 ttm --help           this text
 ttm --version        the version
 

@@ -4,9 +4,8 @@
 ghost use Rattle.std.specs.Prelude.{◌≡◌, ◌+◌};
 
 use std::marker::Model;
-use std::sync::ledger::{Blank, Book, Ledger, Share};
-
 pub use std::sync::ledger;
+use std::sync::ledger::{Blank, Book, Ledger, Share};
 
 /// How many steps were taken. Only `tick` changes it.
 #[derive(Drop)]

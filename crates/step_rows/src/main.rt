@@ -1,11 +1,13 @@
 //! Steps a device by named actors, and prints what came of each turn, and the report.
 #![tactic(auto)]
 
+ghost use Rattle.std.specs.Prelude.{◌≡◌, []};
+
 use device_core::Device;
-use io_edge::StdSink;
+use io_edge::{Sink, StdSink};
 use page_accounts::accounts_of;
 use replay_stores::StorePage;
-use report_text::write_report;
+use report_text::{WriteFault, write_report};
 use row_cases::{Case, Table, no_memory};
 use script_text::read_script;
 use std::alloc::Global;
@@ -79,21 +81,19 @@ fn print_aperture(rt: &impl Print, device: &Device) -> io::Result<()> {
     println!(rt; "")
 }
 
+/// Writes the report of a device.
+fn write_device<K: Sink>(alloc: Global, device: &Device, sink: &mut K) -> Result<(), WriteFault>
+    requires { device.now.script.marks ≡ [] }
+{
+    let accounts = accounts_of(alloc, device.script(), device.state())?;
+    write_report(alloc, device.script(), device.journal(), &accounts, sink)
+}
+
 /// Prints the report of what was done. A script that was read has no marks.
-fn print_report(rt: &HostRuntime, alloc: Global, device: &Device) -> io::Result<()> {
-    let [] = device.script().marks.items() else {
-        return Ok(());
-    };
-    let accounts = accounts_of(alloc, device.script(), device.state()).map_err(no_memory)?;
-    let mut sink = StdSink::new(rt.stdout());
-    let _ = write_report(
-        alloc,
-        device.script(),
-        device.journal(),
-        &accounts,
-        &mut sink,
-    );
-    Ok(())
+fn print_report(rt: &HostRuntime, alloc: Global, device: &Device) {
+    if device.script().marks.items().is_empty() {
+        let _ = write_device(alloc, device, &mut StdSink::new(rt.stdout()));
+    }
 }
 
 /// A device that runs this script.
@@ -117,7 +117,8 @@ fn run(rt: &HostRuntime, alloc: Global, case: &Case) -> io::Result<()> {
     if case.shows_aperture {
         print_aperture(rt, &device)?;
     }
-    print_report(rt, alloc, &device)
+    print_report(rt, alloc, &device);
+    Ok(())
 }
 
 fn main(rt: HostRuntime) -> io::Result<()> {

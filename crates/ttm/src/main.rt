@@ -3,12 +3,14 @@
 
 use command_words::Words;
 use io_edge::{StdSink, StdSource};
-use simulator::{Status, sim_top};
+use launcher::ttm_top;
+use simulator::Status;
 use std::alloc::Global;
 use std::env;
 use std::process::ExitCode;
 use std::rt::Env;
 use ttm_base::NoMemory;
+use worker_pool::IdleGate;
 
 /// The words after the program's name.
 fn words_of(rt: &(impl Env + Alloc), alloc: Global) -> Result<Words, NoMemory> {
@@ -26,7 +28,7 @@ fn main(rt: HostRuntime) -> ExitCode {
     let mut source = StdSource::new(rt.stdin());
     let mut sink = StdSink::new(rt.stdout());
     let status = match words_of(&rt, rt.alloc()) {
-        Ok(words) => sim_top(rt.alloc(), &words, &mut source, &mut sink),
+        Ok(words) => ttm_top(&rt, rt.alloc(), &words, &mut source, &mut sink, &IdleGate),
         Err(NoMemory) => Status::NoMemory,
     };
     ExitCode::from(status.code())

@@ -1,0 +1,3 @@
+pub mod Launches
+pub mod Actors
+pub mod Threaded

@@ -1,0 +1,22 @@
+ghost use Rattle.std.specs.Prelude.{◌≡◌};
+ghost use Rattle.launcher.specs.Launches.{launch_of};
+
+use command_words::Words;
+use script_words::words::is;
+
+/// What the words ask of threads.
+#[derive(Clone, Copy, Debug, PartialEq, Eq)]
+pub enum Launch {
+    /// Run a script, one worker for each actor.
+    Run,
+}
+
+/// What the words ask of threads, if they do.
+pub fn read_launch(words: &Words) -> Option<Launch>
+    ensures { result ≡ launch_of words.now }
+{
+    match words.items() {
+        [word] if is(word.items(), b"run") => Some(Launch::Run),
+        _ => None,
+    }
+}
