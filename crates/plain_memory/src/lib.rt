@@ -6,8 +6,6 @@ mod along;
 mod counts;
 mod memory;
 mod room;
-#[cfg(test)]
-mod tests;
 
 pub use along::mismatches;
 pub use counts::{answers, command_count};
