@@ -9,7 +9,8 @@ ghost use Rattle.device_core.specs.Kept.{entry_of, with_entry, turn_of, after_tu
 use crate::enact::enact;
 use journal_model::{Entry, Script, State};
 use replay::first_state;
-use replay_next::{is_over, next, next_actor};
+use replay_next::next;
+use replay_schedule::{is_over, next_actor};
 use replay_stores::PlainStores;
 use std::alloc::Global;
 use std::marker::Model;

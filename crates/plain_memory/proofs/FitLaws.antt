@@ -16,7 +16,7 @@ use Rattle.journal_model.specs.Commands.{commands_of, decl, named, undeclared}
 use Rattle.journal_model.specs.CommandRules.{command_len, is_between, is_byte, is_command, is_op, is_range_of}
 use Rattle.journal_model.specs.MarkRules.{have_marks}
 use Rattle.journal_model.specs.ScriptRules.{has_distinct_names, has_sizes, is_decl, is_script, is_turn_line}
-use Rattle.replay_parts.proofs.ListLaws.{passes_at}
+use Rattle.journal_model.proofs.ListSteps.{passes_at}
 use Rattle.plain_memory.specs.Kept.{sizes_of}
 use Rattle.plain_memory.specs.Fits.{HasRange, OpFits, CommandFits}
 

@@ -13,8 +13,8 @@ use Rattle.journal_model.specs.declared.entry.Kind.TheVariants as kind
 use Rattle.journal_model.specs.State.{course_of, course, buffer}
 use Rattle.replay_parts.specs.Pins.{HasPinsLeft}
 use Rattle.journal_model.specs.Commands.{command_at_work}
-use Rattle.journal_model.specs.Waits.{same_job}
 use Rattle.journal_model.specs.Apply.{thread_of, engine_of}
+pub use Rattle.journal_model.specs.Jobs.{has_packets_left}
 
 -- the thread is there
 abbrev pub IsThread : State → ℕ → Type 0
@@ -34,10 +34,6 @@ pub record CanShowResult (script : Script) (s : State) (t : ℕ) : Type 0 where
 pub record CanGoDry (s : State) (t k : ℕ) : Type 0 where
   pub there : IsThread s t
   pub room : k + 1 < 2 ^ 32
-
--- no job of this name, of which there is one at most, has run as many packets as can be counted
-abbrev pub has_packets_left : JobId → Job → Bool
-has_packets_left i j = not (same_job i j.id) || nat_lt (j.ran + 1) (2 ^ 32)
 
 -- one more packet of the job can be counted
 abbrev pub CanRun : State → JobId → Type 0

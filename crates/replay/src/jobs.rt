@@ -1,15 +1,13 @@
 ghost use Rattle.std.specs.Prelude.{◌≡◌, ◌+◌, ◌==◌, ◌++◌, ◌∷◌, [], true, IfOk, OnOk, OnErr, IsTrue, filter, flat_map, fold, not, option_copied, slice_set, if◌then◌else◌};
-ghost use Rattle.std.specs.List.{list_all};
 ghost use Rattle.journal_model.specs.Waits as waits;
-ghost use Rattle.journal_model.specs.ApplyJobs.{with_use, changed_job, after_arm, after_packet_run, after_done, after_reap};
+ghost use Rattle.journal_model.specs.ApplyJobs.{with_use, after_arm, after_packet_run, after_done, after_reap};
 ghost use Rattle.journal_model.specs.ApplyJobs as rows;
-ghost use Rattle.replay.specs.Ready.{IsThread, CanRun, has_packets_left};
-ghost use Rattle.replay_parts.specs.Undo.{without_last};
+ghost use Rattle.replay.specs.Ready.{IsThread, CanRun};
 
 use crate::commands::buffers_of;
-use journal_model::{Buffers, Command, Core, Ghosts, Job, JobIds, Jobs, Numbers, Script, State};
+use journal_model::{Buffers, Command, Core, Ghosts, Job, JobIds, Numbers, Script, State};
 use replay_parts::buffers::{add_fence, drop_last_fence};
-use replay_state::{command_at_work, jobs_before_use, packets_of, same_job, use_of};
+use replay_state::{command_at_work, jobs_before_use, packets_of, use_of};
 use std::alloc::Global;
 use ttm_base::{BufId, JobId, NoMemory, Op};
 
@@ -20,16 +18,6 @@ pub fn set_last_job(last_jobs: &mut Numbers, id: JobId)
     let index = id.ctx as usize;
     if index < last_jobs.len() {
         last_jobs.set(index, id.num);
-    }
-}
-
-/// Takes the last job back.
-pub fn drop_last_job(jobs: &mut Jobs)
-    ensures { jobs.new ≡ without_last jobs.old }
-{
-    let count = jobs.len();
-    if count > 0 {
-        let _ = jobs.remove(count - 1);
     }
 }
 
@@ -90,7 +78,7 @@ fn emit(core: &mut Core, job: Job, ops: &[Op], bs: &[BufId]) -> Result<(), NoMem
     let id = job.id;
     core.jobs.push(job)?;
     if add_uses(&mut core.buffers, id, ops, bs).is_err() {
-        drop_last_job(&mut core.jobs);
+        core.jobs.drop_last();
         return Err(NoMemory);
     }
     Ok(())
@@ -127,57 +115,19 @@ pub fn arm(
     Ok(())
 }
 
-/// Marks a job as done, if it is the one.
-fn finish(job: &mut Job, id: JobId)
-    ensures { job.new ≡ (if waits.same_job id job.old.id then record job.old { finished = true } else job.old) }
-{
-    if same_job(id, job.id) {
-        job.finished = true;
-    }
-}
-
-/// Marks a job as done among others.
-fn finish_among(jobs: &mut Jobs, id: JobId)
-    ensures { jobs.new ≡ changed_job (λ j. record j { finished = true }) id jobs.old }
-{
-    for i in 0..jobs.len() {
-        finish(jobs.get_mut(i), id);
-    }
-}
-
-/// Counts one more packet that has run, if it is of the job.
-fn count_packet(job: &mut Job, id: JobId)
-    requires { IsTrue (has_packets_left id job.old) }
-    ensures { job.new ≡ (if waits.same_job id job.old.id then record job.old { ran = job.old.ran + 1 } else job.old) }
-{
-    if same_job(id, job.id) {
-        job.ran += 1;
-    }
-}
-
-/// Counts one more packet of a job among others.
-fn count_packet_among(jobs: &mut Jobs, id: JobId)
-    requires { IsTrue (list_all (has_packets_left id) jobs.old) }
-    ensures { jobs.new ≡ changed_job (λ j. record j { ran = j.ran + 1 }) id jobs.old }
-{
-    for i in 0..jobs.len() {
-        count_packet(jobs.get_mut(i), id);
-    }
-}
-
 /// A packet of a job has run.
 pub fn packet_run(state: &mut State, ctx: u32, num: u64)
     requires { CanRun state.old (record { ctx = ctx; num = num }) }
     ensures { state.new ≡ after_packet_run state.old (record { ctx = ctx; num = num }) }
 {
-    count_packet_among(&mut state.core.jobs, JobId { ctx, num });
+    state.core.jobs.count_packet(JobId { ctx, num });
 }
 
 /// A job is done.
 pub fn done(state: &mut State, ctx: u32, num: u64)
     ensures { state.new ≡ after_done state.old (record { ctx = ctx; num = num }) }
 {
-    finish_among(&mut state.core.jobs, JobId { ctx, num });
+    state.core.jobs.finish(JobId { ctx, num });
 }
 
 /// Takes a ghost out.

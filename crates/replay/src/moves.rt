@@ -6,7 +6,7 @@ ghost use Rattle.journal_model.specs.ApplyMoves as rows;
 ghost use Rattle.replay.specs.Ready.{HasShortTable};
 ghost use Rattle.replay_parts.specs.Undo.{without_last};
 
-use crate::jobs::{drop_last_job, set_last_job};
+use crate::jobs::set_last_job;
 use journal_model::{
     Buffer, Core, Frames, Ghost, Ghosts, Job, JobIds, Left, Packets, Script, State,
 };
@@ -174,7 +174,7 @@ fn emit(
     let id = job.id;
     core.jobs.push(job)?;
     if carry_and_leave(alloc, core, b, mem, id, behind).is_err() {
-        drop_last_job(&mut core.jobs);
+        core.jobs.drop_last();
         return Err(NoMemory);
     }
     Ok(())

@@ -4,9 +4,9 @@ ghost use Rattle.journal_model.specs.State as words;
 ghost use Rattle.replay.specs.Ready as facts;
 ghost use Rattle.replay_parts.specs.Pins.{CanPin, HasPinsLeft};
 
-use journal_model::{Command, Entry, Grip, Job, Kind, Script, State};
+use journal_model::{Command, Entry, Grip, Job, Kind, Script, State, same_job};
 use replay_parts::actors::{engine_of, thread_of};
-use replay_state::{command_at_work, course_of, grip_in, live_in, same_job};
+use replay_state::{command_at_work, course_of, grip_in, live_in};
 use ttm_base::{BufId, JobId};
 
 /// The thread is there.

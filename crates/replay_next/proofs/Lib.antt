@@ -1,4 +1,3 @@
 pub mod CauseLaws
 pub mod LastLaws
-pub mod ThreadLaws
 pub mod RoomLaws

@@ -236,16 +236,18 @@ fn step_of_thread(
     }
 }
 
+/// The first of these jobs that is of a context and isn't done.
+fn first_unfinished(jobs: &[Job], ctx: u32) -> Option<&Job>
+    ensures { option_copied result ≡ find (λ j. (j.id.ctx == ctx) && not j.finished) jobs.now }
+{
+    jobs.iter().find(|j| j.id.ctx == ctx && !j.finished)
+}
+
 /// The job at the head of a context.
 pub fn head_of(state: &State, ctx: u32) -> Option<&Job>
     ensures { option_copied result ≡ words.head_of state.now ctx }
 {
-    state
-        .core
-        .jobs
-        .items()
-        .iter()
-        .find(|j| j.id.ctx == ctx && !j.finished)
+    first_unfinished(state.core.jobs.pending(), ctx)
 }
 
 /// A job's next packet once all that it waits for is done, and its end.

@@ -7,7 +7,6 @@ mod dry;
 mod pages;
 mod ready;
 mod room;
-mod schedule;
 mod search;
 mod tasks;
 #[cfg(test)]
@@ -16,7 +15,6 @@ mod tests;
 pub use actors::next;
 use journal_model::Kind;
 pub use room::has_room;
-pub use schedule::{is_over, next_actor, own_order};
 pub use tasks::{stage_of, task_of};
 use ttm_base::Need;
 

@@ -1,4 +1,4 @@
-use crate::{has_room, next, next_actor, own_order, task_of};
+use crate::{has_room, next, task_of};
 use journal_model::{
     Command, CommandLists, Commands, Core, Course, Decl, Decls, Frames, Ghost, Job, JobIds, Jobs,
     Lists, Marks, Name, Script, Sizes, State, TurnLines,
@@ -186,25 +186,5 @@ fn engines_and_reaper_wait(rt: HostRuntime) -> Result<(), Fail> {
         let text = step_text(alloc, &script, &state, *who)?;
         assert_eq!(rt; text.as_str(), *want);
     }
-    Ok(())
-}
-
-#[test]
-fn first_actor_with_an_entry(rt: HostRuntime) -> Result<(), Fail> {
-    let alloc = rt.alloc();
-    let script = script_of(alloc)?;
-    let state = state_of(alloc, new_course(alloc, 0))?;
-    assert!(rt; has_room(&script, &state));
-    assert_eq!(rt; next_actor(alloc, &script, &state)?, Some(Actor::Engine(0)));
-    let order = own_order(alloc, &script, &state)?;
-    let want = [
-        Actor::Reaper,
-        Actor::Engine(0),
-        Actor::Engine(1),
-        Actor::Thread(1),
-    ];
-    assert_eq!(rt; order.items(), want.as_slice());
-    let task = task_of(alloc, &script, &state, 1)?;
-    assert_eq!(rt; task, journal_model::Task::Start);
     Ok(())
 }

@@ -5,3 +5,4 @@ pub mod PageLaws
 pub mod ListSteps
 pub mod FindLaws
 pub mod Pieces
+pub mod PendingJobs

@@ -43,6 +43,6 @@ pub use replay_places::{
 };
 pub use waits::{
     changes, is_idle, is_unfinished, is_written, jobs_before_read, jobs_before_target,
-    jobs_before_use, jobs_before_write, same_job, unfinished, use_of, waited_before_read,
+    jobs_before_use, jobs_before_write, unfinished, use_of, waited_before_read,
     waited_before_write, waited_for,
 };

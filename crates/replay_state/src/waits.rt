@@ -1,29 +1,27 @@
-ghost use Rattle.std.specs.Prelude.{◌≡◌, IfOk};
+ghost use Rattle.std.specs.Prelude.{◌≡◌, ◌&&◌, IfOk, not};
+ghost use Rattle.std.specs.List.{list_any};
 ghost use Rattle.journal_model.specs.State.{new_buffer};
 ghost use Rattle.journal_model.specs.Waits as words;
 ghost use Rattle.replay_state.specs.Named.{named_last};
 
 use crate::buffers::{buffer_in, dead_buffer};
 use crate::commands::writes;
-use journal_model::{Buffer, Core, Fence, JobIds};
+use journal_model::{Buffer, Core, Fence, Job, JobIds, same_job};
 use std::alloc::Global;
 use ttm_base::{BufId, JobId, Mem, NoMemory, Op, Usage};
 
-/// The jobs are one.
-pub fn same_job(i: JobId, j: JobId) -> bool
-    ensures { result ≡ words.same_job i j }
+/// One of these jobs has the name and isn't done.
+fn has_unfinished(jobs: &[Job], i: JobId) -> bool
+    ensures { result ≡ list_any (λ j. words.same_job i j.id && not j.finished) jobs.now }
 {
-    i.ctx == j.ctx && i.num == j.num
+    jobs.iter().any(|j| same_job(i, j.id) && !j.finished)
 }
 
 /// The job isn't done.
 pub fn is_unfinished(core: &Core, i: JobId) -> bool
     ensures { result ≡ words.is_unfinished core.now i }
 {
-    core.jobs
-        .items()
-        .iter()
-        .any(|j| same_job(i, j.id) && !j.finished)
+    has_unfinished(core.jobs.pending(), i)
 }
 
 /// Those of the jobs that aren't done.

@@ -12,17 +12,10 @@ ghost use Rattle.replay_stores.specs.Writes.{CanStore, IsShortWrite};
 use crate::pages::StorePage;
 use crate::parts::{PagePart, copy_part, put_bytes, xor_part};
 use crate::stores::PlainStores;
-use journal_model::{Command, Core, Entry, Job, Kind, Script, State};
+use journal_model::{Command, Core, Entry, Kind, Script, State};
 use replay_parts::actors::{engine_of, thread_of};
-use replay_state::{command_at_work, same_job};
+use replay_state::command_at_work;
 use ttm_base::{Actor, JobId, Packet, PagePlace};
-
-/// The job of this name, if there is one.
-fn job_named(jobs: &[Job], id: JobId) -> Option<&Job>
-    ensures { option_copied result ≡ find (λ j. waits.same_job id j.id) jobs.now }
-{
-    jobs.iter().find(|j| same_job(id, j.id))
-}
 
 /// A packet of a job, or a look at nothing where it isn't there.
 pub fn job_packet(core: &Core, id: JobId, k: u32) -> Packet
@@ -33,7 +26,7 @@ pub fn job_packet(core: &Core, id: JobId, k: u32) -> Packet
         off: 0,
         len: 0,
     };
-    match job_named(core.jobs.items(), id) {
+    match core.jobs.named(id) {
         Some(job) => match job.packets.items().get(k as usize) {
             Some(packet) => *packet,
             None => nothing,

@@ -2,7 +2,7 @@ use Rattle.std.proofs.Common.{◌<◌, length, arith, ◌∙◌}
 use Rattle.std.proofs.Math.ListN.{length-set}
 use Rattle.std.proofs.lemmas.Option.{slice_get-get_or}
 use Rattle.ttm_base.specs.declared.Loc.TheVariants as loc
-use Rattle.replay_parts.proofs.ListLaws.{map_over_step}
+use Rattle.journal_model.proofs.ListSteps.{map_over_step}
 use Rattle.replay_parts.proofs.buffers.leave_table.Goals as goal
 
 pub loop-i-preserved : goal.loop-i-preserved

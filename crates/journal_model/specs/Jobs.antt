@@ -1,0 +1,31 @@
+-- Jobs that are done and that nobody looks for: those at the front of the list, as far as they share no name with a later one.
+use Rattle.std.specs.Prelude.{◌≡◌, ℕ, ◌+◌, ◌^◌, ◌≤◌, ◌++◌, ◌||◌, ◌&&◌, Bool, false, List, [], ◌∷◌, IsTrue, length, take, drop, not, nat_lt}
+use Rattle.std.specs.List.{list_all, list_any}
+use Rattle.ttm_base.specs.declared.JobId.{JobId}
+use Rattle.journal_model.specs.declared.state.Job.{Job}
+use Rattle.journal_model.specs.JobNames.{same_job}
+
+-- the pending jobs are the last of all, and all before them are done
+pub record ArePending (jobs pending : List Job) : Type 0 where
+  pub closed : List Job
+  pub joined : jobs ≡ closed ++ pending
+  pub done : IsTrue (list_all (λ j. j.finished) closed)
+
+-- the job is another, or one more packet of it can be counted
+abbrev pub has_packets_left : JobId → Job → Bool
+has_packets_left i j = not (same_job i j.id) || nat_lt (j.ran + 1) (2 ^ 32)
+
+-- the closed jobs are done, and share no name with an pending one
+pub record AreClosed (closed pending : List Job) : Type 0 where
+  pub done : IsTrue (list_all (λ j. j.finished) closed)
+  pub apart : IsTrue (list_all (λ j. not (list_any (λ k. same_job j.id k.id) pending)) closed)
+
+-- so many jobs are closed
+pub record IsSplit (jobs : List Job) (count : ℕ) : Type 0 where
+  pub within : count ≤ length jobs
+  pub parts : AreClosed (take count jobs) (drop count jobs)
+
+-- the first of these jobs can be closed: it is done, and no later one has its name
+abbrev pub closes : List Job → Bool
+closes [] = false
+closes (j ∷ js) = j.finished && not (list_any (λ k. same_job j.id k.id) js)

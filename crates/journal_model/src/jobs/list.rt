@@ -1,0 +1,208 @@
+ghost use Rattle.std.specs.Prelude.{◌≡◌, ◌-◌, ◌≤◌, ◌++◌, ◌∷◌, [], true, false, IsTrue, OnOk, OnErr, ◌+◌, find, length, take, drop, option_copied, if◌then◌else◌};
+ghost use Rattle.std.specs.List.{list_all, list_any};
+ghost use Rattle.journal_model.specs.Waits as waits;
+ghost use Rattle.journal_model.specs.ApplyJobs.{changed_job};
+ghost use Rattle.journal_model.specs.Jobs.{ArePending, IsSplit, closes, has_packets_left};
+
+use crate::jobs::Jobs;
+use crate::state::Job;
+use std::alloc::Global;
+use ttm_base::{ItemList, JobId, NoMemory};
+
+/// The jobs are one.
+pub fn same_job(i: JobId, j: JobId) -> bool
+    ensures { result ≡ waits.same_job i j }
+{
+    i.ctx == j.ctx && i.num == j.num
+}
+
+/// One of these jobs has the name.
+fn is_among(jobs: &[Job], id: JobId) -> bool
+    ensures { result ≡ list_any (λ j. waits.same_job id j.id) jobs.now }
+{
+    jobs.iter().any(|job| same_job(id, job.id))
+}
+
+/// The first of these jobs that has the name.
+fn first_named(jobs: &[Job], id: JobId) -> Option<&Job>
+    ensures { option_copied result ≡ find (λ j. waits.same_job id j.id) jobs.now }
+{
+    jobs.iter().find(|job| same_job(id, job.id))
+}
+
+/// Marks a job as done, if it has the name.
+fn finish_named(job: &mut Job, id: JobId)
+    ensures { job.new ≡ (if waits.same_job id job.old.id then record job.old { finished = true } else job.old) }
+{
+    if same_job(id, job.id) {
+        job.finished = true;
+    }
+}
+
+/// Marks a job as done, among those from a position on.
+fn finish_from(jobs: &mut ItemList<Job>, start: usize, id: JobId)
+    requires within { start ≤ length jobs.old }
+    requires closed { changed_job (λ j. record j { finished = true }) id (take start jobs.old) ≡ take start jobs.old }
+    ensures { jobs.new ≡ changed_job (λ j. record j { finished = true }) id jobs.old }
+{
+    for i in start..jobs.len() {
+        finish_named(jobs.get_mut(i), id);
+    }
+}
+
+/// Counts one more packet that has run, if the job has the name.
+fn count_named(job: &mut Job, id: JobId)
+    requires { IsTrue (has_packets_left id job.old) }
+    ensures { job.new ≡ (if waits.same_job id job.old.id then record job.old { ran = job.old.ran + 1 } else job.old) }
+{
+    if same_job(id, job.id) {
+        job.ran += 1;
+    }
+}
+
+/// Counts one more packet of a job, among those from a position on.
+fn count_from(jobs: &mut ItemList<Job>, start: usize, id: JobId)
+    requires within { start ≤ length jobs.old }
+    requires closed { changed_job (λ j. record j { ran = j.ran + 1 }) id (take start jobs.old) ≡ take start jobs.old }
+    requires left { IsTrue (list_all (has_packets_left id) jobs.old) }
+    ensures { jobs.new ≡ changed_job (λ j. record j { ran = j.ran + 1 }) id jobs.old }
+{
+    for i in start..jobs.len() {
+        count_named(jobs.get_mut(i), id);
+    }
+}
+
+/// The job at a position can be closed: it is done, and no later job has its name.
+fn can_close(jobs: &[Job], at: usize) -> bool
+    requires { at + 1 ≤ length jobs.now }
+    ensures { result ≡ closes (drop at jobs.now) }
+{
+    let job = &jobs[at];
+    job.finished && !is_among(&jobs[at + 1..], job.id)
+}
+
+/// How many jobs are closed, from those on that were.
+fn closed_from(jobs: &[Job], start: usize) -> usize
+    requires { IsSplit jobs.now start }
+    ensures { IsSplit jobs.now result }
+{
+    let mut count = start;
+    while count < jobs.len() && can_close(jobs, count) {
+        count += 1;
+    }
+    count
+}
+
+/// How many jobs stay closed when one with this name is to come: none, if a closed one has it.
+fn closed_apart(jobs: &[Job], closed: usize, id: JobId) -> usize
+    requires { IsSplit jobs.now closed }
+    ensures split { IsSplit jobs.now result }
+    ensures apart { list_any (λ j. waits.same_job id j.id) (take result jobs.now) ≡ false }
+{
+    if is_among(&jobs[..closed], id) {
+        0
+    } else {
+        closed
+    }
+}
+
+/// How many jobs stay closed when the last one is to go: none, if it is closed.
+fn closed_before(jobs: &[Job], closed: usize) -> usize
+    requires { IsSplit jobs.now closed }
+    ensures split { IsSplit jobs.now result }
+    ensures before { result ≤ length jobs.now - 1 }
+{
+    if closed < jobs.len() { closed } else { 0 }
+}
+
+/// From which job on one of this name is to be changed: from the first pending one, if one of these has it.
+fn start_of(jobs: &[Job], closed: usize, id: JobId) -> usize
+    requires { IsSplit jobs.now closed }
+    ensures within { result ≤ length jobs.now }
+    ensures apart { list_any (λ j. waits.same_job id j.id) (take result jobs.now) ≡ false }
+{
+    if is_among(&jobs[closed..], id) {
+        closed
+    } else {
+        0
+    }
+}
+
+impl Jobs {
+    /// No jobs.
+    pub fn new(alloc: Global) -> Jobs
+        ensures { result ≡ [] }
+    {
+        Jobs {
+            all: ItemList::new(alloc),
+            closed: 0,
+        }
+    }
+
+    /// All jobs.
+    pub fn items(&self) -> &[Job]
+        ensures { result.now ≡ self.now }
+    {
+        self.all.items()
+    }
+
+    /// The last jobs, from the first that isn't done or shares its name with a later one.
+    pub fn pending(&self) -> &[Job]
+        ensures { ArePending self.now result.now }
+    {
+        &self.all.items()[self.closed..]
+    }
+
+    /// The first job of this name.
+    pub fn named(&self, id: JobId) -> Option<&Job>
+        ensures { option_copied result ≡ find (λ j. waits.same_job id j.id) self.now }
+    {
+        let (closed, pending) = self.all.items().split_at(self.closed);
+        match first_named(pending, id) {
+            Some(job) => Some(job),
+            None => first_named(closed, id),
+        }
+    }
+
+    /// Puts a job at the end.
+    ///
+    /// # Errors
+    ///
+    /// Want of memory; nothing is changed.
+    pub fn push(&mut self, job: Job) -> Result<(), NoMemory>
+        ensures ok { OnOk result (self.new ≡ self.old ++ job ∷ []) }
+        ensures err { OnErr result (self.new ≡ self.old) }
+    {
+        self.closed = closed_apart(self.all.items(), self.closed, job.id);
+        self.all.push(job)?;
+        Ok(())
+    }
+
+    /// Takes the last job out, if there is one.
+    pub fn drop_last(&mut self)
+        ensures { self.new ≡ take (length self.old - 1) self.old }
+    {
+        let count = self.all.len();
+        if count > 0 {
+            self.closed = closed_before(self.all.items(), self.closed);
+            let _ = self.all.remove(count - 1);
+        }
+    }
+
+    /// The job is done.
+    pub fn finish(&mut self, id: JobId)
+        ensures { self.new ≡ changed_job (λ j. record j { finished = true }) id self.old }
+    {
+        finish_from(&mut self.all, self.closed, id);
+        self.closed = closed_from(self.all.items(), self.closed);
+    }
+
+    /// One more packet of the job has run.
+    pub fn count_packet(&mut self, id: JobId)
+        requires { IsTrue (list_all (has_packets_left id) self.old) }
+        ensures { self.new ≡ changed_job (λ j. record j { ran = j.ran + 1 }) id self.old }
+    {
+        let start = start_of(self.all.items(), self.closed, id);
+        count_from(&mut self.all, start, id);
+    }
+}
