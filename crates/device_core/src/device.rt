@@ -1,9 +1,10 @@
-ghost use Rattle.std.specs.Prelude.{◌≡◌, ◌+◌, ◌<◌, ◌^◌, ◌∷◌, ◌++◌, [], IfOk, OnOk, OnErr, Ok, IsTrue, find, length, remove};
+ghost use Rattle.std.specs.Prelude.{◌≡◌, ◌↔◌, ◌+◌, ◌<◌, ◌^◌, ◌∷◌, ◌++◌, [], false, IfOk, OnOk, OnErr, Ok, IsTrue, find, length, remove};
 ghost use Rattle.journal_model.specs.ScriptRules.{is_script};
 ghost use Rattle.journal_model.specs.Complete.{is_complete};
 ghost use Rattle.journal_model.specs.Legal.{state_of};
 ghost use Rattle.journal_model.specs.DeadEnd.{can_step};
 ghost use Rattle.journal_model.specs.Scheduled.{own_order};
+ghost use Rattle.progress_law.specs.Sound.{SomeGoesOn};
 ghost use Rattle.device_core.specs.Kept.{entry_of, with_entry, turn_of, after_turn};
 
 use crate::enact::enact;
@@ -88,9 +89,10 @@ impl Device {
         &self.state
     }
 
-    /// Every command is answered, every job is done and there is no ghost.
+    /// Every command is answered, every job is done and there is no ghost. Until then some actor has an entry.
     pub fn over(&self) -> bool
-        ensures { result ≡ is_complete self.now.script self.now.journal }
+        ensures complete { result ≡ is_complete self.now.script self.now.journal }
+        ensures goes_on { (result ≡ false) ↔ SomeGoesOn self.now.script (state_of self.now.script self.now.journal) }
     {
         is_over(&self.script, &self.state)
     }

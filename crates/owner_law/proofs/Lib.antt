@@ -7,3 +7,4 @@ pub mod Keeps
 pub mod Taken
 pub mod Law
 pub mod Accounts
+pub mod Fronts

@@ -1,1 +1,2 @@
 pub mod OneOwner
+pub mod Throughout

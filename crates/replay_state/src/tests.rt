@@ -5,10 +5,11 @@ use crate::{
     without_buffer,
 };
 use journal_model::{
-    Buffer, Command, CommandLists, Core, Course, Decls, Fence, Ghost, Grips, Job, JobIds, Lists,
-    Marks, Numbers, Packets, Script, Sizes, State, Table, TurnLines,
+    Buffer, Command, CommandLists, Core, Course, Decls, Fence, Ghost, Grips, Job, JobIds, Jobs,
+    Lists, Marks, Numbers, Packets, Script, Sizes, State, Table, TurnLines,
 };
 use std::alloc::Global;
+use std::process::Abort;
 use std::test::Fail;
 use ttm_base::{
     BufId, ItemList, JobId, Loc, Mem, NoMemory, Op, Packet, PagePlace, Span, Spans, Usage,
@@ -58,6 +59,13 @@ fn job_of(alloc: Global) -> Job {
     }
 }
 
+/// The one job.
+fn jobs_of(alloc: Global) -> Result<Jobs, NoMemory> {
+    let mut jobs = Jobs::new(alloc);
+    jobs.push(job_of(alloc))?;
+    Ok(jobs)
+}
+
 /// A ghost that holds two pages of TT and a frame.
 fn ghost_of(alloc: Global) -> Result<Ghost, NoMemory> {
     let tt = one(alloc, Span { start: 2, end: 4 })?;
@@ -74,7 +82,7 @@ fn ghost_of(alloc: Global) -> Result<Ghost, NoMemory> {
 /// The buffer, the job and the ghost.
 fn core_of(alloc: Global) -> Result<Core, NoMemory> {
     let buffers = one(alloc, Some(buffer_of(alloc)?))?;
-    let jobs = one(alloc, job_of(alloc))?;
+    let jobs = jobs_of(alloc)?;
     let ghosts = one(alloc, ghost_of(alloc)?)?;
     Ok(Core {
         buffers,
@@ -118,96 +126,116 @@ fn state_of(alloc: Global) -> Result<State, NoMemory> {
     })
 }
 
+/// The list is this one.
+fn are<T: Copy + PartialEq>(
+    rt: &impl Abort,
+    items: Result<ItemList<T>, NoMemory>,
+    want: &[T],
+) -> Result<(), Fail> {
+    let items = items?;
+    assert!(rt; items.items() == want);
+    Ok(())
+}
+
 #[test]
 fn buffers_of_commands(rt: HostRuntime) -> Result<(), Fail> {
     let alloc = rt.alloc();
-    let rest = without_buffer(alloc, &[A, B, A], A)?;
-    assert_eq!(rt; rest.items(), [B].as_slice());
-    let firsts = first_mentions(alloc, &[B, A, B])?;
-    assert_eq!(rt; firsts.items(), [B, A].as_slice());
-    let bs = named(alloc, &Command::Pin { b: B })?;
-    assert_eq!(rt; bs.items(), [B].as_slice());
-    let places = asked_places(alloc, &script_of(alloc), &Command::SwapOut { b: A }, A)?;
+    are(&rt, without_buffer(alloc, &[A, B, A], A), &[B])?;
+    are(&rt, first_mentions(alloc, &[B, A, B]), &[B, A])?;
+    are(&rt, named(alloc, &Command::Pin { b: B }), &[B])?;
+    let script = script_of(alloc);
+    let places = asked_places(alloc, &script, &Command::SwapOut { b: A }, A)?;
     assert_eq!(rt; places.len(), 1);
     Ok(())
 }
 
 #[test]
-fn pages_and_packets(rt: HostRuntime) -> Result<(), Fail> {
+fn pages_of_a_buffer(rt: HostRuntime) -> Result<(), Fail> {
     let alloc = rt.alloc();
-    let pages = pages_of(
-        alloc,
-        &[Span { start: 0, end: 2 }, Span { start: 5, end: 6 }],
-    )?;
-    assert_eq!(rt; pages.items(), [0, 1, 5].as_slice());
+    let spans = [Span { start: 0, end: 2 }, Span { start: 5, end: 6 }];
+    are(&rt, pages_of(alloc, &spans), &[0, 1, 5])?;
     let buffer = buffer_of(alloc)?;
-    assert_eq!(rt; frames_of(alloc, &buffer)?.items(), [0].as_slice());
-    assert_eq!(rt; slots_of(alloc, &buffer)?.items(), [0].as_slice());
+    are(&rt, frames_of(alloc, &buffer), &[0])?;
+    are(&rt, slots_of(alloc, &buffer), &[0])
+}
+
+#[test]
+fn packets_end_at_pages(rt: HostRuntime) -> Result<(), Fail> {
+    let alloc = rt.alloc();
     let probe = Op::Probe {
         src: A,
         off: 4090,
         len: 10,
     };
-    let packets = packets_of(alloc, &core_of(alloc)?, &[probe])?;
     let piece = |off: u32, len: u32| Packet::Probe {
         from: PagePlace::Frame(0),
         off,
         len,
     };
-    assert_eq!(rt; packets.items(), [piece(4090, 6), piece(0, 4)].as_slice());
-    Ok(())
+    let core = core_of(alloc)?;
+    are(
+        &rt,
+        packets_of(alloc, &core, &[probe]),
+        &[piece(4090, 6), piece(0, 4)],
+    )
 }
 
 #[test]
 fn what_is_held(rt: HostRuntime) -> Result<(), Fail> {
     let alloc = rt.alloc();
+    let core = core_of(alloc)?;
+    let held = [Span { start: 2, end: 4 }];
+    are(&rt, held_spans(alloc, Mem::Tt, &core), &held)?;
+    are(&rt, held_frames(alloc, &core), &[0, 2])?;
+    are(&rt, held_slots(alloc, &core), &[0])
+}
+
+#[test]
+fn what_is_free(rt: HostRuntime) -> Result<(), Fail> {
+    let alloc = rt.alloc();
     let script = script_of(alloc);
     let core = core_of(alloc)?;
-    let spans = held_spans(alloc, Mem::Tt, &core)?;
-    assert_eq!(rt; spans.items(), [Span { start: 2, end: 4 }].as_slice());
-    assert_eq!(rt; held_frames(alloc, &core)?.items(), [0, 2].as_slice());
-    assert_eq!(rt; held_slots(alloc, &core)?.items(), [0].as_slice());
-    assert_eq!(rt; free_frame(alloc, &script, &core)?, Some(1));
-    assert_eq!(rt; free_slot(alloc, &script, &core)?, None);
+    let frame = free_frame(alloc, &script, &core)?;
+    let slot = free_slot(alloc, &script, &core)?;
+    assert_eq!(rt; frame, Some(1));
+    assert_eq!(rt; slot, None);
     Ok(())
+}
+
+#[test]
+fn jobs_of_a_buffer(rt: HostRuntime) -> Result<(), Fail> {
+    let alloc = rt.alloc();
+    let buffer = buffer_of(alloc)?;
+    are(&rt, jobs_before_write(alloc, &buffer), &[JOB])?;
+    are(&rt, jobs_before_read(alloc, &buffer), &[])
 }
 
 #[test]
 fn jobs_to_wait_for(rt: HostRuntime) -> Result<(), Fail> {
     let alloc = rt.alloc();
     let core = core_of(alloc)?;
-    let buffer = buffer_of(alloc)?;
-    assert_eq!(rt;
-        jobs_before_write(alloc, &buffer)?.items(),
-        [JOB].as_slice()
-    );
-    assert_eq!(rt; jobs_before_read(alloc, &buffer)?.len(), 0);
-    assert_eq!(rt; unfinished(alloc, &core, &[JOB])?.items(), [JOB].as_slice());
-    assert_eq!(rt;
-        jobs_before_target(alloc, &core, Mem::Vram)?.items(),
-        [JOB].as_slice()
-    );
     let fill = Op::Fill {
         dst: A,
         off: 0,
         len: 1,
         byte: 7,
     };
-    assert_eq!(rt;
-        jobs_before_use(alloc, &core, &[fill], A)?.items(),
-        [JOB].as_slice()
-    );
-    Ok(())
+    are(&rt, unfinished(alloc, &core, &[JOB]), &[JOB])?;
+    are(&rt, jobs_before_target(alloc, &core, Mem::Vram), &[JOB])?;
+    are(&rt, jobs_before_use(alloc, &core, &[fill], A), &[JOB])
+}
+
+#[test]
+fn eviction_order(rt: HostRuntime) -> Result<(), Fail> {
+    let alloc = rt.alloc();
+    let state = state_of(alloc)?;
+    are(&rt, in_order(alloc, &state, Mem::System), &[A])
 }
 
 #[test]
 fn search_of_a_state(rt: HostRuntime) -> Result<(), Fail> {
     let alloc = rt.alloc();
     let state = state_of(alloc)?;
-    assert_eq!(rt;
-        in_order(alloc, &state, Mem::System)?.items(),
-        [A].as_slice()
-    );
     let script = script_of(alloc);
     let course: Course = new_course(alloc, 0);
     let moved = Command::Move {

@@ -6,6 +6,7 @@ use Rattle.journal_model.specs.Scheduled.{scheduled, turn_limit}
 use Rattle.command_words.specs.declared.Form.{Form}
 use Rattle.command_words.specs.declared.Form.TheVariants as form
 use Rattle.device_core.specs.Kept.{Kept}
+use Rattle.owner_law.specs.Throughout.{HoldThroughout}
 use Rattle.sim_drive.specs.Ends.{EndsAfter}
 use Rattle.simulator.specs.declared.outcome.Status.{Status}
 use Rattle.simulator.specs.declared.outcome.Status.TheVariants as status
@@ -20,11 +21,13 @@ abbrev pub allowed : Option ℕ → Script → ℕ
 allowed turns script = unwrap_or turns (min (turn_limit script) 18446744073709551615)
 
 -- The journal is that of the stated interleaving after so many turns: it is legal, and the turns are the least number that
--- makes it complete, or all that are allowed.
+-- makes it complete, or all that are allowed. In each state on the way no page, frame or slot is held twice, and live, target,
+-- ghost and free ones make each size.
 pub record IsRunOf (script : Script) (turns : Option ℕ) (k : Kept) (taken : ℕ) : Type 0 where
   pub run : k ≡ record { script = script; journal = scheduled script taken }
   pub legal : IsLegal script (scheduled script taken)
   pub ends : EndsAfter script (allowed turns script) taken
+  pub accounts : HoldThroughout script (scheduled script taken)
 
 -- a run of the script came out
 abbrev pub ComesRun : Script → Option ℕ → Outcome → Type 0

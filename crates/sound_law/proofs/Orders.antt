@@ -1,6 +1,6 @@
 -- Who has an entry stands in the simulator's own order; and where all is over nobody has one.
 use Rattle.std.proofs.Common.{◌≡◌, ℕ, ◌<◌, ◌≤◌, ◌+◌, ◌-◌, zero, suc, Bool, true, false, List, [], ◌∷◌, ◌++◌, length, Option, Some, None, Result, Ok, Err, IsTrue, IsSome, refl, sym, ◌∙◌, ap, subst, arith, ◌⊎◌, inl, inr, ⊎_elim}
-use Rattle.std.specs.Prelude.{slice_get, map, filter, filter_map, find, cond, unwrap_or, option_map, option_and_then, is_none, is_ok, nat_le, ◌==◌, ◌&&◌, not, if◌then◌else◌}
+use Rattle.std.specs.Prelude.{◌↔◌, slice_get, map, filter, filter_map, find, cond, unwrap_or, option_map, option_and_then, is_none, is_ok, nat_le, ◌==◌, ◌&&◌, not, if◌then◌else◌}
 use Rattle.std.specs.List.{list_all, cons_option}
 use Rattle.std.proofs.lemmas.Bool.{cases_Bool, cases_eq, and_parts}
 use Rattle.std.proofs.lemmas.Bool.Decides.{nat_tests}
@@ -37,7 +37,7 @@ use Rattle.progress_law.specs.Sound.{Sound, SomeGoesOn, command_of}
 use Rattle.progress_law.proofs.DeadEnds.{command_is, no_dead_end}
 use Rattle.sound_law.specs.Orders.{FindsOne}
 use Rattle.sound_law.proofs.Bufs.{found_passes, clash}
-use Rattle.sound_law.proofs.Along.{sound_law}
+use Rattle.sound_law.proofs.Along.{sound_law, goes_on_law}
 
 -- ---- elements of lists
 
@@ -259,3 +259,14 @@ rests_law script journal fits h over = rests script (state_of script journal) (s
 
 pub order_law : (script : Script) (journal : List Entry) → IsTrue (is_script script) → IsLegal script journal → is_over script (state_of script journal) ≡ false → FindsOne script (state_of script journal)
 order_law script journal fits h over = let g = goes script (state_of script journal) (sound_law script journal fits h) over in record { who = g.0; found = g.1; goes = g.2 }
+
+-- whoever has an entry has it before the end
+unfinished : (script : Script) (journal : List Entry) → IsTrue (is_script script) → IsLegal script journal → SomeGoesOn script (state_of script journal) → is_complete script journal ≡ false
+unfinished script journal fits h w = by (is_complete script journal) refl
+  where
+    by : (b : Bool) → is_complete script journal ≡ b → is_complete script journal ≡ false
+    by false e = e
+    by true e = absurd (clash (sym w.1 ∙ rests_law script journal fits h (over_law script journal h ∙ e) w.0))
+
+pub until_the_end : (script : Script) (journal : List Entry) → IsTrue (is_script script) → IsLegal script journal → (is_complete script journal ≡ false) ↔ SomeGoesOn script (state_of script journal)
+until_the_end script journal fits h = (goes_on_law script journal fits h, unfinished script journal fits h)

@@ -1,7 +1,7 @@
 //! Laws on how legal journals go on: until a journal is complete, some actor has an entry.
 #![tactic(auto)]
 
-ghost use Rattle.std.specs.Prelude.{◌≡◌, IsTrue, List, true, false};
+ghost use Rattle.std.specs.Prelude.{◌≡◌, ◌↔◌, IsTrue, List, true, false};
 ghost use Rattle.ttm_base.specs.declared.Actor.{Actor};
 ghost use Rattle.journal_model.specs.declared.script.Script.{Script};
 ghost use Rattle.journal_model.specs.declared.entry.Entry.{Entry};
@@ -21,6 +21,12 @@ pub fn states_are_sound()
 pub fn some_actor_goes_on()
     ensures { (script : Script) (journal : List Entry) → IsTrue (is_script script) → IsLegal script journal
         → is_complete script journal ≡ false → SomeGoesOn script (state_of script journal) }
+{}
+
+/// Some actor has an entry exactly until the journal is complete.
+pub fn entries_come_until_the_end()
+    ensures { (script : Script) (journal : List Entry) → IsTrue (is_script script) → IsLegal script journal
+        → (is_complete script journal ≡ false) ↔ SomeGoesOn script (state_of script journal) }
 {}
 
 /// No legal journal is a dead end.

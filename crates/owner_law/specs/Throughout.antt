@@ -1,0 +1,10 @@
+-- The accounts after each front of a journal.
+use Rattle.std.specs.Prelude.{◌≡◌, ℕ, true, List, take}
+use Rattle.journal_model.specs.declared.script.Script.{Script}
+use Rattle.journal_model.specs.declared.entry.Entry.{Entry}
+use Rattle.journal_model.specs.Account.{has_accounts}
+use Rattle.journal_model.specs.Legal.{state_of}
+
+-- behind each number of entries, live, target and ghost pages never overlap, and with the free ones make each size
+abbrev pub HoldThroughout : Script → List Entry → Type 0
+HoldThroughout script journal = (n : ℕ) → has_accounts script (state_of script (take n journal)).core ≡ true
