@@ -4,6 +4,8 @@
 mod holes;
 mod request;
 mod search;
+#[cfg(test)]
+mod tests;
 mod tree;
 
 pub use holes::Holes;
