@@ -77,7 +77,6 @@ is_searching (task.Move b mem) k = true
 is_searching (task.Fill b) k = true
 is_searching (task.Empty b) k = true
 is_searching (task.GiveBack b) k = true
-is_searching (task.Skip b) k = true
 is_searching task.Act (kind.SwapOut b page slot) = true
 is_searching t k = false
 

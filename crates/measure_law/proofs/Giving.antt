@@ -47,7 +47,7 @@ use Rattle.measure_law.proofs.Border.{Known, shared, range, one, others_same, ow
 
 -- ---- one buffer
 
-count_cons : {X : Type 0} (p : X → Bool) (x : X) (xs : List X) → count_by p (x ∷ xs) ≡ cond (p x) 1 0 + count_by p xs
+pub count_cons : {X : Type 0} (p : X → Bool) (x : X) (xs : List X) → count_by p (x ∷ xs) ≡ cond (p x) 1 0 + count_by p xs
 count_cons p x xs = sum_by-cons (λ y. cond (p y) 1 0) x xs
 
 -- without frames there is none, and each page is one without a frame
@@ -75,32 +75,32 @@ bare_others (l ∷ table) =
     by (loc.Frame f) = refl
     by (loc.Slot k) = refl
 
-length-bare : (table : List Loc) → length (map without_frame table) ≡ length table
+pub length-bare : (table : List Loc) → length (map without_frame table) ≡ length table
 length-bare [] = refl
 length-bare (l ∷ table) = ap suc (length-bare table)
 
-some_frame : (table : List Loc) → list_any is_frame table ≡ true → 1 ≤ count_by is_frame table
+pub some_frame : (table : List Loc) → list_any is_frame table ≡ true → 1 ≤ count_by is_frame table
 some_frame [] h = cc
 some_frame (l ∷ table) h =
     let sum = count_cons is_frame l table in
     ⊎_elim (λ k. (let one : ◌≡◌ {A = ℕ} (cond (is_frame l) 1 0) 1 = ap (λ q. cond q 1 0) k in omega (arith, sum, one))) (λ k. (let rest = some_frame table k in omega (arith, sum, rest))) (or_cases (is_frame l) (list_any is_frame table) h)
 
 -- what a buffer in VRAM costs
-vram_left : (y : Buffer) → y.mem ≡ Vram → left_of_buffer (Some y) ≡ 75497472 * length y.table + count_by (λ l. not (is_frame l)) y.table
+pub vram_left : (y : Buffer) → y.mem ≡ Vram → left_of_buffer (Some y) ≡ 75497472 * length y.table + count_by (λ l. not (is_frame l)) y.table
 vram_left y e = ap (λ z. elim z [ System ↦ sum_by page_left y.table | Tt ↦ 71303168 * length y.table | Vram ↦ 75497472 * length y.table + count_by (λ l. not (is_frame l)) y.table ]) e
 
-vram_gift : (y : Buffer) → y.mem ≡ Vram → to_give_back y ≡ 2 * frame_count y + target_count y
+pub vram_gift : (y : Buffer) → y.mem ≡ Vram → to_give_back y ≡ 2 * frame_count y + target_count y
 vram_gift y e = ap (λ z. elim z [ Vram ↦ 2 * frame_count y | Tt ↦ 0 | System ↦ 0 ] + target_count y) e
 
 -- the frames that a buffer in VRAM gives back: what is to be given falls by twice as much as the buffer's part rises
-frames_given : (x : Buffer) → x.mem ≡ Vram → to_give_back (without_frames x) + 2 * frame_count x ≤ to_give_back x
+pub frames_given : (x : Buffer) → x.mem ≡ Vram → to_give_back (without_frames x) + 2 * frame_count x ≤ to_give_back x
 frames_given x m =
     let give = vram_gift x m in
     let gave = vram_gift (without_frames x) m in
     let none = bare_frames x.table in
     omega (arith, give, gave, none)
 
-frames_rise : (x : Buffer) → x.mem ≡ Vram → left_of_buffer (Some (without_frames x)) ≤ left_of_buffer (Some x) + frame_count x
+pub frames_rise : (x : Buffer) → x.mem ≡ Vram → left_of_buffer (Some (without_frames x)) ≤ left_of_buffer (Some x) + frame_count x
 frames_rise x m =
     let was = vram_left x m in
     let now = vram_left (without_frames x) m in
@@ -109,7 +109,7 @@ frames_rise x m =
     omega (arith, was, now, others, len)
 
 -- a target that is there and goes
-target_given : (m : Mem) (x : Buffer) → has_target m x ≡ true → to_give_back (with_spans m None x) + 1 ≤ to_give_back x
+pub target_given : (m : Mem) (x : Buffer) → has_target m x ≡ true → to_give_back (with_spans m None x) + 1 ≤ to_give_back x
 target_given System x h = let one : ◌≡◌ {A = ℕ} (one_if (has_target System x)) 1 = ap one_if h in omega (arith, one)
 target_given Tt x h = let one : ◌≡◌ {A = ℕ} (one_if (has_target Tt x)) 1 = ap one_if h in omega (arith, one)
 target_given Vram x h = let one : ◌≡◌ {A = ℕ} (one_if (has_target Vram x)) 1 = ap one_if h in omega (arith, one)
@@ -137,7 +137,7 @@ target_there x h bare = by_target (has_target Vram x) (has_target Tt x) refl ref
 
 -- ---- a sum over declared buffers of which one falls
 
-enumerate_falls : (f g : ℕ × Decl → ℕ) (n : ℕ) (xs : List Decl) (k i : ℕ) (d : Decl) → slice_get xs i ≡ Some d → ((e : ℕ × Decl) → f e ≤ g e) → f (k + i, d) + n ≤ g (k + i, d) → sum_by f (enumerate_from k xs) + n ≤ sum_by g (enumerate_from k xs)
+pub enumerate_falls : (f g : ℕ × Decl → ℕ) (n : ℕ) (xs : List Decl) (k i : ℕ) (d : Decl) → slice_get xs i ≡ Some d → ((e : ℕ × Decl) → f e ≤ g e) → f (k + i, d) + n ≤ g (k + i, d) → sum_by f (enumerate_from k xs) + n ≤ sum_by g (enumerate_from k xs)
 enumerate_falls f g n [] k i d h most less = cc
 enumerate_falls f g n (x ∷ xs) k zero d h most less =
     let it : x ≡ d = cc in
@@ -153,7 +153,7 @@ enumerate_falls f g n (x ∷ xs) k (suc i) d h most less =
 
 -- ---- a buffer set
 
-live_at : (xs : List (Option Buffer)) (b : BufId) (x : Buffer) → live_in xs b ≡ Some x → slice_get xs b.0 ≡ Some (Some x)
+pub live_at : (xs : List (Option Buffer)) (b : BufId) (x : Buffer) → live_in xs b ≡ Some x → slice_get xs b.0 ≡ Some (Some x)
 live_at xs b x h = by (slice_get xs b.0) h
   where
     by : (o : Option (Option Buffer)) → option_and_then (λ y. y) o ≡ Some x → o ≡ Some (Some x)
@@ -161,7 +161,7 @@ live_at xs b x h = by (slice_get xs b.0) h
     by (Some None) k = cc
     by (Some (Some y)) k = let it : y ≡ x = cc in ap (λ z. Some (Some z)) it
 
-set_here : (xs : List (Option Buffer)) (i : ℕ) (o : Option Buffer) (x : Buffer) → slice_get xs i ≡ Some (Some x) → slice_get (slice_set xs i o) i ≡ Some o
+pub set_here : (xs : List (Option Buffer)) (i : ℕ) (o : Option Buffer) (x : Buffer) → slice_get xs i ≡ Some (Some x) → slice_get (slice_set xs i o) i ≡ Some o
 set_here [] i o x h = cc
 set_here (y ∷ xs) zero o x h = refl
 set_here (y ∷ xs) (suc i) o x h = set_here xs i o x h
@@ -169,7 +169,7 @@ set_here (y ∷ xs) (suc i) o x h = set_here xs i o x h
 pub changed_here : (f : Buffer → Buffer) (xs : List (Option Buffer)) (b : BufId) (x : Buffer) → live_in xs b ≡ Some x → live_in (changed f xs b) b ≡ Some (f x)
 changed_here f xs b x h = ap (option_and_then (λ y. y)) (set_here xs b.0 (option_map f (live_in xs b)) x (live_at xs b x h)) ∙ ap (option_map f) h
 
-get_below : (xs : List Decl) (i : ℕ) → i < length xs → (d : Decl) × (slice_get xs i ≡ Some d)
+pub get_below : (xs : List Decl) (i : ℕ) → i < length xs → (d : Decl) × (slice_get xs i ≡ Some d)
 get_below [] i h = absurd (omega arith)
 get_below (x ∷ xs) zero h = (x, refl)
 get_below (x ∷ xs) (suc i) h = get_below xs i (omega arith)
@@ -262,7 +262,7 @@ module _ (script : Script) (s : State) (t : ℕ) (k : Kind) (known : Known scrip
 
 -- ---- frames, and a target
 
-depopulated_fewer : (xs : List (Option Buffer)) (b : BufId) → Fewer xs (changed without_frames xs b)
+pub depopulated_fewer : (xs : List (Option Buffer)) (b : BufId) → Fewer xs (changed without_frames xs b)
 depopulated_fewer xs b = fewer_kept (option_map without_frames) less xs b.0
   where
     slots : (table : List Loc) (n : ℕ) → has_number (filter_map slot_of (map without_frame table)) n ≡ true → has_number (filter_map slot_of table) n ≡ true
@@ -275,7 +275,7 @@ depopulated_fewer xs b = fewer_kept (option_map without_frames) less xs b.0
     less None = tt
     less (Some x) = λ n h. slots x.table n h
 
-untaken_fewer : (m : Mem) (xs : List (Option Buffer)) (b : BufId) → Fewer xs (changed (with_spans m None) xs b)
+pub untaken_fewer : (m : Mem) (xs : List (Option Buffer)) (b : BufId) → Fewer xs (changed (with_spans m None) xs b)
 untaken_fewer m xs b = fewer_kept (option_map (with_spans m None)) less xs b.0
   where
     less : (o : Option Buffer) → OneFewer o (option_map (with_spans m None) o)

@@ -8,5 +8,5 @@ pub mod Border
 pub mod Locking
 pub mod Skipping
 pub mod Giving
-pub mod Ends
+pub mod Parts
 pub mod Falls

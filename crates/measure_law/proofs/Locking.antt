@@ -45,7 +45,7 @@ use Rattle.measure_law.proofs.Border.{Known, shared, range, one, others_same, ow
 abbrev pub missing_in : Script → ℕ → Course → ℕ
 missing_in script u c = elim (is_none c.stamp) [ true ↦ 0 | false ↦ elim (command_of script u c) [ None ↦ 0 | Some cmd ↦ missing_of c cmd ] ]
 
-missing_is : (script : Script) (s : State) → length s.courses ≡ length script.threads → (u : ℕ) → missing script s u ≡ missing_in script u (course s u)
+pub missing_is : (script : Script) (s : State) → length s.courses ≡ length script.threads → (u : ℕ) → missing script s u ≡ missing_in script u (course s u)
 missing_is script s l u = ap (λ o. elim (is_none (course s u).stamp) [ true ↦ 0 | false ↦ elim o [ None ↦ 0 | Some cmd ↦ missing_of (course s u) cmd ] ]) (command_is script s l u)
 
 -- a thread with a stamp at a command
@@ -141,19 +141,19 @@ waits_misses : (s : State) (c : Course) (cmd : Command) (w : Waits s c) → firs
 waits_misses s c cmd w = ap₂ (λ h o. find (λ b. not (has_buffer h b)) (option_to_list o ++ named cmd)) w.empty w.is_first
 
 module _ (script : Script) (s : State) (t : ℕ) (k : Kind) (known : Known script s) (st : Stepped script s t k) where
-  stamps_same : (next_course script s t k).stamp ≡ (course s t).stamp → (u : ℕ) → (course (applied script s (actor.Thread t) k) u).stamp ≡ (course s u).stamp
+  pub stamps_same : (next_course script s t k).stamp ≡ (course s t).stamp → (u : ℕ) → (course (applied script s (actor.Thread t) k) u).stamp ≡ (course s u).stamp
   stamps_same e u =
       ⊎_elim
       (λ q. subst (λ v. (course (applied script s (actor.Thread t) k) v).stamp ≡ (course s v).stamp) (sym q) (ap (λ c. c.stamp) (own_course script s t k st.here) ∙ e))
       (λ n. ap (λ c. c.stamp) ((one script s t k known st).others u n))
       (cases_eq u t)
 
-  missing_other : (u : ℕ) → (u ≡ t → ⊥) → missing script (applied script s (actor.Thread t) k) u ≡ missing script s u
+  pub missing_other : (u : ℕ) → (u ≡ t → ⊥) → missing script (applied script s (actor.Thread t) k) u ≡ missing script s u
   missing_other u n =
       missing_is script (applied script s (actor.Thread t) k) ((one script s t k known st).lengths.courses ∙ known.owned.courses) u
       ∙ (ap (missing_in script u) ((one script s t k known st).others u n) ∙ sym (missing_is script s known.owned.courses u))
 
-  missing_own : missing script (applied script s (actor.Thread t) k) t ≡ missing_in script t (next_course script s t k)
+  pub missing_own : missing script (applied script s (actor.Thread t) k) t ≡ missing_in script t (next_course script s t k)
   missing_own =
       missing_is script (applied script s (actor.Thread t) k) ((one script s t k known st).lengths.courses ∙ known.owned.courses) t
       ∙ ap (missing_in script t) (own_course script s t k st.here)

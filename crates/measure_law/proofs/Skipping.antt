@@ -44,7 +44,7 @@ use Rattle.measure_law.proofs.Border.{Known, shared, range, one, others_same, ow
 
 -- ---- victims let go
 
-let_go_most : (f : Victim → ℕ) (b : BufId) (vs : List Victim) → sum_by f (let_go b vs) ≤ sum_by f vs
+pub let_go_most : (f : Victim → ℕ) (b : BufId) (vs : List Victim) → sum_by f (let_go b vs) ≤ sum_by f vs
 let_go_most f b [] = omega arith
 let_go_most f b (v ∷ vs) = by (same_buffer b v.b) (let_go_most f b vs)
   where
@@ -91,7 +91,7 @@ failed_stays b d (v ∷ vs) n h = by (same_buffer b v.b) refl (λ k. failed_stay
         (λ k. or_right (has_failed d v) (list_any (has_failed d) (let_go b vs)) (rest k))
         (or_cases (has_failed d v) (list_any (has_failed d) vs) h)
 
-room_most : (o : Option Victim) → room_for_victims o ≤ 2
+pub room_most : (o : Option Victim) → room_for_victims o ≤ 2
 room_most None = omega arith
 room_most (Some v) = by v.why
   where
@@ -101,7 +101,7 @@ room_most (Some v) = by v.why
     by why.Swap = omega arith
 
 -- with a further buffer skipped no more may be
-skips_most : (c : Course) (b : BufId) (e : ℕ × Decl) → not_skipped (with_skip b (no_longer_caught b c)) e ≤ not_skipped c e
+pub skips_most : (c : Course) (b : BufId) (e : ℕ × Decl) → not_skipped (with_skip b (no_longer_caught b c)) e ≤ not_skipped c e
 skips_most c b e = by (has_buffer c.skips (record { 0 = e.0 }) || list_any (has_failed (record { 0 = e.0 })) c.caught) refl
   where
     low : (q : Bool) → (if q then 0 else e.1.pages) ≤ e.1.pages

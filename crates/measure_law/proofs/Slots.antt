@@ -67,7 +67,7 @@ gone_fewer [] i = tt
 gone_fewer (x ∷ xs) zero = (tt, same_all xs)
 gone_fewer (x ∷ xs) (suc i) = (same_one x, gone_fewer xs i)
 
-slots_from : (k : ℕ) (xs ys : List (Option Buffer)) → Fewer xs ys → (n : ℕ) → has_number (flat_map (λ e. slots_of e.1) (filter_map live_entry (enumerate_from k ys))) n ≡ true →
+pub slots_from : (k : ℕ) (xs ys : List (Option Buffer)) → Fewer xs ys → (n : ℕ) → has_number (flat_map (λ e. slots_of e.1) (filter_map live_entry (enumerate_from k ys))) n ≡ true →
     has_number (flat_map (λ e. slots_of e.1) (filter_map live_entry (enumerate_from k xs))) n ≡ true
 slots_from k [] [] h n q = q
 slots_from k [] (y ∷ ys) h n q = absurd h
@@ -81,7 +81,7 @@ slots_from k (Some x ∷ xs) (Some y ∷ ys) h n q =
     list_any-append (nat_eq n) (slots_of x) _
     ∙ ⊎_elim (λ a. or_left (has_number (slots_of x) n) _ (h.0 n a)) (λ a. or_right (has_number (slots_of x) n) _ (slots_from (k + 1) xs ys h.1 n a)) (or_cases (has_number (slots_of y) n) _ (sym (list_any-append (nat_eq n) (slots_of y) _) ∙ q))
 
-find_more : (p q : ℕ → Bool) (xs : List ℕ) → ((x : ℕ) → p x ≡ true → q x ≡ true) → is_some (find p xs) ≡ true → is_some (find q xs) ≡ true
+pub find_more : (p q : ℕ → Bool) (xs : List ℕ) → ((x : ℕ) → p x ≡ true → q x ≡ true) → is_some (find p xs) ≡ true → is_some (find q xs) ≡ true
 find_more p q [] h k = k
 find_more p q (x ∷ xs) h k = by (p x) (q x) (h x) k (λ z. find_more p q xs h z)
   where
@@ -102,7 +102,7 @@ slot_stays script c c' h k =
 
 -- ---- debts
 
-debt_most : (a b : Bool) (x : Buffer) (v : Victim) → (a ≡ true → b ≡ true) → slot_debt b x v ≤ slot_debt a x v
+pub debt_most : (a b : Bool) (x : Buffer) (v : Victim) → (a ≡ true → b ≡ true) → slot_debt b x v ≤ slot_debt a x v
 debt_most a b x v h = by v.why a b (has_target System x) (has_frame x) h
   where
     by : (w : Why) (a b p q : Bool) → (a ≡ true → b ≡ true) →
@@ -115,7 +115,7 @@ debt_most a b x v h = by v.why a b (has_target System x) (has_frame x) h
     by why.Swap false false p q h = omega arith
     by why.Swap true false p q h = absurd (let z : false ≡ true = h refl in cc)
 
-debts_from : (s s' : State) (a b : Bool) → (a ≡ true → b ≡ true) → (vs : List Victim) → ((v : Victim) → has_buffer (victims_of vs) v.b ≡ true → buffer s' v.b ≡ buffer s v.b) →
+pub debts_from : (s s' : State) (a b : Bool) → (a ≡ true → b ≡ true) → (vs : List Victim) → ((v : Victim) → has_buffer (victims_of vs) v.b ≡ true → buffer s' v.b ≡ buffer s v.b) →
     sum_by (λ v. slot_debt b (buffer s' v.b) v) vs ≤ sum_by (λ v. slot_debt a (buffer s v.b) v) vs
 debts_from s s' a b h [] same = omega arith
 debts_from s s' a b h (v ∷ vs) same =

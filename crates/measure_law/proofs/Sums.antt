@@ -54,7 +54,7 @@ sum_set_most f [] i y = omega arith
 sum_set_most f (x ∷ xs) zero y = omega (arith, sum_by-cons f x xs, sum_by-cons f y xs)
 sum_set_most f (x ∷ xs) (suc i) y = let rest = sum_set_most f xs i y in omega (arith, rest, sum_by-cons f x xs, sum_by-cons f x (slice_set xs i y))
 
-sum_kept : (g : Option Buffer → Option Buffer) → ((o : Option Buffer) → left_of_buffer (g o) ≡ left_of_buffer o) → (xs : List (Option Buffer)) (i : ℕ) →
+pub sum_kept : (g : Option Buffer → Option Buffer) → ((o : Option Buffer) → left_of_buffer (g o) ≡ left_of_buffer o) → (xs : List (Option Buffer)) (i : ℕ) →
     sum_by left_of_buffer (slice_set xs i (g (option_and_then (λ x. x) (slice_get xs i)))) ≡ sum_by left_of_buffer xs
 sum_kept g same [] i = refl
 sum_kept g same (x ∷ xs) zero = let here = same x in omega (arith, here, sum_by-cons left_of_buffer x xs, sum_by-cons left_of_buffer (g x) xs)

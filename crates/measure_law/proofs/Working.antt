@@ -29,15 +29,15 @@ use Rattle.measure_law.proofs.Locks.{count_most}
 
 -- ---- one buffer
 
-times_left : (a c n : ℕ) → a ≤ c → a * n ≤ c * n
+pub times_left : (a c n : ℕ) → a ≤ c → a * n ≤ c * n
 times_left a c zero h = grind arith
 times_left a c (suc n) h = let rest : a * n ≤ c * n = times_left a c n h in grind arith
 
-pick_most : (q : Bool) (m n k : ℕ) → m ≤ k → n ≤ k → (if q then m else n) ≤ k
+pub pick_most : (q : Bool) (m n k : ℕ) → m ≤ k → n ≤ k → (if q then m else n) ≤ k
 pick_most true m n k h l = h
 pick_most false m n k h l = l
 
-carries_most : (x : Buffer) → carries_left x ≤ 3
+pub carries_most : (x : Buffer) → carries_left x ≤ 3
 carries_most x = by x.mem (has_target System x) (has_target Tt x) (has_target Vram x)
   where
     by : (m : Mem) (a b c : Bool) →
@@ -57,7 +57,7 @@ carries_most x = by x.mem (has_target System x) (has_target Tt x) (has_target Vr
     by Vram a true false = pick_most a 2 1 3 (omega arith) (omega arith)
     by Vram a false false = omega arith
 
-steps_most : (script : Script) (cmd : Command) (b : BufId) (x : Buffer) → steps_left script cmd b x ≤ 4
+pub steps_most : (script : Script) (cmd : Command) (b : BufId) (x : Buffer) → steps_left script cmd b x ≤ 4
 steps_most script cmd b x = by (is_in_place script cmd b x) (has_some_target x)
   where
     by : (p q : Bool) → elim p [ true ↦ 0 | false ↦ elim q [ true ↦ carries_left x | false ↦ 4 ] ] ≤ 4
@@ -65,7 +65,7 @@ steps_most script cmd b x = by (is_in_place script cmd b x) (has_some_target x)
     by false true = let c = carries_most x in omega (arith, c)
     by false false = omega arith
 
-slots_most : (cmd : Command) (x : Buffer) → slots_to_fill cmd x ≤ length x.table
+pub slots_most : (cmd : Command) (x : Buffer) → slots_to_fill cmd x ≤ length x.table
 slots_most (command.SwapOut b) x = omega arith
 slots_most (command.New b) x = count_most is_slot x.table
 slots_most (command.Free b) x = count_most is_slot x.table
@@ -78,7 +78,7 @@ slots_most (command.Move b mem) x = count_most is_slot x.table
 slots_most (command.Touch group) x = count_most is_slot x.table
 slots_most (command.Submit engine ops) x = count_most is_slot x.table
 
-named_most : (script : Script) (cmd : Command) (b : BufId) (x : Buffer) → (5 + 6291456 * steps_left script cmd b x) * length x.table + 67108865 * slots_to_fill cmd x ≤ 92274694 * length x.table
+pub named_most : (script : Script) (cmd : Command) (b : BufId) (x : Buffer) → (5 + 6291456 * steps_left script cmd b x) * length x.table + 67108865 * slots_to_fill cmd x ≤ 92274694 * length x.table
 named_most script cmd b x =
     let steps = steps_most script cmd b x in
     let product : (5 + 6291456 * steps_left script cmd b x) * length x.table ≤ 25165829 * length x.table = times_left (5 + 6291456 * steps_left script cmd b x) 25165829 (length x.table) (omega (arith, steps)) in
@@ -89,7 +89,7 @@ digit : (q : Bool) → one_if q ≤ 1
 digit true = omega arith
 digit false = omega arith
 
-give_most : (x : Buffer) → to_give_back x ≤ 2 * length x.table + 3
+pub give_most : (x : Buffer) → to_give_back x ≤ 2 * length x.table + 3
 give_most x =
     let a = digit (has_target System x) in
     let b = digit (has_target Tt x) in

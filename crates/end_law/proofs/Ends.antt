@@ -1,4 +1,4 @@
--- Once each entry lowers the measure, journals end, and so does the simulator.
+-- Each entry lowers the measure, so journals end, and so does the simulator.
 use Rattle.std.proofs.Common.{◌≡◌, ℕ, ◌<◌, ◌≤◌, ◌+◌, ◌*◌, Bool, true, false, List, length, Option, Some, None, Ok, IsTrue, refl, sym, ◌∙◌, ap, subst, arith}
 use Rattle.std.specs.Prelude.{find, sum_by}
 use Rattle.ttm_base.specs.declared.Actor.{Actor}
@@ -15,37 +15,17 @@ use Rattle.journal_model.specs.DeadEnd.{can_step}
 use Rattle.journal_model.specs.Scheduled.{run_of, own_order, scheduled_actors, packets_in, scheduled, turn_limit}
 use Rattle.journal_law.proofs.Counted.{over_law}
 use Rattle.journal_law.proofs.Turns.{run_good}
-use Rattle.state_law.specs.GoodState.{GoodState}
-use Rattle.state_law.proofs.Rules.{rules_of}
-use Rattle.state_law.proofs.GoodStates.{good_keeps, good_first}
-use Rattle.progress_law.specs.Sound.{Sound}
 use Rattle.progress_law.proofs.Measure.{measure}
 use Rattle.progress_law.proofs.JournalEnds.{journal_ends, sim_ends}
-use Rattle.sound_law.proofs.Along.{sound_keeps, sound_first}
 use Rattle.sound_law.proofs.Orders.{goes, rests, none_passes}
 use Rattle.measure_law.proofs.MeasureFirst.{first_below}
+use Rattle.end_law.proofs.Lasting.{Steady, steady_keeps, steady_first, measure_falls}
 
--- what each legal entry keeps
-pub record Steady (script : Script) (s : State) : Type 0 where
-  pub good : GoodState script s
-  pub sound : Sound script s
-
-module _ (script : Script) (fits : IsTrue (is_script script))
-    (falls : (s : State) (who : Actor) (k : Kind) → Steady script s → next script s who ≡ Ok k → measure script (applied script s who k) + 1 ≤ measure script s) where
-  keeps : (s : State) (who : Actor) (k : Kind) → Steady script s → next script s who ≡ Ok k → Steady script (applied script s who k)
-  keeps s who k inv h =
-      record {
-        good = good_keeps script (rules_of script fits) s who k inv.good h;
-        sound = sound_keeps script (rules_of script fits) s who k inv.good inv.sound h;
-      }
-
-  first : Steady script (first_state script)
-  first = record { good = good_first script; sound = sound_first script }
-
+module _ (script : Script) (fits : IsTrue (is_script script)) where
   -- each legal journal is shorter than the limit of turns
   pub journals_end : (journal : List Entry) → IsLegal script journal → length journal < turn_limit script
   journals_end journal h =
-      let most = journal_ends script (Steady script) keeps falls journal first h in
+      let most = journal_ends script (Steady script) (steady_keeps script fits) (measure_falls script fits) journal (steady_first script fits) h in
       let below = first_below script in
       omega (arith, most, below)
 
@@ -55,7 +35,7 @@ module _ (script : Script) (fits : IsTrue (is_script script))
       let below = first_below script in
       let all : 134217728 * (sum_by length script.threads + 17) * (sum_by (λ d. d.pages) script.buffers + 17) + sum_by (sum_by packets_in) script.threads + length (scheduled_actors script) ≡ turn_limit script = omega arith in
       subst (λ n. is_over script (run_of script n).world.state ≡ true) all
-      (sim_ends script (Steady script) keeps falls first (λ s inv over. goes script s inv.sound over)
+      (sim_ends script (Steady script) (steady_keeps script fits) (measure_falls script fits) (steady_first script fits) (λ s inv over. goes script s inv.sound over)
       (λ s inv over. none_passes (can_step script s) (own_order script s) (rests script s inv.sound.owned.courses over))
       (134217728 * (sum_by length script.threads + 17) * (sum_by (λ d. d.pages) script.buffers + 17) + sum_by (sum_by packets_in) script.threads) (omega (arith, below)))
 

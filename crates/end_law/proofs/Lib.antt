@@ -1,0 +1,3 @@
+mod Workers
+mod Lasting
+mod Ends

@@ -1,0 +1,2 @@
+//! A choice of pages lies in the place that it was made for.
+#![tactic(auto)]

@@ -1,0 +1,4 @@
+pub mod WaySteps
+pub mod VictimsKeep
+pub mod Listed
+pub mod DryPlaces

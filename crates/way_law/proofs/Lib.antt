@@ -1,0 +1,6 @@
+pub mod Spanless
+pub mod TakenRows
+pub mod OnWays
+pub mod Keeps
+pub mod Targets
+pub mod Falling
