@@ -1,0 +1,4 @@
+pub mod Buffers
+pub mod Choices
+pub mod Commands
+pub mod Loads

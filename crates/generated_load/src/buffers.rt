@@ -1,0 +1,99 @@
+ghost use Rattle.std.specs.Prelude.{◌≡◌, ◌<◌, ◌≤◌, IfOk};
+ghost use Rattle.journal_model.specs.Commands.{whole};
+ghost use Rattle.generated_load.specs.Buffers.{AreLoadBuffers, IsLoadBuffer, load_name, load_placement};
+
+use crate::draws::Draws;
+use journal_model::{Decl, Decls, Name};
+use std::alloc::Global;
+use ttm_base::{FlaggedPlace, FlaggedPlaces, Mem, NoMemory, Place, Placement};
+
+/// The letter b and the buffer's number.
+fn name(alloc: Global, number: u32) -> Result<Name, NoMemory>
+    requires { number < 24 }
+    ensures { IfOk result (λ name. name ≡ load_name number) }
+{
+    let mut name = Name::new(alloc);
+    name.push(b'b')?;
+    if number >= 10 {
+        name.push(b'0' + (number / 10) as u8)?;
+    }
+    name.push(b'0' + (number % 10) as u8)?;
+    Ok(name)
+}
+
+/// Buffers of 4 to 16 pages: each thread has one of each size in turn.
+fn pages(number: u32) -> u32
+    ensures { (4 ≤ result) × (result ≤ 16) }
+{
+    match number / 3 {
+        0 | 1 => 4,
+        2..=4 => 8,
+        5 | 6 => 12,
+        _ => 16,
+    }
+}
+
+/// All of a memory type.
+fn whole(mem: Mem) -> Place
+    ensures { result ≡ whole mem }
+{
+    Place {
+        mem,
+        first: 0,
+        last: 0,
+        topdown: false,
+        contig: false,
+    }
+}
+
+/// VRAM is preferred, and under pressure VRAM and TT are tried.
+fn placement(alloc: Global) -> Result<Placement, NoMemory>
+    ensures { IfOk result (λ placement. placement ≡ load_placement) }
+{
+    let mut list = FlaggedPlaces::new(alloc);
+    list.push(FlaggedPlace {
+        place: whole(Mem::Vram),
+        desired: true,
+        fallback: false,
+    })?;
+    list.push(FlaggedPlace {
+        place: whole(Mem::Vram),
+        desired: false,
+        fallback: true,
+    })?;
+    list.push(FlaggedPlace {
+        place: whole(Mem::Tt),
+        desired: false,
+        fallback: true,
+    })?;
+    Ok(Placement { list })
+}
+
+/// A buffer. The members of a group are the buffers of a thread.
+#[tactic(auto, using(crate::proofs::BufferLaws::decl_fits))]
+fn buffer(alloc: Global, number: u32, prio: u32) -> Result<Decl, NoMemory>
+    requires number { number < 24 }
+    requires prio { prio < 4 }
+    ensures { IfOk result (IsLoadBuffer number) }
+{
+    Ok(Decl {
+        name: name(alloc, number)?,
+        pages: pages(number),
+        prio,
+        group: Some(number % 3),
+        align: 1,
+        placement: placement(alloc)?,
+    })
+}
+
+/// The buffers, whose priorities are drawn in their order.
+pub fn draw_buffers(alloc: Global, draws: &mut Draws) -> Result<Decls, NoMemory>
+    ensures { IfOk result (AreLoadBuffers 24) }
+{
+    let mut buffers = Decls::new(alloc);
+    for number in 0..24 {
+        let prio = draws.draw(4);
+        buffers.push(buffer(alloc, number, prio)?)?;
+    }
+    Ok(buffers)
+}

@@ -1,0 +1,83 @@
+ghost use Rattle.std.specs.Prelude.{◌≡◌, ◌≢◌, ◌+◌, ◌*◌, ◌<◌};
+ghost use Rattle.generated_load.specs.Choices.{IsChoice};
+
+use crate::draws::Draws;
+use ttm_base::BufId;
+
+/// The kinds of commands that are drawn.
+#[derive(Clone, Copy, Debug, PartialEq, Eq)]
+pub enum ChoiceKind {
+    Write,
+    Read,
+    Copy,
+    Xor,
+    /// A job that fills a range and shows it.
+    Fill,
+    Find,
+    SwapOut,
+    Touch,
+}
+
+/// What is drawn for a command of a thread: two of its buffers, an offset and a byte, and an engine.
+#[derive(Clone, Copy, Debug, PartialEq, Eq)]
+pub struct Choice {
+    pub kind: ChoiceKind,
+    pub x: BufId,
+    pub y: BufId,
+    pub off: u32,
+    pub byte: u8,
+    pub engine: u32,
+}
+
+fn kind_of(number: u32) -> ChoiceKind {
+    match number {
+        0 => ChoiceKind::Write,
+        1 => ChoiceKind::Read,
+        2 => ChoiceKind::Copy,
+        3 => ChoiceKind::Xor,
+        4 => ChoiceKind::Fill,
+        5 => ChoiceKind::Find,
+        6 => ChoiceKind::SwapOut,
+        _ => ChoiceKind::Touch,
+    }
+}
+
+/// A buffer of a thread: the threads' buffers stand in turn.
+pub fn own_buffer(thread: u32, number: u32) -> BufId
+    requires thread { thread < 3 }
+    requires number { number < 8 }
+    ensures { result.0 ≡ 3 * number + thread }
+{
+    BufId(3 * number + thread)
+}
+
+/// The buffer so many behind another one, counted in a ring of eight.
+fn behind(number: u32, distance: u32) -> u32
+    requires number { number < 8 }
+    requires distance { distance < 7 }
+    ensures below { result < 8 }
+    ensures other { result ≢ number }
+{
+    (number + 1 + distance) % 8
+}
+
+/// Draws the numbers for a command.
+pub fn choose(draws: &mut Draws, thread: u32) -> Choice
+    requires { thread < 3 }
+    ensures { IsChoice result }
+{
+    let kind = kind_of(draws.draw(8));
+    let number = draws.draw(8);
+    let other = behind(number, draws.draw(7));
+    let off = 16 * draws.draw(1024);
+    let byte = draws.draw(256) as u8;
+    let engine = draws.draw(2) + 1;
+    Choice {
+        kind,
+        x: own_buffer(thread, number),
+        y: own_buffer(thread, other),
+        off,
+        byte,
+        engine,
+    }
+}
