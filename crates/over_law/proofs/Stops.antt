@@ -52,7 +52,7 @@ all_counted test (suc n) start t h low high =
     ]
 
 -- a thread that isn't there has no commands
-no_commands : (script : Script) (t : ℕ) → slice_get script.threads t ≡ None → commands_of script (suc t) ≡ []
+pub no_commands : (script : Script) (t : ℕ) → slice_get script.threads t ≡ None → commands_of script (suc t) ≡ []
 no_commands script t h =
     let behind : suc t - 1 ≡ t = omega arith in
     let none : slice_get script.threads (suc t - 1) ≡ None = ap (slice_get script.threads) behind ∙ h in
@@ -99,7 +99,7 @@ record Over (script : Script) (s : State) : Type 0 where
   finished : list_all (λ j. j.finished) s.core.jobs ≡ true
   ghosts : (length s.core.ghosts == 0) ≡ true
 
-three : (a b c : Bool) → (a && b && c) ≡ true → (a ≡ true) × (b ≡ true) × (c ≡ true)
+pub three : (a b c : Bool) → (a && b && c) ≡ true → (a ≡ true) × (b ≡ true) × (c ≡ true)
 three true true true h = (refl, refl, refl)
 three true true false h = cc
 three true false c h = cc
