@@ -39,7 +39,7 @@ module _ (script : Script) (s : State) (t : ℕ) (k : Kind) (known : Known scrip
   -- what the own thread, its debts, the buffers, the jobs and the ghosts cost
   pub exact_falls : Fewer s.core.buffers (applied script s (actor.Thread t) k).core.buffers → locks_left script (applied script s (actor.Thread t) k) ≤ locks_left script s
       → left_of script (applied script s (actor.Thread t) k) t (next_course script s t k) + slot_debts script (applied script s (actor.Thread t) k) t + shared (applied script s (actor.Thread t) k) + 1
-        ≤ left_of script s t (course s t) + slot_debts script s t + shared s
+      ≤ left_of script s t (course s t) + slot_debts script s t + shared s
       → measure script (applied script s (actor.Thread t) k) + 1 ≤ measure script s
   exact_falls fewer locks less = parts_fall script s t k known st fewer (omega (arith, locks, less))
 

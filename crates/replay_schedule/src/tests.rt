@@ -77,6 +77,7 @@ fn engines_go_before_threads_and_elders_before_others(rt: HostRuntime) -> Result
     let alloc = rt.alloc();
     let script = script_of(alloc)?;
     let mut state = state_of(alloc)?;
+    assert!(rt; has_room(&script, &state));
     let order = own_order(alloc, &script, &state)?;
     let want = [
         Actor::Reaper,
@@ -87,7 +88,6 @@ fn engines_go_before_threads_and_elders_before_others(rt: HostRuntime) -> Result
         Actor::Thread(1),
     ];
     assert_eq!(rt; order.items(), want.as_slice());
-    assert!(rt; has_room(&script, &state));
     assert_eq!(rt; next_actor(alloc, &script, &state)?, Some(Actor::Engine(1)));
     assert!(rt; !is_over(&script, &state));
     state.core.jobs.finish(JobId { ctx: 1, num: 1 });

@@ -178,9 +178,9 @@ module _ (script : Script) (s : State) (t : ℕ) (cmd : Command) (here : IsSome 
           (record {
             works = works_alike (course s t) c cmd l works;
             first =
-            find_stays (λ y. not (is_ready script s cmd y)) (λ y. not (is_ready script (after script s t k) cmd y)) (named cmd) b u
-            (ap (λ z. not ((not z && meets script cmd b (buffer (after script s t k) b)) && is_filled cmd (buffer (after script s t k) b))) target)
-            (λ y n. ap (λ z. not (is_in_place script cmd y z && is_filled cmd z)) (others y (other_is b y (λ q. n (sym q)))));
+                find_stays (λ y. not (is_ready script s cmd y)) (λ y. not (is_ready script (after script s t k) cmd y)) (named cmd) b u
+                (ap (λ z. not ((not z && meets script cmd b (buffer (after script s t k) b)) && is_filled cmd (buffer (after script s t k) b))) target)
+                (λ y n. ap (λ z. not (is_in_place script cmd y z && is_filled cmd z)) (others y (other_is b y (λ q. n (sym q)))));
             asked = g.0;
             loose = g.1;
             row = g.2;
@@ -250,8 +250,11 @@ module _ (script : Script) (s : State) (t : ℕ) (cmd : Command) (here : IsSome 
   own_asked b place mem spans on none w m ch =
       own_first (kind.Take b mem spans) (search_over b (course s t)) b (search_lock b (course s t)) on.on.named.works on.on.first
       (λ d h. same_live (kind.Take b mem spans) d (untouched script s t (kind.Take b mem spans) d h))
-      (λ some. (asks_of script b (buffer s b) cmd on.misplaced none, no_pins (grip s b).pins on.loose,
-      subst (λ z. Carried (Fits script (search_over b (course s t)) cmd b z) z) (sym (taken_here b mem spans live)) (meet_fits script cmd b (search_over b (course s t)) (taken s mem spans (buffer s b)) row)))
+      (λ some. (
+        asks_of script b (buffer s b) cmd on.misplaced none,
+        no_pins (grip s b).pins on.loose,
+        subst (λ z. Carried (Fits script (search_over b (course s t)) cmd b z) z) (sym (taken_here b mem spans live)) (meet_fits script cmd b (search_over b (course s t)) (taken s mem spans (buffer s b)) row),
+      ))
     where
       live : live_in s.core.buffers b ≡ Some (buffer s b)
       live = first_live b on.on.named.works on.on.first

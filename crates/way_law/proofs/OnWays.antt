@@ -211,14 +211,14 @@ on_way_kept script s s' c c' cmd b lock fails same pins w =
     record {
       works = works_alike c c' cmd lock w.works;
       first =
-      find_same (λ d. not (is_ready script s cmd d)) (λ d. not (is_ready script s' cmd d)) (named cmd)
-      (λ d h. ap (λ x. not (is_in_place script cmd d x && is_filled cmd x)) (same d h))
-      ∙ w.first;
+          find_same (λ d. not (is_ready script s cmd d)) (λ d. not (is_ready script s' cmd d)) (named cmd)
+          (λ d h. ap (λ x. not (is_in_place script cmd d x && is_filled cmd x)) (same d h))
+          ∙ w.first;
       asked = w.asked;
       loose = pins ∙ w.loose;
       row =
-      subst (λ x. Carried (Fits script c' cmd b x) x) (sym (same b (has_found (λ d. not (is_ready script s cmd d)) (named cmd) b w.first)))
-      (carried_map (Fits script c cmd b (buffer s b)) (Fits script c' cmd b (buffer s b)) (buffer s b) (λ m h. λ f. h (fails f)) w.row);
+          subst (λ x. Carried (Fits script c' cmd b x) x) (sym (same b (has_found (λ d. not (is_ready script s cmd d)) (named cmd) b w.first)))
+          (carried_map (Fits script c cmd b (buffer s b)) (Fits script c' cmd b (buffer s b)) (buffer s b) (λ m h. λ f. h (fails f)) w.row);
     }
 
 -- ---- what other threads hold

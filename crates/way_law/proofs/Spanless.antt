@@ -77,7 +77,6 @@ bare_leaves Vram x h = h
 bare_taken : (s : State) (mem : Mem) (spans : List Span) (x : Buffer) → IsBare x → IsBare (taken s mem spans x)
 bare_taken s mem spans x h = λ m. (taken_body s mem spans x).spans ∙ h (sym (taken_body s mem spans x).mem ∙ m)
 
-
 -- ---- entries
 
 bare_after : (script : Script) (s : State) (who : Actor) (k : Kind) → ((b : BufId) (mem : Mem) (n : ℕ) (l : Left) → k ≡ kind.Move b mem n l → mem ≡ System → ⊥) → AreBare s.core.buffers → AreBare (applied script s who k).core.buffers
