@@ -96,7 +96,7 @@ spared_but script f c b x is once v g i own p = by (aperture c p) refl
 
 -- ---- an idle buffer
 
-among_all : (p : JobId → Bool) (q : Fence → Bool) (fs : List Fence) → list_any p (map (λ f. f.job) (filter q fs)) ≡ true → list_any p (map (λ f. f.job) fs) ≡ true
+pub among_all : (p : JobId → Bool) (q : Fence → Bool) (fs : List Fence) → list_any p (map (λ f. f.job) (filter q fs)) ≡ true → list_any p (map (λ f. f.job) fs) ≡ true
 among_all p q [] h = h
 among_all p q (f ∷ fs) h = by (q f) (p f.job) refl (among_all p q fs) h
   where

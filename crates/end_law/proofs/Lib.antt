@@ -1,3 +1,3 @@
 mod Workers
-mod Lasting
-mod Ends
+pub mod Lasting
+pub mod Ends

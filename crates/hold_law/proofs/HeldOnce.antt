@@ -149,7 +149,7 @@ ghost_weighs g (Slot k) h = cc
 ghost_weighs g Nowhere h = cc
 ghost_weighs g (Own b i) h = cc
 
-hold_weighs : (c : Core) (x : Page) (o : Owner) (h : Holds c x o) → (x ≡ Nowhere → ⊥) → 1 ≤ spot_weight c x (spot_of c x o h)
+pub hold_weighs : (c : Core) (x : Page) (o : Owner) (h : Holds c x o) → (x ≡ Nowhere → ⊥) → 1 ≤ spot_weight c x (spot_of c x o h)
 hold_weighs c x Idle h ne = absurd h
 hold_weighs c x Free h ne = absurd h
 hold_weighs c x (Live b k) h ne = live_weighs (buffer_at c b) k x h ne
@@ -177,7 +177,7 @@ module _ (script : Script) (c : Core) (once : AreHeldOnce script c) (x : Page) w
   buffers_few : summed (weigh (of_buffer (room_of x) (number_of x))) c.buffers + summed (of_ghost (room_of x) (number_of x)) c.ghosts ≤ 1
   buffers_few = few
 
-  of_one : (b : ℕ) → of_buffer (room_of x) (number_of x) (buffer_at c b) ≤ summed (weigh (of_buffer (room_of x) (number_of x))) c.buffers
+  pub of_one : (b : ℕ) → of_buffer (room_of x) (number_of x) (buffer_at c b) ≤ summed (weigh (of_buffer (room_of x) (number_of x))) c.buffers
   of_one b = let e = buffer_weight c (of_buffer (room_of x) (number_of x)) b (new_weighs_none (room_of x) (number_of x) 0) in let s = in_sum (of_buffer (room_of x) (number_of x)) c.buffers b in omega (arith, e, s)
 
   of_two : (b d : ℕ) → (b ≡ d → ⊥) → of_buffer (room_of x) (number_of x) (buffer_at c b) + of_buffer (room_of x) (number_of x) (buffer_at c d) ≤ summed (weigh (of_buffer (room_of x) (number_of x))) c.buffers
@@ -187,7 +187,7 @@ module _ (script : Script) (c : Core) (once : AreHeldOnce script c) (x : Page) w
       let s = two_in_sum (of_buffer (room_of x) (number_of x)) c.buffers b d ne in
       omega (arith, e, f, s)
 
-  of_ghost_one : (i : ℕ) → weigh (of_ghost (room_of x) (number_of x)) (slice_get c.ghosts i) ≤ summed (of_ghost (room_of x) (number_of x)) c.ghosts
+  pub of_ghost_one : (i : ℕ) → weigh (of_ghost (room_of x) (number_of x)) (slice_get c.ghosts i) ≤ summed (of_ghost (room_of x) (number_of x)) c.ghosts
   of_ghost_one i = by (slice_get c.ghosts i) refl
     where
       by : (o : Option ghosts.Ghost) → slice_get c.ghosts i ≡ o → weigh (of_ghost (room_of x) (number_of x)) o ≤ summed (of_ghost (room_of x) (number_of x)) c.ghosts

@@ -1,0 +1,4 @@
+pub mod Named
+pub mod Fences
+pub mod Arms
+pub mod Writes

@@ -1,0 +1,3 @@
+pub mod Viewed
+pub mod MoreJobs
+pub mod Moving

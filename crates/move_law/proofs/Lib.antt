@@ -1,0 +1,4 @@
+pub mod Tables
+pub mod Ups
+pub mod Acrosses
+pub mod Downs

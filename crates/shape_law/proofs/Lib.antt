@@ -1,0 +1,3 @@
+pub mod ChoicePages
+pub mod Shapes
+pub mod Numbers
