@@ -3,7 +3,6 @@ use Rattle.std.specs.Prelude.{◌≡◌, true, Option, Some, None}
 use Rattle.journal_model.specs.declared.script.Script.{Script}
 use Rattle.journal_model.specs.Legal.{IsLegal}
 use Rattle.journal_model.specs.Complete.{is_complete}
-use Rattle.owner_law.specs.Throughout.{HoldThroughout}
 use Rattle.device_core.specs.Kept.{Kept}
 use Rattle.simulator.specs.declared.outcome.Outcome.{Outcome}
 use Rattle.simulator.specs.declared.outcome.Outcome.TheVariants as outcome
@@ -15,12 +14,11 @@ use Rattle.simulator.specs.declared.outcome.Status.{Status}
 use Rattle.launcher.specs.declared.launch.Launch.{Launch}
 use Rattle.launcher.specs.declared.launch.Launch.TheVariants as launch
 
--- a legal, complete journal of the script, with accounts that hold in each state on the way
+-- a legal, complete journal of the script
 pub record IsThreaded (script : Script) (k : Kept) : Type 0 where
   pub of : k.script ≡ script
   pub legal : IsLegal script k.journal
   pub complete : is_complete script k.journal ≡ true
-  pub accounts : HoldThroughout script k.journal
 
 -- the source gave this script, which was run
 pub record HasThreaded (source : Edge) (k : Kept) : Type 0 where

@@ -1,3 +1,4 @@
 pub mod InputLaws
 pub mod EndLaws
 pub mod ReportLaws
+pub mod RunLaws

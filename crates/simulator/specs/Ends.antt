@@ -1,13 +1,14 @@
 -- What the program promises of a run, for all words, sources and sinks.
-use Rattle.std.specs.Prelude.{◌≡◌, ℕ, Option, None, Some, min, unwrap_or}
+use Rattle.std.specs.Prelude.{◌≡◌, ℕ, true, Option, None, Some, min, unwrap_or}
 use Rattle.journal_model.specs.declared.script.Script.{Script}
 use Rattle.journal_model.specs.Legal.{IsLegal}
+use Rattle.journal_model.specs.Complete.{is_complete}
 use Rattle.journal_model.specs.Scheduled.{scheduled, turn_limit}
 use Rattle.command_words.specs.declared.Form.{Form}
 use Rattle.command_words.specs.declared.Form.TheVariants as form
 use Rattle.device_core.specs.Kept.{Kept}
-use Rattle.owner_law.specs.Throughout.{HoldThroughout}
 use Rattle.sim_drive.specs.Ends.{EndsAfter}
+use Rattle.legal_law.specs.KeepsLaws.{KeepsLaws}
 use Rattle.simulator.specs.declared.outcome.Status.{Status}
 use Rattle.simulator.specs.declared.outcome.Status.TheVariants as status
 use Rattle.simulator.specs.declared.outcome.Outcome.{Outcome}
@@ -21,13 +22,11 @@ abbrev pub allowed : Option ℕ → Script → ℕ
 allowed turns script = unwrap_or turns (min (turn_limit script) 18446744073709551615)
 
 -- The journal is that of the stated interleaving after so many turns: it is legal, and the turns are the least number that
--- makes it complete, or all that are allowed. In each state on the way no page, frame or slot is held twice, and live, target,
--- ghost and free ones make each size.
+-- makes it complete, or all that are allowed.
 pub record IsRunOf (script : Script) (turns : Option ℕ) (k : Kept) (taken : ℕ) : Type 0 where
   pub run : k ≡ record { script = script; journal = scheduled script taken }
   pub legal : IsLegal script (scheduled script taken)
   pub ends : EndsAfter script (allowed turns script) taken
-  pub accounts : HoldThroughout script (scheduled script taken)
 
 -- a run of the script came out
 abbrev pub ComesRun : Script → Option ℕ → Outcome → Type 0
@@ -64,6 +63,21 @@ pub data EndsWith (comes : Outcome → Type 0) (source sink : Edge) : Status →
   cut : (o : Outcome) → comes o → IsCut sink (text_of o) → EndsWith comes source sink status.NoMemory
   nothing : IsFaultless source → IsUntouched sink → EndsWith comes source sink status.NoMemory
 
--- how the simulator ends
-abbrev pub Ends : Option Form → Edge → Edge → Status → Type 0
-Ends asked source sink s = EndsWith (Comes asked source) source sink s
+-- what holds of the journal of every run: it keeps the laws, and where no number of turns was asked for it is complete
+pub record IsWellRun (asked : Option Form) (k : Kept) : Type 0 where
+  pub laws : KeepsLaws k.script k.journal
+  pub complete : asked ≡ Some (form.Sim None) → is_complete k.script k.journal ≡ true
+
+-- the same of every outcome
+abbrev pub IsWell : Option Form → Outcome → Type 0
+IsWell asked (outcome.Ran k taken) = IsWellRun asked k
+IsWell asked o = Unit {0}
+
+-- what is asked and the source come to, with what holds of it
+abbrev pub ComesWell : Option Form → Edge → Outcome → Type 0
+ComesWell asked source o = Comes asked source o × IsWell asked o
+
+-- how the simulator ends; never unfinished where no number of turns was asked for
+pub record Ends (asked : Option Form) (source sink : Edge) (s : Status) : Type 0 where
+  pub ends : EndsWith (ComesWell asked source) source sink s
+  pub finishes : asked ≡ Some (form.Sim None) → s ≡ status.Unfinished → ⊥

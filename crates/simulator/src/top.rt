@@ -19,7 +19,6 @@ use std::alloc::Global;
 use ttm_base::NoMemory;
 
 /// Runs a script for the turns that were asked for, or up to its limit.
-#[tactic(auto, using(owner_law::proofs::Fronts::throughout_law))]
 fn run_script(alloc: Global, turns: Option<u64>, script: Script) -> Result<Outcome, NoMemory>
     requires fits { IsTrue (is_script script) }
     requires plain { script.marks ≡ [] }

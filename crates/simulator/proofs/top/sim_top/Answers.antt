@@ -2,9 +2,10 @@ use Rattle.std.proofs.Common.{refl, sym, ◌∙◌, ap, subst}
 use Rattle.command_words.specs.Forms.{form_of}
 use Rattle.simulator.specs.declared.outcome.Status.{Status}
 use Rattle.simulator.specs.Edges.{Edge}
-use Rattle.simulator.specs.Ends.{Comes, Ends, nothing}
+use Rattle.simulator.specs.Ends.{ComesWell, Ends, nothing}
 use Rattle.simulator.specs.Plain.{status_after}
 use Rattle.simulator.proofs.EndLaws.{ends_after}
+use Rattle.simulator.proofs.RunLaws.{well, ends_well}
 use Rattle.simulator.proofs.top.sim_top.Goals as goal
 
 pub returns-in-Ok : goal.returns-in-Ok
@@ -13,7 +14,9 @@ returns-in-Ok g c =
     let sink : Edge = record { before = g.K.Sink.written c.args.sink.now; after = g.K.Sink.written c.write_outcome.new.sink; faults_before = g.K.Sink.faults c.args.sink.now; faults_after = g.K.Sink.faults c.write_outcome.new.sink } in
     subst (λ (s : Status). Ends (form_of c.args.words.now) source sink s)
     (sym (c.status_after.ensures ∙ ap (λ s. status_after s c.write_outcome.result) c.status-status.ensures))
-    (ends_after (Comes (form_of c.args.words.now) source) source sink _ c.write_outcome.result c.in-Ok.ensures.comes c.write_outcome.ensures.text c.write_outcome.ensures.faults)
+    (ends_well (form_of c.args.words.now) source sink _
+    (ends_after (ComesWell (form_of c.args.words.now) source) source sink _ c.write_outcome.result
+    (c.in-Ok.ensures.comes, well (form_of c.args.words.now) source _ c.in-Ok.ensures.comes) c.write_outcome.ensures.text c.write_outcome.ensures.faults))
 
 pub returns-in-Err : goal.returns-in-Err
-returns-in-Err g c = nothing c.in-Err.ensures.faults (record { same = refl; faultless = refl })
+returns-in-Err g c = ends_well _ _ _ _ (nothing c.in-Err.ensures.faults (record { same = refl; faultless = refl }))

@@ -1,0 +1,69 @@
+-- What holds of the journals that runs make, and that a run without a number of turns comes to its end.
+use Rattle.std.proofs.Common.{◌≡◌, ℕ, ◌<◌, List, true, Option, Some, None, sym, ap, ◌∙◌, subst, arith, ⊎_elim}
+use Rattle.std.specs.Prelude.{if◌then◌else◌}
+use Rattle.journal_model.specs.declared.script.Script.{Script}
+use Rattle.journal_model.specs.ScriptRules.{IsScript}
+use Rattle.journal_model.specs.Complete.{is_complete}
+use Rattle.journal_model.specs.Scheduled.{scheduled, turn_limit}
+use Rattle.command_words.specs.declared.Form.{Form}
+use Rattle.command_words.specs.declared.Form.TheVariants as form
+use Rattle.device_core.specs.Kept.{Kept}
+use Rattle.sim_drive.specs.Ends.{EndsAfter}
+use Rattle.legal_law.proofs.All.{keeps_laws}
+use Rattle.end_law.proofs.Ends.{schedule_completes}
+use Rattle.limit_law.proofs.Limits.{limit_fits}
+use Rattle.simulator.specs.declared.outcome.Outcome.{Outcome}
+use Rattle.simulator.specs.declared.outcome.Outcome.TheVariants as outcome
+use Rattle.simulator.specs.declared.outcome.Status.{Status}
+use Rattle.simulator.specs.declared.outcome.Status.TheVariants as status
+use Rattle.simulator.specs.Edges.{Edge}
+use Rattle.simulator.specs.Outcomes.{status_of}
+use Rattle.simulator.specs.Ends.{Comes, ComesWell, HasRun, IsWell, IsWellRun, allowed, EndsWith, told, broken, cut, nothing, Ends}
+
+-- within the limit of turns the journal is complete
+finished : (bytes : List ℕ) (script : Script) (n : ℕ) → IsScript bytes script → EndsAfter script (allowed None script) n → is_complete script (scheduled script n) ≡ true
+finished bytes script n is e =
+    let few : turn_limit script < 18446744073709551616 = limit_fits bytes script is in
+    let most : allowed None script ≡ turn_limit script = grind (arith, few) in
+    ⊎_elim (λ c. c) (λ at. subst (λ m. is_complete script (scheduled script m) ≡ true) (sym (at ∙ most)) (schedule_completes script is.fits)) e.ends
+
+well_run : (turns : Option ℕ) (source : Edge) (k : Kept) (taken : ℕ) → HasRun source turns k taken → IsWellRun (Some (form.Sim turns)) k
+well_run turns source k taken h =
+    subst (λ (j : Kept). IsWellRun (Some (form.Sim turns)) j) (sym h.ran.run)
+    (record {
+      laws = keeps_laws h.script (scheduled h.script taken) h.gave.spelled.is.fits h.ran.legal;
+      complete = λ asked.
+          let none : turns ≡ None = cc in
+          finished h.gave.bytes h.script taken h.gave.spelled.is (subst (λ u. EndsAfter h.script (allowed u h.script) taken) none h.ran.ends);
+    })
+
+-- what comes out is as it should be
+pub well : (asked : Option Form) (source : Edge) (o : Outcome) → Comes asked source o → IsWell asked o
+well asked source outcome.Usage h = tt
+well asked source outcome.Help h = tt
+well asked source outcome.Version h = tt
+well asked source outcome.ReadFault h = tt
+well asked source (outcome.BadScript n rule) h = tt
+well None source (outcome.Ran k taken) (e, u) = cc
+well (Some form.Help) source (outcome.Ran k taken) (e, u) = cc
+well (Some form.Version) source (outcome.Ran k taken) (e, u) = cc
+well (Some (form.Sim turns)) source (outcome.Ran k taken) h = well_run turns source k taken h
+
+run_finishes : (asked : Option Form) (o : Outcome) → IsWell asked o → asked ≡ Some (form.Sim None) → status_of o ≡ status.Unfinished → ⊥
+run_finishes asked outcome.Usage w a e = cc
+run_finishes asked outcome.Help w a e = cc
+run_finishes asked outcome.Version w a e = cc
+run_finishes asked outcome.ReadFault w a e = cc
+run_finishes asked (outcome.BadScript n rule) w a e = cc
+run_finishes asked (outcome.Ran k taken) w a e =
+    let done : status.Done ≡ status.Unfinished = sym (ap (λ b. if b then status.Done else status.Unfinished) (w.complete a)) ∙ e in
+    cc
+
+finishes : (asked : Option Form) (source sink : Edge) (s : Status) → EndsWith (ComesWell asked source) source sink s → asked ≡ Some (form.Sim None) → s ≡ status.Unfinished → ⊥
+finishes asked source sink _ (told o (came, w) text) a e = run_finishes asked o w a e
+finishes asked source sink _ (broken o (came, w) text) a e = cc
+finishes asked source sink _ (cut o (came, w) text) a e = cc
+finishes asked source sink _ (nothing faultless same) a e = cc
+
+pub ends_well : (asked : Option Form) (source sink : Edge) (s : Status) → EndsWith (ComesWell asked source) source sink s → Ends asked source sink s
+ends_well asked source sink s e = record { ends = e; finishes = finishes asked source sink s e }
