@@ -1,1 +1,2 @@
 pub mod ThreadLaws
+pub mod CountLaws

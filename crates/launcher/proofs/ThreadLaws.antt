@@ -16,7 +16,7 @@ use Rattle.device_core.specs.Kept.{Kept}
 use Rattle.turn_lock.proofs.Prefixes.{prefix_trans}
 use Rattle.over_law.proofs.Stops.{last}
 use Rattle.launcher.specs.Actors.{all_actors}
-use Rattle.launcher.specs.Threaded.{IsThreaded}
+use Rattle.launcher.specs.Ran.{IsThreaded}
 
 -- ---- how many actors
 

@@ -1,3 +1,5 @@
 pub mod Launches
 pub mod Actors
+pub mod Ran
+pub mod Counted
 pub mod Threaded

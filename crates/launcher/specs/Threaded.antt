@@ -1,24 +1,18 @@
 -- What comes out of a run on threads.
-use Rattle.std.specs.Prelude.{◌≡◌, true, Option, Some, None}
+use Rattle.std.specs.Prelude.{Option, Some, None}
 use Rattle.journal_model.specs.declared.script.Script.{Script}
-use Rattle.journal_model.specs.Legal.{IsLegal}
-use Rattle.journal_model.specs.Complete.{is_complete}
 use Rattle.device_core.specs.Kept.{Kept}
 use Rattle.simulator.specs.declared.outcome.Outcome.{Outcome}
 use Rattle.simulator.specs.declared.outcome.Outcome.TheVariants as outcome
-use Rattle.simulator.specs.Edges.{Edge, WasCutOff}
+use Rattle.simulator.specs.Edges.{Edge, IsUntouched, WasCutOff}
 use Rattle.simulator.specs.Inputs.{GaveScript, GaveFault}
 use Rattle.simulator.specs.Ends.{Comes, EndsWith, Ends}
 use Rattle.command_words.specs.declared.Form.{Form}
 use Rattle.simulator.specs.declared.outcome.Status.{Status}
 use Rattle.launcher.specs.declared.launch.Launch.{Launch}
 use Rattle.launcher.specs.declared.launch.Launch.TheVariants as launch
-
--- a legal, complete journal of the script
-pub record IsThreaded (script : Script) (k : Kept) : Type 0 where
-  pub of : k.script ≡ script
-  pub legal : IsLegal script k.journal
-  pub complete : is_complete script k.journal ≡ true
+use Rattle.launcher.specs.Counted.{EndsCounted}
+use Rattle.launcher.specs.Ran.{IsThreaded}
 
 -- the source gave this script, which was run
 pub record HasThreaded (source : Edge) (k : Kept) : Type 0 where
@@ -38,4 +32,5 @@ ComesThreaded source outcome.Version = ⊥
 -- how the program ends: on threads where the words ask for them, and else as the simulator
 abbrev pub Launched : Option Launch → Option Form → Edge → Edge → Status → Type 0
 Launched (Some launch.Run) asked source sink s = EndsWith (ComesThreaded source) source sink s
+Launched (Some (launch.Gen n)) asked source sink s = IsUntouched source × EndsCounted n sink s
 Launched None asked source sink s = Ends asked source sink s

@@ -1,6 +1,6 @@
 ghost use Rattle.std.specs.Prelude.{◌≡◌, IfOk, IsTrue, true};
 ghost use Rattle.journal_model.specs.ScriptRules.{is_script};
-ghost use Rattle.launcher.specs.Threaded.{IsThreaded};
+ghost use Rattle.launcher.specs.Ran.{IsThreaded};
 
 use crate::actors::actors_of;
 use device_core::Device;

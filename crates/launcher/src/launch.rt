@@ -1,7 +1,7 @@
 ghost use Rattle.std.specs.Prelude.{◌≡◌};
 ghost use Rattle.launcher.specs.Launches.{launch_of};
 
-use command_words::Words;
+use command_words::{Words, plain_number};
 use script_words::words::is;
 
 /// What the words ask of threads.
@@ -9,6 +9,8 @@ use script_words::words::is;
 pub enum Launch {
     /// Run a script, one worker for each actor.
     Run,
+    /// Draw a script from the number, and run it.
+    Gen(u64),
 }
 
 /// What the words ask of threads, if they do.
@@ -17,6 +19,9 @@ pub fn read_launch(words: &Words) -> Option<Launch>
 {
     match words.items() {
         [word] if is(word.items(), b"run") => Some(Launch::Run),
+        [word, number] if is(word.items(), b"gen") => {
+            plain_number(number.items()).map(Launch::Gen)
+        }
         _ => None,
     }
 }

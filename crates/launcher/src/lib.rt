@@ -2,11 +2,13 @@
 #![tactic(auto)]
 
 mod actors;
+mod counts;
 mod crowd;
 mod launch;
 mod top;
 
 pub use actors::actors_of;
+pub use counts::Counts;
 pub use crowd::run_threads;
 pub use launch::{Launch, read_launch};
 pub use top::ttm_top;

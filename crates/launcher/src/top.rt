@@ -3,12 +3,16 @@ ghost use Rattle.command_words.specs.Forms.{form_of};
 ghost use Rattle.simulator.specs.Edges.{Edge};
 ghost use Rattle.simulator.specs.Ends.{EndsWith};
 ghost use Rattle.simulator.specs.Plain.{IsPlain};
+ghost use Rattle.launcher.specs.Counted.{EndsCounted, HasRunLoad};
 ghost use Rattle.launcher.specs.Launches.{launch_of};
 ghost use Rattle.launcher.specs.Threaded.{ComesThreaded, Launched};
 
+use crate::counts::write_counts;
 use crate::crowd::run_threads;
 use crate::launch::{Launch, read_launch};
 use command_words::Words;
+use device_core::Device;
+use generated_load::generated;
 use io_edge::{Sink, Source};
 use simulator::{Input, Outcome, Status, read_input, sim_top, status_after, write_outcome};
 use std::alloc::Global;
@@ -59,6 +63,36 @@ fn run_top<R: Threads + Wait + Sync, S: Source, K: Sink, G: Gate + Sync>(
     }
 }
 
+/// Draws a script from a number, and runs it on threads.
+fn run_drawn<R: Threads + Wait + Sync, G: Gate + Sync>(
+    rt: &R,
+    alloc: Global,
+    number: u64,
+    gate: &G,
+) -> Result<Device, NoMemory>
+    ensures { IfOk result HasRunLoad }
+{
+    let script = generated(alloc, number)?;
+    run_threads(rt, alloc, script, gate)
+}
+
+/// Draws a script from a number, runs it on threads, and writes what is counted of it to the sink.
+fn gen_top<R: Threads + Wait + Sync, K: Sink, G: Gate + Sync>(
+    rt: &R,
+    alloc: Global,
+    number: u64,
+    sink: &mut K,
+    gate: &G,
+) -> Status
+    ensures { EndsCounted number
+        (record { before = K.written sink.old; after = K.written sink.new; faults_before = K.faults sink.old; faults_after = K.faults sink.new }) result }
+{
+    match run_drawn(rt, alloc, number, gate) {
+        Ok(device) => status_after(Status::Done, write_counts(alloc, number, &device, sink)),
+        Err(NoMemory) => Status::NoMemory,
+    }
+}
+
 /// Does what the words ask, on threads where they ask for them.
 pub fn ttm_top<R: Threads + Wait + Sync, S: Source, K: Sink, G: Gate + Sync>(
     rt: &R,
@@ -74,6 +108,7 @@ pub fn ttm_top<R: Threads + Wait + Sync, S: Source, K: Sink, G: Gate + Sync>(
 {
     match read_launch(words) {
         Some(Launch::Run) => run_top(rt, alloc, source, sink, gate),
+        Some(Launch::Gen(number)) => gen_top(rt, alloc, number, sink, gate),
         None => sim_top(alloc, words, source, sink),
     }
 }

@@ -40,6 +40,7 @@ help_text =
     ++ line (codes "ttm sim              reads a script from standard input, and writes its report" ∷ [])
     ++ line (codes "ttm sim --turns N    the same, in at most N turns" ∷ [])
     ++ line (codes "ttm run              runs the script on threads, one for each actor" ∷ [])
+    ++ line (codes "ttm gen N            runs a script drawn from the number N on threads, and counts what came of it" ∷ [])
     ++ line (codes "ttm --help           this text" ∷ [])
     ++ line (codes "ttm --version        the version" ∷ [])
     ++ line (codes "" ∷ [])

@@ -19,6 +19,7 @@ const HELP: &[u8] = b"Runs a script of a graphics memory manager, and reports ea
 ttm sim              reads a script from standard input, and writes its report
 ttm sim --turns N    the same, in at most N turns
 ttm run              runs the script on threads, one for each actor
+ttm gen N            runs a script drawn from the number N on threads, and counts what came of it
 ttm --help           this text
 ttm --version        the version
 
@@ -39,7 +40,7 @@ fn unfinished_line(alloc: Global, turns: u64) -> Result<String, NoMemory>
 }
 
 /// Writes a text as one piece.
-fn write_text<K: Sink>(text: &[u8], sink: &mut K) -> Result<(), WriteFault>
+pub fn write_text<K: Sink>(text: &[u8], sink: &mut K) -> Result<(), WriteFault>
     ensures text { Writes result (K.written sink.old) (K.written sink.new) text.now }
     ensures faults { K.faults sink.new ≡ faults_after_writing result (K.faults sink.old) }
 {

@@ -29,7 +29,7 @@ fn turn_of<R: Wait>(rt: &R, turns: &Turns<Counter>, pass: &mut Pass<Counter>, wh
 }
 
 #[test]
-fn a_raised_word_is_seen(rt: HostRuntime) -> Result<(), Fail> {
+fn fence_words_tell_what_was_raised(rt: HostRuntime) -> Result<(), Fail> {
     let (turns, mut pass) = Turns::new(rt.alloc(), Counter::new(rt.alloc(), 10), 1)
         .ok()
         .ok_or("memory")?;
