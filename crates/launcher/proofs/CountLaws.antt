@@ -20,6 +20,7 @@ use Rattle.simulator.specs.declared.outcome.Status.{Status}
 use Rattle.simulator.specs.declared.outcome.Status.TheVariants as status
 use Rattle.simulator.specs.Edges.{Edge}
 use Rattle.simulator.specs.Plain.{status_after}
+use Rattle.plain_memory.proofs.AlongLaws.{transparent_has_none}
 use Rattle.launcher.specs.Ran.{IsThreaded}
 use Rattle.launcher.specs.Counted.{counts_text, load_counts, HasRunLoad, EndsCounted, told, broken, cut}
 
@@ -65,7 +66,7 @@ counts_are k script journal threads commands results mismatches h of along t c r
     let sum : sum_by length script.threads ≡ 648 = ap (λ (s : Script). sum_by length s.threads) of ∙ all_commands k.script.threads h.load.lens in
     let all : commands ≡ 648 = omega (arith, c, sum) in
     let answers : results ≡ 648 = r ∙ ap (λ (es : List Entry). count_by (λ e. words.is_answer e.kind) es) along ∙ all_results k h in
-    let differ : mismatches ≡ mismatches_of k.script k.journal = m ∙ ap (λ (s : Script). mismatches_of s journal) of ∙ ap (mismatches_of k.script) along in
+    let differ : mismatches ≡ 0 = m ∙ ap (λ (s : Script). mismatches_of s journal) of ∙ ap (mismatches_of k.script) along ∙ transparent_has_none k.script k.journal h.ran.laws.transparent in
     cc
 
 -- ---- the end

@@ -15,6 +15,7 @@ use Rattle.journal_model.specs.Legal.{IsLegal}
 use Rattle.device_core.specs.Kept.{Kept}
 use Rattle.turn_lock.proofs.Prefixes.{prefix_trans}
 use Rattle.over_law.proofs.Stops.{last}
+use Rattle.legal_law.proofs.All.{keeps_laws}
 use Rattle.launcher.specs.Actors.{all_actors}
 use Rattle.launcher.specs.Ran.{IsThreaded}
 
@@ -42,13 +43,13 @@ few_actors script h =
 
 -- ---- what is left
 
-pub threaded : (script : Script) (k : Kept) (xs : List Entry) → k.script ≡ script → IsLegal k.script k.journal → IsPrefix xs k.journal → is_complete script xs ≡ true → IsThreaded script k
-threaded script k xs of legal front over =
+pub threaded : (script : Script) (k : Kept) (xs : List Entry) → IsTrue (is_script script) → k.script ≡ script → IsLegal k.script k.journal → IsPrefix xs k.journal → is_complete script xs ≡ true → IsThreaded script k
+threaded script k xs fits of legal front over =
     let whole : xs ++ front.0 ≡ k.journal = front.1 in
     let all : IsLegal script k.journal = subst (λ (s : Script). IsLegal s k.journal) of legal in
     let none : front.0 ≡ [] = last script xs front.0 (subst (λ (es : List Entry). IsLegal script es) (sym whole) all) over in
     let same : xs ≡ k.journal = sym (append-nil xs) ∙ ap (λ es. xs ++ es) (sym none) ∙ whole in
-    record { of = of; legal = all; complete = subst (λ (es : List Entry). is_complete script es ≡ true) same over }
+    record { of = of; legal = all; complete = subst (λ (es : List Entry). is_complete script es ≡ true) same over; laws = keeps_laws script k.journal fits all }
 
 -- what is said of an Ok
 pub at_ok : {T E : Type 0} (P : T → Type 0) (r : Result T E) (x : T) → r ≡ Ok x → IfOk r P → P x
@@ -56,9 +57,9 @@ at_ok P (Ok y) x h p = let same : y ≡ x = cc in subst P same p
 at_ok P (Err e) x h p = cc
 
 -- a worker has seen a list that is over, and the closed lock's list begins with it
-pub finished : (script : Script) (k : Kept) (seen : List Entry) (root : Option Script)
+pub finished : (script : Script) (k : Kept) (seen : List Entry) (root : Option Script) → IsTrue (is_script script)
     → (xs : List Entry) × IsPrefix xs seen × ((r : Script) × (root ≡ Some r) × (is_complete r xs ≡ true))
     → root ≡ Some script → IsPrefix seen k.journal → k.script ≡ script → IsLegal k.script k.journal → IsThreaded script k
-finished script k seen root (xs, front, (r, at, over)) is before of legal =
+finished script k seen root fits (xs, front, (r, at, over)) is before of legal =
     let same : r ≡ script = cc (at, is) in
-    threaded script k xs of legal (prefix_trans xs seen k.journal front before) (subst (λ (s : Script). is_complete s xs ≡ true) same over)
+    threaded script k xs fits of legal (prefix_trans xs seen k.journal front before) (subst (λ (s : Script). is_complete s xs ≡ true) same over)

@@ -3,10 +3,12 @@ use Rattle.std.specs.Prelude.{◌≡◌, true}
 use Rattle.journal_model.specs.declared.script.Script.{Script}
 use Rattle.journal_model.specs.Legal.{IsLegal}
 use Rattle.journal_model.specs.Complete.{is_complete}
+use Rattle.legal_law.specs.KeepsLaws.{KeepsLaws}
 use Rattle.device_core.specs.Kept.{Kept}
 
--- a legal, complete journal of the script
+-- a legal, complete journal of the script, which keeps the laws
 pub record IsThreaded (script : Script) (k : Kept) : Type 0 where
   pub of : k.script ≡ script
   pub legal : IsLegal script k.journal
   pub complete : is_complete script k.journal ≡ true
+  pub laws : KeepsLaws script k.journal

@@ -16,6 +16,6 @@ returns g c =
     let seen = c.work_all-answer.ensures.root c.args.script first in
     let legal : IsLegal c.close-device.result.script c.close-device.result.journal =
     subst (λ (k : Kept). IsLegal k.script k.journal) c.device.view_is c.device.invariant.legal in
-    finished c.args.script c.close-device.result c.work_all-answer.result.1.me.0.seen c.work_all-answer.result.1.me.0.root
+    finished c.args.script c.close-device.result c.work_all-answer.result.1.me.0.seen c.work_all-answer.result.1.me.0.root c.requires
     (at_ok _ c.work_all-answer.result.0 c.in_ok-answer.field-0 c.in_ok-answer.was c.work_all-answer.ensures.over)
     seen c.close-device.ensures.before (c.close-device.ensures.root c.args.script seen) legal
