@@ -1,9 +1,9 @@
 -- A job with operations is armed: its packets go to the present places of its buffers, and show what the plain memory has.
 use mathlib.Core.Path.{fun_ext}
-use Rattle.std.proofs.Common.{◌≡◌, ℕ, ◌+◌, ◌*◌, ◌<◌, zero, suc, Bool, true, false, List, [], ◌∷◌, ◌++◌, length, Option, Some, None, refl, sym, subst, ◌∙◌, ap, ap₂, arith, ◌⊎◌, inl, inr, ⊎_elim}
+use Rattle.std.proofs.Common.{◌≡◌, ℕ, ◌+◌, ◌*◌, ◌<◌, Bool, true, false, List, [], ◌∷◌, ◌++◌, length, Some, refl, sym, subst, ◌∙◌, ap, ap₂, arith, ◌⊎◌, inl, inr, ⊎_elim}
 use Rattle.std.specs.Prelude.{slice_get, drop, flat_map, fold, nat_eq, nat_lt, not, ◌&&◌, ◌||◌, unwrap_or, if◌then◌else◌}
 use Rattle.std.specs.List.{list_any, list_all}
-use Rattle.std.proofs.lemmas.Bool.{cases_Bool, eqb-true, and_parts, or_cases, not-true}
+use Rattle.std.proofs.lemmas.Bool.{cases_Bool, eqb-true, and_parts, or_cases}
 use Rattle.ttm_base.specs.declared.Mem.{Mem}
 use Rattle.ttm_base.specs.declared.Mem.TheVariants as mem
 use Rattle.ttm_base.specs.declared.BufId.{BufId}
@@ -19,7 +19,7 @@ use Rattle.journal_model.specs.declared.state.Job.{Job}
 use Rattle.journal_model.specs.State.{buffer_in, has_buffer}
 use Rattle.journal_model.specs.Commands.{decl, buffers_of_op, first_mentions}
 use Rattle.journal_model.specs.CommandRules.{is_op}
-use Rattle.journal_model.specs.Places.{aperture, place_of, page_at, page_in, packet_place}
+use Rattle.journal_model.specs.Places.{aperture, page_in, packet_place}
 use Rattle.journal_model.specs.Waits.{same_job, changes, is_written, unfinished, jobs_before_read, jobs_before_write, jobs_before_use}
 use Rattle.journal_model.specs.Stores.{is_there}
 use Rattle.journal_model.specs.PlainMemory.{Memory, Dues, after_ops, pieces_shown, with_dues}
@@ -28,12 +28,11 @@ use Rattle.journal_model.specs.ApplyJobs.{with_use, core_after_arm}
 use Rattle.state_law.proofs.Lists.{get_within}
 use Rattle.owner_law.proofs.Law.{AreHeldOnce}
 use Rattle.plain_law.specs.Memory.{Page, Nowhere, Slot, Own, Step, touched}
-use Rattle.plain_law.specs.View.{View, Good, Fences, Owner, Idle, Live, at_job, is_fence}
+use Rattle.plain_law.specs.View.{View, Good, Idle, Live, is_fence}
 use Rattle.plain_law.specs.Entries.{steps, Stands, AllNamed, plain_after, joined, armed, ArmLegal, retitled}
-use Rattle.plain_law.proofs.Actions.{or_first, or_second}
 use Rattle.plain_law.proofs.Arm.{Stood, touched_stood, arm_keeps}
 use Rattle.plain_law.proofs.Owners.{untake_keeps}
-use Rattle.hold_law.specs.Holding.{seen, live_at, kept_in, target_at, buffer_at, HeldOnce}
+use Rattle.hold_law.specs.Holding.{seen, live_at, kept_in, target_at, buffer_at}
 use Rattle.hold_law.proofs.HeldOnce.{held_once}
 use Rattle.hold_law.proofs.Owner.{owner_of, owner_holds, unheld}
 use Rattle.hold_law.proofs.There.{held_there}
@@ -44,7 +43,7 @@ use Rattle.view_law.proofs.Kept.{keep_more, changing_kept, using_kept, ghostly_k
 use Rattle.view_law.proofs.PacketStep.{no_bytes}
 use Rattle.view_law.proofs.Titles.{SameHolds, owners_same}
 use Rattle.carry_law.proofs.Binds.{among_all}
-use Rattle.piece_law.specs.Pieces.{paged, views_of, with_shown}
+use Rattle.piece_law.specs.Pieces.{paged, views_of}
 use Rattle.piece_law.proofs.Pieces.{ops_on_memory, ops_steps, shown_from}
 use Rattle.emit_law.proofs.Viewed.{Viewed}
 use Rattle.emit_law.proofs.MoreJobs.{get_last, is_prior, prior_is, prior_waits, among_unfinished, emitted_seen}

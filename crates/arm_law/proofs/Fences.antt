@@ -1,6 +1,6 @@
 -- A job joins the fences of its buffers: nothing else of them changes, old fences stay, and its own is there.
-use Rattle.std.proofs.Common.{◌≡◌, ℕ, zero, suc, Bool, true, false, List, [], ◌∷◌, ◌++◌, Option, Some, None, refl, sym, subst, ◌∙◌, ap, ◌⊎◌, inl, inr, ⊎_elim}
-use Rattle.std.specs.Prelude.{slice_get, slice_set, map, filter, flat_map, fold, option_map, option_and_then, unwrap_or, ◌||◌, nat_eq, if◌then◌else◌}
+use Rattle.std.proofs.Common.{◌≡◌, ℕ, zero, suc, Bool, true, false, List, [], ◌∷◌, ◌++◌, Option, Some, refl, sym, subst, ◌∙◌, ap, ⊎_elim}
+use Rattle.std.specs.Prelude.{slice_get, slice_set, map, filter, flat_map, fold, option_map, option_and_then, unwrap_or, ◌||◌, if◌then◌else◌}
 use Rattle.std.specs.List.{list_any}
 use Rattle.std.proofs.lemmas.Bool.{cases_eq, eqb-true, or_cases}
 use Rattle.ttm_base.specs.declared.Mem.{Mem}
@@ -13,7 +13,7 @@ use Rattle.ttm_base.specs.declared.Op.{Op}
 use Rattle.journal_model.specs.declared.state.Core.{Core}
 use Rattle.journal_model.specs.declared.state.Buffer.{Buffer}
 use Rattle.journal_model.specs.declared.state.Fence.{Fence}
-use Rattle.journal_model.specs.State.{live_in, changed, new_buffer, same_buffer, has_buffer}
+use Rattle.journal_model.specs.State.{live_in, new_buffer, same_buffer, has_buffer}
 use Rattle.journal_model.specs.Places.{aperture, mapped_in}
 use Rattle.journal_model.specs.Waits.{same_job, changes, is_written, use_of, jobs_before_read, jobs_before_write}
 use Rattle.journal_model.specs.ApplyPages.{with_fence}

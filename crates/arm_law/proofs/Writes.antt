@@ -1,8 +1,8 @@
 -- The result of a write puts its bytes at the places of the buffer, whose jobs are done.
 use mathlib.Core.Path.{fun_ext}
-use Rattle.std.proofs.Common.{◌≡◌, ℕ, ◌+◌, ◌-◌, ◌*◌, ◌/◌, ◌%◌, ◌<◌, ◌≤◌, zero, suc, Bool, true, false, List, [], ◌∷◌, length, None, refl, sym, subst, ◌∙◌, ap, ap₂, arith, ⊎_elim}
+use Rattle.std.proofs.Common.{◌≡◌, ℕ, ◌+◌, ◌-◌, ◌*◌, ◌/◌, ◌%◌, ◌<◌, ◌≤◌, suc, Bool, true, false, List, [], ◌∷◌, length, None, refl, sym, subst, ◌∙◌, ap, arith}
 use Rattle.std.specs.Prelude.{nat_eq, nat_le, nat_lt, ◌==◌, ◌&&◌, slice_index, if◌then◌else◌}
-use Rattle.std.proofs.lemmas.Bool.{cases_eq, eqb-true, eq-eqb, leb-true}
+use Rattle.std.proofs.lemmas.Bool.{eqb-true, eq-eqb}
 use Rattle.std.proofs.lemmas.Bool.Decides.{nat_tests}
 use Rattle.ttm_base.specs.declared.BufId.{BufId}
 use Rattle.ttm_base.specs.declared.Op.TheVariants as op
@@ -21,9 +21,9 @@ use Rattle.owner_law.proofs.Law.{AreHeldOnce}
 use Rattle.plain_law.specs.Memory as memory
 use Rattle.plain_law.specs.Memory.{Page, Nowhere, Own, Write, put, run, run_all}
 use Rattle.plain_law.specs.View.{View, Good, Live}
-use Rattle.plain_law.specs.Entries.{Piece, Change, aimed, steps, Stands, AllNamed, plain_after, cpu_wrote}
+use Rattle.plain_law.specs.Entries.{Piece, aimed, steps, Stands, AllNamed, plain_after, cpu_wrote}
 use Rattle.plain_law.proofs.Cpu.{cpu_write_keeps}
-use Rattle.hold_law.specs.Holding.{seen, live_at, buffer_at}
+use Rattle.hold_law.specs.Holding.{seen, buffer_at}
 use Rattle.hold_law.proofs.There.{held_there}
 use Rattle.view_law.specs.Seen.{put_in}
 use Rattle.view_law.proofs.World.{Seen, bare}

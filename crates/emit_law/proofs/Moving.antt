@@ -3,12 +3,11 @@ use mathlib.Core.Path.{fun_ext}
 use Rattle.std.proofs.Common.{◌≡◌, ℕ, ◌+◌, ◌-◌, ◌*◌, ◌<◌, ◌≤◌, zero, suc, Bool, true, false, List, [], ◌∷◌, ◌++◌, length, Option, Some, None, refl, sym, subst, ◌∙◌, ap, ap₂, arith, ◌⊎◌, inl, inr, ⊎_elim}
 use Rattle.std.specs.Prelude.{slice_get, slice_set, map, drop, nat_eq, nat_le, nat_lt, cond, option_map, option_and_then, unwrap_or, ◌&&◌, ◌||◌, if◌then◌else◌}
 use Rattle.std.specs.List.{list_any}
-use Rattle.std.proofs.lemmas.Bool.{cases_Bool, cases_eq, cases_lt, eqb-true, eq-eqb, and_parts, or_cases}
+use Rattle.std.proofs.lemmas.Bool.{cases_eq, cases_lt, eqb-true, eq-eqb, and_parts, or_cases}
 use Rattle.std.proofs.lemmas.Bool.Decides.{nat_tests}
 use Rattle.ttm_base.specs.declared.Mem.{Mem}
 use Rattle.ttm_base.specs.declared.BufId.{BufId}
 use Rattle.ttm_base.specs.declared.JobId.{JobId}
-use Rattle.ttm_base.specs.declared.PagePlace.{PagePlace}
 use Rattle.ttm_base.specs.ListWords.{count_from}
 use Rattle.ttm_base.specs.Pages as pages
 use Rattle.journal_model.specs.declared.script.Script.{Script}
@@ -16,8 +15,8 @@ use Rattle.journal_model.specs.declared.state.Core.{Core}
 use Rattle.journal_model.specs.declared.state.Buffer.{Buffer}
 use Rattle.journal_model.specs.declared.state.Job.{Job}
 use Rattle.journal_model.specs.declared.state.Ghost as ghosts
-use Rattle.journal_model.specs.State.{live_in, changed, new_buffer, target_spans, with_target}
-use Rattle.journal_model.specs.Places.{aperture, place_of, page_at, packet_place, name_in_spans}
+use Rattle.journal_model.specs.State.{changed, new_buffer, target_spans, with_target}
+use Rattle.journal_model.specs.Places.{aperture, place_of, packet_place, name_in_spans}
 use Rattle.journal_model.specs.Waits.{same_job, changes, unfinished, jobs_before_read, jobs_before_write}
 use Rattle.journal_model.specs.Stores.{is_there}
 use Rattle.journal_model.specs.PlainMemory.{Memory, Dues}
@@ -25,10 +24,10 @@ use Rattle.journal_model.specs.ApplyMoves.{moved, move_packets, copy_of_page, ta
 use Rattle.owner_law.proofs.Law.{AreHeldOnce}
 use Rattle.plain_law.specs.Memory as memory
 use Rattle.plain_law.specs.Memory.{Page, Bytes, Nowhere, Slot, Own, Step, Write, touched}
-use Rattle.plain_law.specs.View.{View, Good, Fences, Owner, Idle, Free, Live, Kept, Target, Ghost, at_job, is_fence}
+use Rattle.plain_law.specs.View.{View, Good, Owner, Idle, Free, Live, Kept, Target, Ghost, is_fence}
 use Rattle.plain_law.specs.Entries as entries
 use Rattle.plain_law.specs.Entries.{has, copies, moved_to_ghost, moved_now, MoveLegal}
-use Rattle.plain_law.proofs.Actions.{or_first, or_second, and_left, and_right}
+use Rattle.plain_law.proofs.Actions.{or_first, or_second}
 use Rattle.plain_law.proofs.Move.{copies_touched, move_to_ghost_keeps, move_now_keeps}
 use Rattle.hold_law.specs.Holding.{seen, live_at, kept_in, target_at, in_ghost, buffer_at, Holds, HeldOnce}
 use Rattle.hold_law.specs.Maps.{Maps}
@@ -36,15 +35,15 @@ use Rattle.hold_law.proofs.HeldOnce.{held_once}
 use Rattle.hold_law.proofs.Owner.{owner_of, owner_is, owner_same}
 use Rattle.hold_law.proofs.Mapped.{aperture_maps, maps_aperture}
 use Rattle.hold_law.proofs.There.{held_there}
-use Rattle.view_law.specs.Seen.{put_in, clean, meant, steps_from, steps_of}
-use Rattle.view_law.proofs.World.{Seen, bare, IsChanging, IsUsing, IsGhostly, IsMover}
+use Rattle.view_law.specs.Seen.{put_in, meant, steps_from, steps_of}
+use Rattle.view_law.proofs.World.{Seen, bare, IsChanging, IsUsing, IsGhostly}
 use Rattle.view_law.proofs.Kept.{keep_more, changing_kept, using_kept, ghostly_kept, mover_kept}
 use Rattle.view_law.proofs.PacketStep.{no_bytes}
 use Rattle.view_law.proofs.Apertures.{Spared, steps_same, unmapped_spared}
 use Rattle.carry_law.proofs.Binds.{IsAt, at_is, live_either, among_all}
 use Rattle.take_law.proofs.Takes.{readers_stay, writers_stay, one_joins}
 use Rattle.emit_law.proofs.Viewed.{Viewed}
-use Rattle.emit_law.proofs.MoreJobs.{get_last, is_prior, prior_is, prior_ring, waited_or_done, core_with, Emitted, emitted_seen}
+use Rattle.emit_law.proofs.MoreJobs.{get_last, is_prior, prior_is, prior_ring, waited_or_done, emitted_seen}
 
 -- ---- the pages of a count
 

@@ -1,6 +1,6 @@
 -- A buffer in VRAM gets a fresh frame in its table: none of its pages stands there yet.
-use Rattle.std.proofs.Common.{◌≡◌, ℕ, ◌+◌, ◌-◌, ◌<◌, zero, suc, Bool, true, false, List, [], ◌∷◌, length, Option, Some, None, refl, sym, subst, ◌∙◌, ap, arith, ◌⊎◌, inl, inr, ⊎_elim}
-use Rattle.std.specs.Prelude.{slice_get, slice_set, nat_eq, nat_le, nat_lt, ◌&&◌, cond, drop, option_map, option_and_then, unwrap_or, if◌then◌else◌}
+use Rattle.std.proofs.Common.{◌≡◌, ℕ, ◌+◌, zero, suc, Bool, true, false, List, [], ◌∷◌, Some, refl, sym, subst, ◌∙◌, ap, arith, ◌⊎◌, inl, inr, ⊎_elim}
+use Rattle.std.specs.Prelude.{slice_get, slice_set, nat_le, nat_lt, ◌&&◌, cond, drop, unwrap_or, if◌then◌else◌}
 use Rattle.std.specs.List.{list_any}
 use Rattle.std.proofs.lemmas.Bool.{cases_Bool, cases_eq}
 use Rattle.std.proofs.lemmas.Bool.Decides.{nat_tests}
@@ -16,7 +16,7 @@ use Rattle.journal_model.specs.declared.state.Buffer.{Buffer}
 use Rattle.journal_model.specs.declared.state.Targets.{Targets}
 use Rattle.journal_model.specs.declared.state.Fence.{Fence}
 use Rattle.journal_model.specs.State.{live_in, changed, new_buffer}
-use Rattle.journal_model.specs.Places.{aperture, page_at, page_in_table}
+use Rattle.journal_model.specs.Places.{aperture, page_in_table}
 use Rattle.journal_model.specs.Waits.{same_job, jobs_before_read, jobs_before_write}
 use Rattle.journal_model.specs.Stores.{is_there, within}
 use Rattle.journal_model.specs.Stores as stores
@@ -29,7 +29,7 @@ use Rattle.plain_law.specs.Entries.{retitled, cleared}
 use Rattle.plain_law.proofs.Actions.{same_page-refl, same_page-true}
 use Rattle.plain_law.proofs.Cpu.{clear_keeps}
 use Rattle.plain_law.proofs.Owners.{retitle_keeps}
-use Rattle.hold_law.specs.Holding.{seen, live_at, kept_in, target_at, buffer_at, Holds, HeldOnce}
+use Rattle.hold_law.specs.Holding.{seen, live_at, kept_in, target_at, buffer_at, Holds}
 use Rattle.hold_law.proofs.HeldOnce.{held_once}
 use Rattle.hold_law.proofs.Owner.{owner_of, owner_same}
 use Rattle.view_law.proofs.World.{Seen, bare}

@@ -1,5 +1,5 @@
 -- A buffer with unfinished jobs is freed, and leaves a ghost: its pages, its frames and its jobs are the ghost's.
-use Rattle.std.proofs.Common.{◌≡◌, ℕ, ◌+◌, ◌*◌, ◌<◌, zero, suc, Bool, true, false, List, [], ◌∷◌, ◌++◌, length, Option, Some, None, refl, sym, subst, ◌∙◌, ap, ap₂, ◌⊎◌, inl, inr, ⊎_elim}
+use Rattle.std.proofs.Common.{◌≡◌, ℕ, ◌+◌, ◌*◌, zero, suc, Bool, true, false, List, [], ◌∷◌, ◌++◌, length, Option, Some, None, refl, sym, subst, ◌∙◌, ap, ◌⊎◌, inl, inr, ⊎_elim}
 use Rattle.std.specs.Prelude.{slice_get, slice_set, drop, nat_lt, nat_eq, not, cond, ◌&&◌, ◌||◌, option_and_then, unwrap_or, if◌then◌else◌}
 use Rattle.std.specs.List.{list_any}
 use Rattle.std.proofs.lemmas.Bool.{cases_Bool, cases_eq, eqb-true, eq-eqb, and_parts, or_cases}
@@ -7,7 +7,6 @@ use Rattle.ttm_base.specs.declared.Mem.{Mem}
 use Rattle.ttm_base.specs.declared.Mem.TheVariants as mem
 use Rattle.ttm_base.specs.declared.BufId.{BufId}
 use Rattle.ttm_base.specs.declared.JobId.{JobId}
-use Rattle.ttm_base.specs.declared.Span.{Span}
 use Rattle.ttm_base.specs.declared.Loc.{Loc}
 use Rattle.ttm_base.specs.declared.Loc.TheVariants as loc
 use Rattle.ttm_base.specs.Reach.{same_mem}
@@ -18,18 +17,16 @@ use Rattle.journal_model.specs.declared.state.Buffer.{Buffer}
 use Rattle.journal_model.specs.declared.state.Job.{Job}
 use Rattle.journal_model.specs.declared.state.Ghost as ghosts
 use Rattle.journal_model.specs.State.{live_in, new_buffer, target_spans}
-use Rattle.journal_model.specs.Places.{pages_of, aperture, place_of, page_at, page_in, page_in_table, frames_of, loc_of}
-use Rattle.journal_model.specs.Holds.{spans_in, has_number}
+use Rattle.journal_model.specs.Places.{pages_of, aperture, place_of, page_at, page_in, page_in_table, loc_of}
+use Rattle.journal_model.specs.Holds.{has_number}
 use Rattle.journal_model.specs.Waits.{same_job, changes, unfinished, jobs_before_read, jobs_before_write}
 use Rattle.journal_model.specs.PlainMemory.{Memory, Dues, with_zeros}
 use Rattle.journal_model.specs.ApplyCommands.{ghost_of_freed}
 use Rattle.state_law.proofs.Lists.{set_at, get_pushed}
 use Rattle.owner_law.proofs.Law.{AreHeldOnce}
-use Rattle.plain_law.specs.Memory as memory
 use Rattle.plain_law.specs.Memory.{Page, Nowhere, Vram, Frame, Slot, Own, touched}
-use Rattle.plain_law.specs.View.{View, Good, Fences, Owner, Idle, Free, Live, Kept, Target, Ghost, is_fence}
+use Rattle.plain_law.specs.View.{View, Good, Owner, Idle, Free, Live, Kept, Target, Ghost, is_fence}
 use Rattle.plain_law.specs.Entries.{freed, Fate}
-use Rattle.plain_law.proofs.Actions.{or_first, or_second}
 use Rattle.plain_law.proofs.Owners.{free_keeps}
 use Rattle.hold_law.specs.Holding.{seen, live_at, kept_in, target_at, in_ghost, buffer_at, Holds, HeldOnce}
 use Rattle.hold_law.specs.Maps.{Maps}
@@ -37,7 +34,6 @@ use Rattle.hold_law.proofs.HeldOnce.{held_once, in_vram_is, in_vram, live_is, Li
 use Rattle.hold_law.proofs.Owner.{owner_of, owner_is, owner_none, owning, unheld}
 use Rattle.hold_law.proofs.Mapped.{aperture_maps, maps_aperture}
 use Rattle.view_law.proofs.World.{Seen, bare, IsGhostly}
-use Rattle.view_law.proofs.Kept.{keep_all, ghostly_kept}
 use Rattle.view_law.proofs.PacketStep.{no_bytes}
 use Rattle.view_law.proofs.Apertures.{Spared, steps_same, unmapped_spared}
 use Rattle.carry_law.proofs.Binds.{IsAt, at_is, among_all, stands_by_table, not_vram}

@@ -1,2 +1,1 @@
 pub mod All
-pub mod Worked

@@ -1,13 +1,11 @@
 -- A buffer moves within VRAM: the pages that it leaves stay with a ghost.
-use Rattle.std.proofs.Common.{◌≡◌, ℕ, ◌<◌, ◌≤◌, zero, suc, Bool, true, false, List, [], ◌∷◌, ◌++◌, length, Option, Some, None, refl, sym, subst, ◌∙◌, ap, arith, ◌⊎◌, inl, inr, ⊎_elim}
+use Rattle.std.proofs.Common.{◌≡◌, ℕ, ◌<◌, ◌≤◌, true, List, [], ◌∷◌, ◌++◌, length, Some, refl, sym, subst, ◌∙◌, ap, arith, inl, inr, ⊎_elim}
 use Rattle.std.specs.Prelude.{slice_get, unwrap_or}
 use Rattle.std.proofs.lemmas.Bool.{cases_eq, cases_lt}
 use Rattle.ttm_base.specs.declared.Mem.TheVariants as mem
 use Rattle.ttm_base.specs.declared.BufId.{BufId}
-use Rattle.ttm_base.specs.declared.JobId.{JobId}
 use Rattle.ttm_base.specs.declared.Span.{Span}
 use Rattle.ttm_base.specs.declared.Loc.{Loc}
-use Rattle.ttm_base.specs.declared.Loc.TheVariants as loc
 use Rattle.ttm_base.specs.Pages as pages
 use Rattle.journal_model.specs.declared.script.Script.{Script}
 use Rattle.journal_model.specs.declared.state.Core.{Core}
@@ -16,21 +14,18 @@ use Rattle.journal_model.specs.declared.state.Targets.{Targets}
 use Rattle.journal_model.specs.declared.state.Fence.{Fence}
 use Rattle.journal_model.specs.declared.state.Ghost as ghosts
 use Rattle.journal_model.specs.State.{target_spans, live_in}
-use Rattle.journal_model.specs.Places.{pages_of, aperture, loc_of, page_in_table, page_in_vram, frame_of}
-use Rattle.journal_model.specs.Holds.{has_number}
+use Rattle.journal_model.specs.Places.{pages_of, page_in_vram}
 use Rattle.journal_model.specs.PlainMemory.{Memory, Dues}
 use Rattle.journal_model.specs.ApplyMoves.{moved, ghost_of_moved}
 use Rattle.state_law.proofs.Lists.{get_pushed}
 use Rattle.owner_law.proofs.Law.{AreHeldOnce}
 use Rattle.plain_law.specs.Memory.{Page, Nowhere, Vram, Frame, Slot, Own}
-use Rattle.plain_law.specs.View.{View, Good, Owner, Ghost}
-use Rattle.hold_law.specs.Holding.{seen, live_at, kept_in, target_at, in_ghost, buffer_at, Holds, HeldOnce}
-use Rattle.hold_law.specs.Maps.{BufferMaps, GhostMaps, Maps}
+use Rattle.plain_law.specs.View.{Ghost}
+use Rattle.hold_law.specs.Holding.{seen, live_at, target_at, in_ghost}
+use Rattle.hold_law.specs.Maps.{Maps}
 use Rattle.hold_law.proofs.HeldOnce.{held_once}
 use Rattle.hold_law.proofs.Owner.{owner_of, owner_is}
-use Rattle.hold_law.proofs.Mapped.{maps_aperture}
-use Rattle.view_law.proofs.World.{Seen, bare}
-use Rattle.view_law.proofs.PacketStep.{no_bytes}
+use Rattle.view_law.proofs.World.{bare}
 use Rattle.carry_law.proofs.Binds.{IsAt, live_either}
 use Rattle.emit_law.proofs.MoreJobs.{get_last, get_front}
 use Rattle.emit_law.proofs.Moving.{moved_core, Moving, to_ghost_viewed}

@@ -1,6 +1,6 @@
 -- A choice has as many pages as its buffer is declared with.
-use Rattle.std.proofs.Common.{◌≡◌, ℕ, ◌+◌, ◌-◌, ◌<◌, ◌≤◌, ◌^◌, zero, suc, Bool, true, false, List, [], ◌∷◌, ◌++◌, length, Option, Some, None, refl, sym, subst, ◌∙◌, ap, arith}
-use Rattle.std.specs.Prelude.{slice_get, filter_map, option_map, not, nat_lt, nat_le, ◌&&◌, if◌then◌else◌}
+use Rattle.std.proofs.Common.{◌≡◌, ℕ, ◌+◌, ◌-◌, ◌<◌, ◌≤◌, ◌^◌, zero, suc, Bool, true, false, List, [], ◌∷◌, ◌++◌, length, Option, Some, None, refl, subst, ◌∙◌, ap, arith}
+use Rattle.std.specs.Prelude.{filter_map, option_map, not, nat_lt, nat_le, ◌&&◌, if◌then◌else◌}
 use Rattle.std.proofs.lemmas.Bool.{leb-true}
 use Rattle.std.proofs.Math.Pow.{pow_mono}
 use Rattle.ttm_base.specs.declared.Mem.{Mem}
@@ -10,7 +10,7 @@ use Rattle.ttm_base.specs.declared.Mode.{Mode}
 use Rattle.ttm_base.specs.declared.Mode.TheVariants.{Best, Low, High}
 use Rattle.ttm_base.specs.declared.Span.{Span}
 use Rattle.ttm_base.specs.declared.Place.{Place}
-use Rattle.ttm_base.specs.ListWords.{count_from, least_by, last_of}
+use Rattle.ttm_base.specs.ListWords.{count_from}
 use Rattle.ttm_base.specs.Holes.{has_page, holes}
 use Rattle.ttm_base.specs.Reach.{common, length_of}
 use Rattle.ttm_base.specs.RangeChoice.{Fit, fit_in, start_to_test, best_fit, fitting_hole, range_choice}

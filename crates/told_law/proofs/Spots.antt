@@ -1,6 +1,6 @@
 -- The first page of a table that passes a test: the page to fill, and the one to swap out.
-use Rattle.std.proofs.Common.{◌≡◌, ℕ, ◌+◌, ◌<◌, zero, suc, Bool, true, false, cond, List, [], ◌∷◌, length, Option, Some, None, refl, sym, subst, ◌∙◌, ap, arith}
-use Rattle.std.specs.Prelude.{slice_get, unwrap_or, not, nat_lt, ◌&&◌, ◌||◌, position}
+use Rattle.std.proofs.Common.{◌≡◌, ℕ, ◌+◌, ◌<◌, suc, Bool, true, false, cond, List, [], ◌∷◌, length, Some, None, refl, sym, subst, ◌∙◌, ap, arith}
+use Rattle.std.specs.Prelude.{slice_get, unwrap_or, not, ◌&&◌, ◌||◌, position}
 use Rattle.std.specs.List.{list_any, list_all, position_or_len}
 use Rattle.std.proofs.lemmas.Bool.{lt-ltb}
 use Rattle.ttm_base.specs.declared.Loc.{Loc}

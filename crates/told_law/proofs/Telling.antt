@@ -1,8 +1,8 @@
 -- Each entry of a thread tells so.
-use Rattle.std.proofs.Common.{◌≡◌, ℕ, zero, suc, Bool, true, false, List, [], ◌∷◌, Option, Some, None, Ok, Err, refl, sym, subst, ◌∙◌, ap, ⊎_elim, arith, inl, inr}
-use Rattle.std.specs.Prelude.{slice_get, map, find, option_map, not, is_some, is_none, unwrap_or, nat_lt, ◌==◌, ◌&&◌, ◌||◌, if◌then◌else◌}
+use Rattle.std.proofs.Common.{◌≡◌, ℕ, zero, suc, Bool, true, false, List, [], ◌∷◌, Option, Some, None, Ok, refl, sym, subst, ◌∙◌, ap, arith, inl, inr}
+use Rattle.std.specs.Prelude.{slice_get, map, find, option_map, not, is_some, is_none, unwrap_or, ◌&&◌, ◌||◌, if◌then◌else◌}
 use Rattle.std.proofs.lemmas.Grind.{common_steps}
-use Rattle.std.proofs.lemmas.Bool.{and_parts, cases_Bool, or_cases}
+use Rattle.std.proofs.lemmas.Bool.{and_parts}
 use Rattle.std.proofs.lemmas.Bool.Decides.{nat_tests}
 use Rattle.ttm_base.specs.ListWords.{last_of, last_or}
 use Rattle.ttm_base.specs.declared.Mem.{Mem}
@@ -10,7 +10,6 @@ use Rattle.ttm_base.specs.declared.Mem.TheVariants.{System, Tt, Vram}
 use Rattle.ttm_base.specs.declared.BufId.{BufId}
 use Rattle.ttm_base.specs.declared.JobId.{JobId}
 use Rattle.ttm_base.specs.declared.Place.{Place}
-use Rattle.ttm_base.specs.declared.Deny.TheVariants as deny
 use Rattle.ttm_base.specs.Placement.{first_places, forced_places}
 use Rattle.ttm_base.specs.Reach.{same_mem}
 use Rattle.journal_model.specs.declared.script.Script.{Script}
@@ -18,7 +17,6 @@ use Rattle.journal_model.specs.declared.script.Command.{Command}
 use Rattle.journal_model.specs.declared.script.Command.TheVariants as command
 use Rattle.journal_model.specs.declared.state.State.{State}
 use Rattle.journal_model.specs.declared.state.Buffer.{Buffer}
-use Rattle.journal_model.specs.declared.state.Course.{Course}
 use Rattle.journal_model.specs.declared.state.Victim.{Victim}
 use Rattle.journal_model.specs.declared.state.Aim.{Aim}
 use Rattle.journal_model.specs.declared.state.Aim.TheVariants as aims
@@ -27,30 +25,28 @@ use Rattle.journal_model.specs.declared.state.Task.TheVariants as task
 use Rattle.journal_model.specs.declared.entry.Kind.{Kind}
 use Rattle.journal_model.specs.declared.entry.Kind.TheVariants as kind
 use Rattle.journal_model.specs.declared.entry.Left.TheVariants as left
-use Rattle.journal_model.specs.declared.entry.Why.{Why}
 use Rattle.journal_model.specs.declared.entry.Why.TheVariants as why
 use Rattle.journal_model.specs.declared.entry.Shown.{Shown}
 use Rattle.journal_model.specs.declared.entry.Shown.TheVariants as shown
-use Rattle.journal_model.specs.State.{buffer, buffer_in, course, is_live, live_in, new_buffer, same_buffer, has_buffer, has_target}
+use Rattle.journal_model.specs.State.{buffer, course, is_live, live_in, new_buffer, same_buffer, has_buffer, has_target}
 use Rattle.journal_model.specs.Commands.{named, command_at_work, whole}
-use Rattle.journal_model.specs.Choice.{choice}
 use Rattle.journal_model.specs.Dry.{has_frame}
 use Rattle.journal_model.specs.Holds.{free_slot}
 use Rattle.journal_model.specs.Ready.{has_all_frames, has_some_target, is_in_place, is_filled, is_ready, first_unready, uses_bytes}
 use Rattle.journal_model.specs.Waits.{waited_for, jobs_before_read, jobs_before_write, is_idle}
 use Rattle.journal_model.specs.Search.{Step, Quest, quest, through_tt, is_caught}
 use Rattle.journal_model.specs.PageSteps.{unless_waiting, first_frame_page, next_job, next_ghost, why_caught}
-use Rattle.journal_model.specs.Next.{plain, step_of_act, step_of_task}
+use Rattle.journal_model.specs.Next.{step_of_act, step_of_task}
 use Rattle.state_law.specs.Courses as courses
 use Rattle.state_law.proofs.JobNames.{found_at}
 use Rattle.step_law.specs.Due.{is_due}
 use Rattle.progress_law.specs.Sound.{Has, Owned}
-use Rattle.sound_law.proofs.Turns.{Turn, Works, OnVictim, OnNamed, OnBuffer, OnMisplaced, OnCarried, InVram, answer, start, lock, victim_unbind, victim_empty, victim_give, victim_skip, victim_move, victim_fill, victim_search, refuse, give, give_up, act, fill_in_place, ask, bind, fill_to_bind, hop_up, unbind, move_up, move_across, move_down, fill_to_move, hop_down}
+use Rattle.sound_law.proofs.Turns.{Turn, OnVictim, OnNamed, OnBuffer, answer, start, lock, victim_unbind, victim_empty, victim_give, victim_move, victim_fill, victim_search, refuse, give, give_up, act, fill_in_place, ask, bind, fill_to_bind, hop_up, unbind, move_up, move_across, move_down, fill_to_move, hop_down}
 use Rattle.sound_law.proofs.Gifts as gifts
 use Rattle.sound_law.proofs.Gifts.{Gives, Sought, Filled, PlaceOf}
-use Rattle.sound_law.proofs.Bufs.{same_self, same_is, has_found, found_passes, last_caught, none_last, none_caught, none_found, none_missing}
+use Rattle.sound_law.proofs.Bufs.{same_self, same_is, has_found, found_passes, last_caught, none_last, none_found, none_missing}
 use Rattle.told_law.proofs.Spots.{unfilled}
-use Rattle.told_law.proofs.Told.{is_write, shows_bytes, OnWay, IsThere, IsQuiet, Told, still, makes, frees, leaves, takes, untakes, populates, swaps_in, depopulates, binds, unbinds, moves_up, moves_across, moves_down, evicts, catches, swaps_out, arms, reads, writes, results}
+use Rattle.told_law.proofs.Told.{is_write, OnWay, IsThere, IsQuiet, Told, still, makes, frees, leaves, takes, untakes, populates, swaps_in, depopulates, binds, unbinds, moves_up, moves_across, moves_down, evicts, catches, swaps_out, arms, reads, writes, results}
 
 -- ---- places in lists
 

@@ -1,13 +1,12 @@
 -- What commands do and show: jobs that are armed, writes and reads.
-use Rattle.std.proofs.Common.{◌≡◌, ℕ, ◌+◌, ◌*◌, ◌<◌, ◌≤◌, Bool, true, false, List, [], length, Option, Some, None, refl, sym, subst, ◌∙◌, ap, arith, inl, ⊎_elim}
-use Rattle.std.specs.Prelude.{slice_get, flat_map, not, nat_le, nat_lt, slice_index, unwrap_or, ◌&&◌, ◌||◌, ◌==◌}
+use Rattle.std.proofs.Common.{◌≡◌, ℕ, ◌+◌, ◌*◌, ◌<◌, ◌≤◌, Bool, true, false, List, length, Some, None, refl, sym, subst, ◌∙◌, ap, arith, inl}
+use Rattle.std.specs.Prelude.{slice_get, not, nat_le, slice_index, unwrap_or, ◌&&◌, ◌||◌, ◌==◌}
 use Rattle.std.specs.List.{list_all}
 use Rattle.std.proofs.lemmas.Bool.{and_parts, leb-true}
 use Rattle.std.proofs.lemmas.Bool.Decides.{nat_tests}
 use Rattle.ttm_base.specs.declared.Mem.{Mem}
 use Rattle.ttm_base.specs.declared.Mem.TheVariants as mem
 use Rattle.ttm_base.specs.declared.BufId.{BufId}
-use Rattle.ttm_base.specs.declared.JobId.{JobId}
 use Rattle.ttm_base.specs.declared.Op.{Op}
 use Rattle.ttm_base.specs.declared.Loc.TheVariants as loc
 use Rattle.ttm_base.specs.Pages as pages
@@ -17,26 +16,24 @@ use Rattle.journal_model.specs.declared.script.Command.{Command}
 use Rattle.journal_model.specs.declared.script.Command.TheVariants as command
 use Rattle.journal_model.specs.declared.state.State.{State}
 use Rattle.journal_model.specs.declared.state.Core.{Core}
-use Rattle.journal_model.specs.declared.state.Buffer.{Buffer}
 use Rattle.journal_model.specs.declared.state.Job.{Job}
 use Rattle.journal_model.specs.State.{buffer, buffer_in, live_in, has_buffer}
-use Rattle.journal_model.specs.Commands.{decl, named, buffers_of_op, first_mentions}
-use Rattle.journal_model.specs.CommandRules.{is_op, is_command, is_range_of, is_declared, is_between, is_byte}
-use Rattle.journal_model.specs.Places.{aperture, pages_of, page_at, page_in, page_in_vram, page_in_table, packet_place, name_in, loc_of, frame_of}
+use Rattle.journal_model.specs.Commands.{decl, named}
+use Rattle.journal_model.specs.CommandRules.{is_op, is_command, is_declared, is_between, is_byte}
+use Rattle.journal_model.specs.Places.{aperture, pages_of, page_in, page_in_vram, page_in_table, packet_place, name_in, frame_of}
 use Rattle.journal_model.specs.Ready.{has_all_frames, is_filled, is_in_place, is_ready, uses_bytes}
 use Rattle.journal_model.specs.Waits.{same_job, waited_for, jobs_before_write}
 use Rattle.journal_model.specs.PageSteps.{next_job}
 use Rattle.journal_model.specs.Stores.{within, put_bytes}
 use Rattle.journal_model.specs.PlainMemory.{Memory, Dues, after_ops, pieces_shown, with_dues, with_range}
 use Rattle.journal_model.specs.ApplyJobs.{core_after_arm}
-use Rattle.state_law.specs.GoodState.{GoodState, GoodJobs, HasPages, last_number}
+use Rattle.state_law.specs.GoodState.{GoodState, HasPages, last_number}
 use Rattle.owner_law.proofs.Law.{AreHeldOnce}
 use Rattle.plain_law.specs.Memory.{Nowhere, Vram, Frame, Slot}
-use Rattle.hold_law.specs.Holding.{seen, live_at, buffer_at}
+use Rattle.hold_law.specs.Holding.{seen, live_at}
 use Rattle.hold_law.proofs.Mapped.{maps_aperture}
 use Rattle.emit_law.proofs.Viewed.{Viewed}
-use Rattle.move_law.proofs.Tables.{get_at, AllFrames, full_is}
-use Rattle.arm_law.proofs.Fences.{IsLive}
+use Rattle.move_law.proofs.Tables.{get_at, full_is}
 use Rattle.arm_law.proofs.Arms.{Reached, arm_viewed}
 use Rattle.arm_law.proofs.Writes.{write_viewed}
 use Rattle.shape_law.proofs.Shapes.{Shapely, HaveShapes}

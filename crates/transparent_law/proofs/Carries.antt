@@ -1,6 +1,5 @@
 -- Moves of a buffer, wherever it stands.
-use Rattle.std.proofs.Common.{◌≡◌, ℕ, Bool, true, false, List, [], ◌∷◌, ◌++◌, length, Option, Some, None, refl, sym, subst, ◌∙◌, ap}
-use Rattle.std.specs.Prelude.{slice_get}
+use Rattle.std.proofs.Common.{◌≡◌, ℕ, true, [], ◌∷◌, ◌++◌, Some, sym, subst, ◌∙◌, ap}
 use Rattle.ttm_base.specs.declared.Mem.{Mem}
 use Rattle.ttm_base.specs.declared.Mem.TheVariants as mem
 use Rattle.ttm_base.specs.declared.BufId.{BufId}
@@ -9,16 +8,15 @@ use Rattle.ttm_base.specs.Pages as pages
 use Rattle.journal_model.specs.declared.script.Script.{Script}
 use Rattle.journal_model.specs.declared.state.Core.{Core}
 use Rattle.journal_model.specs.declared.state.Buffer.{Buffer}
-use Rattle.journal_model.specs.declared.entry.Left.TheVariants as left
-use Rattle.journal_model.specs.State.{buffer_in, live_in, has_target}
+use Rattle.journal_model.specs.State.{has_target}
 use Rattle.journal_model.specs.PlainMemory.{Memory, Dues}
 use Rattle.journal_model.specs.Ready.{has_all_frames}
-use Rattle.journal_model.specs.ApplyMoves.{core_after_move, ghost_of_moved}
+use Rattle.journal_model.specs.ApplyMoves.{ghost_of_moved}
 use Rattle.owner_law.proofs.Law.{AreHeldOnce}
 use Rattle.carry_law.proofs.Binds.{IsAt}
 use Rattle.emit_law.proofs.Moving.{moved_core}
 use Rattle.emit_law.proofs.Viewed.{Viewed}
-use Rattle.move_law.proofs.Tables.{AllFrames, full_is}
+use Rattle.move_law.proofs.Tables.{full_is}
 use Rattle.move_law.proofs.Ups.{up_viewed}
 use Rattle.move_law.proofs.Acrosses.{across_viewed}
 use Rattle.move_law.proofs.Downs.{down_viewed, evict_viewed}

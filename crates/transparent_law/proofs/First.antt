@@ -1,14 +1,13 @@
 -- At first there is no job and no page, and all bytes are zeros.
-use Rattle.std.proofs.Common.{◌≡◌, ℕ, ◌+◌, ◌*◌, zero, suc, Bool, true, false, List, [], ◌∷◌, None, refl, sym, ◌∙◌, ap, inl}
+use Rattle.std.proofs.Common.{◌≡◌, ℕ, zero, suc, Bool, true, false, List, [], ◌∷◌, None, refl, sym, ◌∙◌, ap, inl}
 use Rattle.std.specs.Prelude.{slice_get, map, nat_lt, option_and_then, unwrap_or, if◌then◌else◌}
-use Rattle.ttm_base.specs.Pages as pages
 use Rattle.journal_model.specs.declared.script.Script.{Script}
 use Rattle.journal_model.specs.declared.state.Core.{Core}
 use Rattle.journal_model.specs.State.{new_buffer}
 use Rattle.journal_model.specs.Stores.{zeros}
 use Rattle.journal_model.specs.PlainMemory.{first_plain}
 use Rattle.journal_model.specs.Legal.{first_state}
-use Rattle.plain_law.specs.Memory.{Page, Nowhere}
+use Rattle.plain_law.specs.Memory.{Nowhere}
 use Rattle.plain_law.specs.View.{View, Good}
 use Rattle.hold_law.specs.Holding.{seen, live_at, buffer_at}
 use Rattle.hold_law.proofs.Owner.{owner_of}

@@ -1,7 +1,7 @@
 -- What is free is held by nobody, and bytes beyond the pages that there are don't matter.
-use Rattle.std.proofs.Common.{◌≡◌, ℕ, ◌+◌, ◌<◌, ◌≤◌, Bool, true, false, List, Option, Some, refl, sym, ◌∙◌, ap, arith, subst}
-use Rattle.std.specs.Prelude.{slice_get, nat_lt, ◌&&◌, if◌then◌else◌}
-use Rattle.std.proofs.lemmas.Bool.{lt-ltb, and_parts}
+use Rattle.std.proofs.Common.{◌≡◌, ℕ, ◌+◌, ◌≤◌, Bool, true, false, List, Some, refl, sym, ◌∙◌, arith, subst}
+use Rattle.std.specs.Prelude.{slice_get, nat_lt, ◌&&◌}
+use Rattle.std.proofs.lemmas.Bool.{lt-ltb}
 use Rattle.ttm_base.specs.declared.Mem.TheVariants as mem
 use Rattle.ttm_base.specs.declared.BufId.{BufId}
 use Rattle.ttm_base.specs.declared.Span.{Span}
@@ -15,7 +15,7 @@ use Rattle.journal_model.specs.Choice.{choice}
 use Rattle.journal_model.specs.Stores.{is_there, within}
 use Rattle.journal_model.specs.PlainMemory.{Memory, Dues}
 use Rattle.state_law.proofs.Rules.{Rules}
-use Rattle.owner_law.proofs.Counts.{one, times, stands}
+use Rattle.owner_law.proofs.Counts.{one, stands}
 use Rattle.owner_law.proofs.Weights.{weight, vram_pages, frames, slots, in_buffers, in_ghosts, times-held}
 use Rattle.owner_law.proofs.Taken.{choice_is_clear, free_stands_none, lowest_is_free}
 use Rattle.owner_law.proofs.Law.{AreHeldOnce}
@@ -25,7 +25,7 @@ use Rattle.hold_law.specs.Holding.{Holds}
 use Rattle.hold_law.proofs.Positions.{times_at}
 use Rattle.hold_law.proofs.HeldOnce.{room_of, number_of, Spot, at_buffer, at_ghost, spot_of, spot_weight, hold_weighs, of_one, of_ghost_one}
 use Rattle.hold_law.proofs.Owner.{owner_of, owner_none}
-use Rattle.view_law.proofs.World.{Seen, bare}
+use Rattle.view_law.proofs.World.{bare}
 use Rattle.view_law.proofs.PacketStep.{within_same, within_cut}
 use Rattle.emit_law.proofs.Viewed.{Viewed}
 

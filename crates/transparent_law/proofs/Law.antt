@@ -1,8 +1,7 @@
 -- Every legal journal is transparent.
-use Rattle.std.proofs.Common.{◌≡◌, ℕ, Bool, true, false, List, [], ◌∷◌, ◌++◌, Option, Some, None, Ok, IsTrue, refl, sym, subst, ◌∙◌, ap}
-use Rattle.std.specs.Prelude.{slice_get, map, replicate, unwrap_or}
+use Rattle.std.proofs.Common.{◌≡◌, ℕ, List, [], ◌∷◌, ◌++◌, Some, IsTrue, refl, sym, subst, ◌∙◌, ap}
+use Rattle.std.specs.Prelude.{slice_get}
 use Rattle.ttm_base.specs.declared.Actor.{Actor}
-use Rattle.ttm_base.specs.Pages as pages
 use Rattle.journal_model.specs.declared.script.Script.{Script}
 use Rattle.journal_model.specs.declared.state.State.{State}
 use Rattle.journal_model.specs.declared.state.Victim.{Victim}
@@ -12,12 +11,12 @@ use Rattle.journal_model.specs.declared.entry.Kind.TheVariants as kind
 use Rattle.journal_model.specs.State.{buffer, course}
 use Rattle.journal_model.specs.ScriptRules.{is_script}
 use Rattle.journal_model.specs.Apply.{applied, thread_of}
-use Rattle.journal_model.specs.Stores.{Stores, zeros, within, stores_after, showing}
-use Rattle.journal_model.specs.Legal.{World, first_state, first_world, world_after, world_along, world_of, state_of, IsLegalNext, IsLegalFrom, IsLegal}
+use Rattle.journal_model.specs.Stores.{Stores, within, stores_after, showing}
+use Rattle.journal_model.specs.Legal.{World, first_world, world_after, world_along, world_of, state_of, IsLegalNext, IsLegalFrom, IsLegal}
 use Rattle.journal_model.specs.PlainMemory.{Plain, first_plain, plain_after, plain_after_kind}
 use Rattle.journal_model.specs.Transparent.{IsKindPlain, IsTransparentFrom, IsTransparent}
-use Rattle.journal_law.proofs.Shown.{LegalStep, legal_step, shown_alike}
-use Rattle.state_law.proofs.Rules.{Rules, rules_of}
+use Rattle.journal_law.proofs.Shown.{legal_step, shown_alike}
+use Rattle.state_law.proofs.Rules.{rules_of}
 use Rattle.state_law.proofs.GoodStates.{good_law}
 use Rattle.state_law.proofs.Pins.{courses_law}
 use Rattle.owner_law.proofs.Law.{AreHeldOnce, once_law}

@@ -8,3 +8,4 @@ pub mod Steps
 pub mod First
 pub mod Law
 pub mod Ways
+mod Worked

@@ -1,20 +1,16 @@
 -- Entries that give a page of a buffer a frame or a slot.
 use mathlib.Core.Path.{fun_ext}
-use Rattle.std.proofs.Common.{◌≡◌, ℕ, ◌<◌, Bool, true, false, List, length, Option, Some, None, refl, sym, subst, ◌∙◌, ap, ⊎_elim}
-use Rattle.std.specs.Prelude.{slice_get, unwrap_or}
+use Rattle.std.proofs.Common.{◌≡◌, ℕ, ◌<◌, true, false, length, Some, None, refl, sym, subst, ◌∙◌, ap, ⊎_elim}
 use Rattle.ttm_base.specs.declared.Mem.{Mem}
 use Rattle.ttm_base.specs.declared.Mem.TheVariants as mem
 use Rattle.ttm_base.specs.declared.BufId.{BufId}
-use Rattle.ttm_base.specs.declared.Span.{Span}
 use Rattle.ttm_base.specs.declared.Loc.{Loc}
 use Rattle.ttm_base.specs.declared.Loc.TheVariants as loc
 use Rattle.ttm_base.specs.Pages as pages
 use Rattle.journal_model.specs.declared.script.Script.{Script}
 use Rattle.journal_model.specs.declared.state.Core.{Core}
 use Rattle.journal_model.specs.declared.state.Buffer.{Buffer}
-use Rattle.journal_model.specs.declared.state.Targets.{Targets}
-use Rattle.journal_model.specs.declared.state.Fence.{Fence}
-use Rattle.journal_model.specs.State.{live_in, changed}
+use Rattle.journal_model.specs.State.{changed}
 use Rattle.journal_model.specs.Holds.{free_frame, free_slot}
 use Rattle.journal_model.specs.Places.{page_at, page_in_table, loc_of}
 use Rattle.journal_model.specs.Waits.{waited_for, jobs_before_write}
@@ -23,17 +19,15 @@ use Rattle.journal_model.specs.Stores as stores
 use Rattle.journal_model.specs.PlainMemory.{Memory, Dues}
 use Rattle.journal_model.specs.ApplyPages.{with_page}
 use Rattle.owner_law.proofs.Law.{AreHeldOnce}
-use Rattle.plain_law.specs.Memory.{Page, Nowhere, Frame, Slot, touched}
-use Rattle.plain_law.specs.View.{View, Good, Owner, Idle, Live}
+use Rattle.plain_law.specs.Memory.{Nowhere, Frame, Slot, touched}
+use Rattle.plain_law.specs.View.{Idle}
 use Rattle.plain_law.specs.Entries.{relocated}
-use Rattle.plain_law.proofs.Actions.{bool_cases}
 use Rattle.plain_law.proofs.Cpu.{idle_untouched, done_untouched}
 use Rattle.hold_law.specs.Holding.{seen, live_at, buffer_at, HeldOnce}
 use Rattle.hold_law.proofs.HeldOnce.{held_once}
-use Rattle.hold_law.proofs.Owner.{owner_of}
-use Rattle.view_law.proofs.World.{Seen, bare}
+use Rattle.view_law.proofs.World.{bare}
 use Rattle.view_law.proofs.PacketStep.{no_bytes}
-use Rattle.carry_law.proofs.Binds.{IsAt, at_is, idle_done, stands_by_table, not_vram}
+use Rattle.carry_law.proofs.Binds.{IsAt, at_is, idle_done, stands_by_table}
 use Rattle.carry_law.proofs.Refills.{refill_good, refill_seen}
 use Rattle.fill_law.proofs.Fills.{fill_viewed}
 use Rattle.emit_law.proofs.Viewed.{Viewed}

@@ -1,10 +1,9 @@
 -- Entries on a buffer that put no byte and emit no job: made, freed, with targets, caught, bound, unbound, emptied.
-use Rattle.std.proofs.Common.{◌≡◌, ℕ, ◌+◌, Bool, true, false, List, [], ◌∷◌, ◌++◌, Option, Some, None, refl, sym, subst, ◌∙◌, ap, inl}
-use Rattle.std.specs.Prelude.{slice_get, slice_set, not, nat_eq, is_some, unwrap_or, ◌&&◌, ◌||◌, ◌==◌, if◌then◌else◌}
+use Rattle.std.proofs.Common.{◌≡◌, ℕ, Bool, true, false, List, [], ◌∷◌, ◌++◌, Option, Some, None, refl, sym, ◌∙◌, ap, inl}
+use Rattle.std.specs.Prelude.{slice_set, not, is_some, unwrap_or, ◌&&◌, ◌||◌, if◌then◌else◌}
 use Rattle.ttm_base.specs.declared.Mem.{Mem}
 use Rattle.ttm_base.specs.declared.Mem.TheVariants as mem
 use Rattle.ttm_base.specs.declared.BufId.{BufId}
-use Rattle.ttm_base.specs.declared.JobId.{JobId}
 use Rattle.ttm_base.specs.declared.Span.{Span}
 use Rattle.ttm_base.specs.declared.Place.{Place}
 use Rattle.ttm_base.specs.Pages as pages
@@ -12,7 +11,7 @@ use Rattle.journal_model.specs.declared.script.Script.{Script}
 use Rattle.journal_model.specs.declared.state.Core.{Core}
 use Rattle.journal_model.specs.declared.state.Buffer.{Buffer}
 use Rattle.journal_model.specs.State.{live_in, changed, new_buffer, has_target, target_of, target_spans}
-use Rattle.journal_model.specs.Places.{aperture, mapped_in, page_at, page_in, page_in_table, loc_of}
+use Rattle.journal_model.specs.Places.{aperture, mapped_in, page_at}
 use Rattle.journal_model.specs.Choice.{choice}
 use Rattle.journal_model.specs.Ready.{has_some_target}
 use Rattle.journal_model.specs.Waits.{waited_for, jobs_before_write, jobs_before_target}
@@ -22,18 +21,16 @@ use Rattle.journal_model.specs.ApplyPages.{with_kernel_fences, with_spans, witho
 use Rattle.journal_model.specs.ApplyVictims.{leaves_tt}
 use Rattle.state_law.proofs.Rules.{Rules}
 use Rattle.owner_law.proofs.Law.{AreHeldOnce}
-use Rattle.plain_law.specs.Memory.{Nowhere, touched}
-use Rattle.plain_law.specs.View.{View, Good}
+use Rattle.plain_law.specs.Memory.{touched}
 use Rattle.plain_law.specs.Entries.{retitled, taking, freed}
-use Rattle.hold_law.specs.Holding.{seen, live_at, kept_in, target_at, HeldOnce}
-use Rattle.hold_law.specs.Maps.{BufferMaps}
+use Rattle.hold_law.specs.Holding.{seen, kept_in, HeldOnce}
 use Rattle.hold_law.proofs.HeldOnce.{held_once}
 use Rattle.hold_law.proofs.Owner.{owner_of}
-use Rattle.view_law.proofs.World.{Seen, bare}
+use Rattle.view_law.proofs.World.{bare}
 use Rattle.view_law.proofs.PacketStep.{no_bytes}
 use Rattle.view_law.proofs.Apertures.{Spared}
 use Rattle.view_law.proofs.Quiet.{Quiet, aperture_same, quiet_good, quiet_seen, catch_is_quiet, target_is_quiet}
-use Rattle.carry_law.proofs.Binds.{IsAt, spared_but, carried_good, carried_seen, bind_good, bind_seen, unbind_good, unbind_seen, stands_by_table, keeps_none, not_vram}
+use Rattle.carry_law.proofs.Binds.{IsAt, spared_but, carried_good, carried_seen, bind_good, bind_seen, unbind_good, unbind_seen, stands_by_table, keeps_none}
 use Rattle.carry_law.proofs.News.{new_good, new_seen}
 use Rattle.take_law.proofs.Takes.{is_mover, take_good, take_seen}
 use Rattle.take_law.proofs.Drops.{drop_good, drop_seen, emptied_kept, emptied_place, untaken_place, untaken_kept, untaken_target}

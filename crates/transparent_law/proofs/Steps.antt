@@ -1,22 +1,19 @@
 -- Each legal entry keeps a good view of the state, and shows what is due.
-use Rattle.std.proofs.Common.{◌≡◌, ℕ, ◌+◌, ◌<◌, Bool, true, false, List, [], length, Option, Some, None, Ok, refl, sym, subst, ◌∙◌, ap, ap₂, inl, inr, ⊎_elim}
-use Rattle.std.specs.Prelude.{slice_get, map, slice_index, if◌then◌else◌, ◌==◌, ◌||◌, IsSome, unwrap_or, not}
+use Rattle.std.proofs.Common.{◌≡◌, ℕ, ◌+◌, Bool, true, false, List, [], Some, None, Ok, refl, sym, subst, ◌∙◌, ap, ⊎_elim}
+use Rattle.std.specs.Prelude.{slice_get, if◌then◌else◌, ◌==◌, ◌||◌, IsSome, unwrap_or, not}
 use Rattle.std.proofs.lemmas.Bool.{cases_eq, eq-eqb, ne_eqb}
 use Rattle.ttm_base.specs.declared.Mem.{Mem}
 use Rattle.ttm_base.specs.declared.Mem.TheVariants as mem
 use Rattle.ttm_base.specs.declared.BufId.{BufId}
-use Rattle.ttm_base.specs.declared.JobId.{JobId}
 use Rattle.ttm_base.specs.declared.Op.{Op}
 use Rattle.ttm_base.specs.declared.Loc.TheVariants as loc
 use Rattle.ttm_base.specs.declared.Actor.{Actor}
 use Rattle.ttm_base.specs.declared.Actor.TheVariants as actor
-use Rattle.ttm_base.specs.Pages as pages
 use Rattle.journal_model.specs.declared.script.Script.{Script}
 use Rattle.journal_model.specs.declared.script.Command.{Command}
 use Rattle.journal_model.specs.declared.script.Command.TheVariants as command
 use Rattle.journal_model.specs.declared.state.State.{State}
 use Rattle.journal_model.specs.declared.state.Core.{Core}
-use Rattle.journal_model.specs.declared.state.Buffer.{Buffer}
 use Rattle.journal_model.specs.declared.state.Course.{Course}
 use Rattle.journal_model.specs.declared.state.Victim.{Victim}
 use Rattle.journal_model.specs.declared.entry.Kind.{Kind}
@@ -31,22 +28,19 @@ use Rattle.journal_model.specs.Apply.{applied, thread_of}
 use Rattle.journal_model.specs.ApplyCommands.{named_in}
 use Rattle.journal_model.specs.ApplyJobs.{ops_of, core_after_arm}
 use Rattle.journal_model.specs.PageSteps.{page_to_fill, first_frame_page, next_job, next_ghost}
-use Rattle.journal_model.specs.Places.{loc_of}
 use Rattle.journal_model.specs.Stores.{Stores, within, written, stores_after, showing, shown_by_read}
 use Rattle.journal_model.specs.Waits.{waited_for, jobs_before_read}
-use Rattle.journal_model.specs.PlainMemory.{Memory, Dues, Plain, command_of, memory_after_result, answered_one_more, plain_after_kind, after_ops, pieces_shown, with_dues}
+use Rattle.journal_model.specs.PlainMemory.{Memory, Dues, Plain, command_of, memory_after_result, plain_after_kind, after_ops, pieces_shown, with_dues}
 use Rattle.journal_model.specs.Transparent.{IsKindPlain, read_of}
-use Rattle.journal_law.proofs.Courses.{one_more_if, own_answered, others_kept, thread_is_there, engine_keeps, reaper_keeps, of_engine, of_reaper, is_of_engine, is_of_reaper}
+use Rattle.journal_law.proofs.Courses.{one_more_if, own_answered, others_kept, thread_is_there, of_engine, of_reaper, is_of_engine, is_of_reaper}
 use Rattle.state_law.specs.GoodState.{GoodState}
 use Rattle.state_law.specs.Courses.{GoodCourses}
 use Rattle.state_law.proofs.Rules.{Rules, at_work_rules}
 use Rattle.state_law.proofs.Pins.{at_number}
-use Rattle.step_law.specs.Due.{is_due, is_over}
 use Rattle.step_law.proofs.Due.{next_due}
 use Rattle.owner_law.proofs.Law.{AreHeldOnce}
 use Rattle.progress_law.specs.Sound.{Sound}
-use Rattle.sound_law.proofs.Along.{Stepped, stepped_of, OfWorker, of_worker, packet, done, reap}
-use Rattle.hold_law.proofs.HeldOnce.{held_once}
+use Rattle.sound_law.proofs.Along.{stepped_of, OfWorker, of_worker, packet, done, reap}
 use Rattle.carry_law.proofs.Binds.{IsAt}
 use Rattle.carry_law.proofs.ReadShows.{read_shows}
 use Rattle.emit_law.proofs.Viewed.{Viewed}

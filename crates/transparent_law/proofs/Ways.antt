@@ -13,7 +13,7 @@ use Rattle.journal_model.specs.declared.state.State.{State}
 use Rattle.journal_model.specs.declared.entry.Entry.{Entry}
 use Rattle.journal_model.specs.State.{buffer, course, has_target}
 use Rattle.journal_model.specs.ScriptRules.{is_script}
-use Rattle.journal_model.specs.Legal.{World, first_world, world_after, world_along, state_of, IsLegalFrom, IsLegal}
+use Rattle.journal_model.specs.Legal.{World, first_world, world_after, world_along, state_of, IsLegalFrom}
 use Rattle.journal_law.proofs.Shown.{legal_step}
 use Rattle.progress_law.specs.Sound.{OnItsWay, in_vram, to_tt, out_of_vram, in_tt, in_system}
 use Rattle.search_measure_law.proofs.Ways.{Ways}

@@ -1,5 +1,5 @@
 -- Packets, their ends, and reaped ghosts.
-use Rattle.std.proofs.Common.{◌≡◌, ℕ, ◌+◌, suc, Bool, true, List, Option, Some, None, Ok, refl, sym, ◌∙◌, ap}
+use Rattle.std.proofs.Common.{◌≡◌, ℕ, ◌+◌, suc, true, List, Option, Some, None, Ok, refl, sym, ◌∙◌}
 use Rattle.std.specs.Prelude.{slice_get, drop, filter, not, nat_eq, is_none, ◌==◌, ◌&&◌}
 use Rattle.std.proofs.lemmas.Bool.{and_parts, eqb-true}
 use Rattle.ttm_base.specs.declared.JobId.{JobId}
@@ -8,7 +8,6 @@ use Rattle.ttm_base.specs.Pages as pages
 use Rattle.ttm_base.specs.Packets.{after_packet, probe_piece}
 use Rattle.journal_model.specs.declared.script.Script.{Script}
 use Rattle.journal_model.specs.declared.state.State.{State}
-use Rattle.journal_model.specs.declared.state.Core.{Core}
 use Rattle.journal_model.specs.declared.state.Ghost.{Ghost}
 use Rattle.journal_model.specs.declared.entry.Kind.TheVariants as kind
 use Rattle.journal_model.specs.Places.{aperture}
@@ -20,12 +19,12 @@ use Rattle.journal_model.specs.ApplyJobs.{changed_job}
 use Rattle.state_law.specs.GoodState.{GoodJobs}
 use Rattle.step_law.specs.Due.{is_over}
 use Rattle.owner_law.proofs.Law.{AreHeldOnce}
-use Rattle.plain_law.specs.View.{View, Good, packet_ran, job_done}
+use Rattle.plain_law.specs.View.{packet_ran, job_done}
 use Rattle.plain_law.specs.Entries.{retitled}
 use Rattle.hold_law.proofs.HeldOnce.{held_once}
 use Rattle.hold_law.proofs.Owner.{owner_of}
 use Rattle.view_law.specs.Seen.{meant, steps_from}
-use Rattle.view_law.proofs.World.{Seen, bare}
+use Rattle.view_law.proofs.World.{bare}
 use Rattle.view_law.proofs.PacketStep as packets
 use Rattle.view_law.proofs.DoneStep as ends
 use Rattle.carry_law.proofs.Reaps.{Leaving, reap_good, reap_seen}
