@@ -12,4 +12,4 @@ loop-turns-preserved c =
     let here = subst (λ (k : Kept). is_complete k.script k.journal ≡ false) stands goes_on in
     let taken = c.in_ok-take_turn.ensures.taken ∙ ap (λ (k : Kept). record { script = k.script; journal = scheduled k.script (c.loop-turns.turns + 1) }) stands in
     let few : c.loop-turns.turns + 1 ≤ c.args.allowed = omega arith in
-    (taken, c.loop-turns.invariant.1.0, not_before_more c.args.device.now.script c.loop-turns.turns c.loop-turns.invariant.1.1.0 here, few)
+    (taken, c.loop-turns.invariant.1, not_before_more c.args.device.now.script c.loop-turns.turns c.loop-turns.invariant.2 here, few)
