@@ -7,6 +7,7 @@ use Rattle.journal_model.specs.ScriptRules.{is_script}
 use Rattle.journal_model.specs.Legal.{IsLegal}
 use Rattle.owner_law.proofs.Fronts.{throughout_law}
 use Rattle.end_law.proofs.Ends.{journals_end}
+use Rattle.cause_law.proofs.Law.{all_caused}
 use Rattle.transparent_law.proofs.Law.{transparent_given}
 use Rattle.transparent_law.proofs.Ways.{have_ways}
 use Rattle.legal_law.specs.KeepsLaws.{KeepsLaws}
@@ -16,5 +17,6 @@ keeps_laws script journal fits h =
     record {
       transparent = transparent_given script fits (have_ways script fits) journal h;
       accounts = throughout_law script journal fits h;
+      causes = all_caused script fits journal h;
       short = journals_end script fits journal h;
     }

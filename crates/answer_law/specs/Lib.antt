@@ -1,0 +1,3 @@
+pub mod InOrder
+pub mod AtWork
+pub mod Refusals

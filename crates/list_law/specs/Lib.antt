@@ -1,0 +1,2 @@
+pub mod GoodLists
+pub mod NamedVictims

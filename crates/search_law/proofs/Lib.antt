@@ -1,0 +1,5 @@
+pub mod Searches
+pub mod FormSearches
+pub mod FormSteps
+pub mod Forms
+pub mod TwoLists

@@ -1,0 +1,9 @@
+-- A list of places of the first version: preferred places, and busy ones behind them.
+use Rattle.std.specs.Prelude.{◌≡◌, List}
+use Rattle.ttm_base.specs.declared.FlaggedPlace.{FlaggedPlace}
+use Rattle.ttm_base.specs.Placement.{first_places, forced_places}
+use Rattle.journal_model.specs.OldSearch.{one_list}
+
+-- the list stands for those that are tried first and those that are tried under pressure, as the two lists of the old text
+abbrev pub IsTwoLists : List FlaggedPlace → Type 0
+IsTwoLists list = list ≡ one_list (first_places list) (forced_places list)
