@@ -1,0 +1,3 @@
+pub mod Masks
+pub mod Searching
+pub mod FreeSet

@@ -1,0 +1,136 @@
+ghost use Rattle.std.specs.Prelude.{◌≡◌, ℕ, ◌+◌, ◌^◌, ◌<◌, ◌≤◌, Bool, true, length, nat_lt, option_map, replicate, IfOk, IfSome};
+ghost use Rattle.ttm_base.specs.BuddyChoice.{candidate};
+ghost use Rattle.ttm_base.specs.Holes.{has_page};
+ghost use Rattle.block_tree.specs.FreeSet.{is_free};
+ghost use Rattle.block_tree.specs.Masks.{nodes, is_free_in, is_marked, IsTree};
+
+use crate::masks::{block_len, mark, nodes};
+use crate::request::Request;
+use crate::search::{first_block, least_order};
+use std::alloc::Global;
+use std::marker::Model;
+use ttm_base::{NoMemory, Span};
+
+/// The free pages among a number of pages, by the orders of the blocks into which they fall. It is seen as a mark for each page,
+/// whether it is free. A call takes no memory but for `new`.
+#[derive(Drop)]
+pub struct FreeBlocks {
+    masks: Vec<u32>,
+    order: u32,
+    size: u32,
+}
+
+impl Model for FreeBlocks {
+    ghost use Rattle.std.specs.Prelude.{Bool, List};
+
+    ghost Value = { List Bool };
+
+    ghost use Rattle.block_tree.specs.FreeSet.{marks_of, IsKept};
+
+    ghost view = { λ b. marks_of b.order b.size b.masks.items };
+
+    ghost invariant = { λ b. IsKept b.order b.size b.masks.items };
+}
+
+/// The least order whose blocks have so many pages.
+fn order_for(pages: u32) -> u32
+    requires { pages < 2 ^ 16 }
+    ensures enough { pages ≤ 2 ^ result }
+    ensures small { result ≤ 16 }
+{
+    let mut order = 0;
+    while order < 16 && block_len(order) < pages {
+        order += 1;
+    }
+    order
+}
+
+/// The masks of a block of an order that is wholly held.
+fn held_masks(alloc: Global, order: u32) -> Result<Vec<u32>, NoMemory>
+    requires { order ≤ 16 }
+    ensures { IfOk result (λ masks. masks.items ≡ replicate (nodes order) 0) }
+{
+    let masks = vec![in alloc; 0; nodes(order)]?;
+    Ok(masks)
+}
+
+/// The masks of a block of an order, of which the first pages are free.
+fn first_free(alloc: Global, order: u32, pages: u32) -> Result<Vec<u32>, NoMemory>
+    requires { order ≤ 16 }
+    ensures tree { IfOk result (λ masks. IsTree order masks.items) }
+    ensures free { IfOk result (λ masks. (page : ℕ) → page < 2 ^ order → is_free_in order masks.items page ≡ nat_lt page pages) }
+{
+    let mut masks = held_masks(alloc, order)?;
+    mark(
+        &mut masks,
+        order,
+        0,
+        Span {
+            start: 0,
+            end: pages,
+        },
+        true,
+    );
+    Ok(masks)
+}
+
+impl FreeBlocks {
+    /// Free pages, of which there are fewer than 65,536.
+    pub fn new(alloc: Global, pages: u32) -> Result<FreeBlocks, NoMemory>
+        requires { pages < 2 ^ 16 }
+        ensures size { IfOk result (λ blocks. length blocks ≡ pages) }
+        ensures free { IfOk result (λ blocks. (page : ℕ) → is_free blocks page ≡ nat_lt page pages) }
+    {
+        let order = order_for(pages);
+        let masks = first_free(alloc, order, pages)?;
+        Ok(FreeBlocks {
+            masks,
+            order,
+            size: pages,
+        })
+    }
+
+    /// The number of pages.
+    pub fn size(&self) -> u32
+        ensures value { result ≡ length self.now }
+        ensures small { result < 2 ^ 16 }
+    {
+        self.size
+    }
+
+    /// Marks the pages of a span as free or held.
+    pub fn mark(&mut self, span: Span, free: bool)
+        requires { span.end ≤ length self.old }
+        ensures size { length self.new ≡ length self.old }
+        ensures marked { (page : ℕ) → is_free self.new page ≡ is_marked span free (is_free self.old page) page }
+    {
+        mark(&mut self.masks, self.order, 0, span, free);
+    }
+
+    /// The free block of an order inside a range that is split from the smallest: among equals the lowest, or for topdown the
+    /// highest.
+    pub fn candidate(&self, range: Span, topdown: bool, order: u32) -> Option<Span>
+        requires { order ≤ 16 }
+        ensures choice { (test : ℕ → Bool) → ((page : ℕ) → page < length self.now → test page ≡ is_free self.now page) → option_map (λ c. c.block) (candidate test (length self.now) range topdown order) ≡ result }
+        ensures free { IfSome result (λ block. (page : ℕ) → has_page page block ≡ true → is_free self.now page ≡ true) }
+        ensures within { IfSome result (λ block. block.end ≤ length self.now) }
+        ensures small { IfSome result (λ block. block.end < 2 ^ 16) }
+        ensures len { IfSome result (λ block. block.end ≡ block.start + 2 ^ order) }
+    {
+        let request = Request {
+            order,
+            range,
+            topdown,
+        };
+        let whole = least_order(&self.masks, self.order, 0, request)?;
+        let Some(number) = first_block(&self.masks, self.order, 0, request, whole) else {
+            unreachable!()
+        };
+        let len = block_len(order);
+        let start = number * len;
+        Some(Span {
+            start,
+            end: start + len,
+        })
+    }
+}

@@ -1,0 +1,10 @@
+//! The free pages of a buddy allocator (drm_buddy), as masks of the orders that each aligned block has.
+#![tactic(auto)]
+
+mod free_blocks;
+mod masks;
+mod request;
+mod search;
+
+pub use free_blocks::FreeBlocks;
+pub use masks::block_len;

@@ -1,0 +1,4 @@
+pub mod HeldLaws
+pub mod OrderLaws
+pub mod TakingLaws
+pub mod ManagedLaws

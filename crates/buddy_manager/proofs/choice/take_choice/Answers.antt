@@ -1,0 +1,19 @@
+use Rattle.std.proofs.Common.{◌≡◌, ℕ, ◌||◌, length, ap, sym, subst, ◌∙◌}
+use Rattle.std.specs.List.{list_any}
+use Rattle.ttm_base.specs.Holes.{has_page}
+use Rattle.block_tree.specs.FreeSet.{is_free}
+use Rattle.buddy_manager.specs.Held.{AllBy}
+use Rattle.buddy_manager.specs.Taking.{IsTakenBy, IsSame}
+use Rattle.buddy_manager.proofs.TakingLaws.{all_by_taken, given_back}
+use Rattle.buddy_manager.proofs.choice.take_choice.Goals as goal
+
+pub free_spans-requires : goal.free_spans-requires
+free_spans-requires c =
+    let t = c.take_blocks.ensures.taken in
+    subst (λ xs. AllBy (length c.take_blocks.new.free) xs) (sym c.items.ensures)
+    (subst (λ n. AllBy n c.take_blocks.new.out) (sym t.size) (all_by_taken (is_free c.args.free.now) (length c.args.free.now) c.take_blocks.new.out t.each))
+
+pub returns-in-Err-clause-same : goal.returns-in-Err-clause-same
+returns-in-Err-clause-same c =
+    given_back c.args.free.now c.take_blocks.new.free c.free_spans.new.free c.take_blocks.new.out c.take_blocks.ensures.taken c.free_spans.ensures.size
+    (λ page. c.free_spans.ensures.freed page ∙ ap (λ xs. is_free c.take_blocks.new.free page || list_any (has_page page) xs) c.items.ensures)

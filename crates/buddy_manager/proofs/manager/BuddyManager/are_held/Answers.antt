@@ -1,0 +1,11 @@
+use Rattle.std.proofs.Common.{◌≡◌, true, ap, sym, ◌∙◌}
+use Rattle.buddy_manager.specs.Held.{Managed, held_from, all_held, AreHeld}
+use Rattle.buddy_manager.proofs.HeldLaws.{are_held, held_all}
+use Rattle.buddy_manager.proofs.manager.BuddyManager.are_held.Goals as goal
+
+pub returns : goal.returns
+returns c =
+    let e : c.are_held.result ≡ all_held c.args.blocks.now c.args.self.now.held
+    = c.are_held.ensures ∙ ap (λ bs. all_held bs (held_from 0 c.deref.result.now)) c.items.ensures ∙ ap (λ es. all_held c.args.blocks.now (held_from 0 es)) c.deref.ensures.value
+    ∙ ap (λ (m : Managed). all_held c.args.blocks.now m.held) c.self.view_is in
+    (λ t. are_held c.args.blocks.now c.args.self.now.held (sym e ∙ t), λ h. e ∙ held_all c.args.blocks.now c.args.self.now.held h)

@@ -1,0 +1,148 @@
+ghost use Rattle.std.specs.Prelude.{◌≡◌, ℕ, ◌+◌, ◌<◌, ◌≤◌, ◌||◌, Bool, [], Some, None, IfSome, OnOk, OnErr, length, option_map};
+ghost use Rattle.std.specs.List.{list_any};
+ghost use Rattle.ttm_base.specs.Holes.{has_page};
+ghost use Rattle.ttm_base.specs.BuddyChoice as words;
+ghost use Rattle.block_tree.specs.FreeSet.{is_free};
+ghost use Rattle.buddy_manager.specs.Held.{AllBy};
+ghost use Rattle.buddy_manager.specs.Taking.{CanTake, Tells, IsTakenBy, IsSame};
+
+use crate::orders::{log2_below, order_above};
+use crate::{AllocFault, BuddyFlags};
+use block_tree::FreeBlocks;
+use ttm_base::{Span, Spans};
+
+/// The block to take of the greatest order below a bound that has one.
+fn first_block(free: &FreeBlocks, range: Span, topdown: bool, orders: u32) -> Option<Span>
+    requires { orders ≤ 17 }
+    ensures choice { (test : ℕ → Bool) → Tells test free.now → option_map (λ c. c.block) (words.first_candidate (words.candidate test (length free.now) range topdown) orders) ≡ result }
+    ensures can { IfSome result (CanTake (is_free free.now) (length free.now)) }
+{
+    let mut order = orders;
+    while order > 0 {
+        order -= 1;
+        if let Some(block) = free.candidate(range, topdown, order) {
+            return Some(block);
+        }
+    }
+    None
+}
+
+/// Takes block after block until no page is left. After a refusal those that were taken stand in `out`.
+fn scattered(
+    free: &mut FreeBlocks,
+    range: Span,
+    topdown: bool,
+    pages: u32,
+    out: &mut Spans,
+) -> Result<(), AllocFault>
+    requires { out.old ≡ [] }
+    ensures taken { IsTakenBy free.old out.new free.new }
+    ensures ok { OnOk result ((test : ℕ → Bool) → Tells test free.old → words.scattered pages test (length free.old) range topdown pages ≡ Some out.new) }
+    ensures none { result ≡ Err AllocFault.NoBlocks → (test : ℕ → Bool) → Tells test free.old → words.scattered pages test (length free.old) range topdown pages ≡ None }
+{
+    let mut left = pages;
+    for _block in 0..pages {
+        if left == 0 {
+            return Ok(());
+        }
+        let Some(block) = first_block(free, range, topdown, log2_below(left) + 1) else {
+            return Err(AllocFault::NoBlocks);
+        };
+        let Ok(()) = out.push(block) else {
+            return Err(AllocFault::NoMemory);
+        };
+        free.mark(block, false);
+        left = left.saturating_sub(block.end - block.start);
+    }
+    if left == 0 {
+        Ok(())
+    } else {
+        Err(AllocFault::NoBlocks)
+    }
+}
+
+/// Takes one block of the next power of two, cut to the pages.
+fn contiguous(
+    free: &mut FreeBlocks,
+    range: Span,
+    topdown: bool,
+    pages: u32,
+    out: &mut Spans,
+) -> Result<(), AllocFault>
+    requires empty { out.old ≡ [] }
+    requires some { 1 ≤ pages }
+    ensures taken { IsTakenBy free.old out.new free.new }
+    ensures ok { OnOk result ((test : ℕ → Bool) → Tells test free.old → words.contiguous test (length free.old) range topdown pages ≡ Some out.new) }
+    ensures none { result ≡ Err AllocFault.NoBlocks → (test : ℕ → Bool) → Tells test free.old → words.contiguous test (length free.old) range topdown pages ≡ None }
+{
+    let Some(block) = free.candidate(range, topdown, order_above(pages)) else {
+        return Err(AllocFault::NoBlocks);
+    };
+    let span = Span {
+        start: block.start,
+        end: block.start + pages,
+    };
+    let Ok(()) = out.push(span) else {
+        return Err(AllocFault::NoMemory);
+    };
+    free.mark(span, false);
+    Ok(())
+}
+
+/// Marks the pages of spans as free.
+pub fn free_spans(free: &mut FreeBlocks, spans: &[Span])
+    requires { AllBy (length free.old) spans.now }
+    ensures size { length free.new ≡ length free.old }
+    ensures freed { (page : ℕ) → is_free free.new page ≡ (is_free free.old page || list_any (has_page page) spans.now) }
+{
+    for span in spans {
+        free.mark(*span, true);
+    }
+}
+
+/// Takes blocks one after the other, or one. After a refusal those that were taken stand in `out`.
+fn take_blocks(
+    free: &mut FreeBlocks,
+    range: Span,
+    flags: BuddyFlags,
+    pages: u32,
+    out: &mut Spans,
+) -> Result<(), AllocFault>
+    requires empty { out.old ≡ [] }
+    requires some { 1 ≤ pages }
+    ensures taken { IsTakenBy free.old out.new free.new }
+    ensures ok { OnOk result ((test : ℕ → Bool) → Tells test free.old → words.buddy_choice test (length free.old) range flags.topdown flags.contig pages ≡ Some out.new) }
+    ensures none { result ≡ Err AllocFault.NoBlocks → (test : ℕ → Bool) → Tells test free.old → words.buddy_choice test (length free.old) range flags.topdown flags.contig pages ≡ None }
+{
+    if flags.contig {
+        contiguous(free, range, flags.topdown, pages, out)
+    } else {
+        scattered(free, range, flags.topdown, pages, out)
+    }
+}
+
+/// Takes the blocks of the choice, in the order in which they are taken. After a refusal nothing is taken.
+pub fn take_choice(
+    free: &mut FreeBlocks,
+    range: Span,
+    flags: BuddyFlags,
+    pages: u32,
+    out: &mut Spans,
+) -> Result<(), AllocFault>
+    requires empty { out.old ≡ [] }
+    requires some { 1 ≤ pages }
+    ensures taken { OnOk result (IsTakenBy free.old out.new free.new) }
+    ensures ok { OnOk result ((test : ℕ → Bool) → Tells test free.old → words.buddy_choice test (length free.old) range flags.topdown flags.contig pages ≡ Some out.new) }
+    ensures none { result ≡ Err AllocFault.NoBlocks → (test : ℕ → Bool) → Tells test free.old → words.buddy_choice test (length free.old) range flags.topdown flags.contig pages ≡ None }
+    ensures same { OnErr result (IsSame free.old free.new) }
+    ensures empty { OnErr result (out.new ≡ []) }
+{
+    match take_blocks(free, range, flags, pages, out) {
+        Ok(()) => Ok(()),
+        Err(fault) => {
+            free_spans(free, out.items());
+            out.clear();
+            Err(fault)
+        }
+    }
+}

@@ -1,0 +1,79 @@
+//! For each page where the block that begins there ends; a page where none begins has no end above it.
+ghost use Rattle.std.specs.Prelude.{◌≡◌, ◌+◌, ◌^◌, ◌<◌, ◌≤◌, true, length};
+ghost use Rattle.ttm_base.specs.Holes.{is_free_beside};
+ghost use Rattle.buddy_manager.specs.Held.{held_from, with_block, with_blocks, without, without_all, is_held, all_held, pages_of, AreHeld};
+ghost use Rattle.buddy_manager.specs.Taking.{AreTaken};
+
+use ttm_base::Span;
+
+/// Holds blocks, one after the other.
+pub fn hold(ends: &mut [u32], blocks: &[Span])
+    requires { AreTaken (is_free_beside (held_from 0 ends.old)) (length ends.old) blocks.now }
+    ensures len { length ends.new ≡ length ends.old }
+    ensures held { held_from 0 ends.new ≡ with_blocks blocks.now (held_from 0 ends.old) }
+{
+    for block in blocks {
+        ends[block.start as usize] = block.end;
+    }
+}
+
+/// Holds blocks no more.
+pub fn let_go(ends: &mut [u32], blocks: &[Span])
+    requires { AreHeld blocks.now (held_from 0 ends.old) }
+    ensures len { length ends.new ≡ length ends.old }
+    ensures held { held_from 0 ends.new ≡ without_all blocks.now (held_from 0 ends.old) }
+{
+    for block in blocks {
+        ends[block.start as usize] = 0;
+    }
+}
+
+/// Holds the first pages of a block, and no longer the others.
+pub fn cut(ends: &mut [u32], block: Span, keep: u32)
+    requires held { is_held block (held_from 0 ends.old) ≡ true }
+    requires some { 1 ≤ keep }
+    requires most { block.start + keep ≤ block.end }
+    ensures len { length ends.new ≡ length ends.old }
+    ensures held { held_from 0 ends.new ≡ with_block (record { start = block.start; end = block.start + keep }) (without block (held_from 0 ends.old)) }
+{
+    ends[block.start as usize] = block.start + keep;
+}
+
+/// A block is held.
+pub fn is_held(ends: &[u32], block: Span) -> bool
+    ensures { result ≡ is_held block (held_from 0 ends.now) }
+{
+    let at = block.start as usize;
+    at < ends.len() && ends[at] == block.end && block.start < block.end
+}
+
+/// Blocks are distinct, and each is held.
+pub fn are_held(ends: &[u32], blocks: &[Span]) -> bool
+    ensures { result ≡ all_held blocks.now (held_from 0 ends.now) }
+{
+    for (i, block) in blocks.iter().enumerate() {
+        if !is_held(ends, *block) || has_block(&blocks[i + 1..], *block) {
+            return false;
+        }
+    }
+    true
+}
+
+/// A block is among others.
+fn has_block(blocks: &[Span], block: Span) -> bool
+    ensures { result ≡ is_held block blocks.now }
+{
+    blocks.iter().any(|other| block.start == other.start && block.end == other.end)
+}
+
+/// How many pages blocks have.
+pub fn pages_of(blocks: &[Span]) -> u32
+    requires { pages_of blocks.now < 2 ^ 32 }
+    ensures { result ≡ pages_of blocks.now }
+{
+    let mut pages = 0;
+    for block in blocks {
+        pages += block.end.saturating_sub(block.start);
+    }
+    pages
+}

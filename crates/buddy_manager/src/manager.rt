@@ -1,0 +1,138 @@
+ghost use Rattle.std.specs.Prelude.{◌≡◌, ◌+◌, ◌^◌, ◌<◌, ◌≤◌, true, [], Some, None, replicate, Decides, IfOk, OnOk, OnErr};
+ghost use Rattle.ttm_base.specs.BuddyChoice.{buddy_choice};
+ghost use Rattle.ttm_base.specs.Holes.{is_free_beside};
+ghost use Rattle.ttm_base.specs.Reach.{length_of};
+ghost use Rattle.buddy_manager.specs.Held.{with_block, with_blocks, without, without_all, is_held, pages_of, AreHeld};
+
+use crate::choice::{free_spans, take_choice};
+use crate::ends::{are_held, cut, hold, is_held, let_go, pages_of};
+use crate::{AllocFault, BuddyFlags};
+use block_tree::FreeBlocks;
+use std::alloc::Global;
+use std::marker::Model;
+use ttm_base::{NoMemory, Span, Spans};
+
+/// The pages of a memory type by blocks, seen as the number of pages and the blocks that are held. The other pages are free.
+#[derive(Drop)]
+pub struct BuddyManager {
+    free: FreeBlocks,
+    ends: Vec<u32>,
+    used: u32,
+}
+
+impl Model for BuddyManager {
+    ghost use Rattle.std.specs.Prelude.{length};
+    ghost use Rattle.buddy_manager.specs.Held.{Managed};
+
+    ghost Value = { Managed };
+
+    ghost use Rattle.buddy_manager.specs.Held.{held_from};
+    ghost use Rattle.buddy_manager.specs.Taking.{IsManaged};
+
+    ghost view = { λ m. record { size = length m.free; held = held_from 0 m.ends.items } };
+
+    ghost invariant = { λ m. IsManaged m.free m.ends.items m.used };
+}
+
+/// For each page that no block begins there.
+fn no_ends(alloc: Global, pages: u32) -> Result<Vec<u32>, NoMemory>
+    ensures { IfOk result (λ ends. ends.items ≡ replicate pages 0) }
+{
+    let ends = vec![in alloc; 0; pages as usize]?;
+    Ok(ends)
+}
+
+impl BuddyManager {
+    /// Pages of which none is held. There are fewer than 65,536.
+    pub fn new(alloc: Global, pages: u32) -> Result<BuddyManager, NoMemory>
+        requires { pages < 2 ^ 16 }
+        ensures size { IfOk result (λ manager. manager.size ≡ pages) }
+        ensures held { IfOk result (λ manager. manager.held ≡ []) }
+    {
+        let free = FreeBlocks::new(alloc, pages)?;
+        let ends = no_ends(alloc, pages)?;
+        Ok(BuddyManager {
+            free,
+            ends,
+            used: 0,
+        })
+    }
+
+    /// Takes blocks for so many pages between two pages, in the order of the buddy choice. After a refusal nothing is changed.
+    pub fn alloc(
+        &mut self,
+        pages: u32,
+        first: u32,
+        last: u32,
+        flags: BuddyFlags,
+        out: &mut Spans,
+    ) -> Result<(), AllocFault>
+        requires empty { out.old ≡ [] }
+        requires some { 1 ≤ pages }
+        ensures size { self.new.size ≡ self.old.size }
+        ensures ok { OnOk result (buddy_choice (is_free_beside self.old.held) self.old.size (record { start = first; end = last }) flags.topdown flags.contig pages ≡ Some out.new) }
+        ensures held { OnOk result (self.new.held ≡ with_blocks out.new self.old.held) }
+        ensures none { result ≡ Err AllocFault.NoBlocks → buddy_choice (is_free_beside self.old.held) self.old.size (record { start = first; end = last }) flags.topdown flags.contig pages ≡ None }
+        ensures same { OnErr result (self.new ≡ self.old) }
+        ensures empty { OnErr result (out.new ≡ []) }
+    {
+        let range = Span {
+            start: first,
+            end: last,
+        };
+        take_choice(&mut self.free, range, flags, pages, out)?;
+        hold(&mut self.ends, out.items());
+        self.used += pages_of(out.items());
+        Ok(())
+    }
+
+    /// A block is held, as it was given out or as `trim` left it.
+    pub fn is_held(&self, block: Span) -> bool
+        ensures { result ≡ is_held block self.now.held }
+    {
+        is_held(&self.ends, block)
+    }
+
+    /// Blocks are distinct, and each is held.
+    pub fn are_held(&self, blocks: &Spans) -> bool
+        ensures { Decides result (AreHeld blocks.now self.now.held) }
+    {
+        are_held(&self.ends, blocks.items())
+    }
+
+    /// Gives blocks back that are held. It takes no memory.
+    pub fn release(&mut self, spans: &Spans)
+        requires { AreHeld spans.now self.old.held }
+        ensures size { self.new.size ≡ self.old.size }
+        ensures held { self.new.held ≡ without_all spans.now self.old.held }
+    {
+        let_go(&mut self.ends, spans.items());
+        free_spans(&mut self.free, spans.items());
+        self.used -= pages_of(spans.items());
+    }
+
+    /// Gives back the pages of a held block beyond the first `keep`. It takes no memory.
+    pub fn trim(&mut self, span: Span, keep: u32)
+        requires held { is_held span self.old.held ≡ true }
+        requires some { 1 ≤ keep }
+        requires most { keep ≤ length_of span }
+        ensures size { self.new.size ≡ self.old.size }
+        ensures held { self.new.held ≡ with_block (record { start = span.start; end = span.start + keep }) (without span self.old.held) }
+    {
+        cut(&mut self.ends, span, keep);
+        let rest = Span {
+            start: span.start + keep,
+            end: span.end,
+        };
+        self.free.mark(rest, true);
+        self.used -= rest.end - rest.start;
+    }
+
+    /// How many pages are free, and how many are used.
+    pub fn lengths(&self) -> (u32, u32)
+        ensures used { result.1 ≡ pages_of self.now.held }
+        ensures sum { result.0 + result.1 ≡ self.now.size }
+    {
+        (self.free.size() - self.used, self.used)
+    }
+}
