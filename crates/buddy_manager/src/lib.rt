@@ -5,6 +5,8 @@ mod choice;
 mod ends;
 mod manager;
 mod orders;
+#[cfg(test)]
+mod tests;
 
 pub use manager::BuddyManager;
 
