@@ -1,5 +1,5 @@
 -- In the states of legal journals jobs have packets, few victims are caught, and targets stand at held buffers.
-use Rattle.std.proofs.Common.{◌≡◌, ℕ, ◌<◌, ◌≤◌, Bool, true, false, List, [], ◌∷◌, length, Option, Some, None, IsTrue, refl, sym, ◌∙◌, ap, subst, arith}
+use Rattle.std.proofs.Common.{◌≡◌, ◌≤◌, true, List, [], ◌∷◌, length, Option, Some, None, IsTrue, refl, sym, subst, arith}
 use Rattle.ttm_base.specs.declared.BufId.{BufId}
 use Rattle.ttm_base.specs.declared.Stamp.{Stamp}
 use Rattle.journal_model.specs.declared.script.Script.{Script}
@@ -11,7 +11,7 @@ use Rattle.journal_model.specs.Ready.{has_some_target}
 use Rattle.journal_model.specs.ScriptRules.{is_script}
 use Rattle.journal_model.specs.Legal.{World, first_world, world_after, world_along, state_of, IsLegalFrom, IsLegal}
 use Rattle.journal_law.proofs.Shown.{legal_step}
-use Rattle.search_measure_law.proofs.Victims.{Caught, nobody, single, pair}
+use Rattle.search_measure_law.proofs.Victims.{Caught}
 use Rattle.end_law.proofs.Lasting.{Steady, steady_keeps, steady_first}
 use Rattle.answer_law.specs.AtWork.{IsHeld, AreFew}
 

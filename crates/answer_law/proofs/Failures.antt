@@ -1,8 +1,7 @@
 -- A command whose search has failed has a buffer that isn't ready, until it is refused.
-use Rattle.std.proofs.Common.{◌≡◌, ℕ, zero, suc, Bool, true, false, List, [], ◌∷◌, ◌++◌, length, Option, Some, None, IsSome, refl, sym, ◌∙◌, ap, ap₂, subst, arith, ◌⊎◌, inl, inr, ⊎_elim}
-use Rattle.std.specs.Prelude.{slice_get, map, find, fold, cond, unwrap_or, option_map, not, ◌||◌, ◌&&◌, ◌+◌, ◌==◌, if◌then◌else◌}
-use Rattle.std.proofs.lemmas.Bool.{cases_Bool, cases_eq, and_parts, or_cases, or_left, or_parts, not-true, not-false, false_from_ne_true, or_right}
-use Rattle.ttm_base.specs.ListWords.{last_of}
+use Rattle.std.proofs.Common.{◌≡◌, ℕ, Bool, true, false, List, length, Option, Some, None, IsSome, refl, sym, ◌∙◌, ap, ap₂, subst, inl, ⊎_elim}
+use Rattle.std.specs.Prelude.{slice_get, map, unwrap_or, not, ◌||◌, ◌&&◌, if◌then◌else◌}
+use Rattle.std.proofs.lemmas.Bool.{and_parts, or_cases, not-true, false_from_ne_true}
 use Rattle.ttm_base.specs.Reach.{same_mem}
 use Rattle.ttm_base.specs.Placement.{forced_places}
 use Rattle.ttm_base.specs.declared.Mem.{Mem}
@@ -36,27 +35,27 @@ use Rattle.journal_model.specs.Ready.{has_all_frames, has_some_target, is_in_pla
 use Rattle.journal_model.specs.Search.{is_caught, quest, quest_at_work}
 use Rattle.journal_model.specs.Tasks.{starts, first_missing, gives_back}
 use Rattle.journal_model.specs.PageSteps.{target_to_untake, next_job}
-use Rattle.journal_model.specs.ApplyCommands.{named_in, on_to_next, has_made}
-use Rattle.journal_model.specs.ApplyJobs.{ops_of, with_use}
+use Rattle.journal_model.specs.ApplyCommands.{named_in, on_to_next}
+use Rattle.journal_model.specs.ApplyJobs.{ops_of}
 use Rattle.journal_model.specs.ApplyPages.{with_spans, with_page, without_frames, bound, unbound, search_over}
 use Rattle.journal_model.specs.ApplyMoves.{moved}
-use Rattle.journal_model.specs.ApplyVictims.{failed_if, with_fail, with_victim, no_longer_caught, gone_dry, course_after_dry}
-use Rattle.progress_law.specs.Sound.{Has, Carried, Fits, command_of, locks, Targeted, system_tt, system_vram, system_both, tt_system, tt_tt, tt_vram, vram_vram, vram_tt, vram_system, vram_both}
-use Rattle.sound_law.proofs.Turns.{Turn, Works, OnVictim, OnNamed, OnBuffer, OnMisplaced, OnCarried, answer, start, lock, victim_unbind, victim_empty, victim_give, victim_skip, victim_move, victim_fill, victim_search, refuse, give, give_up, act, fill_in_place, ask, bind, fill_to_bind, hop_up, unbind, move_up, move_across, move_down, fill_to_move, hop_down}
+use Rattle.journal_model.specs.ApplyVictims.{failed_if, with_fail, with_victim, gone_dry, course_after_dry}
+use Rattle.progress_law.specs.Sound.{Carried, Fits, command_of, locks, system_tt, system_vram, system_both, tt_system, tt_tt, tt_vram, vram_vram, vram_tt, vram_system, vram_both}
+use Rattle.sound_law.proofs.Turns.{Turn, Works, OnVictim, OnBuffer, OnCarried, answer, start, lock, victim_unbind, victim_empty, victim_give, victim_skip, victim_move, victim_fill, victim_search, refuse, give, give_up, act, fill_in_place, ask, bind, fill_to_bind, hop_up, unbind, move_up, move_across, move_down, fill_to_move, hop_down}
 use Rattle.sound_law.proofs.Gifts.{Gives, Sought, Filled, answers, makes, exists, shifts, draws, no_buffer, reserves, backs, seeks, binds, unbinds, moves, fills, lets_go, empties, depopulates, untakes, skips, gives_up, refuses, arms, frees, swaps, no_swap, acts, finds, evicts, dries, fresh, again, back, evicts_for_swap, nothing}
-use Rattle.sound_law.proofs.Bufs.{same_self, same_is, same_or_other, other_is, has_found, found_passes, none_found, has_pushed, has_without, without_gone, last_caught, none_last, none_missing, none_caught, clash}
+use Rattle.sound_law.proofs.Bufs.{same_or_other, other_is, has_found, found_passes, has_pushed, has_without, without_gone, last_caught, none_missing, clash}
 use Rattle.sound_law.proofs.Steadies.{next_course, locking_command}
 use Rattle.sound_law.proofs.Owners.{none_or}
 use Rattle.sound_law.proofs.Grips.{live_set, victim_free, swap_free}
-use Rattle.sound_law.proofs.OwnedKeeps.{HasIn, bare, unlocked, at_search, at_fill}
+use Rattle.sound_law.proofs.OwnedKeeps.{bare, unlocked}
 use Rattle.measure_law.proofs.Frame.{untouched}
 use Rattle.measure_law.proofs.Giving.{changed_here}
 use Rattle.measure_law.proofs.Border.{Known}
 use Rattle.measure_law.proofs.Parts.{after}
-use Rattle.carry_measure_law.proofs.Rows.{meets_alike, some_is, none_is}
+use Rattle.carry_measure_law.proofs.Rows.{meets_alike, some_is}
 use Rattle.carry_measure_law.proofs.Carries.{live_is}
 use Rattle.carry_measure_law.proofs.Takes.{taken, taken_body}
-use Rattle.way_law.proofs.OnWays.{OnWay, Carrying, SameLock, lock_same, works_alike, search_lock, fail_lock, dry_lock}
+use Rattle.way_law.proofs.OnWays.{Carrying, SameLock, lock_same, works_alike, search_lock, fail_lock, dry_lock}
 use Rattle.way_law.proofs.Keeps.{targets_changed, targets_used}
 use Rattle.answer_law.proofs.Frames.{AreFull}
 

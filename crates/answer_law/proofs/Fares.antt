@@ -1,6 +1,6 @@
 -- What is known of each thread at a command holds in every state that a legal journal leads to.
-use Rattle.std.proofs.Common.{◌≡◌, ℕ, ◌<◌, ◌≤◌, Bool, true, false, List, [], ◌∷◌, length, Option, Some, None, Ok, IsTrue, refl, sym, ◌∙◌, ap, subst, arith, inl, ⊎_elim}
-use Rattle.std.specs.Prelude.{slice_get, unwrap_or, ◌&&◌, ◌||◌}
+use Rattle.std.proofs.Common.{◌≡◌, ℕ, ◌<◌, ◌≤◌, true, false, List, [], ◌∷◌, length, Some, Ok, IsTrue, refl, sym, ◌∙◌, ap, subst, arith, inl, ⊎_elim}
+use Rattle.std.specs.Prelude.{slice_get, unwrap_or, ◌&&◌}
 use Rattle.std.proofs.lemmas.Bool.{cases_eq, or_left, or_right}
 use Rattle.ttm_base.specs.Placement.{forced_places}
 use Rattle.ttm_base.specs.declared.BufId.{BufId}
@@ -36,7 +36,7 @@ use Rattle.search_measure_law.proofs.Ways.{way_of_last}
 use Rattle.way_law.proofs.Keeps.{LeftPlaces, clear_ready}
 use Rattle.end_law.proofs.Lasting.{Steady, steady_keeps, steady_first}
 use Rattle.answer_law.proofs.Frames.{AreFull, full_keeps, full_first}
-use Rattle.answer_law.proofs.Failures.{IsAway, HasUnready, Fares, goes}
+use Rattle.answer_law.proofs.Failures.{IsAway, Fares, goes}
 
 pub record Kept (script : Script) (s : State) : Type 0 where
   pub steady : Steady script s

@@ -1,6 +1,6 @@
 -- A buffer in TT has a frame for each page.
-use Rattle.std.proofs.Common.{◌≡◌, ℕ, zero, suc, Bool, true, false, List, [], ◌∷◌, length, Option, Some, None, refl, sym, ◌∙◌, ap, subst, ⊎_elim}
-use Rattle.std.specs.Prelude.{slice_get, slice_set, map, fold, find, not, unwrap_or, option_map, option_and_then, ◌&&◌, ◌||◌}
+use Rattle.std.proofs.Common.{◌≡◌, ℕ, zero, suc, true, false, List, [], ◌∷◌, Option, Some, None, refl, sym, ◌∙◌, ap, subst, ⊎_elim}
+use Rattle.std.specs.Prelude.{slice_set, fold, not, unwrap_or, option_map, option_and_then, ◌&&◌}
 use Rattle.std.specs.List.{list_all}
 use Rattle.std.proofs.lemmas.Bool.{and_parts, and_from, not-false, or_left}
 use Rattle.ttm_base.specs.ListWords.{last_of}
@@ -18,16 +18,14 @@ use Rattle.journal_model.specs.declared.script.Script.{Script}
 use Rattle.journal_model.specs.declared.script.Command.{Command}
 use Rattle.journal_model.specs.declared.script.Command.TheVariants as command
 use Rattle.journal_model.specs.declared.entry.Kind.{Kind}
-use Rattle.journal_model.specs.declared.entry.Kind.TheVariants as kind
 use Rattle.journal_model.specs.declared.entry.Why.{Why}
 use Rattle.journal_model.specs.declared.entry.Why.TheVariants as why
 use Rattle.journal_model.specs.declared.state.State.{State}
 use Rattle.journal_model.specs.declared.state.Buffer.{Buffer}
 use Rattle.journal_model.specs.declared.state.Victim.{Victim}
 use Rattle.journal_model.specs.declared.state.Task.{Task}
-use Rattle.journal_model.specs.declared.state.Task.TheVariants as task
-use Rattle.journal_model.specs.State.{new_buffer, buffer, course, changed, live_in, has_target, same_buffer, has_buffer}
-use Rattle.journal_model.specs.Commands.{decl, named, command_at_work}
+use Rattle.journal_model.specs.State.{new_buffer, buffer, course, changed, live_in, has_target, same_buffer}
+use Rattle.journal_model.specs.Commands.{decl, command_at_work}
 use Rattle.journal_model.specs.Places.{is_frame}
 use Rattle.journal_model.specs.Ready.{has_all_frames, has_some_target, is_ready, is_filled, meets, first_unready}
 use Rattle.journal_model.specs.PageSteps.{why_caught}
@@ -41,7 +39,6 @@ use Rattle.journal_model.specs.ApplyVictims.{leaves_tt}
 use Rattle.journal_model.specs.Legal.{first_state}
 use Rattle.state_law.proofs.Lists.{set_at}
 use Rattle.progress_law.specs.Sound.{OnItsWay, in_vram, to_tt, out_of_vram, in_tt, in_system}
-use Rattle.sound_law.proofs.Along.{Stepped}
 use Rattle.sound_law.proofs.Turns.{Turn, bind, victim_move, move_up, move_across, move_down, victim_empty, act}
 use Rattle.sound_law.proofs.Gifts.{Gives, Sought, Filled, answers, makes, exists, shifts, draws, no_buffer, reserves, backs, seeks, binds, unbinds, moves, fills, lets_go, empties, depopulates, untakes, skips, gives_up, refuses, arms, frees, swaps, no_swap, acts, finds, evicts, dries, fresh, again, back, evicts_for_swap, nothing}
 use Rattle.sound_law.proofs.Bufs.{same_self, none_found, clash}

@@ -1,7 +1,6 @@
 -- A command that is refused for want of space or pages has a buffer at work.
-use Rattle.std.proofs.Common.{◌≡◌, ℕ, zero, suc, Bool, true, false, List, [], ◌∷◌, ◌++◌, Option, Some, None, Ok, IsTrue, refl, sym, ◌∙◌, ap, subst, ◌⊎◌, inl, inr, ⊎_elim}
-use Rattle.std.specs.Prelude.{slice_get, take, find, not, nat_lt, ◌==◌, if◌then◌else◌}
-use Rattle.ttm_base.specs.ListWords.{last_of}
+use Rattle.std.proofs.Common.{◌≡◌, ℕ, Bool, true, false, List, Option, Some, None, Ok, IsTrue, refl, sym, ◌∙◌, ap, subst, ◌⊎◌, inl, inr}
+use Rattle.std.specs.Prelude.{take, not, nat_lt, ◌==◌, if◌then◌else◌}
 use Rattle.ttm_base.specs.declared.BufId.{BufId}
 use Rattle.ttm_base.specs.declared.Deny.{Deny}
 use Rattle.ttm_base.specs.declared.Deny.TheVariants as deny
@@ -22,19 +21,18 @@ use Rattle.journal_model.specs.Commands.{named, command_at_work}
 use Rattle.journal_model.specs.Ready.{is_ready, first_unready}
 use Rattle.journal_model.specs.Stores.{Stores, showing}
 use Rattle.journal_model.specs.Tasks.{forbidden, task_of_victim, task_of_failed, task_of_unready, task_of_command}
-use Rattle.journal_model.specs.Next.{next}
 use Rattle.journal_model.specs.ScriptRules.{is_script}
-use Rattle.journal_model.specs.Legal.{World, first_world, world_along, state_of, IsLegal}
+use Rattle.journal_model.specs.Legal.{first_world, world_along, state_of, IsLegal}
 use Rattle.journal_law.proofs.Shown.{legal_step}
-use Rattle.sound_law.proofs.Along.{Stepped, stepped_of}
-use Rattle.sound_law.proofs.Turns.{Turn, OnNamed, Refusal, ban, pinned, Surrender, bare, ready, refuse, give_up}
+use Rattle.sound_law.proofs.Along.{stepped_of}
+use Rattle.sound_law.proofs.Turns.{Turn, OnNamed, ban, pinned, bare, ready, refuse, give_up}
 use Rattle.sound_law.proofs.Gifts.{Gives, seeks, fills, exists, no_buffer, gives_up, refuses, no_swap}
 use Rattle.sound_law.proofs.Bufs.{none_found, clash}
 use Rattle.owner_law.proofs.Fronts.{legal_front}
 use Rattle.answer_law.specs.Refusals.{HasBufferAtWork, RefusalsHaveBuffers}
 use Rattle.answer_law.proofs.InOrder.{legal_at}
-use Rattle.answer_law.proofs.Failures.{Fares, HasUnready}
-use Rattle.answer_law.proofs.Fares.{Kept, kept_law}
+use Rattle.answer_law.proofs.Failures.{Fares}
+use Rattle.answer_law.proofs.Fares.{kept_law}
 
 -- it is for want of space or pages
 abbrev is_want : Deny → Bool

@@ -1,6 +1,5 @@
 -- Each command of each thread has one answer, in order.
-use Rattle.std.specs.Prelude.{◌≡◌, ℕ, ◌<◌, ◌≤◌, Bool, true, List, Some, ◌&&◌, length, slice_get, take}
-use Rattle.ttm_base.specs.declared.Actor.TheVariants as actor
+use Rattle.std.specs.Prelude.{◌≡◌, ℕ, ◌<◌, ◌≤◌, true, List, Some, ◌&&◌, length, slice_get, take}
 use Rattle.journal_model.specs.declared.script.Script.{Script}
 use Rattle.journal_model.specs.declared.script.Command.{Command}
 use Rattle.journal_model.specs.declared.entry.Entry.{Entry}

@@ -1,5 +1,5 @@
 -- The version of a script changes no search.
-use Rattle.std.proofs.Common.{◌≡◌, ℕ, Bool, true, false, List, [], ◌∷◌, Option, Some, None, Ok, Err, refl, ap, ap₂}
+use Rattle.std.proofs.Common.{◌≡◌, ℕ, true, false, List, [], ◌∷◌, Option, Some, None, Ok, Err, refl, ap}
 use Rattle.std.specs.Prelude.{◌&&◌, ◌||◌, not, nat_lt, nat_le, find, filter_map, option_map, unwrap_or, slice_get, if◌then◌else◌}
 use Rattle.ttm_base.specs.declared.Mem.{Mem}
 use Rattle.ttm_base.specs.declared.Mem.TheVariants.{System, Tt, Vram}
@@ -34,7 +34,7 @@ use Rattle.journal_model.specs.Choice.{choice, choice_in, reach_of}
 use Rattle.journal_model.specs.Dry.{is_long_enough, is_loose, victim, ghost_in, causes}
 use Rattle.journal_model.specs.Lists.{in_order}
 use Rattle.journal_model.specs.Ready.{meets}
-use Rattle.journal_model.specs.Search.{Step, Quest, quest, why_of, step_of_crowded, step_of_forced_place, step_of_forced, first_choice, step_of_quest}
+use Rattle.journal_model.specs.Search.{Quest, quest, why_of, step_of_crowded, step_of_forced_place, step_of_forced, first_choice, step_of_quest}
 
 -- a script in another version
 abbrev pub in_version : ℕ → Script → Script

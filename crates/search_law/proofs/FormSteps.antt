@@ -1,8 +1,7 @@
 -- The version of a script changes no step and no state.
-use Rattle.std.proofs.Common.{◌≡◌, ℕ, ◌+◌, zero, suc, Bool, true, false, List, [], ◌∷◌, ◌++◌, length, Option, Some, None, Result, Ok, Err, refl, sym, ◌∙◌, ap, ap₂}
-use Rattle.std.specs.Prelude.{◌&&◌, ◌||◌, ◌==◌, not, nat_lt, find, fold, slice_get, option_map, is_ok, if◌then◌else◌}
+use Rattle.std.proofs.Common.{◌≡◌, ℕ, true, false, List, [], ◌∷◌, length, Option, Some, None, Result, Ok, Err, refl, ◌∙◌, ap}
+use Rattle.std.specs.Prelude.{◌&&◌, not, find, fold, if◌then◌else◌}
 use Rattle.ttm_base.specs.ListWords.{last_of}
-use Rattle.ttm_base.specs.declared.Mem.{Mem}
 use Rattle.ttm_base.specs.declared.BufId.{BufId}
 use Rattle.ttm_base.specs.declared.Deny.{Deny}
 use Rattle.ttm_base.specs.declared.Deny.TheVariants as deny
@@ -19,22 +18,21 @@ use Rattle.journal_model.specs.declared.entry.Kind.{Kind}
 use Rattle.journal_model.specs.declared.entry.Kind.TheVariants as kind
 use Rattle.journal_model.specs.declared.state.State.{State}
 use Rattle.journal_model.specs.declared.state.Course.{Course}
-use Rattle.journal_model.specs.declared.state.Victim.{Victim}
 use Rattle.journal_model.specs.declared.state.Buffer.{Buffer}
 use Rattle.journal_model.specs.declared.state.Grip.{Grip}
 use Rattle.journal_model.specs.declared.state.Task.{Task}
 use Rattle.journal_model.specs.declared.state.Task.TheVariants as task
-use Rattle.journal_model.specs.State.{buffer, grip, grip_in, live_in, course, changed, has_buffer, with_course, no_grip, new_buffer, regripped}
-use Rattle.journal_model.specs.Commands.{decl, named, command_at_work}
+use Rattle.journal_model.specs.State.{buffer, grip, grip_in, live_in, course, changed, with_course, regripped}
+use Rattle.journal_model.specs.Commands.{named, command_at_work}
 use Rattle.journal_model.specs.Lists.{listed_as, touched}
-use Rattle.journal_model.specs.Ready.{first_unready, has_some_target, is_filled, is_in_place}
-use Rattle.journal_model.specs.Search.{Step, quest, is_caught, quest_at_work, aim_of}
-use Rattle.journal_model.specs.Tasks.{forbidden, gives_back, starts, first_missing, task_of_victim, task_of_misplaced, task_of_unready, task_of_failed, task_of_held, task_of_command, task_of}
+use Rattle.journal_model.specs.Ready.{first_unready, has_some_target, is_filled}
+use Rattle.journal_model.specs.Search.{is_caught, aim_of}
+use Rattle.journal_model.specs.Tasks.{forbidden, gives_back, starts, first_missing, task_of_victim, task_of_misplaced, task_of_unready, task_of_failed, task_of_held, task_of_command}
 use Rattle.journal_model.specs.Next.{step_of_act, step_of_task, step_of_thread, next}
-use Rattle.journal_model.specs.ApplyCommands.{with_holder, released, with_pins, held_as_named, on_to_next, has_made}
+use Rattle.journal_model.specs.ApplyCommands.{with_holder, released, with_pins, held_as_named}
 use Rattle.journal_model.specs.ApplyPages.{bound, unbound, with_changed}
-use Rattle.journal_model.specs.ApplyMoves.{moved, core_after_move, last_ghost_left}
-use Rattle.journal_model.specs.ApplyVictims.{no_longer_caught, with_fail, gone_dry, course_after_dry}
+use Rattle.journal_model.specs.ApplyMoves.{moved}
+use Rattle.journal_model.specs.ApplyVictims.{with_fail, gone_dry, course_after_dry}
 use Rattle.journal_model.specs.Apply.{applied, thread_of}
 use Rattle.journal_model.specs.Stores.{Stores, stores_after, showing, within}
 use Rattle.journal_model.specs.Legal.{World, world_after, next_entry, shown_step}

@@ -6,7 +6,7 @@ use Rattle.ttm_base.specs.declared.Need.{Need}
 use Rattle.journal_model.specs.declared.script.Script.{Script}
 use Rattle.journal_model.specs.declared.entry.Entry.{Entry}
 use Rattle.journal_model.specs.declared.state.State.{State}
-use Rattle.journal_model.specs.Legal.{World, first_world, world_after, next_entry, IsLegalFrom, IsLegal}
+use Rattle.journal_model.specs.Legal.{World, first_world, IsLegalFrom, IsLegal}
 use Rattle.journal_model.specs.Scheduled.{Run, run_of, run_along, journal_along, stepped, appended, actor_of_turn, scheduled_actors, own_order, scheduled}
 use Rattle.journal_model.specs.Laws.{FormsAgree}
 use Rattle.search_law.proofs.FormSearches.{in_version}

@@ -3,3 +3,4 @@ pub mod FormSearches
 pub mod FormSteps
 pub mod Forms
 pub mod TwoLists
+pub mod FormScripts

@@ -1,11 +1,7 @@
 -- The search over one list of places gives the entry of the search over preferred and busy places.
-use Rattle.std.proofs.Common.{◌≡◌, ℕ, Bool, List, [], ◌∷◌, refl, ap, ap₂}
-use Rattle.ttm_base.specs.declared.BufId.{BufId}
+use Rattle.std.proofs.Common.{◌≡◌, List, [], ◌∷◌, refl, ap, ap₂}
 use Rattle.ttm_base.specs.declared.Place.{Place}
 use Rattle.ttm_base.specs.Placement.{first_places, forced_places}
-use Rattle.journal_model.specs.declared.script.Script.{Script}
-use Rattle.journal_model.specs.declared.state.State.{State}
-use Rattle.journal_model.specs.declared.state.Course.{Course}
 use Rattle.journal_model.specs.Commands.{as_fallback}
 use Rattle.journal_model.specs.OldSearch.{step_of_old_quest, one_list, IsSameSearch}
 use Rattle.std.specs.Prelude.{map}

@@ -1,6 +1,6 @@
 -- In a script of the first version each list of places is that of its preferred and its busy places.
-use Rattle.std.proofs.Common.{◌≡◌, ℕ, ◌<◌, zero, suc, Bool, true, false, List, [], ◌∷◌, ◌++◌, length, Option, Some, None, IsTrue, refl, sym, ◌∙◌, ap, ap₂, subst, arith, take-append-drop}
-use Rattle.std.specs.Prelude.{map, take, drop, slice_get, unwrap_or, ◌==◌, ◌&&◌, not, if◌then◌else◌}
+use Rattle.std.proofs.Common.{◌≡◌, ℕ, zero, suc, Bool, true, false, List, [], ◌∷◌, ◌++◌, length, Option, Some, None, IsTrue, refl, sym, ◌∙◌, ap, ap₂, subst}
+use Rattle.std.specs.Prelude.{map, take, drop, slice_get, unwrap_or, ◌&&◌, not}
 use Rattle.std.specs.List.{list_all}
 use Rattle.std.proofs.lemmas.Bool.{and_parts}
 use Rattle.ttm_base.specs.declared.BufId.{BufId}
@@ -12,7 +12,7 @@ use Rattle.journal_model.specs.declared.script.Decl.{Decl}
 use Rattle.journal_model.specs.Commands.{decl, undeclared, as_desired, as_fallback}
 use Rattle.journal_model.specs.OldSearch.{one_list}
 use Rattle.journal_model.specs.CommandRules.{is_between}
-use Rattle.journal_model.specs.ScriptRules.{is_script, is_decl, is_flagged, is_place, is_old_list, is_new_list, is_place_list}
+use Rattle.journal_model.specs.ScriptRules.{is_script, is_decl, is_flagged, is_place, is_old_list, is_place_list}
 use Rattle.state_law.proofs.JobsKeep.{all_at}
 use Rattle.state_law.proofs.Rules.{rules_of}
 use Rattle.search_law.specs.TwoLists.{IsTwoLists}
@@ -64,7 +64,7 @@ both_parts zero l = refl
 both_parts (suc n) [] = refl
 both_parts (suc n) (p ∷ l) = ap (λ xs. p ∷ xs) (both_parts n l)
 
-two_lists : (list : List FlaggedPlace) → list_all is_flagged list ≡ true → is_old_list list ≡ true → IsTwoLists list
+pub two_lists : (list : List FlaggedPlace) → list_all is_flagged list ≡ true → is_old_list list ≡ true → IsTwoLists list
 two_lists list flagged old =
     let a = and_parts (list_all (λ p. p.desired) (take (length (first_places list)) list) && list_all (λ p. p.fallback) (drop (length (first_places list)) list) && is_between 1 4 (length (first_places list))) (is_between 1 4 (length (forced_places list))) old in
     let b = and_parts (list_all (λ p. p.desired) (take (length (first_places list)) list) && list_all (λ p. p.fallback) (drop (length (first_places list)) list)) (is_between 1 4 (length (first_places list))) a.0 in

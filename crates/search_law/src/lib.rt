@@ -25,6 +25,11 @@ pub fn first_version_has_two_lists()
     ensures { (script : Script) (b : BufId) → IsTrue (is_script script) → script.version ≡ 1 → IsTwoLists (decl script b).placement.list }
 {}
 
+/// Its form in the second version is a script.
+pub fn form_is_a_script()
+    ensures { (script : Script) → IsTrue (is_script script) → script.version ≡ 1 → IsTrue (is_script (record script { version = 2 })) }
+{}
+
 /// A script of the first version and its form in the second have the same journal after as many turns of the simulator.
 pub fn forms_agree()
     ensures { FormsAgree }
