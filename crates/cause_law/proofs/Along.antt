@@ -1,6 +1,6 @@
 -- Along a legal journal each entry that gives up has its cause.
-use Rattle.std.proofs.Common.{◌≡◌, ℕ, Bool, true, false, List, [], ◌∷◌, ◌++◌, length, Option, Some, None, Ok, IsTrue, IsSome, refl, sym, ◌∙◌, ap, ap₂, subst, arith, ◌⊎◌, inl, inr, ⊎_elim}
-use Rattle.std.specs.Prelude.{slice_get, unwrap_or, ◌==◌, ◌&&◌, ◌||◌}
+use Rattle.std.proofs.Common.{◌≡◌, ℕ, Bool, true, false, List, [], ◌∷◌, ◌++◌, length, Some, Ok, refl, sym, ◌∙◌, ap, ap₂, subst, arith, inl, ⊎_elim}
+use Rattle.std.specs.Prelude.{unwrap_or, ◌==◌, ◌&&◌}
 use Rattle.std.specs.List.{list_any}
 use Rattle.std.proofs.lemmas.Bool.{cases_eq, or_left, or_right}
 use Rattle.std.proofs.lemmas.Bool.Decides.{nat_tests}
@@ -10,34 +10,30 @@ use Rattle.ttm_base.specs.declared.Actor.TheVariants as actor
 use Rattle.journal_model.specs.declared.script.Script.{Script}
 use Rattle.journal_model.specs.declared.script.Command.{Command}
 use Rattle.journal_model.specs.declared.state.State.{State}
-use Rattle.journal_model.specs.declared.state.Course.{Course}
 use Rattle.journal_model.specs.declared.entry.Entry.{Entry}
 use Rattle.journal_model.specs.declared.entry.Kind.{Kind}
 use Rattle.journal_model.specs.declared.entry.Kind.TheVariants as kind
 use Rattle.journal_model.specs.declared.entry.Shown.{Shown}
-use Rattle.journal_model.specs.State.{new_buffer, buffer, course, course_of, has_buffer}
-use Rattle.journal_model.specs.Commands.{named, command_at_work}
-use Rattle.journal_model.specs.ScriptRules.{is_script}
+use Rattle.journal_model.specs.State.{new_buffer, buffer, course, has_buffer}
+use Rattle.journal_model.specs.Commands.{named}
 use Rattle.journal_model.specs.Stores.{Stores, showing}
 use Rattle.journal_model.specs.Next.{next}
 use Rattle.journal_model.specs.Apply.{applied, thread_of}
 use Rattle.journal_model.specs.Complete.{is_answer, is_by_thread}
-use Rattle.journal_model.specs.Causes.{is_take_of, dry_of, presses, in_command, is_no_pages_of, search_of}
+use Rattle.journal_model.specs.Causes.{is_take_of, dry_of, presses, is_no_pages_of}
 use Rattle.journal_model.specs.Legal.{World, Made, first_state, first_world, world_after, made_along, made_of, IsLegalFrom, IsLegal}
 use Rattle.journal_law.proofs.Shown.{legal_step}
 use Rattle.journal_law.proofs.Courses.{is_of_engine, is_of_reaper, of_engine, of_reaper}
 use Rattle.progress_law.specs.Sound.{Owned, command_of}
-use Rattle.sound_law.proofs.Turns.{Works}
 use Rattle.sound_law.proofs.Along.{Stepped, stepped_of, first_course, OfWorker, packet, done, reap, of_worker}
-use Rattle.sound_law.proofs.Steadies.{next_course, own_course}
-use Rattle.sound_law.proofs.Bufs.{none_missing, clash}
+use Rattle.sound_law.proofs.Steadies.{own_course}
+use Rattle.sound_law.proofs.Bufs.{none_missing}
 use Rattle.sound_law.proofs.Grips.{one_course}
 use Rattle.measure_law.proofs.Frame.{others_buffer}
 use Rattle.cause_law.specs.Caused.{has_cause, are_caused}
-use Rattle.cause_law.proofs.Windows.{Quiet, quiet_others, others_window, others_command, Trail}
-use Rattle.cause_law.proofs.Tasks.{seeking_same, places_of}
-use Rattle.cause_law.proofs.Stages.{Stage, calm, pressed, spent, frameless, Alike}
-use Rattle.cause_law.proofs.Steps.{made}
+use Rattle.trail_law.proofs.Windows.{quiet_others, others_window, others_command, Trail}
+use Rattle.trail_law.proofs.Tasks.{seeking_same, places_of}
+use Rattle.trail_law.proofs.Stages.{Stage, calm, pressed, spent, frameless, Alike}
 use Rattle.cause_law.proofs.Carry.{own_stage}
 use Rattle.cause_law.proofs.Reasons.{NoneGives, own_cause}
 use Rattle.ttm_base.specs.Placement.{forced_places}
@@ -123,7 +119,7 @@ module _ (script : Script) (s s' : State) (u : ℕ) (cmd : Command) (j : List Ma
 abbrev pub Searches : Script → State → List Made → Type 0
 Searches script s j = (t : ℕ) (cmd : Command) → command_of script t (course s t) ≡ Some cmd → Stage script s j t (course s t) cmd
 
-not_by : (t u : ℕ) → (u ≡ t → ⊥) → is_by_thread u (actor.Thread t) ≡ false
+pub not_by : (t u : ℕ) → (u ≡ t → ⊥) → is_by_thread u (actor.Thread t) ≡ false
 not_by t u n = by (t == u) refl
   where
     equal : (a b : ℕ) → (a == b) ≡ true → b ≡ a

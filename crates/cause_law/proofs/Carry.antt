@@ -1,8 +1,8 @@
 -- Each entry of a thread carries on what is known of its searches, whatever its task.
-use Rattle.std.proofs.Common.{◌≡◌, ℕ, Bool, true, false, List, [], ◌∷◌, ◌++◌, length, Option, Some, None, Ok, IsSome, refl, sym, ◌∙◌, ap, subst, ◌⊎◌, inl, inr, ⊎_elim}
+use Rattle.std.proofs.Common.{◌≡◌, ℕ, Bool, true, false, List, [], ◌∷◌, ◌++◌, length, Option, Some, None, Ok, IsSome, refl, sym, ◌∙◌, ap, subst, ◌⊎◌, inl, inr}
 use Rattle.std.specs.Prelude.{slice_get, map, not, ◌||◌, if◌then◌else◌}
 use Rattle.std.specs.List.{list_any}
-use Rattle.std.proofs.lemmas.Bool.{cases_Bool, both_ways, or_left, or_right}
+use Rattle.std.proofs.lemmas.Bool.{both_ways, or_left, or_right}
 use Rattle.std.proofs.lemmas.List.Folds.{list_any-append}
 use Rattle.ttm_base.specs.ListWords.{last_of}
 use Rattle.ttm_base.specs.Placement.{forced_places}
@@ -34,17 +34,17 @@ use Rattle.journal_model.specs.Legal.{Made}
 use Rattle.journal_model.specs.Next.{step_of_task}
 use Rattle.journal_model.specs.Tasks.{task_of_command}
 use Rattle.journal_model.specs.Complete.{is_answer}
-use Rattle.journal_model.specs.Causes.{dry_of, presses, is_take_of, in_command, is_no_pages_of, search_of}
+use Rattle.journal_model.specs.Causes.{dry_of, is_take_of, in_command, is_no_pages_of, search_of}
 use Rattle.journal_law.proofs.Courses.{own_answered, one_more_if}
 use Rattle.progress_law.specs.Sound.{Owned, command_of}
-use Rattle.sound_law.proofs.Turns.{Turn, Works, OnNamed}
+use Rattle.sound_law.proofs.Turns.{Turn, OnNamed}
 use Rattle.sound_law.proofs.Gifts.{Gives, Sought, Filled, seeks, fills, finds, evicts, dries, fresh, again, back, evicts_for_swap, nothing}
 use Rattle.sound_law.proofs.Steadies.{next_course, own_course}
 use Rattle.sound_law.proofs.Bufs.{has_found, none_last, last_caught, clash}
-use Rattle.cause_law.proofs.Found.{Found, quest_found}
-use Rattle.cause_law.proofs.Windows.{Quiet, more_command, any_more, Trail, trail_goes_on}
-use Rattle.cause_law.proofs.Tasks.{places_of, Seeking, seeking_same, Searcher, searcher_of, victims, named_one, Filler, filler_of, victim_fills, named_fills, searching_task, Closes, closing_task, Closing, closing_of, refused, emptied, untaken, Aside, on_it, one_more, aside_of}
-use Rattle.cause_law.proofs.Stages.{Calm, Pressed, Spent, Frameless, Stage, calm, pressed, spent, frameless, Sort, sort_of, plain, caught, dried, lacking, result, denied, Alike, none_caught_is, swaps_not_vram, calm_plain, calm_swap, calm_fail, aside_course, aside_apart}
+use Rattle.trail_law.proofs.Found.{quest_found}
+use Rattle.trail_law.proofs.Windows.{Quiet, more_command, any_more, Trail, trail_goes_on}
+use Rattle.trail_law.proofs.Tasks.{places_of, seeking_same, Searcher, searcher_of, victims, named_one, Filler, filler_of, victim_fills, named_fills, searching_task, Closes, closing_task, Closing, closing_of, refused, emptied, untaken, Aside, on_it, one_more, aside_of}
+use Rattle.trail_law.proofs.Stages.{Calm, Pressed, Spent, Frameless, Stage, calm, pressed, spent, frameless, Sort, sort_of, plain, caught, dried, lacking, result, denied, Alike, none_caught_is, swaps_not_vram, calm_plain, calm_swap, calm_fail, aside_course, aside_apart}
 use Rattle.cause_law.proofs.Steps.{by_self, made, begins_anew, stays_calm, is_held, free_other, stays, elsewhere, is_open, searched}
 
 -- ---- what searches and fills don't make

@@ -1,7 +1,7 @@
 -- A victim's dry place.
-use Rattle.std.proofs.Common.{◌≡◌, true, false, List, [], ◌∷◌, refl, length}
-use Rattle.std.specs.Prelude.{codes, filter_map, Option, Some, None, drop}
-use Rattle.ttm_base.specs.declared.Mem.TheVariants.{System, Tt, Vram}
+use Rattle.std.proofs.Common.{◌≡◌, true, false, [], ◌∷◌, refl}
+use Rattle.std.specs.Prelude.{codes, filter_map, Option, Some, None}
+use Rattle.ttm_base.specs.declared.Mem.TheVariants.{Tt, Vram}
 use Rattle.ttm_base.specs.declared.BufId.{BufId}
 use Rattle.journal_model.specs.declared.script.Script.{Script}
 use Rattle.journal_model.specs.declared.script.Command.TheVariants as command

@@ -1,5 +1,6 @@
 -- Each entry that gives up has its cause, in every legal journal.
-use Rattle.std.proofs.Common.{◌≡◌, true, List, [], Ok, IsTrue, refl}
+use Rattle.std.proofs.Common.{◌≡◌, ℕ, true, List, [], Ok, IsTrue}
+use Rattle.ttm_base.specs.declared.Deny.{Deny}
 use Rattle.ttm_base.specs.declared.Actor.{Actor}
 use Rattle.ttm_base.specs.declared.Actor.TheVariants as actor
 use Rattle.std.proofs.lemmas.Bool.{or_left, or_right}
@@ -7,10 +8,11 @@ use Rattle.journal_model.specs.declared.script.Script.{Script}
 use Rattle.journal_model.specs.declared.state.State.{State}
 use Rattle.journal_model.specs.declared.entry.Entry.{Entry}
 use Rattle.journal_model.specs.declared.entry.Kind.{Kind}
+use Rattle.journal_model.specs.declared.entry.Kind.TheVariants as kind
 use Rattle.journal_model.specs.ScriptRules.{is_script}
 use Rattle.journal_model.specs.Next.{next}
 use Rattle.journal_model.specs.Apply.{applied}
-use Rattle.journal_model.specs.Legal.{first_state, made_of, IsLegal}
+use Rattle.journal_model.specs.Legal.{first_state, made_of, state_of, IsLegal}
 use Rattle.journal_law.proofs.Courses.{is_of_engine, is_of_reaper, of_engine, of_reaper}
 use Rattle.state_law.proofs.Rules.{rules_of}
 use Rattle.sound_law.proofs.Along.{stepped_of, of_worker}
@@ -18,7 +20,9 @@ use Rattle.end_law.proofs.Lasting.{Steady, steady_keeps, steady_first}
 use Rattle.list_law.proofs.Keeps.{AreListed, listed_keeps, listed_stays}
 use Rattle.list_law.proofs.Law.{carried_law}
 use Rattle.cause_law.specs.Caused.{are_caused}
-use Rattle.cause_law.proofs.Framed.{AreFramed, framed_stepped, framed_worker, framed_first}
+use Rattle.cause_law.specs.Refused.{LeavesNothing}
+use Rattle.cause_law.proofs.Refusals.{refusals_law}
+use Rattle.trail_law.proofs.Framed.{AreFramed, framed_stepped, framed_worker, framed_first}
 use Rattle.cause_law.proofs.Swaps.{none_gives}
 use Rattle.cause_law.proofs.Along.{caused_law}
 
@@ -58,3 +62,6 @@ module _ (script : Script) (fits : IsTrue (is_script script)) where
   pub all_caused : (journal : List Entry) → IsLegal script journal → are_caused script [] (made_of script journal) ≡ true
   all_caused journal h =
       caused_law script (Lasting script) lasting_keeps (λ s c. c.steady.sound.owned) (λ s c. none_gives script (rules_of script fits) s c.listed c.framed c.steady.carrying.targets) lasting_first journal h
+
+  pub all_refusals : (journal : List Entry) (t : ℕ) (d : Deny) → IsLegal script journal → next script (state_of script journal) (actor.Thread t) ≡ Ok (kind.Refused d) → LeavesNothing script (made_of script journal) (state_of script journal) t d
+  all_refusals journal t d h n = refusals_law script (Lasting script) lasting_keeps (λ s c. c.steady.sound.owned) lasting_first journal t d h n

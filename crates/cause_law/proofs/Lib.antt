@@ -1,12 +1,8 @@
 pub mod Counter
-pub mod Found
-pub mod Windows
-pub mod Tasks
-pub mod Stages
 pub mod Steps
 pub mod Carry
 pub mod Reasons
 pub mod Along
-pub mod Framed
 pub mod Swaps
+pub mod Refusals
 pub mod Law

@@ -1,9 +1,9 @@
 -- The cause of each entry that gives up, by what is known of its thread's searches.
 use Rattle.std.proofs.Common.{◌≡◌, ℕ, Bool, true, false, List, [], ◌∷◌, length, Option, Some, None, Ok, refl, sym, ◌∙◌, ap, ap₂, subst, arith, ◌⊎◌, inl, inr, ⊎_elim}
-use Rattle.std.specs.Prelude.{not, nat_lt, find, filter_map, is_none, is_some, unwrap_or, option_map, slice_get, ◌==◌, ◌&&◌, ◌||◌, if◌then◌else◌}
+use Rattle.std.specs.Prelude.{not, nat_lt, filter_map, is_none, unwrap_or, option_map, slice_get, ◌==◌, ◌&&◌, ◌||◌, if◌then◌else◌}
 use Rattle.std.specs.List.{list_any, list_all}
 use Rattle.std.proofs.lemmas.Grind.{common_steps}
-use Rattle.std.proofs.lemmas.Bool.{both_ways, or_left, or_right, or_cases, and_parts}
+use Rattle.std.proofs.lemmas.Bool.{or_left, or_right, or_cases}
 use Rattle.std.proofs.lemmas.Bool.Decides.{nat_tests}
 use Rattle.ttm_base.specs.ListWords.{last_of, count_from}
 use Rattle.ttm_base.specs.Placement.{forced_places}
@@ -11,7 +11,6 @@ use Rattle.ttm_base.specs.declared.Mem.{Mem}
 use Rattle.ttm_base.specs.declared.Mem.TheVariants.{System, Tt, Vram}
 use Rattle.ttm_base.specs.declared.BufId.{BufId}
 use Rattle.ttm_base.specs.declared.Stamp.{Stamp}
-use Rattle.ttm_base.specs.declared.Place.{Place}
 use Rattle.ttm_base.specs.declared.FlaggedPlace.{FlaggedPlace}
 use Rattle.ttm_base.specs.declared.Deny.{Deny}
 use Rattle.ttm_base.specs.declared.Deny.TheVariants as deny
@@ -31,22 +30,24 @@ use Rattle.journal_model.specs.declared.entry.DryWhy.{DryWhy}
 use Rattle.journal_model.specs.State.{buffer, grip, course, same_buffer, has_buffer}
 use Rattle.journal_model.specs.Commands.{named, command_at_work}
 use Rattle.journal_model.specs.Holds.{live_buffers, free_frame, free_slot}
-use Rattle.journal_model.specs.Dry.{has_frame, is_loose, is_dry, swap_victim, ghost_with_frame}
+use Rattle.journal_model.specs.Dry.{has_frame, is_loose, swap_victim, ghost_with_frame}
 use Rattle.journal_model.specs.Ready.{is_in_place, first_unready}
-use Rattle.journal_model.specs.Search.{Step, Quest, quest, is_caught, through_tt}
+use Rattle.journal_model.specs.Search.{Quest, quest, is_caught, through_tt}
 use Rattle.journal_model.specs.Tasks.{carried, task_of_misplaced, task_of_unready, task_of_failed, gives_back, forbidden, task_of_command, task_of_held, task_of_victim, first_missing, starts}
 use Rattle.journal_model.specs.Legal.{Made}
-use Rattle.journal_model.specs.Next.{backs_off, step_of_task}
-use Rattle.journal_model.specs.Complete.{is_answer}
-use Rattle.journal_model.specs.Causes.{dry_of, search_of, quest_at, dry_at_its_state, made_at, in_command, is_no_pages_of, is_out_of_space, is_out_of_frames, has_ended, same_numbers, must_back_off, is_holder, is_older, named_at_work}
-use Rattle.sound_law.proofs.Turns.{Turn, OnVictim, OnNamed, give_up}
-use Rattle.sound_law.proofs.Gifts.{Gives, Sought, Filled, seeks, fills, backs, exists, no_buffer, no_swap, gives_up, refuses}
-use Rattle.sound_law.proofs.Bufs.{same_self, same_is, none_last, last_caught, clash}
+use Rattle.journal_model.specs.Next.{next, step_of_task}
+use Rattle.state_law.proofs.Moves.{thread_step}
+use Rattle.ttm_base.specs.declared.Actor.TheVariants as actor
+use Rattle.journal_model.specs.Causes.{dry_of, search_of, quest_at, dry_at_its_state, in_command, is_no_pages_of, is_out_of_space, is_out_of_frames, has_ended, same_numbers, is_older}
+use Rattle.sound_law.proofs.Turns.{Turn, turn_of, give_up}
+use Rattle.sound_law.proofs.Gifts.{Gives, task_gives, seeks, fills, backs, exists, no_buffer, no_swap, gives_up, refuses}
+use Rattle.sound_law.proofs.Bufs.{same_is, none_last, last_caught, clash}
 use Rattle.cause_law.specs.Caused.{quest_of_dry, has_cause}
-use Rattle.cause_law.proofs.Found.{Found, dries, no_first, quest_found, Starved, fill_starved}
-use Rattle.cause_law.proofs.Windows.{Trail, on_list, tells}
-use Rattle.cause_law.proofs.Tasks.{places_of, quest_places, Seeking, Searcher, searcher_of, victims, named_one}
-use Rattle.cause_law.proofs.Stages.{Stage, Spent, Frameless, Calm, Pressed, calm, pressed, spent, frameless, none_caught_is}
+use Rattle.cause_law.specs.Explains.{Explains}
+use Rattle.trail_law.proofs.Found.{Found, dries, no_first, quest_found, Starved, fill_starved}
+use Rattle.trail_law.proofs.Windows.{Trail, on_list}
+use Rattle.trail_law.proofs.Tasks.{places_of, quest_places, Searcher, searcher_of, victims, named_one}
+use Rattle.trail_law.proofs.Stages.{Stage, calm, pressed, spent, frameless, none_caught_is}
 use Rattle.cause_law.proofs.Steps.{made, quest_is, dry_was, own_dry}
 use Rattle.cause_law.proofs.Carry.{of_search, of_fill}
 
@@ -243,13 +244,22 @@ module _ (script : Script) (s : State) (t : ℕ) (cmd : Command) (at : command_a
       ∙ (quest_is script s t cmd at a aim k seek ∙ sym (quest_places script cmd (course s t) a aim))
 
   dry_cause : (a : BufId) (aim : Aim) (b : BufId) (n : ℕ) (w : DryWhy) → Searcher script s (course s t) cmd a aim → Found script s (course s t) a (quest script cmd (course s t) a aim) (kind.Dry b n w) → HasCause (kind.Dry b n w)
-  dry_cause a aim b n w by (dries place here d x) =
+  dry_cause a aim b n w by (dries place here d y x) =
       dry_was script s t cmd at b (quest_of_dry script t b (made script s t cmd at (kind.Dry b n w))) (kind.Dry b n w) n place (own_dry b n w) (ap (λ l. slice_get (forced_places l) n) (list_is b aim (kind.Dry b n w) by) ∙ here) d
 
   dry_by : (b : BufId) (n : ℕ) (w : DryWhy) (x : Task) → Turn script s (course s t) cmd x → step_of_task script s (course s t) cmd x ≡ Ok (kind.Dry b n w) → Gives script s (course s t) cmd x (kind.Dry b n w) → HasCause (kind.Dry b n w)
   dry_by b n w x turn step (seeks {b = a} {aim} f) =
       dry_cause a aim b n w (searcher_of script s (course s t) cmd a aim turn) (quest_found script s (course s t) a (quest script cmd (course s t) a aim) (kind.Dry b n w) step)
   dry_by b n w x turn step (fills {b = a} f) = absurd (clash (sym (of_fill script s (course s t) cmd a (kind.Dry b n w) f)))
+
+  dry_explains : (a : BufId) (aim : Aim) (b : BufId) (n : ℕ) (w : DryWhy) → Searcher script s (course s t) cmd a aim → Found script s (course s t) a (quest script cmd (course s t) a aim) (kind.Dry b n w) → Explains script s t b n w
+  dry_explains a aim b n w by (dries place here d y x) =
+      record { place = place; at = ap (λ l. slice_get (forced_places l) n) (list_is b aim (kind.Dry b n w) by) ∙ here; dry = d; why = y }
+
+  pub explains_by : (b : BufId) (n : ℕ) (w : DryWhy) (x : Task) → Turn script s (course s t) cmd x → step_of_task script s (course s t) cmd x ≡ Ok (kind.Dry b n w) → Gives script s (course s t) cmd x (kind.Dry b n w) → Explains script s t b n w
+  explains_by b n w x turn step (seeks {b = a} {aim} f) =
+      dry_explains a aim b n w (searcher_of script s (course s t) cmd a aim turn) (quest_found script s (course s t) a (quest script cmd (course s t) a aim) (kind.Dry b n w) step)
+  explains_by b n w x turn step (fills {b = a} f) = absurd (clash (sym (of_fill script s (course s t) cmd a (kind.Dry b n w) f)))
 
   backed_by : (b : BufId) (st : Stamp) (x : Task) → Gives script s (course s t) cmd x (kind.Backoff b st) → HasCause (kind.Backoff b st)
   backed_by b st x (backs l h q) = backed_off (grip s b).holder (course s t).stamp st (nat_lt 0 (length (course s t).held)) h q
@@ -351,3 +361,11 @@ module _ (script : Script) (s : State) (t : ℕ) (cmd : Command) (at : command_a
   own_cause x (kind.Bulk group) is turn step g none stage = refl
   own_cause x (kind.Result r) is turn step g none stage = refl
   own_cause x (kind.Refused d) is turn step g none stage = refused_by d x turn (subst (λ z. is_other z ≡ true) (sym is) (command_other script s (course s t) cmd)) g stage
+
+-- ---- of any state
+
+-- a dry entry names its cause
+pub dry_explained : (script : Script) (s : State) (t : ℕ) (b : BufId) (k : ℕ) (w : DryWhy) → next script s (actor.Thread t) ≡ Ok (kind.Dry b k w) → Explains script s t b k w
+dry_explained script s t b k w h =
+    let st = thread_step script s t (kind.Dry b k w) h in
+    explains_by script s t st.cmd st.at_work [] b k w st.task (subst (Turn script s (course s t) st.cmd) (sym st.is_task) (turn_of script s (course s t) st.cmd)) st.step (task_gives script s (course s t) st.cmd st.task (kind.Dry b k w) st.step)

@@ -1,58 +1,48 @@
 -- Each entry of a thread carries on what is known of its searches.
-use Rattle.std.proofs.Common.{◌≡◌, ℕ, ◌+◌, zero, suc, Bool, true, false, List, [], ◌∷◌, ◌++◌, length, Option, Some, None, Ok, refl, sym, ◌∙◌, ap, ap₂, subst, arith, ◌⊎◌, inl, inr, ⊎_elim}
-use Rattle.std.specs.Prelude.{slice_get, not, map, unwrap_or, option_map, option_and_then, is_some, ◌==◌, ◌||◌, if◌then◌else◌}
-use Rattle.std.specs.List.{list_any, list_all}
-use Rattle.std.proofs.lemmas.Bool.{cases_Bool, cases_eq, both_ways, or_left, or_right}
+use Rattle.std.proofs.Common.{◌≡◌, ℕ, ◌+◌, suc, Bool, true, false, List, [], ◌∷◌, ◌++◌, length, Option, Some, None, refl, sym, ◌∙◌, ap, ap₂, subst, arith, ◌⊎◌, inl, inr, ⊎_elim}
+use Rattle.std.specs.Prelude.{slice_get, not, unwrap_or, option_map, option_and_then, is_some, ◌==◌, ◌||◌, if◌then◌else◌}
+use Rattle.std.specs.List.{list_all}
+use Rattle.std.proofs.lemmas.Bool.{cases_eq, or_left, or_right}
 use Rattle.std.proofs.lemmas.Bool.Decides.{nat_tests}
-use Rattle.std.proofs.lemmas.List.Folds.{list_any-append}
-use Rattle.ttm_base.specs.ListWords.{last_of}
 use Rattle.ttm_base.specs.Placement.{forced_places}
 use Rattle.ttm_base.specs.declared.Mem.{Mem}
 use Rattle.ttm_base.specs.declared.Span.{Span}
 use Rattle.ttm_base.specs.declared.Place.{Place}
 use Rattle.ttm_base.specs.declared.BufId.{BufId}
 use Rattle.ttm_base.specs.declared.FlaggedPlace.{FlaggedPlace}
-use Rattle.ttm_base.specs.declared.Deny.{Deny}
 use Rattle.ttm_base.specs.declared.Deny.TheVariants as deny
 use Rattle.ttm_base.specs.declared.Actor.TheVariants as actor
 use Rattle.journal_model.specs.declared.script.Script.{Script}
 use Rattle.journal_model.specs.declared.script.Command.{Command}
 use Rattle.journal_model.specs.declared.state.State.{State}
 use Rattle.journal_model.specs.declared.state.Course.{Course}
-use Rattle.journal_model.specs.declared.state.Victim.{Victim}
 use Rattle.journal_model.specs.declared.state.Aim.{Aim}
-use Rattle.journal_model.specs.declared.state.Task.{Task}
-use Rattle.journal_model.specs.declared.state.Task.TheVariants as task
 use Rattle.journal_model.specs.declared.entry.Kind.{Kind}
 use Rattle.journal_model.specs.declared.entry.Kind.TheVariants as kind
 use Rattle.journal_model.specs.declared.entry.Why.{Why}
-use Rattle.journal_model.specs.declared.entry.Why.TheVariants as why
 use Rattle.journal_model.specs.declared.entry.DryWhy.{DryWhy}
-use Rattle.journal_model.specs.State.{new_buffer, buffer, course, grip, same_buffer, has_buffer, live_in}
+use Rattle.journal_model.specs.State.{new_buffer, buffer, course, grip, same_buffer, has_buffer}
 use Rattle.journal_model.specs.Commands.{named, command_at_work}
 use Rattle.journal_model.specs.Dry.{is_dry}
 use Rattle.journal_model.specs.Ready.{is_ready, first_unready}
-use Rattle.journal_model.specs.Search.{Step, Quest, quest, quest_at_work, is_caught, aim_of}
+use Rattle.journal_model.specs.Search.{Quest, quest, quest_at_work, is_caught}
 use Rattle.journal_model.specs.Apply.{applied}
 use Rattle.journal_model.specs.ApplyCommands.{on_to_next}
-use Rattle.journal_model.specs.ApplyVictims.{with_fail, gone_dry, course_after_dry, with_victim, failed_if}
+use Rattle.journal_model.specs.ApplyVictims.{with_fail, gone_dry, course_after_dry}
 use Rattle.journal_model.specs.Legal.{Made}
-use Rattle.journal_model.specs.Next.{step_of_task}
-use Rattle.journal_model.specs.Tasks.{task_of_command}
 use Rattle.journal_model.specs.Complete.{is_answer, is_by_thread}
-use Rattle.journal_model.specs.Causes.{is_take_of, dry_of, presses, is_at_work, search_of, quest_at, dry_at_its_state, in_command, is_no_pages_of}
+use Rattle.journal_model.specs.Causes.{is_take_of, dry_of, presses, is_at_work, search_of, quest_at, dry_at_its_state}
 use Rattle.progress_law.specs.Sound.{Owned}
-use Rattle.sound_law.proofs.Turns.{Turn, Works, OnVictim, OnNamed}
-use Rattle.sound_law.proofs.Gifts.{Gives, Filled, task_gives, seeks, fills, evicts_for_swap, nothing}
+use Rattle.sound_law.proofs.Turns.{Works, OnNamed}
 use Rattle.sound_law.proofs.Steadies.{next_course}
-use Rattle.sound_law.proofs.Bufs.{same_self, same_is, other_is, has_found, none_missing, none_last, last_caught, clash}
+use Rattle.sound_law.proofs.Bufs.{same_self, other_is, has_found, none_missing, none_last}
 use Rattle.sound_law.proofs.Owners.{none_or}
 use Rattle.sound_law.proofs.Grips.{IsFree}
 use Rattle.measure_law.proofs.Frame.{touches, untouched}
-use Rattle.cause_law.proofs.Found.{Found, takes, catches, dries, no_first, quest_found}
-use Rattle.cause_law.proofs.Windows.{ends, tells, Quiet, quiet_cut, quiet_elsewhere, quiet_kept, more_window, more_command, any_more, Trail, on_list, trail_by_victim, trail_by_dry, trail_more, trail_dry, trail_goes_on}
-use Rattle.cause_law.proofs.Tasks.{places_of, quest_places, quest_forced, quest_dry, Seeking, seeking_same, Searcher, searcher_of, victims, named_one, Filler, filler_of, victim_fills, named_fills, searching_task, Closes, closing_task, Closing, closing_of, refused, emptied, untaken, is_aside, Aside, on_it, one_more, aside_of}
-use Rattle.cause_law.proofs.Stages.{is_for_swap, Calm, Pressed, Spent, Frameless, Stage, calm, pressed, spent, frameless, Sort, sort_of, plain, caught, dried, lacking, result, denied, Alike, none_caught_is, swaps_not_vram, calm_plain, calm_swap, calm_fail, Keeps, aside_course, aside_apart}
+use Rattle.trail_law.proofs.Found.{Found, takes, catches, dries, no_first}
+use Rattle.trail_law.proofs.Windows.{ends, tells, Quiet, quiet_cut, quiet_elsewhere, quiet_kept, more_window, Trail, on_list, trail_by_victim, trail_by_dry, trail_more, trail_dry}
+use Rattle.trail_law.proofs.Tasks.{places_of, quest_places, quest_forced, quest_dry, Seeking, seeking_same}
+use Rattle.trail_law.proofs.Stages.{is_for_swap, Calm, Stage, calm, pressed, spent, Alike, none_caught_is}
 
 -- a thread's entry is by it
 pub by_self : (t : ℕ) → is_by_thread t (actor.Thread t) ≡ true
@@ -266,4 +256,4 @@ module _ (script : Script) (s : State) (t : ℕ) (cmd : Command) (at : command_a
   pub searched : (k : Kind) → Alike k' k → Found script s (course s t) b (quest script cmd (course s t) b aim) k → After k
   searched k alike (takes {mem} {spans}) = took mem spans alike
   searched k alike (catches {v} {w} u p free) = caught_one v w alike u p free
-  searched k alike (dries {w} place here d u) = went_dry w alike place here d u
+  searched k alike (dries {w} place here d y u) = went_dry w alike place here d u

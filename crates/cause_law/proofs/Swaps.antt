@@ -1,8 +1,8 @@
 -- Without a victim for swap, no buffer that is neither pinned nor held has a frame.
-use Rattle.std.proofs.Common.{◌≡◌, ℕ, ◌<◌, ◌≤◌, ◌+◌, zero, suc, Bool, true, false, List, [], ◌∷◌, ◌++◌, Option, Some, None, refl, sym, ◌∙◌, ap, ap₂, subst, arith, ⊎_elim}
-use Rattle.std.specs.Prelude.{slice_get, filter_map, flat_map, find, take, drop, not, is_none, unwrap_or, option_and_then, ◌==◌, ◌*◌, ◌&&◌, ◌||◌}
-use Rattle.std.specs.List.{list_any, list_all, enumerate_from}
-use Rattle.std.proofs.lemmas.Bool.{cases_Bool, both_ways, and_parts, or_left, or_right, eqb-true, eq-eqb}
+use Rattle.std.proofs.Common.{◌≡◌, ℕ, ◌<◌, ◌+◌, zero, suc, Bool, true, false, List, [], ◌∷◌, ◌++◌, Option, Some, None, refl, sym, ◌∙◌, ap, ap₂, subst, arith}
+use Rattle.std.specs.Prelude.{slice_get, filter_map, flat_map, take, drop, not, is_none, unwrap_or, option_and_then, ◌==◌, ◌*◌, ◌&&◌, ◌||◌}
+use Rattle.std.specs.List.{list_all, enumerate_from}
+use Rattle.std.proofs.lemmas.Bool.{both_ways, and_parts, or_left, or_right, eqb-true, eq-eqb}
 use Rattle.std.proofs.lemmas.List.Folds.{list_any-append}
 use Rattle.ttm_base.specs.declared.Mem.{Mem}
 use Rattle.ttm_base.specs.declared.Mem.TheVariants.{System, Tt, Vram}
@@ -15,7 +15,7 @@ use Rattle.journal_model.specs.declared.state.Buffer.{Buffer}
 use Rattle.journal_model.specs.State.{new_buffer, buffer, grip, live_in, same_buffer, has_buffer, has_target}
 use Rattle.journal_model.specs.Commands.{decl}
 use Rattle.journal_model.specs.Lists.{list_number, in_order}
-use Rattle.journal_model.specs.Holds.{live_entry, live_buffers}
+use Rattle.journal_model.specs.Holds.{live_entry}
 use Rattle.journal_model.specs.Dry.{is_loose, has_frame, swap_victim}
 use Rattle.journal_model.specs.Ready.{has_some_target}
 use Rattle.state_law.proofs.Rules.{Rules}
@@ -23,7 +23,7 @@ use Rattle.sound_law.proofs.Bufs.{none_found}
 use Rattle.list_law.proofs.OneList.{list_of, is_number}
 use Rattle.list_law.proofs.TwelveLists.{get_below, number_below}
 use Rattle.list_law.proofs.Keeps.{AreListed}
-use Rattle.cause_law.proofs.Framed.{Framed, AreFramed}
+use Rattle.trail_law.proofs.Framed.{Framed, AreFramed}
 use Rattle.cause_law.proofs.Reasons.{NoneGives}
 
 -- ---- parts of lists

@@ -1,1 +1,3 @@
 pub mod Caused
+pub mod Explains
+pub mod Refused

@@ -1,6 +1,6 @@
 -- What a search that takes, evicts or goes dry tells of the state, and a fill that finds nothing.
 use Rattle.std.proofs.Common.{◌≡◌, ℕ, Bool, true, false, List, [], ◌∷◌, Option, Some, None, Ok, Err, refl, sym, ◌∙◌, ap, subst, ◌⊎◌, inl, inr}
-use Rattle.std.specs.Prelude.{slice_get, unwrap_or, is_none, not, ◌&&◌, ◌||◌}
+use Rattle.std.specs.Prelude.{slice_get, unwrap_or, is_none, not, ◌&&◌, ◌||◌, if◌then◌else◌}
 use Rattle.std.specs.List.{list_all}
 use Rattle.std.proofs.lemmas.Bool.{both_ways, or_right}
 use Rattle.ttm_base.specs.declared.Mem.{Mem}
@@ -33,6 +33,7 @@ use Rattle.journal_model.specs.Search.{Step, Quest, why_of, step_of_crowded, ste
 use Rattle.journal_model.specs.PageSteps.{page_to_fill, filled_by, step_without_victim, step_without_frame, step_of_fill}
 use Rattle.journal_model.specs.Causes.{presses}
 use Rattle.sound_law.proofs.Grips.{IsFree, victim_free}
+use Rattle.trail_law.specs.Explained.{explanation}
 
 -- no place that is tried first has a choice
 abbrev pub no_first : Script → State → BufId → List FlaggedPlace → Bool
@@ -45,7 +46,7 @@ Unchosen script s b q = q.forced ≡ false → no_first script s b q.list ≡ tr
 pub data Found (script : Script) (s : State) (c : Course) (b : BufId) (q : Quest) : Kind → Type 0 where
   takes : {mem : Mem} {spans : List Span} → Found script s c b q (kind.Take b mem spans)
   catches : {v : BufId} {w : Why} → Unchosen script s b q → presses (kind.Catch v w) ≡ true → IsFree s v → Found script s c b q (kind.Catch v w)
-  dries : {w : DryWhy} (place : Place) → slice_get (forced_places q.list) q.dry ≡ Some place → is_dry script s c.skips b place ≡ true → Unchosen script s b q → Found script s c b q (kind.Dry b q.dry w)
+  dries : {w : DryWhy} (place : Place) → slice_get (forced_places q.list) q.dry ≡ Some place → is_dry script s c.skips b place ≡ true → w ≡ explanation script s b place → Unchosen script s b q → Found script s c b q (kind.Dry b q.dry w)
 
 -- a place in SYSTEM has a choice
 in_system : (script : Script) (s : State) (b : BufId) (place : Place) → choice script s.core b place ≡ None → place.mem ≡ System → ⊥
@@ -73,20 +74,20 @@ module _ (script : Script) (s : State) (c : Course) (b : BufId) (q : Quest) wher
       step_of_crowded script s c b q.dry place ≡ Ok k → Found script s c b q k
   crowded_found none place at lacks k h = by_long (is_long_enough script b place) refl h
     where
-      by_ghost : victim script s c.skips place ≡ None → (o : Option Ghost) → ghost_in script s place ≡ o →
+      by_ghost : is_long_enough script b place ≡ true → victim script s c.skips place ≡ None → (o : Option Ghost) → ghost_in script s place ≡ o →
           ◌≡◌ {A = Step} (elim o [ Some g ↦ Err (need.Ghost g.num) | None ↦ Ok (kind.Dry b q.dry (dry.Of (causes script s place))) ]) (Ok k) → Found script s c b q k
-      by_ghost e (Some g) f h = cc
-      by_ghost e None f h = let it : kind.Dry b q.dry (dry.Of (causes script s place)) ≡ k = cc in subst (Found script s c b q) it (dries place at (crowded_dry place lacks e f) none)
+      by_ghost long e (Some g) f h = cc
+      by_ghost long e None f h = let it : kind.Dry b q.dry (dry.Of (causes script s place)) ≡ k = cc in subst (Found script s c b q) it (dries place at (crowded_dry place lacks e f) (ap (λ l. if l then dry.Of (causes script s place) else dry.Short) (sym long)) none)
 
-      by_victim : (o : Option BufId) → victim script s c.skips place ≡ o →
+      by_victim : is_long_enough script b place ≡ true → (o : Option BufId) → victim script s c.skips place ≡ o →
           ◌≡◌ {A = Step} (elim o [
             | Some v ↦ Ok (kind.Catch v (why_of place.mem))
             | None ↦ elim (ghost_in script s place) [ Some g ↦ Err (need.Ghost g.num) | None ↦ Ok (kind.Dry b q.dry (dry.Of (causes script s place))) ]
           ]) (Ok k) → Found script s c b q k
-      by_victim (Some v) e h =
+      by_victim long (Some v) e h =
           let it : kind.Catch v (why_of place.mem) ≡ k = cc in
           subst (Found script s c b q) it (catches none (why_presses v place.mem (in_system script s b place lacks)) (victim_free script s c.skips place v e))
-      by_victim None e h = by_ghost e (ghost_in script s place) refl h
+      by_victim long None e h = by_ghost long e (ghost_in script s place) refl h
 
       by_long : (l : Bool) → is_long_enough script b place ≡ l →
           ◌≡◌ {A = Step} (elim l [
@@ -96,8 +97,8 @@ module _ (script : Script) (s : State) (c : Course) (b : BufId) (q : Quest) wher
               | None ↦ elim (ghost_in script s place) [ Some g ↦ Err (need.Ghost g.num) | None ↦ Ok (kind.Dry b q.dry (dry.Of (causes script s place))) ]
             ]
           ]) (Ok k) → Found script s c b q k
-      by_long false e h = let it : kind.Dry b q.dry dry.Short ≡ k = cc in subst (Found script s c b q) it (dries place at (short_dry place e) none)
-      by_long true e h = by_victim (victim script s c.skips place) refl h
+      by_long false e h = let it : kind.Dry b q.dry dry.Short ≡ k = cc in subst (Found script s c b q) it (dries place at (short_dry place e) (ap (λ l. if l then dry.Of (causes script s place) else dry.Short) (sym e)) none)
+      by_long true e h = by_victim e (victim script s c.skips place) refl h
 
   took : (mem : Mem) (spans : List Span) (k : Kind) → ◌≡◌ {A = Step} (Ok (kind.Take b mem spans)) (Ok k) → Found script s c b q k
   took mem spans k h = let it : kind.Take b mem spans ≡ k = cc in subst (Found script s c b q) it takes

@@ -17,7 +17,7 @@ use Rattle.journal_model.specs.Legal.{Made}
 use Rattle.journal_model.specs.Search.{Quest}
 use Rattle.journal_model.specs.Complete.{is_answer, is_by_thread}
 use Rattle.journal_model.specs.Causes.{behind_last, is_take_of, dry_of, presses, is_at_work, search_of, quest_at, dry_at_its_state, in_command}
-use Rattle.cause_law.proofs.Found.{no_first}
+use Rattle.trail_law.proofs.Found.{no_first}
 
 -- ---- one entry more
 
@@ -105,6 +105,11 @@ module _ (script : Script) (t : ℕ) (j : List Made) (m : Made) where
   -- the command's entries
   pub others_command : is_by_thread t m.entry.who ≡ false → in_command t (j ++ m ∷ []) ≡ in_command t j
   others_command h = ap (behind_last (λ x. is_answer x.entry.kind)) (filter_less (λ x. is_by_thread t x.entry.who) j m h)
+
+  pub cut_command : is_by_thread t m.entry.who ≡ true → is_answer m.entry.kind ≡ true → in_command t (j ++ m ∷ []) ≡ []
+  cut_command h e =
+      ap (behind_last (λ x. is_answer x.entry.kind)) (filter_new (λ x. is_by_thread t x.entry.who) j m h)
+      ∙ behind_cut (λ x. is_answer x.entry.kind) (mine t j) m e
 
   pub more_command : is_by_thread t m.entry.who ≡ true → is_answer m.entry.kind ≡ false → in_command t (j ++ m ∷ []) ≡ in_command t j ++ m ∷ []
   more_command h e =

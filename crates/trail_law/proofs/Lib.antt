@@ -1,0 +1,5 @@
+pub mod Found
+pub mod Windows
+pub mod Tasks
+pub mod Stages
+pub mod Framed
