@@ -20,7 +20,7 @@ use Rattle.journal_model.specs.Stores.{Stores, showing}
 use Rattle.journal_model.specs.Next.{next}
 use Rattle.journal_model.specs.Apply.{applied, thread_of}
 use Rattle.journal_model.specs.Complete.{is_answer, is_by_thread}
-use Rattle.journal_model.specs.Causes.{is_take_of, dry_of, presses, is_no_pages_of}
+use Rattle.journal_model.specs.Causes.{is_take_of, dry_of, presses, is_no_pages_of, has_its_cause, have_causes}
 use Rattle.journal_model.specs.Legal.{World, Made, first_state, first_world, world_after, made_along, made_of, IsLegalFrom, IsLegal}
 use Rattle.journal_law.proofs.Shown.{legal_step}
 use Rattle.journal_law.proofs.Courses.{is_of_engine, is_of_reaper, of_engine, of_reaper}
@@ -30,7 +30,6 @@ use Rattle.sound_law.proofs.Steadies.{own_course}
 use Rattle.sound_law.proofs.Bufs.{none_missing}
 use Rattle.sound_law.proofs.Grips.{one_course}
 use Rattle.measure_law.proofs.Frame.{others_buffer}
-use Rattle.cause_law.specs.Caused.{has_cause, are_caused}
 use Rattle.trail_law.proofs.Windows.{quiet_others, others_window, others_command, Trail}
 use Rattle.trail_law.proofs.Tasks.{seeking_same, places_of}
 use Rattle.trail_law.proofs.Stages.{Stage, calm, pressed, spent, frameless, Alike}
@@ -156,7 +155,7 @@ module _ (script : Script) (s : State) (j : List Made) (owned : Owned script s) 
   worker_keeps who k k' other (done {n}) u cmd e = others_stage script s (applied script s who (kind.Done n)) u cmd j (record { before = s; entry = record { who = who; kind = k' } }) (other u) (λ d h. refl) (searches u cmd e)
   worker_keeps who k k' other (reap {g}) u cmd e = others_stage script s (applied script s who (kind.Reap g)) u cmd j (record { before = s; entry = record { who = who; kind = k' } }) (other u) (λ d h. refl) (searches u cmd e)
 
-  worker_cause : (t : ℕ) (k : Kind) → OfWorker k → has_cause script j s t k ≡ true
+  worker_cause : (t : ℕ) (k : Kind) → OfWorker k → has_its_cause script j s t k ≡ true
   worker_cause t k packet = refl
   worker_cause t k done = refl
   worker_cause t k reap = refl
@@ -166,7 +165,7 @@ module _ (script : Script) (s : State) (j : List Made) (owned : Owned script s) 
   searches_keep (actor.Engine e) k k' alike h = worker_keeps (actor.Engine e) k k' (λ u. refl) (of_worker k (or_left (is_of_engine k) (is_of_reaper k) (of_engine script s e k h)))
   searches_keep actor.Reaper k k' alike h = worker_keeps actor.Reaper k k' (λ u. refl) (of_worker k (or_right (is_of_engine k) (is_of_reaper k) (of_reaper script s k h)))
 
-  pub entry_cause : NoneGives s → (who : Actor) (k : Kind) → next script s who ≡ Ok k → has_cause script j s (thread_of who) k ≡ true
+  pub entry_cause : NoneGives s → (who : Actor) (k : Kind) → next script s who ≡ Ok k → has_its_cause script j s (thread_of who) k ≡ true
   entry_cause none (actor.Thread t) k h =
       let st = stepped_of script s t k owned.courses h in
       own_cause script s t st.step.cmd st.step.at_work j st.step.task k st.step.is_task st.turn st.step.step st.gives none (searches t st.step.cmd st.at)
@@ -180,18 +179,18 @@ first_searches script t cmd e = subst (λ c. Stage script (first_state script) [
 
 module _ (script : Script) (Keeps : State → Type 0) (keeps : (s : State) (who : Actor) (k : Kind) → Keeps s → next script s who ≡ Ok k → Keeps (applied script s who k)) (owned : (s : State) → Keeps s → Owned script s)
     (gives : (s : State) → Keeps s → NoneGives s) where
-  caused_along : (w : World) (es : List Entry) (j : List Made) → Keeps w.state → Searches script w.state j → IsLegalFrom script w es → are_caused script j (made_along script w es) ≡ true
+  caused_along : (w : World) (es : List Entry) (j : List Made) → Keeps w.state → Searches script w.state j → IsLegalFrom script w es → have_causes script j (made_along script w es) ≡ true
   caused_along w [] j kept searches h = refl
   caused_along w (e ∷ es) j kept searches h =
       let l = legal_step script w e h.0 in
       ap₂ (λ a b. a && b)
-      (ap (λ f. has_cause script j w.state (thread_of f.who) f.kind) l.entry
-      ∙ (shown_same (has_cause script j w.state (thread_of e.who)) (λ x y. refl) (λ n i p q. refl) script w.stores w.state e.who l.kind ∙ entry_cause script w.state j (owned w.state kept) searches (gives w.state kept) e.who l.kind l.step))
+      (ap (λ f. has_its_cause script j w.state (thread_of f.who) f.kind) l.entry
+      ∙ (shown_same (has_its_cause script j w.state (thread_of e.who)) (λ x y. refl) (λ n i p q. refl) script w.stores w.state e.who l.kind ∙ entry_cause script w.state j (owned w.state kept) searches (gives w.state kept) e.who l.kind l.step))
       (caused_along (world_after script w e) es (j ++ record { before = w.state; entry = e } ∷ []) (subst Keeps (sym l.state) (keeps w.state e.who l.kind kept l.step))
       (subst (λ f. Searches script (world_after script w e).state (j ++ record { before = w.state; entry = f } ∷ [])) (sym l.entry)
       (subst (λ s. Searches script s (j ++ record { before = w.state; entry = record { who = e.who; kind = showing script w.stores w.state e.who l.kind } } ∷ [])) (sym l.state)
       (searches_keep script w.state j (owned w.state kept) searches e.who l.kind (showing script w.stores w.state e.who l.kind) (shown_alike script w.stores w.state e.who l.kind) l.step)))
       h.1)
 
-  pub caused_law : Keeps (first_state script) → (journal : List Entry) → IsLegal script journal → are_caused script [] (made_of script journal) ≡ true
+  pub caused_law : Keeps (first_state script) → (journal : List Entry) → IsLegal script journal → have_causes script [] (made_of script journal) ≡ true
   caused_law first journal h = caused_along (first_world script) journal [] first (first_searches script) h

@@ -19,7 +19,7 @@ use Rattle.sound_law.proofs.Along.{stepped_of, of_worker}
 use Rattle.end_law.proofs.Lasting.{Steady, steady_keeps, steady_first}
 use Rattle.list_law.proofs.Keeps.{AreListed, listed_keeps, listed_stays}
 use Rattle.list_law.proofs.Law.{carried_law}
-use Rattle.cause_law.specs.Caused.{are_caused}
+use Rattle.journal_model.specs.Causes.{have_causes}
 use Rattle.cause_law.specs.Refused.{LeavesNothing}
 use Rattle.cause_law.proofs.Refusals.{refusals_law}
 use Rattle.trail_law.proofs.Framed.{AreFramed, framed_stepped, framed_worker, framed_first}
@@ -59,7 +59,7 @@ module _ (script : Script) (fits : IsTrue (is_script script)) where
   lasting_first : Lasting script (first_state script)
   lasting_first = record { steady = steady_first script fits; listed = (carried_law script [] fits tt).listed; framed = framed_first script }
 
-  pub all_caused : (journal : List Entry) → IsLegal script journal → are_caused script [] (made_of script journal) ≡ true
+  pub all_caused : (journal : List Entry) → IsLegal script journal → have_causes script [] (made_of script journal) ≡ true
   all_caused journal h =
       caused_law script (Lasting script) lasting_keeps (λ s c. c.steady.sound.owned) (λ s c. none_gives script (rules_of script fits) s c.listed c.framed c.steady.carrying.targets) lasting_first journal h
 

@@ -1,4 +1,4 @@
-pub mod Counter
+pub mod WorkedVictim
 pub mod Steps
 pub mod Carry
 pub mod Reasons

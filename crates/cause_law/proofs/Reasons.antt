@@ -38,11 +38,10 @@ use Rattle.journal_model.specs.Legal.{Made}
 use Rattle.journal_model.specs.Next.{next, step_of_task}
 use Rattle.state_law.proofs.Moves.{thread_step}
 use Rattle.ttm_base.specs.declared.Actor.TheVariants as actor
-use Rattle.journal_model.specs.Causes.{dry_of, search_of, quest_at, dry_at_its_state, in_command, is_no_pages_of, is_out_of_space, is_out_of_frames, has_ended, same_numbers, is_older}
+use Rattle.journal_model.specs.Causes.{dry_of, search_of, quest_at, dry_at_its_state, in_command, is_no_pages_of, is_out_of_space, is_out_of_frames, has_ended, same_numbers, is_older, quest_of_dry, has_its_cause}
 use Rattle.sound_law.proofs.Turns.{Turn, turn_of, give_up}
 use Rattle.sound_law.proofs.Gifts.{Gives, task_gives, seeks, fills, backs, exists, no_buffer, no_swap, gives_up, refuses}
 use Rattle.sound_law.proofs.Bufs.{same_is, none_last, last_caught, clash}
-use Rattle.cause_law.specs.Caused.{quest_of_dry, has_cause}
 use Rattle.cause_law.specs.Explains.{Explains}
 use Rattle.trail_law.proofs.Found.{Found, dries, no_first, quest_found, Starved, fill_starved}
 use Rattle.trail_law.proofs.Windows.{Trail, on_list}
@@ -232,7 +231,7 @@ list_or q other = (if q then record { list = through_tt; forced = false; dry = 0
 
 module _ (script : Script) (s : State) (t : ℕ) (cmd : Command) (at : command_at_work script s t ≡ Some cmd) (j : List Made) where
   abbrev HasCause : Kind → Type 0
-  HasCause k = has_cause script j s t k ≡ true
+  HasCause k = has_its_cause script j s t k ≡ true
 
   -- the places of the search are those that the entry's state tells
   list_is : (a : BufId) (aim : Aim) (k : Kind) → Searcher script s (course s t) cmd a aim → (quest_of_dry script t a (made script s t cmd at k)).list ≡ (quest script cmd (course s t) a aim).list

@@ -8,9 +8,8 @@ use Rattle.journal_model.specs.declared.state.State.{State}
 use Rattle.journal_model.specs.declared.entry.DryWhy.{DryWhy}
 use Rattle.journal_model.specs.State.{course}
 use Rattle.journal_model.specs.Dry.{is_dry}
-use Rattle.journal_model.specs.Causes.{made_at}
+use Rattle.journal_model.specs.Causes.{made_at, quest_of_dry}
 use Rattle.trail_law.specs.Explained.{explanation}
-use Rattle.cause_law.specs.Caused.{quest_of_dry}
 
 -- the place is the k-th forced one of the search, it is dry, and the entry names `short` or each live buffer's first cause
 pub record Explains (script : Script) (s : State) (t : ℕ) (b : BufId) (k : ℕ) (w : DryWhy) : Type 0 where

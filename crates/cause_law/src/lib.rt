@@ -1,7 +1,7 @@
 //! Why searches and fills give up, and what a refused command leaves.
 #![tactic(auto)]
 
-ghost use Rattle.std.specs.Prelude.{◌≡◌, IsTrue, List, [], Ok, ℕ};
+ghost use Rattle.std.specs.Prelude.{◌≡◌, IsTrue, List, Ok, ℕ};
 ghost use Rattle.ttm_base.specs.declared.Actor.TheVariants as actor;
 ghost use Rattle.ttm_base.specs.declared.BufId.{BufId};
 ghost use Rattle.ttm_base.specs.declared.Deny.{Deny};
@@ -13,13 +13,13 @@ ghost use Rattle.journal_model.specs.declared.entry.Kind.TheVariants as kind;
 ghost use Rattle.journal_model.specs.ScriptRules.{is_script};
 ghost use Rattle.journal_model.specs.Next.{next};
 ghost use Rattle.journal_model.specs.Legal.{IsLegal, made_of, state_of};
-ghost use Rattle.cause_law.specs.Caused.{are_caused};
+ghost use Rattle.journal_model.specs.Laws.{HasCauses};
 ghost use Rattle.cause_law.specs.Explains.{Explains};
 ghost use Rattle.cause_law.specs.Refused.{LeavesNothing};
 
 /// Dry places, refusals for want of room or frames, and backoffs have their causes.
 pub fn entries_that_give_up_have_causes()
-    ensures { (script : Script) (journal : List Entry) → IsTrue (is_script script) → IsLegal script journal → IsTrue (are_caused script [] (made_of script journal)) }
+    ensures { (script : Script) (journal : List Entry) → IsTrue (is_script script) → IsLegal script journal → HasCauses script journal }
 {}
 
 /// A dry entry says that its place is too short, or names each live buffer in the place's manager with the first cause that

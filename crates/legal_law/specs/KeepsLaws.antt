@@ -1,12 +1,11 @@
 -- What holds of each legal journal of a script.
-use Rattle.std.specs.Prelude.{◌<◌, List, [], length, IsTrue}
+use Rattle.std.specs.Prelude.{◌<◌, List, length}
 use Rattle.journal_model.specs.declared.script.Script.{Script}
 use Rattle.journal_model.specs.declared.entry.Entry.{Entry}
-use Rattle.journal_model.specs.Legal.{made_of}
 use Rattle.journal_model.specs.Scheduled.{turn_limit}
+use Rattle.journal_model.specs.Laws.{HasCauses}
 use Rattle.journal_model.specs.Transparent.{IsTransparent}
 use Rattle.owner_law.specs.Throughout.{HoldThroughout}
-use Rattle.cause_law.specs.Caused.{are_caused}
 
 -- Reads and probes show the bytes of the memory where each buffer has its own place for good. Behind each entry no page, frame or
 -- slot is held twice, and live, target, ghost and free ones make each size. Dry places, refusals for want of room or frames, and
@@ -14,5 +13,5 @@ use Rattle.cause_law.specs.Caused.{are_caused}
 pub record KeepsLaws (script : Script) (journal : List Entry) : Type 0 where
   pub transparent : IsTransparent script journal
   pub accounts : HoldThroughout script journal
-  pub causes : IsTrue (are_caused script [] (made_of script journal))
+  pub causes : HasCauses script journal
   pub short : length journal < turn_limit script

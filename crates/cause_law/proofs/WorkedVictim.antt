@@ -1,4 +1,4 @@
--- A victim's dry place.
+-- A victim's dry place is one of TT.
 use Rattle.std.proofs.Common.{◌≡◌, true, false, [], ◌∷◌, refl}
 use Rattle.std.specs.Prelude.{codes, filter_map, Option, Some, None}
 use Rattle.ttm_base.specs.declared.Mem.TheVariants.{Tt, Vram}
@@ -13,7 +13,6 @@ use Rattle.journal_model.specs.Complete.{is_complete}
 use Rattle.journal_model.specs.ScriptRules.{is_script}
 use Rattle.journal_model.specs.Scheduled.{scheduled}
 use Rattle.journal_model.specs.Causes.{have_causes}
-use Rattle.cause_law.specs.Caused.{are_caused}
 use Rattle.journal_model.proofs.Rows.{sizes, buf_named, buf_id, script_of, kinds_of_thread}
 
 abbrev pub victim_script : Script
@@ -42,9 +41,6 @@ drys = refl
 complete : is_complete victim_script (scheduled victim_script 100) ≡ true
 complete = refl
 
--- by its declared places it wasn't dry; by the hop through TT it was
-no_cause : have_causes victim_script [] (made_of victim_script (scheduled victim_script 100)) ≡ false
-no_cause = refl
-
-caused : are_caused victim_script [] (made_of victim_script (scheduled victim_script 100)) ≡ true
+-- its declared places weren't dry; the hop through TT was
+caused : have_causes victim_script [] (made_of victim_script (scheduled victim_script 100)) ≡ true
 caused = refl
