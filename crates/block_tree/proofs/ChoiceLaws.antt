@@ -1,14 +1,13 @@
 -- The candidate of the choice, from what a search finds.
-use Rattle.std.proofs.Common.{◌≡◌, ℕ, zero, suc, ◌+◌, ◌-◌, ◌*◌, ◌/◌, ◌^◌, ◌<◌, ◌≤◌, ◌⊎◌, inl, inr, Bool, true, false, List, [], ◌∷◌, Option, Some, None, length, get_or, reverse, filter_map, option_map, refl, ap, sym, ◌∙◌, subst, arith, if◌then◌else◌}
+use Rattle.std.proofs.Common.{◌≡◌, ℕ, zero, suc, ◌+◌, ◌-◌, ◌*◌, ◌/◌, ◌^◌, ◌<◌, ◌≤◌, inl, inr, Bool, true, false, List, [], ◌∷◌, Option, Some, None, length, get_or, reverse, filter_map, option_map, refl, ap, sym, ◌∙◌, subst, arith, if◌then◌else◌}
 use Rattle.std.specs.List.{cons_option}
 use Rattle.std.proofs.lemmas.Grind.{common_steps}
 use Rattle.std.proofs.lemmas.List.{get_or-reverse}
 use Rattle.std.proofs.lemmas.Bool.{cases_lt, cases_eq, lt-ltb, le-ltb}
-use Rattle.ttm_base.specs.declared.Span.{Span}
 use Rattle.ttm_base.specs.ListWords.{count_from, least_by, first_least}
-use Rattle.ttm_base.specs.BuddyChoice.{Candidate, candidate_at, candidate, first_candidate}
+use Rattle.ttm_base.specs.BuddyChoice.{Candidate, candidate_at, candidate}
 use Rattle.block_tree.specs.declared.request.Request.{Request}
-use Rattle.block_tree.specs.Searching.{numbered, IsIn, whole_at, HasNone, IsLeast, IsAhead, IsFirst}
+use Rattle.block_tree.specs.Searching.{IsIn, whole_at, HasNone, IsLeast, IsAhead, IsFirst}
 use Rattle.block_tree.proofs.Numbers.{some_pages, block_pages, in_block, from_down, down_from}
 use Rattle.block_tree.proofs.FreeLaws.{IsRoot, candidate_from, candidate_is, taken_within}
 

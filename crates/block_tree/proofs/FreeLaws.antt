@@ -1,7 +1,7 @@
 -- The masks of all pages, and the free blocks of the choice.
-use Rattle.std.proofs.Common.{◌≡◌, ℕ, zero, suc, ◌+◌, ◌-◌, ◌*◌, ◌/◌, ◌%◌, ◌^◌, ◌<◌, ◌≤◌, ◌⊎◌, ◌&&◌, inl, inr, Bool, true, false, List, Option, Some, None, option_map, is_some, refl, ap, sym, ◌∙◌, subst, arith, nat_le, leb, if◌then◌else◌, eq-or-lt_of_le, mul-div_cancel, add-one}
+use Rattle.std.proofs.Common.{◌≡◌, ℕ, zero, suc, ◌+◌, ◌-◌, ◌*◌, ◌/◌, ◌^◌, ◌<◌, ◌≤◌, ◌&&◌, inl, inr, Bool, true, false, List, Option, Some, None, option_map, is_some, refl, ap, sym, ◌∙◌, subst, arith, nat_le, if◌then◌else◌, eq-or-lt_of_le, mul-div_cancel}
 use Rattle.std.specs.List.{list_all}
-use Rattle.std.proofs.lemmas.Bool.{and_parts, and_from, and_right, leb-true, le-leb, lt-leb, cases_Bool, cases_lt, cases_eq, false_from_ne_true, both_ways}
+use Rattle.std.proofs.lemmas.Bool.{and_parts, and_from, and_right, leb-true, le-leb, lt-leb, cases_lt, cases_eq, false_from_ne_true, both_ways}
 use Rattle.ttm_base.specs.declared.Span.{Span}
 use Rattle.ttm_base.specs.ListWords.{count_from}
 use Rattle.ttm_base.specs.Reach.{is_inside}
@@ -10,8 +10,8 @@ use Rattle.block_tree.specs.declared.request.Request.{Request}
 use Rattle.block_tree.specs.Masks.{IsTree, order_at, is_free_in}
 use Rattle.block_tree.specs.Searching.{numbered, whole_if, whole_at}
 use Rattle.block_tree.proofs.Numbers.{some_pages, small_pow, pow_next, block_pages, block_end, in_block, same_at}
-use Rattle.block_tree.proofs.TreeLaws.{largest_at, IsLargest}
-use Rattle.block_tree.proofs.SearchLaws.{whole_parts, IsWhole}
+use Rattle.block_tree.proofs.TreeLaws.{largest_at}
+use Rattle.block_tree.proofs.SearchLaws.{whole_parts}
 
 -- ---- tests of all pages
 

@@ -1,17 +1,17 @@
 -- Masks of all pages, seen as a mark for each.
-use Rattle.std.proofs.Common.{◌≡◌, ℕ, zero, suc, ◌+◌, ◌-◌, ◌*◌, ◌/◌, ◌^◌, ◌<◌, ◌≤◌, inl, inr, Bool, true, false, ◌&&◌, List, [], ◌∷◌, Option, Some, None, map, length, get_or, option_map, refl, ap, sym, ◌∙◌, subst, arith, nat_lt, nat_le, ltb, leb, if◌then◌else◌}
+use Rattle.std.proofs.Common.{◌≡◌, ℕ, zero, suc, ◌+◌, ◌*◌, ◌/◌, ◌^◌, ◌<◌, ◌≤◌, inl, inr, Bool, true, false, ◌&&◌, List, Some, None, map, length, get_or, option_map, refl, ap, sym, ◌∙◌, arith, nat_lt, nat_le, if◌then◌else◌}
 use Rattle.std.proofs.lemmas.Grind.{common_steps}
 use Rattle.std.proofs.lemmas.List.{get_or_past}
-use Rattle.std.proofs.lemmas.Bool.{cases_lt, and_parts, and_right, and_left, lt-ltb, le-ltb, ltb-true, leb-true, le-leb}
+use Rattle.std.proofs.lemmas.Bool.{cases_lt, and_parts, and_right, le-ltb, ltb-true, leb-true, le-leb}
 use Rattle.ttm_base.specs.declared.Span.{Span}
 use Rattle.ttm_base.specs.Holes.{has_page}
 use Rattle.ttm_base.specs.ListWords.{count_from}
 use Rattle.ttm_base.specs.BuddyChoice.{Candidate, candidate}
 use Rattle.block_tree.specs.declared.request.Request.{Request}
 use Rattle.block_tree.specs.Masks.{IsTree, order_at, is_free_in, is_marked}
-use Rattle.block_tree.proofs.TreeLaws.{largest_at, IsLargest}
-use Rattle.block_tree.proofs.SearchLaws.{whole_parts, IsWhole}
-use Rattle.block_tree.specs.Searching.{numbered, whole_at, HasNone, IsLeast, FirstOf, IsFirst}
+use Rattle.block_tree.proofs.TreeLaws.{largest_at}
+use Rattle.block_tree.proofs.SearchLaws.{whole_parts}
+use Rattle.block_tree.specs.Searching.{numbered, HasNone, IsLeast, FirstOf, IsFirst}
 use Rattle.block_tree.specs.FreeSet.{is_free, marks_of, IsKept}
 use Rattle.block_tree.proofs.Numbers.{block_pages, in_block}
 use Rattle.block_tree.proofs.FreeLaws.{IsRoot, taken_within, taken_free}

@@ -1,14 +1,14 @@
 -- Masks that were written.
-use Rattle.std.proofs.Common.{◌≡◌, ℕ, zero, suc, ◌+◌, ◌-◌, ◌*◌, ◌/◌, ◌^◌, ◌<◌, ◌≤◌, ◌⊎◌, ◌==◌, ◌&&◌, max, inl, inr, Bool, true, false, List, [], ◌∷◌, ◌++◌, Option, Some, None, length, take, drop, set, replicate, bit_or, is_some, refl, ap, sym, ◌∙◌, subst, arith, eqb, if◌then◌else◌}
+use Rattle.std.proofs.Common.{◌≡◌, ℕ, zero, suc, ◌+◌, ◌*◌, ◌/◌, ◌^◌, ◌<◌, ◌≤◌, ◌⊎◌, inl, inr, Bool, true, false, List, [], ◌∷◌, ◌++◌, length, take, drop, set, replicate, bit_or, is_some, refl, ap, sym, ◌∙◌, subst, arith, if◌then◌else◌}
 use Rattle.std.specs.Int.{bit_at}
 use Rattle.std.proofs.lemmas.Grind.{common_steps}
-use Rattle.std.proofs.lemmas.Nat.Bits.{bit_at-lt, bit_at_or, bit_at-pow_same, bit_at-zero, same_from_bits}
-use Rattle.std.proofs.lemmas.Bool.{ne_eqb, eq-eqb, cases_eq, cases_lt, and_from, le-leb, lt-ltb}
+use Rattle.std.proofs.lemmas.Nat.Bits.{bit_at_or, bit_at-pow_same, bit_at-zero, same_from_bits}
+use Rattle.std.proofs.lemmas.Bool.{ne_eqb, eq-eqb, cases_eq, and_from, le-leb, lt-ltb}
 use Rattle.ttm_base.specs.declared.Span.{Span}
 use Rattle.ttm_base.specs.Holes.{has_page}
-use Rattle.block_tree.specs.Masks.{nodes, top, low, high, joined, told, is_marked, IsTop, IsTree, order_at, is_free_in}
-use Rattle.block_tree.proofs.Numbers.{some_pages, pow_not_zero, pow_next, page_half, block_pages}
-use Rattle.block_tree.proofs.TreeLaws.{at_held, at_full, at_low, at_high, joined_both, joined_apart, kind_of, IsSplit, bit_cases, mask_has, HasBlock, largest_at, IsLargest}
+use Rattle.block_tree.specs.Masks.{nodes, top, low, high, joined, told, is_marked, IsTree, order_at, is_free_in}
+use Rattle.block_tree.proofs.Numbers.{some_pages, pow_not_zero, page_half, block_pages}
+use Rattle.block_tree.proofs.TreeLaws.{at_held, at_full, at_low, at_high, joined_both, joined_apart, bit_cases, mask_has, largest_at}
 
 pub length_of_tree : (o : ℕ) (ms : List ℕ) → IsTree o ms → length ms ≡ nodes o
 length_of_tree zero ms t = t.0

@@ -1,15 +1,15 @@
 -- What a search in a block finds.
-use Rattle.std.proofs.Common.{◌≡◌, ℕ, zero, suc, ◌+◌, ◌-◌, ◌*◌, ◌/◌, ◌%◌, ◌^◌, ◌<◌, ◌≤◌, ◌⊎◌, ◌&&◌, min, max, inl, inr, Bool, true, false, List, Option, Some, None, option_map, refl, ap, sym, ◌∙◌, subst, arith, leb, nat_lt, nat_le, bit_and, if◌then◌else◌}
+use Rattle.std.proofs.Common.{◌≡◌, ℕ, zero, suc, ◌+◌, ◌-◌, ◌*◌, ◌/◌, ◌^◌, ◌<◌, ◌≤◌, ◌⊎◌, ◌&&◌, min, max, inl, inr, Bool, true, false, List, Option, Some, None, option_map, refl, ap, sym, ◌∙◌, subst, arith, leb, nat_le, bit_and, if◌then◌else◌}
 use Rattle.std.specs.Int.{bit_at}
 use Rattle.std.proofs.lemmas.Nat.Bits.{bit_at_above, shr_and_one, bit_at-pow_other, bit_at-zero}
-use Rattle.std.proofs.lemmas.Bool.{and_parts, and_from, and_cases, leb-true, leb-false, le-leb, lt-leb, lt-ltb, le-ltb, cases_Bool, cases_lt, cases_eq, false_from_ne_true, both_ways}
+use Rattle.std.proofs.lemmas.Bool.{and_parts, and_from, leb-true, le-leb, lt-ltb, le-ltb, cases_lt, cases_eq, false_from_ne_true, both_ways}
 use Rattle.ttm_base.specs.declared.Span.{Span}
 use Rattle.ttm_base.specs.Reach.{is_inside}
 use Rattle.block_tree.specs.declared.request.Request.{Request}
 use Rattle.block_tree.specs.Masks.{top, low, high, IsTree, order_at}
-use Rattle.block_tree.specs.Searching.{numbered, IsIn, whole_if, whole_at, HasNone, IsLeast, LeastOf, lesser_of, IsAhead, IsFirst, FirstOf, HasNoFit, IsFit, FitOf}
-use Rattle.block_tree.proofs.Numbers.{some_pages, small_pow, block_pages, block_end, from_up, up_from, from_down, down_from, in_block, as_smaller, less_by_block, low_page, high_page, page_half}
-use Rattle.block_tree.proofs.TreeLaws.{at_held, at_full, at_low, at_high, kind_of, IsSplit, bit_cases, largest_at, IsLargest, order_in_mask, mask_has, HasBlock}
+use Rattle.block_tree.specs.Searching.{numbered, IsIn, whole_if, whole_at, HasNone, IsLeast, LeastOf, lesser_of, IsAhead, FirstOf, HasNoFit, IsFit, FitOf}
+use Rattle.block_tree.proofs.Numbers.{some_pages, block_pages, block_end, from_up, up_from, from_down, down_from, in_block, as_smaller, less_by_block, low_page, high_page, page_half}
+use Rattle.block_tree.proofs.TreeLaws.{at_full, at_low, at_high, kind_of, IsSplit, bit_cases, largest_at, order_in_mask, mask_has}
 
 -- ---- blocks inside the range
 

@@ -1,10 +1,10 @@
 -- What the masks of a block tell of its pages.
-use Rattle.std.proofs.Common.{◌≡◌, ℕ, zero, suc, ◌+◌, ◌-◌, ◌*◌, ◌/◌, ◌%◌, ◌^◌, ◌<◌, ◌≤◌, ◌⊎◌, ◌==◌, ◌&&◌, max, inl, inr, Bool, true, false, List, Option, Some, None, length, bit_or, is_some, refl, ap, sym, ◌∙◌, subst, arith, eqb, if◌then◌else◌, eq-or-lt_of_le, mul-div_cancel}
+use Rattle.std.proofs.Common.{◌≡◌, ℕ, zero, suc, ◌+◌, ◌*◌, ◌/◌, ◌%◌, ◌^◌, ◌<◌, ◌≤◌, ◌⊎◌, inl, inr, true, List, Some, None, bit_or, is_some, refl, ap, sym, ◌∙◌, subst, arith, eq-or-lt_of_le, mul-div_cancel}
 use Rattle.std.specs.Int.{bit_at}
 use Rattle.std.proofs.lemmas.Nat.Bits.{bit_at-lt, bit_at_or, bit_at-pow_same, bit_at-pow_other, bit_at-zero}
 use Rattle.std.proofs.lemmas.Bool.{ne_eqb, eq-eqb, cases_eq, cases_lt}
-use Rattle.block_tree.specs.Masks.{nodes, top, low, high, joined, IsTop, IsTree, order_at, is_free_in}
-use Rattle.block_tree.proofs.Numbers.{some_pages, pow_not_zero, div_next, same_at, low_page, high_page, page_half}
+use Rattle.block_tree.specs.Masks.{top, low, high, joined, IsTree, order_at, is_free_in}
+use Rattle.block_tree.proofs.Numbers.{some_pages, pow_not_zero, same_at, low_page, high_page}
 
 -- ---- by the block's own mask
 

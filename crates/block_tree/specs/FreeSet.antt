@@ -1,5 +1,5 @@
 -- The free pages, seen as a mark for each page.
-use Rattle.std.specs.Prelude.{◌≡◌, ℕ, ◌+◌, ◌^◌, ◌<◌, ◌≤◌, Bool, false, List, map, slice_index_or}
+use Rattle.std.specs.Prelude.{◌≡◌, ℕ, ◌^◌, ◌<◌, ◌≤◌, Bool, false, List, map, slice_index_or}
 use Rattle.ttm_base.specs.ListWords.{count_from}
 use Rattle.block_tree.specs.Masks.{IsTree, is_free_in}
 

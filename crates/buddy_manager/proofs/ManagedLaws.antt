@@ -1,5 +1,5 @@
 -- Marks, ends and the count of held pages fit together.
-use Rattle.std.proofs.Common.{◌≡◌, ℕ, zero, suc, ◌+◌, ◌-◌, ◌^◌, ◌<◌, ◌≤◌, ◌&&◌, ◌||◌, inl, inr, Bool, true, false, List, [], ◌∷◌, ◌++◌, length, get_or, set, drop, replicate, refl, ap, sym, ◌∙◌, subst, arith, not, nat_lt, nat_le, if◌then◌else◌, get_or-set_same, set-set, length-set, drop-cons, add-one}
+use Rattle.std.proofs.Common.{◌≡◌, ℕ, ◌+◌, ◌-◌, ◌^◌, ◌<◌, ◌≤◌, ◌&&◌, ◌||◌, inl, inr, Bool, true, false, List, [], ◌∷◌, length, get_or, set, drop, replicate, refl, ap, sym, ◌∙◌, subst, arith, not, nat_lt, nat_le, get_or-set_same, set-set, drop-cons, add-one}
 use Rattle.std.specs.List.{list_any}
 use Rattle.std.proofs.lemmas.Grind.{common_steps}
 use Rattle.std.proofs.lemmas.Bool.{cases_lt, and_right, or_from, lt-ltb, le-ltb, false_from_ne_true}
@@ -10,8 +10,8 @@ use Rattle.block_tree.specs.FreeSet.{is_free}
 use Rattle.block_tree.specs.Masks.{is_marked}
 use Rattle.buddy_manager.specs.Held.{held_from, with_block, with_blocks, without, without_all, is_held, pages_of, AllBy, AreHeld, IsApart}
 use Rattle.buddy_manager.specs.Taking.{less, beside, CanTake, AreTaken, IsTakenBy, IsSame, IsManaged}
-use Rattle.buddy_manager.proofs.HeldLaws.{has_parts, has_from, free_with, apart_with, all_by_with, pages_with, held_is_by, held_not_free, apart_without, all_by_without, free_without, pages_without, pages_within, held_set, held_clear, EndsAt, end_of_held, free_begins_none, none_held, is_held_at}
-use Rattle.buddy_manager.proofs.TakingLaws.{taken_same, marked_more, all_by_taken}
+use Rattle.buddy_manager.proofs.HeldLaws.{has_parts, has_from, free_with, apart_with, all_by_with, pages_with, held_is_by, held_not_free, apart_without, all_by_without, free_without, pages_without, pages_within, held_set, held_clear, end_of_held, free_begins_none, none_held, is_held_at}
+use Rattle.buddy_manager.proofs.TakingLaws.{taken_same, marked_more}
 
 -- ---- one block in the list of ends
 

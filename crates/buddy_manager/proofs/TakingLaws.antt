@@ -2,7 +2,7 @@
 use Rattle.std.proofs.Common.{◌≡◌, ℕ, zero, suc, ◌+◌, ◌-◌, ◌^◌, ◌<◌, ◌≤◌, ◌&&◌, ◌||◌, Bool, true, false, List, [], ◌∷◌, ◌++◌, Option, Some, None, append_assoc, length, get_or, pow_pos, refl, ap, sym, ◌∙◌, subst, arith, not, option_map, if◌then◌else◌}
 use Rattle.std.specs.List.{list_any}
 use Rattle.ttm_base.specs.declared.Span.{Span}
-use Rattle.ttm_base.specs.Holes.{has_page, is_free_beside}
+use Rattle.ttm_base.specs.Holes.{has_page}
 use Rattle.ttm_base.specs.BuddyChoice.{Candidate, candidate, first_candidate, log2_below, scattered, taken_after}
 use Rattle.block_tree.specs.FreeSet.{is_free}
 use Rattle.block_tree.specs.Masks.{is_marked}

@@ -1,4 +1,4 @@
-use Rattle.std.proofs.Common.{◌≡◌, ◌++◌, take, drop, replicate, length, ap, sym, subst, ◌∙◌}
+use Rattle.std.proofs.Common.{◌≡◌, drop, replicate, length, ap, sym, subst, ◌∙◌}
 use Rattle.block_tree.specs.Masks.{nodes, is_free_in, IsTree}
 use Rattle.block_tree.proofs.MarkLaws.{take_front, held_tree, held_page, length_of_tree}
 use Rattle.block_tree.proofs.KeptLaws.{first_marked}

@@ -1,7 +1,7 @@
-use Rattle.std.proofs.Common.{◌≡◌, ℕ, ◌<◌, ◌≤◌, ◌+◌, ◌-◌, ◌*◌, ◌/◌, ◌^◌, ◌∷◌, ◌++◌, suc, length, take, drop, sym, subst, ap, ◌∙◌, refl, arith}
-use Rattle.block_tree.specs.Masks.{nodes, top, joined, told, is_marked, is_free_in, IsTree}
+use Rattle.std.proofs.Common.{◌≡◌, ℕ, ◌≤◌, ◌+◌, ◌-◌, ◌*◌, ◌/◌, ◌^◌, ◌∷◌, ◌++◌, suc, sym, subst, ap, ◌∙◌, arith}
+use Rattle.block_tree.specs.Masks.{top, joined, is_marked, is_free_in, IsTree}
 use Rattle.block_tree.proofs.Numbers.{low_number, high_number}
-use Rattle.block_tree.proofs.MarkLaws.{IsHalved, halved, marked_halves, marked_whole, retopped_whole, told_tree, IsAbove, above_halves, some_mask}
+use Rattle.block_tree.proofs.MarkLaws.{halved, marked_halves, marked_whole, retopped_whole, told_tree, above_halves, some_mask}
 use Rattle.block_tree.proofs.masks.+mark.Goals as goal
 
 pub returns-then-end-span-2-clause-tree : goal.returns-then-end-span-2-clause-tree

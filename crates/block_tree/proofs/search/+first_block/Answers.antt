@@ -1,10 +1,10 @@
-use Rattle.std.proofs.Common.{◌≡◌, ℕ, ◌<◌, ◌≤◌, ◌+◌, ◌-◌, ◌*◌, ◌^◌, suc, Option, Some, None, sym, subst, ap, ◌∙◌, arith}
+use Rattle.std.proofs.Common.{◌≡◌, ℕ, ◌<◌, ◌≤◌, ◌+◌, ◌-◌, ◌*◌, ◌^◌, suc, Some, None, sym, subst, ◌∙◌, arith}
 use Rattle.std.specs.Int.{bit_at}
-use Rattle.block_tree.specs.Masks.{top, low, high, IsTree}
+use Rattle.block_tree.specs.Masks.{top, IsTree}
 use Rattle.block_tree.specs.Searching.{FirstOf}
 use Rattle.block_tree.proofs.Numbers.{low_number, high_number}
 use Rattle.block_tree.proofs.TreeLaws.{IsSplit}
-use Rattle.block_tree.proofs.SearchLaws.{first_none_bit, first_none_apart, first_full, first_in_low, first_in_high, first_behind_low, first_behind_high, split_of, has_halves, bit_clear, bit_set, full_bit, some_bit}
+use Rattle.block_tree.proofs.SearchLaws.{first_none_bit, first_none_apart, first_full, first_in_low, first_in_high, first_behind_low, first_behind_high, split_of, bit_clear, bit_set, full_bit, some_bit}
 use Rattle.block_tree.proofs.search.+first_block.Goals as goal
 use Rattle.block_tree.proofs.search.+first_block.Goals.{After-halves, then-mask-whole-eq0-via-then-mask-whole-eq0, then-mask-whole-eq0-via-else-mask-whole-eq0+then-not-meets}
 

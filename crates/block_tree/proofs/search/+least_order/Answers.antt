@@ -1,10 +1,9 @@
-use Rattle.std.proofs.Common.{◌≡◌, ℕ, ◌<◌, ◌≤◌, ◌+◌, ◌-◌, ◌*◌, ◌^◌, suc, Option, Some, None, sym, subst, ap, ◌∙◌, arith}
+use Rattle.std.proofs.Common.{◌≡◌, ◌<◌, ◌≤◌, ◌+◌, ◌-◌, ◌*◌, ◌^◌, suc, Some, None, sym, subst, ◌∙◌, arith}
 use Rattle.std.specs.Int.{bit_at}
-use Rattle.block_tree.specs.Masks.{top, low, high, IsTree}
+use Rattle.block_tree.specs.Masks.{top, IsTree}
 use Rattle.block_tree.specs.Searching.{LeastOf, lesser_of}
 use Rattle.block_tree.proofs.Numbers.{small_order, low_number, high_number, some_pages}
-use Rattle.block_tree.proofs.TreeLaws.{IsSplit}
-use Rattle.block_tree.proofs.SearchLaws.{none_low, none_apart, least_full, least_covered, least_halves, split_of, has_halves}
+use Rattle.block_tree.proofs.SearchLaws.{none_low, none_apart, least_full, least_covered, least_halves, split_of}
 use Rattle.block_tree.proofs.search.+least_order.Goals as goal
 use Rattle.block_tree.proofs.search.+least_order.Goals.{then-mask-block_len-via-then-mask-block_len, then-mask-block_len-via-else-mask-block_len+then-not-meets}
 

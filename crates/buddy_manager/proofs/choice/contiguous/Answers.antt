@@ -1,8 +1,8 @@
-use Rattle.std.proofs.Common.{◌≡◌, ◌≤◌, ◌<◌, ◌+◌, ◌^◌, ◌∷◌, ◌++◌, [], length, inl, inr, ap, sym, subst, ◌∙◌, arith}
+use Rattle.std.proofs.Common.{◌≡◌, ◌≤◌, ◌+◌, ◌^◌, ◌∷◌, ◌++◌, [], length, inl, inr, ap, sym, subst, ◌∙◌, arith}
 use Rattle.std.proofs.lemmas.Bool.{cases_lt}
 use Rattle.ttm_base.specs.declared.Span.{Span}
 use Rattle.block_tree.specs.FreeSet.{is_free}
-use Rattle.buddy_manager.specs.Taking.{CanTake, IsTakenBy}
+use Rattle.buddy_manager.specs.Taking.{IsTakenBy}
 use Rattle.buddy_manager.proofs.TakingLaws.{took_more, none_taken, can_take_first}
 use Rattle.buddy_manager.proofs.choice.contiguous.Goals as goal
 use Rattle.buddy_manager.proofs.choice.contiguous.Goals.{In-Some}

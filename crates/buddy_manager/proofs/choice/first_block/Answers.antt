@@ -1,5 +1,5 @@
-use Rattle.std.proofs.Common.{◌≡◌, ℕ, ◌-◌, ◌≤◌, ◌<◌, Bool, Some, None, length, option_map, ap, sym, ◌∙◌, arith}
-use Rattle.ttm_base.specs.BuddyChoice.{candidate, first_candidate}
+use Rattle.std.proofs.Common.{◌-◌, Some, length, option_map, ap, sym, ◌∙◌, arith}
+use Rattle.ttm_base.specs.BuddyChoice.{candidate}
 use Rattle.buddy_manager.proofs.TakingLaws.{of_candidate, no_candidate, first_on, first_here}
 use Rattle.buddy_manager.proofs.choice.first_block.Goals as goal
 

@@ -1,4 +1,4 @@
-use Rattle.std.proofs.Common.{◌≡◌, ℕ, ◌≤◌, Bool, length, option_map}
+use Rattle.std.proofs.Common.{◌≡◌, ℕ, ◌≤◌, Bool, length}
 use Rattle.ttm_base.specs.BuddyChoice.{candidate, first_candidate}
 use Rattle.buddy_manager.specs.Taking.{Tells}
 use Rattle.buddy_manager.proofs.choice.first_block.Given as goal

@@ -1,4 +1,4 @@
-use Rattle.std.proofs.Common.{◌≡◌, ◌≤◌, length, arith}
+use Rattle.std.proofs.Common.{length, arith}
 use Rattle.buddy_manager.proofs.TakingLaws.{all_by_at}
 use Rattle.buddy_manager.proofs.choice.free_spans.Goals as goal
 

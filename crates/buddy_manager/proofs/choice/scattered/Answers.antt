@@ -1,9 +1,8 @@
-use Rattle.std.proofs.Common.{◌≡◌, ℕ, ◌+◌, ◌-◌, ◌<◌, ◌≤◌, Bool, List, [], ◌∷◌, ◌++◌, Option, Some, None, length, option_map, ap, sym, subst, ◌∙◌, arith}
+use Rattle.std.proofs.Common.{◌≡◌, ℕ, ◌+◌, ◌-◌, ◌<◌, Bool, List, [], ◌∷◌, ◌++◌, Option, length, option_map, ap, sym, subst, ◌∙◌, arith}
 use Rattle.ttm_base.specs.declared.Span.{Span}
-use Rattle.ttm_base.specs.BuddyChoice.{Candidate, candidate, first_candidate, log2_below, scattered}
-use Rattle.block_tree.specs.FreeSet.{is_free}
+use Rattle.ttm_base.specs.BuddyChoice.{candidate, first_candidate, log2_below, scattered}
 use Rattle.buddy_manager.specs.Taking.{beside, less, Tells, IsTakenBy}
-use Rattle.buddy_manager.proofs.TakingLaws.{beside_more, took_more, tells_beside, of_candidate, no_candidate, scattered_none, scattered_more, IsOfCandidate}
+use Rattle.buddy_manager.proofs.TakingLaws.{beside_more, took_more, tells_beside, of_candidate, no_candidate, scattered_none, scattered_more}
 use Rattle.buddy_manager.proofs.choice.scattered.Goals as goal
 use Rattle.buddy_manager.proofs.choice.scattered.Goals.{After-first_block}
 

@@ -1,9 +1,8 @@
-use Rattle.std.proofs.Common.{◌≡◌, ℕ, ◌||◌, length, ap, sym, subst, ◌∙◌}
+use Rattle.std.proofs.Common.{◌||◌, length, ap, sym, subst, ◌∙◌}
 use Rattle.std.specs.List.{list_any}
 use Rattle.ttm_base.specs.Holes.{has_page}
 use Rattle.block_tree.specs.FreeSet.{is_free}
 use Rattle.buddy_manager.specs.Held.{AllBy}
-use Rattle.buddy_manager.specs.Taking.{IsTakenBy, IsSame}
 use Rattle.buddy_manager.proofs.TakingLaws.{all_by_taken, given_back}
 use Rattle.buddy_manager.proofs.choice.take_choice.Goals as goal
 

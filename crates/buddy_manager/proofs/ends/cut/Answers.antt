@@ -1,4 +1,3 @@
-use Rattle.std.proofs.Common.{◌≡◌, ◌<◌, ◌≤◌, arith}
 use Rattle.buddy_manager.proofs.ManagedLaws.{held_at, trimmed_ends}
 use Rattle.buddy_manager.proofs.ends.cut.Goals as goal
 

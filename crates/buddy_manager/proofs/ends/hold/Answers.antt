@@ -1,8 +1,8 @@
-use Rattle.std.proofs.Common.{◌≡◌, ◌+◌, ◌<◌, ◌∷◌, List, get_or, drop, length, set, sym, subst, ap, ◌∙◌, arith}
+use Rattle.std.proofs.Common.{◌+◌, List, get_or, drop, length, sym, subst, ap, ◌∙◌, arith}
 use Rattle.ttm_base.specs.declared.Span.{Span}
 use Rattle.ttm_base.specs.Holes.{is_free_beside}
-use Rattle.buddy_manager.specs.Held.{held_from, with_block, with_blocks}
-use Rattle.buddy_manager.specs.Taking.{CanTake, AreTaken}
+use Rattle.buddy_manager.specs.Held.{held_from, with_blocks}
+use Rattle.buddy_manager.specs.Taking.{AreTaken}
 use Rattle.buddy_manager.proofs.ManagedLaws.{take_first, next_of}
 use Rattle.buddy_manager.proofs.ends.hold.Goals as goal
 

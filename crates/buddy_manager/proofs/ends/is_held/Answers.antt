@@ -1,4 +1,4 @@
-use Rattle.std.proofs.Common.{◌≡◌, ◌≤◌, ◌<◌, true, false, inl, inr, length, get_or, nat_eq, nat_lt, ap, sym, ◌∙◌, refl, subst, arith}
+use Rattle.std.proofs.Common.{length, get_or, sym, ◌∙◌, arith}
 use Rattle.std.proofs.lemmas.Bool.{both_ways, le-ltb, eq-eqb, eqb-true, false_from_ne_true}
 use Rattle.buddy_manager.specs.Held.{held_from, is_held}
 use Rattle.buddy_manager.proofs.ManagedLaws.{held_at, held_tested}

@@ -1,6 +1,6 @@
-use Rattle.std.proofs.Common.{◌≡◌, ◌+◌, ◌<◌, ◌∷◌, List, get_or, drop, length, set, sym, subst, ap, ◌∙◌, arith}
+use Rattle.std.proofs.Common.{◌+◌, List, get_or, drop, sym, subst, ap, ◌∙◌, arith}
 use Rattle.ttm_base.specs.declared.Span.{Span}
-use Rattle.buddy_manager.specs.Held.{held_from, without, without_all, AreHeld}
+use Rattle.buddy_manager.specs.Held.{held_from, without_all, AreHeld}
 use Rattle.buddy_manager.proofs.ManagedLaws.{let_go_one, held_at, next_of}
 use Rattle.buddy_manager.proofs.ends.let_go.Goals as goal
 

@@ -1,4 +1,4 @@
-use Rattle.std.proofs.Common.{◌≡◌, ◌<◌, ◌≤◌, ◌-◌, ◌+◌, ◌^◌, ◌∙◌, subst, arith}
+use Rattle.std.proofs.Common.{◌≡◌, ◌<◌, ◌≤◌, ◌-◌, ◌+◌, ◌^◌, ◌∙◌, arith}
 use Rattle.buddy_manager.proofs.OrderLaws.{order_above_on, order_above_ends}
 use Rattle.buddy_manager.proofs.orders.order_above.Goals as goal
 

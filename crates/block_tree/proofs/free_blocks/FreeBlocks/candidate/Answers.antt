@@ -1,13 +1,12 @@
-use Rattle.std.proofs.Common.{◌≡◌, ℕ, ◌<◌, ◌≤◌, ◌+◌, ◌-◌, ◌*◌, ◌^◌, Bool, true, Some, None, option_map, length, ap, sym, subst, ◌∙◌, arith}
+use Rattle.std.proofs.Common.{◌≡◌, ◌≤◌, ◌+◌, ◌*◌, ◌^◌, true, Some, None, option_map, length, ap, sym, subst, ◌∙◌, arith}
 use Rattle.ttm_base.specs.declared.Span.{Span}
 use Rattle.ttm_base.specs.Holes.{has_page}
 use Rattle.ttm_base.specs.BuddyChoice.{candidate}
 use Rattle.block_tree.specs.declared.request.Request.{Request}
-use Rattle.block_tree.specs.Masks.{IsTree}
-use Rattle.block_tree.specs.Searching.{numbered, LeastOf, FirstOf, IsLeast, IsFirst}
-use Rattle.block_tree.specs.FreeSet.{is_free, marks_of, IsKept}
+use Rattle.block_tree.specs.Searching.{numbered, LeastOf, FirstOf, IsFirst}
+use Rattle.block_tree.specs.FreeSet.{is_free}
 use Rattle.block_tree.proofs.Numbers.{small_pow}
-use Rattle.block_tree.proofs.KeptLaws.{block_of, length_marks, none_found, some_found, first_there, found_within, found_free, least_small}
+use Rattle.block_tree.proofs.KeptLaws.{block_of, length_marks, none_found, some_found, found_within, found_free, least_small}
 use Rattle.block_tree.proofs.free_blocks.FreeBlocks.candidate.Goals as goal
 use Rattle.block_tree.proofs.free_blocks.FreeBlocks.candidate.Goals.{After-block_len-len}
 

@@ -1,4 +1,4 @@
-use Rattle.std.proofs.Common.{◌≡◌, ℕ, ◌≤◌, ◌++◌, ◌/◌, ◌^◌, take, drop, length, ap, sym, subst, ◌∙◌, arith}
+use Rattle.std.proofs.Common.{◌≡◌, ℕ, ◌++◌, ◌/◌, ◌^◌, take, drop, length, ap, sym, subst, ◌∙◌, arith}
 use Rattle.block_tree.specs.Masks.{is_free_in, is_marked, IsTree}
 use Rattle.block_tree.specs.FreeSet.{is_free, marks_of, IsKept}
 use Rattle.block_tree.proofs.MarkLaws.{take_front, length_of_tree}

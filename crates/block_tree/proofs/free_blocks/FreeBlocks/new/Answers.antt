@@ -1,4 +1,4 @@
-use Rattle.block_tree.proofs.KeptLaws.{length_marks, all_free_marks, all_marked}
+use Rattle.block_tree.proofs.KeptLaws.{length_marks, all_free_marks}
 use Rattle.block_tree.proofs.free_blocks.FreeBlocks.new.Goals as goal
 
 pub returns-clause-size : goal.returns-clause-size

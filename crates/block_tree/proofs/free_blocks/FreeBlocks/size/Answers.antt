@@ -1,4 +1,4 @@
-use Rattle.std.proofs.Common.{◌≡◌, length, ap, sym, ◌∙◌}
+use Rattle.std.proofs.Common.{length, ap, sym, ◌∙◌}
 use Rattle.block_tree.proofs.KeptLaws.{length_marks}
 use Rattle.block_tree.proofs.free_blocks.FreeBlocks.size.Goals as goal
 

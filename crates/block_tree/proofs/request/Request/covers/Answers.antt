@@ -1,4 +1,4 @@
-use Rattle.std.proofs.Common.{◌≡◌, ◌<◌, ◌≤◌, ◌+◌, ◌*◌, ◌^◌, ap, arith}
+use Rattle.std.proofs.Common.{◌+◌, ◌*◌, ap, arith}
 use Rattle.std.proofs.lemmas.Bool.{leb-true}
 use Rattle.block_tree.proofs.SearchLaws.{all_fit}
 use Rattle.block_tree.proofs.request.Request.covers.Goals as goal

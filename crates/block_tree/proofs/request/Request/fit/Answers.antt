@@ -1,4 +1,4 @@
-use Rattle.std.proofs.Common.{◌≡◌, ℕ, ◌<◌, ◌≤◌, ◌+◌, ◌-◌, ◌*◌, ◌/◌, ◌^◌, min, max, ap, ap₂, sym, ◌∙◌, arith}
+use Rattle.std.proofs.Common.{◌≡◌, ◌+◌, ◌-◌, ◌*◌, ◌/◌, ◌^◌, min, max, ap, ap₂, ◌∙◌}
 use Rattle.block_tree.proofs.SearchLaws.{fit_none, fit_low, fit_high}
 use Rattle.block_tree.proofs.request.Request.fit.Goals as goal
 use Rattle.block_tree.proofs.request.Request.fit.Goals.{After-min}

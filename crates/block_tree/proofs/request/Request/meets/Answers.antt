@@ -1,4 +1,4 @@
-use Rattle.std.proofs.Common.{◌≡◌, ◌<◌, ◌≤◌, ◌+◌, ◌*◌, ◌^◌, inl, inr, ap, arith}
+use Rattle.std.proofs.Common.{◌+◌, ◌*◌, inl, inr, ap, arith}
 use Rattle.std.proofs.lemmas.Bool.{ltb-false}
 use Rattle.block_tree.proofs.SearchLaws.{no_fit}
 use Rattle.block_tree.proofs.request.Request.meets.Goals as goal

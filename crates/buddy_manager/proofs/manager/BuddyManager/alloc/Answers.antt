@@ -1,7 +1,7 @@
-use Rattle.std.proofs.Common.{◌≡◌, ◌≤◌, ◌<◌, ◌+◌, ◌-◌, ◌++◌, true, take, drop, length, ap, sym, subst, ◌∙◌, arith}
+use Rattle.std.proofs.Common.{◌≡◌, ◌+◌, drop, length, ap, sym, subst, ◌∙◌, arith}
 use Rattle.ttm_base.specs.Holes.{is_free_beside}
 use Rattle.block_tree.proofs.MarkLaws.{take_front}
-use Rattle.buddy_manager.specs.Held.{Managed, held_from, with_blocks, pages_of}
+use Rattle.buddy_manager.specs.Held.{held_from, with_blocks, pages_of}
 use Rattle.buddy_manager.specs.Taking.{AreTaken, IsManaged}
 use Rattle.buddy_manager.proofs.ManagedLaws.{can_hold, managed_taken, taken_small}
 use Rattle.buddy_manager.proofs.manager.BuddyManager.alloc.Goals as goal

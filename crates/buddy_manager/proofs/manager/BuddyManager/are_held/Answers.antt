@@ -1,5 +1,5 @@
-use Rattle.std.proofs.Common.{◌≡◌, true, ap, sym, ◌∙◌}
-use Rattle.buddy_manager.specs.Held.{Managed, held_from, all_held, AreHeld}
+use Rattle.std.proofs.Common.{◌≡◌, ap, sym, ◌∙◌}
+use Rattle.buddy_manager.specs.Held.{Managed, held_from, all_held}
 use Rattle.buddy_manager.proofs.HeldLaws.{are_held, held_all}
 use Rattle.buddy_manager.proofs.manager.BuddyManager.are_held.Goals as goal
 

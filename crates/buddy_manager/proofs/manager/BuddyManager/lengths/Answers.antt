@@ -1,4 +1,4 @@
-use Rattle.std.proofs.Common.{◌≡◌, ◌≤◌, ◌+◌, length, ap, sym, ◌∙◌, arith}
+use Rattle.std.proofs.Common.{ap, arith}
 use Rattle.buddy_manager.specs.Held.{Managed}
 use Rattle.buddy_manager.proofs.ManagedLaws.{used_within}
 use Rattle.buddy_manager.proofs.manager.BuddyManager.lengths.Goals as goal

@@ -1,4 +1,4 @@
-use Rattle.std.proofs.Common.{◌≡◌, ◌≤◌, ◌<◌, ◌+◌, ◌-◌, ◌++◌, true, take, drop, length, ap, sym, subst, ◌∙◌, arith}
+use Rattle.std.proofs.Common.{◌≡◌, ◌≤◌, ◌+◌, ◌-◌, true, drop, length, ap, sym, subst, ◌∙◌, arith}
 use Rattle.block_tree.proofs.MarkLaws.{take_front}
 use Rattle.buddy_manager.specs.Held.{Managed, held_from, with_block, without, is_held}
 use Rattle.buddy_manager.specs.Taking.{IsManaged}
