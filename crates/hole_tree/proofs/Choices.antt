@@ -1,19 +1,18 @@
 -- The hole of the range choice is the lowest, the highest or the shortest that fits.
-use Rattle.std.proofs.Common.{◌≡◌, ℕ, ◌+◌, Bool, true, false, cond, List, [], ◌∷◌, ◌++◌, Option, Some, None, refl, ap, ◌∙◌, inl, inr, ltb, arith}
+use Rattle.std.proofs.Common.{◌≡◌, ◌+◌, true, false, cond, List, [], ◌∷◌, Option, Some, None, refl, ap, ◌∙◌, inl, inr, ltb}
 use Rattle.std.specs.Prelude.{option_map, filter_map, slice_get}
 use Rattle.std.specs.Option.{option_or}
-use Rattle.std.specs.List.{find, filter}
+use Rattle.std.specs.List.{find}
 use Rattle.std.proofs.lemmas.Bool.{cases_Bool}
-use Rattle.std.proofs.lemmas.Bool.Decides.{nat_tests}
 use Rattle.ttm_base.specs.declared.Span.{Span}
 use Rattle.ttm_base.specs.declared.Mode.{Mode}
 use Rattle.ttm_base.specs.declared.Mode.TheVariants.{Best, Low, High}
-use Rattle.ttm_base.specs.ListWords.{first_least, least_by, last_or, last_of}
+use Rattle.ttm_base.specs.ListWords.{first_least, least_by, last_of}
 use Rattle.ttm_base.specs.Reach.{common, length_of}
 use Rattle.ttm_base.specs.RangeChoice.{Fit, fit_in, start_to_test}
 use Rattle.hole_tree.specs.declared.request.Request.{Request}
 use Rattle.hole_tree.specs.Fitting.{range_of, fits, find_last}
-use Rattle.hole_tree.specs.Choosing.{chosen_hole, shorter, find_shortest}
+use Rattle.hole_tree.specs.Choosing.{chosen_hole, find_shortest}
 
 abbrev fit_of : Mode → Request → Span → Fit
 fit_of m q h = let s = start_to_test m q.pages q.align (common h (range_of q)) in record { hole = h; taken = record { start = s; end = s + q.pages } }
@@ -59,23 +58,3 @@ least_fit m q (x ∷ xs) = elim (cases_Bool (fits m q x)) [
 
 pub chosen_best : (q : Request) (xs : List Span) → chosen_hole Best xs q.pages q.align q.first q.last ≡ find_shortest (fits Best q) xs
 chosen_best q xs = least_fit Best q xs
-
--- ---- the shortest on both sides of a hole
-
-shorter_first : (x : Span) (a b : Option Span) → Some (first_least length_of x (shorter a b)) ≡ shorter (Some (first_least length_of x a)) b
-shorter_first x None b = refl
-shorter_first x (Some y) None = refl
-shorter_first x (Some y) (Some z) = grind (arith, nat_tests)
-
-shortest_append : (test : Span → Bool) (l m : List Span) → find_shortest test (l ++ m) ≡ shorter (find_shortest test l) (find_shortest test m)
-shortest_append test [] m = refl
-shortest_append test (x ∷ l) m = elim (cases_Bool (test x)) [
-  | inl e ↦ rw e (ap (λ o. Some (first_least length_of x o)) (shortest_append test l m) ∙ shorter_first x (find_shortest test l) (find_shortest test m))
-  | inr e ↦ rw e (shortest_append test l m)
-]
-
-pub shortest_node : (test : Span → Bool) (l : List Span) (k : Span) (r : List Span) → find_shortest test (l ++ k ∷ r) ≡ shorter (find_shortest test l) (shorter (cond (test k) (Some k) None) (find_shortest test r))
-shortest_node test l k r = shortest_append test l (k ∷ r) ∙ elim (cases_Bool (test k)) [
-  | inl e ↦ rw e
-  | inr e ↦ rw e
-]

@@ -1,5 +1,5 @@
 -- How many holes there are, when one comes or goes.
-use Rattle.std.proofs.Common.{◌≡◌, ℕ, ◌+◌, ◌*◌, ◌^◌, ◌≤◌, ◌<◌, Bool, true, false, cond, not, List, [], ◌∷◌, Option, Some, None, length, refl, ap, inl, inr, eqb, ltb, arith}
+use Rattle.std.proofs.Common.{◌≡◌, ℕ, ◌+◌, ◌*◌, ◌^◌, ◌≤◌, true, false, cond, List, [], ◌∷◌, Some, length, inl, inr, ltb, arith}
 use Rattle.std.specs.List.{find}
 use Rattle.std.proofs.Math.Pow.{pow_mono}
 use Rattle.std.proofs.lemmas.Bool.{cases_Bool, eqb-true}
@@ -24,13 +24,6 @@ length-without start (y ∷ ys) x h e = elim (cases_Bool (starts_at start y)) [
       let q : y.start ≤ y.end = h.0 in
       rw (t, left_past start y.end ys (omega arith) h.1) (omega arith)
   | inr f ↦ let ih = length-without start ys x h.2 (rw f at e) in rw f (omega arith)
-]
-
-pub length-without_le : (start : ℕ) (ys : List Span) → length (without start ys) ≤ length ys
-length-without_le start [] = omega arith
-length-without_le start (y ∷ ys) = elim (starts_at start y) as (λ b. length (cond (not b) (y ∷ without start ys) (without start ys)) ≤ length (y ∷ ys)) [
-  | true ↦ omega (arith, length-without_le start ys)
-  | false ↦ omega (arith, length-without_le start ys)
 ]
 
 -- steps that the levels bound

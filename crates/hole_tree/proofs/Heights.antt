@@ -1,5 +1,5 @@
 -- A balanced tree is low.
-use Rattle.std.proofs.Common.{◌≡◌, ℕ, suc, ◌+◌, ◌*◌, ◌^◌, ◌≤◌, ◌<◌, max, List, ◌∷◌, ◌++◌, length, sym, ◌∙◌, ap, ◌⊎◌, inl, inr, arith, length-append, add-one}
+use Rattle.std.proofs.Common.{◌≡◌, ℕ, suc, ◌+◌, ◌*◌, ◌^◌, ◌≤◌, max, ◌∷◌, ◌++◌, length, ap, ◌⊎◌, inl, inr, arith, length-append, add-one}
 use Rattle.std.proofs.Math.Nat.{mul-add, add-mul, pow-suc, mul-le-mul_left, mul_comm}
 use Rattle.std.proofs.lemmas.Bool.{cases_lt}
 use Rattle.ttm_base.specs.declared.Span.{Span}

@@ -6,3 +6,5 @@ pub mod Looking
 pub mod Rises
 pub mod Searching
 pub mod Sides
+pub mod SortedByLength
+pub mod Sorts

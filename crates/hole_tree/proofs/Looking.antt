@@ -1,21 +1,21 @@
 -- One step of a search, at a node n that a tree s has as its root.
-use Rattle.std.proofs.Common.{◌≡◌, ℕ, ◌+◌, ◌≤◌, ◌<◌, max, Bool, true, false, cond, List, ◌∷◌, ◌++◌, Option, Some, None, refl, ap, sym, ◌∙◌, subst, inl, inr, leb, ltb, arith, length, length-append}
-use Rattle.std.specs.Option.{option_or, is_some}
+use Rattle.std.proofs.Common.{◌≡◌, ◌+◌, ◌≤◌, ◌<◌, max, Bool, true, false, ◌∷◌, ◌++◌, Option, Some, None, refl, ap, sym, ◌∙◌, subst, leb, ltb, arith, length, length-append}
+use Rattle.std.specs.Option.{is_some}
 use Rattle.std.specs.List.{find}
-use Rattle.std.proofs.lemmas.Bool.{cases_Bool, and_parts, leb-true, both_ways}
+use Rattle.std.proofs.lemmas.Bool.{and_parts, leb-true, both_ways}
 use Rattle.ttm_base.specs.declared.Span.{Span}
 use Rattle.ttm_base.specs.declared.Mode.{Mode}
+use Rattle.hole_tree.specs.declared.order.Order.{Order}
+use Rattle.hole_tree.specs.declared.order.Order.TheVariants.{ByStart}
 use Rattle.hole_tree.specs.declared.request.Request.{Request}
 use Rattle.hole_tree.specs.declared.tree.Node.{Node}
 use Rattle.hole_tree.specs.Longest.{longest}
 use Rattle.hole_tree.specs.Shape.{Shape}
 use Rattle.hole_tree.specs.Trees.{shape_of_node, IsSound}
 use Rattle.hole_tree.specs.Rising.{IsRising}
-use Rattle.hole_tree.specs.Choosing.{shorter, find_shortest}
-use Rattle.hole_tree.specs.Fitting.{fits, find_last, IsWide, reaches_left, reaches_right}
+use Rattle.hole_tree.specs.Fitting.{fits, find_last, IsWide, ranges_below, reaches_left, reaches_right}
 use Rattle.hole_tree.proofs.Rises.{rising_left, rising_right}
-use Rattle.hole_tree.proofs.Choices.{shortest_node}
-use Rattle.hole_tree.proofs.Searching.{left_none, right_none, left_none_last, right_none_last, left_none_shortest, right_none_shortest, wide_left, wide_right, wide_find, wide_last, first_left, first_root, first_right, last_left, last_root, last_right}
+use Rattle.hole_tree.proofs.Searching.{left_none, right_none, left_none_last, right_none_last, wide_left, wide_right, wide_find, wide_last, first_left, first_root, first_right, last_left, last_root, last_right}
 
 at_rising : (s : Shape) (n : Node) → s ≡ shape_of_node n → IsRising s.spans → IsRising (n.left.spans ++ n.hole ∷ n.right.spans)
 at_rising s n e h = let P : Shape → Type 0 = λ t. IsRising t.spans in subst P e h
@@ -43,29 +43,23 @@ shorter_above s n e = let c : length s.spans ≡ length (n.left.spans ++ n.hole 
 
 -- ---- a side that isn't worth a look
 
-known_left : (q : Request) (n : Node) (b : Bool) → IsSound n → b ≡ reaches_left q n.longest_left n.hole → reaches_left q (longest n.left.spans) n.hole ≡ b
-known_left q n b d w = ap (λ x. reaches_left q x n.hole) (sym d.longest_left) ∙ sym w
+known_left : (o : Order) (q : Request) (n : Node) (b : Bool) → IsSound n → b ≡ reaches_left o q n.longest_left n.hole → reaches_left o q (longest n.left.spans) n.hole ≡ b
+known_left o q n b d w = ap (λ x. reaches_left o q x n.hole) (sym d.longest_left) ∙ sym w
 
-known_right : (q : Request) (n : Node) (b : Bool) → IsSound n → b ≡ reaches_right q n.longest_right n.hole → reaches_right q (longest n.right.spans) n.hole ≡ b
-known_right q n b d w = ap (λ x. reaches_right q x n.hole) (sym d.longest_right) ∙ sym w
+known_right : (o : Order) (q : Request) (n : Node) (b : Bool) → IsSound n → b ≡ reaches_right o q n.longest_right n.hole → reaches_right o q (longest n.right.spans) n.hole ≡ b
+known_right o q n b d w = ap (λ x. reaches_right o q x n.hole) (sym d.longest_right) ∙ sym w
 
-pub worth_below : (m : Mode) (q : Request) (s : Shape) (n : Node) (b : Bool) → s ≡ shape_of_node n → IsSound n → IsRising s.spans → b ≡ reaches_left q n.longest_left n.hole → b ≡ false → find (fits m q) n.left.spans ≡ None
-worth_below m q s n b e d h w f = left_none m q n.left.spans n.hole n.right.spans (at_rising s n e h) (known_left q n b d w ∙ f)
+pub worth_below : (o : Order) (m : Mode) (q : Request) (s : Shape) (n : Node) (b : Bool) → s ≡ shape_of_node n → IsSound n → (o ≡ ByStart → IsRising s.spans) → b ≡ reaches_left o q n.longest_left n.hole → b ≡ false → find (fits m q) n.left.spans ≡ None
+worth_below o m q s n b e d h w f = left_none o m q n.left.spans n.hole n.right.spans (λ p. at_rising s n e (h p)) (known_left o q n b d w ∙ f)
 
-pub worth_above : (m : Mode) (q : Request) (s : Shape) (n : Node) (b : Bool) → s ≡ shape_of_node n → IsSound n → IsRising s.spans → b ≡ reaches_right q n.longest_right n.hole → b ≡ false → find (fits m q) n.right.spans ≡ None
-worth_above m q s n b e d h w f = right_none m q n.left.spans n.hole n.right.spans (at_rising s n e h) (known_right q n b d w ∙ f)
+pub worth_above : (o : Order) (m : Mode) (q : Request) (s : Shape) (n : Node) (b : Bool) → s ≡ shape_of_node n → IsSound n → (o ≡ ByStart → IsRising s.spans) → b ≡ reaches_right o q n.longest_right n.hole → b ≡ false → find (fits m q) n.right.spans ≡ None
+worth_above o m q s n b e d h w f = right_none o m q n.left.spans n.hole n.right.spans (λ p. at_rising s n e (h p)) (known_right o q n b d w ∙ f)
 
-pub worth_below_last : (m : Mode) (q : Request) (s : Shape) (n : Node) (b : Bool) → s ≡ shape_of_node n → IsSound n → IsRising s.spans → b ≡ reaches_left q n.longest_left n.hole → b ≡ false → find_last (fits m q) n.left.spans ≡ None
-worth_below_last m q s n b e d h w f = left_none_last m q n.left.spans n.hole n.right.spans (at_rising s n e h) (known_left q n b d w ∙ f)
+pub worth_below_last : (m : Mode) (q : Request) (s : Shape) (n : Node) (b : Bool) → s ≡ shape_of_node n → IsSound n → IsRising s.spans → b ≡ reaches_left ByStart q n.longest_left n.hole → b ≡ false → find_last (fits m q) n.left.spans ≡ None
+worth_below_last m q s n b e d h w f = left_none_last m q n.left.spans n.hole n.right.spans (at_rising s n e h) (known_left ByStart q n b d w ∙ f)
 
-pub worth_above_last : (m : Mode) (q : Request) (s : Shape) (n : Node) (b : Bool) → s ≡ shape_of_node n → IsSound n → IsRising s.spans → b ≡ reaches_right q n.longest_right n.hole → b ≡ false → find_last (fits m q) n.right.spans ≡ None
-worth_above_last m q s n b e d h w f = right_none_last m q n.left.spans n.hole n.right.spans (at_rising s n e h) (known_right q n b d w ∙ f)
-
-pub worth_below_shortest : (m : Mode) (q : Request) (s : Shape) (n : Node) (b : Bool) → s ≡ shape_of_node n → IsSound n → IsRising s.spans → b ≡ reaches_left q n.longest_left n.hole → b ≡ false → find_shortest (fits m q) n.left.spans ≡ None
-worth_below_shortest m q s n b e d h w f = left_none_shortest m q n.left.spans n.hole n.right.spans (at_rising s n e h) (known_left q n b d w ∙ f)
-
-pub worth_above_shortest : (m : Mode) (q : Request) (s : Shape) (n : Node) (b : Bool) → s ≡ shape_of_node n → IsSound n → IsRising s.spans → b ≡ reaches_right q n.longest_right n.hole → b ≡ false → find_shortest (fits m q) n.right.spans ≡ None
-worth_above_shortest m q s n b e d h w f = right_none_shortest m q n.left.spans n.hole n.right.spans (at_rising s n e h) (known_right q n b d w ∙ f)
+pub worth_above_last : (m : Mode) (q : Request) (s : Shape) (n : Node) (b : Bool) → s ≡ shape_of_node n → IsSound n → IsRising s.spans → b ≡ reaches_right ByStart q n.longest_right n.hole → b ≡ false → find_last (fits m q) n.right.spans ≡ None
+worth_above_last m q s n b e d h w f = right_none_last m q n.left.spans n.hole n.right.spans (at_rising s n e h) (known_right ByStart q n b d w ∙ f)
 
 -- ---- what the whole tree has
 
@@ -93,9 +87,6 @@ last_here test s n o e f h t = sym (ap (λ u. find_last test u.spans) e ∙ last
 pub last_below : (test : Span → Bool) (s : Shape) (n : Node) (o : Option Span) → s ≡ shape_of_node n → o ≡ find_last test n.right.spans → is_some o ≡ false → test n.hole ≡ false → find_last test n.left.spans ≡ find_last test s.spans
 last_below test s n o e f h t = sym (ap (λ u. find_last test u.spans) e ∙ last_left test n.left.spans n.hole n.right.spans (sym f ∙ none_of o h) t)
 
-pub shortest_here : (test : Span → Bool) (s : Shape) (n : Node) (a b o r : Option Span) → s ≡ shape_of_node n → a ≡ find_shortest test n.left.spans → o ≡ cond (test n.hole) (Some n.hole) None → b ≡ find_shortest test n.right.spans → r ≡ shorter a (shorter o b) → r ≡ find_shortest test s.spans
-shortest_here test s n a b o r e f h k j = j ∙ sym (ap (λ u. find_shortest test u.spans) e ∙ shortest_node test n.left.spans n.hole n.right.spans ∙ rw (f, h, k))
-
 -- ---- steps
 
 pub record Levels (s : Shape) (n : Node) : Type 0 where
@@ -109,14 +100,14 @@ levels s n e d =
     record { below = omega arith; above = omega arith }
 
 -- a side that was looked through for nothing cost no step
-pub idle_below : (m : Mode) (q : Request) (s : Shape) (n : Node) (b : Bool) (o : Option Span) → s ≡ shape_of_node n → IsSound n → b ≡ reaches_left q n.longest_left n.hole → o ≡ find (fits m q) n.left.spans → is_some o ≡ false → 0 < q.pages → IsWide q s.spans → b ≡ false
-idle_below m q s n true o e d w f h p i =
-    let long : q.pages ≤ longest n.left.spans = leb-true q.pages (longest n.left.spans) (and_parts (leb q.pages (longest n.left.spans)) (ltb q.first n.hole.start) (known_left q n true d w)).0 in
+pub idle_below : (r : Order) (m : Mode) (q : Request) (s : Shape) (n : Node) (b : Bool) (o : Option Span) → s ≡ shape_of_node n → IsSound n → b ≡ reaches_left r q n.longest_left n.hole → o ≡ find (fits m q) n.left.spans → is_some o ≡ false → 0 < q.pages → IsWide q s.spans → b ≡ false
+idle_below r m q s n true o e d w f h p i =
+    let long : q.pages ≤ longest n.left.spans = leb-true q.pages (longest n.left.spans) (and_parts (leb q.pages (longest n.left.spans)) (ranges_below r q n.hole) (known_left r q n true d w)).0 in
     absurd (wide_find m q n.left.spans (wide_below q s n e i) p long (sym f ∙ none_of o h))
-idle_below m q s n false o e d w f h p i = refl
+idle_below r m q s n false o e d w f h p i = refl
 
-pub idle_above : (m : Mode) (q : Request) (s : Shape) (n : Node) (b : Bool) (o : Option Span) → s ≡ shape_of_node n → IsSound n → b ≡ reaches_right q n.longest_right n.hole → o ≡ find_last (fits m q) n.right.spans → is_some o ≡ false → 0 < q.pages → IsWide q s.spans → b ≡ false
+pub idle_above : (m : Mode) (q : Request) (s : Shape) (n : Node) (b : Bool) (o : Option Span) → s ≡ shape_of_node n → IsSound n → b ≡ reaches_right ByStart q n.longest_right n.hole → o ≡ find_last (fits m q) n.right.spans → is_some o ≡ false → 0 < q.pages → IsWide q s.spans → b ≡ false
 idle_above m q s n true o e d w f h p i =
-    let long : q.pages ≤ longest n.right.spans = leb-true q.pages (longest n.right.spans) (and_parts (leb q.pages (longest n.right.spans)) (ltb n.hole.end q.last) (known_right q n true d w)).0 in
+    let long : q.pages ≤ longest n.right.spans = leb-true q.pages (longest n.right.spans) (and_parts (leb q.pages (longest n.right.spans)) (ltb n.hole.end q.last) (known_right ByStart q n true d w)).0 in
     absurd (wide_last m q n.right.spans (wide_above q s n e i) p long (sym f ∙ none_of o h))
 idle_above m q s n false o e d w f h p i = refl

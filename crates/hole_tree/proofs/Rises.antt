@@ -1,12 +1,10 @@
 -- Rising lists: their parts on both sides of a hole k, and a hole that comes or goes.
-use Rattle.std.proofs.Common.{◌≡◌, ℕ, ◌≤◌, ◌<◌, Bool, true, false, cond, ◌||◌, not, List, [], ◌∷◌, ◌++◌, Option, Some, None, refl, ap, ◌∙◌, ◌⊎◌, inl, inr, eqb, ltb, arith, append-nil}
-use Rattle.std.specs.List.{find, filter, list_all}
+use Rattle.std.proofs.Common.{◌≡◌, ℕ, ◌≤◌, ◌<◌, Bool, true, false, cond, List, [], ◌∷◌, ◌++◌, refl, ap, inl, inr, ltb, arith}
+use Rattle.std.specs.List.{filter, list_all}
 use Rattle.std.proofs.lemmas.Bool.{cases_Bool, and_parts, or_cases, ltb-true, lt-ltb, le-ltb, eq-eqb, ne_eqb}
-use Rattle.std.proofs.lemmas.List.Folds.{find-append}
-use Rattle.std.proofs.lemmas.List.Elements.{filter-append}
 use Rattle.ttm_base.specs.declared.Span.{Span}
-use Rattle.hole_tree.specs.Rising.{IsRising, IsPast, EndsBy}
-use Rattle.hole_tree.specs.HoleSet.{is_apart, starts_at, with_hole, without}
+use Rattle.hole_tree.specs.Rising.{IsRising, IsPast}
+use Rattle.hole_tree.specs.HoleSet.{is_apart, with_hole, without}
 
 pub past_middle : (page : ℕ) (l : List Span) (k : Span) (r : List Span) → IsPast page (l ++ k ∷ r) → page < k.start
 past_middle page [] k r h = h.0
@@ -29,21 +27,6 @@ rising_right l k r h = (rising_root l k r h).2
 
 -- ---- a hole that comes
 
-with_cases : (b : Bool) (x y : Span) (t u m v : List Span) → v ≡ u ++ m → cond b (x ∷ y ∷ (t ++ m)) (y ∷ v) ≡ cond b (x ∷ y ∷ t) (y ∷ u) ++ m
-with_cases true x y t u m v e = refl
-with_cases false x y t u m v e = ap (λ w. y ∷ w) e
-
-pub with_left : (x : Span) (l : List Span) (k : Span) (r : List Span) → x.start < k.start → with_hole x (l ++ k ∷ r) ≡ with_hole x l ++ k ∷ r
-with_left x [] k r h = rw (lt-ltb x.start k.start h)
-with_left x (y ∷ t) k r h = with_cases (ltb x.start y.start) x y t (with_hole x t) (k ∷ r) _ (with_left x t k r h)
-
-pub with_right : (x : Span) (l : List Span) (k : Span) (r : List Span) → k.start ≤ x.start → IsRising (l ++ k ∷ r) → with_hole x (l ++ k ∷ r) ≡ l ++ k ∷ with_hole x r
-with_right x [] k r h s = rw (le-ltb x.start k.start h)
-with_right x (y ∷ t) k r h s =
-    let p : y.end < k.start = past_middle y.end t k r s.1 in
-    let q : y.start ≤ y.end = s.0 in
-    rw (le-ltb x.start y.start (omega arith)) (ap (λ w. y ∷ w) (with_right x t k r h s.2))
-
 past_with : (page : ℕ) (x : Span) (ys : List Span) → page < x.start → IsPast page ys → IsPast page (with_hole x ys)
 past_with page x [] p h = (p, tt)
 past_with page x (y ∷ ys) p h = elim (ltb x.start y.start) as (λ b. IsPast page (cond b (x ∷ y ∷ ys) (y ∷ with_hole x ys))) [
@@ -51,7 +34,7 @@ past_with page x (y ∷ ys) p h = elim (ltb x.start y.start) as (λ b. IsPast pa
   | false ↦ (h.0, past_with page x ys p h.1)
 ]
 
-past_lower : (page below : ℕ) (ys : List Span) → below ≤ page → IsPast page ys → IsPast below ys
+pub past_lower : (page below : ℕ) (ys : List Span) → below ≤ page → IsPast page ys → IsPast below ys
 past_lower page below [] p h = tt
 past_lower page below (y ∷ ys) p h = let q : page < y.start = h.0 in (omega arith, past_lower page below ys p h.1)
 
@@ -65,7 +48,7 @@ apart_above x y p q e l = elim (or_cases (ltb x.end y.start) (ltb y.end x.start)
   | inr b ↦ let c : y.end < x.start = ltb-true y.end x.start b in absurd (omega arith)
 ]
 
-apart_below : (x y : Span) → x.start ≤ x.end → y.start ≤ y.end → is_apart x y ≡ true → y.start ≤ x.start → y.end < x.start
+pub apart_below : (x y : Span) → x.start ≤ x.end → y.start ≤ y.end → is_apart x y ≡ true → y.start ≤ x.start → y.end < x.start
 apart_below x y p q e l = elim (or_cases (ltb x.end y.start) (ltb y.end x.start) e) [
   | inl a ↦ let c : x.end < y.start = ltb-true x.end y.start a in absurd (omega arith)
   | inr b ↦ ltb-true y.end x.start b
@@ -100,63 +83,9 @@ rising_filter test (y ∷ ys) h = elim (test y) as (λ b. IsRising (cond b (y �
   | false ↦ rising_filter test ys h.2
 ]
 
-record IsElsewhere (start : ℕ) (ys : List Span) : Type 0 where
-  found : find (starts_at start) ys ≡ None
-  left : without start ys ≡ ys
-
-elsewhere_cons : (start : ℕ) (y : Span) (ys : List Span) → (y.start ≡ start → ⊥) → IsElsewhere start ys → IsElsewhere start (y ∷ ys)
-elsewhere_cons start y ys n e = let f = ne_eqb y.start start n in record { found = rw f e.found; left = rw f (ap (λ w. y ∷ w) e.left) }
-
-elsewhere_past : (start page : ℕ) (ys : List Span) → start ≤ page → IsPast page ys → IsElsewhere start ys
-elsewhere_past start page [] p h = record { found = refl; left = refl }
-elsewhere_past start page (y ∷ ys) p h = let q : page < y.start = h.0 in elsewhere_cons start y ys (λ e. omega arith) (elsewhere_past start page ys p h.1)
-
-elsewhere_below : (start : ℕ) (l : List Span) (k : Span) (r : List Span) → k.start ≤ start → IsRising (l ++ k ∷ r) → IsElsewhere start l
-elsewhere_below start [] k r p h = record { found = refl; left = refl }
-elsewhere_below start (y ∷ l) k r p h =
-    let a : y.end < k.start = past_middle y.end l k r h.1 in
-    let b : y.start ≤ y.end = h.0 in
-    elsewhere_cons start y l (λ e. omega arith) (elsewhere_below start l k r p h.2)
-
--- where the hole that begins at a page is, and what is left without it
-pub record Goes (start : ℕ) (ys : List Span) (hole : Option Span) (rest : List Span) : Type 0 where
-  pub found : find (starts_at start) ys ≡ hole
-  pub left : without start ys ≡ rest
-
-or_none : (o : Option Span) → Rattle.std.specs.Option.option_or o None ≡ o
-or_none None = refl
-or_none (Some x) = refl
-
-pub goes_left : (start : ℕ) (l : List Span) (k : Span) (r : List Span) → start < k.start → IsRising (l ++ k ∷ r) → Goes start (l ++ k ∷ r) (find (starts_at start) l) (without start l ++ k ∷ r)
-goes_left start l k r p h =
-    let root = rising_root l k r h in
-    let q : k.start ≤ k.end = root.0 in
-    let e = elsewhere_cons start k r (λ e. omega arith) (elsewhere_past start k.end r (omega arith) root.1) in
-    record {
-      found = find-append (starts_at start) l (k ∷ r) ∙ rw e.found (or_none (find (starts_at start) l));
-      left = filter-append (λ h. not (starts_at start h)) l (k ∷ r) ∙ ap (λ w. without start l ++ w) e.left;
-    }
-
-pub goes_right : (start : ℕ) (l : List Span) (k : Span) (r : List Span) → k.start < start → IsRising (l ++ k ∷ r) → Goes start (l ++ k ∷ r) (find (starts_at start) r) (l ++ k ∷ without start r)
-goes_right start l k r p h =
-    let e = elsewhere_below start l k r (omega arith) h in
-    let f = ne_eqb k.start start (λ e. omega arith) in
-    record {
-      found = find-append (starts_at start) l (k ∷ r) ∙ rw (e.found, f);
-      left = filter-append (λ h. not (starts_at start h)) l (k ∷ r) ∙ rw (e.left, f);
-    }
-
-pub goes_here : (start : ℕ) (l : List Span) (k : Span) (r : List Span) → k.start ≡ start → IsRising (l ++ k ∷ r) → Goes start (l ++ k ∷ r) (Some k) (l ++ r)
-goes_here start l k r p h =
-    let root = rising_root l k r h in
-    let q : k.start ≤ k.end = root.0 in
-    let e = elsewhere_below start l k r (omega arith) h in
-    let f = eq-eqb k.start start p in
-    let g = elsewhere_past start k.end r (omega arith) root.1 in
-    record {
-      found = find-append (starts_at start) l (k ∷ r) ∙ rw (e.found, f);
-      left = filter-append (λ h. not (starts_at start h)) l (k ∷ r) ∙ rw (e.left, f) (ap (λ w. l ++ w) g.left);
-    }
-
 pub left_past : (start page : ℕ) (ys : List Span) → start ≤ page → IsPast page ys → without start ys ≡ ys
-left_past start page ys p h = (elsewhere_past start page ys p h).left
+left_past start page [] p h = refl
+left_past start page (y ∷ ys) p h =
+    let q : page < y.start = h.0 in
+    let f = ne_eqb y.start start (λ e. omega arith) in
+    rw f (ap (λ w. y ∷ w) (left_past start page ys p h.1))

@@ -1,21 +1,21 @@
 -- Which holes fit, on both sides of a hole k.
-use Rattle.std.proofs.Common.{◌≡◌, ℕ, ◌+◌, ◌-◌, ◌*◌, ◌/◌, ◌≤◌, ◌<◌, min, max, Bool, true, false, cond, ◌&&◌, List, [], ◌∷◌, ◌++◌, Option, Some, None, refl, ap, sym, ◌∙◌, ◌⊎◌, inl, inr, leb, ltb, arith}
+use Rattle.std.proofs.Common.{◌≡◌, ℕ, ◌+◌, ◌-◌, ◌*◌, ◌/◌, ◌≤◌, ◌<◌, min, max, Bool, true, false, cond, ◌&&◌, List, [], ◌∷◌, ◌++◌, Option, Some, None, refl, ap, ◌∙◌, inl, inr, leb, ltb, arith}
 use Rattle.std.specs.Option.{option_or, is_some}
-use Rattle.std.specs.List.{find, filter, list_any}
-use Rattle.std.proofs.lemmas.Bool.{cases_Bool, and_parts, and_from, and_cases, leb-true, leb-false, ltb-true, ltb-false, lt-ltb, le-leb, le-ltb, lt-leb, or_left, or_right, both_ways, false_from_ne_true, cases_lt}
+use Rattle.std.specs.List.{find, list_any}
+use Rattle.std.proofs.lemmas.Bool.{cases_Bool, and_parts, and_from, and_cases, leb-true, leb-false, ltb-true, ltb-false, lt-ltb, le-leb, or_left, or_right, both_ways, false_from_ne_true, cases_lt}
 use Rattle.std.proofs.lemmas.List.Folds.{find-append}
 use Rattle.ttm_base.specs.declared.Span.{Span}
 use Rattle.ttm_base.specs.declared.Mode.{Mode}
 use Rattle.ttm_base.specs.declared.Mode.TheVariants.{Best, Low, High}
 use Rattle.ttm_base.specs.Reach.{common, length_of}
-use Rattle.ttm_base.specs.ListWords.{least_by}
 use Rattle.ttm_base.specs.RangeChoice.{start_to_test}
+use Rattle.hole_tree.specs.declared.order.Order.{Order}
+use Rattle.hole_tree.specs.declared.order.Order.TheVariants.{ByStart, ByLength}
 use Rattle.hole_tree.specs.declared.request.Request.{Request}
 use Rattle.hole_tree.specs.Longest.{longest}
 use Rattle.hole_tree.specs.Rising.{IsRising, IsPast, EndsBy}
 use Rattle.hole_tree.proofs.Rises.{past_middle, rising_root}
-use Rattle.hole_tree.specs.Choosing.{find_shortest}
-use Rattle.hole_tree.specs.Fitting.{range_of, fits, find_last, IsWide, reaches_left, reaches_right}
+use Rattle.hole_tree.specs.Fitting.{range_of, fits, find_last, IsWide, ranges_below, ranges_above, reaches_left, reaches_right}
 
 -- ---- sides of a wide request
 
@@ -108,29 +108,37 @@ past_miss m q page (x ∷ r) s h =
     let above : page < x.start = s.0 in
     (false_from_ne_true _ (λ e. let n = fit_numbers m q x e in absurd (omega (arith, n.last))), past_miss m q page r s.1 h)
 
-left_miss : (m : Mode) (q : Request) (l : List Span) (k : Span) (r : List Span) → IsRising (l ++ k ∷ r) → reaches_left q (longest l) k ≡ false → AllMiss (fits m q) l
-left_miss m q l k r s e = elim (and_cases (leb q.pages (longest l)) (ltb q.first k.start) e) [
+range_below_miss : (o : Order) (m : Mode) (q : Request) (l : List Span) (k : Span) (r : List Span) → (o ≡ ByStart → IsRising (l ++ k ∷ r)) → ranges_below o q k ≡ false → AllMiss (fits m q) l
+range_below_miss ByStart m q l k r s e = low_miss m q l k r (s refl) (ltb-false q.first k.start e)
+range_below_miss ByLength m q l k r s e = absurd (both_ways true e refl)
+
+range_above_miss : (o : Order) (m : Mode) (q : Request) (l : List Span) (k : Span) (r : List Span) → (o ≡ ByStart → IsRising (l ++ k ∷ r)) → ranges_above o q k ≡ false → AllMiss (fits m q) r
+range_above_miss ByStart m q l k r s e = past_miss m q k.end r (rising_root l k r (s refl)).1 (ltb-false k.end q.last e)
+range_above_miss ByLength m q l k r s e = absurd (both_ways true e refl)
+
+left_miss : (o : Order) (m : Mode) (q : Request) (l : List Span) (k : Span) (r : List Span) → (o ≡ ByStart → IsRising (l ++ k ∷ r)) → reaches_left o q (longest l) k ≡ false → AllMiss (fits m q) l
+left_miss o m q l k r s e = elim (and_cases (leb q.pages (longest l)) (ranges_below o q k) e) [
   | inl a ↦ short_miss m q l (leb-false q.pages (longest l) a)
-  | inr b ↦ low_miss m q l k r s (ltb-false q.first k.start b)
+  | inr b ↦ range_below_miss o m q l k r s b
 ]
 
-right_miss : (m : Mode) (q : Request) (l : List Span) (k : Span) (r : List Span) → IsRising (l ++ k ∷ r) → reaches_right q (longest r) k ≡ false → AllMiss (fits m q) r
-right_miss m q l k r s e = elim (and_cases (leb q.pages (longest r)) (ltb k.end q.last) e) [
+right_miss : (o : Order) (m : Mode) (q : Request) (l : List Span) (k : Span) (r : List Span) → (o ≡ ByStart → IsRising (l ++ k ∷ r)) → reaches_right o q (longest r) k ≡ false → AllMiss (fits m q) r
+right_miss o m q l k r s e = elim (and_cases (leb q.pages (longest r)) (ranges_above o q k) e) [
   | inl a ↦ short_miss m q r (leb-false q.pages (longest r) a)
-  | inr b ↦ past_miss m q k.end r (rising_root l k r s).1 (ltb-false k.end q.last b)
+  | inr b ↦ range_above_miss o m q l k r s b
 ]
 
-pub left_none : (m : Mode) (q : Request) (l : List Span) (k : Span) (r : List Span) → IsRising (l ++ k ∷ r) → reaches_left q (longest l) k ≡ false → find (fits m q) l ≡ None
-left_none m q l k r s e = miss_find (fits m q) l (left_miss m q l k r s e)
+pub left_none : (o : Order) (m : Mode) (q : Request) (l : List Span) (k : Span) (r : List Span) → (o ≡ ByStart → IsRising (l ++ k ∷ r)) → reaches_left o q (longest l) k ≡ false → find (fits m q) l ≡ None
+left_none o m q l k r s e = miss_find (fits m q) l (left_miss o m q l k r s e)
 
-pub right_none : (m : Mode) (q : Request) (l : List Span) (k : Span) (r : List Span) → IsRising (l ++ k ∷ r) → reaches_right q (longest r) k ≡ false → find (fits m q) r ≡ None
-right_none m q l k r s e = miss_find (fits m q) r (right_miss m q l k r s e)
+pub right_none : (o : Order) (m : Mode) (q : Request) (l : List Span) (k : Span) (r : List Span) → (o ≡ ByStart → IsRising (l ++ k ∷ r)) → reaches_right o q (longest r) k ≡ false → find (fits m q) r ≡ None
+right_none o m q l k r s e = miss_find (fits m q) r (right_miss o m q l k r s e)
 
-pub left_none_last : (m : Mode) (q : Request) (l : List Span) (k : Span) (r : List Span) → IsRising (l ++ k ∷ r) → reaches_left q (longest l) k ≡ false → find_last (fits m q) l ≡ None
-left_none_last m q l k r s e = miss_last (fits m q) l (left_miss m q l k r s e)
+pub left_none_last : (m : Mode) (q : Request) (l : List Span) (k : Span) (r : List Span) → IsRising (l ++ k ∷ r) → reaches_left ByStart q (longest l) k ≡ false → find_last (fits m q) l ≡ None
+left_none_last m q l k r s e = miss_last (fits m q) l (left_miss ByStart m q l k r (λ p. s) e)
 
-pub right_none_last : (m : Mode) (q : Request) (l : List Span) (k : Span) (r : List Span) → IsRising (l ++ k ∷ r) → reaches_right q (longest r) k ≡ false → find_last (fits m q) r ≡ None
-right_none_last m q l k r s e = miss_last (fits m q) r (right_miss m q l k r s e)
+pub right_none_last : (m : Mode) (q : Request) (l : List Span) (k : Span) (r : List Span) → IsRising (l ++ k ∷ r) → reaches_right ByStart q (longest r) k ≡ false → find_last (fits m q) r ≡ None
+right_none_last m q l k r s e = miss_last (fits m q) r (right_miss ByStart m q l k r (λ p. s) e)
 
 wide_any : (m : Mode) (q : Request) (xs : List Span) → IsWide q xs → 0 < q.pages → q.pages ≤ longest xs → list_any (fits m q) xs ≡ true
 wide_any m q [] w p h = absurd (omega arith)
@@ -196,20 +204,6 @@ last_root test l k r e h = rw (last_append test l (k ∷ r), e, h)
 pub last_left : (test : Span → Bool) (l : List Span) (k : Span) (r : List Span) → find_last test r ≡ None → test k ≡ false → find_last test (l ++ k ∷ r) ≡ find_last test l
 last_left test l k r e h = rw (last_append test l (k ∷ r), e, h)
 
-miss_filter : (test : Span → Bool) (xs : List Span) → AllMiss test xs → filter test xs ≡ []
-unfolding AllMiss
-miss_filter test [] h = refl
-miss_filter test (x ∷ xs) h = rw h.0 (miss_filter test xs h.1)
-
-miss_shortest : (test : Span → Bool) (xs : List Span) → AllMiss test xs → find_shortest test xs ≡ None
-miss_shortest test xs h = ap (λ ys. least_by length_of ys) (miss_filter test xs h)
-
-pub left_none_shortest : (m : Mode) (q : Request) (l : List Span) (k : Span) (r : List Span) → IsRising (l ++ k ∷ r) → reaches_left q (longest l) k ≡ false → find_shortest (fits m q) l ≡ None
-left_none_shortest m q l k r s e = miss_shortest (fits m q) l (left_miss m q l k r s e)
-
-pub right_none_shortest : (m : Mode) (q : Request) (l : List Span) (k : Span) (r : List Span) → IsRising (l ++ k ∷ r) → reaches_right q (longest r) k ≡ false → find_shortest (fits m q) r ≡ None
-right_none_shortest m q l k r s e = miss_shortest (fits m q) r (right_miss m q l k r s e)
-
 -- no page is asked for
 zero_miss : (m : Mode) (q : Request) (xs : List Span) → ltb 0 q.pages ≡ false → AllMiss (fits m q) xs
 unfolding AllMiss
@@ -221,6 +215,3 @@ zero_first m q xs e = miss_find (fits m q) xs (zero_miss m q xs e)
 
 pub zero_last : (m : Mode) (q : Request) (xs : List Span) → ltb 0 q.pages ≡ false → find_last (fits m q) xs ≡ None
 zero_last m q xs e = miss_last (fits m q) xs (zero_miss m q xs e)
-
-pub zero_shortest : (m : Mode) (q : Request) (xs : List Span) → ltb 0 q.pages ≡ false → find_shortest (fits m q) xs ≡ None
-zero_shortest m q xs e = miss_shortest (fits m q) xs (zero_miss m q xs e)

@@ -1,42 +1,42 @@
 -- What holds of the sides of a node that was taken apart.
-use Rattle.std.proofs.Common.{◌≡◌, ℕ, ◌+◌, ◌≤◌, ◌<◌, List, ◌∷◌, ◌++◌, Some, length, sym, ap, ◌∙◌, subst, arith, length-append}
+use Rattle.std.proofs.Common.{◌≡◌, ◌+◌, true, false, ◌∷◌, ◌++◌, Some, length, ap, ◌∙◌, subst, arith, length-append}
 use Rattle.std.specs.List.{find}
 use Rattle.ttm_base.specs.declared.Span.{Span}
+use Rattle.hole_tree.specs.declared.order.Order.{Order}
 use Rattle.hole_tree.specs.Shape.{Shape}
+use Rattle.hole_tree.specs.Sorting.{before, ties, IsSorted, placed, untied}
 use Rattle.hole_tree.specs.Trees.{IsNode}
-use Rattle.hole_tree.specs.Rising.{IsRising}
-use Rattle.hole_tree.specs.HoleSet.{starts_at, with_hole, without}
-use Rattle.hole_tree.proofs.Rises.{rising_left, rising_right, with_left, with_right, Goes, goes_left, goes_right, goes_here}
+use Rattle.hole_tree.proofs.Sorts.{sorted_left, sorted_right, placed_left, placed_right, Goes, goes_left, goes_right, goes_here}
 
 pub node_count : {s l : Shape} {k : Span} {r : Shape} → IsNode s l k r → length s.spans ≡ length l.spans + length r.spans + 1
 node_count {s} {l} {k} {r} n = ap length n.spans ∙ omega (arith, length-append l.spans (k ∷ r.spans))
 
-pub node_rising : {s l : Shape} {k : Span} {r : Shape} → IsNode s l k r → IsRising s.spans → IsRising (l.spans ++ k ∷ r.spans)
-node_rising n h = subst IsRising n.spans h
+pub node_sorted : {s l : Shape} {k : Span} {r : Shape} (o : Order) → IsNode s l k r → IsSorted o s.spans → IsSorted o (l.spans ++ k ∷ r.spans)
+node_sorted o n h = subst (IsSorted o) n.spans h
 
-pub node_rising_left : {s l : Shape} {k : Span} {r : Shape} → IsNode s l k r → IsRising s.spans → IsRising l.spans
-node_rising_left {s} {l} {k} {r} n h = rising_left l.spans (k ∷ r.spans) (node_rising n h)
+pub node_sorted_left : {s l : Shape} {k : Span} {r : Shape} (o : Order) → IsNode s l k r → IsSorted o s.spans → IsSorted o l.spans
+node_sorted_left {s} {l} {k} {r} o n h = sorted_left o l.spans (k ∷ r.spans) (node_sorted o n h)
 
-pub node_rising_right : {s l : Shape} {k : Span} {r : Shape} → IsNode s l k r → IsRising s.spans → IsRising r.spans
-node_rising_right {s} {l} {k} {r} n h = rising_right l.spans k r.spans (node_rising n h)
+pub node_sorted_right : {s l : Shape} {k : Span} {r : Shape} (o : Order) → IsNode s l k r → IsSorted o s.spans → IsSorted o r.spans
+node_sorted_right {s} {l} {k} {r} o n h = sorted_right o l.spans k r.spans (node_sorted o n h)
 
-pub node_with_left : {s l : Shape} {k : Span} {r : Shape} (x : Span) → IsNode s l k r → x.start < k.start → with_hole x s.spans ≡ with_hole x l.spans ++ k ∷ r.spans
-node_with_left {s} {l} {k} {r} x n p = ap (λ w. with_hole x w) n.spans ∙ with_left x l.spans k r.spans p
+pub node_placed_left : {s l : Shape} {k : Span} {r : Shape} (o : Order) (x : Span) → IsNode s l k r → before o x k ≡ true → placed o x s.spans ≡ placed o x l.spans ++ k ∷ r.spans
+node_placed_left {s} {l} {k} {r} o x n p = ap (λ w. placed o x w) n.spans ∙ placed_left o x l.spans k r.spans p
 
-pub node_with_right : {s l : Shape} {k : Span} {r : Shape} (x : Span) → IsNode s l k r → IsRising s.spans → k.start ≤ x.start → with_hole x s.spans ≡ l.spans ++ k ∷ with_hole x r.spans
-node_with_right {s} {l} {k} {r} x n h p = ap (λ w. with_hole x w) n.spans ∙ with_right x l.spans k r.spans p (node_rising n h)
+pub node_placed_right : {s l : Shape} {k : Span} {r : Shape} (o : Order) (x : Span) → IsNode s l k r → IsSorted o s.spans → before o x k ≡ false → placed o x s.spans ≡ l.spans ++ k ∷ placed o x r.spans
+node_placed_right {s} {l} {k} {r} o x n h p = ap (λ w. placed o x w) n.spans ∙ placed_right o x l.spans k r.spans p (node_sorted o n h)
 
-pub node_goes_left : {s l : Shape} {k : Span} {r : Shape} (start : ℕ) → IsNode s l k r → IsRising s.spans → start < k.start → Goes start s.spans (find (starts_at start) l.spans) (without start l.spans ++ k ∷ r.spans)
-node_goes_left {s} {l} {k} {r} start n h p =
-    let g = goes_left start l.spans k r.spans p (node_rising n h) in
-    record { found = ap (λ w. find (starts_at start) w) n.spans ∙ g.found; left = ap (λ w. without start w) n.spans ∙ g.left }
+pub node_goes_left : {s l : Shape} {k : Span} {r : Shape} (o : Order) (x : Span) → IsNode s l k r → IsSorted o s.spans → before o x k ≡ true → Goes o x s.spans (find (ties o x) l.spans) (untied o x l.spans ++ k ∷ r.spans)
+node_goes_left {s} {l} {k} {r} o x n h p =
+    let g = goes_left o x l.spans k r.spans p (node_sorted o n h) in
+    record { found = ap (λ w. find (ties o x) w) n.spans ∙ g.found; left = ap (λ w. untied o x w) n.spans ∙ g.left }
 
-pub node_goes_right : {s l : Shape} {k : Span} {r : Shape} (start : ℕ) → IsNode s l k r → IsRising s.spans → k.start < start → Goes start s.spans (find (starts_at start) r.spans) (l.spans ++ k ∷ without start r.spans)
-node_goes_right {s} {l} {k} {r} start n h p =
-    let g = goes_right start l.spans k r.spans p (node_rising n h) in
-    record { found = ap (λ w. find (starts_at start) w) n.spans ∙ g.found; left = ap (λ w. without start w) n.spans ∙ g.left }
+pub node_goes_right : {s l : Shape} {k : Span} {r : Shape} (o : Order) (x : Span) → IsNode s l k r → IsSorted o s.spans → before o k x ≡ true → Goes o x s.spans (find (ties o x) r.spans) (l.spans ++ k ∷ untied o x r.spans)
+node_goes_right {s} {l} {k} {r} o x n h p =
+    let g = goes_right o x l.spans k r.spans p (node_sorted o n h) in
+    record { found = ap (λ w. find (ties o x) w) n.spans ∙ g.found; left = ap (λ w. untied o x w) n.spans ∙ g.left }
 
-pub node_goes_here : {s l : Shape} {k : Span} {r : Shape} (start : ℕ) → IsNode s l k r → IsRising s.spans → k.start ≡ start → Goes start s.spans (Some k) (l.spans ++ r.spans)
-node_goes_here {s} {l} {k} {r} start n h p =
-    let g = goes_here start l.spans k r.spans p (node_rising n h) in
-    record { found = ap (λ w. find (starts_at start) w) n.spans ∙ g.found; left = ap (λ w. without start w) n.spans ∙ g.left }
+pub node_goes_here : {s l : Shape} {k : Span} {r : Shape} (o : Order) (x : Span) → IsNode s l k r → IsSorted o s.spans → before o x k ≡ false → before o k x ≡ false → Goes o x s.spans (Some k) (l.spans ++ r.spans)
+node_goes_here {s} {l} {k} {r} o x n h p q =
+    let g = goes_here o x l.spans k r.spans p q (node_sorted o n h) in
+    record { found = ap (λ w. find (ties o x) w) n.spans ∙ g.found; left = ap (λ w. untied o x w) n.spans ∙ g.left }

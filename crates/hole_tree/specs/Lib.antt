@@ -5,4 +5,5 @@ pub mod Kept
 pub mod Longest
 pub mod Rising
 pub mod Shape
+pub mod Sorting
 pub mod Trees

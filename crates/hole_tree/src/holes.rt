@@ -7,21 +7,30 @@ ghost use Rattle.hole_tree.specs.Choosing.{chosen_hole};
 ghost use Rattle.hole_tree.specs.HoleSet.{is_apart, starts_at, with_hole, without};
 ghost use Rattle.hole_tree.specs.Rising.{EndsBy};
 
+use crate::order::Order;
 use crate::request::Request;
 use crate::tree::{Node, Tree};
 use std::alloc::Global;
 use std::marker::{Brand, Model};
-use std::mem;
 use step_count::Steps;
 use step_count::ledger::{Blank, Ledger};
 use ttm_base::{Mode, NoMemory, Span};
 
-/// Holes of which no two overlap or touch, in a balanced tree. The nodes of holes to come are kept beside it.
+/// Holes of which no two overlap or touch, in two balanced trees: by start, and by length. The nodes of holes to come
+/// are kept beside them.
 #[derive(Drop)]
 pub struct Holes {
-    tree: Tree,
+    by_start: Tree,
+    by_length: Tree,
     count: usize,
-    spare: Vec<Box<Node>>,
+    spare: Vec<Nodes>,
+}
+
+/// The nodes of a hole in both trees.
+#[derive(Drop)]
+struct Nodes {
+    by_start: Box<Node>,
+    by_length: Box<Node>,
 }
 
 impl Model for Holes {
@@ -32,7 +41,7 @@ impl Model for Holes {
 
     ghost use Rattle.hole_tree.specs.Kept.{IsKept};
 
-    ghost view = { λ h. record { holes = h.tree.spans; spare = length h.spare.items } };
+    ghost view = { λ h. record { holes = h.by_start.spans; spare = length h.spare.items } };
 
     ghost invariant = { IsKept };
 }
@@ -44,7 +53,8 @@ impl Holes {
         ensures spare { result.spare ≡ 0 }
     {
         Holes {
-            tree: Tree::new(),
+            by_start: Tree::new(),
+            by_length: Tree::new(),
             count: 0,
             spare: Vec::new(alloc),
         }
@@ -75,11 +85,13 @@ impl Holes {
     {
         // (the room of the spare nodes bounds the number of holes)
         let _room = self.spare.capacity();
-        let Some(mut node) = self.spare.pop() else {
+        let Some(mut nodes) = self.spare.pop() else {
             unreachable!()
         };
-        node.hole = hole;
-        self.tree = mem::replace(&mut self.tree, Tree::new()).add(node);
+        nodes.by_start.hole = hole;
+        nodes.by_length.hole = hole;
+        self.by_start.insert(Order::ByStart, nodes.by_start);
+        self.by_length.insert(Order::ByLength, nodes.by_length);
         self.count += 1;
     }
 
@@ -90,18 +102,27 @@ impl Holes {
         ensures left { self.new.holes ≡ without start self.old.holes }
         ensures spare { self.new.spare ≡ self.old.spare + 1 }
     {
-        let tree = mem::replace(&mut self.tree, Tree::new());
-        let Some((node, tree)) = tree.remove(start) else {
+        let begins = Span { start, end: start };
+        let Some(by_start) = self.by_start.take(Order::ByStart, begins) else {
             unreachable!()
         };
-        let hole = node.hole;
-        self.tree = tree;
+        let hole = by_start.hole;
+        let Some(by_length) = self.by_length.take(Order::ByLength, hole) else {
+            unreachable!()
+        };
         self.count -= 1;
-        keep(&mut self.spare, node);
+        keep(
+            &mut self.spare,
+            Nodes {
+                by_start,
+                by_length,
+            },
+        );
         hole
     }
 
-    /// The shortest hole that has `pages` pages at a multiple of `align`, from `first` up to `last`.
+    /// The shortest hole that has `pages` pages at a multiple of `align`, from `first` up to `last`; the lowest among
+    /// equals.
     pub fn best(&self, pages: u32, align: u32, first: u32, last: u32) -> Option<Span>
         requires { 1 ≤ align }
         ensures { result ≡ chosen_hole Best self.now.holes pages align first last }
@@ -143,6 +164,32 @@ impl Holes {
         self.choose::<Brand>(Mode::High, request, Blank::new(1))
     }
 
+    /// The shortest such hole, where a step is a node that is opened.
+    pub fn best_counted<L: Ledger>(
+        &self,
+        pages: u32,
+        align: u32,
+        first: u32,
+        last: u32,
+        steps: &mut Steps<L>,
+    ) -> Option<Span>
+        requires { 1 ≤ align }
+        ensures hole { result ≡ chosen_hole Best self.now.holes pages align first last }
+        ensures counts { steps.old ≤ steps.new }
+        ensures cost { align ≡ 1 → first ≡ 0 → EndsBy last self.now.holes → 2 ^ (steps.new - steps.old) ≤ (length self.now.holes + 1) * (length self.now.holes + 1) }
+    {
+        // (its levels bound the steps)
+        let _levels = self.by_length.height();
+        let request = Request {
+            pages,
+            align,
+            first,
+            last,
+        };
+        self.by_length
+            .first(Order::ByLength, request, pages > 0, steps)
+    }
+
     /// The lowest such hole, where a step is a node that is opened.
     pub fn lowest_counted<L: Ledger>(
         &self,
@@ -158,14 +205,15 @@ impl Holes {
         ensures cost { align ≡ 1 → first ≡ 0 → EndsBy last self.now.holes → 2 ^ (steps.new - steps.old) ≤ (length self.now.holes + 1) * (length self.now.holes + 1) }
     {
         // (its levels bound the steps)
-        let _levels = self.tree.height();
+        let _levels = self.by_start.height();
         let request = Request {
             pages,
             align,
             first,
             last,
         };
-        self.tree.lowest(request, pages > 0, steps)
+        self.by_start
+            .first(Order::ByStart, request, pages > 0, steps)
     }
 
     /// The highest such hole, where a step is a node that is opened.
@@ -183,14 +231,14 @@ impl Holes {
         ensures cost { align ≡ 1 → first ≡ 0 → EndsBy last self.now.holes → 2 ^ (steps.new - steps.old) ≤ (length self.now.holes + 1) * (length self.now.holes + 1) }
     {
         // (its levels bound the steps)
-        let _levels = self.tree.height();
+        let _levels = self.by_start.height();
         let request = Request {
             pages,
             align,
             first,
             last,
         };
-        self.tree.highest(request, pages > 0, steps)
+        self.by_start.highest(request, pages > 0, steps)
     }
 
     /// The hole of the range choice, with a counter of its own.
@@ -202,16 +250,21 @@ impl Holes {
         ensures { result ≡ chosen_hole mode self.now.holes request.pages request.align request.first request.last }
     {
         let mut steps = Steps::<L>::new(blank);
+        let worth = request.pages > 0;
         match mode {
-            Mode::Best => self.tree.shortest(request, request.pages > 0, &mut steps),
-            Mode::Low => self.tree.lowest(request, request.pages > 0, &mut steps),
-            Mode::High => self.tree.highest(request, request.pages > 0, &mut steps),
+            Mode::Best => self
+                .by_length
+                .first(Order::ByLength, request, worth, &mut steps),
+            Mode::Low => self
+                .by_start
+                .first(Order::ByStart, request, worth, &mut steps),
+            Mode::High => self.by_start.highest(request, worth, &mut steps),
         }
     }
 }
 
-/// Makes nodes until there are `n`.
-fn fill(spare: &mut Vec<Box<Node>>, n: usize) -> Result<(), NoMemory>
+/// Makes nodes until there are those of `n` holes.
+fn fill(spare: &mut Vec<Nodes>, n: usize) -> Result<(), NoMemory>
     requires { vec_len spare.old ≤ n }
     ensures ok { OnOk result (vec_len spare.new ≡ n) }
     ensures more { vec_len spare.old ≤ vec_len spare.new }
@@ -220,18 +273,23 @@ fn fill(spare: &mut Vec<Box<Node>>, n: usize) -> Result<(), NoMemory>
 {
     let alloc = *spare.allocator();
     for _i in spare.len()..n {
-        spare.push(Box::new(alloc, Node::blank())?)?;
+        let by_start = Box::new(alloc, Node::blank())?;
+        let by_length = Box::new(alloc, Node::blank())?;
+        spare.push(Nodes {
+            by_start,
+            by_length,
+        })?;
     }
     Ok(())
 }
 
-/// Puts a node back, for which there is room.
-fn keep(spare: &mut Vec<Box<Node>>, node: Box<Node>)
+/// Puts the nodes of a hole back, for which there is room.
+fn keep(spare: &mut Vec<Nodes>, nodes: Nodes)
     requires { vec_len spare.old + 1 ≤ vec_capacity spare.old }
     ensures len { vec_len spare.new ≡ vec_len spare.old + 1 }
     ensures capacity { vec_capacity spare.old ≤ vec_capacity spare.new }
 {
-    match spare.push(node) {
+    match spare.push(nodes) {
         Ok(()) => {}
         Err(_) => unreachable!(),
     }

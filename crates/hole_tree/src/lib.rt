@@ -1,7 +1,8 @@
-//! The holes of a range of pages, in a balanced tree (drm_mm's hole trees).
+//! The holes of a range of pages, in two balanced trees (drm_mm's hole trees).
 #![tactic(auto)]
 
 mod holes;
+mod order;
 mod request;
 mod search;
 #[cfg(test)]

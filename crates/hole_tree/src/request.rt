@@ -1,9 +1,9 @@
-ghost use Rattle.std.specs.Prelude.{◌≡◌, ◌≤◌, Some, None, if◌then◌else◌};
-ghost use Rattle.ttm_base.specs.declared.Mode.TheVariants.{Best};
+ghost use Rattle.std.specs.Prelude.{◌≡◌, ◌≤◌};
 ghost use Rattle.ttm_base.specs.RangeChoice.{start_to_test};
 ghost use Rattle.ttm_base.specs.Reach.{common};
 ghost use Rattle.hole_tree.specs.Fitting.{fits, range_of, reaches_left, reaches_right};
 
+use crate::order::Order;
 use ttm_base::{Mode, Span};
 
 /// So many pages at a multiple of `align`, from `first` up to `last`.
@@ -31,29 +31,25 @@ impl Request {
         pages > 0 && start <= tested && tested + pages <= end
     }
 
-    /// The hole, if it fits.
-    pub fn fitting(self, hole: Span) -> Option<Span>
-        requires { 1 ≤ self.align }
-        ensures { result ≡ (if fits Best self hole then Some hole else None) }
+    /// Some hole before the one at a root may fit, where the longest of them is so long.
+    pub fn reaches_left(self, order: Order, longest: u32, root: Span) -> bool
+        ensures { result ≡ reaches_left order self longest root }
     {
-        if self.fits(Mode::Best, hole) {
-            Some(hole)
-        } else {
-            None
-        }
+        let in_range = match order {
+            Order::ByStart => self.first < root.start,
+            Order::ByLength => true,
+        };
+        self.pages <= longest && in_range
     }
 
-    /// Some hole below the one at a root may fit, where the longest of them is so long.
-    pub fn reaches_left(self, longest: u32, root: Span) -> bool
-        ensures { result ≡ reaches_left self longest root }
+    /// Some hole after it may.
+    pub fn reaches_right(self, order: Order, longest: u32, root: Span) -> bool
+        ensures { result ≡ reaches_right order self longest root }
     {
-        self.pages <= longest && self.first < root.start
-    }
-
-    /// Some hole above it may.
-    pub fn reaches_right(self, longest: u32, root: Span) -> bool
-        ensures { result ≡ reaches_right self longest root }
-    {
-        self.pages <= longest && root.end < self.last
+        let in_range = match order {
+            Order::ByStart => root.end < self.last,
+            Order::ByLength => true,
+        };
+        self.pages <= longest && in_range
     }
 }

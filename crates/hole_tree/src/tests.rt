@@ -6,28 +6,34 @@ const SHORT: Span = Span { start: 20, end: 22 };
 
 const LONG: Span = Span { start: 4, end: 10 };
 
+const HIGH: Span = Span { start: 40, end: 42 };
+
 #[test]
 fn holes_by_length_and_by_place(rt: HostRuntime) -> Result<(), Fail> {
     let mut holes = Holes::new(rt.alloc());
-    holes.ready(2)?;
+    holes.ready(3)?;
+    holes.add(HIGH);
     holes.add(SHORT);
     holes.add(LONG);
     assert_eq!(rt; holes.best(2, 1, 0, 64), Some(SHORT));
+    assert_eq!(rt; holes.best(2, 1, 21, 64), Some(HIGH));
+    assert_eq!(rt; holes.best(3, 1, 0, 64), Some(LONG));
     assert_eq!(rt; holes.lowest(2, 1, 0, 64), Some(LONG));
-    assert_eq!(rt; holes.highest(2, 1, 0, 64), Some(SHORT));
+    assert_eq!(rt; holes.highest(2, 1, 0, 64), Some(HIGH));
     assert_eq!(rt; holes.highest(2, 1, 0, 21), Some(LONG));
     assert_eq!(rt; holes.best(7, 1, 0, 64), None);
     Ok(())
 }
 
 #[test]
-fn taken_hole_leaves_its_node(rt: HostRuntime) -> Result<(), Fail> {
+fn taken_hole_leaves_its_nodes(rt: HostRuntime) -> Result<(), Fail> {
     let mut holes = Holes::new(rt.alloc());
     holes.ready(1)?;
     holes.add(LONG);
     assert_eq!(rt; holes.remove(4), LONG);
-    assert_eq!(rt; holes.lowest(1, 1, 0, 64), None);
+    assert_eq!(rt; holes.best(1, 1, 0, 64), None);
     holes.add(SHORT);
+    assert_eq!(rt; holes.best(1, 1, 0, 64), Some(SHORT));
     assert_eq!(rt; holes.lowest(1, 1, 0, 64), Some(SHORT));
     Ok(())
 }

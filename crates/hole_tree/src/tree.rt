@@ -4,10 +4,9 @@ ghost use Rattle.std.specs.List.{find};
 ghost use Rattle.hole_tree.specs.Longest.{longest};
 ghost use Rattle.hole_tree.specs.Shape.{IsLow};
 ghost use Rattle.hole_tree.specs.Trees.{shape_of_node, IsNode, IsSound, DifferBy, IsSettled};
-ghost use Rattle.hole_tree.specs.HoleSet.{starts_at, with_hole, without};
-ghost use Rattle.hole_tree.specs.Rising.{IsRising};
+ghost use Rattle.hole_tree.specs.Sorting.{ties, IsSorted, placed, untied};
 
-use std::alloc::Global;
+use crate::order::Order;
 use std::marker::Model;
 use std::mem;
 use step_count::Steps;
@@ -125,21 +124,21 @@ impl Tree {
         }
     }
 
-    /// With one hole more, in the node that is given.
-    pub fn add(self, fresh: Box<Node>) -> Tree
-        requires rising { IsRising self.spans }
+    /// With one hole more in its place, in the node that is given.
+    fn add(self, order: Order, fresh: Box<Node>) -> Tree
+        requires sorted { IsSorted order self.spans }
         requires fits { length self.spans + 1 < 2 ^ 64 }
-        ensures spans { result.spans ≡ with_hole fresh.value.hole self.spans }
+        ensures spans { result.spans ≡ placed order fresh.value.hole self.spans }
         ensures at_least { self.height ≤ result.height }
         ensures at_most { result.height ≤ self.height + 1 }
     {
         match self.parts() {
             None => closed(Tree::new(), fresh, Tree::new()),
             Some((left, node, right)) => {
-                if fresh.hole.start < node.hole.start {
-                    balanced(left.add(fresh), node, right)
+                if order.is_before(fresh.hole, node.hole) {
+                    balanced(left.add(order, fresh), node, right)
                 } else {
-                    balanced(left, node, right.add(fresh))
+                    balanced(left, node, right.add(order, fresh))
                 }
             }
         }
@@ -161,25 +160,46 @@ impl Tree {
         }
     }
 
-    /// The hole that begins at a page, in its node, and the others.
-    pub fn remove(self, start: u32) -> Option<(Box<Node>, Tree)>
-        requires rising { IsRising self.spans }
+    /// The hole that ties with the one that is sought, in its node, and the others.
+    fn remove(self, order: Order, sought: Span) -> Option<(Box<Node>, Tree)>
+        requires sorted { IsSorted order self.spans }
         requires fits { length self.spans < 2 ^ 64 }
-        ensures found { option_map (λ p. p.0.value.hole) result ≡ find (starts_at start) self.spans }
-        ensures left { IfSome result (λ p. p.1.spans ≡ without start self.spans) }
+        ensures found { option_map (λ p. p.0.value.hole) result ≡ find (ties order sought) self.spans }
+        ensures left { IfSome result (λ p. p.1.spans ≡ untied order sought self.spans) }
         ensures at_most { IfSome result (λ p. p.1.height ≤ self.height) }
         ensures at_least { IfSome result (λ p. self.height ≤ p.1.height + 1) }
     {
         let (left, node, right) = self.parts()?;
-        if start < node.hole.start {
-            let (found, left) = left.remove(start)?;
+        if order.is_before(sought, node.hole) {
+            let (found, left) = left.remove(order, sought)?;
             return Some((found, balanced(left, node, right)));
         }
-        if node.hole.start < start {
-            let (found, right) = right.remove(start)?;
+        if order.is_before(node.hole, sought) {
+            let (found, right) = right.remove(order, sought)?;
             return Some((found, balanced(left, node, right)));
         }
         Some((node, joined(left, right)))
+    }
+
+    /// Puts a hole into its place, in the node that is given.
+    pub fn insert(&mut self, order: Order, fresh: Box<Node>)
+        requires sorted { IsSorted order self.old.spans }
+        requires fits { length self.old.spans + 1 < 2 ^ 64 }
+        ensures { self.new.spans ≡ placed order fresh.value.hole self.old.spans }
+    {
+        *self = mem::replace(self, Tree::new()).add(order, fresh);
+    }
+
+    /// Takes out the hole that ties with the one that is sought.
+    pub fn take(&mut self, order: Order, sought: Span) -> Option<Box<Node>>
+        requires sorted { IsSorted order self.old.spans }
+        requires fits { length self.old.spans < 2 ^ 64 }
+        ensures found { option_map (λ n. n.value.hole) result ≡ find (ties order sought) self.old.spans }
+        ensures left { IfSome result (λ n. self.new.spans ≡ untied order sought self.old.spans) }
+    {
+        let (node, others) = mem::replace(self, Tree::new()).remove(order, sought)?;
+        *self = others;
+        Some(node)
     }
 }
 

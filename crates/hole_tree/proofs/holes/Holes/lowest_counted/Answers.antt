@@ -1,4 +1,4 @@
-use Rattle.std.proofs.Common.{◌≡◌, ◌+◌, ◌-◌, ◌≤◌, List, inl, inr, sym, ap, ◌∙◌, subst, arith}
+use Rattle.std.proofs.Common.{◌≡◌, ◌-◌, ◌≤◌, List, inl, inr, sym, ap, ◌∙◌, subst, arith}
 use Rattle.std.proofs.lemmas.Bool.{cases_lt, le-ltb}
 use Rattle.ttm_base.specs.declared.Span.{Span}
 use Rattle.ttm_base.specs.declared.Mode.TheVariants.{Low}
@@ -11,25 +11,25 @@ use Rattle.hole_tree.proofs.Counting.{steps_square}
 use Rattle.hole_tree.proofs.Searching.{zero_first}
 use Rattle.hole_tree.proofs.holes.Holes.lowest_counted.Goals as goal
 
-pub lowest-requires-clause-worth : goal.lowest-requires-clause-worth
-lowest-requires-clause-worth g c =
+pub first-requires-clause-worth : goal.first-requires-clause-worth
+first-requires-clause-worth g c =
     let q : Request = record { pages = c.args.pages; align = c.args.align; first = c.args.first; last = c.args.last } in
-    λ e. zero_first Low q c.self.inside.tree.spans e
+    λ e. zero_first Low q c.self.inside.by_start.spans e
 
 pub returns-clause-hole : goal.returns-clause-hole
 returns-clause-hole g c =
     let q : Request = record { pages = c.args.pages; align = c.args.align; first = c.args.first; last = c.args.last } in
-    c.lowest.ensures.found ∙ sym (chosen_low q c.self.inside.tree.spans) ∙ ap (λ h. chosen_hole Low h.holes c.args.pages c.args.align c.args.first c.args.last) c.self.view_is
+    c.first.ensures.found ∙ sym (chosen_low q c.self.inside.by_start.spans) ∙ ap (λ h. chosen_hole Low h.holes c.args.pages c.args.align c.args.first c.args.last) c.self.view_is
 
 pub returns-clause-cost : goal.returns-clause-cost
 returns-clause-cost g c = λ a f e.
-    let holes : c.self.inside.tree.spans ≡ c.args.self.now.holes = ap (λ h. h.holes) c.self.view_is in
+    let holes : c.self.inside.by_start.spans ≡ c.args.self.now.holes = ap (λ h. h.holes) c.self.view_is in
     let P : List Span → Type 0 = λ hs. EndsBy c.args.last hs in
-    let ends : P c.self.inside.tree.spans = subst P (sym holes) e in
+    let ends : P c.self.inside.by_start.spans = subst P (sym holes) e in
     let q : Request = record { pages = c.args.pages; align = c.args.align; first = c.args.first; last = c.args.last } in
-    let wide : IsWide q c.self.inside.tree.spans = record { align = a; first = f; last = ends } in
-    let bound : c.lowest.new.steps - c.args.steps.now ≤ c.self.inside.tree.height = elim (cases_lt 0 c.args.pages) [
-      | inl p ↦ let k = c.lowest.ensures.cost p wide in omega (arith, k)
-      | inr z ↦ let k = c.lowest.ensures.idle (le-ltb 0 c.args.pages z) in omega (arith, k)
+    let wide : IsWide q c.self.inside.by_start.spans = record { align = a; first = f; last = ends } in
+    let bound : c.first.new.steps - c.args.steps.now ≤ c.self.inside.by_start.height = elim (cases_lt 0 c.args.pages) [
+      | inl p ↦ let k = c.first.ensures.cost p wide in omega (arith, k)
+      | inr z ↦ let k = c.first.ensures.idle (le-ltb 0 c.args.pages z) in omega (arith, k)
     ] in
-    rw (← holes) (steps_square c.self.inside.tree (c.lowest.new.steps - c.args.steps.now) c.height-levels.ensures.low bound)
+    rw (← holes) (steps_square c.self.inside.by_start (c.first.new.steps - c.args.steps.now) c.height-levels.ensures.low bound)

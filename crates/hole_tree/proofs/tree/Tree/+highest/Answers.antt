@@ -1,4 +1,4 @@
-use Rattle.std.proofs.Common.{◌≡◌, ◌+◌, ◌≤◌, ◌<◌, false, true, Some, None, length, sym, ◌∙◌, arith, rules}
+use Rattle.std.proofs.Common.{◌≡◌, ◌<◌, false, None, length, sym, ◌∙◌, arith, rules}
 use Rattle.ttm_base.specs.declared.Mode.TheVariants.{High}
 use Rattle.hole_tree.specs.Fitting.{fits, find_last}
 use Rattle.hole_tree.specs.Rising.{IsRising}
