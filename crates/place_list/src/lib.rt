@@ -1,0 +1,175 @@
+//! The tests of places: which pages of a manager a place reaches, whether a resource meets or fits them, and which places of a
+//! list are tried first or under pressure.
+//! Placements are those of TTM (ttm_placement since kernel 6.9). No call takes memory.
+#![tactic(auto)]
+
+ghost use Rattle.std.specs.Prelude.{◌≡◌, ◌^◌, ◌<◌, length, nat_lt, not, slice_get, Some};
+ghost use Rattle.std.specs.List.{list_all};
+ghost use Rattle.ttm_base.specs.Reach as words;
+ghost use Rattle.ttm_base.specs.Placement as rules;
+
+use ttm_base::{FlaggedPlace, Mem, Place, Placement, Span, Spans};
+
+/// The pages of a manager of this size that a place reaches, from the first up to the last without the last. Both are one
+/// where the place reaches none.
+pub fn reach(place: &Place, size: u32) -> (u32, u32)
+    ensures start { result.0 ≡ (words.reach place.now size).start }
+    ensures end { result.1 ≡ (words.reach place.now size).end }
+{
+    let last = if place.last == 0 || size < place.last {
+        size
+    } else {
+        place.last
+    };
+    (place.first.min(last), last)
+}
+
+/// The two spans have a page in common.
+fn overlaps(a: Span, b: Span) -> bool
+    ensures { result ≡ nat_lt (words.common a b).start (words.common a b).end }
+{
+    a.start.max(b.start) < a.end.min(b.end)
+}
+
+/// Some page of the spans is in the reach.
+pub fn intersects(spans: &Spans, reach: (u32, u32)) -> bool
+    ensures { result ≡ words.intersects spans.now (record { start = reach.0; end = reach.1 }) }
+{
+    let within = Span {
+        start: reach.0,
+        end: reach.1,
+    };
+    spans.items().iter().any(|s| overlaps(*s, within))
+}
+
+/// The memory types are one.
+fn same_mem(a: Mem, b: Mem) -> bool
+    ensures { result ≡ words.same_mem a b }
+{
+    match (a, b) {
+        (Mem::System, Mem::System) | (Mem::Tt, Mem::Tt) | (Mem::Vram, Mem::Vram) => true,
+        _ => false,
+    }
+}
+
+/// All pages of a span are in the reach.
+fn is_inside(within: Span, span: Span) -> bool
+    ensures { result ≡ words.is_inside within span }
+{
+    within.start <= span.start && span.end <= within.end
+}
+
+/// All spans are in the reach.
+fn are_inside(within: Span, spans: &[Span]) -> bool
+    ensures { result ≡ list_all (words.is_inside within) spans.now }
+{
+    spans.iter().all(|s| is_inside(within, *s))
+}
+
+/// Each span begins where the one before it ends.
+fn is_contiguous(spans: &[Span]) -> bool
+    ensures { result ≡ words.is_contiguous spans.now }
+{
+    spans
+        .iter()
+        .zip(spans.iter().skip(1))
+        .all(|(a, b)| a.end == b.start)
+}
+
+/// A place accepts a resource of its memory type with all pages in its reach, and without gaps where it says so.
+fn accepts(mem: Mem, spans: &[Span], size: u32, place: &Place) -> bool
+    ensures { result ≡ rules.accepts mem spans.now size place.now }
+{
+    let (start, end) = reach(place, size);
+    same_mem(place.mem, mem)
+        && are_inside(Span { start, end }, spans)
+        && (!place.contig || is_contiguous(spans))
+}
+
+/// Some place of the list accepts the resource, whose manager has this size (ttm_resource_compatible).
+pub fn compatible(mem: Mem, spans: &Spans, placement: &Placement, size: u32) -> bool
+    ensures { result ≡ rules.compatible mem spans.now placement.now size }
+{
+    placement
+        .list
+        .items()
+        .iter()
+        .any(|p| accepts(mem, spans.items(), size, &p.place))
+}
+
+/// The place is tried first.
+fn is_first(place: &FlaggedPlace) -> bool
+    ensures { result ≡ not place.now.fallback }
+{
+    !place.fallback
+}
+
+/// The place is tried under pressure.
+fn is_forced(place: &FlaggedPlace) -> bool
+    ensures { result ≡ not place.now.desired }
+{
+    !place.desired
+}
+
+/// How many places are tried first.
+pub fn first_count(placement: &Placement) -> u32
+    requires { length placement.now.list < 2 ^ 32 }
+    ensures { result ≡ length (rules.first_places placement.now.list) }
+{
+    placement
+        .list
+        .items()
+        .iter()
+        .filter(|p| is_first(p))
+        .count() as u32
+}
+
+/// Lends one of the places that are tried first, by its number in their order.
+pub fn first_at(placement: &Placement, k: u32) -> &Place
+    requires { k < length (rules.first_places placement.now.list) }
+    ensures { slice_get (rules.first_places placement.now.list) k ≡ Some result.now }
+{
+    let Some(p) = placement
+        .list
+        .items()
+        .iter()
+        .filter(|p| is_first(p))
+        .nth(k as usize)
+    else {
+        unreachable!()
+    };
+    &p.place
+}
+
+/// How many places are tried under pressure.
+pub fn forced_count(placement: &Placement) -> u32
+    requires { length placement.now.list < 2 ^ 32 }
+    ensures { result ≡ length (rules.forced_places placement.now.list) }
+{
+    placement
+        .list
+        .items()
+        .iter()
+        .filter(|p| is_forced(p))
+        .count() as u32
+}
+
+/// Lends one of the places that are tried under pressure, by its number in their order.
+pub fn forced_at(placement: &Placement, k: u32) -> &Place
+    requires { k < length (rules.forced_places placement.now.list) }
+    ensures { slice_get (rules.forced_places placement.now.list) k ≡ Some result.now }
+{
+    let Some(p) = placement
+        .list
+        .items()
+        .iter()
+        .filter(|p| is_forced(p))
+        .nth(k as usize)
+    else {
+        unreachable!()
+    };
+    &p.place
+}
+
+#[cfg(test)]
+mod tests;
