@@ -1,0 +1,16 @@
+use Rattle.std.proofs.Common.{◌≡◌, length, ap, ◌∙◌}
+use Rattle.fence_core.specs.Fences.{needed}
+use Rattle.fence_core.specs.Histories.{waiting, named_job, Fence, AreKnown, set_of}
+use Rattle.fence_core.proofs.NeedLaws.{set_needs, named_none}
+use Rattle.fence_core.proofs.fence_set.FenceSet.need_of_all.Goals as goal
+
+pub returns-clause-job : goal.returns-clause-job
+returns-clause-job c =
+    λ fences e known. ap (needed c.args.usage c.args.line.now) e ∙ set_needs c.args.usage c.args.line.now (length c.args.self.now) fences known
+
+pub returns-clause-none : goal.returns-clause-none
+returns-clause-none c =
+    λ fences e known.
+    let named : needed c.args.usage c.args.line.now c.args.self.now ≡ named_job (waiting c.args.usage c.args.line.now fences) =
+    ap (needed c.args.usage c.args.line.now) e ∙ set_needs c.args.usage c.args.line.now (length c.args.self.now) fences known in
+    rw named (named_none (waiting c.args.usage c.args.line.now fences))

@@ -1,0 +1,4 @@
+pub mod Timelines
+pub mod Fences
+pub mod Sound
+pub mod Histories

@@ -1,0 +1,10 @@
+//! Jobs by usage: how far the jobs of each context are (dma_fence), and the jobs that use a buffer (dma_resv).
+#![tactic(auto)]
+
+mod fence_set;
+#[cfg(test)]
+mod tests;
+mod timeline;
+
+pub use fence_set::{FenceSet, Latest};
+pub use timeline::{Progress, Timeline};

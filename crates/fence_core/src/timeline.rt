@@ -1,0 +1,94 @@
+ghost use Rattle.std.specs.Prelude.{◌≡◌, ◌+◌, ◌^◌, ◌<◌, ◌≤◌, ◌↔◌, IfOk, IsTrue, length, replicate};
+ghost use Rattle.fence_core.specs.Timelines.{no_jobs, progress_of, with_emitted, with_done};
+
+use std::alloc::Global;
+use std::marker::Model;
+use ttm_base::{JobId, NoMemory};
+
+/// How many jobs of a context were emitted, and how many of them are done: those with the least numbers.
+#[derive(Clone, Copy, Debug, PartialEq, Eq)]
+pub struct Progress {
+    pub emitted: u64,
+    pub done: u64,
+}
+
+/// The jobs of all contexts, by number from 1. The jobs of one context are done in order.
+#[derive(Debug, Drop)]
+pub struct Timeline {
+    contexts: Vec<Progress>,
+}
+
+impl Model for Timeline {
+    ghost use Rattle.std.specs.Prelude.{List};
+    ghost use Rattle.fence_core.specs.declared.timeline.Progress.{Progress as Jobs};
+
+    ghost Value = { List Jobs };
+
+    ghost use Rattle.fence_core.specs.Sound.{InOrder};
+
+    ghost view = { λ t. t.contexts.items };
+
+    ghost invariant = { λ t. InOrder t.contexts.items };
+}
+
+impl Timeline {
+    /// So many contexts, from which no job was emitted.
+    pub fn new(alloc: Global, contexts: u32) -> Result<Timeline, NoMemory>
+        ensures { IfOk result (λ line. line ≡ replicate contexts no_jobs) }
+    {
+        let none = Progress {
+            emitted: 0,
+            done: 0,
+        };
+        let contexts = vec![in alloc; none; contexts as usize]?;
+        Ok(Timeline { contexts })
+    }
+
+    /// How many contexts there are.
+    pub fn contexts(&self) -> u32
+        ensures { result ≡ length self.now }
+    {
+        self.contexts.len() as u32
+    }
+
+    /// Emits the next job of a context.
+    pub fn emit(&mut self, ctx: u32) -> JobId
+        requires known { ctx < length self.old }
+        requires few { (progress_of self.old ctx).emitted < 2 ^ 63 }
+        ensures job { result ≡ record { ctx = ctx; num = (progress_of self.old ctx).emitted + 1 } }
+        ensures after { self.new ≡ with_emitted self.old ctx }
+    {
+        let progress = &mut self.contexts[ctx as usize];
+        progress.emitted += 1;
+        JobId {
+            ctx,
+            num: progress.emitted,
+        }
+    }
+
+    /// Marks the least job of a context that isn't done.
+    pub fn done(&mut self, ctx: u32)
+        requires known { ctx < length self.old }
+        requires some { (progress_of self.old ctx).done < (progress_of self.old ctx).emitted }
+        ensures { self.new ≡ with_done self.old ctx }
+    {
+        self.contexts[ctx as usize].done += 1;
+    }
+
+    /// Whether a job is done.
+    pub fn signalled(&self, job: JobId) -> bool
+        requires { job.ctx < length self.now }
+        ensures { IsTrue result ↔ job.num ≤ (progress_of self.now job.ctx).done }
+    {
+        job.num <= self.contexts[job.ctx as usize].done
+    }
+
+    /// The number that `emit` would give. No job with this number or a greater one is done.
+    pub fn next(&self, ctx: u32) -> u64
+        requires { ctx < length self.now }
+        ensures next { result ≡ (progress_of self.now ctx).emitted + 1 }
+        ensures done { (progress_of self.now ctx).done < result }
+    {
+        self.contexts[ctx as usize].emitted + 1
+    }
+}
