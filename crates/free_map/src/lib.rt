@@ -1,0 +1,81 @@
+//! The numbers below a length that are free, and the lowest of them: the frames of a pool of pages (ttm_pool), or swap slots.
+//! Only `new` takes memory, and the time of the other calls doesn't grow with the length.
+#![tactic(auto)]
+
+ghost use Rattle.std.specs.Prelude.{◌≡◌, true, false, not, Some, IfOk, IfSome, IfNone, count_by, position, replicate, slice_get, slice_set};
+
+use bitmap::Bitmap;
+use std::alloc::Global;
+use std::marker::Model;
+use ttm_base::NoMemory;
+
+mod bitmap;
+mod words;
+
+/// For each number below a length whether it is held, seen as a list.
+#[derive(Debug, Drop)]
+pub struct FreeMap {
+    held: Bitmap,
+    free: u32,
+}
+
+impl Model for FreeMap {
+    ghost use Rattle.std.specs.Prelude.{◌≡◌, ◌^◌, ◌<◌, Bool, List, count_by, not, length};
+
+    ghost Value = { List Bool };
+
+    ghost view = { λ m. m.held };
+
+    ghost invariant = { λ m. (m.free ≡ count_by not m.held) × (length m.held < 2 ^ 32) };
+}
+
+impl FreeMap {
+    /// So many numbers, each of them free.
+    pub fn new(alloc: Global, len: u32) -> Result<FreeMap, NoMemory>
+        ensures { IfOk result (λ map. map ≡ replicate len false) }
+    {
+        let mut held = Bitmap::all_held(alloc, len)?;
+        for number in 0..len {
+            held.set(number, false);
+        }
+        Ok(FreeMap { held, free: len })
+    }
+
+    /// Takes the lowest free number, which is then held.
+    pub fn take(&mut self) -> Option<u32>
+        ensures lowest { result ≡ position not self.old }
+        ensures taken { IfSome result (λ number. self.new ≡ slice_set self.old number true) }
+        ensures none { IfNone result (self.new ≡ self.old) }
+    {
+        let number = self.held.first()?;
+        self.held.set(number, true);
+        self.free -= 1;
+        Some(number)
+    }
+
+    /// Gives a number back that is held.
+    pub fn give(&mut self, number: u32)
+        requires { slice_get self.old number ≡ Some true }
+        ensures { self.new ≡ slice_set self.old number false }
+    {
+        self.held.set(number, false);
+        self.free += 1;
+    }
+
+    /// How many numbers are free.
+    pub fn free(&self) -> u32
+        ensures { result ≡ count_by not self.now }
+    {
+        self.free
+    }
+
+    /// The lowest free number, which `take` would give.
+    pub fn first(&self) -> Option<u32>
+        ensures { result ≡ position not self.now }
+    {
+        self.held.first()
+    }
+}
+
+#[cfg(test)]
+mod tests;
