@@ -1,1 +1,2 @@
 pub mod SpotLaws
+pub mod Pieces

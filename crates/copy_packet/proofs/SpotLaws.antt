@@ -1,7 +1,6 @@
 -- Bytes of pages by their places in the stores.
-use Rattle.std.proofs.Common.{◌≡◌, ℕ, zero, suc, ◌+◌, ◌-◌, ◌*◌, ◌≤◌, ◌<◌, true, inl, inr, refl, ap, ap₂, sym, ◌∙◌, List, [], ◌∷◌, length, take, drop, get_or, arith, drop-cons, if◌then◌else◌}
+use Rattle.std.proofs.Common.{◌≡◌, ℕ, zero, suc, ◌+◌, ◌-◌, ◌*◌, ◌≤◌, ◌<◌, inl, inr, refl, ap, ap₂, sym, ◌∙◌, List, ◌∷◌, length, take, drop, get_or, arith, drop-cons, if◌then◌else◌}
 use Rattle.std.specs.Prelude.{map, ◌==◌, ◌&&◌, nat_le, nat_lt, bit_xor}
-use Rattle.std.proofs.lemmas.Grind.{common_steps}
 use Rattle.std.proofs.lemmas.Bool.{cases_lt}
 use Rattle.std.proofs.lemmas.Bool.Decides.{nat_tests}
 use Rattle.ttm_base.specs.ListWords.{count_from}

@@ -1,3 +1,4 @@
 pub mod StoreBytes
 pub mod Spots
 pub mod Runs
+pub mod PlaceRows

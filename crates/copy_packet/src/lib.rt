@@ -1,12 +1,17 @@
 //! Packets: operations are cut into them at page borders, and each is run on the stores of VRAM and of frames.
 #![tactic(auto)]
 
+mod cutting;
 mod places;
 mod probe;
 mod running;
 mod stores;
 
+pub use cutting::cut;
 pub use places::{PagePlaces, PlaceMap, PlaceRow};
 pub use probe::ProbeBytes;
 pub use running::run;
 pub use stores::Stores;
+
+#[cfg(test)]
+mod tests;

@@ -49,7 +49,7 @@ impl ProbeBytes {
     }
 
     /// Takes all bytes out.
-    pub fn clear(&mut self)
+    pub(crate) fn clear(&mut self)
         ensures { self.new ≡ [] }
     {
         self.bytes.clear();

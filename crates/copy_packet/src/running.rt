@@ -21,8 +21,8 @@ pub fn run(packet: &Packet, stores: &mut Stores, out: &mut ProbeBytes)
     out.clear();
     match *packet {
         Packet::Fill { to, off, len, byte } => {
-            let to = stores.spot(to, off);
-            stores.fill(to, len as u64, byte)
+            let target = stores.spot(to, off);
+            stores.fill(target, len as u64, byte)
         }
         Packet::Copy {
             to,
@@ -31,9 +31,9 @@ pub fn run(packet: &Packet, stores: &mut Stores, out: &mut ProbeBytes)
             foff,
             len,
         } => {
-            let to = stores.spot(to, toff);
-            let from = stores.spot(from, foff);
-            stores.copy(to, from, len as u64)
+            let target = stores.spot(to, toff);
+            let source = stores.spot(from, foff);
+            stores.copy(target, source, len as u64)
         }
         Packet::Xor {
             to,
@@ -42,13 +42,13 @@ pub fn run(packet: &Packet, stores: &mut Stores, out: &mut ProbeBytes)
             foff,
             len,
         } => {
-            let to = stores.spot(to, toff);
-            let from = stores.spot(from, foff);
-            stores.xor(to, from, len as u64)
+            let target = stores.spot(to, toff);
+            let source = stores.spot(from, foff);
+            stores.xor(target, source, len as u64)
         }
         Packet::Probe { from, off, len } => {
-            let from = stores.spot(from, off);
-            out.set(stores.part(from, len as u64))
+            let source = stores.spot(from, off);
+            out.set(stores.part(source, len as u64))
         }
     }
 }

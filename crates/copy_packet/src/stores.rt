@@ -18,7 +18,7 @@ pub struct Stores {
 
 /// A place of a byte: in VRAM, or in frames.
 #[derive(Clone, Copy, Debug, PartialEq, Eq)]
-pub enum Spot {
+pub(crate) enum Spot {
     Vram(u64),
     Frames(u64),
 }
@@ -32,7 +32,7 @@ fn position(page: u32, off: u32) -> u64
 
 impl Stores {
     /// The place of a byte of a page that a packet names.
-    pub fn spot(&self, place: PagePlace, off: u32) -> Spot
+    pub(crate) fn spot(&self, place: PagePlace, off: u32) -> Spot
         requires { IsThere self.now (translated (aperture_of self.now) place) }
         ensures { result ≡ spot_at (translated (aperture_of self.now) place) off }
     {
@@ -49,7 +49,7 @@ impl Stores {
     }
 
     /// Lends bytes from a place on.
-    pub fn part(&self, spot: Spot, len: u64) -> &[u8]
+    pub(crate) fn part(&self, spot: Spot, len: u64) -> &[u8]
         requires { Fits self.now spot len }
         ensures { result.now ≡ part_at self.now spot len }
     {
@@ -60,7 +60,7 @@ impl Stores {
     }
 
     /// Puts one byte at places from one on.
-    pub fn fill(&mut self, to: Spot, len: u64, byte: u8)
+    pub(crate) fn fill(&mut self, to: Spot, len: u64, byte: u8)
         requires { Fits self.old to len }
         ensures after { self.new ≡ after_write self.old to (filled len byte) }
         ensures vram { length self.new.vram ≡ length self.old.vram }
@@ -73,7 +73,7 @@ impl Stores {
     }
 
     /// Copies bytes.
-    pub fn copy(&mut self, to: Spot, from: Spot, len: u64)
+    pub(crate) fn copy(&mut self, to: Spot, from: Spot, len: u64)
         requires target { Fits self.old to len }
         requires source { Fits self.old from len }
         ensures after { self.new ≡ after_write self.old to (part_at self.old from len) }
@@ -93,7 +93,7 @@ impl Stores {
     }
 
     /// Makes bytes, at most a page of them, their exclusive or with others.
-    pub fn xor(&mut self, to: Spot, from: Spot, len: u64)
+    pub(crate) fn xor(&mut self, to: Spot, from: Spot, len: u64)
         requires page { len ≤ PAGE }
         requires target { Fits self.old to len }
         requires source { Fits self.old from len }
