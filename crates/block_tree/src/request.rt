@@ -1,4 +1,4 @@
-ghost use Rattle.std.specs.Prelude.{◌≡◌, ℕ, ◌+◌, ◌*◌, ◌^◌, ◌≤◌, true, false};
+ghost use Rattle.std.specs.Prelude.{◌≡◌, ℕ, ◌+◌, ◌*◌, ◌^◌, ◌≤◌, ◌&&◌, true, false, nat_lt, nat_le};
 ghost use Rattle.ttm_base.specs.Reach.{is_inside};
 ghost use Rattle.block_tree.specs.Searching.{numbered, IsIn, HasNoFit, FitOf};
 
@@ -18,7 +18,8 @@ impl Request {
     pub fn meets(self, order: u32, number: u32) -> bool
         requires order { order ≤ 16 }
         requires number { number * 2 ^ order + 2 ^ order ≤ 2 ^ 16 }
-        ensures { result ≡ false → HasNoFit self order number }
+        ensures value { result ≡ (nat_lt (number * 2 ^ order) self.range.end && nat_lt self.range.start (number * 2 ^ order + 2 ^ order)) }
+        ensures fit { result ≡ false → HasNoFit self order number }
     {
         let start = number * block_len(order);
         start < self.range.end && self.range.start < start + block_len(order)
@@ -28,7 +29,8 @@ impl Request {
     pub fn covers(self, order: u32, number: u32) -> bool
         requires order { order ≤ 16 }
         requires number { number * 2 ^ order + 2 ^ order ≤ 2 ^ 16 }
-        ensures { result ≡ true → self.order ≤ order → (i : ℕ) → IsIn order number self.order i → is_inside self.range (numbered self.order i) ≡ true }
+        ensures value { result ≡ (nat_le self.range.start (number * 2 ^ order) && nat_le (number * 2 ^ order + 2 ^ order) self.range.end) }
+        ensures fit { result ≡ true → self.order ≤ order → (i : ℕ) → IsIn order number self.order i → is_inside self.range (numbered self.order i) ≡ true }
     {
         let start = number * block_len(order);
         self.range.start <= start && start + block_len(order) <= self.range.end

@@ -15,7 +15,7 @@ returns-then-mask-whole-eq0 t c =
           first_none_bit c.args.request c.args.order c.args.masks.now c.args.number c.args.whole c.requires.tree
           (subst (λ m. bit_at m c.args.whole ≡ 0) c.top_of-mask.ensures (bit_clear c.top_of-mask.result c.args.whole w.if-mask-whole-eq0.true))
       | then-mask-whole-eq0-via-else-mask-whole-eq0+then-not-meets w ↦
-          first_none_apart c.args.request c.args.order c.args.masks.now c.args.number c.args.whole (w.meets.ensures w.if-not-meets.true)
+          first_none_apart c.args.request c.args.order c.args.masks.now c.args.number c.args.whole (w.meets.ensures.fit w.if-not-meets.true)
     ]
 
 pub fit-requires-clause-small : goal.fit-requires-clause-small

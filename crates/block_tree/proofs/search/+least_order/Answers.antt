@@ -13,7 +13,7 @@ returns-then-mask-block_len t c =
       | then-mask-block_len-via-then-mask-block_len w ↦
           none_low c.args.request c.args.order c.args.masks.now c.args.number c.requires.tree (let e = c.top_of-mask.ensures in let b = c.block_len.ensures.value in let l = w.if-mask-block_len.true in omega (arith, e, b, l))
       | then-mask-block_len-via-else-mask-block_len+then-not-meets w ↦
-          none_apart c.args.request c.args.order c.args.masks.now c.args.number (w.meets.ensures w.if-not-meets.true)
+          none_apart c.args.request c.args.order c.args.masks.now c.args.number (w.meets.ensures.fit w.if-not-meets.true)
     ]
 
 pub fit-requires-clause-small : goal.fit-requires-clause-small
@@ -32,7 +32,7 @@ returns-in-Some t c =
 pub returns-then-covers : goal.returns-then-covers
 returns-then-covers t c =
     let e = c.top_of-mask.ensures in
-    least_covered c.args.request c.args.order c.args.masks.now c.args.number c.lowest_order.result c.requires.tree (c.covers.ensures c.if-covers.true)
+    least_covered c.args.request c.args.order c.args.masks.now c.args.number c.lowest_order.result c.requires.tree (c.covers.ensures.fit c.if-covers.true)
     (subst (λ m. bit_at m c.lowest_order.result ≡ 1) e c.lowest_order.ensures.is) c.lowest_order.ensures.from
     (λ i l h. subst (λ m. bit_at m i ≡ 0) e (c.lowest_order.ensures.lowest i l h))
 
