@@ -5,8 +5,9 @@ use std::alloc::Global;
 use std::marker::Model;
 use ttm_base::NoMemory;
 
-/// For each number below a length whether it is held. A bit is set where its number is free, and words above tell which words
-/// below have a bit, so that the lowest free number of 262,144 is found in three steps.
+/// For each number below a length whether it is held. A bit is set where its number is free, and the words above tell which words
+/// below have a bit. The lowest free number is found in three steps, where the first looks through a word for each 262,144
+/// numbers.
 #[derive(Debug, Drop)]
 pub struct Bitmap {
     len: u32,

@@ -1,5 +1,5 @@
 //! The numbers below a length that are free, and the lowest of them: the frames of a pool of pages (ttm_pool), or swap slots.
-//! Only `new` takes memory, and the time of the other calls doesn't grow with the length.
+//! Only `new` takes memory. The other calls look at three words where there are at most 262,144 numbers.
 #![tactic(auto)]
 
 ghost use Rattle.std.specs.Prelude.{◌≡◌, true, false, not, Some, IfOk, IfSome, IfNone, count_by, position, replicate, slice_get, slice_set};
