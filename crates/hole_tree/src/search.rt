@@ -14,7 +14,8 @@ use step_count::ledger::Ledger;
 use ttm_base::{Mode, Span};
 
 impl Tree {
-    /// The first hole in this order that fits. Where it isn't `worth` a look, no node is opened.
+    /// The first hole in this order that fits (Best and Low fit alike). Where it isn't `worth` a look, no node is
+    /// opened.
     pub fn first<L: Ledger>(
         &self,
         order: Order,
