@@ -1,9 +1,8 @@
 -- The packets of operations can run.
-use Rattle.std.proofs.Common.{◌≡◌, ℕ, ◌+◌, ◌/◌, ◌<◌, List, [], ◌∷◌, ◌++◌, arith}
+use Rattle.std.proofs.Common.{ℕ, ◌+◌, ◌/◌, ◌<◌, List, [], ◌∷◌, ◌++◌, arith}
 use Rattle.std.specs.Prelude.{map}
 use Rattle.ttm_base.specs.declared.Op.{Op}
 use Rattle.ttm_base.specs.declared.Op.TheVariants as op
-use Rattle.ttm_base.specs.declared.Packet.{Packet}
 use Rattle.ttm_base.specs.Cutting.{Piece, PageMap, pieces_of, packet_of, packets_of}
 use Rattle.cut_law.specs.Parts.{IsPiece}
 use Rattle.cut_law.proofs.Whole.{Each, pieces_are}

@@ -8,7 +8,7 @@ use Rattle.ttm_base.specs.declared.Op.{Op}
 use Rattle.ttm_base.specs.declared.Op.TheVariants as op
 use Rattle.ttm_base.specs.declared.Packet.{Packet}
 use Rattle.ttm_base.specs.ListWords.{count_from}
-use Rattle.ttm_base.specs.Cutting.{Piece, PageMap, op_len, pieces_of, packet_of, packets_of}
+use Rattle.ttm_base.specs.Cutting.{Piece, PageMap, pieces_of, packet_of, packets_of}
 use Rattle.ttm_base.specs.Packets.{after_packet, probe_piece}
 use Rattle.ttm_base.specs.Pages.{Page, nowhere, vram, frame, slot, PageBytes, Aperture, same_page, translated, with_bytes, read_bytes}
 use Rattle.journal_model.specs.PlainMemory.{Memory, with_range, after_op, after_ops, memory_range, piece_shown}
