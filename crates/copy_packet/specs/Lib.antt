@@ -1,0 +1,3 @@
+pub mod StoreBytes
+pub mod Spots
+pub mod Runs

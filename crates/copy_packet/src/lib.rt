@@ -1,0 +1,12 @@
+//! Packets: operations are cut into them at page borders, and each is run on the stores of VRAM and of frames.
+#![tactic(auto)]
+
+mod places;
+mod probe;
+mod running;
+mod stores;
+
+pub use places::{PagePlaces, PlaceMap, PlaceRow};
+pub use probe::ProbeBytes;
+pub use running::run;
+pub use stores::Stores;

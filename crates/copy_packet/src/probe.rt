@@ -1,0 +1,57 @@
+ghost use Rattle.std.specs.Prelude.{◌≡◌, ◌≤◌, [], IfOk, length};
+
+use std::alloc::Global;
+use std::marker::Model;
+use ttm_base::NoMemory;
+
+/// How many bytes a probe shows at most.
+const ROOM: usize = 256;
+
+/// The bytes that a probe shows, seen as a list of at most 256. Nothing but `new` takes memory.
+#[derive(Debug, Drop)]
+pub struct ProbeBytes {
+    bytes: Vec<u8>,
+}
+
+impl Model for ProbeBytes {
+    ghost use Rattle.std.specs.Prelude.{◌≤◌, ℕ, List, vec_capacity};
+
+    ghost Value = { List ℕ };
+
+    ghost view = { λ s. s.bytes.items };
+
+    ghost invariant = { λ s. 256 ≤ vec_capacity s.bytes };
+}
+
+impl ProbeBytes {
+    /// No bytes, and room for 256.
+    pub fn new(alloc: Global) -> Result<ProbeBytes, NoMemory>
+        ensures { IfOk result (λ out. out ≡ []) }
+    {
+        let bytes = Vec::with_capacity(alloc, ROOM)?;
+        Ok(ProbeBytes { bytes })
+    }
+
+    /// Lends the bytes.
+    pub fn bytes(&self) -> &[u8]
+        ensures { result.now ≡ self.now }
+    {
+        self.bytes.as_slice()
+    }
+
+    /// Puts other bytes in the place of all.
+    pub fn set(&mut self, bytes: &[u8])
+        requires { length bytes.now ≤ 256 }
+        ensures { self.new ≡ bytes.now }
+    {
+        self.bytes.clear();
+        self.bytes.extend_from_slice(bytes).unwrap();
+    }
+
+    /// Takes all bytes out.
+    pub fn clear(&mut self)
+        ensures { self.new ≡ [] }
+    {
+        self.bytes.clear();
+    }
+}

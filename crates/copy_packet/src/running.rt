@@ -1,0 +1,54 @@
+ghost use Rattle.std.specs.Prelude.{◌≡◌, ℕ, length};
+ghost use Rattle.ttm_base.specs.Pages.{Page};
+ghost use Rattle.ttm_base.specs.Packets.{after_packet, probe_piece};
+ghost use Rattle.copy_packet.specs.StoreBytes.{aperture_of, bytes_of};
+ghost use Rattle.copy_packet.specs.Runs.{CanRun};
+
+use crate::probe::ProbeBytes;
+use crate::stores::Stores;
+use ttm_base::Packet;
+
+/// Does a packet, and shows the bytes that it probes, or none. Takes no memory. Source and target may overlap: all bytes are
+/// read before one is written.
+pub fn run(packet: &Packet, stores: &mut Stores, out: &mut ProbeBytes)
+    requires { CanRun stores.old packet.now }
+    ensures bytes { (page : Page) (off : ℕ) → bytes_of stores.new page off ≡ after_packet (aperture_of stores.old) (bytes_of stores.old) packet.now page off }
+    ensures vram { length stores.new.vram ≡ length stores.old.vram }
+    ensures frames { length stores.new.frames ≡ length stores.old.frames }
+    ensures aper { stores.new.aper ≡ stores.old.aper }
+    ensures out { out.new ≡ probe_piece (aperture_of stores.old) (bytes_of stores.old) packet.now }
+{
+    out.clear();
+    match *packet {
+        Packet::Fill { to, off, len, byte } => {
+            let to = stores.spot(to, off);
+            stores.fill(to, len as u64, byte)
+        }
+        Packet::Copy {
+            to,
+            toff,
+            from,
+            foff,
+            len,
+        } => {
+            let to = stores.spot(to, toff);
+            let from = stores.spot(from, foff);
+            stores.copy(to, from, len as u64)
+        }
+        Packet::Xor {
+            to,
+            toff,
+            from,
+            foff,
+            len,
+        } => {
+            let to = stores.spot(to, toff);
+            let from = stores.spot(from, foff);
+            stores.xor(to, from, len as u64)
+        }
+        Packet::Probe { from, off, len } => {
+            let from = stores.spot(from, off);
+            out.set(stores.part(from, len as u64))
+        }
+    }
+}
