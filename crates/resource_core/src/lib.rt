@@ -4,9 +4,11 @@
 mod buddy;
 mod holding;
 mod manager;
+mod range;
 mod room;
 
 pub use buddy::BuddyRoom;
 pub use holding::{Holding, OwnerKind};
 pub use manager::{Lengths, Manager, TakeFault};
+pub use range::RangeRoom;
 pub use room::{Room, SpanManager};
