@@ -1,0 +1,10 @@
+use Rattle.std.proofs.Common.{◌≡◌, drop}
+use Rattle.buddy_manager.specs.Held.{without_all}
+use Rattle.resource_core.proofs.RangeLaws.{IsLetting}
+use Rattle.resource_core.proofs.range.RangeManagerSpanManager.put_back.Given as goal
+
+abbrev pub invariant-loop-span : goal.invariant-loop-span
+invariant-loop-span l = record {
+  letting : IsLetting (without_all l.spans l.initial.self.held) (drop l.span-index l.spans) l.self.held;
+  size : l.self.size ≡ l.initial.self.size;
+}

@@ -1,0 +1,5 @@
+pub mod BuddyTaken
+pub mod Choices
+pub mod RangeTaken
+pub mod Resources
+pub mod Tied

@@ -1,0 +1,99 @@
+ghost use Rattle.std.specs.Prelude.{◌≡◌, ℕ, ◌+◌, ◌<◌, ◌≤◌, ◌∷◌, ◌++◌, Bool, true, false, List, [], Option, Some, None, IfOk, OnErr, All, count_by, find, option_map};
+ghost use Rattle.std.specs.Option.{option_copied};
+ghost use Rattle.ttm_base.specs.Holes.{has_page};
+ghost use Rattle.ttm_base.specs.declared.Place.{Place};
+ghost use Rattle.ttm_base.specs.declared.Span.{Span};
+ghost use Rattle.resource_core.specs.Resources.{Resources, holds, is_free, same_owner, renamed, without_owner, all_spans, count_free, pages_by, AreDistinct};
+
+use crate::holding::OwnerKind;
+use std::alloc::Global;
+use ttm_base::{JobId, Owner, Place, Spans};
+
+/// Why a request got no pages.
+#[derive(Clone, Copy, Debug, PartialEq, Eq)]
+pub enum TakeFault {
+    /// The free pages have no choice for it.
+    NoRoom,
+    NoMemory,
+}
+
+/// How many pages are free, and how many are held by live buffers, by targets of moves that aren't done, and by ghosts.
+#[derive(Clone, Copy, Debug, PartialEq, Eq)]
+pub struct Lengths {
+    pub free: u32,
+    pub live: u32,
+    pub targets: u32,
+    pub ghosts: u32,
+}
+
+/// The pages of a memory type, by the owners that hold them.
+pub trait Manager {
+    /// What the manager is seen as.
+    ghost resources: { Self → Resources };
+
+    /// The spans that a request takes among the free pages of a size: so many pages, an alignment, and a place.
+    ghost choice: { (ℕ → Bool) → ℕ → ℕ → ℕ → Place → Option (List Span) };
+
+    /// Gives an owner pages of a place, by the manager's choice. After a refusal nothing is changed.
+    fn take(
+        &mut self,
+        alloc: Global,
+        owner: Owner,
+        pages: u32,
+        align: u32,
+        place: &Place,
+    ) -> Result<Spans, TakeFault>
+        requires fresh { holds owner (resources self.old).held ≡ false }
+        requires some { 1 ≤ pages }
+        requires aligned { 1 ≤ align }
+        requires most { align ≤ 4096 }
+        ensures ok { IfOk result (λ spans. choice (is_free (resources self.old).held) (resources self.old).size pages align place.now ≡ Some spans) }
+        ensures held { IfOk result (λ spans. (resources self.new).held ≡ (resources self.old).held ++ record { owner = owner; spans = spans } ∷ []) }
+        ensures none { result ≡ Err TakeFault.NoRoom → choice (is_free (resources self.old).held) (resources self.old).size pages align place.now ≡ None }
+        ensures same { OnErr result ((resources self.new).held ≡ (resources self.old).held) }
+        ensures size { (resources self.new).size ≡ (resources self.old).size }
+        ensures fence { (resources self.new).move_fence ≡ (resources self.old).move_fence };
+
+    /// Makes the pages of an owner those of another. It takes no memory.
+    fn pass(&mut self, from: Owner, to: Owner)
+        requires from { holds from (resources self.old).held ≡ true }
+        requires to { holds to (resources self.old).held ≡ false }
+        ensures { resources self.new ≡ record (resources self.old) { held = renamed from to (resources self.old).held } };
+
+    /// Frees the pages of an owner. It takes no memory.
+    fn give(&mut self, owner: Owner)
+        requires { holds owner (resources self.old).held ≡ true }
+        ensures { resources self.new ≡ record (resources self.old) { held = without_owner owner (resources self.old).held } };
+
+    /// The owner holds pages.
+    fn holds(&self, owner: Owner) -> bool
+        ensures { result ≡ holds owner (resources self.now).held };
+
+    /// The spans that the owner holds.
+    fn spans_of(&self, owner: Owner) -> Option<&Spans>
+        ensures { option_copied result ≡ option_map (λ h. h.spans) (find (λ h. same_owner owner h.owner) (resources self.now).held) };
+
+    /// How many pages are free, and how many the owners of each kind hold.
+    fn lengths(&self) -> Lengths
+        ensures free { result.free ≡ count_free (is_free (resources self.now).held) (resources self.now).size }
+        ensures live { result.live ≡ pages_by OwnerKind.Live (resources self.now).held }
+        ensures targets { result.targets ≡ pages_by OwnerKind.Target (resources self.now).held }
+        ensures ghosts { result.ghosts ≡ pages_by OwnerKind.Ghost (resources self.now).held }
+        ensures sum { result.free + result.live + result.targets + result.ghosts ≡ (resources self.now).size };
+
+    /// Tells what holds of every manager: no page is in two spans, every span has pages and ends within the size, and no owner
+    /// has two holdings. It does nothing.
+    fn laws(&self)
+        ensures once { (page : ℕ) → count_by (has_page page) (all_spans (resources self.now).held) ≤ 1 }
+        ensures some { All (λ s. s.start < s.end) (all_spans (resources self.now).held) }
+        ensures within { All (λ s. s.end ≤ (resources self.now).size) (all_spans (resources self.now).held) }
+        ensures owners { AreDistinct (resources self.now).held };
+
+    /// The move job: the last one that was set.
+    fn move_fence(&self) -> Option<JobId>
+        ensures { result ≡ (resources self.now).move_fence };
+
+    /// Keeps a job as the move job in place of the one before.
+    fn set_move_fence(&mut self, job: JobId)
+        ensures { resources self.new ≡ record (resources self.old) { move_fence = Some job } };
+}

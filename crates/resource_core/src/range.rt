@@ -1,0 +1,77 @@
+ghost use Rattle.std.specs.Prelude.{◌≡◌};
+ghost use Rattle.resource_core.specs.Choices as words;
+
+use crate::TakeFault;
+use crate::room::{Room, SpanManager};
+use place_list::reach;
+use range_manager::{InsertFault, RangeManager};
+use std::alloc::Global;
+use ttm_base::{Mode, NoMemory, Place, Span, Spans};
+
+/// The pages of a memory type in ranges (drm_mm).
+pub type RangeRoom = Room<RangeManager>;
+
+/// Where a range is taken: in the smallest hole, or at the top of the highest.
+fn mode_for(topdown: bool) -> Mode
+    ensures { result ≡ words.mode_for topdown }
+{
+    if topdown { Mode::High } else { Mode::Best }
+}
+
+impl SpanManager for RangeManager {
+    ghost use Rattle.resource_core.specs.Choices.{range_spans};
+    ghost use Rattle.resource_core.specs.RangeTaken.{range_takes_free, range_most_fits};
+
+    ghost size = { λ manager. manager.size };
+
+    ghost held = { λ manager. manager.held };
+
+    ghost choice = { range_spans };
+
+    ghost most = { 4294967295 };
+
+    fn with_pages(alloc: Global, pages: u32) -> Result<RangeManager, NoMemory> {
+        RangeManager::new(alloc, pages)
+    }
+
+    fn take(
+        &mut self,
+        pages: u32,
+        align: u32,
+        place: &Place,
+        out: &mut Spans,
+    ) -> Result<(), TakeFault> {
+        let (free, used) = self.lengths();
+        let (first, last) = reach(place, free + used);
+        let whole = Span {
+            start: first,
+            end: last,
+        };
+        let Ok(()) = out.push(whole) else {
+            return Err(TakeFault::NoMemory);
+        };
+        match self.insert(pages, align, first, last, mode_for(place.topdown)) {
+            Ok(span) => {
+                out.set(0, span);
+                Ok(())
+            }
+            Err(InsertFault::NoHole) => Err(TakeFault::NoRoom),
+            Err(InsertFault::NoMemory) => Err(TakeFault::NoMemory),
+        }
+    }
+
+    fn put_back(&mut self, spans: &Spans) {
+        let spans = spans.items();
+        for span in spans {
+            self.remove(span.start);
+        }
+    }
+
+    fn free_pages(&self) -> u32 {
+        self.lengths().0
+    }
+
+    ghost takes_free = { λ free size pages align place out small some aligned is. range_takes_free free size pages align place out is };
+
+    ghost most_fits = { range_most_fits };
+}

@@ -1,0 +1,172 @@
+ghost use Rattle.std.specs.Prelude.{◌≡◌, ℕ, ◌+◌, ◌^◌, ◌<◌, ◌≤◌, ◌∷◌, ◌++◌, Bool, true, false, List, [], Option, Some, None, IfOk, OnOk, OnErr};
+ghost use Rattle.ttm_base.specs.declared.Place.{Place};
+ghost use Rattle.ttm_base.specs.declared.Span.{Span};
+ghost use Rattle.ttm_base.specs.Holes.{is_free_beside};
+ghost use Rattle.buddy_manager.specs.Held.{with_blocks, without_all, pages_of, AreHeld, IsApart};
+ghost use Rattle.buddy_manager.specs.Taking.{AreTaken};
+
+use crate::TakeFault;
+use crate::holding::{Holding, OwnerKind, add, holds, pages_by, remove, rename, spans_of};
+use crate::manager::{Lengths, Manager};
+use std::alloc::Global;
+use std::marker::Model;
+use ttm_base::{ItemList, JobId, NoMemory, Owner, Place, Spans};
+
+/// Spans of pages that are held, with a rule by which a request takes more.
+pub trait SpanManager: Drop {
+    /// The number of pages.
+    ghost size: { Self → ℕ };
+
+    /// The spans that are held, in rising order.
+    ghost held: { Self → List Span };
+
+    /// The spans that a request takes among the free pages of a size: so many pages, an alignment, and a place.
+    ghost choice: { (ℕ → Bool) → ℕ → ℕ → ℕ → Place → Option (List Span) };
+
+    /// The greatest number of pages.
+    ghost most: { ℕ };
+
+    /// Pages of which none is held.
+    fn with_pages(alloc: Global, pages: u32) -> Result<Self, NoMemory>
+        ensures size { IfOk result (λ manager. size manager ≡ pages) }
+        ensures held { IfOk result (λ manager. held manager ≡ []) }
+        ensures most { IfOk result (λ manager. pages ≤ most) };
+
+    /// Takes the spans of the choice. After a refusal nothing is changed.
+    fn take(
+        &mut self,
+        pages: u32,
+        align: u32,
+        place: &Place,
+        out: &mut Spans,
+    ) -> Result<(), TakeFault>
+        requires empty { out.old ≡ [] }
+        requires small { size self.old ≤ most }
+        requires some { 1 ≤ pages }
+        requires aligned { 1 ≤ align }
+        requires most_aligned { align ≤ 4096 }
+        ensures size { size self.new ≡ size self.old }
+        ensures ok { OnOk result (choice (is_free_beside (held self.old)) (size self.old) pages align place.now ≡ Some out.new) }
+        ensures held { OnOk result (held self.new ≡ with_blocks out.new (held self.old)) }
+        ensures none { result ≡ Err TakeFault.NoRoom → choice (is_free_beside (held self.old)) (size self.old) pages align place.now ≡ None }
+        ensures same { OnErr result (held self.new ≡ held self.old) };
+
+    /// Gives spans back that are held. It takes no memory.
+    fn put_back(&mut self, spans: &Spans)
+        requires apart { IsApart (held self.old) }
+        requires held { AreHeld spans.now (held self.old) }
+        ensures size { size self.new ≡ size self.old }
+        ensures held { held self.new ≡ without_all spans.now (held self.old) };
+
+    /// How many pages are free.
+    fn free_pages(&self) -> u32
+        ensures { result + pages_of (held self.now) ≡ size self.now };
+
+    ghost most_fits: { most < 2 ^ 32 };
+
+    /// A choice is of free pages, each of them once.
+    ghost takes_free: { (free : ℕ → Bool) (size pages align : ℕ) (place : Place) (out : List Span) → size ≤ most → 1 ≤ pages → 1 ≤ align → choice free size pages align place ≡ Some out → AreTaken free size out };
+}
+
+/// The pages of a memory type, by the owners that hold them, in the spans of a span manager.
+#[derive(Drop)]
+pub struct Room<M: SpanManager> {
+    manager: M,
+    held: ItemList<Holding>,
+    move_fence: Option<JobId>,
+}
+
+impl<M: SpanManager> Model for Room<M> {
+    ghost use Rattle.std.specs.Prelude.{◌≤◌};
+    ghost use Rattle.resource_core.specs.Resources.{Resources};
+
+    ghost Value = { Resources };
+
+    ghost use Rattle.resource_core.specs.Tied.{IsTied};
+
+    ghost view = { λ r. record { size = M.size r.manager; held = r.held; move_fence = r.move_fence } };
+
+    ghost invariant = { λ r. IsTied (M.size r.manager) M.most (M.held r.manager) r.held };
+}
+
+impl<M: SpanManager> Room<M> {
+    /// Pages that no owner holds, without a move job.
+    pub fn new(alloc: Global, pages: u32) -> Result<Room<M>, NoMemory>
+        ensures { IfOk result (λ room. room ≡ record { size = pages; held = []; move_fence = None }) }
+    {
+        let manager = M::with_pages(alloc, pages)?;
+        Ok(Room {
+            manager,
+            held: ItemList::new(alloc),
+            move_fence: None,
+        })
+    }
+}
+
+impl<M: SpanManager> Manager for Room<M> {
+    ghost resources = { λ room. room };
+
+    ghost choice = { M.choice };
+
+    fn take(
+        &mut self,
+        alloc: Global,
+        owner: Owner,
+        pages: u32,
+        align: u32,
+        place: &Place,
+    ) -> Result<Spans, TakeFault> {
+        let mut spans = Spans::new(alloc);
+        self.manager.take(pages, align, place, &mut spans)?;
+        match add(&mut self.held, owner, &spans) {
+            Ok(()) => Ok(spans),
+            Err(NoMemory) => {
+                self.manager.put_back(&spans);
+                Err(TakeFault::NoMemory)
+            }
+        }
+    }
+
+    fn pass(&mut self, from: Owner, to: Owner) {
+        rename(&mut self.held, from, to);
+    }
+
+    fn give(&mut self, owner: Owner) {
+        let spans = remove(&mut self.held, owner);
+        self.manager.put_back(&spans);
+    }
+
+    fn holds(&self, owner: Owner) -> bool {
+        holds(self.held.items(), owner)
+    }
+
+    fn spans_of(&self, owner: Owner) -> Option<&Spans> {
+        spans_of(self.held.items(), owner)
+    }
+
+    fn lengths(&self) -> Lengths {
+        let free = self.manager.free_pages();
+        let held = self.held.items();
+        let live = pages_by(held, OwnerKind::Live);
+        let targets = pages_by(held, OwnerKind::Target);
+        let ghosts = pages_by(held, OwnerKind::Ghost);
+        Lengths {
+            free,
+            live,
+            targets,
+            ghosts,
+        }
+    }
+
+    fn laws(&self) {
+        let _ = &self.held;
+    }
+
+    fn move_fence(&self) -> Option<JobId> {
+        self.move_fence
+    }
+
+    fn set_move_fence(&mut self, job: JobId) {
+        self.move_fence = Some(job);
+    }
+}
