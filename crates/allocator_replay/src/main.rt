@@ -1,0 +1,179 @@
+//! Does a list of operations on a buddy manager or a range manager, and prints the answers, or how long each kind took.
+//!
+//! The list is read from standard input. Its first line is `buddy SIZE` or `mm SIZE`, in pages. Then each line is an
+//! operation for an ID below 65,536:
+//!
+//!     alloc ID PAGES FIRST LAST topdown|- contig|-       (buddy)
+//!     free ID
+//!     insert ID PAGES ALIGN FIRST LAST best|low|high     (mm)
+//!     reserve ID START END
+//!     remove ID
+//!
+//! Each operation is answered by a line: its spans (`8-10,10-11`), `none` where there is no choice for it, or `ok`. The first
+//! line that can't be read or done ends the program with `bad line N` and status 2. With the argument `--time` there is in
+//! place of the answers a line `KIND CALLS NANOSECONDS_PER_CALL` for each kind that occurs.
+//!
+//! What a line says and what an operation does is proved in `replay_lines`. That the whole output is the answers in
+//! order isn't proved: the program's output is compared.
+#![tactic(auto)]
+
+mod times;
+
+use io_edge::{ReadFault, StdSource, read_all};
+use replay_lines::{Answer, BuddyTable, Head, Load, Table, put_answer, read_load};
+use std::alloc::Global;
+use std::env;
+use std::process::ExitCode;
+use std::rt::{Clock, Env};
+use times::{Times, time};
+use ttm_base::NoMemory;
+
+/// The most bytes that a list has.
+const MOST_BYTES: usize = 1 << 30;
+
+/// Why a run ends before its time.
+#[derive(Clone, Copy, Debug, PartialEq, Eq)]
+enum Fault {
+    /// The line can't be read, or its operation can't be done.
+    BadLine(usize),
+    /// The words after the program's name ask for nothing that it knows.
+    Usage,
+    Read,
+    Clock,
+    NoMemory,
+}
+
+impl From<NoMemory> for Fault {
+    fn from(_: NoMemory) -> Fault {
+        Fault::NoMemory
+    }
+}
+
+impl From<ReadFault> for Fault {
+    fn from(fault: ReadFault) -> Fault {
+        match fault {
+            ReadFault::NoMemory => Fault::NoMemory,
+            ReadFault::Failed | ReadFault::TooLong => Fault::Read,
+        }
+    }
+}
+
+impl Fault {
+    /// The exit status of the process.
+    fn code(self) -> u8 {
+        match self {
+            Fault::Usage => 1,
+            Fault::BadLine(_) => 2,
+            Fault::Read => 4,
+            Fault::NoMemory => 6,
+            Fault::Clock => 7,
+        }
+    }
+}
+
+/// Whether times are asked for in place of answers.
+fn is_timed(rt: &(impl Env + Alloc)) -> Result<bool, Fault> {
+    let Ok(words) = env::args(rt) else {
+        return Err(Fault::NoMemory);
+    };
+    let mut is_timed = false;
+    for word in words.skip(1) {
+        if is_timed || word.as_str() != "--time" {
+            return Err(Fault::Usage);
+        }
+        is_timed = true;
+    }
+    Ok(is_timed)
+}
+
+/// The number of an operation's line.
+fn line_of(index: usize) -> usize {
+    index.saturating_add(2)
+}
+
+/// Does all operations, and puts their answers behind a text.
+fn answer<T: Table>(
+    alloc: Global,
+    table: &mut T,
+    load: &Load,
+    out: &mut String,
+) -> Result<(), Fault> {
+    for (i, operation) in load.operations.items().iter().enumerate() {
+        let answer = table.run(operation)?;
+        if answer == Answer::Bad {
+            return Err(Fault::BadLine(line_of(i)));
+        }
+        put_answer(alloc, out, answer, table.spans(operation.id()))?;
+    }
+    if load.is_whole {
+        Ok(())
+    } else {
+        Err(Fault::BadLine(line_of(load.operations.len())))
+    }
+}
+
+/// Does all operations, and puts how long they took behind a text.
+fn put_times<T: Table>(
+    clock: &impl Clock,
+    alloc: Global,
+    table: &mut T,
+    load: &Load,
+    out: &mut String,
+) -> Result<(), Fault> {
+    if !load.is_whole {
+        return Err(Fault::BadLine(line_of(load.operations.len())));
+    }
+    let mut times = Times::new();
+    time(clock, table, load.operations.items(), &mut times)?;
+    times.put(alloc, out)?;
+    Ok(())
+}
+
+/// Runs a list on a manager.
+fn run_on<T: Table>(
+    rt: &(impl Env + Alloc + Clock),
+    alloc: Global,
+    table: &mut T,
+    load: &Load,
+    out: &mut String,
+) -> Result<(), Fault> {
+    if is_timed(rt)? {
+        put_times(rt, alloc, table, load, out)
+    } else {
+        answer(alloc, table, load, out)
+    }
+}
+
+/// Runs the list of a text.
+fn run(
+    rt: &(impl Env + Alloc + Clock),
+    alloc: Global,
+    text: &[u8],
+    out: &mut String,
+) -> Result<(), Fault> {
+    let Some(load) = read_load(alloc, text)? else {
+        return Err(Fault::BadLine(1));
+    };
+    match load.head {
+        Head::Buddy(pages) => run_on(rt, alloc, &mut BuddyTable::new(alloc, pages)?, &load, out),
+        Head::Ranges(_) => Err(Fault::BadLine(1)),
+    }
+}
+
+fn main(rt: HostRuntime) -> ExitCode {
+    let alloc = rt.alloc();
+    let mut out = String::new(alloc);
+    let ended = match read_all(alloc, &mut StdSource::new(rt.stdin()), MOST_BYTES) {
+        Ok(text) => run(&rt, alloc, text.as_slice(), &mut out),
+        Err(fault) => Err(Fault::from(fault)),
+    };
+    let printed = match ended {
+        Err(Fault::BadLine(line)) => print!(rt; "{out}bad line {line}\n"),
+        _ => print!(rt; "{out}"),
+    };
+    match (ended, printed) {
+        (Err(fault), _) => ExitCode::from(fault.code()),
+        (Ok(()), Err(_)) => ExitCode::from(5),
+        (Ok(()), Ok(())) => ExitCode::SUCCESS,
+    }
+}

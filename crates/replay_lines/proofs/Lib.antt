@@ -1,0 +1,4 @@
+pub mod LineLaws
+pub mod SpanLaws
+pub mod TableLaws
+pub mod WordPatterns
