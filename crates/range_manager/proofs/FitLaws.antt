@@ -1,17 +1,17 @@
 -- The hole that a request takes fits it, and gives the pages.
-use Rattle.std.proofs.Common.{◌≡◌, ℕ, ◌+◌, ◌-◌, ◌*◌, ◌/◌, ◌<◌, ◌≤◌, ◌==◌, ◌&&◌, ◌||◌, ◌⊎◌, inl, inr, Bool, true, false, List, [], ◌∷◌, Option, Some, None, min, max, refl, ap, sym, ◌∙◌, subst, arith, not, nat_eq, nat_lt, nat_le, if◌then◌else◌}
+use Rattle.std.proofs.Common.{◌≡◌, ℕ, ◌+◌, ◌<◌, ◌≤◌, ◌&&◌, ◌⊎◌, inl, inr, Bool, true, false, List, [], ◌∷◌, Option, Some, None, refl, ap, sym, ◌∙◌, subst, arith, nat_lt, nat_le, if◌then◌else◌}
 use Rattle.std.specs.Prelude.{option_map, filter_map, slice_get}
-use Rattle.std.specs.List.{find, cons_option, list_any}
-use Rattle.std.proofs.lemmas.Bool.{cases_lt, cases_Bool, and_parts, and_from, and_left, and_right, or_from, lt-ltb, le-ltb, lt-leb, le-leb, ltb-true, leb-true, false_from_ne_true, both_ways}
+use Rattle.std.specs.List.{find, cons_option}
+use Rattle.std.proofs.lemmas.Bool.{cases_lt, and_parts, and_from, lt-ltb, le-leb, ltb-true, leb-true, false_from_ne_true}
 use Rattle.ttm_base.specs.declared.Span.{Span}
 use Rattle.ttm_base.specs.declared.Mode.{Mode}
 use Rattle.ttm_base.specs.declared.Mode.TheVariants.{Best, Low, High}
-use Rattle.ttm_base.specs.ListWords.{first_least, least_by, last_or, last_of}
+use Rattle.ttm_base.specs.ListWords.{first_least, least_by, last_or}
 use Rattle.ttm_base.specs.Holes.{has_page}
 use Rattle.ttm_base.specs.Reach.{common, length_of}
 use Rattle.ttm_base.specs.RangeChoice.{Fit, fit_in, start_to_test, best_fit, fitting_hole, range_choice}
 use Rattle.hole_tree.specs.Choosing.{chosen_hole}
-use Rattle.range_manager.proofs.SpanLaws.{IsAmong, has_parts, has_from, has_before, has_past, among_has}
+use Rattle.range_manager.proofs.SpanLaws.{IsAmong, has_from, has_before, has_past}
 
 abbrev pub fits : Mode → ℕ → ℕ → Span → Span → Bool
 fits m pages align range hole = nat_lt 0 pages && nat_le (common hole range).start (start_to_test m pages align (common hole range)) && nat_le (start_to_test m pages align (common hole range) + pages) (common hole range).end
@@ -90,12 +90,6 @@ taken_hole m hs pages align range hole e = by (fitting_hole m hs pages align ran
         fits = ap (fits m pages align range) (sym z) ∙ r.fits;
         choice = ap (option_map (λ f. f.taken)) o ∙ ap Some (r.taken ∙ ap (taken_of m pages align range) z);
       }
-
-pub no_hole : (m : Mode) (hs : List Span) (pages align : ℕ) (range : Span) → chosen_hole m hs pages align range.start range.end ≡ None → range_choice m hs pages align range ≡ None
-no_hole m hs pages align range e = by (fitting_hole m hs pages align range) refl e where
-  by : (o : Option Fit) → fitting_hole m hs pages align range ≡ o → option_map (λ f. f.hole) o ≡ None → range_choice m hs pages align range ≡ None
-  by None o e = ap (option_map (λ f. f.taken)) o
-  by (Some f) o e = absurd cc
 
 -- the pages lie in the hole and in the range
 pub record IsIn (m : Mode) (pages align : ℕ) (range hole : Span) : Type 0 where

@@ -1,13 +1,13 @@
 -- Holes that come and go, by their pages.
-use Rattle.std.proofs.Common.{◌≡◌, ℕ, ◌+◌, ◌-◌, ◌<◌, ◌≤◌, ◌&&◌, ◌||◌, ◌⊎◌, inl, inr, Bool, true, false, List, [], ◌∷◌, Option, Some, None, refl, ap, sym, ◌∙◌, subst, arith, not}
+use Rattle.std.proofs.Common.{◌≡◌, ℕ, ◌+◌, ◌-◌, ◌<◌, ◌≤◌, ◌&&◌, ◌||◌, inl, inr, Bool, true, false, List, Option, Some, None, refl, ap, sym, ◌∙◌, subst, arith, not}
 use Rattle.std.specs.Prelude.{IfSome, IfNone}
-use Rattle.std.specs.List.{find, list_any, list_all}
-use Rattle.std.proofs.lemmas.Bool.{cases_lt, cases_Bool, or_from, or_parts, both_ways}
+use Rattle.std.specs.List.{find, list_any}
+use Rattle.std.proofs.lemmas.Bool.{cases_lt, or_from, both_ways}
 use Rattle.ttm_base.specs.declared.Span.{Span}
 use Rattle.ttm_base.specs.declared.Mode.TheVariants.{Low}
 use Rattle.ttm_base.specs.Holes.{has_page}
 use Rattle.hole_tree.specs.Choosing.{chosen_hole}
-use Rattle.hole_tree.specs.HoleSet.{is_apart, starts_at, with_hole, without}
+use Rattle.hole_tree.specs.HoleSet.{starts_at, without}
 use Rattle.range_manager.specs.Kept.{IsSpaced, IsClear}
 use Rattle.range_manager.proofs.SpanLaws.{IsAmong, has_parts, has_from, has_before, has_past, among_some, among_has, among_found, found_among, found_none, spaced_without, clear_without, pages_without}
 use Rattle.range_manager.proofs.FitLaws.{hole_around}

@@ -1,19 +1,18 @@
 -- The parts of a manager fit together after each change.
-use Rattle.std.proofs.Common.{◌≡◌, ℕ, zero, suc, ◌+◌, ◌-◌, ◌^◌, ◌<◌, ◌≤◌, ◌&&◌, ◌||◌, inl, inr, Bool, true, false, List, [], ◌∷◌, Option, Some, None, length, get_or, set, replicate, refl, ap, sym, ◌∙◌, subst, arith, not, nat_lt, if◌then◌else◌}
+use Rattle.std.proofs.Common.{◌≡◌, ℕ, ◌+◌, ◌-◌, ◌^◌, ◌<◌, ◌≤◌, ◌&&◌, ◌||◌, Bool, true, false, List, [], Some, length, get_or, set, replicate, refl, ap, sym, ◌∙◌, subst, arith, not, nat_lt, if◌then◌else◌}
 use Rattle.std.specs.List.{find, list_any}
 use Rattle.std.proofs.lemmas.Grind.{common_steps}
 use Rattle.std.proofs.lemmas.List.{length-replicate}
-use Rattle.std.proofs.lemmas.Bool.{cases_lt, cases_Bool, and_parts, and_from, and_left, and_right, or_parts, lt-ltb, le-ltb, ltb-true, both_ways, not-true, false_from_ne_true}
+use Rattle.std.proofs.lemmas.Bool.{and_parts, and_right, lt-ltb, ltb-true, not-true}
 use Rattle.ttm_base.specs.declared.Span.{Span}
 use Rattle.ttm_base.specs.Holes.{has_page, is_free_beside, holes}
-use Rattle.ttm_base.specs.Reach.{length_of}
 use Rattle.hole_tree.specs.HoleSet.{HoleSet, starts_at, with_hole, without}
 use Rattle.range_manager.specs.Held.{Managed, held_spans, with_span, pages_of, is_open, HasTakenPage}
-use Rattle.range_manager.specs.Kept.{AllFrom, AllBy, IsSpaced, IsClear, IsManaged}
-use Rattle.range_manager.proofs.SpanLaws.{IsAmong, has_parts, has_from, has_past, among_by, among_some, among_has, found_among, pages_with, spaced_with, all_by_with, sum_with, length_with, spaced_without, all_by_without, clear_without, pages_without, sum_without, length_without, sum_within, length_within}
+use Rattle.range_manager.specs.Kept.{AllBy, IsSpaced, IsClear, IsManaged}
+use Rattle.range_manager.proofs.SpanLaws.{IsAmong, has_parts, has_from, among_by, among_has, found_among, pages_with, spaced_with, all_by_with, sum_with, length_with, spaced_without, all_by_without, clear_without, pages_without, sum_without, length_without, sum_within, length_within}
 use Rattle.range_manager.proofs.HoleLaws.{holes_by_pages}
 use Rattle.range_manager.proofs.GapLaws.{found_hole, past_hole}
-use Rattle.range_manager.proofs.EndLaws.{held_set, held_clear, free_begins_none, none_held, Begins, begins}
+use Rattle.range_manager.proofs.EndLaws.{held_set, held_clear, free_begins_none, none_held, Begins}
 
 -- what a manager with these ends is seen as
 abbrev pub seen : List ℕ → Managed
@@ -166,9 +165,6 @@ pub held_clear_of : (h : HoleSet) (ends : List ℕ) (used count start : ℕ) →
 held_clear_of h ends used count start m b page l u =
     m.free page
     ∙ and_right (nat_lt page (length ends)) (is_free_beside (held_spans 0 ends) page) (ap not (among_has page (span_at ends start) (held_spans 0 ends) (among_held ends start b) (has_from page (span_at ends start) (omega arith) (omega arith))))
-
-pub no_page_past : (h : HoleSet) (ends : List ℕ) (used count : ℕ) → IsManaged h ends used count → (page : ℕ) → 2 ^ 32 ≤ page + 1 → list_any (has_page page) h.holes ≡ false
-no_page_past h ends used count m page l = let s = m.small in m.free page ∙ and_left (nat_lt page (length ends)) (is_free_beside (held_spans 0 ends) page) (le-ltb page (length ends) (omega arith))
 
 pub held_less : (ends : List ℕ) (start : ℕ) → Begins ends start → held_spans 0 (set ends start 0) ≡ without start (held_spans 0 ends)
 held_less ends start b =

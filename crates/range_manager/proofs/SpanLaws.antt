@@ -1,9 +1,9 @@
 -- Lists of spans that lie apart, by their pages.
-use Rattle.std.proofs.Common.{◌≡◌, ℕ, zero, suc, ◌+◌, ◌-◌, ◌<◌, ◌≤◌, ◌==◌, ◌&&◌, ◌||◌, ◌⊎◌, inl, inr, Bool, true, false, List, [], ◌∷◌, Option, Some, None, length, refl, ap, sym, ◌∙◌, subst, arith, not, nat_eq, nat_lt, nat_le, if◌then◌else◌}
-use Rattle.std.specs.List.{find, filter, list_any, list_all}
-use Rattle.std.proofs.lemmas.Bool.{cases_lt, cases_eq, cases_Bool, and_parts, and_from, and_left, and_right, or_left, or_right, or_cases, or_parts, or_from, lt-ltb, le-ltb, lt-leb, le-leb, ltb-true, leb-true, eq-eqb, ne_eqb, eqb-true, false_from_ne_true, both_ways, not-true, not_from_false}
+use Rattle.std.proofs.Common.{◌≡◌, ℕ, ◌+◌, ◌-◌, ◌<◌, ◌≤◌, ◌||◌, ◌⊎◌, inl, inr, Bool, true, false, List, [], ◌∷◌, Some, None, length, refl, ap, sym, ◌∙◌, subst, arith, not, nat_lt, nat_le, if◌then◌else◌}
+use Rattle.std.specs.List.{find, list_any, list_all}
+use Rattle.std.proofs.lemmas.Bool.{cases_lt, and_parts, and_from, and_left, and_right, or_left, or_right, or_parts, or_from, lt-ltb, le-ltb, lt-leb, le-leb, ltb-true, leb-true, eq-eqb, ne_eqb, both_ways}
 use Rattle.ttm_base.specs.declared.Span.{Span}
-use Rattle.ttm_base.specs.Holes.{has_page, is_free_beside}
+use Rattle.ttm_base.specs.Holes.{has_page}
 use Rattle.ttm_base.specs.Reach.{length_of}
 use Rattle.hole_tree.specs.HoleSet.{is_apart, starts_at, with_hole, without}
 use Rattle.range_manager.specs.Held.{pages_of}
@@ -33,11 +33,6 @@ all_from_less m n (b ∷ hs) h a = (let l = a.0 in omega arith, all_from_less m 
 pub before_all : (n page : ℕ) (hs : List Span) → AllFrom n hs → page < n → list_any (has_page page) hs ≡ false
 before_all n page [] a h = refl
 before_all n page (b ∷ hs) a h = let l = a.0 in or_from (has_page page b) (list_any (has_page page) hs) (has_before page b (omega arith)) (before_all n page hs a.1 h)
-
--- a page past all spans is in none
-pub past_all : (n page : ℕ) (hs : List Span) → AllBy n hs → n ≤ page → list_any (has_page page) hs ≡ false
-past_all n page [] a h = refl
-past_all n page (b ∷ hs) a h = let l = a.0 in or_from (has_page page b) (list_any (has_page page) hs) (has_past page b (omega arith)) (past_all n page hs a.1 h)
 
 -- ---- a span among spans
 
@@ -98,9 +93,6 @@ among_found gap s (x ∷ hs) a h = elim h [
       let l = among_from (x.end + gap) s hs a.1 r in
       ap (λ t. if t then Some x else find (starts_at s.start) hs) (ne_eqb x.start s.start (λ e. omega arith)) ∙ among_found gap s hs a.2 r
 ]
-
-pub found_start : (start : ℕ) (s : Span) (hs : List Span) → find (starts_at start) hs ≡ Some s → s.start ≡ start
-found_start start s hs h = eqb-true s.start start ((found_among (starts_at start) s hs h).1)
 
 -- ---- one span more
 

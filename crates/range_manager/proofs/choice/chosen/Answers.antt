@@ -1,6 +1,4 @@
-use Rattle.std.proofs.Common.{◌≡◌, ◌<◌, ◌≤◌, ◌+◌, Some, ap, sym, ◌∙◌, arith}
-use Rattle.ttm_base.specs.RangeChoice.{start_to_test}
-use Rattle.ttm_base.specs.Reach.{common}
+use Rattle.std.proofs.Common.{◌+◌, Some, ap, sym, ◌∙◌, arith}
 use Rattle.range_manager.proofs.FitLaws.{taken_hole, taken_in}
 use Rattle.range_manager.proofs.choice.chosen.Goals as goal
 

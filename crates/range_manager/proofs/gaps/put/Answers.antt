@@ -1,4 +1,4 @@
-use Rattle.std.proofs.Common.{◌≡◌, ap, sym, subst, ◌∙◌}
+use Rattle.std.proofs.Common.{ap, sym, subst, ◌∙◌}
 use Rattle.std.specs.List.{list_any}
 use Rattle.ttm_base.specs.Holes.{has_page}
 use Rattle.range_manager.specs.Kept.{IsSpaced}

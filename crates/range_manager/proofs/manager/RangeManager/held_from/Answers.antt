@@ -1,9 +1,9 @@
-use Rattle.std.proofs.Common.{◌≡◌, ℕ, ◌<◌, ◌≤◌, ◌+◌, ◌-◌, Some, None, length, get_or, ap, sym, subst, ◌∙◌, arith}
+use Rattle.std.proofs.Common.{Some, length, get_or, ap, sym, ◌∙◌, arith}
 use Rattle.std.specs.List.{find}
 use Rattle.std.proofs.lemmas.Bool.{ltb-true, ltb-false}
 use Rattle.std.proofs.lemmas.Grind.{get_or_default_zero}
 use Rattle.hole_tree.specs.HoleSet.{starts_at}
-use Rattle.range_manager.specs.Held.{Managed, held_spans}
+use Rattle.range_manager.specs.Held.{Managed}
 use Rattle.range_manager.proofs.EndLaws.{find_held, find_not_held, find_no_page}
 use Rattle.range_manager.proofs.manager.RangeManager.held_from.Goals as goal
 

@@ -1,4 +1,4 @@
-use Rattle.std.proofs.Common.{◌≡◌, ◌≤◌, ◌+◌, length, ap, arith}
+use Rattle.std.proofs.Common.{ap, arith}
 use Rattle.range_manager.specs.Held.{Managed}
 use Rattle.range_manager.proofs.ManagedLaws.{used_within}
 use Rattle.range_manager.proofs.manager.RangeManager.lengths.Goals as goal

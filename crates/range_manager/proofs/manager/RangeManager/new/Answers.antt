@@ -1,4 +1,4 @@
-use Rattle.std.proofs.Common.{◌≡◌, ◌<◌, replicate, ap, sym, subst, ◌∙◌, arith}
+use Rattle.std.proofs.Common.{ap, sym, subst, ◌∙◌, arith}
 use Rattle.range_manager.specs.Held.{held_spans}
 use Rattle.range_manager.specs.Kept.{IsManaged}
 use Rattle.range_manager.proofs.EndLaws.{none_held}

@@ -1,13 +1,13 @@
-use Rattle.std.proofs.Common.{◌≡◌, ℕ, ◌<◌, ◌≤◌, ◌+◌, ◌-◌, ◌||◌, Some, None, true, false, length, get_or, set, ap, sym, subst, ◌∙◌, arith}
+use Rattle.std.proofs.Common.{◌-◌, ◌||◌, set, ap, sym, subst, ◌∙◌, arith}
 use Rattle.std.specs.Option.{IsSome}
 use Rattle.std.specs.List.{find, list_any}
 use Rattle.std.proofs.lemmas.Grind.{get_or_default_zero}
 use Rattle.ttm_base.specs.Holes.{has_page}
 use Rattle.hole_tree.specs.HoleSet.{starts_at, without}
-use Rattle.range_manager.specs.Held.{Managed, held_spans}
+use Rattle.range_manager.specs.Held.{Managed}
 use Rattle.range_manager.specs.Kept.{IsClear, IsManaged}
 use Rattle.range_manager.proofs.EndLaws.{Begins, begins}
-use Rattle.range_manager.proofs.ManagedLaws.{held_clear_of, no_page_past, held_by, held_less, managed_less, used_less, count_less}
+use Rattle.range_manager.proofs.ManagedLaws.{held_clear_of, held_less, managed_less, used_less, count_less}
 use Rattle.range_manager.proofs.manager.RangeManager.remove.Goals as goal
 use Rattle.range_manager.proofs.manager.RangeManager.remove.Goals.{After-self}
 

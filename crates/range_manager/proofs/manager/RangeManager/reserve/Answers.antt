@@ -1,11 +1,8 @@
-use Rattle.std.proofs.Common.{◌≡◌, ℕ, ◌<◌, ◌≤◌, ◌+◌, ◌-◌, ◌&&◌, not, Some, None, true, false, length, set, ap, sym, subst, ◌∙◌, arith}
-use Rattle.std.specs.List.{find, list_any}
+use Rattle.std.proofs.Common.{◌≡◌, ℕ, ◌&&◌, not, true, ap, sym, subst, ◌∙◌, arith}
+use Rattle.std.specs.List.{list_any}
 use Rattle.ttm_base.specs.Holes.{has_page}
-use Rattle.hole_tree.specs.HoleSet.{starts_at}
 use Rattle.range_manager.specs.Held.{Managed, held_spans, with_span, is_open, HasTakenPage}
-use Rattle.range_manager.specs.Kept.{IsManaged}
-use Rattle.range_manager.proofs.SpanLaws.{has_parts, has_from}
-use Rattle.range_manager.proofs.ManagedLaws.{seen, taken_first, taken_past, all_open_in, hold_below, held_more, managed_more, used_more, count_within, with_some}
+use Rattle.range_manager.proofs.ManagedLaws.{taken_first, taken_past, all_open_in, hold_below, held_more, managed_more, used_more, count_within, with_some}
 use Rattle.range_manager.proofs.manager.RangeManager.reserve.Goals as goal
 
 pub returns-in_default-clause-none : goal.returns-in_default-clause-none
