@@ -1,6 +1,6 @@
 -- How many pages are free and held, and what holds of the spans of all owners.
-use Rattle.std.proofs.Common.{◌≡◌, ℕ, zero, suc, ◌+◌, ◌-◌, ◌<◌, ◌≤◌, ◌^◌, ◌||◌, inl, inr, Bool, true, false, List, [], ◌∷◌, ◌++◌, min, max, refl, ap, sym, ◌∙◌, subst, arith, nat_eq, nat_lt, nat_le, if◌then◌else◌, cond, All, count_by, sum_by}
-use Rattle.std.proofs.lemmas.Bool.{cases_lt, cases_Bool, or_cases, or_left, lt-ltb, le-leb, lt-leb, le-ltb, and_from, and_left, and_right, eqb-true, eqb-false, both_ways}
+use Rattle.std.proofs.Common.{◌≡◌, ℕ, zero, suc, ◌+◌, ◌-◌, ◌<◌, ◌≤◌, ◌^◌, ◌||◌, inl, inr, Bool, true, false, List, [], ◌∷◌, min, refl, ap, ◌∙◌, arith, nat_eq, nat_lt, nat_le, if◌then◌else◌, cond, All, count_by}
+use Rattle.std.proofs.lemmas.Bool.{cases_lt, cases_Bool, or_cases, or_left, lt-ltb, le-leb, lt-leb, le-ltb, and_from, and_left, and_right, eqb-true, eqb-false}
 use Rattle.std.proofs.lemmas.List.Sums.{sum_by-cons}
 use Rattle.std.proofs.lemmas.List.Elements.{All-nil, All-cons}
 use Rattle.ttm_base.specs.declared.Span.{Span}

@@ -1,6 +1,6 @@
 -- Owners and their holdings.
-use Rattle.std.proofs.Common.{◌≡◌, ℕ, zero, suc, ◌+◌, ◌<◌, ◌≤◌, ◌&&◌, ◌||◌, inl, inr, Bool, true, false, List, [], ◌∷◌, ◌++◌, Option, Some, None, length, refl, ap, sym, ◌∙◌, subst, arith, not, nat_eq, if◌then◌else◌, filter, map, take, drop, remove, position, find, get_or, slice_get, slice_set, cond}
-use Rattle.std.specs.List.{list_any, flat_map, position_or_len}
+use Rattle.std.proofs.Common.{◌≡◌, ℕ, zero, suc, ◌+◌, ◌<◌, ◌≤◌, ◌||◌, inl, inr, Bool, true, false, List, [], ◌∷◌, ◌++◌, Some, None, length, refl, ap, sym, ◌∙◌, arith, not, nat_eq, if◌then◌else◌, remove, position, find, get_or, slice_get, slice_set, cond}
+use Rattle.std.specs.List.{position_or_len}
 use Rattle.std.proofs.lemmas.List.Folds.{list_any-append, find_at}
 use Rattle.std.proofs.lemmas.List.Quantifiers.{position-Some}
 use Rattle.std.proofs.lemmas.Bool.{cases_lt, le-ltb, or_parts, or_from, eq-eqb, eqb-true, lt-ltb, false_from_ne_true, both_ways}

@@ -1,12 +1,12 @@
 -- Sums of weights over spans.
-use Rattle.std.proofs.Common.{◌≡◌, ℕ, zero, suc, ◌+◌, ◌<◌, ◌≤◌, ◌&&◌, ◌||◌, inl, inr, Bool, true, false, List, [], ◌∷◌, ◌++◌, refl, ap, sym, ◌∙◌, subst, arith, not, nat_eq, nat_lt, nat_le, if◌then◌else◌}
+use Rattle.std.proofs.Common.{◌≡◌, ℕ, ◌+◌, ◌<◌, ◌≤◌, ◌||◌, Bool, true, false, List, [], ◌∷◌, ◌++◌, refl, ap, sym, ◌∙◌, arith, not, nat_eq, nat_lt, if◌then◌else◌}
 use Rattle.std.specs.List.{list_any}
 use Rattle.std.proofs.Math.Path.{fun_ext}
-use Rattle.std.proofs.lemmas.Bool.{and_parts, and_from, and_left, or_cases, or_left, eq-eqb, eqb-true, ne_eqb, false_from_ne_true, both_ways, cases_Bool}
+use Rattle.std.proofs.lemmas.Bool.{and_parts, and_from, and_left, or_left, eq-eqb, eqb-true, ne_eqb, false_from_ne_true}
 use Rattle.ttm_base.specs.declared.Span.{Span}
 use Rattle.ttm_base.specs.Holes.{has_page, is_free_beside}
-use Rattle.buddy_manager.specs.Held.{with_block, with_blocks, without, same_span, is_held, pages_of, AllFrom, AllBy, IsApart}
-use Rattle.buddy_manager.proofs.HeldLaws.{has_parts, has_from}
+use Rattle.buddy_manager.specs.Held.{with_block, with_blocks, without, same_span, is_held, pages_of, AllFrom, IsApart}
+use Rattle.buddy_manager.proofs.HeldLaws.{has_parts}
 use Rattle.ttm_base.specs.Reach.{length_of}
 use Rattle.resource_core.specs.Tied.{total, at_page, at_span, HaveSame}
 

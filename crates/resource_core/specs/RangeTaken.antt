@@ -1,7 +1,7 @@
 -- What the range choice takes is free.
-use Rattle.std.proofs.Common.{◌≡◌, ℕ, zero, suc, ◌+◌, ◌-◌, ◌^◌, ◌<◌, ◌≤◌, ◌&&◌, ◌||◌, ◌==◌, inl, inr, Bool, true, false, List, [], ◌∷◌, Option, Some, None, min, max, filter, cond, not, filter_map, option_map, slice_get, refl, ap, sym, ◌∙◌, subst, arith, nat_eq, nat_lt, nat_le, if◌then◌else◌}
-use Rattle.std.specs.List.{cons_option, list_any}
-use Rattle.std.proofs.lemmas.Bool.{and_parts, and_left, cases_lt, cases_eq, leb-true, ltb-true, lt-ltb, le-ltb, eq-eqb, ne_eqb, eqb-true}
+use Rattle.std.proofs.Common.{◌≡◌, ℕ, zero, suc, ◌+◌, ◌^◌, ◌<◌, ◌≤◌, ◌&&◌, inl, inr, Bool, true, false, List, [], ◌∷◌, Option, Some, None, filter_map, option_map, slice_get, refl, ap, sym, ◌∙◌, subst, arith, nat_eq, nat_lt, nat_le, if◌then◌else◌}
+use Rattle.std.specs.List.{cons_option}
+use Rattle.std.proofs.lemmas.Bool.{and_parts, cases_lt, leb-true, ltb-true, lt-ltb, le-ltb, eqb-true}
 use Rattle.ttm_base.specs.declared.Span.{Span}
 use Rattle.ttm_base.specs.declared.Mode.{Mode}
 use Rattle.ttm_base.specs.declared.Mode.TheVariants.{Best, Low, High}

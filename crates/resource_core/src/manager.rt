@@ -34,7 +34,8 @@ pub trait Manager {
     /// The spans that a request takes among the free pages of a size: so many pages, an alignment, and a place.
     ghost choice: { (ℕ → Bool) → ℕ → ℕ → ℕ → Place → Option (List Span) };
 
-    /// Gives an owner pages of a place, by the manager's choice. After a refusal nothing is changed.
+    /// Gives an owner so many pages that a place reaches, by the manager's choice: from a multiple of `align` on, in pages, where
+    /// the manager heeds it. The owner's holding comes last. After a refusal nothing is changed.
     fn take(
         &mut self,
         alloc: Global,

@@ -1,4 +1,4 @@
-use Rattle.std.proofs.Common.{◌≡◌, ◌∙◌}
+use Rattle.std.proofs.Common.{◌∙◌}
 use Rattle.resource_core.proofs.HoldingLaws.{has_place}
 use Rattle.resource_core.proofs.holding.place_of.Goals as goal
 

@@ -1,4 +1,4 @@
-use Rattle.std.proofs.Common.{◌≡◌, ◌+◌, position, ap, sym, ◌∙◌}
+use Rattle.std.proofs.Common.{◌+◌, position, ap, sym, ◌∙◌}
 use Rattle.resource_core.specs.declared.holding.Holding.{Holding}
 use Rattle.resource_core.specs.Resources.{same_owner, all_spans}
 use Rattle.resource_core.specs.Tied.{total}

@@ -1,4 +1,4 @@
-use Rattle.std.proofs.Common.{◌≡◌, ap, sym, option_map}
+use Rattle.std.proofs.Common.{ap, sym, option_map}
 use Rattle.resource_core.specs.declared.holding.Holding.{Holding}
 use Rattle.resource_core.proofs.HoldingLaws.{find_none, find_some}
 use Rattle.resource_core.proofs.holding.spans_of.Goals as goal

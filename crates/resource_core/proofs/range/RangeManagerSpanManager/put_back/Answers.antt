@@ -1,4 +1,4 @@
-use Rattle.std.proofs.Common.{◌≡◌, ◌∙◌}
+use Rattle.std.proofs.Common.{◌∙◌}
 use Rattle.buddy_manager.specs.Held.{without_all}
 use Rattle.resource_core.proofs.RangeLaws.{let_start, let_next}
 use Rattle.resource_core.proofs.range.RangeManagerSpanManager.put_back.Goals as goal

@@ -1,4 +1,4 @@
-use Rattle.std.proofs.Common.{◌≡◌, ap, sym, ◌∙◌}
+use Rattle.std.proofs.Common.{ap, sym, ◌∙◌}
 use Rattle.ttm_base.specs.Holes.{is_free_beside}
 use Rattle.buddy_manager.specs.Held.{with_blocks}
 use Rattle.resource_core.specs.RangeTaken.{range_takes}

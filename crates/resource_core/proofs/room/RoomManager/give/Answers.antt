@@ -1,4 +1,4 @@
-use Rattle.std.proofs.Common.{◌≡◌, ap, sym, subst, ◌∙◌, refl}
+use Rattle.std.proofs.Common.{sym, subst, refl}
 use Rattle.resource_core.specs.Resources.{AreDistinct}
 use Rattle.resource_core.proofs.HoldingLaws.{distinct_without}
 use Rattle.resource_core.proofs.TieLaws.{tied_is, given_back, tied_given}

@@ -1,4 +1,4 @@
-use Rattle.std.proofs.Common.{◌≡◌, ◌<◌, ◌≤◌, All, count_by, subst}
+use Rattle.std.proofs.Common.{◌<◌, ◌≤◌, All, count_by, subst}
 use Rattle.ttm_base.specs.declared.Span.{Span}
 use Rattle.ttm_base.specs.Holes.{has_page}
 use Rattle.resource_core.specs.Resources.{Resources, all_spans, AreDistinct}

@@ -1,4 +1,4 @@
-use Rattle.std.proofs.Common.{◌≡◌, ◌+◌, ◌<◌, ◌^◌, ap, sym, subst, ◌∙◌, arith}
+use Rattle.std.proofs.Common.{◌<◌, ◌^◌, ap, sym, subst, ◌∙◌, arith}
 use Rattle.resource_core.specs.declared.holding.OwnerKind.TheVariants as kind
 use Rattle.resource_core.specs.Resources.{Resources, is_free, count_free, pages_by}
 use Rattle.resource_core.proofs.CountLaws.{free_count, kinds_and_free, kind_fits}

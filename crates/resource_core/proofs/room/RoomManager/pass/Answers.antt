@@ -1,4 +1,4 @@
-use Rattle.std.proofs.Common.{◌≡◌, ap, sym, subst, ◌∙◌, refl}
+use Rattle.std.proofs.Common.{ap, ◌∙◌, refl}
 use Rattle.resource_core.specs.Resources.{Resources, holds}
 use Rattle.resource_core.proofs.TieLaws.{tied_is, tied_renamed}
 use Rattle.resource_core.proofs.room.RoomManager.pass.Goals as goal
