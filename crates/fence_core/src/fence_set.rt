@@ -181,8 +181,8 @@ impl FenceSet {
         let _contexts = line.contexts();
     }
 
-    /// Where sets keep what is left of so many jobs that were added, one job more, or those of another set, are added to
-    /// these. It does nothing: its contract is the law.
+    /// The set of some jobs is that of one more after `add`, of those of another set too after `add_all`, and of none after
+    /// `clear`. It does nothing: its contract is the law.
     pub fn kept_of_all(&self)
         ensures one { (fences : List Fence) (f : Fence) → added (set_of (length self.now) fences) f.job f.usage ≡ set_of (length self.now) (fences ++ f ∷ []) }
         ensures all { (usage : How) (fences others : List Fence) → AreKnown (length self.now) others → all_added usage (set_of (length self.now) fences) (set_of (length self.now) others) ≡ set_of (length self.now) (fences ++ filter (is_covered usage) others) }
