@@ -1,0 +1,160 @@
+ghost use Rattle.std.specs.Prelude.{◌≡◌, ℕ, ◌+◌, ◌<◌, ◌≤◌, true, [], Some, None, Ok, Err, IfOk, OnOk, OnErr, IsSome, replicate};
+ghost use Rattle.std.specs.List.{find};
+ghost use Rattle.ttm_base.specs.Holes.{holes, has_page, is_free_beside};
+ghost use Rattle.ttm_base.specs.RangeChoice.{range_choice};
+ghost use Rattle.hole_tree.specs.HoleSet.{starts_at, without};
+ghost use Rattle.range_manager.specs.Held.{with_span, pages_of, is_open, HasTakenPage};
+
+use crate::InsertFault;
+use crate::choice::chosen;
+use crate::gaps::{around, give, make_room, take, whole};
+use hole_tree::Holes;
+use std::alloc::Global;
+use std::marker::Model;
+use ttm_base::{Mode, NoMemory, Span};
+
+/// The pages of a memory type by ranges, seen as the number of pages and the spans that are held. The other pages are free.
+#[derive(Drop)]
+pub struct RangeManager {
+    holes: Holes,
+    /// For each page the end of the span that begins there, or else 0.
+    ends: Vec<u32>,
+    /// How many pages are held.
+    used: u32,
+    /// How many spans are held.
+    count: u32,
+}
+
+impl Model for RangeManager {
+    ghost use Rattle.std.specs.Prelude.{length};
+    ghost use Rattle.range_manager.specs.Held.{Managed};
+
+    ghost Value = { Managed };
+
+    ghost use Rattle.range_manager.specs.Held.{held_spans};
+    ghost use Rattle.range_manager.specs.Kept.{IsManaged};
+
+    ghost view = { λ m. record { size = length m.ends.items; held = held_spans 0 m.ends.items } };
+
+    ghost invariant = { λ m. IsManaged m.holes m.ends.items m.used m.count };
+}
+
+/// For each page that no span begins there.
+fn no_ends(alloc: Global, pages: u32) -> Result<Vec<u32>, NoMemory>
+    ensures { IfOk result (λ ends. ends.items ≡ replicate pages 0) }
+{
+    let ends = vec![in alloc; 0; pages as usize]?;
+    Ok(ends)
+}
+
+impl RangeManager {
+    /// Pages of which none is held.
+    pub fn new(alloc: Global, pages: u32) -> Result<RangeManager, NoMemory>
+        ensures size { IfOk result (λ manager. manager.size ≡ pages) }
+        ensures held { IfOk result (λ manager. manager.held ≡ []) }
+    {
+        let ends = no_ends(alloc, pages)?;
+        let holes = whole(alloc, pages)?;
+        Ok(RangeManager {
+            holes,
+            ends,
+            used: 0,
+            count: 0,
+        })
+    }
+
+    /// Takes so many pages at a multiple of `align`, from `first` up to `last`, in the hole of the range choice (drm_mm_insert_node).
+    /// After a refusal nothing is changed.
+    pub fn insert(
+        &mut self,
+        pages: u32,
+        align: u32,
+        first: u32,
+        last: u32,
+        mode: Mode,
+    ) -> Result<Span, InsertFault>
+        requires { 1 ≤ align }
+        ensures size { self.new.size ≡ self.old.size }
+        ensures ok { IfOk result (λ span. range_choice mode (holes (is_free_beside self.old.held) self.old.size) pages align (record { start = first; end = last }) ≡ Some span) }
+        ensures held { IfOk result (λ span. self.new.held ≡ with_span span self.old.held) }
+        ensures none { result ≡ Err InsertFault.NoHole → range_choice mode (holes (is_free_beside self.old.held) self.old.size) pages align (record { start = first; end = last }) ≡ None }
+        ensures same { OnErr result (self.new ≡ self.old) }
+    {
+        let range = Span {
+            start: first,
+            end: last,
+        };
+        let Some(span) = chosen(&self.holes, pages, align, range, mode) else {
+            return Err(InsertFault::NoHole);
+        };
+        // (its pages are free)
+        let Ok(()) = self.reserve(span) else {
+            return Err(InsertFault::NoMemory);
+        };
+        Ok(span)
+    }
+
+    /// Takes the pages of a span (drm_mm_reserve_node); one without pages changes nothing. After a refusal nothing is changed.
+    pub fn reserve(&mut self, span: Span) -> Result<(), InsertFault>
+        ensures size { self.new.size ≡ self.old.size }
+        ensures free { OnOk result ((page : ℕ) → has_page page span ≡ true → is_open self.old page ≡ true) }
+        ensures held { OnOk result (self.new.held ≡ with_span span self.old.held) }
+        ensures empty { span.end ≤ span.start → result ≡ Ok tt }
+        ensures none { result ≡ Err InsertFault.NoHole → HasTakenPage self.old span }
+        ensures same { OnErr result (self.new ≡ self.old) }
+    {
+        if span.end <= span.start {
+            return Ok(());
+        }
+        let Some(hole) = around(&self.holes, span.start) else {
+            return Err(InsertFault::NoHole);
+        };
+        if hole.end < span.end {
+            return Err(InsertFault::NoHole);
+        }
+        let Ok(()) = make_room(&mut self.holes, self.count) else {
+            return Err(InsertFault::NoMemory);
+        };
+        take(&mut self.holes, hole, span);
+        self.ends[span.start as usize] = span.end;
+        self.used += span.end - span.start;
+        self.count += 1;
+        Ok(())
+    }
+
+    /// Lets the span go that begins at a page. It takes no memory.
+    pub fn remove(&mut self, start: u32)
+        requires { IsSome (find (starts_at start) self.old.held) }
+        ensures size { self.new.size ≡ self.old.size }
+        ensures held { self.new.held ≡ without start self.old.held }
+    {
+        let span = Span {
+            start,
+            end: self.ends[start as usize],
+        };
+        give(&mut self.holes, span);
+        self.ends[start as usize] = 0;
+        self.used -= span.end - span.start;
+        self.count -= 1;
+    }
+
+    /// The span that is held from a page on.
+    pub fn held_from(&self, start: u32) -> Option<Span>
+        ensures { result ≡ find (starts_at start) self.now.held }
+    {
+        let end = *self.ends.get(start as usize)?;
+        if start < end {
+            Some(Span { start, end })
+        } else {
+            None
+        }
+    }
+
+    /// How many pages are free, and how many are used.
+    pub fn lengths(&self) -> (u32, u32)
+        ensures used { result.1 ≡ pages_of self.now.held }
+        ensures sum { result.0 + result.1 ≡ self.now.size }
+    {
+        (self.ends.len() as u32 - self.used, self.used)
+    }
+}
