@@ -20,7 +20,7 @@
 mod times;
 
 use io_edge::{ReadFault, StdSource, read_all};
-use replay_lines::{Answer, BuddyTable, Head, Load, Table, put_answer, read_load};
+use replay_lines::{Answer, BuddyTable, Head, Load, RangeTable, Table, put_answer, read_load};
 use std::alloc::Global;
 use std::env;
 use std::process::ExitCode;
@@ -156,7 +156,7 @@ fn run(
     };
     match load.head {
         Head::Buddy(pages) => run_on(rt, alloc, &mut BuddyTable::new(alloc, pages)?, &load, out),
-        Head::Ranges(_) => Err(Fault::BadLine(1)),
+        Head::Ranges(pages) => run_on(rt, alloc, &mut RangeTable::new(alloc, pages)?, &load, out),
     }
 }
 

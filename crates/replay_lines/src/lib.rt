@@ -4,12 +4,14 @@
 mod answer;
 mod buddy_table;
 mod operation;
+mod range_table;
 #[cfg(test)]
 mod tests;
 
 pub use answer::{Answer, put_answer};
 pub use buddy_table::BuddyTable;
 pub use operation::{Head, Kind, Load, Operation, read_head, read_load, read_operation};
+pub use range_table::RangeTable;
 use ttm_base::{NoMemory, Span};
 
 /// How many IDs there are.

@@ -1,25 +1,40 @@
-use crate::{Answer, BuddyTable, Head, Kind, Load, Operation, Table, put_answer, read_load};
+use crate::{
+    Answer, BuddyTable, Head, Kind, Load, Operation, RangeTable, Table, put_answer, read_load,
+};
 use std::alloc::Global;
 use std::process::Abort;
 use std::test::Fail;
 use ttm_base::NoMemory;
 
-/// The lines that answer the operations of a list for a buddy manager.
+/// The lines that answer the operations of a list.
 fn answers(rt: &impl Abort, alloc: Global, text: &str) -> Result<String, NoMemory> {
     let mut out = String::new(alloc);
     let Some(load) = read_load(alloc, text.as_bytes())? else {
         return Ok(out);
     };
-    let Head::Buddy(pages) = load.head else {
-        return Ok(out);
-    };
     assert!(rt; load.is_whole);
-    let mut table = BuddyTable::new(alloc, pages)?;
-    for operation in load.operations.items() {
-        let answer = table.run(operation)?;
-        put_answer(alloc, &mut out, answer, table.spans(operation.id()))?;
+    match load.head {
+        Head::Buddy(pages) => {
+            put_answers(alloc, &mut BuddyTable::new(alloc, pages)?, &load, &mut out)?;
+        }
+        Head::Ranges(pages) => {
+            put_answers(alloc, &mut RangeTable::new(alloc, pages)?, &load, &mut out)?;
+        }
     }
     Ok(out)
+}
+
+fn put_answers<T: Table>(
+    alloc: Global,
+    table: &mut T,
+    load: &Load,
+    out: &mut String,
+) -> Result<(), NoMemory> {
+    for operation in load.operations.items() {
+        let answer = table.run(operation)?;
+        put_answer(alloc, out, answer, table.spans(operation.id()))?;
+    }
+    Ok(())
 }
 
 #[test]
@@ -28,6 +43,18 @@ fn buddy_splits_and_merges(rt: HostRuntime) -> Result<(), Fail> {
         "buddy 12\nalloc 1 3 0 12 - -\nfree 1\nalloc 2 4 0 12 - contig\nalloc 3 8 0 12 - contig\nalloc 4 1 0 12 - -\nfree 1\nalloc 2 1 0 12 topdown -\n";
     let out = answers(&rt, rt.alloc(), text)?;
     assert_eq!(rt; out.as_str(), "8-10,10-11\nok\n8-12\n0-8\nnone\nbad\nbad\n");
+    Ok(())
+}
+
+#[test]
+fn ranges_are_held_and_let_go(rt: HostRuntime) -> Result<(), Fail> {
+    let text =
+        "mm 12\ninsert 1 4 1 0 12 low\ninsert 2 4 1 0 12 high\nremove 1\nreserve 3 1 2\nreserve 4 1 3\ninsert 4 1 1 0 12 best\ninsert 5 6 2 0 12 best\ninsert 6 1 1 0 12 low\nremove 9\n";
+    let out = answers(&rt, rt.alloc(), text)?;
+    assert_eq!(rt;
+        out.as_str(),
+        "0-4\n8-12\nok\nok\nnone\n0-1\n2-8\nnone\nbad\n"
+    );
     Ok(())
 }
 
