@@ -1,6 +1,6 @@
 -- A bitmap and its summaries.
-use Rattle.std.proofs.Common.{◌≡◌, ℕ, zero, suc, ◌+◌, ◌/◌, ◌%◌, ◌^◌, ◌<◌, ◌≤◌, ◌≢◌, ◌==◌, Bool, true, false, not, cond, List, Option, length, map, get_or, set, replicate, position, Some, None, drop, take, ◌++◌, refl, ap, sym, subst, ◌∙◌, arith, inl, inr, ltb}
-use Rattle.std.specs.List.{position_or_len, range_with_len}
+use Rattle.std.proofs.Common.{◌≡◌, ℕ, ◌/◌, ◌^◌, ◌<◌, ◌≤◌, ◌≢◌, ◌==◌, Bool, true, false, not, cond, List, length, get_or, set, replicate, position, Some, None, drop, take, ◌++◌, refl, ap, sym, subst, ◌∙◌, arith, inl, inr, ltb}
+use Rattle.std.specs.List.{position_or_len}
 use Rattle.std.specs.Int.{div_ceil}
 use Rattle.std.proofs.lemmas.Grind.{common_steps}
 use Rattle.std.proofs.Math.ListN.{get_or-eq_default}

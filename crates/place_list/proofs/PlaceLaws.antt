@@ -3,7 +3,6 @@ use Rattle.std.proofs.Common.{◌≡◌, ℕ, zero, suc, ◌<◌, List, [], ◌�
 use Rattle.std.specs.Option.{option_map}
 use Rattle.std.proofs.lemmas.Option.{slice_get-map}
 use Rattle.ttm_base.specs.declared.FlaggedPlace.{FlaggedPlace}
-use Rattle.ttm_base.specs.declared.Place.{Place}
 
 -- there is an entry below the length
 pub none_at : (ps : List FlaggedPlace) (k : ℕ) → None ≡ slice_get ps k → k < length (map (λ p. p.place) ps) → ⊥

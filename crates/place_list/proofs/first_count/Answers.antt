@@ -1,4 +1,4 @@
-use Rattle.std.proofs.Common.{rules, tests, ◌≡◌, not, map, filter, length, sym, ◌∙◌}
+use Rattle.std.proofs.Common.{rules, tests, not, sym, ◌∙◌}
 use Rattle.std.proofs.lemmas.Iterator.{YieldsList-from_slice}
 use Rattle.std.proofs.lemmas.Iterator.Consumers.{YieldsList-at, YieldsList-from_filter, count_from_yields_List}
 use Rattle.std.proofs.lemmas.List.{length-map}

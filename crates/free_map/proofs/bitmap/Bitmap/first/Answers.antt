@@ -1,4 +1,4 @@
-use Rattle.std.proofs.Common.{◌≡◌, not, position, sym, ap, ◌∙◌, arith}
+use Rattle.std.proofs.Common.{not, position, sym, ap, ◌∙◌, arith}
 use Rattle.free_map.specs.Bits.{has_bit, held_list}
 use Rattle.free_map.proofs.BitmapLaws.{bitmap_same, first_held, none_held, lowest_within}
 use Rattle.free_map.proofs.bitmap.Bitmap.first.Goals as goal

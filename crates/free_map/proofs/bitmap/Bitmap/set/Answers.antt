@@ -1,4 +1,4 @@
-use Rattle.std.proofs.Common.{◌≡◌, ◌/◌, not, length, set, sym, ap, ◌∙◌, arith}
+use Rattle.std.proofs.Common.{◌/◌, not, length, set, ap, ◌∙◌, arith}
 use Rattle.free_map.specs.Bits.{held_list}
 use Rattle.free_map.proofs.BitmapLaws.{within_len, kept, room_at, bitmap_same, bitmap_after, set_held}
 use Rattle.free_map.proofs.bitmap.Bitmap.set.Goals as goal
