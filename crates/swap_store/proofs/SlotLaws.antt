@@ -1,12 +1,12 @@
 -- Slots, and the bytes of their pages.
-use Rattle.std.proofs.Common.{◌≡◌, ℕ, zero, suc, ◌+◌, ◌*◌, ◌<◌, ◌≤◌, ◌≢◌, Bool, true, false, not, cond, List, [], ◌∷◌, Option, Some, None, is_some, is_none, length, map, get_or, set, replicate, slice_get, position, refl, ap, sym, ◌∙◌, arith, inl, inr, ltb}
-use Rattle.std.specs.List.{prefix_len, position_or_len, range_with_len}
+use Rattle.std.proofs.Common.{◌≡◌, ℕ, suc, ◌+◌, ◌*◌, ◌<◌, ◌≤◌, ◌≢◌, Bool, true, false, not, cond, List, [], ◌∷◌, Option, Some, None, is_some, is_none, length, get_or, set, replicate, slice_get, position, refl, ap, sym, ◌∙◌, arith, inl, inr, ltb}
+use Rattle.std.specs.List.{prefix_len, position_or_len}
 use Rattle.std.proofs.Math.Nat.{mul-le-mul_left}
 use Rattle.std.proofs.Math.ListN.{get_or-eq_default}
-use Rattle.std.proofs.lemmas.Bool.{cases_eq, cases_lt, cases_Bool, cases_order}
+use Rattle.std.proofs.lemmas.Bool.{cases_eq, cases_lt, cases_order}
 use Rattle.std.proofs.lemmas.Grind.{same_number_lists}
 use Rattle.std.proofs.lemmas.List.{get_or-set_same, get_or-set_other, same_lists, length-set, length-replicate, get_or-replicate, get_or_default}
-use Rattle.std.proofs.lemmas.List.FromFn.{length-map-range_with_len, get_or-map-range_with_len, fill_by_all}
+use Rattle.std.proofs.lemmas.List.FromFn.{length-map-range_with_len, get_or-map-range_with_len}
 use Rattle.std.proofs.lemmas.List.Quantifiers.{position-Some}
 use Rattle.std.proofs.lemmas.Option.{slice_get-get_or}
 use Rattle.byte_store.specs.Parts.{part, overwritten}

@@ -1,5 +1,5 @@
 -- Swap slots: for each the bytes that were put there, where it is held.
-use Rattle.std.specs.Prelude.{ℕ, ◌*◌, Bool, true, false, List, Option, Some, None, length, map, slice_index_or, is_some, if◌then◌else◌}
+use Rattle.std.specs.Prelude.{ℕ, ◌*◌, Bool, false, List, Option, Some, None, length, map, slice_index_or, is_some, if◌then◌else◌}
 use Rattle.std.specs.List.{range_with_len}
 use Rattle.byte_store.specs.Parts.{part}
 

@@ -1,4 +1,4 @@
-use Rattle.std.proofs.Common.{◌≡◌, true, None, set, ap, ◌∙◌}
+use Rattle.std.proofs.Common.{None, set, ap, ◌∙◌}
 use Rattle.swap_store.specs.Slots.{slots_of, is_held}
 use Rattle.swap_store.proofs.SlotLaws.{held_slot, free_slot}
 use Rattle.swap_store.proofs.SwapStore.drop_slot.Goals as goal

@@ -1,4 +1,4 @@
-use Rattle.std.proofs.Common.{◌≡◌, Some, slice_get, sym, ap, ◌∙◌, arith}
+use Rattle.std.proofs.Common.{Some, slice_get, sym, ap, ◌∙◌, arith}
 use Rattle.swap_store.specs.Slots.{is_held}
 use Rattle.swap_store.proofs.SlotLaws.{held_slot, page_of_is}
 use Rattle.swap_store.proofs.SwapStore.take.Goals as goal
