@@ -1,6 +1,5 @@
 -- What a set keeps after another set was added to it is what it keeps after each of that set's jobs was added.
-use Rattle.std.proofs.Common.{◌≡◌, ℕ, zero, suc, ◌+◌, ◌<◌, max, Bool, true, false, cond, List, [], ◌∷◌, ◌++◌, length, get_or, set as put, replicate, refl, ap, ◌∙◌, sym, arith}
-use Rattle.std.proofs.lemmas.Grind.{common_steps}
+use Rattle.std.proofs.Common.{◌≡◌, ℕ, zero, suc, ◌<◌, max, Bool, true, false, cond, List, [], ◌∷◌, ◌++◌, length, set as put, replicate, refl, ap, ◌∙◌, sym, arith}
 use Rattle.std.proofs.lemmas.List.{length-replicate, length-set}
 use Rattle.std.proofs.Math.Nat.{max-zero}
 use Rattle.std.specs.Prelude.{filter}

@@ -1,5 +1,5 @@
 -- What a set needs is what is named among all jobs that were added to it.
-use Rattle.std.proofs.Common.{◌≡◌, ◌≢◌, ℕ, zero, suc, ◌+◌, ◌-◌, ◌<◌, ◌≤◌, ◌↔◌, max, Bool, true, false, cond, not, ◌&&◌, List, [], ◌∷◌, Option, Some, None, length, get_or, set, replicate, leb, eqb, refl, ap, ◌∙◌, sym, arith, get_or-set_other, get_or-set_same}
+use Rattle.std.proofs.Common.{◌≡◌, ◌≢◌, ℕ, zero, suc, ◌+◌, ◌<◌, ◌≤◌, ◌↔◌, max, Bool, true, false, cond, not, ◌&&◌, List, [], ◌∷◌, Option, Some, None, length, get_or, set, replicate, eqb, refl, ap, ◌∙◌, sym, arith}
 use Rattle.std.proofs.lemmas.Grind.{common_steps}
 use Rattle.std.proofs.lemmas.Bool.{eqb-true, le-leb}
 use Rattle.std.proofs.lemmas.List.{length-replicate}
@@ -13,7 +13,7 @@ use Rattle.fence_core.specs.declared.timeline.Progress.{Progress}
 use Rattle.fence_core.specs.declared.fence_set.Latest.{Latest}
 use Rattle.fence_core.specs.Timelines.{progress_of, is_signalled}
 use Rattle.fence_core.specs.Fences.{nothing_kept, kept_of, up_to, only, later, latest_num, latest_job, is_open, added, needed}
-use Rattle.fence_core.specs.Histories.{Fence, after_adds, set_of, AreKnown, covers, is_waited_for, waiting, is_named_before, named_first, named_job}
+use Rattle.fence_core.specs.Histories.{Fence, after_adds, set_of, AreKnown, covers, is_waited_for, waiting, named_first, named_job}
 
 -- ---- the named one of several
 

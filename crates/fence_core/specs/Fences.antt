@@ -1,5 +1,5 @@
 -- The latest job of each context and usage in a set, and which of them is waited for.
-use Rattle.std.specs.Prelude.{ℕ, ◌+◌, max, Bool, not, List, [], ◌∷◌, Option, Some, None, length, slice_index_or, slice_set, find, option_map}
+use Rattle.std.specs.Prelude.{ℕ, max, Bool, not, List, [], ◌∷◌, Option, length, slice_index_or, slice_set, find, option_map}
 use Rattle.std.specs.List.{range_with_len}
 use Rattle.ttm_base.specs.declared.JobId.{JobId}
 use Rattle.ttm_base.specs.declared.Usage.{Usage}

@@ -1,5 +1,5 @@
 -- What is true of the fields. No public clause cites this module.
-use Rattle.std.specs.Prelude.{ℕ, ◌<◌, ◌≤◌, ◌^◌, List, length, slice_index_or}
+use Rattle.std.specs.Prelude.{ℕ, ◌<◌, ◌≤◌, ◌^◌, List, length}
 use Rattle.fence_core.specs.declared.timeline.Progress.{Progress}
 use Rattle.fence_core.specs.Timelines.{progress_of}
 

@@ -1,4 +1,4 @@
-use Rattle.std.proofs.Common.{◌≡◌, ◌+◌, get_or, arith}
+use Rattle.std.proofs.Common.{◌≡◌, get_or, arith}
 use Rattle.std.proofs.lemmas.Grind.{common_steps}
 use Rattle.fence_core.specs.Fences.{nothing_kept, later, up_to}
 use Rattle.fence_core.proofs.SetLaws.{add_step}

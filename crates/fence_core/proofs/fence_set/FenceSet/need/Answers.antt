@@ -1,6 +1,5 @@
-use Rattle.std.proofs.Common.{◌≡◌, ◌<◌, true, false, length, sym, ◌∙◌, ap, arith}
-use Rattle.std.specs.Prelude.{option_map}
-use Rattle.fence_core.specs.Fences.{is_open, latest_job}
+use Rattle.std.proofs.Common.{◌≡◌, ◌<◌, true, false, length, ◌∙◌, arith}
+use Rattle.fence_core.specs.Fences.{is_open}
 use Rattle.fence_core.proofs.SetLaws.{find_here, find_on}
 use Rattle.fence_core.proofs.fence_set.FenceSet.need.Goals as goal
 

@@ -1,0 +1,90 @@
+ghost use Rattle.std.specs.Prelude.{◌≡◌, ◌+◌, ◌^◌, ◌<◌, Some, IsSome, length};
+ghost use Rattle.std.specs.Option.{option_copied};
+ghost use Rattle.ttm_base.specs.declared.Packet.{Packet as Piece};
+ghost use Rattle.copy_packet.specs.Runs.{CanRun};
+ghost use Rattle.copy_engine.specs.Pushes.{packet_of, wait_of, after_packet_of};
+ghost use Rattle.copy_engine.specs.Packets.{HasRun, shown_by};
+
+use copy_packet::{ProbeBytes, Stores, run};
+use fence_core::{FenceSet, Timeline};
+use std::marker::Model;
+use ttm_base::{JobId, Packet, Usage};
+
+/// A job in a ring.
+#[derive(Debug, Drop)]
+pub struct RingJob {
+    job: JobId,
+    waits: FenceSet,
+    packets: Vec<Packet>,
+    ran: u32,
+}
+
+impl Model for RingJob {
+    ghost use Rattle.std.specs.Prelude.{◌<◌, ◌^◌, length};
+    ghost use Rattle.copy_engine.specs.Pushes.{Pushed};
+
+    ghost Value = { Pushed };
+
+    ghost view = { λ j. record { job = j.job; waits = j.waits; packets = j.packets.items; ran = j.ran } };
+
+    ghost invariant = { λ j. length j.packets.items < 2 ^ 32 };
+}
+
+impl RingJob {
+    /// A job of which no packet has run.
+    pub fn new(job: JobId, waits: FenceSet, packets: Vec<Packet>) -> RingJob
+        requires { length packets.items < 2 ^ 32 }
+        ensures { result ≡ record { job = job; waits = waits; packets = packets.items; ran = 0 } }
+    {
+        RingJob {
+            job,
+            waits,
+            packets,
+            ran: 0,
+        }
+    }
+
+    pub fn job(&self) -> JobId
+        ensures { result ≡ self.now.job }
+    {
+        self.job
+    }
+
+    /// The job that it waits for.
+    pub fn wait(&self, line: &Timeline) -> Option<JobId>
+        requires { length self.now.waits ≡ length line.now }
+        ensures { result ≡ wait_of line.now self.now }
+    {
+        self.waits.need(Usage::Read, line)
+    }
+
+    /// Its next packet, if one is left.
+    pub fn next(&self) -> Option<&Packet>
+        ensures { option_copied result ≡ packet_of self.now }
+    {
+        self.packets.get(self.ran as usize)
+    }
+
+    /// How many of its packets have run.
+    pub fn ran(&self) -> u32
+        ensures { result ≡ self.now.ran }
+    {
+        self.ran
+    }
+
+    /// Runs its next packet, and gives its number.
+    pub fn run_next(&mut self, stores: &mut Stores, out: &mut ProbeBytes) -> u32
+        requires left { IsSome (packet_of self.old) }
+        requires can { (packet : Piece) → packet_of self.old ≡ Some packet → CanRun stores.old packet }
+        ensures number { result ≡ self.old.ran }
+        ensures ran { self.new ≡ after_packet_of self.old }
+        ensures stores { (packet : Piece) → packet_of self.old ≡ Some packet → HasRun packet stores.old stores.new }
+        ensures out { (packet : Piece) → packet_of self.old ≡ Some packet → out.new ≡ shown_by packet stores.old }
+    {
+        let number = self.ran;
+        let packet = self.packets[number as usize];
+        run(&packet, stores, out);
+        self.ran = number + 1;
+        number
+    }
+}
