@@ -1,0 +1,124 @@
+//! The time of a push and a finish in a ring of jobs.
+use crate::clock::{nanos_since, no_memory};
+use copy_engine::Rings;
+use fence_core::FenceSet;
+use std::alloc::Global;
+use std::io;
+use std::marker::Model;
+use std::rt::Clock;
+use std::time::Instant;
+use ttm_base::{JobId, NoMemory, Packet};
+
+/// How many jobs are pushed, and as many finished, between two looks at the clock.
+const PAIRS: u32 = 1000;
+
+/// How many times the clock is looked at.
+const ROUNDS: u32 = 50;
+
+/// A job that is ready to be pushed: it waits for none, and has no packet.
+#[derive(Drop)]
+struct IdleJob {
+    waits: FenceSet,
+    packets: Vec<Packet>,
+}
+
+impl Model for IdleJob {
+    ghost use Rattle.std.specs.Prelude.{◌≡◌, [], ℕ, length};
+
+    ghost Value = { ℕ };
+
+    ghost view = { λ j. length j.waits };
+
+    ghost invariant = { λ j. (length j.waits ≡ 1) × (j.packets.items ≡ []) };
+}
+
+impl IdleJob {
+    fn new(alloc: Global) -> Result<IdleJob, NoMemory> {
+        let waits = FenceSet::new(alloc, 1)?;
+        let packets = Vec::new(alloc);
+        Ok(IdleJob { waits, packets })
+    }
+}
+
+/// The ring of the only context.
+#[derive(Drop)]
+struct OneRing {
+    rings: Rings,
+}
+
+impl Model for OneRing {
+    ghost use Rattle.std.specs.Prelude.{◌≡◌, List, length};
+    ghost use Rattle.copy_engine.specs.Pushes.{Pushed, ring_of};
+
+    ghost Value = { List Pushed };
+
+    ghost view = { λ r. ring_of r.rings 0 };
+
+    ghost invariant = { λ r. length r.rings ≡ 1 };
+}
+
+impl OneRing {
+    /// A ring with so many jobs.
+    fn new(alloc: Global, jobs: u32) -> Result<OneRing, NoMemory> {
+        let rings = Rings::new(alloc, 1)?;
+        let mut ring = OneRing { rings };
+        for num in 0..jobs {
+            ring.push(num, IdleJob::new(alloc)?)?;
+        }
+        Ok(ring)
+    }
+
+    /// Puts a job last.
+    fn push(&mut self, before: u32, job: IdleJob) -> Result<(), NoMemory> {
+        let IdleJob { waits, packets } = job;
+        let num = before as u64 + 1;
+        self.rings.push(JobId { ctx: 0, num }, waits, packets)
+    }
+
+    /// Drops the first job, and names it.
+    fn finish(&mut self) -> Option<JobId> {
+        let job = self.rings.head(0)?;
+        if self.rings.next_packet(0).is_some() {
+            return None;
+        }
+        self.rings.finish(0);
+        Some(job)
+    }
+}
+
+/// So many jobs that are ready to be pushed.
+fn idle_jobs(alloc: Global, count: u32) -> Result<Vec<IdleJob>, NoMemory> {
+    let mut jobs = Vec::new(alloc);
+    for _job in 0..count {
+        jobs.push(IdleJob::new(alloc)?)?;
+    }
+    Ok(jobs)
+}
+
+/// The nanoseconds of a push and a finish with so many jobs in the ring, in the fastest round.
+pub fn pair_nanos(rt: &impl Clock, alloc: Global, jobs: u32) -> io::Result<u64> {
+    let mut ring = OneRing::new(alloc, jobs).map_err(no_memory)?;
+    let mut least = u64::MAX;
+    for _round in 0..ROUNDS {
+        let idle = idle_jobs(alloc, PAIRS).map_err(no_memory)?;
+        let start = Instant::now(rt)?;
+        for job in idle {
+            ring.push(0, job).map_err(no_memory)?;
+            ring.finish();
+        }
+        least = nanos_since(rt, start)?.min(least);
+    }
+    Ok(least / PAIRS as u64)
+}
+
+/// Whether so many jobs leave a ring in the order in which they came.
+pub fn is_in_order(alloc: Global, jobs: u32) -> Result<bool, NoMemory> {
+    let mut ring = OneRing::new(alloc, jobs)?;
+    for before in 0..jobs {
+        let num = before as u64 + 1;
+        if ring.finish() != Some(JobId { ctx: 0, num }) {
+            return Ok(false);
+        }
+    }
+    Ok(ring.finish().is_none())
+}
