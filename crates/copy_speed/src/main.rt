@@ -19,17 +19,24 @@ use std::rt::{Clock, Env};
 use std::time::Instant;
 use std::{env, io};
 
-/// How many rounds each way makes, in turn with the others.
-const ROUNDS: u32 = 200;
+/// How many times each way has its turn.
+const TURNS: u32 = 20;
+
+/// How many rounds it makes in a turn.
+const ROUNDS: u32 = 20;
 
 /// How many jobs the measured rings have.
 const RINGS: [u32; 3] = [100, 1000, 10000];
 
-/// The nanoseconds of a round.
-fn round_nanos(rt: &impl Clock, pages: &mut Pages, way: Way) -> io::Result<u64> {
-    let start = Instant::now(rt)?;
-    pages.round(way);
-    nanos_since(rt, start)
+/// The nanoseconds of the fastest of some rounds in a row: the first bring the bytes into the caches.
+fn least_nanos(rt: &impl Clock, pages: &mut Pages, way: Way) -> io::Result<u64> {
+    let mut least = u64::MAX;
+    for _round in 0..ROUNDS {
+        let start = Instant::now(rt)?;
+        pages.round(way);
+        least = nanos_since(rt, start)?.min(least);
+    }
+    Ok(least)
 }
 
 /// Prints the speed of a way, compared with the plain way's fastest round.
@@ -43,9 +50,9 @@ fn print_speed(rt: &impl Print, way: Way, nanos: u64, plain: u64) -> io::Result<
 /// Prints how fast each way is in its fastest round.
 fn print_speeds(rt: &(impl Print + Clock), pages: &mut Pages) -> io::Result<()> {
     let mut least = [u64::MAX; WAYS.len()];
-    for _round in 0..ROUNDS {
+    for _turn in 0..TURNS {
         for (way, least) in WAYS.iter().zip(least.iter_mut()) {
-            *least = round_nanos(rt, pages, *way)?.min(*least);
+            *least = least_nanos(rt, pages, *way)?.min(*least);
         }
     }
     let mut plain = 0;
