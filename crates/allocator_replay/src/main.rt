@@ -10,17 +10,20 @@
 //!     remove ID
 //!
 //! Each operation is answered by a line: its spans (`8-10,10-11`), `none` where there is no choice for it, or `ok`. The first
-//! line that can't be read or done ends the program with `bad line N` and status 2. With the argument `--time` there is in
-//! place of the answers a line `KIND CALLS NANOSECONDS_PER_CALL` for each kind that occurs.
-//!
-//! What a line says and what an operation does is proved in `replay_lines`. That the whole output is the answers in
-//! order isn't proved: the program's output is compared.
+//! line that can't be read or done ends the program with `bad line N` and status 3. With the argument `--time` there is in
+//! place of the answers a line `KIND CALLS NANOSECONDS_PER_CALL` for each kind that occurs. The other statuses are 2 for
+//! other words, 4 and 5 where reading or writing fails, 6 for want of memory, and 7 where there is no clock.
 #![tactic(auto)]
+
+ghost use Rattle.std.specs.Prelude.{◌≡◌, ◌≢◌, ◌++◌, Err, string_bytes};
+ghost use Rattle.replay_lines.specs.Answers.{first_bad, answer_lines};
+ghost use Rattle.allocator_replay.specs.declared.Fault.TheVariants as fault;
+ghost use Rattle.allocator_replay.specs.Endings as endings;
 
 mod times;
 
 use io_edge::{ReadFault, StdSource, read_all};
-use replay_lines::{Answer, BuddyTable, Head, Load, RangeTable, Table, put_answer, read_load};
+use replay_lines::{BuddyTable, Head, Load, RangeTable, Table, answer_all, read_load};
 use std::alloc::Global;
 use std::env;
 use std::process::ExitCode;
@@ -44,6 +47,10 @@ enum Fault {
 }
 
 impl From<NoMemory> for Fault {
+    ghost use Rattle.allocator_replay.specs.declared.Fault.TheVariants as fault;
+
+    ghost from_gives = { λ _ e. e ≡ fault.NoMemory };
+
     fn from(_: NoMemory) -> Fault {
         Fault::NoMemory
     }
@@ -60,10 +67,12 @@ impl From<ReadFault> for Fault {
 
 impl Fault {
     /// The exit status of the process.
-    fn code(self) -> u8 {
+    fn code(self) -> u8
+        ensures { result ≡ endings.code_of self }
+    {
         match self {
-            Fault::Usage => 1,
-            Fault::BadLine(_) => 2,
+            Fault::Usage => 2,
+            Fault::BadLine(_) => 3,
             Fault::Read => 4,
             Fault::NoMemory => 6,
             Fault::Clock => 7,
@@ -87,7 +96,9 @@ fn is_timed(rt: &(impl Env + Alloc)) -> Result<bool, Fault> {
 }
 
 /// The number of an operation's line.
-fn line_of(index: usize) -> usize {
+fn line_of(index: usize) -> usize
+    ensures { result ≡ endings.line_of index }
+{
     index.saturating_add(2)
 }
 
@@ -97,18 +108,14 @@ fn answer<T: Table>(
     table: &mut T,
     load: &Load,
     out: &mut String,
-) -> Result<(), Fault> {
-    for (i, operation) in load.operations.items().iter().enumerate() {
-        let answer = table.run(operation)?;
-        if answer == Answer::Bad {
-            return Err(Fault::BadLine(line_of(i)));
-        }
-        put_answer(alloc, out, answer, table.spans(operation.id()))?;
-    }
-    if load.is_whole {
-        Ok(())
-    } else {
-        Err(Fault::BadLine(line_of(load.operations.len())))
+) -> Result<(), Fault>
+    ensures ending { result ≢ Err fault.NoMemory → result ≡ endings.ending (first_bad T.answer T.after table.old load.now.operations) load.now }
+    ensures text { result ≢ Err fault.NoMemory → string_bytes out.new ≡ string_bytes out.old ++ answer_lines T.answer T.after T.held table.old load.now.operations }
+{
+    match answer_all(alloc, table, load.operations.items(), out)? {
+        Some(index) => Err(Fault::BadLine(line_of(index))),
+        None if load.is_whole => Ok(()),
+        None => Err(Fault::BadLine(line_of(load.operations.len()))),
     }
 }
 

@@ -1,4 +1,7 @@
 //! How long the calls of each kind take.
+ghost use Rattle.std.specs.Prelude.{◌≡◌, ◌≢◌, ◌++◌, OnOk, string_bytes};
+ghost use Rattle.replay_lines.specs.declared.operation.Kind.{Kind};
+ghost use Rattle.allocator_replay.specs.Totals.{added, total_of, total_line, times_lines};
 
 use crate::{Fault, line_of};
 use replay_lines::{Answer, Kind, Operation, Table};
@@ -17,13 +20,17 @@ struct Total {
 impl Total {
     const NONE: Total = Total { calls: 0, nanos: 0 };
 
-    fn add(&mut self, calls: usize, nanos: u128) {
+    fn add(&mut self, calls: usize, nanos: u128)
+        ensures { self.new ≡ added self.old calls nanos }
+    {
         self.calls = self.calls.saturating_add(calls as u64);
         self.nanos = self.nanos.saturating_add(nanos);
     }
 
     /// Puts a line with the calls and the nanoseconds of one, where there were calls.
-    fn put(&self, alloc: Global, name: &str, out: &mut String) -> Result<(), NoMemory> {
+    fn put(&self, alloc: Global, name: &str, out: &mut String) -> Result<(), NoMemory>
+        ensures { OnOk result (string_bytes out.new ≡ string_bytes out.old ++ total_line name.now self.now) }
+    {
         let calls = self.calls;
         if calls == 0 {
             return Ok(());
@@ -56,7 +63,10 @@ impl Times {
         }
     }
 
-    fn add(&mut self, kind: Kind, calls: usize, nanos: u128) {
+    fn add(&mut self, kind: Kind, calls: usize, nanos: u128)
+        ensures this { total_of kind self.new ≡ added (total_of kind self.old) calls nanos }
+        ensures others { (k : Kind) → k ≢ kind → total_of k self.new ≡ total_of k self.old }
+    {
         match kind {
             Kind::Alloc => self.alloc.add(calls, nanos),
             Kind::Free => self.free.add(calls, nanos),
@@ -67,7 +77,9 @@ impl Times {
     }
 
     /// Puts a line for each kind that occurred behind a text.
-    pub fn put(&self, alloc: Global, out: &mut String) -> Result<(), NoMemory> {
+    pub fn put(&self, alloc: Global, out: &mut String) -> Result<(), NoMemory>
+        ensures { OnOk result (string_bytes out.new ≡ string_bytes out.old ++ times_lines self.now) }
+    {
         self.alloc.put(alloc, "alloc", out)?;
         self.free.put(alloc, "free", out)?;
         self.insert.put(alloc, "insert", out)?;

@@ -1,6 +1,6 @@
 ghost use Rattle.std.specs.Prelude.{◌≡◌, ℕ, ◌<◌, ◌≤◌, [], IfOk, OnOk, OnErr, replicate, unwrap_or};
 ghost use Rattle.buddy_manager.specs.Held.{all_held};
-ghost use Rattle.replay_lines.specs.Tables.{spans_at, blocks_for, answer_for, with_choice, alloc_answer, alloc_memory, alloc_blocks, after_alloc, can_free, free_answer, free_memory, free_blocks, after_free, is_request, buddy_answer, after_buddy};
+ghost use Rattle.replay_lines.specs.Tables.{spans_at, blocks_for, answer_for, with_choice, alloc_answer, alloc_memory, alloc_blocks, after_alloc, can_free, free_answer, free_memory, free_blocks, after_free, is_request};
 
 use crate::{Answer, IDS, Operation, Table};
 use buddy_manager::{AllocFault, BuddyFlags, BuddyManager};
@@ -160,11 +160,15 @@ impl BuddyTable {
 }
 
 impl Table for BuddyTable {
-    fn run(&mut self, operation: &Operation) -> Result<Answer, NoMemory>
-        ensures answer { IfOk result (λ answer. answer ≡ buddy_answer self.old operation.now) }
-        ensures after { OnOk result (self.new ≡ after_buddy self.old operation.now) }
-        ensures same { OnErr result (self.new ≡ self.old) }
-    {
+    ghost use Rattle.replay_lines.specs.Tables.{spans_at, buddy_answer, after_buddy};
+
+    ghost answer = { buddy_answer };
+
+    ghost after = { after_buddy };
+
+    ghost held = { λ table id. spans_at table.spans id };
+
+    fn run(&mut self, operation: &Operation) -> Result<Answer, NoMemory> {
         match *operation {
             Operation::Alloc {
                 id,
@@ -188,9 +192,7 @@ impl Table for BuddyTable {
         }
     }
 
-    fn spans(&self, id: u32) -> &[Span]
-        ensures { result.now ≡ spans_at self.now.spans id }
-    {
+    fn spans(&self, id: u32) -> &[Span] {
         match self.spans.get(id as usize) {
             Some(spans) => spans.items(),
             None => &[],

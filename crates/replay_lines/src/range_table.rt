@@ -1,5 +1,5 @@
 ghost use Rattle.std.specs.Prelude.{◌≡◌, ℕ, ◌<◌, ◌≤◌, [], None, IfOk, OnOk, OnErr, replicate};
-ghost use Rattle.replay_lines.specs.RangeTables.{span_at, listed_span, pages_for, chosen_answer, chosen_memory, insert_answer, insert_memory, insert_span, after_insert, all_open, reserved, reserve_answer, reserve_memory, reserve_span, after_reserve, begins, remove_answer, remove_memory, remove_span, after_remove, is_insertion, range_answer, after_range};
+ghost use Rattle.replay_lines.specs.RangeTables.{span_at, listed_span, pages_for, chosen_answer, chosen_memory, insert_answer, insert_memory, insert_span, after_insert, all_open, reserved, reserve_answer, reserve_memory, reserve_span, after_reserve, begins, remove_answer, remove_memory, remove_span, after_remove, is_insertion};
 
 use crate::{Answer, IDS, Operation, Table};
 use range_manager::{InsertFault, RangeManager};
@@ -218,11 +218,15 @@ impl RangeTable {
 }
 
 impl Table for RangeTable {
-    fn run(&mut self, operation: &Operation) -> Result<Answer, NoMemory>
-        ensures answer { IfOk result (λ answer. answer ≡ range_answer self.old operation.now) }
-        ensures after { OnOk result (self.new ≡ after_range self.old operation.now) }
-        ensures same { OnErr result (self.new ≡ self.old) }
-    {
+    ghost use Rattle.replay_lines.specs.RangeTables.{span_at, listed_span, range_answer, after_range};
+
+    ghost answer = { range_answer };
+
+    ghost after = { after_range };
+
+    ghost held = { λ table id. listed_span (span_at table.spans id) };
+
+    fn run(&mut self, operation: &Operation) -> Result<Answer, NoMemory> {
         match *operation {
             Operation::Insert {
                 id,
@@ -256,9 +260,7 @@ impl Table for RangeTable {
         }
     }
 
-    fn spans(&self, id: u32) -> &[Span]
-        ensures { result.now ≡ listed_span (span_at self.now.spans id) }
-    {
+    fn spans(&self, id: u32) -> &[Span] {
         match self.spans.get(id as usize) {
             Some(Some(span)) => slice::from_ref(span),
             _ => &[],

@@ -23,11 +23,7 @@ impl SpanManager for BuddyManager {
     ghost most = { 65535 };
 
     fn with_pages(alloc: Global, pages: u32) -> Result<BuddyManager, NoMemory> {
-        if pages < 65_536 {
-            BuddyManager::new(alloc, pages)
-        } else {
-            Err(NoMemory)
-        }
+        BuddyManager::new(alloc, pages)
     }
 
     fn take(
