@@ -11,7 +11,7 @@ use Rattle.journal_model.specs.Ready.{has_some_target}
 use Rattle.journal_model.specs.ScriptRules.{is_script}
 use Rattle.journal_model.specs.Legal.{World, first_world, world_after, world_along, state_of, IsLegalFrom, IsLegal}
 use Rattle.journal_law.proofs.Shown.{legal_step}
-use Rattle.search_measure_law.proofs.Victims.{Caught}
+use Rattle.page_measure_law.proofs.Victims.{Caught}
 use Rattle.end_law.proofs.Lasting.{Steady, steady_keeps, steady_first}
 use Rattle.answer_law.specs.AtWork.{IsHeld, AreFew}
 

@@ -48,7 +48,7 @@ use Rattle.sound_law.proofs.Steadies.{next_course, locking_command}
 use Rattle.sound_law.proofs.Owners.{none_or}
 use Rattle.sound_law.proofs.Grips.{live_set, victim_free, swap_free}
 use Rattle.sound_law.proofs.OwnedKeeps.{bare, unlocked}
-use Rattle.measure_law.proofs.Frame.{untouched}
+use Rattle.measure_part_law.proofs.Frame.{untouched}
 use Rattle.measure_law.proofs.Giving.{changed_here}
 use Rattle.measure_law.proofs.Border.{Known}
 use Rattle.measure_law.proofs.Parts.{after}

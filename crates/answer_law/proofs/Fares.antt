@@ -29,7 +29,7 @@ use Rattle.progress_law.specs.Sound.{command_of}
 use Rattle.sound_law.proofs.Along.{Stepped, OfWorker, packet, done, reap, of_worker, stepped_of, first_course}
 use Rattle.sound_law.proofs.Bufs.{none_missing, clash}
 use Rattle.sound_law.proofs.Steadies.{own_course}
-use Rattle.measure_law.proofs.Locks.{few_threads}
+use Rattle.measure_part_law.proofs.Locks.{few_threads}
 use Rattle.measure_law.proofs.Border.{Known, one, others_same}
 use Rattle.measure_law.proofs.Parts.{after}
 use Rattle.search_measure_law.proofs.Ways.{way_of_last}

@@ -44,7 +44,7 @@ use Rattle.sound_law.proofs.Gifts.{Gives, Sought, Filled, answers, makes, exists
 use Rattle.sound_law.proofs.Bufs.{same_self, none_found, clash}
 use Rattle.measure_law.proofs.Parts.{after}
 use Rattle.carry_measure_law.proofs.Takes.{taken, taken_body}
-use Rattle.search_measure_law.proofs.Victims.{Caught, found_last}
+use Rattle.page_measure_law.proofs.Victims.{Caught, found_last}
 use Rattle.way_law.proofs.Spanless.{first_live}
 use Rattle.way_law.proofs.Targets.{LastWay}
 

@@ -32,8 +32,8 @@ use Rattle.sound_law.proofs.Turns.{Works, OnBuffer}
 use Rattle.sound_law.proofs.Bufs.{has_found, none_last, none_missing}
 use Rattle.sound_law.proofs.Steadies.{next_course, own_course}
 use Rattle.sound_law.proofs.OwnedKeeps.{has_stamp, begun_locks}
-use Rattle.measure_law.proofs.Frame.{left_of, untouched}
-use Rattle.measure_law.proofs.Slots.{Fewer, no_debts}
+use Rattle.measure_part_law.proofs.Frame.{left_of, untouched}
+use Rattle.measure_part_law.proofs.Slots.{Fewer, no_debts}
 use Rattle.measure_law.proofs.Giving.{vram_left, changed_here}
 use Rattle.measure_law.proofs.Border.{Known, shared}
 use Rattle.measure_law.proofs.Skipping.{search_was}

@@ -28,9 +28,9 @@ use Rattle.sound_law.proofs.Along.{Stepped}
 use Rattle.sound_law.proofs.Bufs.{same_self, same_is}
 use Rattle.sound_law.proofs.Steadies.{next_course}
 use Rattle.sound_law.proofs.Owners.{OneCourse}
-use Rattle.measure_law.proofs.Frame.{left_of, left_is, others_left}
-use Rattle.measure_law.proofs.Slots.{Fewer, debts_keep}
-use Rattle.measure_law.proofs.Sums.{sum_one}
+use Rattle.measure_part_law.proofs.Frame.{left_of, left_is, others_left}
+use Rattle.measure_part_law.proofs.Slots.{Fewer, debts_keep}
+use Rattle.measure_part_law.proofs.Sums.{sum_one}
 use Rattle.measure_law.proofs.Giving.{enumerate_falls, live_at, get_below}
 use Rattle.measure_law.proofs.Border.{Known, shared}
 use Rattle.measure_law.proofs.Parts.{after, parts_fall}

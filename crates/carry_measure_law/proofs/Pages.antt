@@ -26,8 +26,8 @@ use Rattle.journal_model.specs.Ready.{has_all_frames}
 use Rattle.journal_model.specs.ApplyPages.{bound, unbound}
 use Rattle.journal_model.specs.ApplyMoves.{with_job, copy_of_page, move_packets, table_left, moved, ghosts_left, ghost_of_moved}
 use Rattle.progress_law.proofs.Measure.{is_slot, slots_to_fill, page_left, left_of_buffer, job_left}
-use Rattle.measure_law.proofs.Slots.{OneFewer, Fewer}
-use Rattle.measure_law.proofs.Sums.{sum_pushed, fewer_kept}
+use Rattle.measure_part_law.proofs.Slots.{OneFewer, Fewer}
+use Rattle.measure_part_law.proofs.Sums.{sum_pushed, fewer_kept}
 
 -- ---- costs
 

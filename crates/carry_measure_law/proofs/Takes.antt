@@ -42,10 +42,10 @@ use Rattle.sound_law.proofs.Turns.{Works, OnVictim, InVram}
 use Rattle.sound_law.proofs.Gifts.{PlaceOf, first, forced}
 use Rattle.sound_law.proofs.Bufs.{last_caught}
 use Rattle.sound_law.proofs.Steadies.{next_course, own_course}
-use Rattle.measure_law.proofs.Frame.{left_of, untouched}
-use Rattle.measure_law.proofs.Working.{pick_most, carries_most}
-use Rattle.measure_law.proofs.Slots.{OneFewer, Fewer, no_debts}
-use Rattle.measure_law.proofs.Sums.{fewer_kept}
+use Rattle.measure_part_law.proofs.Frame.{left_of, untouched}
+use Rattle.measure_part_law.proofs.Working.{pick_most, carries_most}
+use Rattle.measure_part_law.proofs.Slots.{OneFewer, Fewer, no_debts}
+use Rattle.measure_part_law.proofs.Sums.{fewer_kept}
 use Rattle.measure_law.proofs.Giving.{changed_here}
 use Rattle.measure_law.proofs.Border.{Known, shared}
 use Rattle.measure_law.proofs.Skipping.{wide_falls, search_was}

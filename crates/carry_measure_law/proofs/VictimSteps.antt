@@ -36,8 +36,8 @@ use Rattle.sound_law.proofs.Turns.{Works, OnVictim, InVram}
 use Rattle.sound_law.proofs.Bufs.{same_is, other_is, last_caught, none_missing, clash}
 use Rattle.sound_law.proofs.Steadies.{next_course, own_course}
 use Rattle.sound_law.proofs.OwnedKeeps.{has_stamp, begun_locks}
-use Rattle.measure_law.proofs.Frame.{left_of, untouched}
-use Rattle.measure_law.proofs.Slots.{Fewer, slot_stays, debt_most}
+use Rattle.measure_part_law.proofs.Frame.{left_of, untouched}
+use Rattle.measure_part_law.proofs.Slots.{Fewer, slot_stays, debt_most}
 use Rattle.measure_law.proofs.Giving.{vram_left, changed_here, frames_given, frames_rise, target_given, some_frame, depopulated_fewer, untaken_fewer}
 use Rattle.measure_law.proofs.Border.{Known, shared}
 use Rattle.measure_law.proofs.Skipping.{search_was}

@@ -29,7 +29,7 @@ use Rattle.sound_law.proofs.Along.{Stepped, stepped_of, first_course, OfWorker, 
 use Rattle.sound_law.proofs.Steadies.{own_course}
 use Rattle.sound_law.proofs.Bufs.{none_missing}
 use Rattle.sound_law.proofs.Grips.{one_course}
-use Rattle.measure_law.proofs.Frame.{others_buffer}
+use Rattle.measure_part_law.proofs.Frame.{others_buffer}
 use Rattle.trail_law.proofs.Windows.{quiet_others, others_window, others_command, Trail}
 use Rattle.trail_law.proofs.Tasks.{seeking_same, places_of}
 use Rattle.trail_law.proofs.Stages.{Stage, calm, pressed, spent, frameless, Alike}

@@ -37,10 +37,10 @@ use Rattle.progress_law.proofs.Measure.{measure}
 use Rattle.sound_law.proofs.Along.{Stepped, OfWorker, of_worker, stepped_of, sound_keeps, sound_first}
 use Rattle.sound_law.proofs.Gifts.{Gives, Sought, Filled, answers, makes, exists, shifts, draws, no_buffer, reserves, backs, seeks, binds, unbinds, moves, fills, lets_go, empties, depopulates, untakes, skips, gives_up, refuses, arms, frees, swaps, no_swap, acts, finds, evicts, dries, fresh, again, back, evicts_for_swap, nothing}
 use Rattle.sound_law.proofs.Bufs.{same_self, clash}
-use Rattle.measure_law.proofs.Locks.{few_threads}
+use Rattle.measure_part_law.proofs.Locks.{few_threads}
 use Rattle.measure_law.proofs.Border.{Known}
 use Rattle.measure_law.proofs.Falls.{is_searching, entry_falls}
-use Rattle.search_measure_law.proofs.Victims.{Caught, nobody, single, pair, last_is, last_of_two}
+use Rattle.page_measure_law.proofs.Victims.{Caught, nobody, single, pair, last_is, last_of_two}
 use Rattle.search_measure_law.proofs.Ways.{GoodVictims, way_of_last}
 use Rattle.search_keep_law.proofs.VictimsKeep.{victims_keep, victims_stay, victims_first}
 use Rattle.search_keep_law.proofs.Listed.{Listed, listed_keeps, listed_stays, listed_first, swaps_below}

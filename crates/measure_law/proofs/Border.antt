@@ -39,11 +39,11 @@ use Rattle.sound_law.proofs.Bufs.{none_last}
 use Rattle.sound_law.proofs.Steadies.{next_course, own_course}
 use Rattle.sound_law.proofs.Owners.{OneCourse}
 use Rattle.sound_law.proofs.Grips.{one_course}
-use Rattle.measure_law.proofs.Locks.{locks_most}
-use Rattle.measure_law.proofs.Frame.{left_of, left_is, others_left, others_buffer}
-use Rattle.measure_law.proofs.Working.{phase, phase_is, working_most, command_least, working_least}
-use Rattle.measure_law.proofs.Slots.{Fewer, same_all, gone_fewer, debts_keep, no_debts}
-use Rattle.measure_law.proofs.Sums.{sum_one, sum_set_most, uses_left, uses_fewer, pages_of_new, decl_most, drop_at, length-packets, sum_pushed}
+use Rattle.measure_part_law.proofs.Locks.{locks_most}
+use Rattle.measure_part_law.proofs.Frame.{left_of, left_is, others_left, others_buffer}
+use Rattle.measure_part_law.proofs.Working.{phase, phase_is, working_most, command_least, working_least}
+use Rattle.measure_part_law.proofs.Slots.{Fewer, same_all, gone_fewer, debts_keep, no_debts}
+use Rattle.measure_part_law.proofs.Sums.{sum_one, sum_set_most, uses_left, uses_fewer, pages_of_new, decl_most, drop_at, length-packets, sum_pushed}
 
 -- what is known of a state and of its script
 pub record Known (script : Script) (s : State) : Type 0 where

@@ -41,7 +41,7 @@ use Rattle.sound_law.proofs.Gifts.{Gives, answers, makes, exists, shifts, draws,
 use Rattle.sound_law.proofs.Bufs.{victims_of, same_self, has_found, none_missing, none_last, last_caught}
 use Rattle.sound_law.proofs.Steadies.{locking_command, lock_wants, locks_alone}
 use Rattle.sound_law.proofs.OwnedKeeps.{HasIn, bare, unlocked, unlocked_alone, has_stamp, begun_locks}
-use Rattle.measure_law.proofs.Slots.{OneFewer, Fewer, same_one, same_all}
+use Rattle.measure_part_law.proofs.Slots.{OneFewer, Fewer, same_one, same_all}
 use Rattle.measure_law.proofs.Border.{Known, next_falls, new_falls, bulk_falls, ticket_falls, free_falls, arm_falls}
 use Rattle.measure_law.proofs.Skipping.{skip_falls}
 use Rattle.measure_law.proofs.Giving.{target_there, depopulate_falls, untake_falls}

@@ -39,10 +39,10 @@ use Rattle.sound_law.proofs.Turns.{Works}
 use Rattle.sound_law.proofs.Bufs.{same_self, same_is, same_or_other, other_is, none_missing}
 use Rattle.sound_law.proofs.Steadies.{next_course, own_course}
 use Rattle.sound_law.proofs.Owners.{OneCourse}
-use Rattle.measure_law.proofs.Frame.{left_of, left_is, others_left, untouched}
-use Rattle.measure_law.proofs.Working.{phase, phase_is}
-use Rattle.measure_law.proofs.Slots.{OneFewer, Fewer, debts_keep, no_debts}
-use Rattle.measure_law.proofs.Sums.{sum_one, fewer_kept}
+use Rattle.measure_part_law.proofs.Frame.{left_of, left_is, others_left, untouched}
+use Rattle.measure_part_law.proofs.Working.{phase, phase_is}
+use Rattle.measure_part_law.proofs.Slots.{OneFewer, Fewer, debts_keep, no_debts}
+use Rattle.measure_part_law.proofs.Sums.{sum_one, fewer_kept}
 use Rattle.measure_law.proofs.Border.{Known, shared, range, one, others_same, own_is, own_now}
 
 -- ---- one buffer

@@ -32,11 +32,11 @@ use Rattle.sound_law.proofs.Bufs.{same_self, same_is, same_or_other, has_pushed,
 use Rattle.sound_law.proofs.Steadies.{next_course, own_course}
 use Rattle.sound_law.proofs.Owners.{OneCourse, none_or}
 use Rattle.sound_law.proofs.Grips.{grip_other, released_other}
-use Rattle.measure_law.proofs.Locks.{digit, Each, Among, missing_most, locks_fall, backoff_lowers}
-use Rattle.measure_law.proofs.Frame.{left_of, left_is, others_left, others_buffer}
-use Rattle.measure_law.proofs.Working.{phase, phase_is, working_most}
-use Rattle.measure_law.proofs.Slots.{Fewer, same_all, debts_keep, no_debts}
-use Rattle.measure_law.proofs.Sums.{sum_one}
+use Rattle.measure_part_law.proofs.Locks.{digit, Each, Among, missing_most, locks_fall, backoff_lowers}
+use Rattle.measure_part_law.proofs.Frame.{left_of, left_is, others_left, others_buffer}
+use Rattle.measure_part_law.proofs.Working.{phase, phase_is, working_most}
+use Rattle.measure_part_law.proofs.Slots.{Fewer, same_all, debts_keep, no_debts}
+use Rattle.measure_part_law.proofs.Sums.{sum_one}
 use Rattle.measure_law.proofs.Border.{Known, shared, range, one, others_same, own_is, own_was, own_now}
 
 -- ---- what is missing

@@ -19,7 +19,7 @@ use Rattle.journal_model.specs.Scheduled.{ticketed, packets_in, turn_limit, sche
 use Rattle.progress_law.proofs.DeadEnds.{command_is}
 use Rattle.progress_law.proofs.OthersSame.{sum_same}
 use Rattle.progress_law.proofs.Measure.{all_pages, packet_count, whole_command, command_left, later_commands, thread_left, slot_debts, left_of_buffer, missing, binary, by_age, may_lock, locks_left, measure, missing_of, waits_for_elder}
-use Rattle.measure_law.proofs.Slots.{no_debts}
+use Rattle.measure_part_law.proofs.Slots.{no_debts}
 use Rattle.sound_law.proofs.Along.{first_course, sound_first}
 
 -- ---- sums and products

@@ -19,12 +19,12 @@ use Rattle.progress_law.proofs.Measure.{is_elder, number_of, waits_for_elder, mi
 use Rattle.sound_law.proofs.Along.{Stepped}
 use Rattle.sound_law.proofs.Steadies.{next_course, own_course}
 use Rattle.sound_law.proofs.Owners.{OneCourse}
-use Rattle.measure_law.proofs.Locks.{digit, locks_keep}
+use Rattle.measure_part_law.proofs.Locks.{digit, locks_keep}
 use Rattle.measure_law.proofs.Locking.{Waits, waits_of, waits_from, missing_in, missing_is, stamps_same, missing_other, missing_own}
-use Rattle.measure_law.proofs.Frame.{left_of, left_is, others_left}
-use Rattle.measure_law.proofs.Working.{phase_is}
-use Rattle.measure_law.proofs.Slots.{Fewer, debts_keep}
-use Rattle.measure_law.proofs.Sums.{sum_one}
+use Rattle.measure_part_law.proofs.Frame.{left_of, left_is, others_left}
+use Rattle.measure_part_law.proofs.Working.{phase_is}
+use Rattle.measure_part_law.proofs.Slots.{Fewer, debts_keep}
+use Rattle.measure_part_law.proofs.Sums.{sum_one}
 use Rattle.measure_law.proofs.Border.{Known, shared, range, one, others_same, own_is, own_now}
 
 -- the state after an entry of a thread

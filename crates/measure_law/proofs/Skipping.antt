@@ -35,11 +35,11 @@ use Rattle.sound_law.proofs.Turns.{Works, OnVictim, InVram}
 use Rattle.sound_law.proofs.Bufs.{same_self, same_is, same_or_other, let_go, has_more, has_new}
 use Rattle.sound_law.proofs.Steadies.{next_course, own_course}
 use Rattle.sound_law.proofs.Owners.{OneCourse}
-use Rattle.measure_law.proofs.Locks.{locks_most}
-use Rattle.measure_law.proofs.Frame.{left_of, left_is, others_left}
-use Rattle.measure_law.proofs.Working.{phase, phase_is}
-use Rattle.measure_law.proofs.Slots.{Fewer, same_all, debts_keep}
-use Rattle.measure_law.proofs.Sums.{sum_one}
+use Rattle.measure_part_law.proofs.Locks.{locks_most}
+use Rattle.measure_part_law.proofs.Frame.{left_of, left_is, others_left}
+use Rattle.measure_part_law.proofs.Working.{phase, phase_is}
+use Rattle.measure_part_law.proofs.Slots.{Fewer, same_all, debts_keep}
+use Rattle.measure_part_law.proofs.Sums.{sum_one}
 use Rattle.measure_law.proofs.Border.{Known, shared, range, one, others_same, own_is, own_was, own_now}
 
 -- ---- victims let go

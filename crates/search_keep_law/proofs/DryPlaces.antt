@@ -40,7 +40,7 @@ use Rattle.sound_law.proofs.Bufs.{same_self, other_is, has_found, none_missing, 
 use Rattle.sound_law.proofs.Steadies.{next_course, own_course}
 use Rattle.sound_law.proofs.Owners.{none_or}
 use Rattle.sound_law.proofs.Grips.{IsFree, victim_free, swap_free}
-use Rattle.measure_law.proofs.Frame.{touches, untouched}
+use Rattle.measure_part_law.proofs.Frame.{touches, untouched}
 use Rattle.measure_law.proofs.Border.{Known, one, others_same}
 use Rattle.measure_law.proofs.Parts.{after}
 use Rattle.search_measure_law.proofs.Searches.{real_place}

@@ -50,11 +50,11 @@ use Rattle.sound_law.proofs.Steadies.{next_course, own_course, locking_command, 
 use Rattle.sound_law.proofs.Owners.{none_or}
 use Rattle.sound_law.proofs.Grips.{IsFree, victim_free, swap_free, victim_passes, swap_passes}
 use Rattle.sound_law.proofs.OwnedKeeps.{bare, unlocked_alone}
-use Rattle.measure_law.proofs.Frame.{untouched}
+use Rattle.measure_part_law.proofs.Frame.{untouched}
 use Rattle.measure_law.proofs.Giving.{changed_here, target_there}
 use Rattle.measure_law.proofs.Border.{Known, one, others_same}
 use Rattle.measure_law.proofs.Parts.{after}
-use Rattle.search_measure_law.proofs.Victims.{Caught, single, pair, Last, alone_for_vram, failed_alone}
+use Rattle.page_measure_law.proofs.Victims.{Caught, single, pair, Last, alone_for_vram, failed_alone}
 use Rattle.search_measure_law.proofs.Ways.{Ways, Unskipped, GoodVictims, way_of_last, way_alike, way_failed, ways_same, ways_last, few_let_go, ways_let_go, unskipped_let_go, ways_pushed, unskipped_pushed, none_good}
 use Rattle.search_measure_law.proofs.Catching.{Prey, for_swap, evicted, hop}
 use Rattle.search_keep_law.proofs.WaySteps.{way_untaken, way_unbound, way_moved, way_taken, hop_takes, way_caught}

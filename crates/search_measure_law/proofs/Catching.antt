@@ -40,14 +40,14 @@ use Rattle.sound_law.proofs.Owners.{none_or}
 use Rattle.sound_law.proofs.Grips.{grip_other, victim_passes}
 use Rattle.sound_law.proofs.OwnedKeeps.{HasIn}
 use Rattle.sound_law.proofs.Steadies.{own_course}
-use Rattle.measure_law.proofs.Frame.{same_left, untouched}
-use Rattle.measure_law.proofs.Slots.{OneFewer, Fewer, slot_stays, debts_from}
-use Rattle.measure_law.proofs.Sums.{sum_kept, fewer_kept, sum_pushed}
+use Rattle.measure_part_law.proofs.Frame.{same_left, untouched}
+use Rattle.measure_part_law.proofs.Slots.{OneFewer, Fewer, slot_stays, debts_from}
+use Rattle.measure_part_law.proofs.Sums.{sum_kept, fewer_kept, sum_pushed}
 use Rattle.measure_law.proofs.Giving.{changed_here}
 use Rattle.measure_law.proofs.Skipping.{search_was}
 use Rattle.measure_law.proofs.Border.{Known}
 use Rattle.measure_law.proofs.Parts.{after, parts_fall, locks_stay}
-use Rattle.search_measure_law.proofs.Victims.{last_pushed}
+use Rattle.page_measure_law.proofs.Victims.{last_pushed}
 
 -- ---- what is caught
 

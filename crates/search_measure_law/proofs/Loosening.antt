@@ -27,12 +27,12 @@ use Rattle.sound_law.proofs.Along.{Stepped}
 use Rattle.sound_law.proofs.Turns.{OnVictim, Emptied, for_tt, for_swap, left_vram}
 use Rattle.sound_law.proofs.Bufs.{let_go}
 use Rattle.sound_law.proofs.Steadies.{own_course}
-use Rattle.measure_law.proofs.Locks.{locks_most}
-use Rattle.measure_law.proofs.Slots.{same_all}
+use Rattle.measure_part_law.proofs.Locks.{locks_most}
+use Rattle.measure_part_law.proofs.Slots.{same_all}
 use Rattle.measure_law.proofs.Skipping.{let_go_falls, room_most, search_was}
 use Rattle.measure_law.proofs.Border.{Known}
 use Rattle.measure_law.proofs.Parts.{after, parts_fall}
-use Rattle.search_measure_law.proofs.Victims.{Caught, found_last, still_failed}
+use Rattle.page_measure_law.proofs.Victims.{Caught, found_last, still_failed}
 
 -- a victim that was caught for swap, and is let go, has no frame, or finds no slot
 kept_in : (script : Script) (s : State) (b : BufId) → step_of_swap_out script s b (Ok (kind.Loose b)) (Ok (kind.Loose b)) ≡ Ok (kind.Loose b) → (has_frame (buffer s b) && is_some (free_slot script s.core)) ≡ false

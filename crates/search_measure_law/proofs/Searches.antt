@@ -58,12 +58,12 @@ use Rattle.sound_law.proofs.Grips.{IsFree, victim_free, swap_free, swap_passes}
 use Rattle.sound_law.proofs.OwnedKeeps.{has_stamp, begun_locks}
 use Rattle.measure_law.proofs.Border.{Known}
 use Rattle.measure_law.proofs.Parts.{after, locks_stay}
-use Rattle.search_measure_law.proofs.Victims.{Caught, alone_for_vram, found_last}
+use Rattle.page_measure_law.proofs.Victims.{Caught, alone_for_vram, found_last}
 use Rattle.search_measure_law.proofs.Ways.{GoodVictims, way_of_last, unskipped_last, emptied_fine, swap_stands}
-use Rattle.search_measure_law.proofs.Tables.{is_swap_out, to_fill}
-use Rattle.search_measure_law.proofs.Failing.{fail_falls, dry_falls, victim_fail_falls}
+use Rattle.page_measure_law.proofs.Tables.{is_swap_out, to_fill}
+use Rattle.page_measure_law.proofs.Failing.{fail_falls, dry_falls, victim_fail_falls}
 use Rattle.search_measure_law.proofs.Loosening.{loose_falls}
-use Rattle.search_measure_law.proofs.Paging.{Filler, for_named, for_victim, by_name, by_victim, populate_falls, swap_in_falls, swap_out_falls}
+use Rattle.page_measure_law.proofs.Paging.{Filler, for_named, for_victim, by_name, by_victim, populate_falls, swap_in_falls, swap_out_falls}
 use Rattle.search_measure_law.proofs.Catching.{Prey, for_swap, evicted, hop, hops, catch_falls}
 
 -- ---- few places

@@ -16,7 +16,7 @@ use Rattle.journal_model.specs.State.{buffer, same_buffer, has_buffer, has_targe
 use Rattle.progress_law.specs.Sound.{Targeted, OnItsWay, in_vram, to_tt, out_of_vram, in_tt, in_system}
 use Rattle.sound_law.proofs.Turns.{Emptied, for_tt, for_swap, left_vram}
 use Rattle.sound_law.proofs.Bufs.{same_self, same_is, victims_of, let_go}
-use Rattle.search_measure_law.proofs.Victims.{Caught, nobody, single, pair, Last, last_is, last_of_two}
+use Rattle.page_measure_law.proofs.Victims.{Caught, nobody, single, pair, Last, last_is, last_of_two}
 
 -- each victim on its way
 abbrev pub Ways : (BufId → Buffer) → List Victim → Type 0

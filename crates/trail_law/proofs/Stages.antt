@@ -46,7 +46,7 @@ use Rattle.sound_law.proofs.Steadies.{next_course}
 use Rattle.sound_law.proofs.Bufs.{same_self, same_is, other_is, has_found, none_missing, none_last, last_caught, victims_of, let_go, clash}
 use Rattle.sound_law.proofs.Owners.{none_or}
 use Rattle.sound_law.proofs.Grips.{IsFree}
-use Rattle.measure_law.proofs.Frame.{touches, untouched}
+use Rattle.measure_part_law.proofs.Frame.{touches, untouched}
 use Rattle.trail_law.proofs.Found.{Found, takes, catches, dries, no_first}
 use Rattle.trail_law.proofs.Windows.{ends, tells, Quiet, quiet_cut, quiet_elsewhere, quiet_kept, more_window, more_command, any_more, Trail, on_list, trail_by_victim, trail_by_dry, trail_more, trail_dry, trail_goes_on}
 use Rattle.trail_law.proofs.Tasks.{places_of, quest_places, quest_forced, quest_dry, Seeking, seeking_same, is_aside, Aside, on_it, one_more}

@@ -40,7 +40,7 @@ use Rattle.sound_law.proofs.Steadies.{next_course, own_course}
 use Rattle.sound_law.proofs.Owners.{OneCourse, none_or}
 use Rattle.sound_law.proofs.Grips.{grip_other}
 use Rattle.sound_law.proofs.OwnedKeeps.{HasIn}
-use Rattle.measure_law.proofs.Frame.{touches, untouched, touched_mine}
+use Rattle.measure_part_law.proofs.Frame.{touches, untouched, touched_mine}
 use Rattle.measure_law.proofs.Parts.{after}
 use Rattle.carry_measure_law.proofs.Rows.{carried_map}
 

@@ -48,7 +48,7 @@ use Rattle.sound_law.proofs.Owners.{none_or}
 use Rattle.sound_law.proofs.Grips.{IsFree, grip_other, grip_here, grip_gone, released_other, pins_hold, live_set, live_within, victim_free, swap_free, one_course}
 use Rattle.sound_law.proofs.OwnedKeeps.{HasIn, unlocked, at_search, at_fill, has_stamp, begun_locks}
 use Rattle.sound_law.proofs.Steadies.{next_course, own_course}
-use Rattle.measure_law.proofs.Frame.{touches, untouched, turn_has}
+use Rattle.measure_part_law.proofs.Frame.{touches, untouched, turn_has}
 use Rattle.measure_law.proofs.Border.{Known}
 use Rattle.measure_law.proofs.Parts.{after}
 use Rattle.carry_measure_law.proofs.Rows.{some_is}

@@ -31,14 +31,14 @@ use Rattle.sound_law.proofs.Along.{Stepped}
 use Rattle.sound_law.proofs.Turns.{Works, OnVictim, InVram}
 use Rattle.sound_law.proofs.Bufs.{same_self}
 use Rattle.sound_law.proofs.Steadies.{next_course, own_course}
-use Rattle.measure_law.proofs.Frame.{left_of}
-use Rattle.measure_law.proofs.Working.{times_left, give_most}
-use Rattle.measure_law.proofs.Slots.{Fewer, same_all, no_debts}
+use Rattle.measure_part_law.proofs.Frame.{left_of}
+use Rattle.measure_part_law.proofs.Working.{times_left, give_most}
+use Rattle.measure_part_law.proofs.Slots.{Fewer, same_all, no_debts}
 use Rattle.measure_law.proofs.Giving.{live_at, get_below, enumerate_falls}
 use Rattle.measure_law.proofs.Skipping.{wide_falls, search_was}
 use Rattle.measure_law.proofs.Border.{Known, shared}
 use Rattle.measure_law.proofs.Parts.{after, parts_fall, locks_stay, failed_was}
-use Rattle.search_measure_law.proofs.Victims.{Caught, alone_for_vram, failed_alone}
+use Rattle.page_measure_law.proofs.Victims.{Caught, alone_for_vram, failed_alone}
 
 -- ---- pages
 

@@ -25,7 +25,7 @@ use Rattle.journal_model.specs.Ready.{is_in_place, has_some_target}
 use Rattle.journal_model.specs.Tasks.{first_missing}
 use Rattle.state_law.specs.GoodState.{GoodState, HasPages}
 use Rattle.progress_law.proofs.Measure.{one_if, all_pages, packet_count, frame_count, target_count, to_give_back, carries_left, steps_left, is_slot, slots_to_fill, named_left, victim_left, has_failed, not_skipped, room_for_victims, if_named, search_share, search_left, held_left, whole_command, locking_left, command_left}
-use Rattle.measure_law.proofs.Locks.{count_most}
+use Rattle.measure_part_law.proofs.Locks.{count_most}
 
 -- ---- one buffer
 

@@ -38,16 +38,16 @@ use Rattle.sound_law.proofs.Along.{Stepped}
 use Rattle.sound_law.proofs.Turns.{Works, OnVictim}
 use Rattle.sound_law.proofs.Bufs.{same_self, same_is, last_caught, none_missing}
 use Rattle.sound_law.proofs.Steadies.{next_course, own_course}
-use Rattle.measure_law.proofs.Frame.{left_of, left_is, others_left, untouched}
-use Rattle.measure_law.proofs.Slots.{Fewer, no_debts}
-use Rattle.measure_law.proofs.Sums.{sum_one, fewer_kept}
+use Rattle.measure_part_law.proofs.Frame.{left_of, left_is, others_left, untouched}
+use Rattle.measure_part_law.proofs.Slots.{Fewer, no_debts}
+use Rattle.measure_part_law.proofs.Sums.{sum_one, fewer_kept}
 use Rattle.measure_law.proofs.Giving.{live_at, changed_here, enumerate_falls}
 use Rattle.measure_law.proofs.Skipping.{search_was}
 use Rattle.measure_law.proofs.Border.{Known, shared, range, one, others_same, own_is}
 use Rattle.measure_law.proofs.Parts.{after, parts_fall}
-use Rattle.search_measure_law.proofs.Victims.{Caught, Last, nobody, single, pair, last_is, last_of_two}
-use Rattle.search_measure_law.proofs.Failing.{declared_live}
-use Rattle.search_measure_law.proofs.Tables.{Passing, to_fill, first_frame, is_swap_out, slots_fall, slots_keep, named_same, system_set, vram_set, slots_set, frame_fewer}
+use Rattle.page_measure_law.proofs.Victims.{Caught, Last, nobody, single, pair, last_is, last_of_two}
+use Rattle.page_measure_law.proofs.Failing.{declared_live}
+use Rattle.page_measure_law.proofs.Tables.{Passing, to_fill, first_frame, is_swap_out, slots_fall, slots_keep, named_same, system_set, vram_set, slots_set, frame_fewer}
 
 -- ---- victims
 

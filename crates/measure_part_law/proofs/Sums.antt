@@ -18,7 +18,7 @@ use Rattle.journal_model.specs.Waits.{use_of}
 use Rattle.journal_model.specs.ApplyPages.{with_fence}
 use Rattle.journal_model.specs.ApplyJobs.{with_use}
 use Rattle.progress_law.proofs.Measure.{all_pages, page_left, left_of_buffer}
-use Rattle.measure_law.proofs.Slots.{OneFewer, Fewer, same_one, same_all, through_all}
+use Rattle.measure_part_law.proofs.Slots.{OneFewer, Fewer, same_one, same_all, through_all}
 
 -- ---- over numbers
 

@@ -22,7 +22,7 @@ use Rattle.journal_model.specs.ApplyPages.{with_page}
 use Rattle.progress_law.proofs.Measure.{carries_left, steps_left, is_slot, slots_to_fill, page_left, left_of_buffer}
 use Rattle.progress_law.proofs.MeasureFalls.{sum_set}
 use Rattle.measure_law.proofs.Giving.{vram_left}
-use Rattle.measure_law.proofs.Slots.{OneFewer}
+use Rattle.measure_part_law.proofs.Slots.{OneFewer}
 
 -- ---- the first page that passes
 

@@ -1,0 +1,4 @@
+pub mod Victims
+pub mod Failing
+pub mod Tables
+pub mod Paging
