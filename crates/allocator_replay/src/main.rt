@@ -119,6 +119,28 @@ fn answer<T: Table>(
     }
 }
 
+/// Does all operations of a list on a new manager, and puts their answers behind a text.
+fn answer_load(alloc: Global, load: &Load, out: &mut String) -> Result<(), Fault>
+    ensures ending { result ≢ Err fault.NoMemory → result ≡ endings.ending_of_load load.now }
+    ensures text { result ≢ Err fault.NoMemory → string_bytes out.new ≡ string_bytes out.old ++ endings.lines_of load.now }
+{
+    match load.head {
+        Head::Buddy(pages) => answer(alloc, &mut BuddyTable::new(alloc, pages)?, load, out),
+        Head::Ranges(pages) => answer(alloc, &mut RangeTable::new(alloc, pages)?, load, out),
+    }
+}
+
+/// Puts the answers to the list of a text behind another text.
+fn answers(alloc: Global, text: &[u8], out: &mut String) -> Result<(), Fault>
+    ensures ending { result ≢ Err fault.NoMemory → result ≡ endings.ending_of text.now }
+    ensures text { result ≢ Err fault.NoMemory → string_bytes out.new ≡ string_bytes out.old ++ endings.answers_of text.now }
+{
+    let Some(load) = read_load(alloc, text)? else {
+        return Err(Fault::BadLine(1));
+    };
+    answer_load(alloc, &load, out)
+}
+
 /// Does all operations, and puts how long they took behind a text.
 fn put_times<T: Table>(
     clock: &impl Clock,
@@ -136,18 +158,35 @@ fn put_times<T: Table>(
     Ok(())
 }
 
-/// Runs a list on a manager.
-fn run_on<T: Table>(
-    rt: &(impl Env + Alloc + Clock),
+/// Puts how long the operations of a text's list took behind another text.
+fn all_times(
+    clock: &impl Clock,
     alloc: Global,
-    table: &mut T,
-    load: &Load,
+    text: &[u8],
     out: &mut String,
 ) -> Result<(), Fault> {
-    if is_timed(rt)? {
-        put_times(rt, alloc, table, load, out)
-    } else {
-        answer(alloc, table, load, out)
+    let Some(load) = read_load(alloc, text)? else {
+        return Err(Fault::BadLine(1));
+    };
+    match load.head {
+        Head::Buddy(pages) => {
+            put_times(
+                clock,
+                alloc,
+                &mut BuddyTable::new(alloc, pages)?,
+                &load,
+                out,
+            )
+        }
+        Head::Ranges(pages) => {
+            put_times(
+                clock,
+                alloc,
+                &mut RangeTable::new(alloc, pages)?,
+                &load,
+                out,
+            )
+        }
     }
 }
 
@@ -158,12 +197,10 @@ fn run(
     text: &[u8],
     out: &mut String,
 ) -> Result<(), Fault> {
-    let Some(load) = read_load(alloc, text)? else {
-        return Err(Fault::BadLine(1));
-    };
-    match load.head {
-        Head::Buddy(pages) => run_on(rt, alloc, &mut BuddyTable::new(alloc, pages)?, &load, out),
-        Head::Ranges(pages) => run_on(rt, alloc, &mut RangeTable::new(alloc, pages)?, &load, out),
+    if is_timed(rt)? {
+        all_times(rt, alloc, text, out)
+    } else {
+        answers(alloc, text, out)
     }
 }
 

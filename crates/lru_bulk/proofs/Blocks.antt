@@ -1,13 +1,11 @@
 -- Members that stand side by side, where one joins or leaves, or others do.
-use Rattle.std.proofs.Common.{◌≡◌, ◌≢◌, ◌⊎◌, ℕ, zero, suc, ◌+◌, Bool, true, false, List, [], ◌∷◌, ◌++◌, length, cond, Option, Some, None, refl, sym, ap, subst, ◌∙◌, inl, inr, arith, filter}
-use Rattle.std.specs.Prelude.{not}
-use Rattle.std.proofs.lemmas.Grind.{common_steps}
-use Rattle.std.proofs.lemmas.List.{append-nil, append_assoc}
+use Rattle.std.proofs.Common.{◌≡◌, Bool, true, false, List, [], ◌∷◌, ◌++◌, cond, Option, refl, sym, ap, subst, ◌∙◌, filter}
+use Rattle.std.proofs.lemmas.List.{append_assoc}
 use Rattle.std.proofs.lemmas.List.Elements.{filter-append}
 use Rattle.ttm_base.specs.declared.BufId.{BufId}
 use Rattle.lru_bulk.specs.declared.rings.Range.{Range}
 use Rattle.lru_bulk.specs.Rings.{Each}
-use Rattle.lru_bulk.specs.Sound.{IsBlock, range_of, last_from}
+use Rattle.lru_bulk.specs.Sound.{IsBlock}
 use Rattle.lru_bulk.proofs.Paths.{each_map, each_append, each_left, each_right}
 
 pub false_not_true : {P : Type 0} → (x : Bool) → x ≡ true → x ≡ false → P

@@ -1,7 +1,6 @@
 -- Members of groups, and where the ranges of groups stand.
-use Rattle.std.proofs.Common.{◌≡◌, ◌≢◌, ℕ, zero, suc, ◌+◌, ◌*◌, ◌<◌, Bool, true, false, List, [], ◌∷◌, ◌++◌, length, get_or, set, map, Option, Some, None, refl, sym, ap, subst, ◌∙◌, arith, filter}
-use Rattle.std.specs.Prelude.{not, ◌==◌}
-use Rattle.std.specs.List.{list_any}
+use Rattle.std.proofs.Common.{◌≡◌, ◌≢◌, ℕ, zero, suc, ◌+◌, ◌*◌, ◌<◌, Bool, true, false, List, [], ◌∷◌, ◌++◌, length, set, Option, Some, None, refl, sym, ap, ◌∙◌, arith}
+use Rattle.std.specs.Prelude.{◌==◌}
 use Rattle.std.proofs.lemmas.Bool.Decides.{nat_tests}
 use Rattle.std.proofs.lemmas.List.{length-set, get_or-set_same, get_or-set_other}
 use Rattle.ttm_base.specs.declared.Mem.{Mem}
@@ -9,9 +8,8 @@ use Rattle.ttm_base.specs.declared.Mem.TheVariants.{System, Tt, Vram}
 use Rattle.ttm_base.specs.declared.BufId.{BufId}
 use Rattle.lru_bulk.specs.declared.nodes.Listing.{Listing}
 use Rattle.lru_bulk.specs.declared.rings.Range.{Range}
-use Rattle.lru_bulk.specs.Rings.{Each}
 use Rattle.lru_bulk.specs.Lists.{list_at, list_number, number_of, listing_in, group_in, same_group, is_member, is_mate, without_buffer, taken_off}
-use Rattle.lru_bulk.specs.Sound.{has, range_at, ranges_left, ranges_joined, narrowed_in, widened, IsAt}
+use Rattle.lru_bulk.specs.Sound.{has, range_at, ranges_left, ranges_joined, narrowed_in, widened}
 use Rattle.lru_bulk.proofs.OwnBlock.{Unlike}
 
 -- there are twelve lists

@@ -1,12 +1,10 @@
 -- After a buffer has joined its list the links and the ranges show the lists with it in its place.
-use Rattle.std.proofs.Common.{◌≡◌, ◌≢◌, ◌⊎◌, ℕ, ◌+◌, ◌*◌, ◌<◌, Bool, true, false, ◌||◌, List, [], ◌∷◌, ◌++◌, length, get_or, set, map, Option, Some, None, refl, sym, ap, subst, ◌∙◌, inl, inr, arith}
+use Rattle.std.proofs.Common.{◌≡◌, ◌≢◌, ℕ, ◌+◌, ◌*◌, ◌<◌, Bool, true, false, ◌||◌, List, [], ◌∷◌, ◌++◌, length, set, map, Option, Some, None, refl, sym, ap, subst, ◌∙◌, inl, inr, arith}
 use Rattle.std.specs.Prelude.{◌==◌}
-use Rattle.std.specs.List.{list_any}
 use Rattle.std.proofs.lemmas.Bool.{cases_eq}
 use Rattle.std.proofs.lemmas.Bool.Decides.{nat_tests}
 use Rattle.std.proofs.lemmas.List.{length-set, map-append}
 use Rattle.std.proofs.lemmas.List.Folds.{list_any-append}
-use Rattle.std.proofs.lemmas.Grind.{common_steps}
 use Rattle.ttm_base.specs.declared.BufId.{BufId}
 use Rattle.lru_bulk.specs.declared.nodes.Listing.{Listing}
 use Rattle.lru_bulk.specs.declared.nodes.Spot.{Spot}
@@ -14,14 +12,14 @@ use Rattle.lru_bulk.specs.declared.nodes.Spot.TheVariants.{End, Of}
 use Rattle.lru_bulk.specs.declared.rings.Range.{Range}
 use Rattle.lru_bulk.specs.declared.rings.Rings.{Rings}
 use Rattle.lru_bulk.specs.Rings.{Each, Path}
-use Rattle.lru_bulk.specs.Relinks.{IsSpot, SameRest, Tied}
-use Rattle.lru_bulk.specs.Lists.{IsGroup, list_at, listing_in, number_of, group_in, is_member, is_mate, placed_in, put_on}
+use Rattle.lru_bulk.specs.Relinks.{SameRest, Tied}
+use Rattle.lru_bulk.specs.Lists.{IsGroup, list_at, listing_in, number_of, is_member, is_mate, placed_in, put_on}
 use Rattle.lru_bulk.specs.Sound.{next_at, prev_at, listings_of, spot_before, has, range_at, range_for, ranges_joined, widened, IsBlock, IsAt, IsSound}
 use Rattle.lru_bulk.proofs.Paths.{each_map, each_append, each_left, each_right, NotIn, Distinct, path_split, at_source, source_leads}
 use Rattle.lru_bulk.proofs.RingMoves.{Between, between_from_ties, ring_and_last, ring_behind}
 use Rattle.lru_bulk.proofs.Walks.{ring_distinct}
 use Rattle.lru_bulk.proofs.Blocks.{block_append, block_behind}
-use Rattle.lru_bulk.proofs.OwnBlock.{placed_last, block_joined_last, JoinedLast, block_joined_behind, JoinedBehind}
+use Rattle.lru_bulk.proofs.OwnBlock.{placed_last, block_joined_last, block_joined_behind, JoinedBehind}
 use Rattle.lru_bulk.proofs.GroupLaws.{number_below, group_is, member_of_own, member_of_other, member_of_none, member_of_one, mates_are, no_mates, range_set_same, range_set_group, joined_other_list, length-ranges_joined}
 use Rattle.lru_bulk.proofs.Neighbors.{map_cut, at_target}
 use Rattle.lru_bulk.proofs.SoundLaws.{AtSpot, ring_at, spots_apart, out_apart, other_ring, list_same, list_other}

@@ -1,5 +1,5 @@
 -- After a buffer has left its list the links and the ranges show the lists without it.
-use Rattle.std.proofs.Common.{◌≡◌, ◌≢◌, ◌⊎◌, ℕ, ◌+◌, ◌*◌, ◌<◌, Bool, true, false, List, [], ◌∷◌, ◌++◌, length, get_or, set, map, filter, Option, Some, None, refl, sym, ap, subst, ◌∙◌, inl, inr, arith}
+use Rattle.std.proofs.Common.{◌≡◌, ◌≢◌, ℕ, ◌+◌, ◌*◌, ◌<◌, Bool, true, false, List, [], ◌∷◌, ◌++◌, length, map, Option, Some, None, refl, sym, ap, subst, ◌∙◌, inl, inr, arith}
 use Rattle.std.specs.Prelude.{not, ◌==◌}
 use Rattle.std.proofs.lemmas.Bool.{cases_eq}
 use Rattle.std.proofs.lemmas.List.{length-map, map-append}
@@ -13,7 +13,7 @@ use Rattle.lru_bulk.specs.Rings.{Each, Path}
 use Rattle.lru_bulk.specs.Relinks.{SameRest, Tied}
 use Rattle.lru_bulk.specs.Lists.{IsGroup, list_at, listing_in, number_of, group_in, is_member, without_buffer, taken_off}
 use Rattle.lru_bulk.specs.Sound.{next_at, prev_at, listings_of, buffer_of, first_from, last_from, has, range_at, ranges_left, narrowed, narrowed_in, IsBlock, IsAt, IsSound}
-use Rattle.lru_bulk.proofs.Paths.{each_map, each_append, each_left, each_right, NotIn, Distinct, path_split, at_source}
+use Rattle.lru_bulk.proofs.Paths.{each_map, each_append, each_left, each_right, Distinct, path_split, at_source}
 use Rattle.lru_bulk.proofs.RingMoves.{ring_without}
 use Rattle.lru_bulk.proofs.Walks.{ring_distinct}
 use Rattle.lru_bulk.proofs.Blocks.{block_filter, false_not_true}

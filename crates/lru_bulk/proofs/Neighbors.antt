@@ -1,5 +1,5 @@
 -- The neighbors of a spot in a ring, as buffers and as spots.
-use Rattle.std.proofs.Common.{◌≡◌, ◌≢◌, ℕ, Bool, true, false, List, [], ◌∷◌, ◌++◌, map, Option, Some, None, refl, sym, ap, subst, ◌∙◌}
+use Rattle.std.proofs.Common.{◌≡◌, ◌≢◌, ℕ, false, List, [], ◌∷◌, ◌++◌, map, Option, Some, sym, ap, subst, ◌∙◌}
 use Rattle.std.specs.Prelude.{◌==◌}
 use Rattle.std.proofs.lemmas.List.{map-append}
 use Rattle.ttm_base.specs.declared.BufId.{BufId}
@@ -9,8 +9,8 @@ use Rattle.lru_bulk.specs.declared.nodes.Spot.TheVariants.{End, Of}
 use Rattle.lru_bulk.specs.Rings.{Each, Path}
 use Rattle.lru_bulk.specs.Lists.{number_of, listing_in}
 use Rattle.lru_bulk.specs.Sound.{buffer_of, first_from, last_from, IsAt}
-use Rattle.lru_bulk.proofs.Paths.{NotIn, Distinct, Apart, distinct_apart, distinct_right, each_map}
-use Rattle.lru_bulk.proofs.GroupLaws.{unlike_id, not_same_id}
+use Rattle.lru_bulk.proofs.Paths.{NotIn, Distinct, Apart, distinct_apart, distinct_right}
+use Rattle.lru_bulk.proofs.GroupLaws.{unlike_id}
 use Rattle.lru_bulk.proofs.OwnBlock.{Unlike}
 
 pub map_cut : (x : List BufId) (b : BufId) (y : List BufId) → map Of (x ++ b ∷ y) ≡ map Of x ++ Of b ∷ map Of y

@@ -1,5 +1,5 @@
 -- A change of the node of a buffer that stands on no list leaves the lists as they are.
-use Rattle.std.proofs.Common.{◌≡◌, ◌≢◌, ◌⊎◌, ℕ, ◌+◌, ◌*◌, ◌<◌, Bool, true, false, List, [], ◌∷◌, ◌++◌, length, get_or, set, map, Option, Some, None, refl, sym, ap, subst, ◌∙◌, inl, inr, arith}
+use Rattle.std.proofs.Common.{◌≡◌, ◌≢◌, ℕ, ◌<◌, List, length, set, map, Option, Some, None, refl, sym, ap, ◌∙◌, inl, inr, arith}
 use Rattle.std.specs.Prelude.{option_and_then}
 use Rattle.std.proofs.lemmas.Bool.{cases_eq}
 use Rattle.std.proofs.lemmas.List.{length-map, get_or-set_same, get_or-set_other}
@@ -9,9 +9,8 @@ use Rattle.lru_bulk.specs.declared.nodes.Node.{Node}
 use Rattle.lru_bulk.specs.declared.nodes.Spot.{Spot}
 use Rattle.lru_bulk.specs.declared.nodes.Spot.TheVariants.{End, Of}
 use Rattle.lru_bulk.specs.declared.rings.Rings.{Rings}
-use Rattle.lru_bulk.specs.Rings.{Each, Path}
-use Rattle.lru_bulk.specs.Lists.{IsGroup, list_at, listing_in, number_of, group_in, same_group, is_member}
-use Rattle.lru_bulk.specs.Sound.{next_at, prev_at, links_at, node_links, listings_of, has, range_at, IsBlock, IsAt, IsSound}
+use Rattle.lru_bulk.specs.Lists.{IsGroup, list_at, listing_in, same_group, is_member}
+use Rattle.lru_bulk.specs.Sound.{next_at, prev_at, links_at, node_links, listings_of, range_at, IsAt, IsSound}
 use Rattle.lru_bulk.proofs.Paths.{each_map}
 use Rattle.lru_bulk.proofs.Blocks.{block_agree}
 use Rattle.lru_bulk.proofs.ListingLaws.{listing_in_node, listings_set}

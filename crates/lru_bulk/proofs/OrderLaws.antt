@@ -1,8 +1,8 @@
 -- The order after several steps, and what stands first, behind another and side by side.
-use Rattle.std.proofs.Common.{◌≡◌, ◌≢◌, ℕ, zero, suc, ◌+◌, ◌*◌, ◌<◌, Bool, true, false, List, [], ◌∷◌, ◌++◌, length, get_or, set, map, filter, replicate, Option, Some, None, IsSome, refl, sym, ap, subst, ◌∙◌, arith}
-use Rattle.std.specs.Prelude.{slice_get, ◌==◌, option_map}
+use Rattle.std.proofs.Common.{◌≡◌, ℕ, zero, suc, ◌+◌, ◌*◌, ◌<◌, true, List, [], ◌∷◌, ◌++◌, length, get_or, set, map, replicate, Option, Some, None, IsSome, refl, sym, ap, subst, ◌∙◌, arith}
+use Rattle.std.specs.Prelude.{slice_get, ◌==◌}
 use Rattle.std.proofs.lemmas.Bool.Decides.{nat_tests}
-use Rattle.std.proofs.lemmas.List.{length-map, length-replicate, set-set, get_or-set_same, get_or_past}
+use Rattle.std.proofs.lemmas.List.{length-replicate, set-set, get_or-set_same, get_or_past}
 use Rattle.ttm_base.specs.declared.BufId.{BufId}
 use Rattle.ttm_base.specs.declared.Mem.{Mem}
 use Rattle.lru_bulk.specs.declared.nodes.Listing.{Listing}
@@ -14,8 +14,8 @@ use Rattle.lru_bulk.specs.declared.rings.Range.{Range}
 use Rattle.lru_bulk.specs.declared.rings.Rings.{Rings}
 use Rattle.lru_bulk.specs.Rings.{Each, Path}
 use Rattle.lru_bulk.specs.Lists.{Order, StandTogether, list_at, list_of, list_as, listing_in, listing_of, number_of, is_member, taken_off, put_on, added, removed, touched, touched_as, relisted, relisted_as, bulk_moved, members_last, behind, nothing_listed}
-use Rattle.lru_bulk.specs.Sound.{next_at, prev_at, listings_of, lists_of, order_of, buffer_in, loose, range_at, AreClosed, IsAt, IsBlock, IsSound, IsWhole}
-use Rattle.lru_bulk.proofs.ListingLaws.{listing_in_node, listings_at}
+use Rattle.lru_bulk.specs.Sound.{next_at, prev_at, listings_of, lists_of, order_of, buffer_in, range_at, AreClosed, IsAt, IsBlock, IsSound, IsWhole}
+use Rattle.lru_bulk.proofs.ListingLaws.{listing_in_node}
 use Rattle.lru_bulk.proofs.Blocks.{filter_all, filter_none}
 use Rattle.lru_bulk.proofs.OwnBlock.{Unlike}
 use Rattle.lru_bulk.proofs.Paths.{path_split}

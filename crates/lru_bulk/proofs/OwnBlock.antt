@@ -1,18 +1,17 @@
 -- The range of a group where one of its members joins or leaves, or all go to the end.
-use Rattle.std.proofs.Common.{◌≡◌, ◌≢◌, ℕ, zero, suc, ◌+◌, Bool, true, false, List, [], ◌∷◌, ◌++◌, length, cond, Option, Some, None, refl, sym, ap, subst, ◌∙◌, arith, filter, take, drop}
-use Rattle.std.specs.Prelude.{not, ◌==◌, insert, unwrap_or, if◌then◌else◌}
-use Rattle.std.proofs.lemmas.Grind.{common_steps}
+use Rattle.std.proofs.Common.{◌≡◌, ℕ, ◌+◌, Bool, true, false, List, [], ◌∷◌, ◌++◌, length, Option, Some, None, refl, sym, ap, subst, ◌∙◌, arith, filter}
+use Rattle.std.specs.Prelude.{not, ◌==◌, insert, unwrap_or}
 use Rattle.std.proofs.lemmas.Bool.Decides.{nat_tests}
-use Rattle.std.proofs.lemmas.List.{append-nil, append_assoc, take_at, drop_at, length-append}
+use Rattle.std.proofs.lemmas.List.{append-nil, append_assoc, take_at, drop_at}
 use Rattle.std.proofs.lemmas.List.Edits.{insert_end}
 use Rattle.std.proofs.lemmas.List.Elements.{filter-append}
 use Rattle.ttm_base.specs.declared.BufId.{BufId}
 use Rattle.lru_bulk.specs.declared.rings.Range.{Range}
 use Rattle.lru_bulk.specs.Rings.{Each}
-use Rattle.lru_bulk.specs.Lists.{placed_in, behind_last, one_further, without_buffer, members_last}
+use Rattle.lru_bulk.specs.Lists.{placed_in, behind_last, one_further, members_last}
 use Rattle.lru_bulk.specs.Sound.{IsBlock, range_of, last_from, first_from, narrowed, widened}
 use Rattle.lru_bulk.proofs.Paths.{each_map, each_append, each_left, each_right}
-use Rattle.lru_bulk.proofs.Blocks.{Found, locate, filter_all, filter_none}
+use Rattle.lru_bulk.proofs.Blocks.{locate, filter_all, filter_none}
 
 -- none of them is b
 abbrev pub Unlike : BufId → List BufId → Type 0

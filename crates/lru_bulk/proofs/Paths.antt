@@ -1,6 +1,5 @@
 -- Chains of links, cut, joined and led elsewhere.
-use Rattle.std.proofs.Common.{◌≡◌, ◌≢◌, List, [], ◌∷◌, ◌++◌, refl, sym, ap, subst, ◌∙◌}
-use Rattle.std.proofs.lemmas.List.{append-nil}
+use Rattle.std.proofs.Common.{◌≡◌, ◌≢◌, List, [], ◌∷◌, ◌++◌, sym, ap, subst, ◌∙◌}
 use Rattle.lru_bulk.specs.Rings.{Each, Path}
 
 -- what holds of all, or follows at each element

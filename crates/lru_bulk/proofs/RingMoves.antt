@@ -1,9 +1,9 @@
 -- What becomes of a ring where a spot leaves it, joins it, or a range of it goes to its end.
-use Rattle.std.proofs.Common.{◌≡◌, ◌≢◌, List, [], ◌∷◌, ◌++◌, refl, sym, ap, subst, ◌∙◌}
+use Rattle.std.proofs.Common.{◌≡◌, ◌≢◌, List, [], ◌∷◌, ◌++◌, sym, ap, ◌∙◌}
 use Rattle.std.proofs.lemmas.List.{append-nil}
-use Rattle.lru_bulk.specs.Rings.{Each, Path}
+use Rattle.lru_bulk.specs.Rings.{Path}
 use Rattle.lru_bulk.specs.Relinks.{Tied}
-use Rattle.lru_bulk.proofs.Paths.{each_of_all, each_map, each_two, each_append, each_left, each_right, NotIn, Distinct, Apart, distinct_left, distinct_right, distinct_apart, path_split, path_join, at_source, source_leads, retarget, frame}
+use Rattle.lru_bulk.proofs.Paths.{each_of_all, each_map, each_two, each_append, each_left, each_right, NotIn, Distinct, distinct_left, distinct_right, distinct_apart, path_split, path_join, at_source, retarget, frame}
 
 module _ {S : Type 0} where
   -- b stands between u and v, and all other links are kept

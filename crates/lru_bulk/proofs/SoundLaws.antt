@@ -1,7 +1,6 @@
 -- What stands on one list stands on no other, and a change of one list leaves the others.
-use Rattle.std.proofs.Common.{◌≡◌, ◌≢◌, ◌⊎◌, ℕ, zero, suc, ◌+◌, ◌*◌, ◌<◌, Bool, true, false, List, [], ◌∷◌, ◌++◌, length, get_or, set, map, Option, Some, None, refl, sym, ap, subst, ◌∙◌, inl, inr, arith}
+use Rattle.std.proofs.Common.{◌≡◌, ◌≢◌, ℕ, zero, suc, ◌<◌, List, [], ◌∷◌, length, get_or, set, map, Option, Some, None, refl, sym, ap, subst, ◌∙◌, inl, inr, arith}
 use Rattle.std.proofs.lemmas.Bool.{cases_eq}
-use Rattle.std.proofs.lemmas.Bool.Decides.{nat_tests}
 use Rattle.std.proofs.lemmas.List.{ext_get_or, length-map, length-set, get_or-set_same, get_or-set_other, get_or_past, get_or-map}
 use Rattle.ttm_base.specs.declared.BufId.{BufId}
 use Rattle.lru_bulk.specs.declared.nodes.Listing.{Listing}
@@ -12,7 +11,7 @@ use Rattle.lru_bulk.specs.declared.rings.Rings.{Rings}
 use Rattle.lru_bulk.specs.Rings.{Each, Path}
 use Rattle.lru_bulk.specs.Lists.{list_at, listing_in, number_of}
 use Rattle.lru_bulk.specs.Sound.{next_at, prev_at, listings_of, chain_of, lists_of, IsAt, IsSound, IsWhole}
-use Rattle.lru_bulk.proofs.Paths.{each_map, each_append, NotIn, Distinct, frame}
+use Rattle.lru_bulk.proofs.Paths.{each_map, each_append, frame}
 use Rattle.lru_bulk.proofs.Walks.{ring_distinct, walk_path, length_below}
 use Rattle.lru_bulk.proofs.ListingLaws.{listing_in_node}
 

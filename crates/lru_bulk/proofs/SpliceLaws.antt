@@ -1,7 +1,6 @@
 -- After the range of a group went to the end of a list the links and the ranges show its members last.
-use Rattle.std.proofs.Common.{◌≡◌, ◌≢◌, ◌⊎◌, ℕ, ◌+◌, ◌*◌, ◌<◌, Bool, true, false, ◌||◌, List, [], ◌∷◌, ◌++◌, length, get_or, set, map, filter, cond, Option, Some, None, refl, sym, ap, subst, ◌∙◌, inl, inr, arith}
-use Rattle.std.specs.Prelude.{not, ◌==◌}
-use Rattle.std.specs.List.{list_any}
+use Rattle.std.proofs.Common.{◌≡◌, ◌≢◌, ℕ, ◌*◌, ◌<◌, Bool, true, false, ◌||◌, List, [], ◌∷◌, ◌++◌, length, set, map, filter, cond, Option, Some, None, refl, sym, ap, subst, ◌∙◌, inl, inr, arith}
+use Rattle.std.specs.Prelude.{not}
 use Rattle.std.proofs.lemmas.Bool.{cases_eq}
 use Rattle.std.proofs.lemmas.List.{length-set, map-append, append-nil, set-get_or}
 use Rattle.ttm_base.specs.declared.BufId.{BufId}
@@ -14,13 +13,13 @@ use Rattle.lru_bulk.specs.Rings.{Each, Path}
 use Rattle.lru_bulk.specs.Relinks.{SameRest, Tied}
 use Rattle.lru_bulk.specs.Lists.{IsGroup, list_at, listing_in, number_of, is_member, members_last}
 use Rattle.lru_bulk.specs.Sound.{next_at, prev_at, listings_of, last_from, has, range_at, IsBlock, IsAt, IsSound}
-use Rattle.lru_bulk.proofs.Paths.{each_map, each_append, each_left, each_right, NotIn, Distinct, path_split, at_source, source_leads}
-use Rattle.lru_bulk.proofs.RingMoves.{Spliced, spliced_from_ties, ring_splice, SpliceApart, splice_apart}
+use Rattle.lru_bulk.proofs.Paths.{each_map, each_append, each_left, each_right, Distinct, path_split, at_source, source_leads}
+use Rattle.lru_bulk.proofs.RingMoves.{spliced_from_ties, ring_splice, splice_apart}
 use Rattle.lru_bulk.proofs.Walks.{ring_distinct}
 use Rattle.lru_bulk.proofs.Blocks.{block_append, block_filter}
 use Rattle.lru_bulk.proofs.OwnBlock.{Moved, block_moved, block_empty}
 use Rattle.lru_bulk.proofs.GroupLaws.{member_of_one}
-use Rattle.lru_bulk.proofs.Neighbors.{last_of_range, at_target}
+use Rattle.lru_bulk.proofs.Neighbors.{last_of_range}
 use Rattle.lru_bulk.proofs.JoinLaws.{has-append}
 use Rattle.lru_bulk.proofs.SoundLaws.{AtSpot, ring_at, spots_apart, other_ring, list_same, list_other}
 

@@ -1,5 +1,5 @@
 -- The steps of the code, each from the rings before to the rings after.
-use Rattle.std.proofs.Common.{◌≡◌, ◌≢◌, ◌⊎◌, ℕ, ◌+◌, ◌*◌, ◌<◌, ◌≤◌, Bool, true, false, List, [], ◌∷◌, ◌++◌, length, get_or, set, map, take, drop, Option, Some, None, IsSome, refl, sym, ap, subst, ◌∙◌, arith}
+use Rattle.std.proofs.Common.{◌≡◌, ◌≢◌, ℕ, ◌+◌, ◌*◌, ◌<◌, true, false, List, [], ◌++◌, length, get_or, set, map, take, drop, Option, Some, None, IsSome, refl, sym, ap, subst, ◌∙◌, arith}
 use Rattle.std.proofs.lemmas.List.{length-map, get_or_default, get_or_past, get_or-set_same}
 use Rattle.std.proofs.lemmas.List.Edits.{map_over_more}
 use Rattle.ttm_base.specs.declared.BufId.{BufId}
@@ -13,7 +13,7 @@ use Rattle.lru_bulk.specs.declared.rings.Range.{Range}
 use Rattle.lru_bulk.specs.declared.rings.Rings.{Rings}
 use Rattle.lru_bulk.specs.Relinks.{IsSpot, SameRest, Tied}
 use Rattle.lru_bulk.specs.Lists.{IsGroup, list_at, listing_in, number_of, is_member, members_last, taken_off, put_on}
-use Rattle.lru_bulk.specs.Sound.{next_at, prev_at, links_at, node_links, listings_of, lists_of, buffer_of, range_at, range_for, ranges_left, ranges_joined, spot_before, IsAt, IsSound, IsWhole}
+use Rattle.lru_bulk.specs.Sound.{next_at, prev_at, links_at, node_links, listings_of, lists_of, buffer_of, range_at, range_for, ranges_left, ranges_joined, spot_before, IsSound, IsWhole}
 use Rattle.lru_bulk.proofs.ListingLaws.{listing_in_node, listings_at, listings_set}
 use Rattle.lru_bulk.proofs.GroupLaws.{number_below}
 use Rattle.lru_bulk.proofs.SoundLaws.{AtSpot, lists_are, whole}

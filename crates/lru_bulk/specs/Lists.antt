@@ -1,6 +1,5 @@
 -- The twelve lists of buffers in eviction order, with the groups that move in bulk (ttm_lru_item, ttm_lru_bulk_move).
-use Rattle.std.specs.Prelude.{◌≡◌, ℕ, ◌+◌, ◌*◌, ◌<◌, Bool, true, false, List, [], ◌∷◌, ◌++◌, Option, Some, None, IsSome, ◌==◌, not, filter, map, unwrap_or, insert, length, replicate, slice_get, slice_set, slice_index_or, option_and_then, if◌then◌else◌}
-use Rattle.std.specs.List.{list_any}
+use Rattle.std.specs.Prelude.{◌≡◌, ℕ, ◌+◌, ◌*◌, ◌<◌, Bool, true, false, List, [], ◌∷◌, ◌++◌, Option, Some, None, ◌==◌, not, filter, map, unwrap_or, insert, length, replicate, slice_get, slice_set, slice_index_or, option_and_then, if◌then◌else◌}
 use Rattle.ttm_base.specs.declared.Mem.{Mem}
 use Rattle.ttm_base.specs.declared.BufId.{BufId}
 use Rattle.ttm_base.specs.Reach.{mem_number}

@@ -1,5 +1,5 @@
 -- Changes of links. No public clause cites this module.
-use Rattle.std.specs.Prelude.{◌≡◌, ◌≢◌, ℕ, ◌<◌, IsSome, length}
+use Rattle.std.specs.Prelude.{◌≡◌, ◌≢◌, ◌<◌, IsSome, length}
 use Rattle.lru_bulk.specs.declared.nodes.Spot.{Spot}
 use Rattle.lru_bulk.specs.declared.nodes.Spot.TheVariants.{End, Of}
 use Rattle.lru_bulk.specs.declared.nodes.Links.{Links}

@@ -1,5 +1,5 @@
 -- Rings of spots by next and prev links. No public clause cites this module.
-use Rattle.std.specs.Prelude.{◌≡◌, ◌≢◌, List, [], ◌∷◌}
+use Rattle.std.specs.Prelude.{◌≡◌, List, [], ◌∷◌}
 
 -- each element
 abbrev pub Each : {X : Type 0} → (X → Type 0) → List X → Type 0

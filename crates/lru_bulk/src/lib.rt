@@ -14,13 +14,12 @@ use ttm_base::{BufId, Mem, NoMemory};
 mod moves;
 mod nodes;
 mod rings;
-mod steps;
 #[cfg(test)]
 mod tests;
 
 pub use nodes::Listing;
 use rings::Rings;
-pub use steps::Steps;
+pub use step_count::Steps;
 
 /// The twelve lists, seen as lists of buffers, with how each buffer is listed. A group is a number below that given to `new`.
 #[derive(Drop)]

@@ -3,8 +3,8 @@ ghost use Rattle.std.specs.Prelude.{◌≡◌, ◌+◌, ◌*◌, ◌<◌, ◌≤
 
 use crate::nodes::{Links, Listing, Node, Spot};
 use crate::rings::{LISTS, Range, Rings, buffer_in, list_number};
-use crate::steps::Steps;
 use std::sync::ledger::{Blank, Ledger};
+use step_count::Steps;
 use ttm_base::{BufId, Mem, NoMemory};
 
 impl Rings {
@@ -205,7 +205,7 @@ impl Rings {
     ) -> Result<(), NoMemory>
         requires name { blank.name ≡ L.name }
         requires parts { blank.parts ≡ L.parts }
-        requires some { 0 < L.parts }
+        requires one_part { blank.parts ≡ 1 }
         requires sound { IsWhole self.old None }
         requires known { b.0 < length (order_of self.old).listings }
         requires absent { listing_of (order_of self.old) b ≡ None }
@@ -225,7 +225,7 @@ impl Rings {
     pub fn delist<L: Ledger>(&mut self, b: BufId, blank: Blank)
         requires name { blank.name ≡ L.name }
         requires parts { blank.parts ≡ L.parts }
-        requires some { 0 < L.parts }
+        requires one_part { blank.parts ≡ 1 }
         requires sound { IsWhole self.old None }
         requires listed { IsSome (listing_of (order_of self.old) b) }
         ensures sound { IsWhole self.new None }
@@ -240,7 +240,7 @@ impl Rings {
     pub fn replace<L: Ledger>(&mut self, b: BufId, blank: Blank)
         requires name { blank.name ≡ L.name }
         requires parts { blank.parts ≡ L.parts }
-        requires some { 0 < L.parts }
+        requires one_part { blank.parts ≡ 1 }
         requires sound { IsWhole self.old None }
         requires listed { IsSome (listing_of (order_of self.old) b) }
         ensures sound { IsWhole self.new None }
@@ -255,7 +255,7 @@ impl Rings {
     pub fn rehome<L: Ledger>(&mut self, b: BufId, mem: Mem, blank: Blank)
         requires name { blank.name ≡ L.name }
         requires parts { blank.parts ≡ L.parts }
-        requires some { 0 < L.parts }
+        requires one_part { blank.parts ≡ 1 }
         requires sound { IsWhole self.old None }
         requires listed { IsSome (listing_of (order_of self.old) b) }
         ensures sound { IsWhole self.new None }
@@ -271,7 +271,7 @@ impl Rings {
     pub fn splice_uncounted<L: Ledger>(&mut self, group: u32, blank: Blank)
         requires name { blank.name ≡ L.name }
         requires parts { blank.parts ≡ L.parts }
-        requires some { 0 < L.parts }
+        requires one_part { blank.parts ≡ 1 }
         requires sound { IsWhole self.old None }
         requires group { group < self.old.groups }
         ensures sound { IsWhole self.new None }

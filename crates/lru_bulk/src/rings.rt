@@ -4,9 +4,9 @@ ghost use Rattle.lru_bulk.specs.Lists.{number_of};
 ghost use Rattle.lru_bulk.specs.Sound as words;
 
 use crate::nodes::{Links, Listing, Node, Nodes, Spot, repeated};
-use crate::steps::Steps;
 use std::alloc::Global;
 use std::sync::ledger::Ledger;
+use step_count::Steps;
 use ttm_base::{BufId, ItemList, Mem, NoMemory};
 
 /// How many lists there are: one for each memory type and priority.

@@ -49,7 +49,7 @@ fn walk(alloc: Global, lru: &Lru, prio: u32, most: u32) -> Result<Vec<u32>, NoMe
 fn moved<L: Ledger>(lru: &mut Lru, blank: Blank)
     requires name { blank.name ≡ L.name }
     requires parts { blank.parts ≡ L.parts }
-    requires some { 0 < L.parts }
+    requires one_part { blank.parts ≡ 1 }
     requires group { 0 < lru.old.groups }
 {
     let mut steps = Steps::<L>::new(blank);

@@ -3,8 +3,7 @@
 //! Placements are those of TTM (ttm_placement since kernel 6.9). No call takes memory.
 #![tactic(auto)]
 
-ghost use Rattle.std.specs.Prelude.{◌≡◌, ◌^◌, ◌<◌, length, nat_lt, not, slice_get, Some};
-ghost use Rattle.std.specs.List.{list_all};
+ghost use Rattle.std.specs.Prelude.{◌≡◌, ◌^◌, ◌<◌, length, not, slice_get, Some};
 ghost use Rattle.ttm_base.specs.Reach as words;
 ghost use Rattle.ttm_base.specs.Placement as rules;
 
@@ -16,19 +15,8 @@ pub fn reach(place: &Place, size: u32) -> (u32, u32)
     ensures start { result.0 ≡ (words.reach place.now size).start }
     ensures end { result.1 ≡ (words.reach place.now size).end }
 {
-    let last = if place.last == 0 || size < place.last {
-        size
-    } else {
-        place.last
-    };
-    (place.first.min(last), last)
-}
-
-/// The two spans have a page in common.
-fn overlaps(a: Span, b: Span) -> bool
-    ensures { result ≡ nat_lt (words.common a b).start (words.common a b).end }
-{
-    a.start.max(b.start) < a.end.min(b.end)
+    let within = replay_places::reach(*place, size);
+    (within.start, within.end)
 }
 
 /// Some page of the spans is in the reach.
@@ -39,62 +27,14 @@ pub fn intersects(spans: &Spans, reach: (u32, u32)) -> bool
         start: reach.0,
         end: reach.1,
     };
-    spans.items().iter().any(|s| overlaps(*s, within))
-}
-
-/// The memory types are one.
-fn same_mem(a: Mem, b: Mem) -> bool
-    ensures { result ≡ words.same_mem a b }
-{
-    match (a, b) {
-        (Mem::System, Mem::System) | (Mem::Tt, Mem::Tt) | (Mem::Vram, Mem::Vram) => true,
-        _ => false,
-    }
-}
-
-/// All pages of a span are in the reach.
-fn is_inside(within: Span, span: Span) -> bool
-    ensures { result ≡ words.is_inside within span }
-{
-    within.start <= span.start && span.end <= within.end
-}
-
-/// All spans are in the reach.
-fn are_inside(within: Span, spans: &[Span]) -> bool
-    ensures { result ≡ list_all (words.is_inside within) spans.now }
-{
-    spans.iter().all(|s| is_inside(within, *s))
-}
-
-/// Each span begins where the one before it ends.
-fn is_contiguous(spans: &[Span]) -> bool
-    ensures { result ≡ words.is_contiguous spans.now }
-{
-    spans
-        .iter()
-        .zip(spans.iter().skip(1))
-        .all(|(a, b)| a.end == b.start)
-}
-
-/// A place accepts a resource of its memory type with all pages in its reach, and without gaps where it says so.
-fn accepts(mem: Mem, spans: &[Span], size: u32, place: &Place) -> bool
-    ensures { result ≡ rules.accepts mem spans.now size place.now }
-{
-    let (start, end) = reach(place, size);
-    same_mem(place.mem, mem)
-        && are_inside(Span { start, end }, spans)
-        && (!place.contig || is_contiguous(spans))
+    replay_places::intersects(spans.items(), within)
 }
 
 /// Some place of the list accepts the resource, whose manager has this size (ttm_resource_compatible).
 pub fn compatible(mem: Mem, spans: &Spans, placement: &Placement, size: u32) -> bool
     ensures { result ≡ rules.compatible mem spans.now placement.now size }
 {
-    placement
-        .list
-        .items()
-        .iter()
-        .any(|p| accepts(mem, spans.items(), size, &p.place))
+    replay_places::compatible(mem, spans.items(), placement.list.items(), size)
 }
 
 /// The place is tried first.

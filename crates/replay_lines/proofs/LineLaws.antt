@@ -1,5 +1,5 @@
 -- The operations as far as the lines are read.
-use Rattle.std.proofs.Common.{◌≡◌, ℕ, suc, ◌+◌, ◌<◌, ◌≤◌, List, [], ◌∷◌, ◌++◌, Option, Some, None, length, drop, get_or, refl, ap, sym, ◌∙◌, append_assoc, append-nil, arith}
+use Rattle.std.proofs.Common.{◌≡◌, ℕ, suc, ◌+◌, ◌<◌, ◌≤◌, List, [], ◌∷◌, ◌++◌, Option, Some, None, length, drop, get_or, ap, sym, ◌∙◌, append_assoc, append-nil, arith}
 use Rattle.journal_model.specs.Words.{Text}
 use Rattle.script_words.proofs.Cuts.{drop_here}
 use Rattle.replay_lines.specs.declared.operation.Operation.{Operation}

@@ -1,13 +1,13 @@
 -- What an ID holds, and tests of the pages of a span.
 use Rattle.std.proofs.Common.{◌≡◌, ℕ, zero, suc, ◌+◌, ◌-◌, ◌<◌, ◌≤◌, Bool, true, false, List, [], ◌∷◌, Option, None, length, get_or, replicate, inl, inr, nat_le, nat_lt, refl, ap, sym, subst, ◌∙◌, arith}
-use Rattle.std.specs.Prelude.{unwrap_or, slice_get, if◌then◌else◌}
+use Rattle.std.specs.Prelude.{if◌then◌else◌}
 use Rattle.std.specs.List.{list_all}
 use Rattle.std.proofs.lemmas.Bool.{and_parts, and_from, lt-ltb, ltb-true, le-leb, leb-true, cases_eq, false_from_ne_true}
 use Rattle.ttm_base.specs.declared.Span.{Span}
 use Rattle.ttm_base.specs.Holes.{has_page}
 use Rattle.ttm_base.specs.ListWords.{count_from}
 use Rattle.range_manager.specs.Held.{Managed, with_span, is_open, HasTakenPage}
-use Rattle.replay_lines.specs.RangeTables.{span_at, with_one, all_open, reserved}
+use Rattle.replay_lines.specs.RangeTables.{RangesHeld, new_ranges, span_at, with_one, all_open, reserved}
 
 -- the item at an ID is what it holds
 pub span_read : (xs : List (Option Span)) (i : ℕ) (d : Option Span) → i < length xs → get_or xs i d ≡ span_at xs i
@@ -15,14 +15,13 @@ span_read [] i d h = absurd (omega arith)
 span_read (x ∷ xs) zero d h = refl
 span_read (x ∷ xs) (suc i) d h = span_read xs i d (omega arith)
 
-none_at : (n i : ℕ) → span_at (replicate n None) i ≡ None
-none_at zero i = refl
-none_at (suc n) zero = refl
-none_at (suc n) (suc i) = none_at n i
+abbrev with_parts : ℕ → List Span → List (Option Span) → RangesHeld
+with_parts size held spans = record { memory = record { size = size; held = held }; spans = spans }
 
--- none holds anything where each holds nothing
-pub none_of : (n : ℕ) (xs : List (Option Span)) (i : ℕ) → xs ≡ replicate n None → span_at xs i ≡ None
-none_of n xs i e = ap (λ (ys : List (Option Span)). span_at ys i) e ∙ none_at n i
+-- a table of a manager without spans, where no ID has any
+pub table_is_new : (m : Managed) (spans : List (Option Span)) (pages : ℕ) → m.size ≡ pages → m.held ≡ [] → spans ≡ replicate 65536 None → with_parts m.size m.held spans ≡ new_ranges pages
+table_is_new m spans pages s h e =
+    ap (λ n. with_parts n m.held spans) s ∙ ap (λ hs. with_parts pages hs spans) h ∙ ap (with_parts pages []) e
 
 -- ---- tests of all pages
 

@@ -1,5 +1,5 @@
 -- A pattern on a slice of words, and the same on its list.
-use Rattle.std.proofs.Common.{◌≡◌, ℕ, List, [], ◌∷◌, length, get_or, ap, ◌∙◌, sym, arith}
+use Rattle.std.proofs.Common.{◌≡◌, List, [], ◌∷◌, length, get_or, ap, ◌∙◌, sym, arith}
 use Rattle.journal_model.specs.Words.{Text}
 
 -- four words

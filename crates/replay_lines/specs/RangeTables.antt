@@ -1,5 +1,5 @@
 -- A range manager with the span that each ID holds there, and what operations do to them.
-use Rattle.std.specs.Prelude.{ℕ, ◌-◌, ◌&&◌, Bool, false, List, [], ◌∷◌, Option, Some, None, is_some, unwrap_or, nat_lt, nat_le, slice_get, slice_set, if◌then◌else◌}
+use Rattle.std.specs.Prelude.{ℕ, ◌-◌, ◌&&◌, Bool, List, [], ◌∷◌, Option, Some, None, is_some, unwrap_or, nat_lt, nat_le, replicate, slice_get, slice_set, if◌then◌else◌}
 use Rattle.std.specs.List.{find, list_all}
 use Rattle.ttm_base.specs.declared.Mode.{Mode}
 use Rattle.ttm_base.specs.declared.Span.{Span}
@@ -26,6 +26,10 @@ span_at spans id = unwrap_or (slice_get spans id) None
 abbrev pub listed_span : Option Span → List Span
 listed_span None = []
 listed_span (Some s) = s ∷ []
+
+-- free pages, and no spans
+abbrev pub new_ranges : ℕ → RangesHeld
+new_ranges pages = record { memory = record { size = pages; held = [] }; spans = replicate 65536 None }
 
 -- the manager with a span more
 abbrev pub with_one : Managed → Span → Managed

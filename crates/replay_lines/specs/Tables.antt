@@ -1,5 +1,5 @@
 -- A manager with what each ID holds there, and what operations do to them.
-use Rattle.std.specs.Prelude.{ℕ, ◌==◌, ◌&&◌, Bool, List, [], ◌∷◌, Option, Some, None, length, nat_lt, nat_le, unwrap_or, slice_get, slice_set, if◌then◌else◌}
+use Rattle.std.specs.Prelude.{ℕ, ◌==◌, ◌&&◌, Bool, List, [], Option, Some, None, length, nat_lt, nat_le, replicate, unwrap_or, slice_get, slice_set, if◌then◌else◌}
 use Rattle.ttm_base.specs.declared.Span.{Span}
 use Rattle.ttm_base.specs.BuddyChoice.{buddy_choice}
 use Rattle.ttm_base.specs.Holes.{is_free_beside}
@@ -19,6 +19,10 @@ spans_at spans id = unwrap_or (slice_get spans id) []
 pub record BuddyHeld : Type 0 where
   pub memory : Managed
   pub spans : List (List Span)
+
+-- free pages, and no blocks
+abbrev pub new_blocks : ℕ → BuddyHeld
+new_blocks pages = record { memory = record { size = pages; held = [] }; spans = replicate 65536 [] }
 
 -- the blocks that a request gets
 abbrev pub blocks_for : Managed → Span → Bool → Bool → ℕ → Option (List Span)

@@ -1,6 +1,6 @@
 ghost use Rattle.std.specs.Prelude.{◌≡◌, ℕ, ◌<◌, ◌≤◌, [], IfOk, OnOk, OnErr, replicate, unwrap_or};
 ghost use Rattle.buddy_manager.specs.Held.{all_held};
-ghost use Rattle.replay_lines.specs.Tables.{spans_at, blocks_for, answer_for, with_choice, alloc_answer, alloc_memory, alloc_blocks, after_alloc, can_free, free_answer, free_memory, free_blocks, after_free, is_request};
+ghost use Rattle.replay_lines.specs.Tables.{new_blocks, spans_at, blocks_for, answer_for, with_choice, alloc_answer, alloc_memory, alloc_blocks, after_alloc, can_free, free_answer, free_memory, free_blocks, after_free, is_request};
 
 use crate::{Answer, IDS, Operation, Table};
 use buddy_manager::{AllocFault, BuddyFlags, BuddyManager};
@@ -119,9 +119,7 @@ fn is_request(id: u32, pages: u32) -> bool
 impl BuddyTable {
     /// So many free pages. Where there are 65,536 or more it answers `NoMemory`.
     pub fn new(alloc: Global, pages: u32) -> Result<BuddyTable, NoMemory>
-        ensures size { IfOk result (λ table. table.memory.size ≡ pages) }
-        ensures held { IfOk result (λ table. table.memory.held ≡ []) }
-        ensures spans { IfOk result (λ table. (id : ℕ) → spans_at table.spans id ≡ []) }
+        ensures { IfOk result (λ table. table ≡ new_blocks pages) }
     {
         let manager = BuddyManager::new(alloc, pages)?;
         let spans = no_spans(alloc, IDS)?;

@@ -1,5 +1,5 @@
 ghost use Rattle.std.specs.Prelude.{◌≡◌, ℕ, ◌<◌, ◌≤◌, [], None, IfOk, OnOk, OnErr, replicate};
-ghost use Rattle.replay_lines.specs.RangeTables.{span_at, listed_span, pages_for, chosen_answer, chosen_memory, insert_answer, insert_memory, insert_span, after_insert, all_open, reserved, reserve_answer, reserve_memory, reserve_span, after_reserve, begins, remove_answer, remove_memory, remove_span, after_remove, is_insertion};
+ghost use Rattle.replay_lines.specs.RangeTables.{new_ranges, span_at, listed_span, pages_for, chosen_answer, chosen_memory, insert_answer, insert_memory, insert_span, after_insert, all_open, reserved, reserve_answer, reserve_memory, reserve_span, after_reserve, begins, remove_answer, remove_memory, remove_span, after_remove, is_insertion};
 
 use crate::{Answer, IDS, Operation, Table};
 use range_manager::{InsertFault, RangeManager};
@@ -164,9 +164,7 @@ fn is_insertion(id: u32, align: u32) -> bool
 impl RangeTable {
     /// So many free pages.
     pub fn new(alloc: Global, pages: u32) -> Result<RangeTable, NoMemory>
-        ensures size { IfOk result (λ table. table.memory.size ≡ pages) }
-        ensures held { IfOk result (λ table. table.memory.held ≡ []) }
-        ensures spans { IfOk result (λ table. (id : ℕ) → span_at table.spans id ≡ None) }
+        ensures { IfOk result (λ table. table ≡ new_ranges pages) }
     {
         let manager = RangeManager::new(alloc, pages)?;
         let spans = no_spans(alloc, IDS)?;
@@ -218,7 +216,7 @@ impl RangeTable {
 }
 
 impl Table for RangeTable {
-    ghost use Rattle.replay_lines.specs.RangeTables.{span_at, listed_span, range_answer, after_range};
+    ghost use Rattle.replay_lines.specs.RangeTables.{new_ranges, span_at, listed_span, range_answer, after_range};
 
     ghost answer = { range_answer };
 

@@ -1,13 +1,9 @@
--- Words with a separator between each two are the first, and each other one behind a separator.
-use Rattle.std.proofs.Common.{◌≡◌, ℕ, List, [], ◌∷◌, ◌++◌, map, drop, Some, ap, ◌∙◌, sym, append-nil, append_assoc}
+-- Lists and lines as they are put: the first word, and then the others.
+use Rattle.std.proofs.Common.{◌≡◌, List, [], ◌∷◌, ◌++◌, map, drop, Some, ap, ◌∙◌, sym, append_assoc}
 use Rattle.std.specs.Prelude.{slice_get}
-use Rattle.std.specs.List.{join_with_byte}
 use Rattle.journal_model.specs.Words.{Text, line, listed, spaced}
-use Rattle.report_text.specs.Spaced.{behind_each, spaced_out}
-
-pub join_with_byte-cons : (c : ℕ) (w : Text) (ws : List Text) → join_with_byte c (w ∷ ws) ≡ w ++ behind_each c ws
-join_with_byte-cons c w [] = sym (append-nil w)
-join_with_byte-cons c w (v ∷ ws) = ap (λ t. w ++ (c ∷ t)) (join_with_byte-cons c v ws)
+use Rattle.text_line.specs.Spaced.{behind_each, spaced_out}
+use Rattle.text_line.proofs.SpacedLaws.{join_with_byte-cons}
 
 -- a list of items: the first, and then the others behind a comma
 pub listed_after : {X : Type 0} (word : X → Text) (old mid new : Text) (xs : List X) (x : X) (more : List X) → xs ≡ x ∷ more → mid ≡ old ++ word x

@@ -1,4 +1,3 @@
-pub mod Spaced
 pub mod WriteFault
 pub mod Accounts
 pub mod Parts

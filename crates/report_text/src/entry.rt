@@ -2,11 +2,11 @@ ghost use Rattle.std.specs.Prelude.{◌≡◌, ◌+◌, ◌++◌, ◌∷◌, [],
 ghost use Rattle.journal_model.specs.EntryText.{cause_row_word, cause_word, deny_word, dry_word, entry_line, kind_words, left_word, piece_words, shown_words, why_word};
 ghost use Rattle.journal_model.specs.Words.{actor_word, hex, listed, mem_word, name_of, spans_word};
 ghost use Rattle.journal_model.specs.ReportText.{answer_words};
-ghost use Rattle.report_text.specs.Spaced.{behind_each, spaced_out};
+ghost use Rattle.text_line.specs.Spaced.{behind_each, spaced_out};
 
-use crate::line::Line;
-use crate::words::{mem_word, name_of, put_actor, put_hex, put_numbered, put_spans};
+use crate::words::put_spans;
 use journal_model::{Cause, CauseRow, DryWhy, Entry, Kind, Left, Script, Shown, Why};
+use text_line::{Line, mem_word, name_of, put_actor, put_hex, put_numbered};
 use ttm_base::{BufId, Deny, Mem, NoMemory, Span};
 
 /// Makes the line of an entry.
@@ -24,7 +24,7 @@ pub(crate) fn make_entry_line(
     put_actor(line, entry.who)?;
     line.word(verb(&entry.kind))?;
     put_arguments(line, script, &entry.kind)?;
-    line.put_byte(b'\n')
+    line.end_line()
 }
 
 /// The first word of an entry's text.

@@ -3,7 +3,6 @@
 
 pub mod accounts;
 mod entry;
-mod line;
 pub mod report;
 mod words;
 

@@ -8,16 +8,15 @@ ghost use Rattle.journal_model.specs.Complete.{is_by_thread, thread_numbers};
 ghost use Rattle.journal_model.specs.Legal.{state_of};
 ghost use Rattle.report_text.specs.Accounts.{AreAccountsOf, told};
 ghost use Rattle.report_text.specs.Parts.{four_lines, journal_part, outcome_part};
-ghost use Rattle.report_text.specs.Spaced.{spaced_out};
+ghost use Rattle.text_line.specs.Spaced.{spaced_out};
 ghost use Rattle.report_text.specs.WriteFault.{faults_after_writing};
 
 use crate::accounts::{Account, Accounts};
 use crate::entry::{make_entry_line, put_answer};
-use crate::line::Line;
-use crate::words::put_numbered;
 use io_edge::{Failed, Sink, write_all};
 use journal_model::{Entry, Kind, Script, Sizes};
 use std::alloc::Global;
+use text_line::{Line, put_numbered};
 use ttm_base::{Actor, NoMemory};
 
 /// Why not all of a report was written.
@@ -99,7 +98,7 @@ fn make_heading(line: &mut Line, word: &[u8]) -> Result<(), NoMemory>
 {
     line.clear();
     line.put(word)?;
-    line.put_byte(b'\n')
+    line.end_line()
 }
 
 /// Writes a line of a word and a number.
@@ -122,7 +121,7 @@ fn make_count(line: &mut Line, word: &[u8], number: u64) -> Result<(), NoMemory>
     line.clear();
     line.put(word)?;
     line.number(number)?;
-    line.put_byte(b'\n')
+    line.end_line()
 }
 
 /// Whether an entry answers a command of the thread.
@@ -169,7 +168,7 @@ fn make_answer_line(line: &mut Line, thread: u64, number: u64, kind: &Kind) -> R
     put_numbered(line, b't', thread)?;
     line.number(number)?;
     put_answer(line, kind)?;
-    line.put_byte(b'\n')
+    line.end_line()
 }
 
 fn write_thread_results<K: Sink>(
@@ -235,7 +234,7 @@ fn make_account_line(
     put_labelled(line, b"live", account.live)?;
     put_labelled(line, b"target", account.target)?;
     put_labelled(line, b"ghost", account.ghosts)?;
-    line.put_byte(b'\n')
+    line.end_line()
 }
 
 /// Puts a word and a number.

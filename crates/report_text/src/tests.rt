@@ -1,6 +1,5 @@
 ghost use Rattle.std.specs.Prelude.{◌≡◌, [], None};
 
-use crate::line::Line;
 use crate::report::{write_journal, write_outcome};
 use crate::{Account, Accounts, WriteFault, write_report};
 use io_edge::MemSink;
@@ -9,6 +8,7 @@ use journal_model::{
 };
 use std::alloc::Global;
 use std::test::Fail;
+use text_line::Line;
 use ttm_base::{
     Actor, BufId, Deny, FlaggedPlaces, ItemList, Mem, NoMemory, Placement, Span, Spans, Stamp,
 };

@@ -1,4 +1,3 @@
-pub mod Digits
 pub mod SpacedLaws
 pub mod PartLaws
 pub mod WholeText

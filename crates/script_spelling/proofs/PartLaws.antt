@@ -1,5 +1,5 @@
 -- Places in a list, one more each time.
-use Rattle.std.proofs.Common.{◌≡◌, ℕ, suc, ◌+◌, ◌<◌, Bool, true, false, cond, eqb, List, [], ◌∷◌, ◌++◌, length, map, take, get_or, refl, ap, ◌∙◌, sym, append-nil, append_assoc, arith}
+use Rattle.std.proofs.Common.{◌≡◌, ℕ, ◌+◌, ◌<◌, Bool, true, false, cond, eqb, List, [], ◌∷◌, ◌++◌, length, map, take, get_or, refl, ap, ◌∙◌, sym, append-nil, append_assoc}
 use Rattle.std.specs.Prelude.{codes, filter, not}
 use Rattle.std.specs.List.{join_with_byte}
 use Rattle.std.proofs.lemmas.Bool.{eqb-true}
@@ -10,7 +10,7 @@ use Rattle.ttm_base.specs.Placement.{first_places, forced_places}
 use Rattle.journal_model.specs.Words.{Text}
 use Rattle.journal_model.specs.Spelling.{flag, flagged_word, place_word, placement_words, words_of_places}
 use Rattle.script_spelling.specs.Lists.{is_in, item_word, part_word, part_words}
-use Rattle.script_spelling.specs.Spaced.{spaced_out}
+use Rattle.text_line.specs.Spaced.{spaced_out}
 use Rattle.script_spelling.specs.declared.places.Part.{Part}
 use Rattle.script_spelling.specs.declared.places.Part.TheVariants as part
 use Rattle.script_spelling.proofs.SpacedLaws.{words_join}

@@ -1,22 +1,18 @@
--- Words with a separator between each two are the first, and each other one behind a separator.
-use Rattle.std.proofs.Common.{◌≡◌, ℕ, List, [], ◌∷◌, ◌++◌, map, refl, ap, ◌∙◌, sym, append-nil, append_assoc}
-use Rattle.std.specs.Prelude.{codes, flat_map}
-use Rattle.std.specs.List.{join_with_byte}
+-- Lines and words as they grow.
+use Rattle.std.proofs.Common.{◌≡◌, List, [], ◌∷◌, ◌++◌, map, ap, ◌∙◌, sym, append-nil, append_assoc}
+use Rattle.std.specs.Prelude.{codes}
 use Rattle.std.proofs.lemmas.List.Concat.{flat_map-cons}
 use Rattle.std.proofs.lemmas.Grind.{flat_map-append}
 use Rattle.journal_model.specs.Words.{Text, line, spaced}
 use Rattle.journal_model.specs.Spelling.{parted}
-use Rattle.script_spelling.specs.Spaced.{parted_out, spaced_out}
-
--- words after the first
-pub spaced-cons : (w : Text) (ws : List Text) → spaced (w ∷ ws) ≡ w ++ spaced_out ws
-spaced-cons w [] = sym (append-nil w)
-spaced-cons w (v ∷ ws) = ap (λ t. w ++ (32 ∷ t)) (spaced-cons v ws) ∙ ap (λ t. w ++ t) (sym (flat_map-cons (λ u. 32 ∷ u) v ws))
+use Rattle.script_spelling.specs.Parts.{parted_out}
+use Rattle.text_line.specs.Spaced.{spaced_out}
+use Rattle.text_line.proofs.SpacedLaws.{join_with_byte-cons}
 
 -- a line as it grows: its first word, the others, and its end
 pub line_grows : (old a b new w : Text) (ws : List Text) → a ≡ old ++ w → b ≡ a ++ spaced_out ws → new ≡ b ++ 10 ∷ [] → new ≡ old ++ line (w ∷ ws)
 line_grows old a b new w ws first rest end =
-    end ∙ ap (λ t. t ++ 10 ∷ []) (rest ∙ ap (λ t. t ++ spaced_out ws) first ∙ append_assoc old w (spaced_out ws) ∙ ap (λ t. old ++ t) (sym (spaced-cons w ws)))
+    end ∙ ap (λ t. t ++ 10 ∷ []) (rest ∙ ap (λ t. t ++ spaced_out ws) first ∙ append_assoc old w (spaced_out ws) ∙ ap (λ t. old ++ t) (sym (join_with_byte-cons 32 w ws)))
     ∙ append_assoc old (spaced (w ∷ ws)) (10 ∷ [])
 
 -- one more word before the rest

@@ -1,3 +1,2 @@
-pub mod Spaced
 pub mod Parts
 pub mod Lists

@@ -1,5 +1,5 @@
 -- The places of a buffer that one word of its line names.
-use Rattle.std.specs.Prelude.{ℕ, Bool, true, List, filter, map, not}
+use Rattle.std.specs.Prelude.{Bool, true, List, filter, map, not}
 use Rattle.ttm_base.specs.declared.FlaggedPlace.{FlaggedPlace}
 use Rattle.journal_model.specs.Words.{Text}
 use Rattle.journal_model.specs.Spelling.{place_word, flagged_word, words_of_places}

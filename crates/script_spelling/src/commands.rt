@@ -1,17 +1,16 @@
 ghost use Rattle.std.specs.Prelude.{◌≡◌, ◌++◌, ◌∷◌, [], OnOk, codes, decimal, map};
 ghost use Rattle.journal_model.specs.Words.{hex, hex_byte, line, mem_word, name_of};
 ghost use Rattle.journal_model.specs.Spelling.{op_words, parted};
-ghost use Rattle.script_spelling.specs.Parts.{command_text};
-ghost use Rattle.script_spelling.specs.Spaced.{parted_out, spaced_out};
+ghost use Rattle.script_spelling.specs.Parts.{command_text, parted_out};
+ghost use Rattle.text_line.specs.Spaced.{spaced_out};
 
-use crate::text::Text;
-use crate::words::{mem_word, name_of, put_hex, put_hex_byte};
 use journal_model::{Command, Script};
+use text_line::{Line, mem_word, name_of, put_hex, put_hex_byte};
 use ttm_base::{BufId, Mem, NoMemory, Op};
 
 /// Puts the line of a command.
 pub(crate) fn put_command(
-    text: &mut Text,
+    text: &mut Line,
     script: &Script,
     command: &Command,
 ) -> Result<(), NoMemory>
@@ -33,7 +32,7 @@ pub(crate) fn put_command(
 }
 
 /// Puts the line of a command that names a buffer and no more.
-fn put_named(text: &mut Text, script: &Script, word: &[u8], b: BufId) -> Result<(), NoMemory>
+fn put_named(text: &mut Line, script: &Script, word: &[u8], b: BufId) -> Result<(), NoMemory>
     ensures { OnOk result (text.new ≡ text.old ++ line (word.now ∷ name_of script.now b ∷ [])) }
 {
     text.put(word)?;
@@ -42,7 +41,7 @@ fn put_named(text: &mut Text, script: &Script, word: &[u8], b: BufId) -> Result<
 }
 
 fn put_write(
-    text: &mut Text,
+    text: &mut Line,
     script: &Script,
     b: BufId,
     off: u32,
@@ -52,23 +51,23 @@ fn put_write(
 {
     text.put(b"write")?;
     text.word(name_of(script, b))?;
-    text.number(off)?;
+    text.number(u64::from(off))?;
     text.put_byte(b' ')?;
     put_hex(text, bytes)?;
     text.end_line()
 }
 
-fn put_read(text: &mut Text, script: &Script, b: BufId, off: u32, len: u32) -> Result<(), NoMemory>
+fn put_read(text: &mut Line, script: &Script, b: BufId, off: u32, len: u32) -> Result<(), NoMemory>
     ensures { OnOk result (text.new ≡ text.old ++ line (codes "read" ∷ name_of script.now b ∷ decimal off ∷ decimal len ∷ [])) }
 {
     text.put(b"read")?;
     text.word(name_of(script, b))?;
-    text.number(off)?;
-    text.number(len)?;
+    text.number(u64::from(off))?;
+    text.number(u64::from(len))?;
     text.end_line()
 }
 
-fn put_move(text: &mut Text, script: &Script, b: BufId, mem: Mem) -> Result<(), NoMemory>
+fn put_move(text: &mut Line, script: &Script, b: BufId, mem: Mem) -> Result<(), NoMemory>
     ensures { OnOk result (text.new ≡ text.old ++ line (codes "move" ∷ name_of script.now b ∷ mem_word mem ∷ [])) }
 {
     text.put(b"move")?;
@@ -77,24 +76,24 @@ fn put_move(text: &mut Text, script: &Script, b: BufId, mem: Mem) -> Result<(), 
     text.end_line()
 }
 
-fn put_touch(text: &mut Text, group: u32) -> Result<(), NoMemory>
+fn put_touch(text: &mut Line, group: u32) -> Result<(), NoMemory>
     ensures { OnOk result (text.new ≡ text.old ++ line (codes "touch" ∷ decimal group ∷ [])) }
 {
     text.put(b"touch")?;
-    text.number(group)?;
+    text.number(u64::from(group))?;
     text.end_line()
 }
 
-fn put_submit(text: &mut Text, script: &Script, engine: u32, ops: &[Op]) -> Result<(), NoMemory>
+fn put_submit(text: &mut Line, script: &Script, engine: u32, ops: &[Op]) -> Result<(), NoMemory>
     ensures { OnOk result (text.new ≡ text.old ++ line (codes "submit" ∷ decimal engine ∷ parted (map (op_words script.now) ops.now))) }
 {
     text.put(b"submit")?;
-    text.number(engine)?;
+    text.number(u64::from(engine))?;
     put_ops(text, script, ops)?;
     text.end_line()
 }
 
-fn put_ops(text: &mut Text, script: &Script, ops: &[Op]) -> Result<(), NoMemory>
+fn put_ops(text: &mut Line, script: &Script, ops: &[Op]) -> Result<(), NoMemory>
     ensures { OnOk result (text.new ≡ text.old ++ spaced_out (parted (map (op_words script.now) ops.now))) }
 {
     match ops.split_first() {
@@ -107,7 +106,7 @@ fn put_ops(text: &mut Text, script: &Script, ops: &[Op]) -> Result<(), NoMemory>
 }
 
 /// Puts each operation behind a semicolon.
-fn put_more_ops(text: &mut Text, script: &Script, ops: &[Op]) -> Result<(), NoMemory>
+fn put_more_ops(text: &mut Line, script: &Script, ops: &[Op]) -> Result<(), NoMemory>
     ensures { OnOk result (text.new ≡ text.old ++ spaced_out (parted_out (map (op_words script.now) ops.now))) }
 {
     for op in ops {
@@ -117,7 +116,7 @@ fn put_more_ops(text: &mut Text, script: &Script, ops: &[Op]) -> Result<(), NoMe
     Ok(())
 }
 
-fn put_op(text: &mut Text, script: &Script, op: Op) -> Result<(), NoMemory>
+fn put_op(text: &mut Line, script: &Script, op: Op) -> Result<(), NoMemory>
     ensures { OnOk result (text.new ≡ text.old ++ spaced_out (op_words script.now op)) }
 {
     match op {
@@ -162,7 +161,7 @@ fn put_op(text: &mut Text, script: &Script, op: Op) -> Result<(), NoMemory>
 }
 
 /// Puts a fill of a named buffer.
-fn put_fill(text: &mut Text, name: &[u8], off: u32, len: u32, byte: u8) -> Result<(), NoMemory>
+fn put_fill(text: &mut Line, name: &[u8], off: u32, len: u32, byte: u8) -> Result<(), NoMemory>
     ensures { OnOk result (text.new ≡ text.old ++ spaced_out (codes "fill" ∷ name.now ∷ decimal off ∷ decimal len ∷ hex_byte byte ∷ [])) }
 {
     put_range(text, b"fill", name, off, len)?;
@@ -171,18 +170,18 @@ fn put_fill(text: &mut Text, name: &[u8], off: u32, len: u32, byte: u8) -> Resul
 }
 
 /// Puts an operation on a range of a named buffer.
-fn put_range(text: &mut Text, word: &[u8], name: &[u8], off: u32, len: u32) -> Result<(), NoMemory>
+fn put_range(text: &mut Line, word: &[u8], name: &[u8], off: u32, len: u32) -> Result<(), NoMemory>
     ensures { OnOk result (text.new ≡ text.old ++ spaced_out (word.now ∷ name.now ∷ decimal off ∷ decimal len ∷ [])) }
 {
     text.word(word)?;
     text.word(name)?;
-    text.number(off)?;
-    text.number(len)
+    text.number(u64::from(off))?;
+    text.number(u64::from(len))
 }
 
 /// Puts an operation on two ranges of named buffers.
 fn put_pair(
-    text: &mut Text,
+    text: &mut Line,
     word: &[u8],
     to: &[u8],
     to_off: u32,
@@ -194,8 +193,8 @@ fn put_pair(
 {
     text.word(word)?;
     text.word(to)?;
-    text.number(to_off)?;
+    text.number(u64::from(to_off))?;
     text.word(from)?;
-    text.number(from_off)?;
-    text.number(len)
+    text.number(u64::from(from_off))?;
+    text.number(u64::from(len))
 }

@@ -4,7 +4,5 @@
 mod commands;
 mod places;
 pub mod script;
-mod text;
-mod words;
 
 pub use script::write_script;

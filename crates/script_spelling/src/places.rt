@@ -1,10 +1,9 @@
 ghost use Rattle.std.specs.Prelude.{◌≡◌, ◌++◌, ◌∷◌, [], OnOk};
 ghost use Rattle.journal_model.specs.Spelling.{flag, flagged_word, place_word, placement_words, reach_word};
 ghost use Rattle.script_spelling.specs.Lists.{is_in, item_word, part_word};
-ghost use Rattle.script_spelling.specs.Spaced.{spaced_out};
+ghost use Rattle.text_line.specs.Spaced.{spaced_out};
 
-use crate::text::Text;
-use crate::words::mem_word;
+use text_line::{Line, mem_word};
 use ttm_base::{FlaggedPlace, NoMemory, Place};
 
 /// The places of a buffer that one word of its line names: those that are tried first, those that are tried under
@@ -18,7 +17,7 @@ pub(crate) enum Part {
 
 /// Puts the words of a buffer's places. Version 1 has two lists, and any other has one list with flags.
 pub(crate) fn put_placement(
-    text: &mut Text,
+    text: &mut Line,
     version: u32,
     list: &[FlaggedPlace],
 ) -> Result<(), NoMemory>
@@ -34,7 +33,7 @@ pub(crate) fn put_placement(
 
 /// Puts the name of a part and its places.
 fn put_part(
-    text: &mut Text,
+    text: &mut Line,
     label: &[u8],
     part: Part,
     list: &[FlaggedPlace],
@@ -46,7 +45,7 @@ fn put_part(
     put_list(text, part, list)
 }
 
-fn put_list(text: &mut Text, part: Part, list: &[FlaggedPlace]) -> Result<(), NoMemory>
+fn put_list(text: &mut Line, part: Part, list: &[FlaggedPlace]) -> Result<(), NoMemory>
     ensures { OnOk result (text.new ≡ text.old ++ part_word part list.now) }
 {
     let mut is_first = true;
@@ -70,7 +69,7 @@ fn is_in(part: Part, place: FlaggedPlace) -> bool
     }
 }
 
-fn put_item(text: &mut Text, part: Part, place: FlaggedPlace) -> Result<(), NoMemory>
+fn put_item(text: &mut Line, part: Part, place: FlaggedPlace) -> Result<(), NoMemory>
     ensures { OnOk result (text.new ≡ text.old ++ item_word part place) }
 {
     match part {
@@ -80,7 +79,7 @@ fn put_item(text: &mut Text, part: Part, place: FlaggedPlace) -> Result<(), NoMe
     }
 }
 
-fn put_flagged(text: &mut Text, place: FlaggedPlace) -> Result<(), NoMemory>
+fn put_flagged(text: &mut Line, place: FlaggedPlace) -> Result<(), NoMemory>
     ensures { OnOk result (text.new ≡ text.old ++ flagged_word place) }
 {
     put_place(text, place.place)?;
@@ -88,7 +87,7 @@ fn put_flagged(text: &mut Text, place: FlaggedPlace) -> Result<(), NoMemory>
     put_flag(text, place.fallback, b"+fallback")
 }
 
-fn put_place(text: &mut Text, place: Place) -> Result<(), NoMemory>
+fn put_place(text: &mut Line, place: Place) -> Result<(), NoMemory>
     ensures { OnOk result (text.new ≡ text.old ++ place_word place) }
 {
     text.put(mem_word(place.mem))?;
@@ -98,7 +97,7 @@ fn put_place(text: &mut Text, place: Place) -> Result<(), NoMemory>
 }
 
 /// Puts a range of pages, unless it is all.
-fn put_reach(text: &mut Text, first: u32, last: u32) -> Result<(), NoMemory>
+fn put_reach(text: &mut Line, first: u32, last: u32) -> Result<(), NoMemory>
     ensures { OnOk result (text.new ≡ text.old ++ reach_word first last) }
 {
     if first == 0 && last == 0 {
@@ -111,7 +110,7 @@ fn put_reach(text: &mut Text, first: u32, last: u32) -> Result<(), NoMemory>
 }
 
 /// Puts a word where it is wanted.
-fn put_flag(text: &mut Text, is_wanted: bool, word: &[u8]) -> Result<(), NoMemory>
+fn put_flag(text: &mut Line, is_wanted: bool, word: &[u8]) -> Result<(), NoMemory>
     ensures { OnOk result (text.new ≡ text.old ++ flag is_wanted word.now) }
 {
     if is_wanted { text.put(word) } else { Ok(()) }

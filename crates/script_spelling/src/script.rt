@@ -2,14 +2,13 @@ ghost use Rattle.std.specs.Prelude.{◌≡◌, ◌++◌, ◌∷◌, [], IfOk, On
 ghost use Rattle.journal_model.specs.Words.{actor_word, line};
 ghost use Rattle.journal_model.specs.Spelling.{buffer_line, group_word, spelling, turn_line};
 ghost use Rattle.script_spelling.specs.Parts.{command_text, head_lines, shape_words, thread_text, vram_line};
-ghost use Rattle.script_spelling.specs.Spaced.{spaced_out};
+ghost use Rattle.text_line.specs.Spaced.{spaced_out};
 
 use crate::commands::put_command;
 use crate::places::put_placement;
-use crate::text::Text;
-use crate::words::put_actor;
 use journal_model::{Command, Decl, Script};
 use std::alloc::Global;
+use text_line::{Line, put_actor};
 use ttm_base::{Actor, NoMemory};
 
 /// The bytes of a script without marks.
@@ -17,7 +16,7 @@ pub fn write_script(alloc: Global, script: &Script) -> Result<Vec<u8>, NoMemory>
     requires marks { script.now.marks ≡ [] }
     ensures { IfOk result (λ bytes. bytes.items ≡ spelling script.now) }
 {
-    let mut text = Text::new(alloc);
+    let mut text = Line::new(alloc);
     put_head(&mut text, script)?;
     put_buffers(&mut text, script)?;
     put_threads(&mut text, script)?;
@@ -27,7 +26,7 @@ pub fn write_script(alloc: Global, script: &Script) -> Result<Vec<u8>, NoMemory>
 }
 
 /// Puts the lines above the buffers.
-fn put_head(text: &mut Text, script: &Script) -> Result<(), NoMemory>
+fn put_head(text: &mut Line, script: &Script) -> Result<(), NoMemory>
     ensures { OnOk result (text.new ≡ text.old ++ head_lines script.now) }
 {
     put_count(text, b"ttm", script.version)?;
@@ -39,7 +38,7 @@ fn put_head(text: &mut Text, script: &Script) -> Result<(), NoMemory>
 }
 
 /// Puts a line of one word.
-fn put_heading(text: &mut Text, word: &[u8]) -> Result<(), NoMemory>
+fn put_heading(text: &mut Line, word: &[u8]) -> Result<(), NoMemory>
     ensures { OnOk result (text.new ≡ text.old ++ line (word.now ∷ [])) }
 {
     text.put(word)?;
@@ -47,15 +46,15 @@ fn put_heading(text: &mut Text, word: &[u8]) -> Result<(), NoMemory>
 }
 
 /// Puts a line of a word and a number.
-fn put_count(text: &mut Text, word: &[u8], count: u32) -> Result<(), NoMemory>
+fn put_count(text: &mut Line, word: &[u8], count: u32) -> Result<(), NoMemory>
     ensures { OnOk result (text.new ≡ text.old ++ line (word.now ∷ decimal count ∷ [])) }
 {
     text.put(word)?;
-    text.number(count)?;
+    text.number(u64::from(count))?;
     text.end_line()
 }
 
-fn put_vram(text: &mut Text, script: &Script) -> Result<(), NoMemory>
+fn put_vram(text: &mut Line, script: &Script) -> Result<(), NoMemory>
     ensures { OnOk result (text.new ≡ text.old ++ vram_line script.now) }
 {
     text.put(b"vram")?;
@@ -64,11 +63,11 @@ fn put_vram(text: &mut Text, script: &Script) -> Result<(), NoMemory>
     } else {
         b"range"
     })?;
-    text.number(script.sizes.vram)?;
+    text.number(u64::from(script.sizes.vram))?;
     text.end_line()
 }
 
-fn put_buffers(text: &mut Text, script: &Script) -> Result<(), NoMemory>
+fn put_buffers(text: &mut Line, script: &Script) -> Result<(), NoMemory>
     ensures { OnOk result (text.new ≡ text.old ++ flat_map (buffer_line script.now.version) script.now.buffers) }
 {
     for decl in script.buffers.items() {
@@ -77,7 +76,7 @@ fn put_buffers(text: &mut Text, script: &Script) -> Result<(), NoMemory>
     Ok(())
 }
 
-fn put_buffer(text: &mut Text, version: u32, decl: &Decl) -> Result<(), NoMemory>
+fn put_buffer(text: &mut Line, version: u32, decl: &Decl) -> Result<(), NoMemory>
     ensures { OnOk result (text.new ≡ text.old ++ buffer_line version decl.now) }
 {
     text.put(b"buffer")?;
@@ -87,29 +86,29 @@ fn put_buffer(text: &mut Text, version: u32, decl: &Decl) -> Result<(), NoMemory
 }
 
 /// Puts the words between `buffer` and the places.
-fn put_shape(text: &mut Text, decl: &Decl) -> Result<(), NoMemory>
+fn put_shape(text: &mut Line, decl: &Decl) -> Result<(), NoMemory>
     ensures { OnOk result (text.new ≡ text.old ++ spaced_out (shape_words decl.now)) }
 {
     text.word(decl.name.items())?;
-    text.number(decl.pages)?;
+    text.number(u64::from(decl.pages))?;
     text.word(b"prio")?;
-    text.number(decl.prio)?;
+    text.number(u64::from(decl.prio))?;
     text.word(b"group")?;
     put_group(text, decl.group)?;
     text.word(b"align")?;
-    text.number(decl.align)
+    text.number(u64::from(decl.align))
 }
 
-fn put_group(text: &mut Text, group: Option<u32>) -> Result<(), NoMemory>
+fn put_group(text: &mut Line, group: Option<u32>) -> Result<(), NoMemory>
     ensures { OnOk result (text.new ≡ text.old ++ 32 ∷ group_word group) }
 {
     match group {
         None => text.word(b"-"),
-        Some(group) => text.number(group),
+        Some(group) => text.number(u64::from(group)),
     }
 }
 
-fn put_threads(text: &mut Text, script: &Script) -> Result<(), NoMemory>
+fn put_threads(text: &mut Line, script: &Script) -> Result<(), NoMemory>
     ensures { OnOk result (text.new ≡ text.old ++ flat_map (thread_text script.now) script.now.threads) }
 {
     for commands in script.threads.items() {
@@ -118,14 +117,14 @@ fn put_threads(text: &mut Text, script: &Script) -> Result<(), NoMemory>
     Ok(())
 }
 
-fn put_thread(text: &mut Text, script: &Script, commands: &[Command]) -> Result<(), NoMemory>
+fn put_thread(text: &mut Line, script: &Script, commands: &[Command]) -> Result<(), NoMemory>
     ensures { OnOk result (text.new ≡ text.old ++ thread_text script.now commands.now) }
 {
     put_heading(text, b"thread")?;
     put_commands(text, script, commands)
 }
 
-fn put_commands(text: &mut Text, script: &Script, commands: &[Command]) -> Result<(), NoMemory>
+fn put_commands(text: &mut Line, script: &Script, commands: &[Command]) -> Result<(), NoMemory>
     ensures { OnOk result (text.new ≡ text.old ++ flat_map (command_text script.now) commands.now) }
 {
     for command in commands {
@@ -134,7 +133,7 @@ fn put_commands(text: &mut Text, script: &Script, commands: &[Command]) -> Resul
     Ok(())
 }
 
-fn put_turns(text: &mut Text, script: &Script) -> Result<(), NoMemory>
+fn put_turns(text: &mut Line, script: &Script) -> Result<(), NoMemory>
     ensures { OnOk result (text.new ≡ text.old ++ flat_map turn_line script.now.turns) }
 {
     for turns in script.turns.items() {
@@ -143,7 +142,7 @@ fn put_turns(text: &mut Text, script: &Script) -> Result<(), NoMemory>
     Ok(())
 }
 
-fn put_turn_line(text: &mut Text, actors: &[Actor]) -> Result<(), NoMemory>
+fn put_turn_line(text: &mut Line, actors: &[Actor]) -> Result<(), NoMemory>
     ensures { OnOk result (text.new ≡ text.old ++ turn_line actors.now) }
 {
     text.put(b"schedule")?;
@@ -152,7 +151,7 @@ fn put_turn_line(text: &mut Text, actors: &[Actor]) -> Result<(), NoMemory>
 }
 
 /// Puts each actor behind a space.
-fn put_actors(text: &mut Text, actors: &[Actor]) -> Result<(), NoMemory>
+fn put_actors(text: &mut Line, actors: &[Actor]) -> Result<(), NoMemory>
     ensures { OnOk result (text.new ≡ text.old ++ spaced_out (map actor_word actors.now)) }
 {
     for who in actors {

@@ -1,5 +1,4 @@
-use Rattle.std.proofs.Common.{◌≡◌, Err, refl, ap, sym, ◌∙◌, arith}
-use Rattle.std.proofs.lemmas.Grind.{common_steps}
+use Rattle.std.proofs.Common.{Err, ap, sym}
 use Rattle.range_manager.specs.Held.{HasTakenPage}
 use Rattle.replay_lines.proofs.RangeTableLaws.{open_all, taken_none, reserved_all, reserved_none}
 use Rattle.replay_lines.proofs.range_table.take_all.Goals as goal

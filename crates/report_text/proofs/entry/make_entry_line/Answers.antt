@@ -10,7 +10,7 @@ pub returns : goal.returns
 returns c =
     let script = c.args.script.now in
     let entry = c.args.entry.now in
-    on_ok_weaker c.put_byte-2.result
-    (λ end. line_of_two (decimal c.args.number) (actor_word entry.who) c.verb.result.now c.word.new.self c.put_arguments.new.line c.put_byte-2.new.self
+    on_ok_weaker c.end_line.result
+    (λ end. line_of_two (decimal c.args.number) (actor_word entry.who) c.verb.result.now c.word.new.self c.put_arguments.new.line c.end_line.new.self
     (kind_words script entry.kind) (c.verb.ensures script) (grind (arith, common_steps)) c.in_ok-put_arguments.ensures end)
-    c.put_byte-2.ensures
+    c.end_line.ensures

@@ -1,6 +1,6 @@
 use Rattle.std.proofs.Common.{◌≡◌, ◌++◌, map, take}
 use Rattle.journal_model.specs.EntryText.{cause_row_word}
-use Rattle.report_text.specs.Spaced.{behind_each}
+use Rattle.text_line.specs.Spaced.{behind_each}
 use Rattle.report_text.proofs.entry.put_more_causes.Given as goal
 
 abbrev pub invariant-loop-row : goal.invariant-loop-row

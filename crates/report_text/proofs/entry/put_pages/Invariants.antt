@@ -1,6 +1,6 @@
 use Rattle.std.proofs.Common.{◌≡◌, ◌++◌, ◌∷◌, map, take, decimal}
 use Rattle.journal_model.specs.Words.{name_of}
-use Rattle.report_text.specs.Spaced.{spaced_out}
+use Rattle.text_line.specs.Spaced.{spaced_out}
 use Rattle.report_text.proofs.entry.put_pages.Given as goal
 
 abbrev pub invariant-loop-number : goal.invariant-loop-number

@@ -1,6 +1,6 @@
 use Rattle.std.proofs.Common.{◌≡◌, ◌++◌, map, take}
 use Rattle.journal_model.specs.Words.{span_word}
-use Rattle.report_text.specs.Spaced.{behind_each}
+use Rattle.text_line.specs.Spaced.{behind_each}
 use Rattle.report_text.proofs.words.put_more_spans.Given as goal
 
 abbrev pub invariant-loop-span : goal.invariant-loop-span

@@ -1,4 +1,4 @@
-use Rattle.std.proofs.Common.{◌≡◌, ◌++◌, length, refl, sym, ap, ◌∙◌, arith}
+use Rattle.std.proofs.Common.{◌++◌, refl, sym, ap, ◌∙◌, arith}
 use Rattle.std.specs.List.{join_with_byte}
 use Rattle.script_spelling.proofs.PartLaws.{is_none, kept_on, not_first, one_passed}
 use Rattle.script_spelling.proofs.places.put_list.Goals as goal

@@ -1,7 +1,6 @@
 use Rattle.std.proofs.Common.{◌≡◌, ◌++◌, map, take}
-use Rattle.std.specs.Prelude.{flat_map}
 use Rattle.journal_model.specs.Words.{actor_word}
-use Rattle.script_spelling.specs.Spaced.{spaced_out}
+use Rattle.text_line.specs.Spaced.{spaced_out}
 use Rattle.script_spelling.proofs.script.put_actors.Given as goal
 
 abbrev pub invariant-loop-who : goal.invariant-loop-who

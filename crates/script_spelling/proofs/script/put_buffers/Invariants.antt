@@ -1,4 +1,4 @@
-use Rattle.std.proofs.Common.{◌≡◌, ◌++◌, map, take}
+use Rattle.std.proofs.Common.{◌≡◌, ◌++◌, take}
 use Rattle.std.specs.Prelude.{flat_map}
 use Rattle.journal_model.specs.Spelling.{buffer_line}
 use Rattle.script_spelling.proofs.script.put_buffers.Given as goal

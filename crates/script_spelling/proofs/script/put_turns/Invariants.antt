@@ -1,4 +1,4 @@
-use Rattle.std.proofs.Common.{◌≡◌, ◌++◌, map, take}
+use Rattle.std.proofs.Common.{◌≡◌, ◌++◌, take}
 use Rattle.std.specs.Prelude.{flat_map}
 use Rattle.journal_model.specs.Spelling.{turn_line}
 use Rattle.script_spelling.proofs.script.put_turns.Given as goal

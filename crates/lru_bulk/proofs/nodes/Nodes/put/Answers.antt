@@ -1,4 +1,4 @@
-use Rattle.std.proofs.Common.{◌≡◌, ◌<◌, Some, None, List, Option, get_or, set, length, ap, ◌∙◌, arith}
+use Rattle.std.proofs.Common.{◌<◌, Some, List, Option, set, length, ap, ◌∙◌, arith}
 use Rattle.std.proofs.lemmas.List.{length-map}
 use Rattle.lru_bulk.specs.Nodes.{under}
 use Rattle.lru_bulk.specs.declared.nodes.Node.{Node}

@@ -1,4 +1,4 @@
-use Rattle.std.proofs.Common.{◌≡◌, Some, None, List, Option, get_or, set, ap, ◌∙◌}
+use Rattle.std.proofs.Common.{None, List, Option, set, ap, ◌∙◌}
 use Rattle.lru_bulk.specs.declared.nodes.Node.{Node}
 use Rattle.lru_bulk.proofs.NodeLaws.{nodes_take, keyed_take}
 use Rattle.lru_bulk.proofs.nodes.Nodes.take.Goals as goal

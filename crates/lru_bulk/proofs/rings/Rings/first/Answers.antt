@@ -1,4 +1,4 @@
-use Rattle.std.proofs.Common.{◌≡◌, ◌<◌, ap, subst, sym, ◌∙◌, arith}
+use Rattle.std.proofs.Common.{ap, ◌∙◌, arith}
 use Rattle.lru_bulk.specs.declared.nodes.Links.{Links}
 use Rattle.lru_bulk.specs.Lists.{list_at}
 use Rattle.lru_bulk.specs.Sound.{buffer_in, lists_of}

@@ -1,4 +1,4 @@
-use Rattle.std.proofs.Common.{◌≡◌, ◌*◌, List, [], None, replicate, refl}
+use Rattle.std.proofs.Common.{[], None, replicate, refl}
 use Rattle.lru_bulk.specs.declared.rings.Rings.{Rings}
 use Rattle.lru_bulk.proofs.SoundLaws.{lists_are, whole}
 use Rattle.lru_bulk.proofs.OrderLaws.{new_sound, new_order}

@@ -1,4 +1,4 @@
-use Rattle.std.proofs.Common.{◌≡◌, ap, ◌∙◌}
+use Rattle.std.proofs.Common.{ap, ◌∙◌}
 use Rattle.lru_bulk.specs.declared.nodes.Links.{Links}
 use Rattle.lru_bulk.specs.Sound.{buffer_in}
 use Rattle.lru_bulk.proofs.OrderLaws.{next_is}

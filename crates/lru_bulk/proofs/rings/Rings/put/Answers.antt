@@ -1,10 +1,7 @@
-use Rattle.std.proofs.Common.{◌≡◌, ◌≢◌, ℕ, ◌+◌, ◌*◌, ◌<◌, ◌≤◌, List, Option, Some, None, IsSome, length, set, get_or, refl, sym, ap, subst, ◌∙◌, arith}
-use Rattle.lru_bulk.specs.declared.rings.Rings.{Rings}
+use Rattle.std.proofs.Common.{List, Option, Some, None, refl, sym, ap, subst}
 use Rattle.lru_bulk.specs.declared.nodes.Node.{Node}
 use Rattle.lru_bulk.specs.declared.nodes.Spot.TheVariants.{End}
-use Rattle.lru_bulk.specs.declared.nodes.Listing.{Listing}
-use Rattle.lru_bulk.specs.Lists.{listing_in}
-use Rattle.lru_bulk.specs.Sound.{listings_of, lists_of, order_of, IsSound, IsWhole}
+use Rattle.lru_bulk.specs.Sound.{lists_of, IsSound, IsWhole}
 use Rattle.lru_bulk.proofs.WholeLaws.{put_whole, nodes_within, listings_after, no_node, shown}
 use Rattle.lru_bulk.proofs.rings.Rings.put.Goals as goal
 

@@ -1,4 +1,4 @@
-use Rattle.std.proofs.Common.{◌≡◌, List, Option, map, refl, ap, ◌∙◌}
+use Rattle.std.proofs.Common.{List, Option, map, refl, ap, ◌∙◌}
 use Rattle.lru_bulk.specs.declared.nodes.Node.{Node}
 use Rattle.lru_bulk.proofs.ListingLaws.{listing_in_node, listings_kept}
 use Rattle.lru_bulk.proofs.rings.Rings.put_links.Goals as goal

@@ -1,9 +1,6 @@
-use Rattle.std.proofs.Common.{◌≡◌, ◌≢◌, ℕ, ◌+◌, ◌*◌, ◌<◌, ◌≤◌, List, Option, Some, None, IsSome, length, set, get_or, refl, sym, ap, subst, ◌∙◌, arith}
-use Rattle.lru_bulk.specs.declared.rings.Rings.{Rings}
-use Rattle.lru_bulk.specs.declared.nodes.Node.{Node}
+use Rattle.std.proofs.Common.{List, Option, IsSome, sym, subst}
 use Rattle.lru_bulk.specs.declared.nodes.Listing.{Listing}
 use Rattle.lru_bulk.specs.Lists.{listing_in}
-use Rattle.lru_bulk.specs.Sound.{listings_of, lists_of, order_of, IsSound, IsWhole}
 use Rattle.lru_bulk.proofs.OrderLaws.{touched_is}
 use Rattle.lru_bulk.proofs.rings.Rings.replace.Goals as goal
 

@@ -1,10 +1,8 @@
-use Rattle.std.proofs.Common.{◌≡◌, ◌≢◌, ℕ, ◌+◌, ◌*◌, ◌<◌, ◌≤◌, List, Option, Some, None, IsSome, length, set, get_or, refl, sym, ap, subst, ◌∙◌, arith}
-use Rattle.lru_bulk.specs.declared.rings.Rings.{Rings}
+use Rattle.std.proofs.Common.{◌≡◌, List, Option, Some, set, refl, sym, ap, subst, ◌∙◌}
 use Rattle.lru_bulk.specs.declared.nodes.Node.{Node}
 use Rattle.lru_bulk.specs.declared.nodes.Listing.{Listing}
-use Rattle.lru_bulk.specs.Lists.{listing_in}
-use Rattle.lru_bulk.specs.Sound.{listings_of, lists_of, order_of, IsSound, IsWhole}
-use Rattle.lru_bulk.proofs.WholeLaws.{set_mem_whole, node_of_listing, listing_of_node, listings_after, shown}
+use Rattle.lru_bulk.specs.Sound.{listings_of, lists_of, IsSound}
+use Rattle.lru_bulk.proofs.WholeLaws.{set_mem_whole, listing_of_node, listings_after, shown}
 use Rattle.lru_bulk.proofs.rings.Rings.set_mem.Goals as goal
 
 pub returns : goal.returns

@@ -1,9 +1,9 @@
-use Rattle.std.proofs.Common.{◌≡◌, ℕ, ◌+◌, ◌*◌, ◌<◌, ◌≤◌, List, [], ◌++◌, None, Option, map, take, drop, set, length, refl, sym, ap, subst, ◌∙◌, arith}
+use Rattle.std.proofs.Common.{◌≡◌, ◌<◌, ◌≤◌, List, ◌++◌, Option, map, drop, set, length, sym, ap, subst, ◌∙◌, arith}
 use Rattle.std.proofs.lemmas.List.{append-nil, take_all, drop_all}
 use Rattle.ttm_base.specs.declared.BufId.{BufId}
 use Rattle.lru_bulk.specs.declared.nodes.Listing.{Listing}
 use Rattle.lru_bulk.specs.Lists.{list_at, members_last, is_member}
-use Rattle.lru_bulk.specs.Sound.{listings_of, lists_of, IsWhole}
+use Rattle.lru_bulk.specs.Sound.{listings_of, lists_of}
 use Rattle.lru_bulk.proofs.WholeLaws.{spliced_more}
 use Rattle.lru_bulk.proofs.rings.Rings.splice_all.Goals as goal
 

@@ -1,11 +1,8 @@
-use Rattle.std.proofs.Common.{◌≡◌, ◌≢◌, ℕ, ◌+◌, ◌*◌, ◌<◌, ◌≤◌, List, Option, Some, None, length, set, refl, sym, ap, subst, ◌∙◌, arith}
-use Rattle.lru_bulk.specs.declared.rings.Rings.{Rings}
+use Rattle.std.proofs.Common.{None, set, sym, ap, subst, arith}
 use Rattle.lru_bulk.specs.declared.nodes.Links.{Links}
-use Rattle.lru_bulk.specs.declared.nodes.Node.{Node}
-use Rattle.lru_bulk.specs.declared.nodes.Listing.{Listing}
 use Rattle.lru_bulk.specs.declared.nodes.Spot.TheVariants.{End, Of}
-use Rattle.lru_bulk.specs.Lists.{IsGroup, number_of, listing_in, list_at, taken_off, put_on, members_last, is_member}
-use Rattle.lru_bulk.specs.Sound.{next_at, prev_at, listings_of, lists_of, range_for, spot_before, IsWhole}
+use Rattle.lru_bulk.specs.Lists.{list_at, members_last, is_member}
+use Rattle.lru_bulk.specs.Sound.{prev_at, listings_of, lists_of}
 use Rattle.lru_bulk.specs.Relinks.{IsSpot}
 use Rattle.lru_bulk.proofs.WholeLaws.{splice_ready, splice_whole, shown, same_trans, spot_kept}
 use Rattle.lru_bulk.proofs.rings.Rings.splice_before.Goals as goal

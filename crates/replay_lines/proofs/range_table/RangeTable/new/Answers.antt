@@ -1,5 +1,5 @@
-use Rattle.replay_lines.proofs.RangeTableLaws.{none_of}
+use Rattle.replay_lines.proofs.RangeTableLaws.{table_is_new}
 use Rattle.replay_lines.proofs.range_table.RangeTable.new.Goals as goal
 
-pub returns-clause-spans : goal.returns-clause-spans
-returns-clause-spans c = λ id. none_of 65536 c.in_ok-spans.spans.items id c.in_ok-spans.ensures
+pub returns : goal.returns
+returns c = table_is_new c.in_ok-manager.manager c.in_ok-spans.spans.items c.args.pages c.in_ok-manager.ensures.size c.in_ok-manager.ensures.held c.in_ok-spans.ensures

@@ -1,3 +1,6 @@
+//! A text in the making, and the words that reports and scripts both have.
+#![tactic(auto)]
+
 ghost use Rattle.std.specs.Prelude.{◌≡◌, ◌++◌, ◌∷◌, [], OnOk, decimal};
 
 use itoa::Buffer;
@@ -5,9 +8,13 @@ use std::alloc::Global;
 use std::marker::Model;
 use ttm_base::NoMemory;
 
-/// A line in the making. After want of memory a part of what was to be put may stand at its end.
+mod words;
+
+pub use words::{mem_word, name_of, put_actor, put_hex, put_hex_byte, put_numbered};
+
+/// A line in the making, or several. After want of memory a part of what was to be put may stand at its end.
 #[derive(Debug, Drop)]
-pub(crate) struct Line {
+pub struct Line {
     bytes: Vec<u8>,
 }
 
@@ -20,7 +27,7 @@ impl Model for Line {
 }
 
 impl Line {
-    pub(crate) fn new(alloc: Global) -> Line
+    pub fn new(alloc: Global) -> Line
         ensures { result ≡ [] }
     {
         Line {
@@ -29,33 +36,39 @@ impl Line {
     }
 
     /// Begins another line in the same memory.
-    pub(crate) fn clear(&mut self)
+    pub fn clear(&mut self)
         ensures { self.new ≡ [] }
     {
         self.bytes.clear();
     }
 
-    pub(crate) fn bytes(&self) -> &[u8]
+    pub fn bytes(&self) -> &[u8]
         ensures { result.now ≡ self.now }
     {
         self.bytes.as_slice()
     }
 
-    pub(crate) fn put(&mut self, text: &[u8]) -> Result<(), NoMemory>
+    pub fn into_bytes(self) -> Vec<u8>
+        ensures { result.items ≡ self }
+    {
+        self.bytes
+    }
+
+    pub fn put(&mut self, text: &[u8]) -> Result<(), NoMemory>
         ensures { OnOk result (self.new ≡ self.old ++ text.now) }
     {
         self.bytes.extend_from_slice(text)?;
         Ok(())
     }
 
-    pub(crate) fn put_byte(&mut self, byte: u8) -> Result<(), NoMemory>
+    pub fn put_byte(&mut self, byte: u8) -> Result<(), NoMemory>
         ensures { OnOk result (self.new ≡ self.old ++ byte ∷ []) }
     {
         self.bytes.push(byte)?;
         Ok(())
     }
 
-    pub(crate) fn put_number(&mut self, number: u64) -> Result<(), NoMemory>
+    pub fn put_number(&mut self, number: u64) -> Result<(), NoMemory>
         ensures { OnOk result (self.new ≡ self.old ++ decimal number) }
     {
         let mut digits = Buffer::new();
@@ -63,7 +76,7 @@ impl Line {
     }
 
     /// Puts a space and a word.
-    pub(crate) fn word(&mut self, word: &[u8]) -> Result<(), NoMemory>
+    pub fn word(&mut self, word: &[u8]) -> Result<(), NoMemory>
         ensures { OnOk result (self.new ≡ self.old ++ 32 ∷ word.now) }
     {
         self.put_byte(b' ')?;
@@ -71,10 +84,20 @@ impl Line {
     }
 
     /// Puts a space and a number.
-    pub(crate) fn number(&mut self, number: u64) -> Result<(), NoMemory>
+    pub fn number(&mut self, number: u64) -> Result<(), NoMemory>
         ensures { OnOk result (self.new ≡ self.old ++ 32 ∷ decimal number) }
     {
         self.put_byte(b' ')?;
         self.put_number(number)
     }
+
+    /// Puts the end of a line.
+    pub fn end_line(&mut self) -> Result<(), NoMemory>
+        ensures { OnOk result (self.new ≡ self.old ++ 10 ∷ []) }
+    {
+        self.put_byte(b'\n')
+    }
 }
+
+#[cfg(test)]
+mod tests;

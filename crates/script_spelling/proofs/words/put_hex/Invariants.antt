@@ -1,6 +1,0 @@
-use Rattle.std.proofs.Common.{◌≡◌, ◌++◌, take}
-use Rattle.journal_model.specs.Words.{hex}
-use Rattle.script_spelling.proofs.words.put_hex.Given as goal
-
-abbrev pub invariant-loop-byte : goal.invariant-loop-byte
-invariant-loop-byte l = l.text ≡ l.fn.text ++ hex (take l.byte-index l.bytes)
