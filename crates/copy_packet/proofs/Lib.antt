@@ -1,2 +1,1 @@
 pub mod SpotLaws
-pub mod Pieces

@@ -4,5 +4,4 @@ pub mod HeldLaws
 pub mod PageLaws
 pub mod ListSteps
 pub mod FindLaws
-pub mod Pieces
 pub mod PendingJobs

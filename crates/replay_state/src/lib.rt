@@ -30,7 +30,8 @@ pub use holds::{
     spans_in,
 };
 pub use lists::{in_order, is_caught, is_mate, is_member, list_number, push_buffers, same_group};
-pub use packets::{packet_count, packets_of};
+pub use op_cutting::packet_count;
+pub use packets::packets_of;
 pub use placement::{reach_of, size_of};
 pub use places::{
     frame_of, frames_of, is_frame, loc_of, name_in_spans, name_in_table, packet_place, page_at,

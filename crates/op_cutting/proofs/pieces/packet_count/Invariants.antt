@@ -1,6 +1,6 @@
 use Rattle.std.proofs.Common.{◌≡◌, ◌≤◌, ◌-◌, ◌+◌, length}
 use Rattle.ttm_base.specs.Cutting.{pieces_of, pieces_from, room}
-use Rattle.replay_state.proofs.packets.packet_count.Given as goal
+use Rattle.op_cutting.proofs.pieces.packet_count.Given as goal
 
 abbrev pub invariant-loop-at : goal.invariant-loop-at
 invariant-loop-at l =

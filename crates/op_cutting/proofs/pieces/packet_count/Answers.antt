@@ -1,6 +1,6 @@
 use Rattle.std.proofs.Common.{arith}
-use Rattle.replay_state.proofs.Pieces.{count_more}
-use Rattle.replay_state.proofs.packets.packet_count.Goals as goal
+use Rattle.op_cutting.proofs.PieceLaws.{count_more}
+use Rattle.op_cutting.proofs.pieces.packet_count.Goals as goal
 
 pub loop-at-preserved : goal.loop-at-preserved
 loop-at-preserved c =

@@ -1,0 +1,12 @@
+//! Operations cut into packets at the page borders of their buffers, however packets name pages.
+#![tactic(auto)]
+
+mod lists;
+mod packets;
+mod pieces;
+#[cfg(test)]
+mod tests;
+
+pub use lists::PacketList;
+pub use packets::{PageNames, cut};
+pub use pieces::packet_count;
