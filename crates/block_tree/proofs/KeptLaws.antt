@@ -5,14 +5,15 @@ use Rattle.std.proofs.lemmas.List.{get_or_past}
 use Rattle.std.proofs.lemmas.Bool.{cases_lt, and_parts, and_right, le-ltb, ltb-true, leb-true, le-leb}
 use Rattle.ttm_base.specs.declared.Span.{Span}
 use Rattle.ttm_base.specs.Holes.{has_page}
+use Rattle.ttm_base.specs.Reach.{is_inside}
 use Rattle.ttm_base.specs.ListWords.{count_from}
 use Rattle.ttm_base.specs.BuddyChoice.{Candidate, candidate}
 use Rattle.block_tree.specs.declared.request.Request.{Request}
 use Rattle.block_tree.specs.Masks.{IsTree, order_at, is_free_in, is_marked}
 use Rattle.block_tree.proofs.TreeLaws.{largest_at}
-use Rattle.block_tree.proofs.SearchLaws.{whole_parts}
-use Rattle.block_tree.specs.Searching.{numbered, HasNone, IsLeast, FirstOf, IsFirst}
-use Rattle.block_tree.specs.FreeSet.{is_free, marks_of, IsKept}
+use Rattle.block_tree.proofs.SearchLaws.{whole_parts, whole_from, none_from}
+use Rattle.block_tree.specs.Searching.{numbered, IsIn, whole_at, HasNone, IsLeast, FirstOf, IsFirst}
+use Rattle.block_tree.specs.FreeSet.{is_free, marks_of, IsKept, HasSameBelow}
 use Rattle.block_tree.proofs.Numbers.{block_pages, in_block}
 use Rattle.block_tree.proofs.FreeLaws.{IsRoot, taken_within, taken_free}
 use Rattle.block_tree.proofs.ChoiceLaws.{candidate_none, candidate_found}
@@ -123,6 +124,38 @@ found_free o size ms r j i page k g h =
     let b = (block_pages (i * 2 ^ r.order) o 0 g.within).1 in
     let p = and_parts (nat_le (i * 2 ^ r.order) page) (nat_lt page (i * 2 ^ r.order + 2 ^ r.order)) h in
     taken_free (is_free (marks_of o size ms)) size o ms r i j page (own_root o size ms k) (omega (arith, b)) g.is (leb-true (i * 2 ^ r.order) page p.0) (ltb-true page (i * 2 ^ r.order + 2 ^ r.order) p.1)
+
+-- ---- a range that has the same pages
+
+-- the same request for another range
+abbrev pub near : Request → Span → Request
+near r n = record { order = r.order; range = n; topdown = r.topdown }
+
+inside_near : (r : Request) (n : Span) (size : ℕ) (b : Span) → HasSameBelow size n r.range → b.end ≤ size → is_inside n b ≡ is_inside r.range b
+inside_near r n size b s h = ap (λ x. nat_le x b.start && nat_le b.end n.end) s.start ∙ ap (λ t. nat_le r.range.start b.start && t) (s.end b.end h)
+
+module _ (o size : ℕ) (ms : List ℕ) (r : Request) (n : Span) (k : IsKept o size ms) (s : HasSameBelow size n r.range) where
+  end_below : (r : Request) (i w : ℕ) → IsIn o 0 r.order i → whole_at r o ms i ≡ Some w → i * 2 ^ r.order + 2 ^ r.order ≤ size
+  end_below r i w e x = let b = (block_pages (i * 2 ^ r.order) o 0 e).1 in taken_within (is_free (marks_of o size ms)) size o ms r i w (own_root o size ms k) (omega (arith, b)) x
+
+  from_near : (i w : ℕ) → IsIn o 0 r.order i → whole_at (near r n) o ms i ≡ Some w → whole_at r o ms i ≡ Some w
+  from_near i w e x =
+      let p = whole_parts (near r n) i w (order_at o ms (i * 2 ^ r.order)) x in
+      whole_from r i w (order_at o ms (i * 2 ^ r.order)) p.is p.large (sym (inside_near r n size (numbered r.order i) s (end_below (near r n) i w e x)) ∙ p.inside)
+
+  to_near : (i w : ℕ) → IsIn o 0 r.order i → whole_at r o ms i ≡ Some w → whole_at (near r n) o ms i ≡ Some w
+  to_near i w e x =
+      let p = whole_parts r i w (order_at o ms (i * 2 ^ r.order)) x in
+      whole_from (near r n) i w (order_at o ms (i * 2 ^ r.order)) p.is p.large (inside_near r n size (numbered r.order i) s (end_below r i w e x) ∙ p.inside)
+
+  pub none_near : HasNone (near r n) o ms 0 → HasNone r o ms 0
+  none_near h i e = none_from (whole_at r o ms i) (λ w x. let a = h i e in let b = to_near i w e x in absurd cc)
+
+  pub least_near : (j : ℕ) → IsLeast (near r n) o ms 0 j → IsLeast r o ms 0 j
+  least_near j l = record { bound = λ i w e x. l.bound i w e (to_near i w e x); number = l.number; within = l.within; is = from_near l.number j l.within l.is }
+
+  pub first_near : (j i : ℕ) → IsFirst (near r n) o ms 0 j i → IsFirst r o ms 0 j i
+  first_near j i f = record { within = f.within; is = from_near i j f.within f.is; first = λ m e x. f.first m e (to_near m j e x) }
 
 -- the least order is no larger than the block
 pub least_small : (o : ℕ) (ms : List ℕ) (r : Request) (q j : ℕ) → IsTree o ms → IsLeast r o ms q j → (j ≤ o) × (r.order ≤ j)

@@ -5,3 +5,5 @@ pub mod SearchLaws
 pub mod FreeLaws
 pub mod ChoiceLaws
 pub mod KeptLaws
+pub mod HalfLaws
+pub mod NearLaws

@@ -19,7 +19,7 @@ length_of_tree (suc o) ms t = t.0
 pub take_front : (n : ℕ) (l h : List ℕ) → length l ≡ n → take n (l ++ h) ≡ l
 take_front n l h e = grind (arith, common_steps)
 
-drop_front : (n : ℕ) (l h : List ℕ) → length l ≡ n → drop n (l ++ h) ≡ h
+pub drop_front : (n : ℕ) (l h : List ℕ) → length l ≡ n → drop n (l ++ h) ≡ h
 drop_front n l h e = grind (arith, common_steps)
 
 or_left_zero : (a b : ℕ) → bit_or a b ≡ 0 → a ≡ 0
@@ -109,7 +109,7 @@ retopped zero (m ∷ ms) v t k = (t.0, elim k [ inl e ↦ omega arith | inr e �
 retopped (suc o) [] v t k = absurd (omega (arith, t.0))
 retopped (suc o) (m ∷ ms) v t k = (t.0, elim k [ inl e ↦ inl e | inr e ↦ inr (inl e) ], t.2, t.3)
 
-some_masks : (o : ℕ) → 0 < nodes o
+pub some_masks : (o : ℕ) → 0 < nodes o
 some_masks zero = omega arith
 some_masks (suc o) = omega arith
 

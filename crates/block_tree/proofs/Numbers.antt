@@ -142,6 +142,23 @@ as_smaller n j k h =
     let split : 2 ^ j ≡ 2 ^ (j - k) * 2 ^ k = sym (ap (λ m. 2 ^ m) d) ∙ pow-add 2 k (j - k) ∙ mul_comm (2 ^ k) (2 ^ (j - k)) in
     ap (λ m. n * m) split ∙ sym (mul_assoc n (2 ^ (j - k)) (2 ^ k))
 
+pub less_number : (i m k : ℕ) → i * 2 ^ k ≤ m * 2 ^ k → i ≤ m
+less_number i m k h =
+    let s = some_pages k in
+    elim (cases_lt m i) [
+      | inr x ↦ x
+      | inl x ↦ let n : (m + 1) * 2 ^ k ≤ i * 2 ^ k = mul-le-mul_right (2 ^ k) (omega (arith, x)) in absurd (omega (arith, n, s))
+    ]
+
+-- a block has no more blocks of a smaller order than pages
+pub fewer_blocks : (q o k : ℕ) → k ≤ o → q * 2 ^ (o - k) + 2 ^ (o - k) ≤ q * 2 ^ o + 2 ^ o
+fewer_blocks q o k h =
+    let n : ℕ = q * 2 ^ (o - k) + 2 ^ (o - k) in
+    let s = as_smaller q o k h in
+    let t = as_smaller 1 o k h in
+    let m : 1 * n ≤ 2 ^ k * n = mul-le-mul_right n (some_pages k) in
+    omega (arith, s, t, m)
+
 pub less_by_block : (i m k o q : ℕ) → i * 2 ^ k / 2 ^ o ≡ 2 * q → m * 2 ^ k / 2 ^ o ≡ 2 * q + 1 → i ≤ m
 less_by_block i m k o q a b =
     elim (cases_lt m i) [

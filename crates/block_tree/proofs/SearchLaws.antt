@@ -1,14 +1,14 @@
 -- What a search in a block finds.
-use Rattle.std.proofs.Common.{◌≡◌, ℕ, zero, suc, ◌+◌, ◌-◌, ◌*◌, ◌/◌, ◌^◌, ◌<◌, ◌≤◌, ◌⊎◌, ◌&&◌, min, max, inl, inr, Bool, true, false, List, Option, Some, None, option_map, refl, ap, sym, ◌∙◌, subst, arith, leb, nat_le, bit_and, if◌then◌else◌}
+use Rattle.std.proofs.Common.{◌≡◌, ℕ, zero, suc, ◌+◌, ◌-◌, ◌*◌, ◌/◌, ◌^◌, ◌<◌, ◌≤◌, ◌⊎◌, ◌&&◌, ◌==◌, min, max, inl, inr, Bool, true, false, List, Option, Some, None, option_map, bit_or, refl, ap, sym, ◌∙◌, subst, arith, leb, nat_le, not, bit_and, mul-div_cancel, if◌then◌else◌}
 use Rattle.std.specs.Int.{bit_at}
-use Rattle.std.proofs.lemmas.Nat.Bits.{bit_at_above, shr_and_one, bit_at-pow_other, bit_at-zero}
-use Rattle.std.proofs.lemmas.Bool.{and_parts, and_from, leb-true, le-leb, lt-ltb, le-ltb, cases_lt, cases_eq, false_from_ne_true, both_ways}
+use Rattle.std.proofs.lemmas.Nat.Bits.{bit_at-lt, bit_at_or, bit_at_above, shr_and_one, bit_at-pow_other, bit_at-zero}
+use Rattle.std.proofs.lemmas.Bool.{eq-eqb, ne_eqb, and_parts, and_from, leb-true, le-leb, lt-ltb, le-ltb, cases_lt, cases_eq, false_from_ne_true, both_ways}
 use Rattle.ttm_base.specs.declared.Span.{Span}
 use Rattle.ttm_base.specs.Reach.{is_inside}
 use Rattle.block_tree.specs.declared.request.Request.{Request}
 use Rattle.block_tree.specs.Masks.{top, low, high, IsTree, order_at}
-use Rattle.block_tree.specs.Searching.{numbered, IsIn, whole_if, whole_at, HasNone, IsLeast, LeastOf, lesser_of, IsAhead, FirstOf, HasNoFit, IsFit, FitOf}
-use Rattle.block_tree.proofs.Numbers.{some_pages, block_pages, block_end, from_up, up_from, from_down, down_from, in_block, as_smaller, less_by_block, low_page, high_page, page_half}
+use Rattle.block_tree.specs.Searching.{numbered, IsIn, whole_if, whole_at, HasNone, IsLeast, LeastOf, lesser_of, IsAhead, IsFirst, FirstOf, is_first_low, HasNoFit, IsFit, FitOf}
+use Rattle.block_tree.proofs.Numbers.{some_pages, small_pow, less_number, block_pages, block_end, from_up, up_from, from_down, down_from, in_block, as_smaller, less_by_block, low_page, high_page, page_half}
 use Rattle.block_tree.proofs.TreeLaws.{at_full, at_low, at_high, kind_of, IsSplit, bit_cases, largest_at, order_in_mask, mask_has}
 
 -- ---- blocks inside the range
@@ -68,6 +68,30 @@ pub fit_high : (r : Request) (o q first last : ℕ) → r.order ≤ o → first 
 fit_high r o q first last k f l h d =
     let b = between r o q (last - 1) (omega arith) (omega arith) in
     record { within = b.within; inside = b.inside; first = λ m e t. let x = from_between r o q m k e t in subst (λ t. IsAhead t (last - 1) m) (sym d) (omega (arith, x.1)) }
+
+-- the blocks of a block inside the range
+pub fit_lowest : (r : Request) (o q : ℕ) → r.order ≤ o → r.range.start ≤ q * 2 ^ o → q * 2 ^ o + 2 ^ o ≤ r.range.end → r.topdown ≡ false → IsFit r o q (q * 2 ^ (o - r.order))
+fit_lowest r o q k l u d =
+    let i : ℕ = q * 2 ^ (o - r.order) in
+    let s : q * 2 ^ o ≡ i * 2 ^ r.order = as_smaller q o r.order k in
+    let within : IsIn o q r.order i = ap (λ n. n / 2 ^ o) (sym s) ∙ mul-div_cancel q (some_pages o) in
+    record {
+      within = within;
+      inside = all_fit r o q l u k i within;
+      first = λ m e t. subst (λ t. IsAhead t i m) (sym d) (less_number i m r.order (let b = (block_pages (m * 2 ^ r.order) o q e).0 in omega (arith, b, s)));
+    }
+
+pub fit_highest : (r : Request) (o q i : ℕ) → r.order ≤ o → r.range.start ≤ q * 2 ^ o → q * 2 ^ o + 2 ^ o ≤ r.range.end → r.topdown ≡ true → i + 1 ≡ (q + 1) * 2 ^ (o - r.order) → IsFit r o q i
+fit_highest r o q i k l u d h =
+    let s : (q + 1) * 2 ^ o ≡ (i + 1) * 2 ^ r.order = as_smaller (q + 1) o r.order k ∙ ap (λ n. n * 2 ^ r.order) (sym h) in
+    let p = some_pages r.order in
+    let n : 2 ^ r.order ≤ 2 ^ o = small_pow r.order o k in
+    let within : IsIn o q r.order i = in_block (i * 2 ^ r.order) o q (omega (arith, s, n)) (omega (arith, s, p)) in
+    record {
+      within = within;
+      inside = all_fit r o q l u k i within;
+      first = λ m e t. let b = block_end m r.order o q k e in let f : m + 1 ≤ i + 1 = less_number (m + 1) (i + 1) r.order (omega (arith, b, s)) in subst (λ t. IsAhead t i m) (sym d) (let g : m ≤ i = omega (arith, f) in g);
+    }
 
 -- ---- blocks that can be taken
 
@@ -290,6 +314,62 @@ first_behind_low r o ms q j (Some i) s n f =
         | inr h ↦ f.first m h.1 (sym (in_high r o ms q m s h.1).1 ∙ x)
       ];
     }
+
+-- of both halves the one that has it
+is_not : (t : Bool) → not t ≡ true → t ≡ false
+is_not true h = absurd cc
+is_not false h = refl
+
+is_so : (t : Bool) → not t ≡ false → t ≡ true
+is_so true h = refl
+is_so false h = absurd cc
+
+pub bit_none : (m j : ℕ) → (bit_at m j == 1) ≡ false → bit_at m j ≡ 0
+bit_none m j h = elim (bit_cases m j) [ inl z ↦ z | inr o ↦ absurd (both_ways (bit_at m j == 1) h (eq-eqb (bit_at m j) 1 o)) ]
+
+bit_one : (m j : ℕ) → (bit_at m j == 1) ≡ true → bit_at m j ≡ 1
+bit_one m j h = elim (bit_cases m j) [ inr o ↦ o | inl z ↦ absurd (both_ways (bit_at m j == 1) (ne_eqb (bit_at m j) 1 (λ o. omega (arith, o, z))) h) ]
+
+-- the half that has it, and that none in the other comes before
+pub record IsLowFirst (d : Bool) (a b j : ℕ) : Type 0 where
+  pub has : bit_at a j ≡ 1
+  pub none : d ≡ true → bit_at b j ≡ 0
+
+pub record IsHighFirst (d : Bool) (a b j : ℕ) : Type 0 where
+  pub has : bit_at b j ≡ 1
+  pub none : d ≡ false → bit_at a j ≡ 0
+
+pub low_is_first : (d : Bool) (a b m j : ℕ) → m ≡ bit_or a b → bit_at m j ≡ 1 → is_first_low d a b j ≡ true → IsLowFirst d a b j
+low_is_first true a b m j e one h =
+    let z = bit_none b j (is_not (bit_at b j == 1) h) in
+    let both = ap (λ n. bit_at n j) e ∙ bit_at_or a b j in
+    record { has = let l = bit_at-lt a j in omega (arith, both, one, z, l); none = λ _. z }
+low_is_first false a b m j e one h = record { has = bit_one a j h; none = λ f. absurd cc }
+
+pub high_is_first : (d : Bool) (a b m j : ℕ) → m ≡ bit_or a b → bit_at m j ≡ 1 → is_first_low d a b j ≡ false → IsHighFirst d a b j
+high_is_first true a b m j e one h = record { has = bit_one b j (is_so (bit_at b j == 1) h); none = λ f. absurd cc }
+high_is_first false a b m j e one h =
+    let z = bit_none a j h in
+    let both = ap (λ n. bit_at n j) e ∙ bit_at_or a b j in
+    record { has = let l = bit_at-lt b j in omega (arith, both, one, z, l); none = λ _. z }
+
+bool_cases : (d : Bool) → (d ≡ true) ⊎ (d ≡ false)
+bool_cases true = inl refl
+bool_cases false = inr refl
+
+pub first_is_low : (r : Request) (o : ℕ) (ms : List ℕ) (q j i : ℕ) → IsTree o (high o ms) → IsSplit o ms → IsLowFirst r.topdown (top (low o ms)) (top (high o ms)) j → IsFirst r o (low o ms) (2 * q) j i → IsFirst r (suc o) ms q j i
+first_is_low r o ms q j i t s n f =
+    elim (bool_cases r.topdown) [
+      | inl d ↦ first_behind_high r o ms q j (Some i) s (first_none_bit r o (high o ms) (2 * q + 1) j t (n.none d)) f
+      | inr d ↦ first_in_low r o ms q j i s d f
+    ]
+
+pub first_is_high : (r : Request) (o : ℕ) (ms : List ℕ) (q j i : ℕ) → IsTree o (low o ms) → IsSplit o ms → IsHighFirst r.topdown (top (low o ms)) (top (high o ms)) j → IsFirst r o (high o ms) (2 * q + 1) j i → IsFirst r (suc o) ms q j i
+first_is_high r o ms q j i t s n f =
+    elim (bool_cases r.topdown) [
+      | inl d ↦ first_in_high r o ms q j i s d f
+      | inr d ↦ first_behind_low r o ms q j (Some i) s (first_none_bit r o (low o ms) (2 * q) j t (n.none d)) f
+    ]
 
 -- a block that is neither wholly free nor without any is split
 pub split_of : (o k : ℕ) (ms : List ℕ) → o ≡ suc k → IsTree o ms → 0 < top ms → (top ms ≡ 2 ^ o → ⊥) → IsSplit k ms

@@ -1,5 +1,6 @@
 -- The free pages, seen as a mark for each page.
-use Rattle.std.specs.Prelude.{◌≡◌, ℕ, ◌^◌, ◌<◌, ◌≤◌, Bool, false, List, map, slice_index_or}
+use Rattle.std.specs.Prelude.{◌≡◌, ℕ, ◌^◌, ◌<◌, ◌≤◌, Bool, false, List, map, nat_le, slice_index_or}
+use Rattle.ttm_base.specs.declared.Span.{Span}
 use Rattle.ttm_base.specs.ListWords.{count_from}
 use Rattle.block_tree.specs.Masks.{IsTree, is_free_in}
 
@@ -18,3 +19,8 @@ pub record IsKept (o size : ℕ) (masks : List ℕ) : Type 0 where
   pub small : size < 2 ^ 16
   pub fits : size ≤ 2 ^ o
   pub beyond : (page : ℕ) → size ≤ page → page < 2 ^ o → is_free_in o masks page ≡ false
+
+-- both ranges have the same pages below a size
+pub record HasSameBelow (size : ℕ) (a b : Span) : Type 0 where
+  pub start : a.start ≡ b.start
+  pub end : (page : ℕ) → page ≤ size → nat_le page a.end ≡ nat_le page b.end

@@ -1,7 +1,7 @@
 -- The masks of a block and of the blocks inside it: its own first, then those of its lower half, then those of its upper half.
 -- A mask has a bit for each order of which the block has a largest free block. Where a block is wholly free or wholly held, its
 -- own mask tells it, and those inside it don't count.
-use Rattle.std.specs.Prelude.{◌≡◌, ℕ, zero, suc, ◌+◌, ◌^◌, ◌≤◌, ◌⊎◌, ◌==◌, ◌&&◌, Bool, List, Option, Some, None, length, take, drop, set, slice_index, bit_or, is_some, if◌then◌else◌}
+use Rattle.std.specs.Prelude.{◌≡◌, ℕ, zero, suc, ◌+◌, ◌/◌, ◌%◌, ◌^◌, ◌≤◌, ◌⊎◌, ◌==◌, ◌&&◌, Bool, List, Option, Some, None, length, take, drop, set, slice_index, bit_or, is_some, if◌then◌else◌}
 use Rattle.std.specs.Int.{bit_at}
 use Rattle.ttm_base.specs.declared.Span.{Span}
 use Rattle.ttm_base.specs.Holes.{has_page}
@@ -51,6 +51,19 @@ is_free_in o ms page = is_some (order_at o ms page)
 -- the masks of a half, of order o, after a block's own mask m was told to its halves
 abbrev pub told : ℕ → ℕ → List ℕ → List ℕ
 told o m ms = if m == 0 then set ms 0 0 else if m == 2 ^ suc o then set ms 0 (2 ^ o) else ms
+
+-- the masks of the half, of order o, that has number q among the blocks of its order
+abbrev pub half_of : ℕ → List ℕ → ℕ → List ℕ
+half_of o ms q = if q % 2 == 0 then low o ms else high o ms
+
+-- a block has masks for both halves, of order o, whatever its own says
+pub record HasHalves (o : ℕ) (ms : List ℕ) : Type 0 where
+  pub nodes : length ms ≡ nodes (suc o)
+  pub each : (q : ℕ) → IsTree o (half_of o ms q)
+
+-- the page is free by what its half says
+abbrev pub is_free_by_half : ℕ → List ℕ → ℕ → Bool
+is_free_by_half o ms page = is_free_in o (half_of o ms (page / 2 ^ o)) page
 
 -- the page is free once the pages of a span were marked
 abbrev pub is_marked : Span → Bool → Bool → ℕ → Bool

@@ -1,9 +1,10 @@
 -- Which blocks of an order can be taken, and which is taken first.
-use Rattle.std.specs.Prelude.{◌≡◌, ℕ, ◌+◌, ◌*◌, ◌/◌, ◌^◌, ◌≤◌, ◌&&◌, Bool, true, false, List, Option, Some, None, nat_le, nat_lt, if◌then◌else◌}
+use Rattle.std.specs.Prelude.{◌≡◌, ℕ, ◌+◌, ◌*◌, ◌/◌, ◌^◌, ◌≤◌, ◌&&◌, ◌==◌, Bool, true, false, List, Option, Some, None, nat_le, nat_lt, not, if◌then◌else◌}
+use Rattle.std.specs.Int.{bit_at}
 use Rattle.ttm_base.specs.declared.Span.{Span}
 use Rattle.ttm_base.specs.Reach.{is_inside}
 use Rattle.block_tree.specs.declared.request.Request.{Request}
-use Rattle.block_tree.specs.Masks.{order_at}
+use Rattle.block_tree.specs.Masks.{order_at, is_marked}
 
 -- the block of order k by its number among those of its order
 abbrev pub numbered : ℕ → ℕ → Span
@@ -59,6 +60,16 @@ pub record IsFirst (r : Request) (o : ℕ) (ms : List ℕ) (q j i : ℕ) : Type 
 abbrev pub FirstOf : Request → ℕ → List ℕ → ℕ → ℕ → Option ℕ → Type 0
 FirstOf r o ms q j None = (i : ℕ) → IsIn o q r.order i → whole_at r o ms i ≡ Some j → ⊥
 FirstOf r o ms q j (Some i) = IsFirst r o ms q j i
+
+-- of two halves with masks a and b, of which one has order j: the first block with it is in the lower half
+abbrev pub is_first_low : Bool → ℕ → ℕ → ℕ → Bool
+is_first_low true a b j = not (bit_at b j == 1)
+is_first_low false a b j = bit_at a j == 1
+
+-- the page is free once the block of order k that was found is taken
+abbrev pub taken_of : ℕ → Option ℕ → Bool → ℕ → Bool
+taken_of k None before page = before
+taken_of k (Some i) before page = is_marked (numbered k i) false before page
 
 -- ---- blocks inside the range
 

@@ -1,12 +1,13 @@
-ghost use Rattle.std.specs.Prelude.{◌≡◌, ℕ, ◌+◌, ◌^◌, ◌<◌, ◌≤◌, Bool, true, length, nat_lt, option_map, replicate, IfOk, IfSome};
+ghost use Rattle.std.specs.Prelude.{◌≡◌, ℕ, ◌+◌, ◌^◌, ◌<◌, ◌≤◌, Bool, true, false, length, nat_lt, option_map, replicate, None, IfOk, IfSome};
 ghost use Rattle.ttm_base.specs.BuddyChoice.{candidate};
 ghost use Rattle.ttm_base.specs.Holes.{has_page};
-ghost use Rattle.block_tree.specs.FreeSet.{is_free};
+ghost use Rattle.block_tree.specs.FreeSet.{is_free, HasSameBelow};
 ghost use Rattle.block_tree.specs.Masks.{nodes, is_free_in, is_marked, IsTree};
 
 use crate::masks::{block_len, mark, nodes};
 use crate::request::Request;
 use crate::search::{first_block, least_order};
+use crate::take::{span_of, take_first};
 use std::alloc::Global;
 use std::marker::Model;
 use ttm_base::{NoMemory, Span};
@@ -74,6 +75,21 @@ fn first_free(alloc: Global, order: u32, pages: u32) -> Result<Vec<u32>, NoMemor
     Ok(masks)
 }
 
+/// A range of pages below a size, up to a later end where it has the last page.
+fn reach_of(range: Span, size: u32, end: u32) -> Span
+    requires { size ≤ end }
+    ensures { HasSameBelow size result range }
+{
+    if size <= range.end {
+        Span {
+            start: range.start,
+            end,
+        }
+    } else {
+        range
+    }
+}
+
 impl FreeBlocks {
     /// Free pages, of which there are fewer than 65,536.
     pub fn new(alloc: Global, pages: u32) -> Result<FreeBlocks, NoMemory>
@@ -119,7 +135,7 @@ impl FreeBlocks {
     {
         let request = Request {
             order,
-            range,
+            range: reach_of(range, self.size, block_len(self.order)),
             topdown,
         };
         let whole = least_order(&self.masks, self.order, 0, request)?;
@@ -132,5 +148,29 @@ impl FreeBlocks {
             start,
             end: start + len,
         })
+    }
+
+    /// Takes the block that `candidate` answers: it is held from then on.
+    pub fn take(&mut self, range: Span, topdown: bool, order: u32) -> Option<Span>
+        requires { order ≤ 16 }
+        ensures choice { (test : ℕ → Bool) → ((page : ℕ) → page < length self.old → test page ≡ is_free self.old page) → option_map (λ c. c.block) (candidate test (length self.old) range topdown order) ≡ result }
+        ensures size { length self.new ≡ length self.old }
+        ensures taken { IfSome result (λ block. (page : ℕ) → is_free self.new page ≡ is_marked block false (is_free self.old page) page) }
+        ensures none { result ≡ None → self.new ≡ self.old }
+        ensures free { IfSome result (λ block. (page : ℕ) → has_page page block ≡ true → is_free self.old page ≡ true) }
+        ensures within { IfSome result (λ block. block.end ≤ length self.old) }
+        ensures small { IfSome result (λ block. block.end < 2 ^ 16) }
+        ensures len { IfSome result (λ block. block.end ≡ block.start + 2 ^ order) }
+    {
+        let request = Request {
+            order,
+            range: reach_of(range, self.size, block_len(self.order)),
+            topdown,
+        };
+        let whole = least_order(&self.masks, self.order, 0, request)?;
+        let Some(number) = take_first(&mut self.masks, self.order, request, whole) else {
+            unreachable!()
+        };
+        Some(span_of(order, number))
     }
 }

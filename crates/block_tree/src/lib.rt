@@ -5,6 +5,7 @@ mod free_blocks;
 mod masks;
 mod request;
 mod search;
+mod take;
 
 pub use free_blocks::FreeBlocks;
 pub use masks::block_len;

@@ -1,5 +1,5 @@
-ghost use Rattle.std.specs.Prelude.{◌≡◌, ℕ, ◌+◌, ◌*◌, ◌/◌, ◌^◌, ◌<◌, ◌≤◌, suc, length, if◌then◌else◌};
-ghost use Rattle.block_tree.specs.Masks.{nodes, top, low, high, joined, told, is_marked, is_free_in, IsTree};
+ghost use Rattle.std.specs.Prelude.{◌≡◌, ℕ, ◌+◌, ◌*◌, ◌/◌, ◌%◌, ◌^◌, ◌<◌, ◌≤◌, suc, length, if◌then◌else◌};
+ghost use Rattle.block_tree.specs.Masks.{nodes, top, low, high, joined, told, is_marked, is_free_in, is_free_by_half, HasHalves, IsTree};
 
 use ttm_base::Span;
 
@@ -73,6 +73,47 @@ fn tell(masks: &mut [u32], half: u32, mask: u32)
     }
 }
 
+/// Tells both halves of a block, which are of an order, what its own mask says.
+fn tell_halves(masks: &mut [u32], half: u32)
+    requires half { half ≤ 15 }
+    requires tree { IsTree (suc half) masks.old }
+    ensures halves { HasHalves half masks.new }
+    ensures same { (page : ℕ) → is_free_by_half half masks.new page ≡ is_free_in (suc half) masks.old page }
+{
+    let Some((top, halves)) = masks.split_first_mut() else {
+        unreachable!()
+    };
+    let (low, high) = halves.split_at_mut(nodes(half));
+    tell(low, half, *top);
+    tell(high, half, *top);
+}
+
+/// Makes a block's own mask of those of its halves, which are of an order.
+pub fn join_halves(masks: &mut [u32], half: u32)
+    requires half { half ≤ 15 }
+    requires halves { HasHalves half masks.old }
+    ensures tree { IsTree (suc half) masks.new }
+    ensures same { (page : ℕ) → is_free_in (suc half) masks.new page ≡ is_free_by_half half masks.old page }
+{
+    masks[0] = joined(half, masks[1], masks[1 + nodes(half)]);
+}
+
+/// The number of a half of a block, by the block's number.
+pub fn half_number(number: u32, is_high: bool) -> u32
+    requires { number < 2 ^ 16 }
+    ensures { result ≡ (if is_high then 2 * number + 1 else 2 * number) }
+{
+    if is_high { 2 * number + 1 } else { 2 * number }
+}
+
+/// Where the masks of a half, of an order, begin among those of its block.
+pub fn half_start(half: u32, number: u32) -> usize
+    requires { half ≤ 15 }
+    ensures { result ≡ 1 + number % 2 * nodes half }
+{
+    1 + (number % 2) as usize * nodes(half)
+}
+
 /// Marks the pages of a span that are in a block as free or held. The block is told by its order and by its number among those
 /// of its order.
 pub fn mark(masks: &mut [u32], order: u32, number: u32, span: Span, free: bool)
@@ -82,26 +123,61 @@ pub fn mark(masks: &mut [u32], order: u32, number: u32, span: Span, free: bool)
     ensures tree { IsTree order masks.new }
     ensures marked { (page : ℕ) → page / 2 ^ order ≡ number → is_free_in order masks.new page ≡ is_marked span free (is_free_in order masks.old page) page }
 {
+    let start = number * block_len(order);
+    let is_met = start < span.end && span.start < start + block_len(order);
+    if span.start < span.end && is_met {
+        mark_met(masks, order, number, span, free);
+    }
+}
+
+/// The same, of a block of which the span has pages.
+#[cycle(mark_met)]
+pub fn mark_met(masks: &mut [u32], order: u32, number: u32, span: Span, free: bool)
+    requires tree { IsTree order masks.old }
+    requires order { order ≤ 16 }
+    requires number { number * 2 ^ order + 2 ^ order ≤ 2 ^ 16 }
+    requires some { span.start < span.end }
+    requires above { number * 2 ^ order < span.end }
+    requires below { span.start < number * 2 ^ order + 2 ^ order }
+    ensures tree { IsTree order masks.new }
+    ensures marked { (page : ℕ) → page / 2 ^ order ≡ number → is_free_in order masks.new page ≡ is_marked span free (is_free_in order masks.old page) page }
+{
     let len = block_len(order);
     let start = number * len;
-    let end = start + len;
-    if span.end <= start || end <= span.start {
-        return;
-    }
-    if span.start <= start && end <= span.end {
+    if span.start <= start && start + len <= span.end {
         masks[0] = whole_mask(order, free);
         return;
     }
     // (a page is marked or it isn't)
     prove!(order > 0);
     let half = order - 1;
-    let Some((top, halves)) = masks.split_first_mut() else {
-        unreachable!()
-    };
-    let (low, high) = halves.split_at_mut(nodes(half));
-    tell(low, half, *top);
-    tell(high, half, *top);
-    mark(low, half, 2 * number, span, free);
-    mark(high, half, 2 * number + 1, span, free);
-    *top = joined(half, top_of(low), top_of(high));
+    let middle = start + block_len(half);
+    tell_halves(masks, half);
+    if span.start < middle && middle < span.end {
+        mark_half(masks, half, 2 * number, span, free);
+        mark_half(masks, half, 2 * number + 1, span, free);
+        join_halves(masks, half);
+    } else {
+        let near = half_number(number, middle <= span.start);
+        mark_half(masks, half, near, span, free);
+        join_halves(masks, half);
+    }
+}
+
+/// The same, of one half of a block, which is told by its order and its number.
+#[cycle(mark_met)]
+fn mark_half(masks: &mut [u32], half: u32, number: u32, span: Span, free: bool)
+    requires half { half ≤ 15 }
+    requires halves { HasHalves half masks.old }
+    requires number { number * 2 ^ half + 2 ^ half ≤ 2 ^ 16 }
+    requires some { span.start < span.end }
+    requires above { number * 2 ^ half < span.end }
+    requires below { span.start < number * 2 ^ half + 2 ^ half }
+    ensures halves { HasHalves half masks.new }
+    ensures marked { (page : ℕ) → page / 2 ^ half ≡ number → is_free_by_half half masks.new page ≡ is_marked span free (is_free_by_half half masks.old page) page }
+    ensures other { (page : ℕ) → (page / 2 ^ half % 2 ≡ number % 2 → ⊥) → is_free_by_half half masks.new page ≡ is_free_by_half half masks.old page }
+{
+    let start = half_start(half, number);
+    let end = start + nodes(half);
+    mark_met(&mut masks[start..end], half, number, span, free);
 }

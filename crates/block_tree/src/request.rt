@@ -1,6 +1,6 @@
 ghost use Rattle.std.specs.Prelude.{◌≡◌, ℕ, ◌+◌, ◌*◌, ◌^◌, ◌≤◌, ◌&&◌, true, false, nat_lt, nat_le};
 ghost use Rattle.ttm_base.specs.Reach.{is_inside};
-ghost use Rattle.block_tree.specs.Searching.{numbered, IsIn, HasNoFit, FitOf};
+ghost use Rattle.block_tree.specs.Searching.{numbered, IsIn, HasNoFit, IsFit, FitOf};
 
 use crate::masks::block_len;
 use ttm_base::Span;
@@ -34,6 +34,23 @@ impl Request {
     {
         let start = number * block_len(order);
         self.range.start <= start && start + block_len(order) <= self.range.end
+    }
+
+    /// The first block of the wanted order that is in a block inside the range, by its number.
+    pub fn first_in(self, order: u32, number: u32) -> u32
+        requires order { order ≤ 16 }
+        requires small { self.order ≤ order }
+        requires number { number * 2 ^ order + 2 ^ order ≤ 2 ^ 16 }
+        requires start { self.range.start ≤ number * 2 ^ order }
+        requires end { number * 2 ^ order + 2 ^ order ≤ self.range.end }
+        ensures { IsFit self order number result }
+    {
+        let blocks = block_len(order - self.order);
+        if self.topdown {
+            number * blocks + (blocks - 1)
+        } else {
+            number * blocks
+        }
     }
 
     /// The first block of the wanted order that is in a block and inside the range, by its number.

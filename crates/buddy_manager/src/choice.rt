@@ -1,8 +1,9 @@
-ghost use Rattle.std.specs.Prelude.{◌≡◌, ℕ, ◌+◌, ◌<◌, ◌≤◌, ◌||◌, Bool, [], Some, None, IfSome, OnOk, OnErr, length, option_map};
+ghost use Rattle.std.specs.Prelude.{◌≡◌, ℕ, ◌+◌, ◌<◌, ◌≤◌, ◌||◌, Bool, false, [], Some, None, IfSome, OnOk, OnErr, length, option_map};
 ghost use Rattle.std.specs.List.{list_any};
 ghost use Rattle.ttm_base.specs.Holes.{has_page};
 ghost use Rattle.ttm_base.specs.BuddyChoice as words;
 ghost use Rattle.block_tree.specs.FreeSet.{is_free};
+ghost use Rattle.block_tree.specs.Masks.{is_marked};
 ghost use Rattle.buddy_manager.specs.Held.{AllBy};
 ghost use Rattle.buddy_manager.specs.Taking.{CanTake, Tells, IsTakenBy, IsSame};
 
@@ -11,16 +12,19 @@ use crate::{AllocFault, BuddyFlags};
 use block_tree::FreeBlocks;
 use ttm_base::{Span, Spans};
 
-/// The block to take of the greatest order below a bound that has one.
-fn first_block(free: &FreeBlocks, range: Span, topdown: bool, orders: u32) -> Option<Span>
+/// Takes the block of the greatest order below a bound that has one.
+fn take_block(free: &mut FreeBlocks, range: Span, topdown: bool, orders: u32) -> Option<Span>
     requires { orders ≤ 17 }
-    ensures choice { (test : ℕ → Bool) → Tells test free.now → option_map (λ c. c.block) (words.first_candidate (words.candidate test (length free.now) range topdown) orders) ≡ result }
-    ensures can { IfSome result (CanTake (is_free free.now) (length free.now)) }
+    ensures choice { (test : ℕ → Bool) → Tells test free.old → option_map (λ c. c.block) (words.first_candidate (words.candidate test (length free.old) range topdown) orders) ≡ result }
+    ensures can { IfSome result (CanTake (is_free free.old) (length free.old)) }
+    ensures size { length free.new ≡ length free.old }
+    ensures taken { IfSome result (λ block. (page : ℕ) → is_free free.new page ≡ is_marked block false (is_free free.old page) page) }
+    ensures none { result ≡ None → free.new ≡ free.old }
 {
     let mut order = orders;
     while order > 0 {
         order -= 1;
-        if let Some(block) = free.candidate(range, topdown, order) {
+        if let Some(block) = free.take(range, topdown, order) {
             return Some(block);
         }
     }
@@ -45,13 +49,13 @@ fn scattered(
         if left == 0 {
             return Ok(());
         }
-        let Some(block) = first_block(free, range, topdown, log2_below(left) + 1) else {
+        let Some(block) = take_block(free, range, topdown, log2_below(left) + 1) else {
             return Err(AllocFault::NoBlocks);
         };
         let Ok(()) = out.push(block) else {
+            free.mark(block, true);
             return Err(AllocFault::NoMemory);
         };
-        free.mark(block, false);
         left = left.saturating_sub(block.end - block.start);
     }
     if left == 0 {

@@ -8,14 +8,10 @@ pub fn log2_below(pages: u32) -> u32
     ensures value { result ≡ words.log2_below 16 pages }
     ensures small { result < 16 }
 {
-    let mut order = 16_u32;
-    while order > 0 {
-        order -= 1;
-        if block_len(order) <= pages {
-            return order;
-        }
+    if pages == 0 {
+        return 0;
     }
-    0
+    (31 - pages.leading_zeros()).min(15)
 }
 
 /// The order of the smallest block of at least so many pages, or 16 where a block of that order is too small.

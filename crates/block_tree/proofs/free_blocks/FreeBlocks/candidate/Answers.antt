@@ -6,14 +6,15 @@ use Rattle.block_tree.specs.declared.request.Request.{Request}
 use Rattle.block_tree.specs.Searching.{numbered, LeastOf, FirstOf, IsFirst}
 use Rattle.block_tree.specs.FreeSet.{is_free}
 use Rattle.block_tree.proofs.Numbers.{small_pow}
-use Rattle.block_tree.proofs.KeptLaws.{block_of, length_marks, none_found, some_found, found_within, found_free, least_small}
+use Rattle.block_tree.proofs.KeptLaws.{near, none_near, least_near, first_near, block_of, length_marks, none_found, some_found, found_within, found_free, least_small}
 use Rattle.block_tree.proofs.free_blocks.FreeBlocks.candidate.Goals as goal
 use Rattle.block_tree.proofs.free_blocks.FreeBlocks.candidate.Goals.{After-block_len-len}
 
 pub returns-in_err-whole-clause-choice : goal.returns-in_err-whole-clause-choice
 returns-in_err-whole-clause-choice c = λ test h.
     let r : Request = record { order = c.args.order; range = c.args.range; topdown = c.args.topdown } in
-    let none = subst (λ xs. LeastOf r c.self.inside.order xs 0 None) c.deref.ensures.value c.in_err-whole.ensures in
+    let near = subst (λ xs. LeastOf (near r c.reach_of.result) c.self.inside.order xs 0 None) c.deref.ensures.value c.in_err-whole.ensures in
+    let none = none_near c.self.inside.order c.self.inside.size c.self.inside.masks.items r c.reach_of.result c.self.invariant c.reach_of.ensures near in
     let size = sym (length_marks c.self.inside.order c.self.inside.size c.self.inside.masks.items) ∙ ap length c.self.view_is in
     let found = none_found c.self.inside.order c.self.inside.size c.self.inside.masks.items r c.self.invariant none test (λ page l. h page (omega (arith, size)) ∙ sym (ap (λ s. is_free s page) c.self.view_is)) in
     subst (λ n. option_map block_of (candidate test n c.args.range c.args.topdown c.args.order) ≡ None) size found ∙ sym c.from_residual.ensures
@@ -25,7 +26,7 @@ first_block-requires-clause-number c =
 
 pub first_block-requires-clause-whole : goal.first_block-requires-clause-whole
 first_block-requires-clause-whole c =
-    let r : Request = record { order = c.args.order; range = c.args.range; topdown = c.args.topdown } in
+    let r : Request = near (record { order = c.args.order; range = c.args.range; topdown = c.args.topdown }) c.reach_of.result in
     let least = subst (λ xs. LeastOf r c.self.inside.order xs 0 (Some c.in_ok-whole.whole)) c.deref.ensures.value c.in_ok-whole.ensures in
     let s = least_small c.self.inside.order c.self.inside.masks.items r 0 c.in_ok-whole.whole c.self.invariant.tree least in
     let o = c.self.invariant.order in
@@ -34,12 +35,14 @@ first_block-requires-clause-whole c =
 first : (c : After-block_len-len) → IsFirst (record { order = c.args.order; range = c.args.range; topdown = c.args.topdown }) c.self.inside.order c.self.inside.masks.items 0 c.in_ok-whole.whole c.in-Some.number
 first c =
     let r : Request = record { order = c.args.order; range = c.args.range; topdown = c.args.topdown } in
-    subst (λ xs. FirstOf r c.self.inside.order xs 0 c.in_ok-whole.whole (Some c.in-Some.number)) c.deref-2.ensures.value c.in-Some.ensures
+    let n = subst (λ xs. FirstOf (near r c.reach_of.result) c.self.inside.order xs 0 c.in_ok-whole.whole (Some c.in-Some.number)) c.deref-2.ensures.value c.in-Some.ensures in
+    first_near c.self.inside.order c.self.inside.size c.self.inside.masks.items r c.reach_of.result c.self.invariant c.reach_of.ensures c.in_ok-whole.whole c.in-Some.number n
 
 pub returns-clause-choice : goal.returns-clause-choice
 returns-clause-choice c = λ test h.
     let r : Request = record { order = c.args.order; range = c.args.range; topdown = c.args.topdown } in
-    let least = subst (λ xs. LeastOf r c.self.inside.order xs 0 (Some c.in_ok-whole.whole)) c.deref.ensures.value c.in_ok-whole.ensures in
+    let least_here = subst (λ xs. LeastOf (near r c.reach_of.result) c.self.inside.order xs 0 (Some c.in_ok-whole.whole)) c.deref.ensures.value c.in_ok-whole.ensures in
+    let least = least_near c.self.inside.order c.self.inside.size c.self.inside.masks.items r c.reach_of.result c.self.invariant c.reach_of.ensures c.in_ok-whole.whole least_here in
     let size = sym (length_marks c.self.inside.order c.self.inside.size c.self.inside.masks.items) ∙ ap length c.self.view_is in
     let found = some_found c.self.inside.order c.self.inside.size c.self.inside.masks.items r c.in_ok-whole.whole c.in-Some.number c.self.invariant least (first (goal.at.returns-clause-choice c).After-block_len-len) test (λ page l. h page (omega (arith, size)) ∙ sym (ap (λ s. is_free s page) c.self.view_is)) in
     subst (λ n. option_map block_of (candidate test n c.args.range c.args.topdown c.args.order) ≡ Some (numbered c.args.order c.in-Some.number)) size found
