@@ -94,7 +94,7 @@ impl Tree {
         }
     }
 
-    /// The node at the root. Searches open nodes here alone: this is the step that is counted.
+    /// The node at the root. Searches for a request open nodes here alone: this is the step that is counted.
     pub fn open<L: Ledger>(&self, steps: &mut Steps<L>) -> Option<&Node>
         ensures none { IfNone result (self.now.spans ≡ []) }
         ensures shape { IfSome result (λ n. self.now ≡ shape_of_node n.now) }
@@ -138,11 +138,13 @@ impl Tree {
             Top::Empty => *self = closed(Tree::new(), fresh, Tree::new()),
             Top::Full(node) => {
                 if order.is_before(fresh.hole, node.hole) {
+                    let height = node.left.height();
                     node.left.insert(order, fresh);
-                    settle(node);
+                    settle_left(node, height);
                 } else {
+                    let height = node.right.height();
                     node.right.insert(order, fresh);
-                    settle(node);
+                    settle_right(node, height);
                 }
             }
         }
@@ -162,13 +164,15 @@ impl Tree {
             unreachable!()
         };
         if order.is_before(sought, node.hole) {
+            let height = node.left.height();
             let found = node.left.take(order, sought);
-            settle(node);
+            settle_left(node, height);
             return found;
         }
         if order.is_before(node.hole, sought) {
+            let height = node.right.height();
             let found = node.right.take(order, sought);
-            settle(node);
+            settle_right(node, height);
             return found;
         }
         let Top::Full(mut node) = mem::replace(&mut self.top, Top::Empty) else {
@@ -231,8 +235,9 @@ impl Tree {
         let Top::Full(node) = &mut self.top else {
             return None;
         };
+        let height = node.left.height();
         if let Some(first) = node.left.take_first() {
-            settle(node);
+            settle_left(node, height);
             return Some(first);
         }
         let Top::Full(mut node) = mem::replace(&mut self.top, Top::Empty) else {
@@ -274,6 +279,44 @@ fn closed(left: Tree, mut node: Box<Node>, right: Tree) -> Tree
     Tree {
         top: Top::Full(node),
     }
+}
+
+/// Balances a node whose left side has changed, which was so high.
+fn settle_left(node: &mut Box<Node>, height: u64)
+    requires balance { DifferBy 1 height node.old.value.right.height }
+    requires change { DifferBy 1 height node.old.value.left.height }
+    requires level { node.old.value.height ≡ max height node.old.value.right.height + 1 }
+    requires longest { node.old.value.longest_right ≡ longest node.old.value.right.spans }
+    requires fits { length node.old.value.left.spans + length node.old.value.right.spans + 1 < 2 ^ 64 }
+    ensures spans { spans_of node.new.value ≡ spans_of node.old.value }
+    ensures height { IsSettled node.old.value.left.height node.old.value.right.height node.new.value.height }
+    ensures sound { IsSound node.new.value }
+{
+    if node.left.height() != height {
+        return settle(node);
+    }
+    // (its levels bound those of the node)
+    let _levels = node.right.height();
+    node.longest_left = node.left.longest();
+}
+
+/// The same, where the right side has changed.
+fn settle_right(node: &mut Box<Node>, height: u64)
+    requires balance { DifferBy 1 node.old.value.left.height height }
+    requires change { DifferBy 1 height node.old.value.right.height }
+    requires level { node.old.value.height ≡ max node.old.value.left.height height + 1 }
+    requires longest { node.old.value.longest_left ≡ longest node.old.value.left.spans }
+    requires fits { length node.old.value.left.spans + length node.old.value.right.spans + 1 < 2 ^ 64 }
+    ensures spans { spans_of node.new.value ≡ spans_of node.old.value }
+    ensures height { IsSettled node.old.value.left.height node.old.value.right.height node.new.value.height }
+    ensures sound { IsSound node.new.value }
+{
+    if node.right.height() != height {
+        return settle(node);
+    }
+    // (its levels bound those of the node)
+    let _levels = node.left.height();
+    node.longest_right = node.right.longest();
 }
 
 /// Balances a node whose sides differ by two levels at most.

@@ -12,8 +12,8 @@ insert-requires t c =
     let count : length c.args.self.now.spans ≡ length c.deref_mut.result.now.left.spans + length c.deref_mut.result.now.right.spans + 1 = node_count node in
     (first_of (omega arith, search rules), (node_sorted_left c.args.order node c.requires.sorted, omega arith))
 
-pub settle-requires-clause-fits : goal.settle-requires-clause-fits
-settle-requires-clause-fits t c =
+pub settle_left-requires-clause-fits : goal.settle_left-requires-clause-fits
+settle_left-requires-clause-fits t c =
     let whole : shape_of_node c.in-Full.node.value ≡ c.args.self.now = subst (λ t. shape_of t ≡ c.args.self.now) c.in-Full.is c.self.view_is in
     let node : IsNode c.args.self.now c.deref_mut.result.now.left c.deref_mut.result.now.hole c.deref_mut.result.now.right = opened whole (subst IsTree c.in-Full.is c.self.invariant) c.deref_mut.ensures.value in
     let count : length c.args.self.now.spans ≡ length c.deref_mut.result.now.left.spans + length c.deref_mut.result.now.right.spans + 1 = node_count node in
@@ -27,8 +27,8 @@ insert-requires-else-is_before t c =
     let count : length c.args.self.now.spans ≡ length c.deref_mut-else-is_before.result.now.left.spans + length c.deref_mut-else-is_before.result.now.right.spans + 1 = node_count node in
     (first_of (omega arith, search rules), (node_sorted_right c.args.order node c.requires.sorted, omega arith))
 
-pub settle-requires-else-is_before-clause-fits : goal.settle-requires-else-is_before-clause-fits
-settle-requires-else-is_before-clause-fits t c =
+pub settle_right-requires-clause-fits : goal.settle_right-requires-clause-fits
+settle_right-requires-clause-fits t c =
     let whole : shape_of_node c.in-Full.node.value ≡ c.args.self.now = subst (λ t. shape_of t ≡ c.args.self.now) c.in-Full.is c.self.view_is in
     let node : IsNode c.args.self.now c.deref_mut-else-is_before.result.now.left c.deref_mut-else-is_before.result.now.hole c.deref_mut-else-is_before.result.now.right = opened whole (subst IsTree c.in-Full.is c.self.invariant) c.deref_mut-else-is_before.ensures.value in
     let count : length c.args.self.now.spans ≡ length c.deref_mut-else-is_before.result.now.left.spans + length c.deref_mut-else-is_before.result.now.right.spans + 1 = node_count node in
@@ -41,7 +41,7 @@ returns-then-is_before-clause-spans t c =
     let node : IsNode c.args.self.now c.deref_mut.result.now.left c.deref_mut.result.now.hole c.deref_mut.result.now.right = opened whole (subst IsTree c.in-Full.is c.self.invariant) c.deref_mut.ensures.value in
     let below : before c.args.order c.args.fresh.value.hole c.deref_mut.result.now.hole ≡ true = cc (c.if-is_before.ensures, c.deref.ensures, c.deref-in-Full.ensures, c.deref_mut.ensures.value) in
     let with = node_placed_left c.args.order c.args.fresh.value.hole node below in
-    cc (with, c.settle.ensures.spans, c.insert.ensures.spans)
+    cc (with, c.settle_left.ensures.spans, c.insert.ensures.spans)
 
 pub returns-else-is_before-clause-spans : goal.returns-else-is_before-clause-spans
 returns-else-is_before-clause-spans t c =
@@ -49,4 +49,4 @@ returns-else-is_before-clause-spans t c =
     let node : IsNode c.args.self.now c.deref_mut-else-is_before.result.now.left c.deref_mut-else-is_before.result.now.hole c.deref_mut-else-is_before.result.now.right = opened whole (subst IsTree c.in-Full.is c.self.invariant) c.deref_mut-else-is_before.ensures.value in
     let above : before c.args.order c.args.fresh.value.hole c.deref_mut-else-is_before.result.now.hole ≡ false = cc (c.if-is_before.ensures, c.deref.ensures, c.deref-in-Full.ensures, c.deref_mut-else-is_before.ensures.value) in
     let with = node_placed_right c.args.order c.args.fresh.value.hole node c.requires.sorted above in
-    cc (with, c.settle-else-is_before.ensures.spans, c.insert-else-is_before.ensures.spans)
+    cc (with, c.settle_right.ensures.spans, c.insert-else-is_before.ensures.spans)

@@ -14,8 +14,8 @@ take-found-requires t c =
     let goes = node_goes_left c.args.order c.args.sought node c.requires.sorted below in
     (first_of (omega arith, search rules), (node_sorted_left c.args.order node c.requires.sorted, (omega arith, subst IsSome goes.found c.requires.held)))
 
-pub settle-requires-clause-fits : goal.settle-requires-clause-fits
-settle-requires-clause-fits t c =
+pub settle_left-requires-clause-fits : goal.settle_left-requires-clause-fits
+settle_left-requires-clause-fits t c =
     let whole : shape_of_node c.in-Full.node.value ≡ c.args.self.now = subst (λ t. shape_of t ≡ c.args.self.now) c.in-Full.is c.self.view_is in
     let node : IsNode c.args.self.now c.deref_mut.result.now.left c.deref_mut.result.now.hole c.deref_mut.result.now.right = opened whole (subst IsTree c.in-Full.is c.self.invariant) c.deref_mut.ensures.value in
     let count : length c.args.self.now.spans ≡ length c.deref_mut.result.now.left.spans + length c.deref_mut.result.now.right.spans + 1 = node_count node in
@@ -36,7 +36,7 @@ returns-then-is_before-clause-left t c =
     let node : IsNode c.args.self.now c.deref_mut.result.now.left c.deref_mut.result.now.hole c.deref_mut.result.now.right = opened whole (subst IsTree c.in-Full.is c.self.invariant) c.deref_mut.ensures.value in
     let below : before c.args.order c.args.sought c.deref_mut.result.now.hole ≡ true = cc (c.if-is_before.ensures, c.deref.ensures, c.deref_mut.ensures.value) in
     let goes = node_goes_left c.args.order c.args.sought node c.requires.sorted below in
-    cc (goes.left, c.settle.ensures.spans, c.take-found.ensures.left)
+    cc (goes.left, c.settle_left.ensures.spans, c.take-found.ensures.left)
 
 pub take-found-requires-then-is_before-2 : goal.take-found-requires-then-is_before-2
 take-found-requires-then-is_before-2 t c =
@@ -47,8 +47,8 @@ take-found-requires-then-is_before-2 t c =
     let goes = node_goes_right c.args.order c.args.sought node c.requires.sorted above in
     (first_of (omega arith, search rules), (node_sorted_right c.args.order node c.requires.sorted, (omega arith, subst IsSome goes.found c.requires.held)))
 
-pub settle-requires-then-is_before-2-clause-fits : goal.settle-requires-then-is_before-2-clause-fits
-settle-requires-then-is_before-2-clause-fits t c =
+pub settle_right-requires-clause-fits : goal.settle_right-requires-clause-fits
+settle_right-requires-clause-fits t c =
     let whole : shape_of_node c.in-Full.node.value ≡ c.args.self.now = subst (λ t. shape_of t ≡ c.args.self.now) c.in-Full.is c.self.view_is in
     let node : IsNode c.args.self.now c.deref_mut-then-is_before-2.result.now.left c.deref_mut-then-is_before-2.result.now.hole c.deref_mut-then-is_before-2.result.now.right = opened whole (subst IsTree c.in-Full.is c.self.invariant) c.deref_mut-then-is_before-2.ensures.value in
     let count : length c.args.self.now.spans ≡ length c.deref_mut-then-is_before-2.result.now.left.spans + length c.deref_mut-then-is_before-2.result.now.right.spans + 1 = node_count node in
@@ -69,7 +69,7 @@ returns-then-is_before-2-clause-left t c =
     let node : IsNode c.args.self.now c.deref_mut-then-is_before-2.result.now.left c.deref_mut-then-is_before-2.result.now.hole c.deref_mut-then-is_before-2.result.now.right = opened whole (subst IsTree c.in-Full.is c.self.invariant) c.deref_mut-then-is_before-2.ensures.value in
     let above : before c.args.order c.deref_mut-then-is_before-2.result.now.hole c.args.sought ≡ true = cc (c.if-is_before-2.ensures, c.deref-2.ensures, c.deref_mut-then-is_before-2.ensures.value) in
     let goes = node_goes_right c.args.order c.args.sought node c.requires.sorted above in
-    cc (goes.left, c.settle-then-is_before-2.ensures.spans, c.take-found-then-is_before-2.ensures.left)
+    cc (goes.left, c.settle_right.ensures.spans, c.take-found-then-is_before-2.ensures.left)
 
 pub returns-clause-found : goal.returns-clause-found
 returns-clause-found t c =
