@@ -1,8 +1,10 @@
+pub mod Around
 pub mod Choices
 pub mod Counting
 pub mod Heights
 pub mod Lengths
 pub mod Looking
+pub mod Resizing
 pub mod Rises
 pub mod Searching
 pub mod Sides

@@ -1,11 +1,14 @@
 -- What holds of the sides of a node that was taken apart.
-use Rattle.std.proofs.Common.{◌≡◌, ◌+◌, true, false, ◌∷◌, ◌++◌, Some, length, ap, ◌∙◌, subst, arith, length-append}
+use Rattle.std.proofs.Common.{◌≡◌, ◌+◌, true, false, ◌∷◌, ◌++◌, Some, length, sym, ap, ◌∙◌, subst, arith, length-append}
 use Rattle.std.specs.List.{find}
 use Rattle.ttm_base.specs.declared.Span.{Span}
 use Rattle.hole_tree.specs.declared.order.Order.{Order}
+use Rattle.hole_tree.specs.Rising.{IsRising}
 use Rattle.hole_tree.specs.Shape.{Shape}
 use Rattle.hole_tree.specs.Sorting.{before, ties, IsSorted, placed, untied}
-use Rattle.hole_tree.specs.Trees.{IsNode}
+use Rattle.hole_tree.specs.Trees.{shape_of_node, IsNode, IsSound}
+use Rattle.hole_tree.specs.declared.tree.Node.{Node}
+use Rattle.hole_tree.proofs.Rises.{rising_left, rising_right}
 use Rattle.hole_tree.proofs.Sorts.{sorted_left, sorted_right, placed_left, placed_right, Goes, goes_left, goes_right, goes_here}
 
 pub node_count : {s l : Shape} {k : Span} {r : Shape} → IsNode s l k r → length s.spans ≡ length l.spans + length r.spans + 1
@@ -40,3 +43,16 @@ pub node_goes_here : {s l : Shape} {k : Span} {r : Shape} (o : Order) (x : Span)
 node_goes_here {s} {l} {k} {r} o x n h p q =
     let g = goes_here o x l.spans k r.spans p q (node_sorted o n h) in
     record { found = ap (λ w. find (ties o x) w) n.spans ∙ g.found; left = ap (λ w. untied o x w) n.spans ∙ g.left }
+
+-- a node that was opened
+pub opened : {s : Shape} {n m : Node} → shape_of_node n ≡ s → IsSound n → m ≡ n → IsNode s m.left m.hole m.right
+opened {s} {n} {m} e i f = rw f (record { spans = sym (ap (λ t. t.spans) e); height = sym (ap (λ t. t.height) e) ∙ i.height; balance = i.balance })
+
+pub node_rising : {s l : Shape} {k : Span} {r : Shape} → IsNode s l k r → IsRising s.spans → IsRising (l.spans ++ k ∷ r.spans)
+node_rising n h = subst IsRising n.spans h
+
+pub node_rising_left : {s l : Shape} {k : Span} {r : Shape} → IsNode s l k r → IsRising s.spans → IsRising l.spans
+node_rising_left {s} {l} {k} {r} n h = rising_left l.spans (k ∷ r.spans) (node_rising n h)
+
+pub node_rising_right : {s l : Shape} {k : Span} {r : Shape} → IsNode s l k r → IsRising s.spans → IsRising r.spans
+node_rising_right {s} {l} {k} {r} n h = rising_right l.spans k r.spans (node_rising n h)

@@ -1,5 +1,5 @@
 -- The holes by length: they are sorted, one comes and goes in its place, and the first that fits is the shortest.
-use Rattle.std.proofs.Common.{◌≡◌, ℕ, ◌≤◌, ◌<◌, Bool, true, false, cond, not, List, [], ◌∷◌, Some, None, length, refl, ap, sym, subst, ◌∙◌, inl, inr, ltb, arith}
+use Rattle.std.proofs.Common.{◌≡◌, ℕ, ◌≤◌, ◌<◌, Bool, true, false, cond, not, List, [], ◌∷◌, Option, Some, None, IsSome, length, refl, ap, sym, subst, ◌∙◌, inl, inr, ltb, arith}
 use Rattle.std.specs.List.{find, filter, list_all}
 use Rattle.std.proofs.lemmas.Bool.{cases_Bool, and_parts, eqb-true, ltb-false}
 use Rattle.std.proofs.lemmas.Bool.Decides.{nat_tests}
@@ -182,7 +182,7 @@ untied_past : (x : Span) (page : ℕ) (ys : List Span) → x.start ≤ page → 
 untied_past x page [] p h = refl
 untied_past x page (y ∷ ys) p h = let q : page < y.start = h.0 in rw (no_tie_above x y (omega arith)) (ap (λ w. y ∷ w) (untied_past x page ys p h.1))
 
-past_found : (start page : ℕ) (ys : List Span) (x : Span) → IsPast page ys → find (starts_at start) ys ≡ Some x → page < x.start
+pub past_found : (start page : ℕ) (ys : List Span) (x : Span) → IsPast page ys → find (starts_at start) ys ≡ Some x → page < x.start
 past_found start page [] x h e = cc
 past_found start page (y ∷ ys) x h e = elim (cases_Bool (starts_at start y)) [
   | inl t ↦ let same : Some y ≡ Some x = rw t at e in let z : y ≡ x = cc in rw (← z) h.0
@@ -218,11 +218,18 @@ none_left test (y ∷ ys) e = elim (cases_Bool (test y)) [
   | inr t ↦ rw t (ap (λ w. y ∷ w) (none_left test ys (rw t at e)))
 ]
 
-pub found_by_length : (start : ℕ) (ys : List Span) (x : Span) → IsRising ys → find (starts_at start) ys ≡ Some x → find (ties ByLength x) (sorted_by_length ys) ≡ None → ⊥
+found_by_length : (start : ℕ) (ys : List Span) (x : Span) → IsRising ys → find (starts_at start) ys ≡ Some x → find (ties ByLength x) (sorted_by_length ys) ≡ None → ⊥
 found_by_length start ys x h e n =
     let same : sorted_by_length ys ≡ sorted_by_length (without start ys) = sym (none_left (ties ByLength x) (sorted_by_length ys) n) ∙ sorted_without start ys x h e in
     let count : length (sorted_by_length ys) ≡ length (sorted_by_length (without start ys)) = ap length same in
     omega (arith, length-without start ys x h e, length-sorted ys, length-sorted (without start ys))
+
+some_of : (o : Option Span) → (o ≡ None → ⊥) → IsSome o
+some_of None f = absurd (f refl)
+some_of (Some x) f = refl
+
+pub held_by_length : (start : ℕ) (ys : List Span) (x : Span) → IsRising ys → find (starts_at start) ys ≡ Some x → IsSome (find (ties ByLength x) (sorted_by_length ys))
+held_by_length start ys x h e = some_of _ (λ n. found_by_length start ys x h e n)
 
 -- ---- the first that fits
 

@@ -1,7 +1,8 @@
 -- Holes in an order.
-use Rattle.std.specs.Prelude.{◌≡◌, Bool, true, List, [], ◌∷◌, ◌||◌, ◌&&◌, ◌==◌, nat_lt, not, filter, if◌then◌else◌}
+use Rattle.std.specs.Prelude.{◌≡◌, ℕ, Bool, true, List, [], ◌∷◌, ◌||◌, ◌&&◌, ◌==◌, nat_lt, not, filter, if◌then◌else◌}
 use Rattle.ttm_base.specs.declared.Span.{Span}
 use Rattle.ttm_base.specs.Reach.{length_of}
+use Rattle.hole_tree.specs.HoleSet.{starts_at}
 use Rattle.hole_tree.specs.declared.order.Order.{Order}
 use Rattle.hole_tree.specs.declared.order.Order.TheVariants.{ByStart, ByLength}
 
@@ -32,6 +33,11 @@ placed order x (y ∷ ys) = if before order x y then x ∷ y ∷ ys else y ∷ p
 -- the holes but those that tie with one
 abbrev pub untied : Order → Span → List Span → List Span
 untied order x ys = filter (λ y. not (ties order x y)) ys
+
+-- the holes with another in the place of the one that begins at a page
+abbrev pub replaced : ℕ → Span → List Span → List Span
+replaced start hole [] = []
+replaced start hole (x ∷ xs) = (if starts_at start x then hole else x) ∷ replaced start hole xs
 
 -- the holes by length, the lower first among equals
 abbrev pub sorted_by_length : List Span → List Span

@@ -1,5 +1,5 @@
 -- What a node is seen as, and what holds of it.
-use Rattle.std.specs.Prelude.{◌≡◌, ℕ, ◌+◌, ◌≤◌, max, [], ◌∷◌, ◌++◌}
+use Rattle.std.specs.Prelude.{◌≡◌, ℕ, ◌+◌, ◌≤◌, max, List, [], ◌∷◌, ◌++◌}
 use Rattle.ttm_base.specs.declared.Span.{Span}
 use Rattle.hole_tree.specs.Longest.{longest}
 use Rattle.hole_tree.specs.Shape.{Shape, IsLow}
@@ -7,9 +7,13 @@ use Rattle.hole_tree.specs.declared.tree.Node.{Node}
 use Rattle.hole_tree.specs.declared.tree.Top.{Top}
 use Rattle.hole_tree.specs.declared.tree.Top.TheVariants.{Empty, Full}
 
--- the holes below a node in order, and the height that it stores
+-- the holes below a node in order
+abbrev pub spans_of : Node → List Span
+spans_of n = n.left.spans ++ n.hole ∷ n.right.spans
+
+-- the same, and the height that it stores
 abbrev pub shape_of_node : Node → Shape
-shape_of_node n = record { spans = n.left.spans ++ n.hole ∷ n.right.spans; height = n.height }
+shape_of_node n = record { spans = spans_of n; height = n.height }
 
 abbrev pub shape_of : Top → Shape
 shape_of Empty = record { spans = []; height = 0 }

@@ -2,6 +2,7 @@
 ghost use Rattle.std.specs.Prelude.{◌≡◌, ◌+◌, ◌-◌, ◌*◌, ◌^◌, ◌≤◌, max, [], length, true, Some, IsSome, OnOk};
 ghost use Rattle.std.specs.List.{find, list_all};
 ghost use Rattle.std.specs.Vec.{vec_len, vec_capacity};
+ghost use Rattle.ttm_base.specs.Holes.{has_page};
 ghost use Rattle.ttm_base.specs.declared.Mode.TheVariants.{Best, Low, High};
 ghost use Rattle.hole_tree.specs.Choosing.{chosen_hole};
 ghost use Rattle.hole_tree.specs.HoleSet.{is_apart, starts_at, with_hole, without};
@@ -103,13 +104,9 @@ impl Holes {
         ensures spare { self.new.spare ≡ self.old.spare + 1 }
     {
         let begins = Span { start, end: start };
-        let Some(by_start) = self.by_start.take(Order::ByStart, begins) else {
-            unreachable!()
-        };
+        let by_start = self.by_start.take(Order::ByStart, begins);
         let hole = by_start.hole;
-        let Some(by_length) = self.by_length.take(Order::ByLength, hole) else {
-            unreachable!()
-        };
+        let by_length = self.by_length.take(Order::ByLength, hole);
         self.count -= 1;
         keep(
             &mut self.spare,
@@ -119,6 +116,29 @@ impl Holes {
             },
         );
         hole
+    }
+
+    /// Moves the ends of a hole, which keeps its place among the others. It takes no memory.
+    pub fn resize(&mut self, from: Span, to: Span)
+        requires held { find (starts_at from.start) self.old.holes ≡ Some from }
+        requires whole { to.start ≤ to.end }
+        requires starts { to.start ≤ from.end }
+        requires ends { from.start ≤ to.end }
+        requires apart { list_all (is_apart to) (without from.start self.old.holes) ≡ true }
+        ensures holes { self.new.holes ≡ with_hole to (without from.start self.old.holes) }
+        ensures spare { self.new.spare ≡ self.old.spare }
+    {
+        self.by_start.resize(from.start, to);
+        let mut node = self.by_length.take(Order::ByLength, from);
+        node.hole = to;
+        self.by_length.insert(Order::ByLength, node);
+    }
+
+    /// The hole that has a page.
+    pub fn around(&self, page: u32) -> Option<Span>
+        ensures { result ≡ find (has_page page) self.now.holes }
+    {
+        self.by_start.around(page)
     }
 
     /// The shortest hole that has `pages` pages at a multiple of `align`, from `first` up to `last`; the lowest among

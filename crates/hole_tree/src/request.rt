@@ -1,4 +1,4 @@
-ghost use Rattle.std.specs.Prelude.{◌≡◌, ◌≤◌};
+ghost use Rattle.std.specs.Prelude.{◌≡◌, ◌+◌, ◌-◌, ◌*◌, ◌/◌, ◌^◌, ◌<◌, ◌≤◌};
 ghost use Rattle.ttm_base.specs.RangeChoice.{start_to_test};
 ghost use Rattle.ttm_base.specs.Reach.{common};
 ghost use Rattle.hole_tree.specs.Fitting.{fits, range_of, reaches_left, reaches_right};
@@ -20,13 +20,16 @@ impl Request {
         requires { 1 ≤ self.align }
         ensures { result ≡ fits mode self hole }
     {
+        if hole.end.saturating_sub(hole.start) < self.pages {
+            return false;
+        }
         let start = hole.start.max(self.first) as u64;
         let end = hole.end.min(self.last) as u64;
         let pages = self.pages as u64;
         let align = self.align as u64;
         let tested = match mode {
-            Mode::Best | Mode::Low => (start + align - 1) / align * align,
-            Mode::High => end.saturating_sub(pages) / align * align,
+            Mode::Best | Mode::Low => aligned_up(start, align),
+            Mode::High => aligned_down(end.saturating_sub(pages), align),
         };
         pages > 0 && start <= tested && tested + pages <= end
     }
@@ -51,5 +54,30 @@ impl Request {
             Order::ByLength => true,
         };
         self.pages <= longest && in_range
+    }
+}
+
+/// The lowest multiple of `align` from a page on.
+fn aligned_up(page: u64, align: u64) -> u64
+    requires align { 1 ≤ align }
+    requires fits { page + align < 2 ^ 64 }
+    ensures { result ≡ (page + align - 1) / align * align }
+{
+    if align == 1 {
+        page
+    } else {
+        (page + align - 1) / align * align
+    }
+}
+
+/// The highest up to a page.
+fn aligned_down(page: u64, align: u64) -> u64
+    requires { 1 ≤ align }
+    ensures { result ≡ page / align * align }
+{
+    if align == 1 {
+        page
+    } else {
+        page / align * align
     }
 }

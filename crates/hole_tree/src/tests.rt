@@ -37,3 +37,45 @@ fn taken_hole_leaves_its_nodes(rt: HostRuntime) -> Result<(), Fail> {
     assert_eq!(rt; holes.lowest(1, 1, 0, 64), Some(SHORT));
     Ok(())
 }
+
+#[test]
+fn ends_of_a_hole_move(rt: HostRuntime) -> Result<(), Fail> {
+    let mut holes = Holes::new(rt.alloc());
+    holes.ready(3)?;
+    holes.add(LONG);
+    holes.add(SHORT);
+    holes.add(HIGH);
+    let wide = Span { start: 18, end: 30 };
+    holes.resize(SHORT, wide);
+    assert_eq!(rt; holes.best(7, 1, 0, 64), Some(wide));
+    assert_eq!(rt; holes.lowest(7, 1, 0, 64), Some(wide));
+    assert_eq!(rt; holes.around(29), Some(wide));
+    assert_eq!(rt; holes.around(30), None);
+    let last = Span { start: 29, end: 30 };
+    holes.resize(wide, last);
+    assert_eq!(rt; holes.around(28), None);
+    assert_eq!(rt; holes.best(1, 1, 0, 64), Some(last));
+    assert_eq!(rt; holes.best(7, 1, 0, 64), None);
+    assert_eq!(rt; holes.highest(1, 1, 0, 40), Some(last));
+    Ok(())
+}
+
+#[test]
+fn rising_holes_are_balanced(rt: HostRuntime) -> Result<(), Fail> {
+    let mut holes = Holes::new(rt.alloc());
+    holes.ready(5)?;
+    holes.add(LONG);
+    holes.add(SHORT);
+    holes.add(HIGH);
+    let fourth = Span { start: 50, end: 55 };
+    holes.add(fourth);
+    let fifth = Span { start: 60, end: 61 };
+    holes.add(fifth);
+    assert_eq!(rt; holes.remove(20), SHORT);
+    assert_eq!(rt; holes.remove(4), LONG);
+    assert_eq!(rt; holes.around(41), Some(HIGH));
+    assert_eq!(rt; holes.best(1, 1, 0, 64), Some(fifth));
+    assert_eq!(rt; holes.lowest(3, 1, 0, 64), Some(fourth));
+    assert_eq!(rt; holes.highest(2, 1, 0, 64), Some(fourth));
+    Ok(())
+}

@@ -3,8 +3,10 @@ ghost use Rattle.std.specs.Prelude.{◌≡◌, ◌+◌, ◌^◌, ◌<◌, ◌≤
 ghost use Rattle.std.specs.List.{find};
 ghost use Rattle.hole_tree.specs.Longest.{longest};
 ghost use Rattle.hole_tree.specs.Shape.{IsLow};
-ghost use Rattle.hole_tree.specs.Trees.{shape_of_node, IsNode, IsSound, DifferBy, IsSettled};
-ghost use Rattle.hole_tree.specs.Sorting.{ties, IsSorted, placed, untied};
+ghost use Rattle.hole_tree.specs.Trees.{shape_of_node, spans_of, IsNode, IsSound, DifferBy, IsSettled};
+ghost use Rattle.hole_tree.specs.Sorting.{ties, IsSorted, placed, untied, replaced};
+ghost use Rattle.hole_tree.specs.Rising.{IsRising};
+ghost use Rattle.ttm_base.specs.Holes.{has_page};
 
 use crate::order::Order;
 use std::marker::Model;
@@ -92,7 +94,7 @@ impl Tree {
         }
     }
 
-    /// The node at the root. Searches open nodes here alone: this is the step that is counted.
+    /// The node at the root. Searches for a request open nodes here alone: this is the step that is counted.
     pub fn open<L: Ledger>(&self, steps: &mut Steps<L>) -> Option<&Node>
         ensures none { IfNone result (self.now.spans ≡ []) }
         ensures shape { IfSome result (λ n. self.now ≡ shape_of_node n.now) }
@@ -124,96 +126,146 @@ impl Tree {
         }
     }
 
-    /// With one hole more in its place, in the node that is given.
-    fn add(self, order: Order, fresh: Box<Node>) -> Tree
-        requires sorted { IsSorted order self.spans }
-        requires fits { length self.spans + 1 < 2 ^ 64 }
-        ensures spans { result.spans ≡ placed order fresh.value.hole self.spans }
-        ensures at_least { self.height ≤ result.height }
-        ensures at_most { result.height ≤ self.height + 1 }
+    /// Puts a hole into its place, in the node that is given.
+    pub fn insert(&mut self, order: Order, fresh: Box<Node>)
+        requires sorted { IsSorted order self.old.spans }
+        requires fits { length self.old.spans + 1 < 2 ^ 64 }
+        ensures spans { self.new.spans ≡ placed order fresh.value.hole self.old.spans }
+        ensures at_least { self.old.height ≤ self.new.height }
+        ensures at_most { self.new.height ≤ self.old.height + 1 }
     {
-        match self.parts() {
-            None => closed(Tree::new(), fresh, Tree::new()),
-            Some((left, node, right)) => {
+        match &mut self.top {
+            Top::Empty => *self = closed(Tree::new(), fresh, Tree::new()),
+            Top::Full(node) => {
                 if order.is_before(fresh.hole, node.hole) {
-                    balanced(left.add(order, fresh), node, right)
+                    let height = node.left.height();
+                    node.left.insert(order, fresh);
+                    settle_left(node, height);
                 } else {
-                    balanced(left, node, right.add(order, fresh))
+                    let height = node.right.height();
+                    node.right.insert(order, fresh);
+                    settle_right(node, height);
                 }
             }
         }
     }
 
-    /// The first hole in its node, and the others.
-    fn split_first(self) -> Option<(Box<Node>, Tree)>
-        requires fits { length self.spans < 2 ^ 64 }
-        ensures none { IfNone result (self.spans ≡ []) }
-        ensures no_level { IfNone result (self.height ≡ 0) }
-        ensures some { IfSome result (λ p. self.spans ≡ p.0.value.hole ∷ p.1.spans) }
-        ensures at_most { IfSome result (λ p. p.1.height ≤ self.height) }
-        ensures at_least { IfSome result (λ p. self.height ≤ p.1.height + 1) }
-    {
-        let (left, node, right) = self.parts()?;
-        match left.split_first() {
-            None => Some((node, right)),
-            Some((first, left)) => Some((first, balanced(left, node, right))),
-        }
-    }
-
-    /// The hole that ties with the one that is sought, in its node, and the others.
-    fn remove(self, order: Order, sought: Span) -> Option<(Box<Node>, Tree)>
-        requires sorted { IsSorted order self.spans }
-        requires fits { length self.spans < 2 ^ 64 }
-        ensures found { option_map (λ p. p.0.value.hole) result ≡ find (ties order sought) self.spans }
-        ensures left { IfSome result (λ p. p.1.spans ≡ untied order sought self.spans) }
-        ensures at_most { IfSome result (λ p. p.1.height ≤ self.height) }
-        ensures at_least { IfSome result (λ p. self.height ≤ p.1.height + 1) }
-    {
-        let (left, node, right) = self.parts()?;
-        if order.is_before(sought, node.hole) {
-            let (found, left) = left.remove(order, sought)?;
-            return Some((found, balanced(left, node, right)));
-        }
-        if order.is_before(node.hole, sought) {
-            let (found, right) = right.remove(order, sought)?;
-            return Some((found, balanced(left, node, right)));
-        }
-        Some((node, joined(left, right)))
-    }
-
-    /// Puts a hole into its place, in the node that is given.
-    pub fn insert(&mut self, order: Order, fresh: Box<Node>)
-        requires sorted { IsSorted order self.old.spans }
-        requires fits { length self.old.spans + 1 < 2 ^ 64 }
-        ensures { self.new.spans ≡ placed order fresh.value.hole self.old.spans }
-    {
-        *self = mem::replace(self, Tree::new()).add(order, fresh);
-    }
-
     /// Takes out the hole that ties with the one that is sought.
-    pub fn take(&mut self, order: Order, sought: Span) -> Option<Box<Node>>
+    pub fn take(&mut self, order: Order, sought: Span) -> Box<Node>
         requires sorted { IsSorted order self.old.spans }
         requires fits { length self.old.spans < 2 ^ 64 }
-        ensures found { option_map (λ n. n.value.hole) result ≡ find (ties order sought) self.old.spans }
-        ensures left { IfSome result (λ n. self.new.spans ≡ untied order sought self.old.spans) }
+        requires held { IsSome (find (ties order sought) self.old.spans) }
+        ensures found { find (ties order sought) self.old.spans ≡ Some result.value.hole }
+        ensures left { self.new.spans ≡ untied order sought self.old.spans }
+        ensures at_most { self.new.height ≤ self.old.height }
+        ensures at_least { self.old.height ≤ self.new.height + 1 }
     {
-        let (node, others) = mem::replace(self, Tree::new()).remove(order, sought)?;
-        *self = others;
+        let Top::Full(node) = &mut self.top else {
+            unreachable!()
+        };
+        if order.is_before(sought, node.hole) {
+            let height = node.left.height();
+            let found = node.left.take(order, sought);
+            settle_left(node, height);
+            return found;
+        }
+        if order.is_before(node.hole, sought) {
+            let height = node.right.height();
+            let found = node.right.take(order, sought);
+            settle_right(node, height);
+            return found;
+        }
+        let Top::Full(mut node) = mem::replace(&mut self.top, Top::Empty) else {
+            unreachable!()
+        };
+        let left = mem::replace(&mut node.left, Tree::new());
+        let right = mem::replace(&mut node.right, Tree::new());
+        *self = joined(left, right);
+        node
+    }
+
+    /// Puts another hole in the place of the one that begins at a page.
+    pub fn resize(&mut self, start: u32, hole: Span)
+        requires rising { IsRising self.old.spans }
+        ensures spans { self.new.spans ≡ replaced start hole self.old.spans }
+        ensures height { self.new.height ≡ self.old.height }
+    {
+        let Top::Full(node) = &mut self.top else {
+            return;
+        };
+        if start < node.hole.start {
+            node.left.resize(start, hole);
+            node.longest_left = node.left.longest();
+            return;
+        }
+        if node.hole.start < start {
+            node.right.resize(start, hole);
+            node.longest_right = node.right.longest();
+            return;
+        }
+        node.hole = hole;
+    }
+
+    /// The hole that has a page.
+    pub fn around(&self, page: u32) -> Option<Span>
+        requires rising { IsRising self.now.spans }
+        ensures { result ≡ find (has_page page) self.now.spans }
+    {
+        let Top::Full(node) = &self.top else {
+            return None;
+        };
+        if page < node.hole.start {
+            node.left.around(page)
+        } else if page < node.hole.end {
+            Some(node.hole)
+        } else {
+            node.right.around(page)
+        }
+    }
+
+    /// Takes out the first hole in its node.
+    fn take_first(&mut self) -> Option<Box<Node>>
+        requires fits { length self.old.spans < 2 ^ 64 }
+        ensures none { IfNone result (self.old.spans ≡ []) }
+        ensures no_level { IfNone result (self.old.height ≡ 0) }
+        ensures some { IfSome result (λ n. self.old.spans ≡ n.value.hole ∷ self.new.spans) }
+        ensures at_most { IfSome result (λ n. self.new.height ≤ self.old.height) }
+        ensures at_least { IfSome result (λ n. self.old.height ≤ self.new.height + 1) }
+    {
+        let Top::Full(node) = &mut self.top else {
+            return None;
+        };
+        let height = node.left.height();
+        if let Some(first) = node.left.take_first() {
+            settle_left(node, height);
+            return Some(first);
+        }
+        let Top::Full(mut node) = mem::replace(&mut self.top, Top::Empty) else {
+            unreachable!()
+        };
+        *self = mem::replace(&mut node.right, Tree::new());
         Some(node)
     }
 }
 
 /// The tree of two sides without a node between them.
-fn joined(left: Tree, right: Tree) -> Tree
+fn joined(left: Tree, mut right: Tree) -> Tree
     requires balance { DifferBy 1 left.height right.height }
     requires fits { length left.spans + length right.spans + 1 < 2 ^ 64 }
     ensures spans { result.spans ≡ left.spans ++ right.spans }
     ensures at_least { max left.height right.height ≤ result.height }
     ensures at_most { result.height ≤ max left.height right.height + 1 }
 {
-    match right.split_first() {
+    match right.take_first() {
         None => left,
-        Some((node, right)) => balanced(left, node, right),
+        Some(mut node) => {
+            node.left = left;
+            node.right = right;
+            settle(&mut node);
+            Tree {
+                top: Top::Full(node),
+            }
+        }
     }
 }
 
@@ -223,77 +275,118 @@ fn closed(left: Tree, mut node: Box<Node>, right: Tree) -> Tree
     requires fits { length left.spans + length right.spans + 1 < 2 ^ 64 }
     ensures { IsNode result left node.value.hole right }
 {
-    node.left = left;
-    node.right = right;
-    node.measure();
+    node.close(left, right);
     Tree {
         top: Top::Full(node),
     }
 }
 
-/// The tree of two sides that differ by two levels at most, with the hole of a node between them.
-fn balanced(left: Tree, node: Box<Node>, right: Tree) -> Tree
-    requires balance { DifferBy 2 left.height right.height }
-    requires fits { length left.spans + length right.spans + 1 < 2 ^ 64 }
-    ensures spans { result.spans ≡ left.spans ++ node.value.hole ∷ right.spans }
-    ensures height { IsSettled left.height right.height result.height }
+/// Balances a node whose left side has changed, which was so high.
+fn settle_left(node: &mut Box<Node>, height: u64)
+    requires balance { DifferBy 1 height node.old.value.right.height }
+    requires change { DifferBy 1 height node.old.value.left.height }
+    requires level { node.old.value.height ≡ max height node.old.value.right.height + 1 }
+    requires longest { node.old.value.longest_right ≡ longest node.old.value.right.spans }
+    requires fits { length node.old.value.left.spans + length node.old.value.right.spans + 1 < 2 ^ 64 }
+    ensures spans { spans_of node.new.value ≡ spans_of node.old.value }
+    ensures height { IsSettled node.old.value.left.height node.old.value.right.height node.new.value.height }
+    ensures sound { IsSound node.new.value }
 {
-    let (left_height, right_height) = (left.height(), right.height());
-    if left_height > right_height + 1 {
-        turned_right(left, node, right)
-    } else if right_height > left_height + 1 {
-        turned_left(left, node, right)
+    if node.left.height() != height {
+        return settle(node);
+    }
+    // (its levels bound those of the node)
+    let _levels = node.right.height();
+    node.longest_left = node.left.longest();
+}
+
+/// The same, where the right side has changed.
+fn settle_right(node: &mut Box<Node>, height: u64)
+    requires balance { DifferBy 1 node.old.value.left.height height }
+    requires change { DifferBy 1 height node.old.value.right.height }
+    requires level { node.old.value.height ≡ max node.old.value.left.height height + 1 }
+    requires longest { node.old.value.longest_left ≡ longest node.old.value.left.spans }
+    requires fits { length node.old.value.left.spans + length node.old.value.right.spans + 1 < 2 ^ 64 }
+    ensures spans { spans_of node.new.value ≡ spans_of node.old.value }
+    ensures height { IsSettled node.old.value.left.height node.old.value.right.height node.new.value.height }
+    ensures sound { IsSound node.new.value }
+{
+    if node.right.height() != height {
+        return settle(node);
+    }
+    // (its levels bound those of the node)
+    let _levels = node.left.height();
+    node.longest_right = node.right.longest();
+}
+
+/// Balances a node whose sides differ by two levels at most.
+fn settle(node: &mut Box<Node>)
+    requires balance { DifferBy 2 node.old.value.left.height node.old.value.right.height }
+    requires fits { length node.old.value.left.spans + length node.old.value.right.spans + 1 < 2 ^ 64 }
+    ensures spans { spans_of node.new.value ≡ spans_of node.old.value }
+    ensures height { IsSettled node.old.value.left.height node.old.value.right.height node.new.value.height }
+    ensures sound { IsSound node.new.value }
+{
+    let (left, right) = (node.left.height(), node.right.height());
+    if left > right + 1 {
+        turn_right(node);
+    } else if right > left + 1 {
+        turn_left(node);
     } else {
-        closed(left, node, right)
+        node.measure();
     }
 }
 
 /// The same, where the left side is two levels higher.
-fn turned_right(left: Tree, node: Box<Node>, right: Tree) -> Tree
-    requires two_higher { left.height ≡ right.height + 2 }
-    requires fits { length left.spans + length right.spans + 1 < 2 ^ 64 }
-    ensures spans { result.spans ≡ left.spans ++ node.value.hole ∷ right.spans }
-    ensures at_least { left.height ≤ result.height }
-    ensures at_most { result.height ≤ left.height + 1 }
+fn turn_right(node: &mut Box<Node>)
+    requires two_higher { node.old.value.left.height ≡ node.old.value.right.height + 2 }
+    requires fits { length node.old.value.left.spans + length node.old.value.right.spans + 1 < 2 ^ 64 }
+    ensures spans { spans_of node.new.value ≡ spans_of node.old.value }
+    ensures at_least { node.old.value.left.height ≤ node.new.value.height }
+    ensures at_most { node.new.value.height ≤ node.old.value.left.height + 1 }
+    ensures sound { IsSound node.new.value }
 {
-    let Some((outer, low, inner)) = left.parts() else {
+    let left = mem::replace(&mut node.left, Tree::new());
+    let right = mem::replace(&mut node.right, Tree::new());
+    let Some((outer, mut low, inner)) = left.parts() else {
         unreachable!()
     };
     if outer.height() >= inner.height() {
-        return closed(outer, low, closed(inner, node, right));
+        mem::swap(node, &mut low);
+        node.close(outer, closed(inner, low, right));
+        return;
     }
-    let Some((below, middle, above)) = inner.parts() else {
+    let Some((below, mut middle, above)) = inner.parts() else {
         unreachable!()
     };
-    closed(
-        closed(outer, low, below),
-        middle,
-        closed(above, node, right),
-    )
+    mem::swap(node, &mut middle);
+    node.close(closed(outer, low, below), closed(above, middle, right));
 }
 
 /// The same, where the right side is two levels higher.
-fn turned_left(left: Tree, node: Box<Node>, right: Tree) -> Tree
-    requires two_higher { right.height ≡ left.height + 2 }
-    requires fits { length left.spans + length right.spans + 1 < 2 ^ 64 }
-    ensures spans { result.spans ≡ left.spans ++ node.value.hole ∷ right.spans }
-    ensures at_least { right.height ≤ result.height }
-    ensures at_most { result.height ≤ right.height + 1 }
+fn turn_left(node: &mut Box<Node>)
+    requires two_higher { node.old.value.right.height ≡ node.old.value.left.height + 2 }
+    requires fits { length node.old.value.left.spans + length node.old.value.right.spans + 1 < 2 ^ 64 }
+    ensures spans { spans_of node.new.value ≡ spans_of node.old.value }
+    ensures at_least { node.old.value.right.height ≤ node.new.value.height }
+    ensures at_most { node.new.value.height ≤ node.old.value.right.height + 1 }
+    ensures sound { IsSound node.new.value }
 {
-    let Some((inner, high, outer)) = right.parts() else {
+    let left = mem::replace(&mut node.left, Tree::new());
+    let right = mem::replace(&mut node.right, Tree::new());
+    let Some((inner, mut high, outer)) = right.parts() else {
         unreachable!()
     };
     if outer.height() >= inner.height() {
-        return closed(closed(left, node, inner), high, outer);
+        mem::swap(node, &mut high);
+        node.close(closed(left, high, inner), outer);
+        return;
     }
-    let Some((below, middle, above)) = inner.parts() else {
+    let Some((below, mut middle, above)) = inner.parts() else {
         unreachable!()
     };
-    closed(
-        closed(left, node, below),
-        middle,
-        closed(above, high, outer),
-    )
+    mem::swap(node, &mut middle);
+    node.close(closed(left, middle, below), closed(above, high, outer));
 }
 
 impl Node {
@@ -307,6 +400,20 @@ impl Node {
             longest_left: 0,
             longest_right: 0,
         }
+    }
+
+    /// Puts two sides that are balanced beside its hole.
+    fn close(&mut self, left: Tree, right: Tree)
+        requires balance { DifferBy 1 left.height right.height }
+        requires fits { length left.spans + length right.spans + 1 < 2 ^ 64 }
+        ensures left { self.new.left ≡ left }
+        ensures hole { self.new.hole ≡ self.old.hole }
+        ensures right { self.new.right ≡ right }
+        ensures sound { IsSound self.new }
+    {
+        self.left = left;
+        self.right = right;
+        self.measure();
     }
 
     /// Stores the height and the longest holes of both sides.

@@ -1,17 +1,16 @@
 -- The hole that a request takes fits it, and gives the pages.
 use Rattle.std.proofs.Common.{◌≡◌, ℕ, ◌+◌, ◌<◌, ◌≤◌, ◌&&◌, ◌⊎◌, inl, inr, Bool, true, false, List, [], ◌∷◌, Option, Some, None, refl, ap, sym, ◌∙◌, subst, arith, nat_lt, nat_le, if◌then◌else◌}
-use Rattle.std.specs.Prelude.{option_map, filter_map, slice_get}
-use Rattle.std.specs.List.{find, cons_option}
-use Rattle.std.proofs.lemmas.Bool.{cases_lt, and_parts, and_from, lt-ltb, le-leb, ltb-true, leb-true, false_from_ne_true}
+use Rattle.std.specs.Prelude.{option_map, filter_map}
+use Rattle.std.specs.List.{cons_option}
+use Rattle.std.proofs.lemmas.Bool.{and_parts, ltb-true, leb-true}
 use Rattle.ttm_base.specs.declared.Span.{Span}
 use Rattle.ttm_base.specs.declared.Mode.{Mode}
 use Rattle.ttm_base.specs.declared.Mode.TheVariants.{Best, Low, High}
 use Rattle.ttm_base.specs.ListWords.{first_least, least_by, last_or}
-use Rattle.ttm_base.specs.Holes.{has_page}
 use Rattle.ttm_base.specs.Reach.{common, length_of}
 use Rattle.ttm_base.specs.RangeChoice.{Fit, fit_in, start_to_test, best_fit, fitting_hole, range_choice}
 use Rattle.hole_tree.specs.Choosing.{chosen_hole}
-use Rattle.range_manager.proofs.SpanLaws.{IsAmong, has_from, has_before, has_past}
+use Rattle.range_manager.proofs.SpanLaws.{IsAmong}
 
 abbrev pub fits : Mode → ℕ → ℕ → Span → Span → Bool
 fits m pages align range hole = nat_lt 0 pages && nat_le (common hole range).start (start_to_test m pages align (common hole range)) && nat_le (start_to_test m pages align (common hole range) + pages) (common hole range).end
@@ -106,39 +105,3 @@ taken_in m pages align range hole h =
     let from = leb-true (common hole range).start start q.1 in
     let by = leb-true (start + pages) (common hole range).end p.1 in
     record { some = some; from = omega arith; by = omega arith }
-
--- ---- the hole that has a page
-
-abbrev one_page : ℕ → Span
-one_page page = record { start = page; end = page + 1 }
-
-fits_one : (page : ℕ) (h : Span) → fits Low 1 1 (one_page page) h ≡ has_page page h
-fits_one page h = elim (cases_lt page h.start) [
-  | inl l ↦ false_from_ne_true (fits Low 1 1 (one_page page) h) (λ t. let i = taken_in_one page h t in let f = i.0 in let b = i.1 in omega arith) ∙ sym (has_before page h l)
-  | inr l ↦ elim (cases_lt page h.end) [
-    | inl u ↦
-        let start : ℕ = start_to_test Low 1 1 (common h (one_page page)) in
-        and_from (nat_lt 0 1 && nat_le (common h (one_page page)).start start) (nat_le (start + 1) (common h (one_page page)).end)
-        (and_from (nat_lt 0 1) (nat_le (common h (one_page page)).start start) (lt-ltb 0 1 (omega arith)) (le-leb (common h (one_page page)).start start (omega arith)))
-        (le-leb (start + 1) (common h (one_page page)).end (omega arith))
-        ∙ sym (has_from page h l u)
-    | inr u ↦ false_from_ne_true (fits Low 1 1 (one_page page) h) (λ t. let i = taken_in_one page h t in let f = i.0 in let b = i.1 in omega arith) ∙ sym (has_past page h u)
-  ]
-]
-  where
-    taken_in_one : (page : ℕ) (h : Span) → fits Low 1 1 (one_page page) h ≡ true → (h.start ≤ page) × (page < h.end)
-    taken_in_one page h t =
-        let start : ℕ = start_to_test Low 1 1 (common h (one_page page)) in
-        let p = and_parts (nat_lt 0 1 && nat_le (common h (one_page page)).start start) (nat_le (start + 1) (common h (one_page page)).end) t in
-        let q = and_parts (nat_lt 0 1) (nat_le (common h (one_page page)).start start) p.0 in
-        let from = leb-true (common h (one_page page)).start start q.1 in
-        let by = leb-true (start + 1) (common h (one_page page)).end p.1 in
-        (omega arith, omega arith)
-
-pub hole_around : (page : ℕ) (hs : List Span) → chosen_hole Low hs 1 1 page (page + 1) ≡ find (has_page page) hs
-hole_around page [] = refl
-hole_around page (x ∷ hs) = two (fits Low 1 1 (one_page page) x) refl (hole_around page hs) where
-  two : (t : Bool) → fits Low 1 1 (one_page page) x ≡ t → chosen_hole Low hs 1 1 page (page + 1) ≡ find (has_page page) hs
-      → option_map (λ f. f.hole) (slice_get (cons_option (if t then Some (fit_of Low 1 1 (one_page page) x) else None) (filter_map (fit_in Low 1 1 (one_page page)) hs)) 0) ≡ find (has_page page) (x ∷ hs)
-  two true e r = sym (ap (λ t. if t then Some x else find (has_page page) hs) (sym (fits_one page x) ∙ e))
-  two false e r = r ∙ sym (ap (λ t. if t then Some x else find (has_page page) hs) (sym (fits_one page x) ∙ e))

@@ -1,22 +1,38 @@
 //! The range that a request takes.
-ghost use Rattle.std.specs.Prelude.{◌≡◌, ◌+◌, ◌^◌, ◌<◌, ◌≤◌};
+ghost use Rattle.std.specs.Prelude.{◌≡◌, ◌+◌, ◌^◌, ◌<◌, ◌≤◌, Some, IfSome, option_map};
+ghost use Rattle.std.specs.List.{find};
 ghost use Rattle.ttm_base.specs.RangeChoice.{range_choice, start_to_test};
 ghost use Rattle.ttm_base.specs.Reach.{common};
 ghost use Rattle.hole_tree.specs.Choosing.{chosen_hole};
+ghost use Rattle.hole_tree.specs.HoleSet.{starts_at};
+ghost use Rattle.range_manager.specs.Kept.{IsSpaced};
 
 use hole_tree::Holes;
 use ttm_base::{Mode, Span};
 
-/// The pages of the hole that is taken.
-pub fn chosen(holes: &Holes, pages: u32, align: u32, range: Span, mode: Mode) -> Option<Span>
-    requires { 1 ≤ align }
-    ensures { result ≡ range_choice mode holes.now.holes pages align range }
+/// Pages, and the hole that has them.
+#[derive(Clone, Copy)]
+pub struct Choice {
+    pub hole: Span,
+    pub pages: Span,
+}
+
+/// The pages that are taken.
+pub fn chosen(holes: &Holes, pages: u32, align: u32, range: Span, mode: Mode) -> Option<Choice>
+    requires align { 1 ≤ align }
+    requires spaced { IsSpaced 1 holes.now.holes }
+    ensures pages { option_map (λ c. c.pages) result ≡ range_choice mode holes.now.holes pages align range }
+    ensures hole { IfSome result (λ c. find (starts_at c.hole.start) holes.now.holes ≡ Some c.hole) }
+    ensures some { IfSome result (λ c. c.pages.start < c.pages.end) }
+    ensures from { IfSome result (λ c. c.hole.start ≤ c.pages.start) }
+    ensures to { IfSome result (λ c. c.pages.end ≤ c.hole.end) }
 {
     let hole = chosen_hole(holes, pages, align, range, mode)?;
     let start = start_in(hole, pages, align, range, mode);
-    Some(Span {
-        start,
-        end: start + pages,
+    let end = start + pages;
+    Some(Choice {
+        hole,
+        pages: Span { start, end },
     })
 }
 

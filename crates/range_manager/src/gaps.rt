@@ -39,12 +39,11 @@ pub fn make_room(holes: &mut Holes, held: u32) -> Result<(), NoMemory>
 /// The hole that has a page.
 pub fn around(holes: &Holes, page: u32) -> Option<Span>
     requires spaced { IsSpaced 1 holes.now.holes }
-    requires within { page + 1 < 2 ^ 32 }
     ensures hole { IfSome result (λ hole. find (starts_at hole.start) holes.now.holes ≡ Some hole) }
     ensures page { IfSome result (λ hole. has_page page hole ≡ true) }
     ensures none { IfNone result (list_any (has_page page) holes.now.holes ≡ false) }
 {
-    holes.lowest(1, 1, page, page + 1)
+    holes.around(page)
 }
 
 /// Takes pages of a hole: what is left of it on both sides are holes.
@@ -59,23 +58,29 @@ pub fn take(holes: &mut Holes, hole: Span, taken: Span)
     ensures pages { (page : ℕ) → list_any (has_page page) holes.new.holes ≡ (list_any (has_page page) holes.old.holes && not (has_page page taken)) }
     ensures room { holes.old.spare ≤ holes.new.spare + 1 }
 {
-    holes.remove(hole.start);
     let below = Span {
         start: hole.start,
         end: taken.start,
     };
-    put(holes, below);
     let above = Span {
         start: taken.end,
         end: hole.end,
     };
-    put(holes, above);
+    if below.start < below.end {
+        holes.resize(hole, below);
+        put(holes, above);
+        return;
+    }
+    if above.start < above.end {
+        holes.resize(hole, above);
+        return;
+    }
+    holes.remove(hole.start);
 }
 
 /// Gives pages back: they are a hole, together with the holes that they touch.
 pub fn give(holes: &mut Holes, pages: Span)
     requires spaced { IsSpaced 1 holes.old.holes }
-    requires within { (page : ℕ) → 2 ^ 32 ≤ page + 1 → list_any (has_page page) holes.old.holes ≡ false }
     requires some { pages.start < pages.end }
     requires clear { IsClear 0 pages holes.old.holes }
     requires room { 1 ≤ holes.old.spare }
@@ -83,49 +88,95 @@ pub fn give(holes: &mut Holes, pages: Span)
     ensures pages { (page : ℕ) → list_any (has_page page) holes.new.holes ≡ (list_any (has_page page) holes.old.holes || has_page page pages) }
     ensures room { holes.old.spare ≤ holes.new.spare + 1 }
 {
-    let start = remove_below(holes, pages.start);
-    let end = remove_above(holes, pages.end);
-    put(holes, Span { start, end });
+    let Some(above) = above(holes, pages.end) else {
+        give_below(holes, pages);
+        return;
+    };
+    let end = above.end;
+    if let Some(below) = below(holes, pages.start) {
+        holes.remove(above.start);
+        grow(
+            holes,
+            below,
+            Span {
+                start: pages.start,
+                end,
+            },
+        );
+        return;
+    }
+    holes.resize(
+        above,
+        Span {
+            start: pages.start,
+            end,
+        },
+    );
 }
 
-/// Takes out the hole that ends where held pages begin, and gives its start, or else where they begin.
-fn remove_below(holes: &mut Holes, page: u32) -> u32
+/// Gives pages back that touch no hole above them.
+fn give_below(holes: &mut Holes, pages: Span)
     requires spaced { IsSpaced 1 holes.old.holes }
-    requires held { list_any (has_page page) holes.old.holes ≡ false }
+    requires some { pages.start < pages.end }
+    requires clear { IsClear 0 pages holes.old.holes }
+    requires above { list_any (has_page pages.end) holes.old.holes ≡ false }
+    requires room { 1 ≤ holes.old.spare }
     ensures spaced { IsSpaced 1 holes.new.holes }
-    ensures below { result ≤ page }
-    ensures pages { (p : ℕ) → list_any (has_page p) holes.old.holes ≡ (list_any (has_page p) holes.new.holes || has_page p (record { start = result; end = page })) }
-    ensures clear { (p : ℕ) → result ≤ p + 1 → p < page → list_any (has_page p) holes.new.holes ≡ false }
-    ensures room { holes.old.spare ≤ holes.new.spare }
+    ensures pages { (page : ℕ) → list_any (has_page page) holes.new.holes ≡ (list_any (has_page page) holes.old.holes || has_page page pages) }
+    ensures room { holes.old.spare ≤ holes.new.spare + 1 }
+{
+    match below(holes, pages.start) {
+        Some(below) => grow(holes, below, pages),
+        None => put(holes, pages),
+    }
+}
+
+/// Puts pages to the hole that ends where they begin, where they touch no other.
+fn grow(holes: &mut Holes, hole: Span, pages: Span)
+    requires spaced { IsSpaced 1 holes.old.holes }
+    requires hole { find (starts_at hole.start) holes.old.holes ≡ Some hole }
+    requires touch { hole.end ≡ pages.start }
+    requires some { pages.start < pages.end }
+    requires clear { IsClear 0 pages holes.old.holes }
+    requires above { list_any (has_page pages.end) holes.old.holes ≡ false }
+    ensures spaced { IsSpaced 1 holes.new.holes }
+    ensures pages { (page : ℕ) → list_any (has_page page) holes.new.holes ≡ (list_any (has_page page) holes.old.holes || has_page page pages) }
+    ensures room { holes.new.spare ≡ holes.old.spare }
+{
+    holes.resize(
+        hole,
+        Span {
+            start: hole.start,
+            end: pages.end,
+        },
+    );
+}
+
+/// The hole that ends where held pages begin.
+fn below(holes: &Holes, page: u32) -> Option<Span>
+    requires spaced { IsSpaced 1 holes.now.holes }
+    requires held { list_any (has_page page) holes.now.holes ≡ false }
+    ensures hole { IfSome result (λ hole. find (starts_at hole.start) holes.now.holes ≡ Some hole) }
+    ensures touch { IfSome result (λ hole. hole.end ≡ page) }
+    ensures none { IfNone result ((p : ℕ) → p + 1 ≡ page → list_any (has_page p) holes.now.holes ≡ false) }
 {
     if page > 0 {
-        if let Some(hole) = around(holes, page - 1) {
-            holes.remove(hole.start);
-            return hole.start;
-        }
+        around(holes, page - 1)
+    } else {
+        None
     }
-    page
 }
 
-/// Takes out the hole that begins where held pages end, and gives its end, or else where they end.
-fn remove_above(holes: &mut Holes, page: u32) -> u32
-    requires spaced { IsSpaced 1 holes.old.holes }
-    requires within { (p : ℕ) → 2 ^ 32 ≤ p + 1 → list_any (has_page p) holes.old.holes ≡ false }
-    requires held { (p : ℕ) → p + 1 ≡ page → list_any (has_page p) holes.old.holes ≡ false }
+/// The hole that begins where held pages end.
+fn above(holes: &Holes, page: u32) -> Option<Span>
+    requires spaced { IsSpaced 1 holes.now.holes }
+    requires held { (p : ℕ) → p + 1 ≡ page → list_any (has_page p) holes.now.holes ≡ false }
     requires some { 1 ≤ page }
-    ensures spaced { IsSpaced 1 holes.new.holes }
-    ensures above { page ≤ result }
-    ensures pages { (p : ℕ) → list_any (has_page p) holes.old.holes ≡ (list_any (has_page p) holes.new.holes || has_page p (record { start = page; end = result })) }
-    ensures clear { (p : ℕ) → page ≤ p → p ≤ result → list_any (has_page p) holes.new.holes ≡ false }
-    ensures room { holes.old.spare ≤ holes.new.spare }
+    ensures hole { IfSome result (λ hole. find (starts_at hole.start) holes.now.holes ≡ Some hole) }
+    ensures touch { IfSome result (λ hole. hole.start ≡ page) }
+    ensures none { IfNone result (list_any (has_page page) holes.now.holes ≡ false) }
 {
-    if page < u32::MAX {
-        if let Some(hole) = around(holes, page) {
-            holes.remove(hole.start);
-            return hole.end;
-        }
-    }
-    page
+    around(holes, page)
 }
 
 /// Adds pages, if there are any, that no hole has or touches.

@@ -1,12 +1,13 @@
-ghost use Rattle.std.specs.Prelude.{◌≡◌, ℕ, ◌+◌, ◌<◌, ◌≤◌, true, [], Some, None, Ok, Err, IfOk, OnOk, OnErr, IsSome, replicate};
+ghost use Rattle.std.specs.Prelude.{◌≡◌, ℕ, ◌+◌, ◌<◌, ◌≤◌, true, [], Some, None, Ok, Err, IfOk, OnOk, OnErr, IsSome, length, replicate};
 ghost use Rattle.std.specs.List.{find};
 ghost use Rattle.ttm_base.specs.Holes.{holes, has_page, is_free_beside};
 ghost use Rattle.ttm_base.specs.RangeChoice.{range_choice};
 ghost use Rattle.hole_tree.specs.HoleSet.{starts_at, without};
-ghost use Rattle.range_manager.specs.Held.{with_span, pages_of, is_open, HasTakenPage};
+ghost use Rattle.range_manager.specs.Held.{held_spans, with_span, pages_of, is_open, HasTakenPage};
+ghost use Rattle.range_manager.specs.Kept.{IsManaged};
 
 use crate::InsertFault;
-use crate::choice::chosen;
+use crate::choice::{Choice, chosen};
 use crate::gaps::{around, give, make_room, take, whole};
 use hole_tree::Holes;
 use std::alloc::Global;
@@ -47,6 +48,33 @@ fn no_ends(alloc: Global, pages: u32) -> Result<Vec<u32>, NoMemory>
     Ok(ends)
 }
 
+/// Holds pages that a hole has.
+fn hold(
+    holes: &mut Holes,
+    ends: &mut Vec<u32>,
+    used: &mut u32,
+    count: &mut u32,
+    choice: Choice,
+) -> Result<(), NoMemory>
+    requires managed { IsManaged holes.old ends.old.items used.old count.old }
+    requires hole { find (starts_at choice.hole.start) holes.old.holes ≡ Some choice.hole }
+    requires some { choice.pages.start < choice.pages.end }
+    requires from { choice.hole.start ≤ choice.pages.start }
+    requires to { choice.pages.end ≤ choice.hole.end }
+    ensures managed { IsManaged holes.new ends.new.items used.new count.new }
+    ensures size { length ends.new.items ≡ length ends.old.items }
+    ensures held { OnOk result (held_spans 0 ends.new.items ≡ with_span choice.pages (held_spans 0 ends.old.items)) }
+    ensures same { OnErr result (ends.new.items ≡ ends.old.items) }
+{
+    make_room(holes, *count)?;
+    let Choice { hole, pages } = choice;
+    take(holes, hole, pages);
+    ends[pages.start as usize] = pages.end;
+    *used += pages.end - pages.start;
+    *count += 1;
+    Ok(())
+}
+
 impl RangeManager {
     /// Pages of which none is held.
     pub fn new(alloc: Global, pages: u32) -> Result<RangeManager, NoMemory>
@@ -84,14 +112,19 @@ impl RangeManager {
             start: first,
             end: last,
         };
-        let Some(span) = chosen(&self.holes, pages, align, range, mode) else {
+        let Some(choice) = chosen(&self.holes, pages, align, range, mode) else {
             return Err(InsertFault::NoHole);
         };
-        // (its pages are free)
-        let Ok(()) = self.reserve(span) else {
+        let Ok(()) = hold(
+            &mut self.holes,
+            &mut self.ends,
+            &mut self.used,
+            &mut self.count,
+            choice,
+        ) else {
             return Err(InsertFault::NoMemory);
         };
-        Ok(span)
+        Ok(choice.pages)
     }
 
     /// Takes the pages of a span (drm_mm_reserve_node); one without pages changes nothing. After a refusal nothing is changed.
@@ -112,13 +145,15 @@ impl RangeManager {
         if hole.end < span.end {
             return Err(InsertFault::NoHole);
         }
-        let Ok(()) = make_room(&mut self.holes, self.count) else {
+        let Ok(()) = hold(
+            &mut self.holes,
+            &mut self.ends,
+            &mut self.used,
+            &mut self.count,
+            Choice { hole, pages: span },
+        ) else {
             return Err(InsertFault::NoMemory);
         };
-        take(&mut self.holes, hole, span);
-        self.ends[span.start as usize] = span.end;
-        self.used += span.end - span.start;
-        self.count += 1;
         Ok(())
     }
 

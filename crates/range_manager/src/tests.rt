@@ -95,6 +95,113 @@ fn range_manager_answers(rt: HostRuntime) -> Result<(), Fail> {
 }
 
 #[test]
+fn rest_of_a_hole_is_free(rt: HostRuntime) -> Result<(), Fail> {
+    answers(
+        &rt,
+        rt.alloc(),
+        &[
+            Case {
+                held: &[Span { start: 5, end: 7 }],
+                gone: &[],
+                pages: 5,
+                align: 1,
+                range: (0, 16),
+                mode: Mode::Best,
+                want: Ok(Span { start: 0, end: 5 }),
+            },
+            Case {
+                held: &[Span { start: 5, end: 7 }],
+                gone: &[],
+                pages: 6,
+                align: 1,
+                range: (0, 16),
+                mode: Mode::Low,
+                want: Ok(Span { start: 7, end: 13 }),
+            },
+            Case {
+                held: &[Span { start: 12, end: 16 }],
+                gone: &[],
+                pages: 3,
+                align: 1,
+                range: (0, 16),
+                mode: Mode::High,
+                want: Ok(Span { start: 9, end: 12 }),
+            },
+            Case {
+                held: &[
+                    Span { start: 0, end: 4 },
+                    Span { start: 8, end: 16 },
+                    Span { start: 4, end: 8 },
+                ],
+                gone: &[],
+                pages: 1,
+                align: 1,
+                range: (0, 16),
+                mode: Mode::Low,
+                want: Err(InsertFault::NoHole),
+            },
+        ],
+    )?;
+    Ok(())
+}
+
+#[test]
+fn holes_that_touch_are_joined(rt: HostRuntime) -> Result<(), Fail> {
+    answers(
+        &rt,
+        rt.alloc(),
+        &[
+            Case {
+                held: &FIVE,
+                gone: &[4],
+                pages: 2,
+                align: 1,
+                range: (0, 16),
+                mode: Mode::Best,
+                want: Ok(Span { start: 4, end: 6 }),
+            },
+            Case {
+                held: &FIVE,
+                gone: &[4, 10],
+                pages: 3,
+                align: 1,
+                range: (0, 16),
+                mode: Mode::Best,
+                want: Err(InsertFault::NoHole),
+            },
+            Case {
+                held: &FIVE,
+                gone: &[4, 6],
+                pages: 6,
+                align: 1,
+                range: (0, 16),
+                mode: Mode::Best,
+                want: Ok(Span { start: 4, end: 10 }),
+            },
+            Case {
+                held: &FIVE,
+                gone: &[6, 4],
+                pages: 6,
+                align: 1,
+                range: (0, 16),
+                mode: Mode::Best,
+                want: Ok(Span { start: 4, end: 10 }),
+            },
+            Case {
+                held: &FIVE,
+                gone: &[0, 6, 4],
+                pages: 10,
+                align: 1,
+                range: (0, 16),
+                mode: Mode::Best,
+                want: Ok(Span { start: 0, end: 10 }),
+            },
+        ],
+    )?;
+    Ok(())
+}
+
+#[test]
 fn best_and_high_fit(rt: HostRuntime) -> Result<(), Fail> {
     let mut manager = RangeManager::new(rt.alloc(), 16)?;
     for span in &FIVE {

@@ -32,7 +32,7 @@ overflow_add-self c =
     omega (arith, c.self.invariant.count, c.self.invariant.room, c.requires.spare, c.capacity-room.ensures)
 
 pub returns-clause-holes : goal.returns-clause-holes
-returns-clause-holes c = c.insert.ensures ∙ placed_start c.args.hole c.self.inside.by_start.spans ∙ ap (λ h. with_hole c.args.hole h.holes) c.self.view_is
+returns-clause-holes c = c.insert.ensures.spans ∙ placed_start c.args.hole c.self.inside.by_start.spans ∙ ap (λ h. with_hole c.args.hole h.holes) c.self.view_is
 
 pub returns-clause-spare : goal.returns-clause-spare
 returns-clause-spare c =
@@ -44,11 +44,11 @@ pub invariant_of-self : goal.invariant_of-self
 invariant_of-self c =
     let ys = c.self.inside.by_start.spans in
     let less : length c.self.inside.spare.items ≡ length c.pop.new.self.items + 1 = ap length c.in-Some.ensures.items ∙ length-append c.pop.new.self.items (c.in-Some.nodes ∷ []) in
-    let holes : c.insert.new.self.spans ≡ with_hole c.args.hole ys = c.insert.ensures ∙ placed_start c.args.hole ys in
+    let holes : c.insert.new.self.spans ≡ with_hole c.args.hole ys = c.insert.ensures.spans ∙ placed_start c.args.hole ys in
     let more : length c.insert.new.self.spans ≡ length ys + 1 = ap (λ zs. length zs) holes ∙ length-with c.args.hole ys in
     let apart : list_all (is_apart c.args.hole) ys ≡ true = ap (λ h. list_all (is_apart c.args.hole) h.holes) c.self.view_is ∙ c.requires.apart in
     let by_length : c.insert-2.new.self.spans ≡ sorted_by_length (with_hole c.args.hole ys) =
-    c.insert-2.ensures
+    c.insert-2.ensures.spans
     ∙ ap (λ zs. placed ByLength c.args.hole zs) c.self.invariant.lengths
     ∙ sym (sorted_with c.args.hole ys c.requires.whole apart c.self.invariant.rising) in
     record {
