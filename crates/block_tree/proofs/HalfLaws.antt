@@ -217,3 +217,8 @@ not_in_span p k q span false f t i far =
 
 pub same_if_out : (span : Span) (free before : Bool) (p : ℕ) → has_page p span ≡ false → is_marked span free before p ≡ before
 same_if_out span free before p h = ap (λ t. if t then free else before) h
+
+-- a half that is written as it was
+pub put_same : (a k : ℕ) (xs ys : List ℕ) → ys ≡ take k (drop a xs) → put_mid a k xs ys ≡ xs
+put_same a k xs ys e =
+    ap (λ zs. take a xs ++ (zs ++ drop k (drop a xs))) e ∙ ap (λ zs. take a xs ++ zs) (take-append-drop k (drop a xs)) ∙ take-append-drop a xs

@@ -1,13 +1,14 @@
 -- The half of a block in which the first block is.
-use Rattle.std.proofs.Common.{◌≡◌, ℕ, suc, ◌+◌, ◌*◌, ◌^◌, ◌≤◌, ◌⊎◌, inl, inr, Bool, true, false, List, refl, ap, sym, ◌∙◌, subst, arith, if◌then◌else◌}
+use Rattle.std.proofs.Common.{◌≡◌, ℕ, suc, ◌+◌, ◌*◌, ◌/◌, ◌%◌, ◌^◌, ◌≤◌, ◌⊎◌, inl, inr, Bool, true, false, List, Option, Some, None, not, refl, ap, sym, ◌∙◌, subst, arith, if◌then◌else◌}
 use Rattle.std.specs.Int.{bit_at}
+use Rattle.ttm_base.specs.declared.Span.{Span}
 use Rattle.block_tree.specs.declared.request.Request.{Request}
-use Rattle.block_tree.specs.Masks.{top, low, high, half_of, IsTree, order_at}
-use Rattle.block_tree.specs.Searching.{is_first_low, IsFirst}
+use Rattle.block_tree.specs.Masks.{top, low, high, half_of, IsTree, order_at, is_marked, is_free_in, is_free_by_half}
+use Rattle.block_tree.specs.Searching.{numbered, is_first_low, IsFirst, FirstOf}
 use Rattle.block_tree.proofs.Numbers.{pow_next, low_number, high_number}
 use Rattle.block_tree.proofs.TreeLaws.{IsSplit, largest_at}
-use Rattle.block_tree.proofs.SearchLaws.{low_is_first, high_is_first, first_is_low, first_is_high, whole_parts}
-use Rattle.block_tree.proofs.HalfLaws.{of_low, of_high}
+use Rattle.block_tree.proofs.SearchLaws.{bool_cases, low_is_first, high_is_first, first_is_low, first_is_high, first_in_high, first_in_low, first_behind_high, first_behind_low, whole_parts}
+use Rattle.block_tree.proofs.HalfLaws.{of_low, of_high, halves_of_tree, split_same, near_or_far, not_in_other, same_if_out}
 
 pub record IsNear (r : Request) (o : ℕ) (ms : List ℕ) (q j near : ℕ) : Type 0 where
   pub which : (near ≡ 2 * q) ⊎ (near ≡ 2 * q + 1)
@@ -65,3 +66,51 @@ first_within r o ms q j i t f =
     let w = (largest_at o ms (i * 2 ^ r.order) j t p.is).within in
     let l = p.large in
     omega (arith, w, l)
+
+-- ---- the half that is looked at first, and the other
+
+at_half : (r : Request) (o : ℕ) (ms xs : List ℕ) (near m j : ℕ) (found : Option ℕ) → near ≡ m → half_of o ms near ≡ xs → FirstOf r o (half_of o ms near) near j found → FirstOf r o xs m j found
+at_half r o ms xs near m j found e h f = subst (λ xs. FirstOf r o xs m j found) h (subst (λ n. FirstOf r o (half_of o ms near) n j found) e f)
+
+pub near_found : (r : Request) (o : ℕ) (ms : List ℕ) (q j near i : ℕ) → IsSplit o ms → near ≡ (if r.topdown then 2 * q + 1 else 2 * q) → FirstOf r o (half_of o ms near) near j (Some i) → FirstOf r (suc o) ms q j (Some i)
+near_found r o ms q j near i s n f =
+    elim (bool_cases r.topdown) [
+      | inl d ↦
+          let m : near ≡ 2 * q + 1 = n ∙ ap (λ t. if t then 2 * q + 1 else 2 * q) d in
+          first_in_high r o ms q j i s d (at_half r o ms (high o ms) near (2 * q + 1) j (Some i) m (of_high o ms near (omega (arith, m))) f)
+      | inr d ↦
+          let m : near ≡ 2 * q = n ∙ ap (λ t. if t then 2 * q + 1 else 2 * q) d in
+          first_in_low r o ms q j i s d (at_half r o ms (low o ms) near (2 * q) j (Some i) m (of_low o ms near (omega (arith, m))) f)
+    ]
+
+pub far_found : (r : Request) (o : ℕ) (ms : List ℕ) (q j near far : ℕ) (found : Option ℕ) → IsSplit o ms → near ≡ (if r.topdown then 2 * q + 1 else 2 * q) → far ≡ (if not r.topdown then 2 * q + 1 else 2 * q)
+    → FirstOf r o (half_of o ms near) near j None → FirstOf r o (half_of o ms far) far j found → FirstOf r (suc o) ms q j found
+far_found r o ms q j near far found s n e none f =
+    elim (bool_cases r.topdown) [
+      | inl d ↦
+          let m : near ≡ 2 * q + 1 = n ∙ ap (λ t. if t then 2 * q + 1 else 2 * q) d in
+          let k : far ≡ 2 * q = e ∙ ap (λ t. if not t then 2 * q + 1 else 2 * q) d in
+          first_behind_high r o ms q j found s (at_half r o ms (high o ms) near (2 * q + 1) j None m (of_high o ms near (omega (arith, m))) none)
+          (at_half r o ms (low o ms) far (2 * q) j found k (of_low o ms far (omega (arith, k))) f)
+      | inr d ↦
+          let m : near ≡ 2 * q = n ∙ ap (λ t. if t then 2 * q + 1 else 2 * q) d in
+          let k : far ≡ 2 * q + 1 = e ∙ ap (λ t. if not t then 2 * q + 1 else 2 * q) d in
+          first_behind_low r o ms q j found s (at_half r o ms (low o ms) near (2 * q) j None m (of_low o ms near (omega (arith, m))) none)
+          (at_half r o ms (high o ms) far (2 * q + 1) j found k (of_high o ms far (omega (arith, k))) f)
+    ]
+
+-- the pages of a block of which one half was taken from
+pub taken_halves : (r : Request) (o : ℕ) (ms now new : List ℕ) (q j near i : ℕ) → IsTree (suc o) ms → IsSplit o ms → (near ≡ 2 * q) ⊎ (near ≡ 2 * q + 1) → IsFirst r o (half_of o ms near) near j i
+    → ((p : ℕ) → is_free_in (suc o) new p ≡ is_free_by_half o now p)
+    → ((p : ℕ) → p / 2 ^ o ≡ near → is_free_by_half o now p ≡ is_marked (numbered r.order i) false (is_free_by_half o ms p) p)
+    → ((p : ℕ) → (p / 2 ^ o % 2 ≡ near % 2 → ⊥) → is_free_by_half o now p ≡ is_free_by_half o ms p)
+    → (p : ℕ) → p / 2 ^ suc o ≡ q → is_free_in (suc o) new p ≡ is_marked (numbered r.order i) false (is_free_in (suc o) ms p) p
+taken_halves r o ms now new q j near i t s which f join here there p e =
+    let block : Span = numbered r.order i in
+    let fits = first_within r o (half_of o ms near) near j i ((halves_of_tree o ms t).each near) f in
+    elim (near_or_far p o q near which e) [
+      | inl x ↦ join p ∙ here p x ∙ ap (λ b. is_marked block false b p) (split_same o ms p s)
+      | inr x ↦
+          join p ∙ there p x ∙ split_same o ms p s
+          ∙ sym (same_if_out block false (is_free_in (suc o) ms p) p (not_in_other p i r.order o near fits f.within x))
+    ]

@@ -353,7 +353,7 @@ high_is_first false a b m j e one h =
     let both = ap (λ n. bit_at n j) e ∙ bit_at_or a b j in
     record { has = let l = bit_at-lt b j in omega (arith, both, one, z, l); none = λ _. z }
 
-bool_cases : (d : Bool) → (d ≡ true) ⊎ (d ≡ false)
+pub bool_cases : (d : Bool) → (d ≡ true) ⊎ (d ≡ false)
 bool_cases true = inl refl
 bool_cases false = inr refl
 

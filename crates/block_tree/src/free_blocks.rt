@@ -168,7 +168,7 @@ impl FreeBlocks {
             topdown,
         };
         let whole = least_order(&self.masks, self.order, 0, request)?;
-        let Some(number) = take_first(&mut self.masks, self.order, request, whole) else {
+        let Some(number) = take_first(&mut self.masks, self.order, 0, request, whole) else {
             unreachable!()
         };
         Some(span_of(order, number))

@@ -1,14 +1,14 @@
 //! A search that takes what it finds.
-ghost use Rattle.std.specs.Prelude.{◌≡◌, ℕ, ◌+◌, ◌*◌, ◌/◌, ◌%◌, ◌^◌, ◌<◌, ◌≤◌, false, suc, if◌then◌else◌};
+ghost use Rattle.std.specs.Prelude.{◌≡◌, ℕ, ◌+◌, ◌*◌, ◌/◌, ◌%◌, ◌^◌, ◌<◌, ◌≤◌, false, None, suc, if◌then◌else◌};
 ghost use Rattle.std.specs.Int.{bit_at};
 ghost use Rattle.block_tree.specs.Masks.{top, low, high, half_of, is_marked, is_free_in, is_free_by_half, HasHalves, IsTree};
 ghost use Rattle.block_tree.specs.Searching.{numbered, is_first_low, taken_of, IsFirst, FirstOf};
 
 use crate::masks::{
-    block_len, half_number, half_start, halves, join_halves, mark, mark_met, nodes, top_of,
+    block_len, half_number, half_start, halves, join_halves, mark_met, nodes, top_of,
 };
 use crate::request::Request;
-use crate::search::{first_block, has_order, is_first_low};
+use crate::search::{has_order, is_first_low};
 use ttm_base::Span;
 
 /// The pages of a block of an order.
@@ -88,21 +88,99 @@ fn take_half(masks: &mut [u32], half: u32, number: u32, request: Request, whole:
     take_inside(&mut masks[start..end], half, number, request, whole)
 }
 
-/// Takes the first block that would be split from a free block of an order, if there is one: it is held from then on. The
-/// block of all pages is told by its order.
-pub fn take_first(masks: &mut [u32], order: u32, request: Request, whole: u32) -> Option<u32>
+/// Takes the first block in a block that would be split from a free block of an order, if there is one: it is held from then
+/// on. It answers its number.
+#[cycle(take_first)]
+pub fn take_first(
+    masks: &mut [u32],
+    order: u32,
+    number: u32,
+    request: Request,
+    whole: u32,
+) -> Option<u32>
     requires tree { IsTree order masks.old }
     requires order { order ≤ 16 }
+    requires number { number * 2 ^ order + 2 ^ order ≤ 2 ^ 16 }
     requires wanted { request.order ≤ whole }
     requires whole { whole < 32 }
-    ensures first { FirstOf request order masks.old 0 whole result }
+    ensures first { FirstOf request order masks.old number whole result }
     ensures tree { IsTree order masks.new }
-    ensures taken { (page : ℕ) → page / 2 ^ order ≡ 0 → is_free_in order masks.new page ≡ taken_of request.order result (is_free_in order masks.old page) page }
+    ensures taken { (page : ℕ) → page / 2 ^ order ≡ number → is_free_in order masks.new page ≡ taken_of request.order result (is_free_in order masks.old page) page }
+    ensures none { result ≡ None → masks.new ≡ masks.old }
 {
-    if has_order(masks, whole) && request.covers(order, 0) {
-        return Some(take_inside(masks, order, 0, request, whole));
+    if !has_order(masks, whole) || !request.meets(order, number) {
+        return None;
     }
-    let block = first_block(masks, order, 0, request, whole)?;
-    mark(masks, order, 0, span_of(request.order, block), false);
-    Some(block)
+    if request.covers(order, number) {
+        return Some(take_inside(masks, order, number, request, whole));
+    }
+    take_across(masks, order, number, request, whole)
+}
+
+/// The same, in a block that has pages outside the range.
+#[cycle(take_first)]
+fn take_across(
+    masks: &mut [u32],
+    order: u32,
+    number: u32,
+    request: Request,
+    whole: u32,
+) -> Option<u32>
+    requires tree { IsTree order masks.old }
+    requires order { order ≤ 16 }
+    requires number { number * 2 ^ order + 2 ^ order ≤ 2 ^ 16 }
+    requires wanted { request.order ≤ whole }
+    requires whole { whole < 32 }
+    requires has { bit_at (top masks.old) whole ≡ 1 }
+    ensures first { FirstOf request order masks.old number whole result }
+    ensures tree { IsTree order masks.new }
+    ensures taken { (page : ℕ) → page / 2 ^ order ≡ number → is_free_in order masks.new page ≡ taken_of request.order result (is_free_in order masks.old page) page }
+    ensures none { result ≡ None → masks.new ≡ masks.old }
+{
+    if top_of(masks) == block_len(order) {
+        let Some(block) = request.fit(order, number) else {
+            return None;
+        };
+        mark_met(masks, order, number, span_of(request.order, block), false);
+        return Some(block);
+    }
+    // (a page is free or held)
+    prove!(order > 0);
+    let half = order - 1;
+    let near = half_number(number, request.topdown);
+    if let Some(block) = take_in_half(masks, half, near, request, whole) {
+        join_halves(masks, half);
+        return Some(block);
+    }
+    let far = half_number(number, !request.topdown);
+    let Some(last) = take_in_half(masks, half, far, request, whole) else {
+        return None;
+    };
+    join_halves(masks, half);
+    Some(last)
+}
+
+/// The same, in one half of a block, which is told by its order and its number.
+#[cycle(take_first)]
+fn take_in_half(
+    masks: &mut [u32],
+    half: u32,
+    number: u32,
+    request: Request,
+    whole: u32,
+) -> Option<u32>
+    requires half { half ≤ 15 }
+    requires halves { HasHalves half masks.old }
+    requires number { number * 2 ^ half + 2 ^ half ≤ 2 ^ 16 }
+    requires wanted { request.order ≤ whole }
+    requires whole { whole < 32 }
+    ensures first { FirstOf request half (half_of half masks.old number) number whole result }
+    ensures halves { HasHalves half masks.new }
+    ensures taken { (page : ℕ) → page / 2 ^ half ≡ number → is_free_by_half half masks.new page ≡ taken_of request.order result (is_free_by_half half masks.old page) page }
+    ensures other { (page : ℕ) → (page / 2 ^ half % 2 ≡ number % 2 → ⊥) → is_free_by_half half masks.new page ≡ is_free_by_half half masks.old page }
+    ensures none { result ≡ None → masks.new ≡ masks.old }
+{
+    let start = half_start(half, number);
+    let end = start + nodes(half);
+    take_first(&mut masks[start..end], half, number, request, whole)
 }

@@ -6,6 +6,7 @@ use Rattle.block_tree.specs.declared.request.Request.{Request}
 use Rattle.block_tree.specs.Masks.{is_free_in, is_marked, IsTree}
 use Rattle.block_tree.specs.Searching.{numbered, LeastOf, FirstOf, IsFirst}
 use Rattle.block_tree.specs.FreeSet.{is_free, marks_of, IsKept}
+use Rattle.block_tree.proofs.Numbers.{small_pow}
 use Rattle.block_tree.proofs.MarkLaws.{take_front, length_of_tree}
 use Rattle.block_tree.proofs.KeptLaws.{near, none_near, least_near, first_near, block_of, length_marks, none_found, some_found, found_within, found_free, least_small, kept_marked, marks_marked}
 use Rattle.block_tree.proofs.free_blocks.FreeBlocks.take.Goals as goal
@@ -117,3 +118,8 @@ returns-clause-len c =
     let e = ap (λ (b : Span). b.end) c.span_of.ensures in
     let s = ap (λ (b : Span). b.start) c.span_of.ensures in
     omega (arith, e, s)
+
+pub take_first-requires-clause-number : goal.take_first-requires-clause-number
+take_first-requires-clause-number c =
+    let p : 2 ^ c.self.inside.order ≤ 2 ^ 16 = small_pow c.self.inside.order 16 c.self.invariant.order in
+    omega arith
