@@ -1,8 +1,8 @@
 -- The answers to a list, by its head.
 use Rattle.std.proofs.Common.{◌≡◌, ◌≢◌, ◌++◌, ℕ, List, Option, Result, Err, ap, sym, ◌∙◌}
 use Rattle.std.specs.Prelude.{⊤}
-use Rattle.replay_lines.specs.declared.operation.Head.{Head}
-use Rattle.replay_lines.specs.declared.operation.Load.{Load}
+use Rattle.allocator_lines.specs.declared.operation.Head.{Head}
+use Rattle.allocator_lines.specs.declared.operation.Load.{Load}
 use Rattle.allocator_replay.specs.declared.Fault.{Fault}
 use Rattle.allocator_replay.specs.declared.Fault.TheVariants as fault
 use Rattle.allocator_replay.specs.Endings.{ending, bad_for, lines_for}

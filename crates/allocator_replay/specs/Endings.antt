@@ -1,13 +1,13 @@
 -- How a run ends.
 use Rattle.std.specs.Prelude.{ℕ, ⊤, ◌+◌, ◌-◌, ◌^◌, List, [], Option, Some, None, Result, Ok, Err, length, min, if◌then◌else◌}
-use Rattle.replay_lines.specs.declared.operation.Head.{Head}
-use Rattle.replay_lines.specs.declared.operation.Head.TheVariants.{Buddy, Ranges}
-use Rattle.replay_lines.specs.declared.operation.Load.{Load}
-use Rattle.replay_lines.specs.declared.operation.Operation.{Operation}
-use Rattle.replay_lines.specs.Answers.{first_bad, answer_lines}
-use Rattle.replay_lines.specs.Lines.{load_of}
-use Rattle.replay_lines.specs.RangeTables.{new_ranges, span_at, listed_span, range_answer, after_range}
-use Rattle.replay_lines.specs.Tables.{new_blocks, spans_at, buddy_answer, after_buddy}
+use Rattle.allocator_lines.specs.declared.operation.Head.{Head}
+use Rattle.allocator_lines.specs.declared.operation.Head.TheVariants.{Buddy, Ranges}
+use Rattle.allocator_lines.specs.declared.operation.Load.{Load}
+use Rattle.allocator_lines.specs.declared.operation.Operation.{Operation}
+use Rattle.allocator_lines.specs.Answers.{first_bad, answer_lines}
+use Rattle.allocator_lines.specs.Lines.{load_of}
+use Rattle.allocator_lines.specs.RangeTables.{new_ranges, span_at, listed_span, range_answer, after_range}
+use Rattle.allocator_lines.specs.Tables.{new_blocks, spans_at, buddy_answer, after_buddy}
 use Rattle.allocator_replay.specs.declared.Fault.{Fault}
 use Rattle.allocator_replay.specs.declared.Fault.TheVariants as fault
 

@@ -1,7 +1,7 @@
 -- How long the calls of a kind took.
 use Rattle.std.specs.Prelude.{ℕ, ◌+◌, ◌-◌, ◌/◌, ◌^◌, ◌==◌, List, [], ◌∷◌, ◌++◌, codes, decimal, min, if◌then◌else◌}
-use Rattle.replay_lines.specs.declared.operation.Kind.{Kind}
-use Rattle.replay_lines.specs.declared.operation.Kind.TheVariants as kind
+use Rattle.allocator_lines.specs.declared.operation.Kind.{Kind}
+use Rattle.allocator_lines.specs.declared.operation.Kind.TheVariants as kind
 use Rattle.allocator_replay.specs.declared.times.Total.{Total}
 use Rattle.allocator_replay.specs.declared.times.Times.{Times}
 

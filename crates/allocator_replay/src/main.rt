@@ -16,14 +16,14 @@
 #![tactic(auto)]
 
 ghost use Rattle.std.specs.Prelude.{◌≡◌, ◌≢◌, ◌++◌, Err, string_bytes};
-ghost use Rattle.replay_lines.specs.Answers.{first_bad, answer_lines};
+ghost use Rattle.allocator_lines.specs.Answers.{first_bad, answer_lines};
 ghost use Rattle.allocator_replay.specs.declared.Fault.TheVariants as fault;
 ghost use Rattle.allocator_replay.specs.Endings as endings;
 
 mod times;
 
+use allocator_lines::{BuddyTable, Head, Load, RangeTable, Table, answer_all, read_load};
 use io_edge::{ReadFault, StdSource, read_all};
-use replay_lines::{BuddyTable, Head, Load, RangeTable, Table, answer_all, read_load};
 use std::alloc::Global;
 use std::env;
 use std::process::ExitCode;

@@ -1,10 +1,10 @@
 //! How long the calls of each kind take.
 ghost use Rattle.std.specs.Prelude.{◌≡◌, ◌≢◌, ◌++◌, OnOk, string_bytes};
-ghost use Rattle.replay_lines.specs.declared.operation.Kind.{Kind};
+ghost use Rattle.allocator_lines.specs.declared.operation.Kind.{Kind};
 ghost use Rattle.allocator_replay.specs.Totals.{added, total_of, total_line, times_lines};
 
 use crate::{Fault, line_of};
-use replay_lines::{Answer, Kind, Operation, Table};
+use allocator_lines::{Answer, Kind, Operation, Table};
 use std::alloc::Global;
 use std::rt::Clock;
 use std::time::Instant;

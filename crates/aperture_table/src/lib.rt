@@ -59,6 +59,3 @@ impl Aperture {
         self.frames[index]
     }
 }
-
-#[cfg(test)]
-mod tests;

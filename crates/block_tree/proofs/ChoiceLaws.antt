@@ -1,11 +1,15 @@
 -- The candidate of the choice, from what a search finds.
-use Rattle.std.proofs.Common.{◌≡◌, ℕ, zero, suc, ◌+◌, ◌-◌, ◌*◌, ◌/◌, ◌^◌, ◌<◌, ◌≤◌, inl, inr, Bool, true, false, List, [], ◌∷◌, Option, Some, None, length, get_or, reverse, filter_map, option_map, refl, ap, sym, ◌∙◌, subst, arith, if◌then◌else◌}
+use Rattle.std.proofs.Common.{◌≡◌, ℕ, zero, suc, ◌+◌, ◌-◌, ◌*◌, ◌/◌, ◌^◌, ◌<◌, ◌≤◌, inl, inr, Bool, true, false, List, [], ◌∷◌, Option, Some, None, length, get_or, filter_map, option_map, refl, ap, sym, ◌∙◌, subst, arith, if◌then◌else◌}
 use Rattle.std.specs.List.{cons_option}
 use Rattle.std.proofs.lemmas.Grind.{common_steps}
 use Rattle.std.proofs.lemmas.List.{get_or-reverse}
+use Rattle.std.proofs.Math.Nat.{div-eq_of_lt}
 use Rattle.std.proofs.lemmas.Bool.{cases_lt, cases_eq, lt-ltb, le-ltb}
 use Rattle.ttm_base.specs.ListWords.{count_from, least_by, first_least}
-use Rattle.ttm_base.specs.BuddyChoice.{Candidate, candidate_at, candidate}
+use Rattle.ttm_base.specs.declared.Span.{Span}
+use Rattle.ttm_base.specs.BuddyChoice.{Candidate, candidate}
+use Rattle.ttm_base.specs.BlockStarts.{starts_of, candidate_at}
+use Rattle.ttm_base.proofs.StartLaws.{candidate_by_start}
 use Rattle.block_tree.specs.declared.request.Request.{Request}
 use Rattle.block_tree.specs.Searching.{IsIn, whole_at, HasNone, IsLeast, IsAhead, IsFirst}
 use Rattle.block_tree.proofs.Numbers.{some_pages, block_pages, in_block, from_down, down_from}
@@ -88,18 +92,15 @@ get_or-count step zero start i d h = absurd (omega arith)
 get_or-count step (suc n) start zero d h = grind (arith, common_steps)
 get_or-count step (suc n) start (suc i) d h = let e = get_or-count step n (step + start) i d (omega arith) in grind (arith, common_steps)
 
-abbrev starts : Bool → ℕ → ℕ → List ℕ
-starts topdown k size = if topdown then reverse (count_from (2 ^ k) (size / 2 ^ k) 0) else count_from (2 ^ k) (size / 2 ^ k) 0
-
 -- the block that is looked at in this turn, of n blocks
 abbrev turn : Bool → ℕ → ℕ → ℕ
 turn topdown n m = if topdown then n - 1 - m else m
 
-length-starts : (topdown : Bool) (k size : ℕ) → length (starts topdown k size) ≡ size / 2 ^ k
+length-starts : (topdown : Bool) (k size : ℕ) → length (starts_of topdown k size) ≡ size / 2 ^ k
 length-starts true k size = let e = length-count (2 ^ k) (size / 2 ^ k) 0 in grind (arith, common_steps, e)
 length-starts false k size = length-count (2 ^ k) (size / 2 ^ k) 0
 
-start_of : (topdown : Bool) (k size m : ℕ) → m < size / 2 ^ k → get_or (starts topdown k size) m 0 ≡ turn topdown (size / 2 ^ k) m * 2 ^ k
+start_of : (topdown : Bool) (k size m : ℕ) → m < size / 2 ^ k → get_or (starts_of topdown k size) m 0 ≡ turn topdown (size / 2 ^ k) m * 2 ^ k
 start_of false k size m h = let e = get_or-count (2 ^ k) (size / 2 ^ k) 0 m 0 h in grind (arith, e)
 start_of true k size m h =
     let len = length-count (2 ^ k) (size / 2 ^ k) 0 in
@@ -123,13 +124,22 @@ turn_ahead false n i m h l a = omega arith
 
 -- ---- the candidate
 
+-- no block of an order has more pages than there are
+pub candidate_large : (f : ℕ → Bool) (size : ℕ) (range : Span) (topdown : Bool) (k : ℕ) → size < 2 ^ k → candidate f size range topdown k ≡ None
+candidate_large f size range topdown k h =
+    candidate_by_start f size range k topdown
+    ∙ least_none (candidate_at f size range k) (starts_of topdown k size) (λ m l.
+    let e = length-starts topdown k size in
+    let z : size / 2 ^ k ≡ 0 = div-eq_of_lt h in
+    absurd (omega (arith, e, l, z)))
+
 key_of : (k i : ℕ) (o : Option ℕ) (c : Candidate) → option_map (candidate_from k i) o ≡ Some c → o ≡ Some c.whole
 key_of k i None c h = absurd cc
 key_of k i (Some w) c h = ap Some (let e : candidate_from k i w ≡ c = cc in ap (λ c. c.whole) e)
 
 module _ (f : ℕ → Bool) (size o : ℕ) (ms : List ℕ) (r : Request) (root : IsRoot f size o ms) where
   at_turn : (m : ℕ) → m < size / 2 ^ r.order
-      → candidate_at f size r.range r.order (get_or (starts r.topdown r.order size) m 0) ≡ option_map (candidate_from r.order (turn r.topdown (size / 2 ^ r.order) m)) (whole_at r o ms (turn r.topdown (size / 2 ^ r.order) m))
+      → candidate_at f size r.range r.order (get_or (starts_of r.topdown r.order size) m 0) ≡ option_map (candidate_from r.order (turn r.topdown (size / 2 ^ r.order) m)) (whole_at r o ms (turn r.topdown (size / 2 ^ r.order) m))
   at_turn m h =
       let n : ℕ = turn r.topdown (size / 2 ^ r.order) m in
       let b = from_down size n r.order (turn_below r.topdown (size / 2 ^ r.order) m h) in
@@ -145,7 +155,8 @@ module _ (f : ℕ → Bool) (size o : ℕ) (ms : List ℕ) (r : Request) (root :
 
   pub candidate_none : HasNone r o ms 0 → candidate f size r.range r.topdown r.order ≡ None
   candidate_none none =
-      least_none (candidate_at f size r.range r.order) (starts r.topdown r.order size) (λ m h.
+      candidate_by_start f size r.range r.order r.topdown
+      ∙ least_none (candidate_at f size r.range r.order) (starts_of r.topdown r.order size) (λ m h.
       let l : m < size / 2 ^ r.order = let e = length-starts r.topdown r.order size in omega (arith, e, h) in
       let n : ℕ = turn r.topdown (size / 2 ^ r.order) m in
       at_turn m l ∙ ap (option_map (candidate_from r.order n)) (none n (in_root n (turn_below r.topdown (size / 2 ^ r.order) m l))))
@@ -159,7 +170,8 @@ module _ (f : ℕ → Bool) (size o : ℕ) (ms : List ℕ) (r : Request) (root :
       let l : m < size / 2 ^ r.order = turn_below r.topdown (size / 2 ^ r.order) i below in
       let len = length-starts r.topdown r.order size in
       let back : turn r.topdown (size / 2 ^ r.order) m ≡ i = turn_back r.topdown (size / 2 ^ r.order) i below in
-      least_at (candidate_at f size r.range r.order) (starts r.topdown r.order size) m (candidate_from r.order i j) (omega (arith, l, len))
+      candidate_by_start f size r.range r.order r.topdown
+      ∙ least_at (candidate_at f size r.range r.order) (starts_of r.topdown r.order size) m (candidate_from r.order i j) (omega (arith, l, len))
       (at_turn m l ∙ ap (λ n. option_map (candidate_from r.order n) (whole_at r o ms n)) back ∙ ap (option_map (candidate_from r.order i)) first.is)
       (λ t c h e. let u : t < size / 2 ^ r.order = omega (arith, len, h) in bound t c u (sym (at_turn t u) ∙ e))
       (λ t c h e. let u : t < size / 2 ^ r.order = omega (arith, l, h) in

@@ -5,11 +5,13 @@ use Rattle.std.proofs.lemmas.Bool.{and_parts, and_from, and_right, leb-true, le-
 use Rattle.ttm_base.specs.declared.Span.{Span}
 use Rattle.ttm_base.specs.ListWords.{count_from}
 use Rattle.ttm_base.specs.Reach.{is_inside}
-use Rattle.ttm_base.specs.BuddyChoice.{Candidate, block_around, is_free_block, free_order, candidate_at}
+use Rattle.ttm_base.specs.BuddyChoice.{Candidate, block_around, is_free_block, log2, free_order, candidate_of}
+use Rattle.ttm_base.specs.BlockStarts.{candidate_at}
+use Rattle.ttm_base.proofs.OrderLaws.{log2_from}
 use Rattle.block_tree.specs.declared.request.Request.{Request}
 use Rattle.block_tree.specs.Masks.{IsTree, order_at, is_free_in}
 use Rattle.block_tree.specs.Searching.{numbered, whole_if, whole_at}
-use Rattle.block_tree.proofs.Numbers.{some_pages, small_pow, pow_next, block_pages, block_end, in_block, same_at}
+use Rattle.block_tree.proofs.Numbers.{some_pages, pow_next, block_pages, block_end, in_block, same_at}
 use Rattle.block_tree.proofs.TreeLaws.{largest_at}
 use Rattle.block_tree.proofs.SearchLaws.{whole_parts}
 
@@ -79,7 +81,6 @@ order_is f size p j (suc d) k (suc fuel) e l t n =
 -- f tells the free pages below the size, and the masks tell the same
 pub record IsRoot (f : ℕ → Bool) (size o : ℕ) (ms : List ℕ) : Type 0 where
   pub tree : IsTree o ms
-  pub small : size < 2 ^ 16
   pub fits : size ≤ 2 ^ o
   pub same : (p : ℕ) → p < size → f p ≡ is_free_in o ms p
   pub beyond : (p : ℕ) → size ≤ p → p < 2 ^ o → is_free_in o ms p ≡ false
@@ -126,14 +127,10 @@ root_held f size o ms p k r h a =
     let w = (free_parts f size k p t).free p refl in
     both_ways (f p) (r.same p h ∙ ap is_some a) w)
 
-root_small : (f : ℕ → Bool) (size o : ℕ) (ms : List ℕ) (p j : ℕ) → IsRoot f size o ms → p < 2 ^ o → order_at o ms p ≡ Some j → j ≤ 15
+root_small : (f : ℕ → Bool) (size o : ℕ) (ms : List ℕ) (p j : ℕ) → IsRoot f size o ms → p < 2 ^ o → order_at o ms p ≡ Some j → j ≤ log2 size
 root_small f size o ms p j r h a =
     let e = (free_parts f size j p (root_free f size o ms p j r h a)).end in
-    let s = r.small in
-    elim (cases_lt 15 j) [
-      | inr x ↦ x
-      | inl x ↦ let m : 2 ^ 16 ≤ 2 ^ j = small_pow 16 j (omega arith) in absurd (omega (arith, m, e, s))
-    ]
+    log2_from size j (omega (arith, e))
 
 -- ---- candidates
 
@@ -147,30 +144,30 @@ module _ (f : ℕ → Bool) (size o : ℕ) (ms : List ℕ) (r : Request) (i : �
   at_none : order_at o ms (i * 2 ^ r.order) ≡ None → candidate_at f size r.range r.order (i * 2 ^ r.order) ≡ None
   at_none e =
       let b : Span = block_around r.order (i * 2 ^ r.order) in
-      ap (λ t. if t then Some (record { block = b; whole = free_order f size (i * 2 ^ r.order) r.order 15 }) else None)
+      ap (λ t. if t then Some (candidate_of f size r.order b) else None)
       (and_right (is_inside r.range b) (is_free_block f size b) (root_held f size o ms (i * 2 ^ r.order) r.order root below e))
 
   at_small : (j : ℕ) → order_at o ms (i * 2 ^ r.order) ≡ Some j → j < r.order → candidate_at f size r.range r.order (i * 2 ^ r.order) ≡ None
   at_small j e h =
       let b : Span = block_around r.order (i * 2 ^ r.order) in
       let held : is_free_block f size b ≡ false = false_from_ne_true (is_free_block f size b) (λ t. both_ways (is_free_block f size (block_around (suc j) (i * 2 ^ r.order))) (root_largest f size o ms (i * 2 ^ r.order) j root e) (smaller_free f size (suc j) r.order (i * 2 ^ r.order) h t)) in
-      ap (λ t. if t then Some (record { block = b; whole = free_order f size (i * 2 ^ r.order) r.order 15 }) else None)
+      ap (λ t. if t then Some (candidate_of f size r.order b) else None)
       (and_right (is_inside r.range b) (is_free_block f size b) held)
 
   at_large : (j : ℕ) → order_at o ms (i * 2 ^ r.order) ≡ Some j → r.order ≤ j → candidate_at f size r.range r.order (i * 2 ^ r.order) ≡ (if is_inside r.range (numbered r.order i) then Some (candidate_from r.order i j) else None)
   at_large j e h =
-      let b : Span = block_around r.order (i * 2 ^ r.order) in
+      let b : Span = numbered r.order i in
       let fits = root.fits in
       let inside : i * 2 ^ r.order < 2 ^ o = omega arith in
       let whole = root_free f size o ms (i * 2 ^ r.order) j root inside e in
-      let free : is_free_block f size b ≡ true = smaller_free f size r.order j (i * 2 ^ r.order) h whole in
+      let free : is_free_block f size b ≡ true = subst (λ c. is_free_block f size c ≡ true) (around_number r.order i) (smaller_free f size r.order j (i * 2 ^ r.order) h whole) in
       let above : is_free_block f size (block_around (j + 1) (i * 2 ^ r.order)) ≡ false = subst (λ m. is_free_block f size (block_around m (i * 2 ^ r.order)) ≡ false) (let s : suc j ≡ j + 1 = omega arith in s) (root_largest f size o ms (i * 2 ^ r.order) j root e) in
       let small = root_small f size o ms (i * 2 ^ r.order) j root inside e in
-      let order : free_order f size (i * 2 ^ r.order) r.order 15 ≡ j = order_is f size (i * 2 ^ r.order) j (j - r.order) r.order 15 (omega arith) (omega arith) whole above in
-      ap (λ t. if is_inside r.range b && t then Some (record { block = b; whole = free_order f size (i * 2 ^ r.order) r.order 15 }) else None) free
+      let order : free_order f size (i * 2 ^ r.order) r.order (log2 size) ≡ j = order_is f size (i * 2 ^ r.order) j (j - r.order) r.order (log2 size) (omega (arith, h)) (omega (arith, small)) whole above in
+      ap (λ c. if is_inside r.range c && is_free_block f size c then Some (candidate_of f size r.order c) else None) (around_number r.order i)
+      ∙ ap (λ t. if is_inside r.range b && t then Some (candidate_of f size r.order b) else None) free
       ∙ ap (λ w. if is_inside r.range b && true then Some (record { block = b; whole = w }) else None) order
-      ∙ ap (λ c. if is_inside r.range c && true then Some (record { block = c; whole = j }) else None) (around_number r.order i)
-      ∙ and_true (is_inside r.range (numbered r.order i))
+      ∙ and_true (is_inside r.range b)
     where
       and_true : (t : Bool) → (if t && true then Some (candidate_from r.order i j) else None) ≡ (if t then Some (candidate_from r.order i j) else None)
       and_true true = refl

@@ -14,9 +14,9 @@ use Rattle.block_tree.proofs.TreeLaws.{largest_at}
 use Rattle.block_tree.proofs.SearchLaws.{whole_parts, whole_from, none_from}
 use Rattle.block_tree.specs.Searching.{numbered, IsIn, whole_at, HasNone, IsLeast, FirstOf, IsFirst}
 use Rattle.block_tree.specs.FreeSet.{is_free, marks_of, IsKept, HasSameBelow}
-use Rattle.block_tree.proofs.Numbers.{block_pages, in_block}
+use Rattle.block_tree.proofs.Numbers.{some_pages, small_pow, pow_next, block_pages, in_block}
 use Rattle.block_tree.proofs.FreeLaws.{IsRoot, taken_within, taken_free}
-use Rattle.block_tree.proofs.ChoiceLaws.{candidate_none, candidate_found}
+use Rattle.block_tree.proofs.ChoiceLaws.{candidate_large, candidate_none, candidate_found}
 
 length_map : (f : ℕ → Bool) (n start : ℕ) → length (map f (count_from 1 n start)) ≡ n
 length_map f zero start = refl
@@ -71,7 +71,7 @@ marks_marked o size ms new span free k h m page =
 
 -- ---- all pages are free
 
-pub all_marked : (o size : ℕ) (new : List ℕ) → o ≤ 16 → size < 2 ^ 16 → size ≤ 2 ^ o → IsTree o new → ((page : ℕ) → page < 2 ^ o → is_free_in o new page ≡ nat_lt page size) → IsKept o size new
+pub all_marked : (o size : ℕ) (new : List ℕ) → o ≤ 31 → size < 2 ^ 31 → size ≤ 2 ^ o → IsTree o new → ((page : ℕ) → page < 2 ^ o → is_free_in o new page ≡ nat_lt page size) → IsKept o size new
 all_marked o size new ho hs hf t m = record { tree = t; order = ho; small = hs; fits = hf; beyond = λ page l u. m page u ∙ le-ltb page size l }
 
 pub all_free_marks : (o size : ℕ) (new : List ℕ) → size ≤ 2 ^ o → ((page : ℕ) → page < 2 ^ o → is_free_in o new page ≡ nat_lt page size) → (page : ℕ) → is_free (marks_of o size new) page ≡ nat_lt page size
@@ -94,10 +94,18 @@ first_marked o held new size none m page h =
 -- ---- what is found
 
 pub root_of : (o size : ℕ) (ms : List ℕ) (f : ℕ → Bool) → IsKept o size ms → ((page : ℕ) → page < size → f page ≡ is_free (marks_of o size ms) page) → IsRoot f size o ms
-root_of o size ms f k h = record { tree = k.tree; small = k.small; fits = k.fits; same = λ p l. h p l ∙ free_below o size ms p l; beyond = k.beyond }
+root_of o size ms f k h = record { tree = k.tree; fits = k.fits; same = λ p l. h p l ∙ free_below o size ms p l; beyond = k.beyond }
 
 abbrev pub block_of : Candidate → Span
 block_of c = c.block
+
+-- no block is larger than all pages
+pub none_above : (o size k : ℕ) (range : Span) (topdown : Bool) → size ≤ 2 ^ o → o < k → (f : ℕ → Bool) → option_map block_of (candidate f size range topdown k) ≡ None
+none_above o size k range topdown fits h f =
+    let p = pow_next o in
+    let s = some_pages o in
+    let m : 2 ^ suc o ≤ 2 ^ k = small_pow (suc o) k (omega (arith, h)) in
+    ap (option_map block_of) (candidate_large f size range topdown k (omega (arith, fits, p, s, m)))
 
 pub none_found : (o size : ℕ) (ms : List ℕ) (r : Request) → IsKept o size ms → HasNone r o ms 0
     → (f : ℕ → Bool) → ((page : ℕ) → page < size → f page ≡ is_free (marks_of o size ms) page) → option_map block_of (candidate f size r.range r.topdown r.order) ≡ None

@@ -15,8 +15,8 @@ marks_of o size masks = map (is_free_in o masks) (count_from 1 size 0)
 -- the masks are of a block that has all pages, and no page from the size on is free
 pub record IsKept (o size : ℕ) (masks : List ℕ) : Type 0 where
   pub tree : IsTree o masks
-  pub order : o ≤ 16
-  pub small : size < 2 ^ 16
+  pub order : o ≤ 31
+  pub small : size < 2 ^ 31
   pub fits : size ≤ 2 ^ o
   pub beyond : (page : ℕ) → size ≤ page → page < 2 ^ o → is_free_in o masks page ≡ false
 

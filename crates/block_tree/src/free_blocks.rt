@@ -10,7 +10,7 @@ use crate::search::{first_block, least_order};
 use crate::take::{span_of, take_first};
 use std::alloc::Global;
 use std::marker::Model;
-use ttm_base::{NoMemory, Span};
+use ttm_base::{NoMemory, Span, order_of};
 
 /// The free pages among a number of pages, by the orders of the blocks into which they fall. It is seen as a mark for each page,
 /// whether it is free. A call takes no memory but for `new`.
@@ -33,22 +33,9 @@ impl Model for FreeBlocks {
     ghost invariant = { λ b. IsKept b.order b.size b.masks.items };
 }
 
-/// The least order whose blocks have so many pages.
-fn order_for(pages: u32) -> u32
-    requires { pages < 2 ^ 16 }
-    ensures enough { pages ≤ 2 ^ result }
-    ensures small { result ≤ 16 }
-{
-    let mut order = 0;
-    while order < 16 && block_len(order) < pages {
-        order += 1;
-    }
-    order
-}
-
 /// The masks of a block of an order that is wholly held.
 fn held_masks(alloc: Global, order: u32) -> Result<Vec<u32>, NoMemory>
-    requires { order ≤ 16 }
+    requires { order ≤ 31 }
     ensures { IfOk result (λ masks. masks.items ≡ replicate (nodes order) 0) }
 {
     let masks = vec![in alloc; 0; nodes(order)]?;
@@ -57,7 +44,7 @@ fn held_masks(alloc: Global, order: u32) -> Result<Vec<u32>, NoMemory>
 
 /// The masks of a block of an order, of which the first pages are free.
 fn first_free(alloc: Global, order: u32, pages: u32) -> Result<Vec<u32>, NoMemory>
-    requires { order ≤ 16 }
+    requires { order ≤ 31 }
     ensures tree { IfOk result (λ masks. IsTree order masks.items) }
     ensures free { IfOk result (λ masks. (page : ℕ) → page < 2 ^ order → is_free_in order masks.items page ≡ nat_lt page pages) }
 {
@@ -91,13 +78,13 @@ fn reach_of(range: Span, size: u32, end: u32) -> Span
 }
 
 impl FreeBlocks {
-    /// Free pages, of which there are fewer than 65,536.
+    /// So many free pages.
     pub fn new(alloc: Global, pages: u32) -> Result<FreeBlocks, NoMemory>
-        requires { pages < 2 ^ 16 }
+        requires { pages < 2 ^ 31 }
         ensures size { IfOk result (λ blocks. length blocks ≡ pages) }
         ensures free { IfOk result (λ blocks. (page : ℕ) → is_free blocks page ≡ nat_lt page pages) }
     {
-        let order = order_for(pages);
+        let order = order_of(pages);
         let masks = first_free(alloc, order, pages)?;
         Ok(FreeBlocks {
             masks,
@@ -109,7 +96,7 @@ impl FreeBlocks {
     /// The number of pages.
     pub fn size(&self) -> u32
         ensures value { result ≡ length self.now }
-        ensures small { result < 2 ^ 16 }
+        ensures small { result < 2 ^ 31 }
     {
         self.size
     }
@@ -126,13 +113,15 @@ impl FreeBlocks {
     /// The free block of an order inside a range that is split from the smallest: among equals the lowest, or for topdown the
     /// highest.
     pub fn candidate(&self, range: Span, topdown: bool, order: u32) -> Option<Span>
-        requires { order ≤ 16 }
         ensures choice { (test : ℕ → Bool) → ((page : ℕ) → page < length self.now → test page ≡ is_free self.now page) → option_map (λ c. c.block) (candidate test (length self.now) range topdown order) ≡ result }
         ensures free { IfSome result (λ block. (page : ℕ) → has_page page block ≡ true → is_free self.now page ≡ true) }
         ensures within { IfSome result (λ block. block.end ≤ length self.now) }
-        ensures small { IfSome result (λ block. block.end < 2 ^ 16) }
+        ensures small { IfSome result (λ block. block.end < 2 ^ 31) }
         ensures len { IfSome result (λ block. block.end ≡ block.start + 2 ^ order) }
     {
+        if order > self.order {
+            return None;
+        }
         let request = Request {
             order,
             range: reach_of(range, self.size, block_len(self.order)),
@@ -152,16 +141,18 @@ impl FreeBlocks {
 
     /// Takes the block that `candidate` answers: it is held from then on.
     pub fn take(&mut self, range: Span, topdown: bool, order: u32) -> Option<Span>
-        requires { order ≤ 16 }
         ensures choice { (test : ℕ → Bool) → ((page : ℕ) → page < length self.old → test page ≡ is_free self.old page) → option_map (λ c. c.block) (candidate test (length self.old) range topdown order) ≡ result }
         ensures size { length self.new ≡ length self.old }
         ensures taken { IfSome result (λ block. (page : ℕ) → is_free self.new page ≡ is_marked block false (is_free self.old page) page) }
         ensures none { result ≡ None → self.new ≡ self.old }
         ensures free { IfSome result (λ block. (page : ℕ) → has_page page block ≡ true → is_free self.old page ≡ true) }
         ensures within { IfSome result (λ block. block.end ≤ length self.old) }
-        ensures small { IfSome result (λ block. block.end < 2 ^ 16) }
+        ensures small { IfSome result (λ block. block.end < 2 ^ 31) }
         ensures len { IfSome result (λ block. block.end ≡ block.start + 2 ^ order) }
     {
+        if order > self.order {
+            return None;
+        }
         let request = Request {
             order,
             range: reach_of(range, self.size, block_len(self.order)),

@@ -5,17 +5,17 @@ use ttm_base::Span;
 
 /// The pages of a block of an order, and the mask of such a block that is wholly free.
 pub fn block_len(order: u32) -> u32
-    requires { order ≤ 17 }
+    requires { order ≤ 31 }
     ensures value { result ≡ 2 ^ order }
     ensures some { 0 < result }
-    ensures small { result ≤ 2 ^ 17 }
+    ensures small { result ≤ 2 ^ 31 }
 {
     1 << order
 }
 
 /// How many masks a block of an order has.
 pub fn nodes(order: u32) -> usize
-    requires { order ≤ 16 }
+    requires { order ≤ 31 }
     ensures { result ≡ nodes order }
 {
     2 * block_len(order) as usize - 1
@@ -23,7 +23,7 @@ pub fn nodes(order: u32) -> usize
 
 /// The mask of a block, of those of its halves, which are of an order.
 fn joined(half: u32, low: u32, high: u32) -> u32
-    requires { half ≤ 16 }
+    requires { half ≤ 30 }
     ensures { result ≡ joined half low high }
 {
     let whole = block_len(half);
@@ -36,7 +36,7 @@ fn joined(half: u32, low: u32, high: u32) -> u32
 
 /// The mask of a block that is wholly free, or wholly held.
 fn whole_mask(order: u32, free: bool) -> u32
-    requires { order ≤ 16 }
+    requires { order ≤ 31 }
     ensures { result ≡ (if free then 2 ^ order else 0) }
 {
     if free { block_len(order) } else { 0 }
@@ -52,7 +52,7 @@ pub fn top_of(masks: &[u32]) -> u32
 
 /// The masks of both halves of a block, which are of an order.
 pub fn halves(masks: &[u32], half: u32) -> (&[u32], &[u32])
-    requires half { half ≤ 15 }
+    requires half { half ≤ 30 }
     requires tree { IsTree (suc half) masks.now }
     ensures low { result.0.now ≡ low half masks.now }
     ensures high { result.1.now ≡ high half masks.now }
@@ -62,7 +62,7 @@ pub fn halves(masks: &[u32], half: u32) -> (&[u32], &[u32])
 
 /// Tells a half, of an order, what its block's own mask says of it.
 fn tell(masks: &mut [u32], half: u32, mask: u32)
-    requires half { half ≤ 16 }
+    requires half { half ≤ 30 }
     requires some { 0 < length masks.old }
     ensures { masks.new ≡ told half mask masks.old }
 {
@@ -75,7 +75,7 @@ fn tell(masks: &mut [u32], half: u32, mask: u32)
 
 /// Tells both halves of a block, which are of an order, what its own mask says.
 fn tell_halves(masks: &mut [u32], half: u32)
-    requires half { half ≤ 15 }
+    requires half { half ≤ 30 }
     requires tree { IsTree (suc half) masks.old }
     ensures halves { HasHalves half masks.new }
     ensures same { (page : ℕ) → is_free_by_half half masks.new page ≡ is_free_in (suc half) masks.old page }
@@ -90,7 +90,7 @@ fn tell_halves(masks: &mut [u32], half: u32)
 
 /// Makes a block's own mask of those of its halves, which are of an order.
 pub fn join_halves(masks: &mut [u32], half: u32)
-    requires half { half ≤ 15 }
+    requires half { half ≤ 30 }
     requires halves { HasHalves half masks.old }
     ensures tree { IsTree (suc half) masks.new }
     ensures same { (page : ℕ) → is_free_in (suc half) masks.new page ≡ is_free_by_half half masks.old page }
@@ -100,7 +100,7 @@ pub fn join_halves(masks: &mut [u32], half: u32)
 
 /// The number of a half of a block, by the block's number.
 pub fn half_number(number: u32, is_high: bool) -> u32
-    requires { number < 2 ^ 16 }
+    requires { number < 2 ^ 31 }
     ensures { result ≡ (if is_high then 2 * number + 1 else 2 * number) }
 {
     if is_high { 2 * number + 1 } else { 2 * number }
@@ -108,7 +108,7 @@ pub fn half_number(number: u32, is_high: bool) -> u32
 
 /// Where the masks of a half, of an order, begin among those of its block.
 pub fn half_start(half: u32, number: u32) -> usize
-    requires { half ≤ 15 }
+    requires { half ≤ 30 }
     ensures { result ≡ 1 + number % 2 * nodes half }
 {
     1 + (number % 2) as usize * nodes(half)
@@ -118,8 +118,8 @@ pub fn half_start(half: u32, number: u32) -> usize
 /// of its order.
 pub fn mark(masks: &mut [u32], order: u32, number: u32, span: Span, free: bool)
     requires tree { IsTree order masks.old }
-    requires order { order ≤ 16 }
-    requires number { number * 2 ^ order + 2 ^ order ≤ 2 ^ 16 }
+    requires order { order ≤ 31 }
+    requires number { number * 2 ^ order + 2 ^ order ≤ 2 ^ 31 }
     ensures tree { IsTree order masks.new }
     ensures marked { (page : ℕ) → page / 2 ^ order ≡ number → is_free_in order masks.new page ≡ is_marked span free (is_free_in order masks.old page) page }
 {
@@ -134,8 +134,8 @@ pub fn mark(masks: &mut [u32], order: u32, number: u32, span: Span, free: bool)
 #[cycle(mark_met)]
 pub fn mark_met(masks: &mut [u32], order: u32, number: u32, span: Span, free: bool)
     requires tree { IsTree order masks.old }
-    requires order { order ≤ 16 }
-    requires number { number * 2 ^ order + 2 ^ order ≤ 2 ^ 16 }
+    requires order { order ≤ 31 }
+    requires number { number * 2 ^ order + 2 ^ order ≤ 2 ^ 31 }
     requires some { span.start < span.end }
     requires above { number * 2 ^ order < span.end }
     requires below { span.start < number * 2 ^ order + 2 ^ order }
@@ -167,9 +167,9 @@ pub fn mark_met(masks: &mut [u32], order: u32, number: u32, span: Span, free: bo
 /// The same, of one half of a block, which is told by its order and its number.
 #[cycle(mark_met)]
 fn mark_half(masks: &mut [u32], half: u32, number: u32, span: Span, free: bool)
-    requires half { half ≤ 15 }
+    requires half { half ≤ 30 }
     requires halves { HasHalves half masks.old }
-    requires number { number * 2 ^ half + 2 ^ half ≤ 2 ^ 16 }
+    requires number { number * 2 ^ half + 2 ^ half ≤ 2 ^ 31 }
     requires some { span.start < span.end }
     requires above { number * 2 ^ half < span.end }
     requires below { span.start < number * 2 ^ half + 2 ^ half }

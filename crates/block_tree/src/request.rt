@@ -16,8 +16,8 @@ pub struct Request {
 impl Request {
     /// Some page of a block is in the range. The block is told by its order and its number.
     pub fn meets(self, order: u32, number: u32) -> bool
-        requires order { order ≤ 16 }
-        requires number { number * 2 ^ order + 2 ^ order ≤ 2 ^ 16 }
+        requires order { order ≤ 31 }
+        requires number { number * 2 ^ order + 2 ^ order ≤ 2 ^ 31 }
         ensures value { result ≡ (nat_lt (number * 2 ^ order) self.range.end && nat_lt self.range.start (number * 2 ^ order + 2 ^ order)) }
         ensures fit { result ≡ false → HasNoFit self order number }
     {
@@ -27,8 +27,8 @@ impl Request {
 
     /// All pages of a block are in the range.
     pub fn covers(self, order: u32, number: u32) -> bool
-        requires order { order ≤ 16 }
-        requires number { number * 2 ^ order + 2 ^ order ≤ 2 ^ 16 }
+        requires order { order ≤ 31 }
+        requires number { number * 2 ^ order + 2 ^ order ≤ 2 ^ 31 }
         ensures value { result ≡ (nat_le self.range.start (number * 2 ^ order) && nat_le (number * 2 ^ order + 2 ^ order) self.range.end) }
         ensures fit { result ≡ true → self.order ≤ order → (i : ℕ) → IsIn order number self.order i → is_inside self.range (numbered self.order i) ≡ true }
     {
@@ -38,9 +38,9 @@ impl Request {
 
     /// The first block of the wanted order that is in a block inside the range, by its number.
     pub fn first_in(self, order: u32, number: u32) -> u32
-        requires order { order ≤ 16 }
+        requires order { order ≤ 31 }
         requires small { self.order ≤ order }
-        requires number { number * 2 ^ order + 2 ^ order ≤ 2 ^ 16 }
+        requires number { number * 2 ^ order + 2 ^ order ≤ 2 ^ 31 }
         requires start { self.range.start ≤ number * 2 ^ order }
         requires end { number * 2 ^ order + 2 ^ order ≤ self.range.end }
         ensures { IsFit self order number result }
@@ -55,9 +55,9 @@ impl Request {
 
     /// The first block of the wanted order that is in a block and inside the range, by its number.
     pub fn fit(self, order: u32, number: u32) -> Option<u32>
-        requires order { order ≤ 16 }
+        requires order { order ≤ 31 }
         requires small { self.order ≤ order }
-        requires number { number * 2 ^ order + 2 ^ order ≤ 2 ^ 16 }
+        requires number { number * 2 ^ order + 2 ^ order ≤ 2 ^ 31 }
         ensures { FitOf self order number result }
     {
         let len = block_len(self.order) as u64;

@@ -8,7 +8,7 @@ use crate::request::Request;
 
 /// The lowest order that a mask has, from an order on.
 fn lowest_order(mask: u32, from: u32) -> u32
-    requires from { from ≤ 16 }
+    requires from { from ≤ 31 }
     requires some { 2 ^ from ≤ mask }
     ensures is { bit_at mask result ≡ 1 }
     ensures from { from ≤ result }
@@ -40,9 +40,9 @@ pub fn has_order(masks: &[u32], order: u32) -> bool
 #[cycle(least_order)]
 pub fn least_order(masks: &[u32], order: u32, number: u32, request: Request) -> Option<u32>
     requires tree { IsTree order masks.now }
-    requires order { order ≤ 16 }
-    requires number { number * 2 ^ order + 2 ^ order ≤ 2 ^ 16 }
-    requires wanted { request.order ≤ 16 }
+    requires order { order ≤ 31 }
+    requires number { number * 2 ^ order + 2 ^ order ≤ 2 ^ 31 }
+    requires wanted { request.order ≤ 31 }
     ensures { LeastOf request order masks.now number result }
 {
     let mask = top_of(masks);
@@ -59,9 +59,9 @@ pub fn least_order(masks: &[u32], order: u32, number: u32, request: Request) -> 
 #[cycle(least_order)]
 fn least_across(masks: &[u32], order: u32, number: u32, request: Request) -> Option<u32>
     requires tree { IsTree order masks.now }
-    requires order { order ≤ 16 }
-    requires number { number * 2 ^ order + 2 ^ order ≤ 2 ^ 16 }
-    requires wanted { request.order ≤ 16 }
+    requires order { order ≤ 31 }
+    requires number { number * 2 ^ order + 2 ^ order ≤ 2 ^ 31 }
+    requires wanted { request.order ≤ 31 }
     requires some { 2 ^ request.order ≤ top masks.now }
     ensures { LeastOf request order masks.now number result }
 {
@@ -98,8 +98,8 @@ pub fn is_first_low(low: &[u32], high: &[u32], topdown: bool, whole: u32) -> boo
 /// The first block in a block inside the range that would be split from a free block of an order that is there, by its number.
 fn first_inside(masks: &[u32], order: u32, number: u32, request: Request, whole: u32) -> u32
     requires tree { IsTree order masks.now }
-    requires order { order ≤ 16 }
-    requires number { number * 2 ^ order + 2 ^ order ≤ 2 ^ 16 }
+    requires order { order ≤ 31 }
+    requires number { number * 2 ^ order + 2 ^ order ≤ 2 ^ 31 }
     requires wanted { request.order ≤ whole }
     requires whole { whole < 32 }
     requires has { bit_at (top masks.now) whole ≡ 1 }
@@ -131,8 +131,8 @@ pub fn first_block(
     whole: u32,
 ) -> Option<u32>
     requires tree { IsTree order masks.now }
-    requires order { order ≤ 16 }
-    requires number { number * 2 ^ order + 2 ^ order ≤ 2 ^ 16 }
+    requires order { order ≤ 31 }
+    requires number { number * 2 ^ order + 2 ^ order ≤ 2 ^ 31 }
     requires wanted { request.order ≤ whole }
     requires whole { whole < 32 }
     ensures { FirstOf request order masks.now number whole result }
@@ -150,8 +150,8 @@ pub fn first_block(
 #[cycle(first_block)]
 fn first_across(masks: &[u32], order: u32, number: u32, request: Request, whole: u32) -> Option<u32>
     requires tree { IsTree order masks.now }
-    requires order { order ≤ 16 }
-    requires number { number * 2 ^ order + 2 ^ order ≤ 2 ^ 16 }
+    requires order { order ≤ 31 }
+    requires number { number * 2 ^ order + 2 ^ order ≤ 2 ^ 31 }
     requires wanted { request.order ≤ whole }
     requires whole { whole < 32 }
     requires has { bit_at (top masks.now) whole ≡ 1 }

@@ -13,8 +13,8 @@ use ttm_base::Span;
 
 /// The pages of a block of an order.
 pub fn span_of(order: u32, number: u32) -> Span
-    requires order { order ≤ 16 }
-    requires small { number * 2 ^ order + 2 ^ order ≤ 2 ^ 16 }
+    requires order { order ≤ 31 }
+    requires small { number * 2 ^ order + 2 ^ order ≤ 2 ^ 31 }
     ensures { result ≡ numbered order number }
 {
     let len = block_len(order);
@@ -27,9 +27,9 @@ pub fn span_of(order: u32, number: u32) -> Span
 
 /// The number of the half, of an order, in which the first block is, of the two that a block has.
 fn near_half(masks: &[u32], half: u32, number: u32, topdown: bool, whole: u32) -> u32
-    requires half { half ≤ 15 }
+    requires half { half ≤ 30 }
     requires tree { IsTree (suc half) masks.now }
-    requires number { number < 2 ^ 16 }
+    requires number { number < 2 ^ 31 }
     requires whole { whole < 32 }
     ensures { result ≡ (if is_first_low topdown (top (low half masks.now)) (top (high half masks.now)) whole then 2 * number else 2 * number + 1) }
 {
@@ -42,8 +42,8 @@ fn near_half(masks: &[u32], half: u32, number: u32, topdown: bool, whole: u32) -
 #[cycle(take_inside)]
 fn take_inside(masks: &mut [u32], order: u32, number: u32, request: Request, whole: u32) -> u32
     requires tree { IsTree order masks.old }
-    requires order { order ≤ 16 }
-    requires number { number * 2 ^ order + 2 ^ order ≤ 2 ^ 16 }
+    requires order { order ≤ 31 }
+    requires number { number * 2 ^ order + 2 ^ order ≤ 2 ^ 31 }
     requires wanted { request.order ≤ whole }
     requires whole { whole < 32 }
     requires has { bit_at (top masks.old) whole ≡ 1 }
@@ -70,9 +70,9 @@ fn take_inside(masks: &mut [u32], order: u32, number: u32, request: Request, who
 /// The same, in one half of a block, which is told by its order and its number.
 #[cycle(take_inside)]
 fn take_half(masks: &mut [u32], half: u32, number: u32, request: Request, whole: u32) -> u32
-    requires half { half ≤ 15 }
+    requires half { half ≤ 30 }
     requires halves { HasHalves half masks.old }
-    requires number { number * 2 ^ half + 2 ^ half ≤ 2 ^ 16 }
+    requires number { number * 2 ^ half + 2 ^ half ≤ 2 ^ 31 }
     requires wanted { request.order ≤ whole }
     requires whole { whole < 32 }
     requires has { bit_at (top (half_of half masks.old number)) whole ≡ 1 }
@@ -99,8 +99,8 @@ pub fn take_first(
     whole: u32,
 ) -> Option<u32>
     requires tree { IsTree order masks.old }
-    requires order { order ≤ 16 }
-    requires number { number * 2 ^ order + 2 ^ order ≤ 2 ^ 16 }
+    requires order { order ≤ 31 }
+    requires number { number * 2 ^ order + 2 ^ order ≤ 2 ^ 31 }
     requires wanted { request.order ≤ whole }
     requires whole { whole < 32 }
     ensures first { FirstOf request order masks.old number whole result }
@@ -127,8 +127,8 @@ fn take_across(
     whole: u32,
 ) -> Option<u32>
     requires tree { IsTree order masks.old }
-    requires order { order ≤ 16 }
-    requires number { number * 2 ^ order + 2 ^ order ≤ 2 ^ 16 }
+    requires order { order ≤ 31 }
+    requires number { number * 2 ^ order + 2 ^ order ≤ 2 ^ 31 }
     requires wanted { request.order ≤ whole }
     requires whole { whole < 32 }
     requires has { bit_at (top masks.old) whole ≡ 1 }
@@ -169,9 +169,9 @@ fn take_in_half(
     request: Request,
     whole: u32,
 ) -> Option<u32>
-    requires half { half ≤ 15 }
+    requires half { half ≤ 30 }
     requires halves { HasHalves half masks.old }
-    requires number { number * 2 ^ half + 2 ^ half ≤ 2 ^ 16 }
+    requires number { number * 2 ^ half + 2 ^ half ≤ 2 ^ 31 }
     requires wanted { request.order ≤ whole }
     requires whole { whole < 32 }
     ensures first { FirstOf request half (half_of half masks.old number) number whole result }

@@ -1,4 +1,3 @@
 pub mod HeldLaws
-pub mod OrderLaws
 pub mod TakingLaws
 pub mod ManagedLaws

@@ -113,7 +113,7 @@ managed_taken marks after ends new used out m t l h =
     }
 
 -- the pages that were taken are no more than there are
-pub taken_small : (marks after : List Bool) (ends : List ℕ) (used : ℕ) (out : List Span) → IsManaged marks ends used → IsTakenBy marks out after → used + pages_of out < 2 ^ 16
+pub taken_small : (marks after : List Bool) (ends : List ℕ) (used : ℕ) (out : List Span) → IsManaged marks ends used → IsTakenBy marks out after → used + pages_of out < 2 ^ 31
 taken_small marks after ends used out m t =
     let k = taken_kept marks after ends used out m t in
     let p = pages_within (length marks) (with_blocks out (held_from 0 ends)) k.apart k.by in
@@ -307,7 +307,7 @@ used_within marks ends used m =
 
 -- ---- a manager of which nothing is held
 
-pub managed_new : (marks : List Bool) (pages : ℕ) → length marks ≡ pages → pages < 2 ^ 16 → ((page : ℕ) → is_free marks page ≡ nat_lt page pages) → IsManaged marks (replicate pages 0) 0
+pub managed_new : (marks : List Bool) (pages : ℕ) → length marks ≡ pages → pages < 2 ^ 31 → ((page : ℕ) → is_free marks page ≡ nat_lt page pages) → IsManaged marks (replicate pages 0) 0
 managed_new marks pages l small f =
     let none = none_held pages 0 in
     record {

@@ -3,7 +3,7 @@ use Rattle.std.proofs.Common.{◌≡◌, ℕ, zero, suc, ◌+◌, ◌-◌, ◌^�
 use Rattle.std.specs.List.{list_any}
 use Rattle.ttm_base.specs.declared.Span.{Span}
 use Rattle.ttm_base.specs.Holes.{has_page}
-use Rattle.ttm_base.specs.BuddyChoice.{Candidate, candidate, first_candidate, log2_below, scattered, taken_after}
+use Rattle.ttm_base.specs.BuddyChoice.{Candidate, candidate, first_candidate, log2, scattered, taken_after}
 use Rattle.block_tree.specs.FreeSet.{is_free}
 use Rattle.block_tree.specs.Masks.{is_marked}
 use Rattle.buddy_manager.specs.Held.{AllBy}
@@ -129,14 +129,14 @@ first_here at (suc k) c some h =
     ap (λ o. elim o [ Some c ↦ Some c | None ↦ first_candidate at k ]) found
 
 pub scattered_none : (fuel : ℕ) (f : ℕ → Bool) (size : ℕ) (range : Span) (topdown : Bool) (left : ℕ) → 0 < left
-    → first_candidate (candidate f size range topdown) (log2_below 16 left + 1) ≡ None → scattered fuel f size range topdown left ≡ None
+    → first_candidate (candidate f size range topdown) (log2 left + 1) ≡ None → scattered fuel f size range topdown left ≡ None
 scattered_none fuel f size range topdown zero some h = absurd (omega arith)
 scattered_none zero f size range topdown (suc left) some h = refl
 scattered_none (suc fuel) f size range topdown (suc left) some h =
     ap (λ o. elim o [ None ↦ None | Some c ↦ taken_after (scattered fuel (λ page. f page && not (has_page page c.block)) size range topdown (suc left - (c.block.end - c.block.start))) c.block ]) h
 
 scattered_some : (fuel : ℕ) (f : ℕ → Bool) (size : ℕ) (range : Span) (topdown : Bool) (left : ℕ) (c : Candidate)
-    → first_candidate (candidate f size range topdown) (log2_below 16 (suc left) + 1) ≡ Some c
+    → first_candidate (candidate f size range topdown) (log2 (suc left) + 1) ≡ Some c
     → scattered (suc fuel) f size range topdown (suc left) ≡ taken_after (scattered fuel (less f c.block) size range topdown (suc left - (c.block.end - c.block.start))) c.block
 scattered_some fuel f size range topdown left c h =
     ap (λ o. elim o [ None ↦ None | Some c ↦ taken_after (scattered fuel (λ page. f page && not (has_page page c.block)) size range topdown (suc left - (c.block.end - c.block.start))) c.block ]) h
@@ -148,7 +148,7 @@ one_block_more spans block None = refl
 one_block_more spans block (Some more) = ap Some (append_assoc spans (block ∷ []) more)
 
 pub scattered_more : (fuel : ℕ) (f : ℕ → Bool) (size : ℕ) (range : Span) (topdown : Bool) (left : ℕ) (spans : List Span) (c : Candidate)
-    → 0 < fuel → 0 < left → first_candidate (candidate f size range topdown) (log2_below 16 left + 1) ≡ Some c
+    → 0 < fuel → 0 < left → first_candidate (candidate f size range topdown) (log2 left + 1) ≡ Some c
     → option_map (λ more. (spans ++ c.block ∷ []) ++ more) (scattered (fuel - 1) (less f c.block) size range topdown (left - (c.block.end - c.block.start)))
     ≡ option_map (λ more. spans ++ more) (scattered fuel f size range topdown left)
 scattered_more zero f size range topdown left spans c some more h = absurd (omega arith)

@@ -41,7 +41,7 @@ pub record IsSame (before after : List Bool) : Type 0 where
 -- the marks, the ends and the count of held pages fit together
 pub record IsManaged (marks : List Bool) (ends : List ℕ) (used : ℕ) : Type 0 where
   pub size : length ends ≡ length marks
-  pub small : length marks < 2 ^ 16
+  pub small : length marks < 2 ^ 31
   pub free : (page : ℕ) → is_free marks page ≡ (nat_lt page (length marks) && is_free_beside (held_from 0 ends) page)
   pub apart : IsApart (held_from 0 ends)
   pub within : AllBy (length marks) (held_from 0 ends)

@@ -7,14 +7,12 @@ ghost use Rattle.block_tree.specs.Masks.{is_marked};
 ghost use Rattle.buddy_manager.specs.Held.{AllBy};
 ghost use Rattle.buddy_manager.specs.Taking.{CanTake, Tells, IsTakenBy, IsSame};
 
-use crate::orders::{log2_below, order_above};
 use crate::{AllocFault, BuddyFlags};
 use block_tree::FreeBlocks;
-use ttm_base::{Span, Spans};
+use ttm_base::{Span, Spans, log2, order_of};
 
 /// Takes the block of the greatest order below a bound that has one.
 fn take_block(free: &mut FreeBlocks, range: Span, topdown: bool, orders: u32) -> Option<Span>
-    requires { orders ≤ 17 }
     ensures choice { (test : ℕ → Bool) → Tells test free.old → option_map (λ c. c.block) (words.first_candidate (words.candidate test (length free.old) range topdown) orders) ≡ result }
     ensures can { IfSome result (CanTake (is_free free.old) (length free.old)) }
     ensures size { length free.new ≡ length free.old }
@@ -49,7 +47,7 @@ fn scattered(
         if left == 0 {
             return Ok(());
         }
-        let Some(block) = take_block(free, range, topdown, log2_below(left) + 1) else {
+        let Some(block) = take_block(free, range, topdown, log2(left) + 1) else {
             return Err(AllocFault::NoBlocks);
         };
         let Ok(()) = out.push(block) else {
@@ -79,7 +77,7 @@ fn contiguous(
     ensures ok { OnOk result ((test : ℕ → Bool) → Tells test free.old → words.contiguous test (length free.old) range topdown pages ≡ Some out.new) }
     ensures none { result ≡ Err AllocFault.NoBlocks → (test : ℕ → Bool) → Tells test free.old → words.contiguous test (length free.old) range topdown pages ≡ None }
 {
-    let Some(block) = free.candidate(range, topdown, order_above(pages)) else {
+    let Some(block) = free.candidate(range, topdown, order_of(pages)) else {
         return Err(AllocFault::NoBlocks);
     };
     let span = Span {

@@ -4,9 +4,6 @@
 mod choice;
 mod ends;
 mod manager;
-mod orders;
-#[cfg(test)]
-mod tests;
 
 pub use manager::BuddyManager;
 

@@ -13,7 +13,7 @@ use std::marker::Model;
 use ttm_base::{NoMemory, Span, Spans};
 
 /// The most pages that a manager has room for.
-const MOST_PAGES: u32 = 65_535;
+const MOST_PAGES: u32 = i32::MAX as u32;
 
 /// The pages of a memory type by blocks, seen as the number of pages and the blocks that are held. The other pages are free.
 #[derive(Drop)]
@@ -46,12 +46,11 @@ fn no_ends(alloc: Global, pages: u32) -> Result<Vec<u32>, NoMemory>
 }
 
 impl BuddyManager {
-    /// Pages of which none is held. A manager has room for at most 65,535 pages, four times what a script may ask for: where
-    /// there are more it answers `NoMemory`.
+    /// Pages of which none is held. A manager has room for fewer than 2^31 pages: where there are more it answers `NoMemory`.
     pub fn new(alloc: Global, pages: u32) -> Result<BuddyManager, NoMemory>
         ensures size { IfOk result (λ manager. manager.size ≡ pages) }
         ensures held { IfOk result (λ manager. manager.held ≡ []) }
-        ensures most { OnOk result (pages < 2 ^ 16) }
+        ensures most { OnOk result (pages < 2 ^ 31) }
     {
         if pages > MOST_PAGES {
             return Err(NoMemory);

@@ -139,6 +139,3 @@ fn xor_slices(to: &mut [u8], from: &[u8])
         to[i] ^= from[i];
     }
 }
-
-#[cfg(test)]
-mod tests;

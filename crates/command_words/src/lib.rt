@@ -118,6 +118,3 @@ pub fn read_words(words: &Words) -> Option<Form>
         _ => None,
     }
 }
-
-#[cfg(test)]
-mod tests;

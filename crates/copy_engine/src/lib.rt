@@ -16,8 +16,6 @@ use ttm_base::{JobId, NoMemory, Packet};
 
 mod ring;
 mod ring_job;
-#[cfg(test)]
-mod tests;
 
 use ring::Ring;
 use ring_job::RingJob;

@@ -12,6 +12,3 @@ pub use places::{PagePlaces, PlaceMap, PlaceRow};
 pub use probe::ProbeBytes;
 pub use running::run;
 pub use stores::Stores;
-
-#[cfg(test)]
-mod tests;

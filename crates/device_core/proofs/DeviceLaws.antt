@@ -22,18 +22,18 @@ use Rattle.journal_model.specs.Stores.{is_there, within, zeros, stores_after, sh
 use Rattle.journal_model.specs.Complete.{is_over, is_complete}
 use Rattle.journal_model.specs.Legal.{World, first_state, IsLegal, IsLegalNext, state_of, stores_of, world_of, world_after, next_entry, shown_step}
 use Rattle.journal_model.proofs.JournalLaws.{world_of-append, IsLegal-append}
-use Rattle.journal_law.proofs.Counted.{over_law}
-use Rattle.journal_law.proofs.Shown.{LegalStep, legal_step}
-use Rattle.journal_law.proofs.Turns.{next_is_legal}
-use Rattle.state_law.proofs.Rules.{Rules, rules_of, at_work_rules}
-use Rattle.state_law.proofs.GoodStates.{good_law}
-use Rattle.state_law.proofs.Counters.{below_law}
-use Rattle.state_law.proofs.Pins.{courses_law}
-use Rattle.replay.specs.Ready.{IsReady, IsReadyFor}
+use Rattle.law_journal.proofs.Counted.{over_law}
+use Rattle.law_journal.proofs.Shown.{LegalStep, legal_step}
+use Rattle.law_journal.proofs.Turns.{next_is_legal}
+use Rattle.law_state.proofs.Rules.{Rules, rules_of, at_work_rules}
+use Rattle.law_state.proofs.GoodStates.{good_law}
+use Rattle.law_state.proofs.Counters.{below_law}
+use Rattle.law_state.proofs.Pins.{courses_law}
+use Rattle.rules_apply.specs.Ready.{IsReady, IsReadyFor}
 use Rattle.device_core.specs.Kept.{Kept, entry_of, with_entry}
 use Rattle.device_core.specs.Held.{IsHeld, HasNoMore}
-use Rattle.replay_stores.specs.Kept as kept
-use Rattle.replay_stores.specs.Kept.{KeptBytes}
+use Rattle.rules_stores.specs.Kept as kept
+use Rattle.rules_stores.specs.Kept.{KeptBytes}
 use Rattle.device_core.proofs.ReadyLaws.{Known, has_room, ready}
 
 -- beyond the pages that there are, there is nothing

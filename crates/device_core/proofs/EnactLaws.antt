@@ -18,9 +18,9 @@ use Rattle.journal_model.specs.Commands.{command_at_work}
 use Rattle.journal_model.specs.Apply.{apply, applied, thread_of}
 use Rattle.journal_model.specs.Stores.{put_bytes, written, stores_after}
 use Rattle.journal_model.specs.CommandRules.{is_command, is_range_of, is_byte}
-use Rattle.state_law.proofs.Rules.{Rules, at_work_rules}
-use Rattle.replay_stores.specs.Writes.{CanStore, IsShortWrite}
-use Rattle.replay.specs.Sure.{takes_no_memory}
+use Rattle.law_state.proofs.Rules.{Rules, at_work_rules}
+use Rattle.rules_stores.specs.Writes.{CanStore, IsShortWrite}
+use Rattle.rules_apply.specs.Sure.{takes_no_memory}
 use Rattle.device_core.specs.Held.{is_result}
 
 module _ {X E : Type 0} where

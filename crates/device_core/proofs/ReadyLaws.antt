@@ -39,20 +39,20 @@ use Rattle.journal_model.specs.Search.{Quest, quest, is_caught, through_tt, step
 use Rattle.journal_model.specs.PageSteps.{next_job}
 use Rattle.journal_model.specs.Next.{next, step_of_task, step_of_act, step_of_start}
 use Rattle.journal_model.specs.Stores.{Stores, showing}
-use Rattle.journal_law.proofs.Courses.{is_of_engine, is_of_reaper, of_engine, of_reaper, thread_is_there}
-use Rattle.state_law.specs.GoodState.{last_number, GoodState}
-use Rattle.state_law.specs.Counters.{Below}
-use Rattle.state_law.specs.Courses.{GoodCourses}
-use Rattle.state_law.proofs.Lists.{get_within}
-use Rattle.state_law.proofs.JobsKeep.{all_at}
-use Rattle.state_law.proofs.Rules.{Rules, rules_of, declared_pages}
-use Rattle.state_law.proofs.Moves.{ThreadStep, thread_step}
-use Rattle.state_law.proofs.Courses.{is_dry_below, quest_dry}
-use Rattle.state_law.proofs.Pins.{HasPinLeft, result_pins, at_number}
-use Rattle.state_law.proofs.GoodStates.{table_pages}
-use Rattle.replay_parts.specs.Pins.{HasPinsLeft}
-use Rattle.replay_next.specs.Room.{HasRoom}
-use Rattle.replay.specs.Ready.{IsThread, CanAnswer, CanShowResult, CanGoDry, CanRun, HasShortTable, has_packets_left, IsReadyFor}
+use Rattle.law_journal.proofs.Courses.{is_of_engine, is_of_reaper, of_engine, of_reaper, thread_is_there}
+use Rattle.law_state.specs.GoodState.{last_number, GoodState}
+use Rattle.law_state.specs.Counters.{Below}
+use Rattle.law_state.specs.Courses.{GoodCourses}
+use Rattle.law_state.proofs.Lists.{get_within}
+use Rattle.law_state.proofs.JobsKeep.{all_at}
+use Rattle.law_state.proofs.Rules.{Rules, rules_of, declared_pages}
+use Rattle.law_state.proofs.Moves.{ThreadStep, thread_step}
+use Rattle.law_state.proofs.Courses.{is_dry_below, quest_dry}
+use Rattle.law_state.proofs.Pins.{HasPinLeft, result_pins, at_number}
+use Rattle.law_state.proofs.GoodStates.{table_pages}
+use Rattle.rules_parts.specs.Pins.{HasPinsLeft}
+use Rattle.rules_search.specs.Room.{HasRoom}
+use Rattle.rules_apply.specs.Ready.{IsThread, CanAnswer, CanShowResult, CanGoDry, CanRun, HasShortTable, has_packets_left, IsReadyFor}
 
 -- ---- few commands
 

@@ -4,15 +4,15 @@ ghost use Rattle.journal_model.specs.Complete.{is_complete};
 ghost use Rattle.journal_model.specs.Legal.{state_of};
 ghost use Rattle.journal_model.specs.DeadEnd.{can_step};
 ghost use Rattle.journal_model.specs.Scheduled.{own_order};
-ghost use Rattle.progress_law.specs.Sound.{SomeGoesOn};
+ghost use Rattle.law_progress.specs.Sound.{SomeGoesOn};
 ghost use Rattle.device_core.specs.Kept.{entry_of, with_entry, turn_of, after_turn};
 
 use crate::enact::enact;
 use journal_model::{Entry, Script, State};
-use replay::first_state;
-use replay_next::next;
-use replay_schedule::{is_over, next_actor};
-use replay_stores::PlainStores;
+use rules_apply::first_state;
+use rules_next::next;
+use rules_schedule::{is_over, next_actor};
+use rules_stores::PlainStores;
 use std::alloc::Global;
 use std::marker::Model;
 use ttm_base::{Actor, ItemList, Need, NoMemory, Turn};
@@ -38,7 +38,7 @@ pub struct Device {
 impl Model for Device {
     ghost use Rattle.device_core.specs.Kept.{Kept};
     ghost use Rattle.device_core.specs.Held.{IsHeld};
-    ghost use Rattle.replay_stores.specs.Kept.{bytes_of};
+    ghost use Rattle.rules_stores.specs.Kept.{bytes_of};
 
     ghost Value = { Kept };
 

@@ -1,16 +1,16 @@
 ghost use Rattle.std.specs.Prelude.{◌≡◌, OnOk, OnErr, true, false};
 ghost use Rattle.journal_model.specs.Apply as words;
 ghost use Rattle.journal_model.specs.Stores.{stores_after};
-ghost use Rattle.replay.specs.Ready.{IsReady};
-ghost use Rattle.replay_stores.specs.Kept.{BecomesBytes, bytes_of};
-ghost use Rattle.replay_stores.specs.Writes.{CanStore};
+ghost use Rattle.rules_apply.specs.Ready.{IsReady};
+ghost use Rattle.rules_stores.specs.Kept.{BecomesBytes, bytes_of};
+ghost use Rattle.rules_stores.specs.Writes.{CanStore};
 ghost use Rattle.device_core.specs.Held.{is_result};
 
 use journal_model::{Entry, Kind, Script, State};
-use replay::apply;
-use replay_parts::actors::thread_of;
-use replay_state::command_at_work;
-use replay_stores::{PlainStores, put_write};
+use rules_apply::apply;
+use rules_parts::actors::thread_of;
+use rules_state::command_at_work;
+use rules_stores::{PlainStores, put_write};
 use std::alloc::Global;
 use ttm_base::NoMemory;
 

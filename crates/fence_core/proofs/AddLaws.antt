@@ -8,7 +8,8 @@ use Rattle.ttm_base.specs.declared.Usage.{Usage}
 use Rattle.ttm_base.specs.declared.Usage.TheVariants.{Kernel, Write, Read}
 use Rattle.fence_core.specs.declared.fence_set.Latest.{Latest}
 use Rattle.fence_core.specs.Fences.{nothing_kept, kept_of, up_to, only, later, added, all_added}
-use Rattle.fence_core.specs.Histories.{Fence, after_adds, set_of, AreKnown, covers, is_covered}
+use Rattle.fence_core.specs.Histories.{after_adds, set_of, AreKnown, covers, is_covered}
+use Rattle.ttm_base.specs.declared.Fence.{Fence}
 
 -- ---- one context
 

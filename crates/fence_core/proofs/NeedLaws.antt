@@ -13,7 +13,9 @@ use Rattle.fence_core.specs.declared.timeline.Progress.{Progress}
 use Rattle.fence_core.specs.declared.fence_set.Latest.{Latest}
 use Rattle.fence_core.specs.Timelines.{progress_of, is_signalled}
 use Rattle.fence_core.specs.Fences.{nothing_kept, kept_of, up_to, only, later, latest_num, latest_job, is_open, added, needed}
-use Rattle.fence_core.specs.Histories.{Fence, after_adds, set_of, AreKnown, covers, is_waited_for, waiting, named_first, named_job}
+use Rattle.fence_core.specs.Histories.{after_adds, set_of, AreKnown, covers, is_waited_for, waiting}
+use Rattle.ttm_base.specs.declared.Fence.{Fence}
+use Rattle.ttm_base.specs.Fences.{named_first, named_job}
 
 -- ---- the named one of several
 

@@ -1,5 +1,6 @@
 -- A set of latest jobs stands for every job that was added to it: it names the same job to wait for.
 use Rattle.std.specs.Prelude.{ℕ, ◌<◌, Bool, true, false, not, ◌&&◌, ◌||◌, ◌==◌, nat_lt, List, [], ◌∷◌, Option, Some, None, if◌then◌else◌, filter, map, replicate}
+use Rattle.ttm_base.specs.declared.Fence.{Fence}
 use Rattle.ttm_base.specs.declared.JobId.{JobId}
 use Rattle.ttm_base.specs.declared.Usage.{Usage}
 use Rattle.ttm_base.specs.declared.Usage.TheVariants.{Kernel, Write, Read}
@@ -7,11 +8,6 @@ use Rattle.fence_core.specs.declared.timeline.Progress.{Progress}
 use Rattle.fence_core.specs.declared.fence_set.Latest.{Latest}
 use Rattle.fence_core.specs.Timelines.{is_signalled}
 use Rattle.fence_core.specs.Fences.{nothing_kept, added}
-
--- a job that was added with a usage
-pub record Fence : Type 0 where
-  pub job : JobId
-  pub usage : Usage
 
 -- a set after each of these was added
 abbrev pub after_adds : List Latest → List Fence → List Latest
@@ -48,17 +44,3 @@ is_waited_for how line f = is_covered how f && not (is_signalled line f.job)
 -- the jobs of that usage and the lower ones that aren't signalled
 abbrev pub waiting : Usage → List Progress → List Fence → List JobId
 waiting how line fences = map (λ f. f.job) (filter (is_waited_for how line) fences)
-
--- the first of two jobs is named: it is of a lower context, or of the same one and later
-abbrev pub is_named_before : JobId → JobId → Bool
-is_named_before i j = nat_lt i.ctx j.ctx || ((i.ctx == j.ctx) && nat_lt j.num i.num)
-
--- the one of two that is named
-abbrev pub named_first : JobId → Option JobId → JobId
-named_first i None = i
-named_first i (Some j) = if is_named_before j i then j else i
-
--- the one of several that is named: of the lowest context, and there the latest
-abbrev pub named_job : List JobId → Option JobId
-named_job [] = None
-named_job (i ∷ jobs) = Some (named_first i (named_job jobs))

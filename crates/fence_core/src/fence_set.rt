@@ -1,6 +1,8 @@
 ghost use Rattle.std.specs.Prelude.{◌≡◌, ◌<◌, ◌↔◌, List, [], ◌∷◌, ◌++◌, None, IfOk, filter, length, replicate};
 ghost use Rattle.fence_core.specs.Fences.{nothing_kept, added, all_added, needed};
-ghost use Rattle.fence_core.specs.Histories.{Fence, AreKnown, set_of, is_covered, waiting, named_job};
+ghost use Rattle.fence_core.specs.Histories.{AreKnown, set_of, is_covered, waiting};
+ghost use Rattle.ttm_base.specs.declared.Fence.{Fence};
+ghost use Rattle.ttm_base.specs.Fences.{named_job};
 ghost use Rattle.ttm_base.specs.declared.Usage.{Usage as How};
 ghost use Rattle.fence_core.specs.Fences as words;
 

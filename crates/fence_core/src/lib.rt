@@ -2,8 +2,6 @@
 #![tactic(auto)]
 
 mod fence_set;
-#[cfg(test)]
-mod tests;
 mod timeline;
 
 pub use fence_set::{FenceSet, Latest};

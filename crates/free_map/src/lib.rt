@@ -76,6 +76,3 @@ impl FreeMap {
         self.held.first()
     }
 }
-
-#[cfg(test)]
-mod tests;

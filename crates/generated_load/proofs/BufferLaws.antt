@@ -13,8 +13,8 @@ use Rattle.journal_model.specs.Words.{Text}
 use Rattle.journal_model.specs.Commands.{decl, undeclared}
 use Rattle.journal_model.specs.CommandRules.{is_between, is_range_of}
 use Rattle.journal_model.specs.ScriptRules.{is_decl, is_name, is_group, is_place_list, same_text, has_distinct_names}
-use Rattle.script_law.proofs.Tests.{both, joint, is_le}
-use Rattle.script_law.proofs.ListFacts.{all_more}
+use Rattle.law_script.proofs.Tests.{both, joint, is_le}
+use Rattle.law_script.proofs.ListFacts.{all_more}
 use Rattle.generated_load.specs.Buffers.{load_name, load_names, load_placement, has_pages, IsLoadBuffer, AreLoadBuffers, HasLoadBuffers}
 
 -- both hold

@@ -12,8 +12,8 @@ use Rattle.journal_model.specs.declared.script.Command.TheVariants as command
 use Rattle.journal_model.specs.Commands.{named, first_mentions, buffers_of_op}
 use Rattle.journal_model.specs.State.{has_buffer}
 use Rattle.journal_model.specs.CommandRules.{is_between, is_range_of, is_op, is_byte, is_command, command_len}
-use Rattle.script_law.proofs.Tests.{and_true, is_le}
-use Rattle.script_law.proofs.ListFacts.{all_more, length_more, sum_more}
+use Rattle.law_script.proofs.Tests.{and_true, is_le}
+use Rattle.law_script.proofs.ListFacts.{all_more, length_more, sum_more}
 use Rattle.generated_load.specs.declared.choices.Choice.{Choice}
 use Rattle.generated_load.specs.Buffers.{HasLoadBuffers}
 use Rattle.generated_load.specs.Choices.{IsChoice}

@@ -11,9 +11,9 @@ use Rattle.journal_model.specs.declared.script.Command.{Command}
 use Rattle.journal_model.specs.CommandRules.{is_between, is_command, command_len}
 use Rattle.journal_model.specs.MarkRules.{have_marks}
 use Rattle.journal_model.specs.ScriptRules.{has_sizes, is_decl, has_distinct_names, is_turn_line, is_script}
-use Rattle.script_law.proofs.Tests.{joint, is_le}
-use Rattle.script_law.proofs.ListFacts.{has_few}
-use Rattle.script_law.proofs.Unmarked.{no_marks_fit}
+use Rattle.law_script.proofs.Tests.{joint, is_le}
+use Rattle.law_script.proofs.ListFacts.{has_few}
+use Rattle.law_script.proofs.Unmarked.{no_marks_fit}
 use Rattle.generated_load.specs.Buffers.{load_sizes, AreLoadBuffers, HasLoadBuffers}
 use Rattle.generated_load.specs.Commands.{AreLoadThreads}
 use Rattle.generated_load.specs.Loads.{IsLoad}

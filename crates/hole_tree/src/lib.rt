@@ -5,8 +5,6 @@ mod holes;
 mod order;
 mod request;
 mod search;
-#[cfg(test)]
-mod tests;
 mod tree;
 
 pub use holes::Holes;

@@ -54,6 +54,3 @@ pub trait Sink {
             (λ _. written self.new ≡ written self.old) }
         ensures faults { faults self.new ≡ faults_after result (faults self.old) };
 }
-
-#[cfg(test)]
-mod tests;

@@ -1,5 +1,5 @@
 -- A list cut at each item that separates, and a text cut into its lines.
-use Rattle.std.specs.Prelude.{ℕ, ◌+◌, Bool, List, [], ◌∷◌, ◌==◌, bytes_eq, codes, if◌then◌else◌}
+use Rattle.std.specs.Prelude.{ℕ, Bool, List, [], ◌∷◌, ◌==◌, bytes_eq, codes, if◌then◌else◌}
 use Rattle.journal_model.specs.Words.{Text}
 
 -- an item before the first of the parts
@@ -24,8 +24,3 @@ is_semicolon word = bytes_eq word (codes ";")
 abbrev pub lines_of : Text → List Text
 lines_of [] = []
 lines_of (b ∷ bs) = if b == 10 then (b ∷ []) ∷ lines_of bs else onto b (lines_of bs)
-
--- how many bytes the first line has, with its line feed
-abbrev pub line_len : Text → ℕ
-line_len [] = 0
-line_len (b ∷ bs) = if b == 10 then 1 else line_len bs + 1

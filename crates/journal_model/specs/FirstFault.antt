@@ -118,8 +118,8 @@ abbrev pub with_command : Progress → Command → Progress
 with_command p c = record p { script = record (p.script) { threads = onto_last c p.script.threads }; lines = p.lines + 1 }
 
 -- one more job of the thread at work, and its lengths
-abbrev pub with_job : Progress → Command → ℕ → Progress
-with_job p c lens = record p { script = record (p.script) { threads = onto_last c p.script.threads }; lines = p.lines + 1; lens = p.lens + lens }
+abbrev pub with_submit : Progress → Command → ℕ → Progress
+with_submit p c lens = record p { script = record (p.script) { threads = onto_last c p.script.threads }; lines = p.lines + 1; lens = p.lens + lens }
 
 -- what the lines say, with a line that breaks no rule
 abbrev pub with_line : Progress → Line → Progress
@@ -139,7 +139,7 @@ with_line p (line.Write b off bytes) = with_command p (command.Write (or_first b
 with_line p (line.Read b off len) = with_command p (command.Read (or_first b) (or_zero off) (or_zero len))
 with_line p (line.Move b mem) = with_command p (command.Move (or_first b) mem)
 with_line p (line.Touch group) = with_command p (command.Touch (or_zero group))
-with_line p (line.Submit engine ops) = with_job p (command.Submit (engine_in engine) (map op_in ops)) (lens_of_line (line.Submit engine ops))
+with_line p (line.Submit engine ops) = with_submit p (command.Submit (engine_in engine) (map op_in ops)) (lens_of_line (line.Submit engine ops))
 
 -- ---- a line: rule 2 is on its bytes, rule 3 on its first word, rule 4 on its number of words and fixed words
 
@@ -202,13 +202,13 @@ nothing_read =
     }
 
 -- the last line has come
-abbrev pub is_over : Phase → Bool
-is_over phase.After = true
-is_over _ = false
+abbrev pub is_behind_end : Phase → Bool
+is_behind_end phase.After = true
+is_behind_end _ = false
 
 -- the script of the lines from number n + 1 on, or the first broken line and its rule
 abbrev pub script_from : Progress → ℕ → List Text → Result Script (ℕ × ℕ)
-script_from p n [] = if is_over p.phase then Ok p.script else Err (n + 1, 3)
+script_from p n [] = if is_behind_end p.phase then Ok p.script else Err (n + 1, 3)
 script_from p n (text ∷ texts) = elim (after_line p text) [ Ok next ↦ script_from next (n + 1) texts | Err rule ↦ Err (n + 1, rule) ]
 
 -- the script that the bytes say, or line and rule of the first fault: line 0 is the whole text, and 1 the first line

@@ -18,7 +18,7 @@ use Rattle.journal_model.specs.declared.line.ActorWord.{ActorWord}
 use Rattle.journal_model.specs.declared.line.ActorWord.TheVariants as actor_word
 use Rattle.journal_model.specs.Words.{Text}
 use Rattle.journal_model.specs.Cut.{cut_by, is_semicolon}
-use Rattle.journal_model.specs.Reading.{number_in, group_of, offset_of, names_of, known, bytes_of, byte_of, mem_of, places_of, engine_of, actor_of}
+use Rattle.journal_model.specs.Reading.{number_in, group_of, offset_of, names_of, known, bytes_in_hex, byte_in_hex, mem_of, places_of, engine_word_of, actor_of}
 use Rattle.journal_model.specs.CommandRules.{is_between}
 
 -- ---- keywords
@@ -113,8 +113,8 @@ size_line made high (w ∷ size ∷ []) = Some (made (number_in 0 high size))
 size_line made high _ = None
 
 -- a buffer line up to its places
-abbrev pub head_of : Text → Text → Text → Text → Text → BufferHead
-head_of name pages prio group align =
+abbrev pub buffer_head_of : Text → Text → Text → Text → Text → BufferHead
+buffer_head_of name pages prio group align =
     record { name = name; pages = number_in 1 4096 pages; prio = number_in 0 3 prio; group = group_of group; align = number_in 1 4096 align }
 
 -- the fixed words of a buffer line up to its places
@@ -129,19 +129,19 @@ two_lists fits head d want e busy =
     else None
 
 -- the list of version 2
-abbrev pub one_list : Bool → BufferHead → Text → Text → Option Line
-one_list fits head d list = if fits && bytes_eq d (codes "place") then Some (line.Placed head (places_of true list)) else None
+abbrev pub list_of_version_two : Bool → BufferHead → Text → Text → Option Line
+list_of_version_two fits head d list = if fits && bytes_eq d (codes "place") then Some (line.Placed head (places_of true list)) else None
 
 -- what stands behind the head: two lists in version 1, one in version 2
 abbrev pub lists_line : Bool → Bool → BufferHead → List Text → Option Line
 lists_line two fits head (d ∷ want ∷ e ∷ busy ∷ []) = if two then None else two_lists fits head d want e busy
-lists_line two fits head (d ∷ list ∷ []) = if two then one_list fits head d list else None
+lists_line two fits head (d ∷ list ∷ []) = if two then list_of_version_two fits head d list else None
 lists_line two fits head _ = None
 
 -- a buffer line
 abbrev pub buffer_line_of : Bool → List Text → Option Line
 buffer_line_of two (w ∷ name ∷ pages ∷ a ∷ prio ∷ b ∷ group ∷ c ∷ align ∷ rest) =
-    lists_line two (has_head_words a b c) (head_of name pages prio group align) rest
+    lists_line two (has_head_words a b c) (buffer_head_of name pages prio group align) rest
 buffer_line_of two _ = None
 
 -- a keyword and nothing else
@@ -172,7 +172,7 @@ plain_line names v _ = None
 
 -- a write
 abbrev pub write_line : List Text → List Text → Option Line
-write_line names (w ∷ b ∷ off ∷ bytes ∷ []) = Some (line.Write (known names b) (offset_of off) (bytes_of bytes))
+write_line names (w ∷ b ∷ off ∷ bytes ∷ []) = Some (line.Write (known names b) (offset_of off) (bytes_in_hex bytes))
 write_line names _ = None
 
 -- a read by its words
@@ -199,7 +199,7 @@ abbrev pub op_of : List Text → List Text → OpWord
 op_of names (w ∷ b ∷ off ∷ len ∷ []) =
     if bytes_eq w (codes "probe") then op_word.Probe (known names b) (offset_of off) (offset_of len) else op_word.Malformed
 op_of names (w ∷ b ∷ off ∷ len ∷ byte ∷ []) =
-    if bytes_eq w (codes "fill") then op_word.Fill (known names b) (offset_of off) (offset_of len) (byte_of byte) else op_word.Malformed
+    if bytes_eq w (codes "fill") then op_word.Fill (known names b) (offset_of off) (offset_of len) (byte_in_hex byte) else op_word.Malformed
 op_of names (w ∷ d ∷ doff ∷ s ∷ soff ∷ len ∷ []) =
     if bytes_eq w (codes "copy") then op_word.Copy (known names d) (offset_of doff) (known names s) (offset_of soff) (offset_of len)
     else if bytes_eq w (codes "xor") then op_word.Xor (known names d) (offset_of doff) (known names s) (offset_of soff) (offset_of len)
@@ -215,8 +215,8 @@ is_no_op (op_word.Probe src off len) = false
 is_no_op op_word.Malformed = true
 
 -- the operations of a job
-abbrev pub ops_of : List Text → List Text → List OpWord
-ops_of names ws = map (op_of names) (cut_by is_semicolon ws)
+abbrev pub op_words_of : List Text → List Text → List OpWord
+op_words_of names ws = map (op_of names) (cut_by is_semicolon ws)
 
 -- a job whose operations all have the right words
 abbrev pub submit_of_ops : EngineWord → List OpWord → Option Line
@@ -224,7 +224,7 @@ submit_of_ops engine ops = if list_any is_no_op ops then None else Some (line.Su
 
 -- a job
 abbrev pub submit_line : List Text → ℕ → List Text → Option Line
-submit_line names engines (w ∷ engine ∷ ws) = submit_of_ops (engine_of engines engine) (ops_of names ws)
+submit_line names engines (w ∷ engine ∷ ws) = submit_of_ops (engine_word_of engines engine) (op_words_of names ws)
 submit_line names engines _ = None
 
 -- the line of a keyword

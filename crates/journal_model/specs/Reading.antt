@@ -70,20 +70,15 @@ abbrev pub hex_value : ℕ → ℕ
 hex_value c = if nat_lt c 97 then c - 48 else c - 87
 
 -- the bytes of pairs of lower-case digits
-abbrev pub bytes_of : Text → Option (List ℕ)
-bytes_of [] = Some []
-bytes_of (c ∷ []) = None
-bytes_of (c ∷ d ∷ cs) = if is_hex c && is_hex d then option_map (λ bs. (hex_value c * 16 + hex_value d) ∷ bs) (bytes_of cs) else None
-
--- the byte of a list of one
-abbrev pub only_of : List ℕ → Option ℕ
-only_of (b ∷ []) = Some b
-only_of _ = None
+abbrev pub bytes_in_hex : Text → Option (List ℕ)
+bytes_in_hex [] = Some []
+bytes_in_hex (c ∷ []) = None
+bytes_in_hex (c ∷ d ∷ cs) = if is_hex c && is_hex d then option_map (λ bs. (hex_value c * 16 + hex_value d) ∷ bs) (bytes_in_hex cs) else None
 
 -- a single byte
-abbrev pub byte_of : Text → Option ℕ
-byte_of (c ∷ d ∷ []) = if is_hex c && is_hex d then Some (hex_value c * 16 + hex_value d) else None
-byte_of _ = None
+abbrev pub byte_in_hex : Text → Option ℕ
+byte_in_hex (c ∷ d ∷ []) = if is_hex c && is_hex d then Some (hex_value c * 16 + hex_value d) else None
+byte_in_hex _ = None
 
 -- ---- memory types and places
 
@@ -160,18 +155,18 @@ plus_place two [] = place_word.Malformed
 plus_place two (base ∷ flags) = at_place (cut_at 64 base) (flags_of two flags)
 
 -- a place by its word
-abbrev pub place_of : Bool → Text → PlaceWord
-place_of two word = plus_place two (cut_at 43 word)
+abbrev pub place_word_of : Bool → Text → PlaceWord
+place_word_of two word = plus_place two (cut_at 43 word)
 
 -- a list of places, with a comma between each two
 abbrev pub places_of : Bool → Text → List PlaceWord
-places_of two word = map (place_of two) (cut_at 44 word)
+places_of two word = map (place_word_of two) (cut_at 44 word)
 
 -- ---- engines and actors
 
 -- a plain number that no engine or actor has is Missing, whatever it is
-abbrev pub engine_of : ℕ → Text → EngineWord
-engine_of engines word =
+abbrev pub engine_word_of : ℕ → Text → EngineWord
+engine_word_of engines word =
     if not (is_plain word) then engine_word.BrokenNumber
     else if is_between 1 engines (read_on 0 word) then engine_word.Is (read_on 0 word)
     else engine_word.Missing

@@ -1,6 +1,4 @@
 mod list;
-#[cfg(test)]
-mod tests;
 
 use crate::state::Job;
 pub use list::same_job;

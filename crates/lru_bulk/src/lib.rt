@@ -14,8 +14,6 @@ use ttm_base::{BufId, Mem, NoMemory};
 mod moves;
 mod nodes;
 mod rings;
-#[cfg(test)]
-mod tests;
 
 pub use nodes::Listing;
 use rings::Rings;

@@ -4,8 +4,6 @@
 mod lists;
 mod packets;
 mod pieces;
-#[cfg(test)]
-mod tests;
 
 pub use lists::PacketList;
 pub use packets::{PageNames, cut};

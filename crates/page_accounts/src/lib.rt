@@ -12,11 +12,9 @@ ghost use Rattle.report_text.specs.Accounts.{AreAccountsOf, told};
 ghost use Rattle.page_accounts.specs.Holdings.{amount, amount_of_ghost, amount_where_live};
 
 use journal_model::{Buffer, Core, Ghost, Script, State};
-use replay_state::{
-    frame_of, ghost_spans, held_frames, held_slots, held_spans, is_free_beside, length_of, size_of,
-    slot_of, spans_in, target_spans,
-};
 use report_text::{Account, Accounts};
+use rules_holds::{ghost_spans, held_frames, held_slots, held_spans, is_free_beside, spans_in};
+use rules_state::{frame_of, length_of, size_of, slot_of, target_spans};
 use std::alloc::Global;
 use ttm_base::{Loc, Mem, NoMemory, Span};
 

@@ -62,6 +62,3 @@ impl PagePool {
         self.frames.first()
     }
 }
-
-#[cfg(test)]
-mod tests;

@@ -15,7 +15,7 @@ pub fn reach(place: &Place, size: u32) -> (u32, u32)
     ensures start { result.0 ≡ (words.reach place.now size).start }
     ensures end { result.1 ≡ (words.reach place.now size).end }
 {
-    let within = replay_places::reach(*place, size);
+    let within = rules_places::reach(*place, size);
     (within.start, within.end)
 }
 
@@ -27,14 +27,14 @@ pub fn intersects(spans: &Spans, reach: (u32, u32)) -> bool
         start: reach.0,
         end: reach.1,
     };
-    replay_places::intersects(spans.items(), within)
+    rules_places::intersects(spans.items(), within)
 }
 
 /// Some place of the list accepts the resource, whose manager has this size (ttm_resource_compatible).
 pub fn compatible(mem: Mem, spans: &Spans, placement: &Placement, size: u32) -> bool
     ensures { result ≡ rules.compatible mem spans.now placement.now size }
 {
-    replay_places::compatible(mem, spans.items(), placement.list.items(), size)
+    rules_places::compatible(mem, spans.items(), placement.list.items(), size)
 }
 
 /// The place is tried first.
@@ -110,6 +110,3 @@ pub fn forced_at(placement: &Placement, k: u32) -> &Place
     };
     &p.place
 }
-
-#[cfg(test)]
-mod tests;

@@ -4,8 +4,6 @@
 mod choice;
 mod gaps;
 mod manager;
-#[cfg(test)]
-mod tests;
 
 pub use manager::RangeManager;
 

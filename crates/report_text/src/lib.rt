@@ -8,6 +8,3 @@ mod words;
 
 pub use accounts::{Account, Accounts};
 pub use report::{WriteFault, write_report};
-
-#[cfg(test)]
-mod tests;

@@ -260,8 +260,8 @@ fn write_accounts<K: Sink>(
     write_account(line, b"swap", sizes.swap, &accounts.swap, sink)
 }
 
-/// Writes the parts before the results.
-pub(crate) fn write_journal<K: Sink>(
+/// Writes the parts of a report before the results: its head and the entries.
+pub fn write_journal<K: Sink>(
     line: &mut Line,
     script: &Script,
     journal: &[Entry],
@@ -275,8 +275,8 @@ pub(crate) fn write_journal<K: Sink>(
     write_entries(line, script, journal, sink)
 }
 
-/// Writes the results and the accounts.
-pub(crate) fn write_outcome<K: Sink>(
+/// Writes the parts of a report behind the entries: the results and the accounts.
+pub fn write_outcome<K: Sink>(
     line: &mut Line,
     script: &Script,
     journal: &[Entry],

@@ -6,7 +6,10 @@ use Rattle.ttm_base.specs.declared.Span.{Span}
 use Rattle.ttm_base.specs.ListWords.{count_from, least_by, first_least}
 use Rattle.ttm_base.specs.Reach.{is_inside}
 use Rattle.ttm_base.specs.Holes.{has_page}
-use Rattle.ttm_base.specs.BuddyChoice.{Candidate, block_around, is_free_block, free_order, candidate_at, candidate, first_candidate, log2_below, order_above, scattered, contiguous, buddy_choice, taken_after}
+use Rattle.ttm_base.specs.BlockStarts.{starts_of, candidate_at}
+use Rattle.ttm_base.proofs.OrderLaws.{order_suffices}
+use Rattle.ttm_base.proofs.StartLaws.{candidate_by_start}
+use Rattle.ttm_base.specs.BuddyChoice.{Candidate, block_around, is_free_block, candidate_of, candidate, first_candidate, log2, order_of, scattered, contiguous, buddy_choice, taken_after}
 use Rattle.buddy_manager.specs.Taking.{less, CanTake, AreTaken}
 use Rattle.buddy_manager.proofs.HeldLaws.{has_parts}
 use Rattle.buddy_manager.proofs.TakingLaws.{can_take_first, can_take_all}
@@ -61,7 +64,7 @@ free_block f size k start h =
     }
 
 abbrev made : (ℕ → Bool) → ℕ → ℕ → ℕ → Bool → Option Candidate
-made f size k n t = if t then Some (record { block = block_around k n; whole = free_order f size n k 15 }) else None
+made f size k n t = if t then Some (candidate_of f size k (block_around k n)) else None
 
 at_is_free : (f : ℕ → Bool) (size : ℕ) (range : Span) (k n : ℕ) (c : Candidate) → candidate_at f size range k n ≡ Some c → IsFreeBlock f size k c.block
 at_is_free f size range k n c h = by (is_inside range (block_around k n) && is_free_block f size (block_around k n)) refl where
@@ -69,12 +72,12 @@ at_is_free f size range k n c h = by (is_inside range (block_around k n) && is_f
   by false e = absurd (let z : made f size k n false ≡ Some c = sym (ap (made f size k n) e) ∙ h in cc)
   by true e =
       let z : made f size k n true ≡ Some c = sym (ap (made f size k n) e) ∙ h in
-      let s : block_around k n ≡ c.block = let t : (let d : Candidate = record { block = block_around k n; whole = free_order f size n k 15 } in d) ≡ c = cc in ap (λ d. d.block) t in
+      let s : block_around k n ≡ c.block = let t : candidate_of f size k (block_around k n) ≡ c = cc in ap (λ d. d.block) t in
       subst (IsFreeBlock f size k) s (free_block f size k n ((and_parts (is_inside range (block_around k n)) (is_free_block f size (block_around k n)) e).1))
 
 candidate_is_free : (f : ℕ → Bool) (size : ℕ) (range : Span) (topdown : Bool) (k : ℕ) (c : Candidate) → candidate f size range topdown k ≡ Some c → IsFreeBlock f size k c.block
 candidate_is_free f size range topdown k c h =
-    least_is (candidate_at f size range k) (λ c. IsFreeBlock f size k c.block) (λ n c e. at_is_free f size range k n c e) _ c h
+    least_is (candidate_at f size range k) (λ c. IsFreeBlock f size k c.block) (λ n c e. at_is_free f size range k n c e) (starts_of topdown k size) c (sym (candidate_by_start f size range k topdown) ∙ h)
 
 first_can : (f : ℕ → Bool) (size : ℕ) (range : Span) (topdown : Bool) (k : ℕ) (c : Candidate) → first_candidate (candidate f size range topdown) k ≡ Some c → CanTake f size c.block
 first_can f size range topdown zero c h = absurd cc
@@ -109,57 +112,37 @@ scattered_taken : (fuel : ℕ) (f : ℕ → Bool) (size : ℕ) (range : Span) (t
 scattered_taken fuel f size range topdown zero out h = let e : [] ≡ out = cc in subst (AreTaken f size) e tt
 scattered_taken zero f size range topdown (suc left) out h = absurd cc
 scattered_taken (suc fuel) f size range topdown (suc left) out h =
-    by (first_candidate (candidate f size range topdown) (log2_below 16 (suc left) + 1)) refl
+    by (first_candidate (candidate f size range topdown) (log2 (suc left) + 1)) refl
     (λ c more e. scattered_taken fuel (less f c.block) size range topdown (suc left - (c.block.end - c.block.start)) more e)
   where
-    by : (o : Option Candidate) → first_candidate (candidate f size range topdown) (log2_below 16 (suc left) + 1) ≡ o
+    by : (o : Option Candidate) → first_candidate (candidate f size range topdown) (log2 (suc left) + 1) ≡ o
         → ((c : Candidate) (more : List Span) → behind fuel f size range topdown left c ≡ Some more → AreTaken (less f c.block) size more) → AreTaken f size out
     by None e rest = absurd (let z : step fuel f size range topdown left None ≡ Some out = sym (ap (step fuel f size range topdown left) e) ∙ h in cc)
     by (Some c) e rest =
         let z : step fuel f size range topdown left (Some c) ≡ Some out = sym (ap (step fuel f size range topdown left) e) ∙ h in
         let b = behind_parts (behind fuel f size range topdown left c) c.block out z in
-        subst (AreTaken f size) b.same (first_can f size range topdown (log2_below 16 (suc left) + 1) c e, rest c b.more b.is)
-
--- a block of the order is large enough, or the order is the last
-order_enough : (fuel k pages : ℕ) → order_above fuel k pages < k + fuel → pages ≤ 2 ^ order_above fuel k pages
-order_enough zero k pages h = absurd (omega arith)
-order_enough (suc fuel) k pages h = by (nat_le pages (2 ^ k)) refl (order_enough fuel (k + 1) pages) where
-  by : (t : Bool) → nat_le pages (2 ^ k) ≡ t → (order_above fuel (k + 1) pages < k + 1 + fuel → pages ≤ 2 ^ order_above fuel (k + 1) pages) → pages ≤ 2 ^ order_above (suc fuel) k pages
-  by true e rest = subst (λ n. pages ≤ 2 ^ n) (sym (ap (λ t. if t then k else order_above fuel (k + 1) pages) e)) (leb-true pages (2 ^ k) e)
-  by false e rest =
-      let s : order_above (suc fuel) k pages ≡ order_above fuel (k + 1) pages = ap (λ t. if t then k else order_above fuel (k + 1) pages) e in
-      subst (λ n. pages ≤ 2 ^ n) (sym s) (rest (omega (arith, s, h)))
-
-order_most : (fuel k pages : ℕ) → order_above fuel k pages ≤ k + fuel
-order_most zero k pages = omega arith
-order_most (suc fuel) k pages = two (nat_le pages (2 ^ k)) (order_most fuel (k + 1) pages) where
-  two : (t : Bool) → order_above fuel (k + 1) pages ≤ k + 1 + fuel → (if t then k else order_above fuel (k + 1) pages) ≤ k + suc fuel
-  two true h = omega arith
-  two false h = omega (arith, h)
+        subst (AreTaken f size) b.same (first_can f size range topdown (log2 (suc left) + 1) c e, rest c b.more b.is)
 
 abbrev cut : ℕ → Candidate → List Span
 cut pages c = record { start = c.block.start; end = c.block.start + pages } ∷ []
 
-contiguous_taken : (f : ℕ → Bool) (size : ℕ) (range : Span) (topdown : Bool) (pages : ℕ) (out : List Span) → size < 2 ^ 16 → 1 ≤ pages → contiguous f size range topdown pages ≡ Some out → AreTaken f size out
-contiguous_taken f size range topdown pages out small some h = by (candidate f size range topdown (order_above 16 0 pages)) refl where
-  by : (o : Option Candidate) → candidate f size range topdown (order_above 16 0 pages) ≡ o → AreTaken f size out
+contiguous_taken : (f : ℕ → Bool) (size : ℕ) (range : Span) (topdown : Bool) (pages : ℕ) (out : List Span) → 1 ≤ pages → contiguous f size range topdown pages ≡ Some out → AreTaken f size out
+contiguous_taken f size range topdown pages out some h = by (candidate f size range topdown (order_of pages)) refl where
+  by : (o : Option Candidate) → candidate f size range topdown (order_of pages) ≡ o → AreTaken f size out
   by None e = absurd (let z = sym (ap (option_map (cut pages)) e) ∙ h in cc)
   by (Some c) e =
       let z = sym (ap (option_map (cut pages)) e) ∙ h in
       let s : cut pages c ≡ out = cc in
-      let b = candidate_is_free f size range topdown (order_above 16 0 pages) c e in
+      let b = candidate_is_free f size range topdown (order_of pages) c e in
       let within = b.within in
       let len = b.len in
-      let most = order_most 16 0 pages in
-      let fits : c.block.start + pages ≤ c.block.end = elim (cases_lt (order_above 16 0 pages) 16) [
-        | inl l ↦ let n = order_enough 16 0 pages (omega arith) in omega (arith, n, len)
-        | inr l ↦ let t : order_above 16 0 pages ≡ 16 = omega (arith, most, l) in let p = ap (λ n. 2 ^ n) t in absurd (omega (arith, p, len, within, small))
-      ] in
+      let enough = order_suffices pages in
+      let fits : c.block.start + pages ≤ c.block.end = omega (arith, enough, len) in
       subst (AreTaken f size) s (can_take_first f size c.block pages within b.free some fits, tt)
 
-pub buddy_takes_free : (f : ℕ → Bool) (size : ℕ) (range : Span) (topdown contig : Bool) (pages : ℕ) (out : List Span) → size ≤ 65535 → 1 ≤ pages → buddy_choice f size range topdown contig pages ≡ Some out → AreTaken f size out
-buddy_takes_free f size range topdown true pages out small some h = contiguous_taken f size range topdown pages out (omega arith) some h
-buddy_takes_free f size range topdown false pages out small some h = scattered_taken pages f size range topdown pages out h
+pub buddy_takes_free : (f : ℕ → Bool) (size : ℕ) (range : Span) (topdown contig : Bool) (pages : ℕ) (out : List Span) → 1 ≤ pages → buddy_choice f size range topdown contig pages ≡ Some out → AreTaken f size out
+buddy_takes_free f size range topdown true pages out some h = contiguous_taken f size range topdown pages out some h
+buddy_takes_free f size range topdown false pages out some h = scattered_taken pages f size range topdown pages out h
 
-pub buddy_most_fits : 65535 < 2 ^ 32
+pub buddy_most_fits : 2147483647 < 2 ^ 32
 buddy_most_fits = omega arith

@@ -7,7 +7,7 @@ use place_list::reach;
 use std::alloc::Global;
 use ttm_base::{NoMemory, Place, Spans};
 
-/// The pages of a memory type in blocks (drm_buddy). The alignment plays no part. There are fewer than 65,536 pages.
+/// The pages of a memory type in blocks (drm_buddy). The alignment plays no part. There are fewer than 2^31 pages.
 pub type BuddyRoom = Room<BuddyManager>;
 
 impl SpanManager for BuddyManager {
@@ -20,7 +20,7 @@ impl SpanManager for BuddyManager {
 
     ghost choice = { buddy_spans };
 
-    ghost most = { 65535 };
+    ghost most = { 2147483647 };
 
     fn with_pages(alloc: Global, pages: u32) -> Result<BuddyManager, NoMemory> {
         BuddyManager::new(alloc, pages)
@@ -54,7 +54,7 @@ impl SpanManager for BuddyManager {
         self.lengths().0
     }
 
-    ghost takes_free = { λ free size pages align place out small some aligned is. buddy_takes_free free size _ place.topdown place.contig pages out small some is };
+    ghost takes_free = { λ free size pages align place out small some aligned is. buddy_takes_free free size _ place.topdown place.contig pages out some is };
 
     ghost most_fits = { buddy_most_fits };
 }

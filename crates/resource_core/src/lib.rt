@@ -6,8 +6,6 @@ mod holding;
 mod manager;
 mod range;
 mod room;
-#[cfg(test)]
-mod tests;
 
 pub use buddy::BuddyRoom;
 pub use holding::{Holding, OwnerKind};

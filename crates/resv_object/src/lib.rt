@@ -9,9 +9,6 @@ use std::alloc::Global;
 use std::marker::Model;
 use ttm_base::{JobId, NoMemory, Stamp, Usage};
 
-#[cfg(test)]
-mod tests;
-
 /// A reservation. Only `new` takes memory.
 #[derive(Debug, Drop)]
 pub struct Resv {

@@ -4,8 +4,8 @@ use Rattle.std.specs.Prelude.{codes, flat_map}
 use Rattle.journal_model.specs.declared.script.Script.{Script}
 use Rattle.journal_model.specs.Words.{Text, line}
 use Rattle.journal_model.specs.Spelling.{buffer_line, spelling, turn_line}
-use Rattle.script_law.proofs.Sound.{body}
-use Rattle.script_law.proofs.Unmarked.{plain_spelling}
+use Rattle.law_script.proofs.Sound.{body}
+use Rattle.law_script.proofs.Unmarked.{plain_spelling}
 use Rattle.script_spelling.specs.Parts.{head_lines, thread_text}
 
 body_is : (s : Script) → body s ≡ head_lines s ++ flat_map (buffer_line s.version) s.buffers ++ flat_map (thread_text s) s.threads ++ flat_map turn_line s.turns

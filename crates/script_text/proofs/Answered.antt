@@ -6,9 +6,9 @@ use Rattle.script_text.specs.declared.ScriptFault.{ScriptFault}
 use Rattle.script_text.specs.declared.ScriptFault.TheVariants as fault
 use Rattle.journal_model.specs.Words.{Text}
 use Rattle.journal_model.specs.FirstFault.{script_of}
-use Rattle.script_law.specs.ScriptLaws.{IsPlainScript}
-use Rattle.script_law.proofs.TakesScript.{takes_scripts}
-use Rattle.script_law.proofs.ReadsScript.{reads_scripts}
+use Rattle.law_script.specs.ScriptLaws.{IsPlainScript}
+use Rattle.law_script.proofs.TakesScript.{takes_scripts}
+use Rattle.law_script.proofs.ReadsScript.{reads_scripts}
 use Rattle.script_text.specs.Steps.{Gives}
 
 abbrev pub fault_of : Result Script (ℕ × ℕ) → Option (ℕ × ℕ)

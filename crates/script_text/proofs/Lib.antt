@@ -1,4 +1,3 @@
 pub mod Answered
 pub mod Clean
 pub mod Lines
-pub mod MentionLaws

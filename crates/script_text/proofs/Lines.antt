@@ -1,6 +1,7 @@
 -- The lines of a text, one by one.
 use Rattle.std.proofs.Common.{◌≡◌, ℕ, suc, ◌+◌, ◌≤◌, ◌<◌, Bool, true, false, cond, eqb, List, [], ◌∷◌, length, take, drop, Result, Ok, Err, refl, sym, ap, ◌∙◌, arith, add-one}
-use Rattle.journal_model.specs.Cut.{onto, lines_of, line_len}
+use Rattle.journal_model.specs.Cut.{onto, lines_of}
+use Rattle.script_words.specs.Lines.{line_len}
 use Rattle.journal_model.specs.Words.{Text}
 use Rattle.journal_model.specs.declared.script.Script.{Script}
 use Rattle.journal_model.specs.declared.line.Progress.{Progress}

@@ -4,7 +4,7 @@
 ghost use Rattle.std.specs.Prelude.{◌≡◌, ◌≤◌, ℕ, ◌⊎◌, Some, None, Ok, Err, IfOk, IsOk, length};
 ghost use Rattle.journal_model.specs.FirstFault.{script_of, first_fault, script_from, nothing_read};
 ghost use Rattle.journal_model.specs.Cut.{lines_of};
-ghost use Rattle.script_law.specs.ScriptLaws.{IsPlainScript};
+ghost use Rattle.law_script.specs.ScriptLaws.{IsPlainScript};
 ghost use Rattle.script_text.specs.Steps.{Gives};
 
 use journal_model::Script;
@@ -14,9 +14,6 @@ use std::alloc::Global;
 use ttm_base::NoMemory;
 
 mod reader;
-mod rules;
-#[cfg(test)]
-mod tests;
 mod values;
 
 use crate::reader::{is_done, start, take_line};

@@ -3,11 +3,10 @@
 ghost use Rattle.std.specs.Prelude.{◌≡◌, ◌≤◌, ◌<◌, ◌+◌, ◌-◌, bytes_eq, false, not, nat_lt, sum_by, ◌==◌, ◌++◌, ◌∷◌, [], IfOk, OnOk, length, take};
 ghost use Rattle.std.specs.List.{list_any};
 ghost use Rattle.journal_model.specs.LineWords.{keyword_of};
-ghost use Rattle.journal_model.specs.FirstFault.{with_sizes, with_buffer, with_command, with_job, with_line, is_shown, without_end, ends_line, breaks_text, first_word, after_words, after_line, nothing_read, is_over};
+ghost use Rattle.journal_model.specs.FirstFault.{with_sizes, with_buffer, with_command, with_submit, with_line, is_shown, without_end, ends_line, breaks_text, first_word, after_words, after_line, nothing_read, is_behind_end};
 ghost use Rattle.journal_model.specs.LineRules.{len_of_word, is_too_long};
 ghost use Rattle.script_text.specs.Steps.{IsSteady, IsClean, Leads};
 
-use crate::rules::{broken, lens_within};
 use crate::values::{
     actors_of, declared, engine_of, first_of, list_of, move_of, ops_of, plain_of, put_command,
     read_of, touch_of, two_lists_of, write_of, zero_of,
@@ -18,10 +17,11 @@ use journal_model::line::{
 use journal_model::{
     Bytes, Command, CommandLists, Commands, Decl, Decls, Marks, Script, Sizes, TurnLines,
 };
+use script_lines::line;
+use script_rules::{broken, lens_within};
 use script_words::cut::cut;
 use script_words::keywords::{can_come, keyword};
 use script_words::names::Names;
-use script_words::parts::line;
 use std::alloc::Global;
 use ttm_base::NoMemory;
 
@@ -117,7 +117,7 @@ fn put(progress: &mut Progress, command: Command) -> Result<(), NoMemory>
 fn put_job(progress: &mut Progress, command: Command, lens: u64) -> Result<(), NoMemory>
     requires lines { progress.old.lines < 4096 }
     requires lens { progress.old.lens + lens ≤ 67108864 }
-    ensures { OnOk result (progress.new ≡ with_job progress.old command lens) }
+    ensures { OnOk result (progress.new ≡ with_submit progress.old command lens) }
 {
     put_command(&mut progress.script.threads, command)?;
     progress.lines += 1;
@@ -319,7 +319,7 @@ pub fn start(alloc: Global) -> Progress
 
 /// The last line has come.
 pub fn is_done(phase: Phase) -> bool
-    ensures { result ≡ is_over phase }
+    ensures { result ≡ is_behind_end phase }
 {
     matches!(phase, Phase::After)
 }

@@ -2,4 +2,3 @@ pub mod Cuts
 pub mod Hex
 pub mod NameLaws
 pub mod Numbers
-pub mod Patterns

@@ -1,11 +1,7 @@
-//! The words of a script: a line is cut at its spaces, and each word is read as far as it can be.
+//! The words of a script: a text is cut into lines and words, and each word is read as a number, a name or a keyword.
 #![tactic(auto)]
 
-mod buffers;
 pub mod cut;
-mod jobs;
 pub mod keywords;
 pub mod names;
-pub mod parts;
-mod places;
 pub mod words;

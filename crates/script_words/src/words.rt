@@ -3,7 +3,7 @@
 ghost use Rattle.std.specs.Prelude.{◌≡◌, ◌<◌, ◌^◌, ◌*◌, ◌+◌, ◌-◌, ◌==◌, min, IfOk, bytes_eq, length, Some, true, false};
 ghost use Rattle.std.specs.List.{list_all};
 ghost use Rattle.journal_model.specs.Cut.{is_semicolon};
-ghost use Rattle.journal_model.specs.Reading.{is_digit, has_no_leading_zero, is_plain, read_on, number_in, group_of, offset_of, is_hex, hex_value, bytes_of, byte_of, mem_of, engine_of, actor_of, thread_actor, engine_actor};
+ghost use Rattle.journal_model.specs.Reading.{is_digit, has_no_leading_zero, is_plain, read_on, number_in, group_of, offset_of, is_hex, hex_value, bytes_in_hex, byte_in_hex, mem_of, engine_word_of, actor_of, thread_actor, engine_actor};
 
 use hex::FromHexError;
 use journal_model::Bytes;
@@ -119,7 +119,7 @@ fn value_of_hex(c: u8) -> u8
 
 /// A byte of two digits.
 pub fn byte(word: &[u8]) -> Option<u8>
-    ensures { result ≡ byte_of word.now }
+    ensures { result ≡ byte_in_hex word.now }
 {
     match word {
         [c, d] => {
@@ -148,7 +148,7 @@ pub fn memory(word: &[u8]) -> Option<Mem>
 }
 
 pub fn engine(engines: u32, word: &[u8]) -> EngineWord
-    ensures { result ≡ engine_of engines word.now }
+    ensures { result ≡ engine_word_of engines word.now }
 {
     if !is_plain_number(word) {
         return EngineWord::BrokenNumber;
@@ -202,7 +202,7 @@ fn are_hex_digits(word: &[u8]) -> bool
 
 /// The bytes of pairs of lower-case digits.
 pub fn bytes(alloc: Global, word: &[u8]) -> Result<Option<Bytes>, NoMemory>
-    ensures { IfOk result (λ bytes. bytes ≡ bytes_of word.now) }
+    ensures { IfOk result (λ bytes. bytes ≡ bytes_in_hex word.now) }
 {
     if !are_hex_digits(word) {
         return Ok(None);

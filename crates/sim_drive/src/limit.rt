@@ -4,7 +4,7 @@ ghost use Rattle.std.specs.Prelude.{◌≡◌, ◌+◌, ◌*◌, min, length, su
 ghost use Rattle.journal_model.specs.Scheduled.{packets_in, turn_limit as limit_of};
 
 use journal_model::{Command, Commands, Decl, Script, TurnLine};
-use replay_state::packet_count;
+use op_cutting::packet_count;
 
 /// How many turns the schedule lines have.
 fn scheduled_turns(turns: &[TurnLine]) -> u64

@@ -9,9 +9,9 @@ use Rattle.command_words.specs.declared.Form.{Form}
 use Rattle.command_words.specs.declared.Form.TheVariants as form
 use Rattle.device_core.specs.Kept.{Kept}
 use Rattle.sim_drive.specs.Ends.{EndsAfter}
-use Rattle.legal_law.proofs.All.{keeps_laws}
-use Rattle.end_law.proofs.Ends.{schedule_completes}
-use Rattle.limit_law.proofs.Limits.{limit_fits}
+pub use Rattle.law_legal.proofs.All.{keeps_laws}
+use Rattle.law_end.proofs.Ends.{schedule_completes}
+use Rattle.law_limit.proofs.Limits.{limit_fits}
 use Rattle.simulator.specs.declared.outcome.Outcome.{Outcome}
 use Rattle.simulator.specs.declared.outcome.Outcome.TheVariants as outcome
 use Rattle.simulator.specs.declared.outcome.Status.{Status}

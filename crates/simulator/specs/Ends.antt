@@ -8,7 +8,7 @@ use Rattle.command_words.specs.declared.Form.{Form}
 use Rattle.command_words.specs.declared.Form.TheVariants as form
 use Rattle.device_core.specs.Kept.{Kept}
 use Rattle.sim_drive.specs.Ends.{EndsAfter}
-use Rattle.legal_law.specs.KeepsLaws.{KeepsLaws}
+pub use Rattle.law_legal.specs.KeepsLaws.{KeepsLaws}
 use Rattle.simulator.specs.declared.outcome.Status.{Status}
 use Rattle.simulator.specs.declared.outcome.Status.TheVariants as status
 use Rattle.simulator.specs.declared.outcome.Outcome.{Outcome}

@@ -3,7 +3,7 @@ use Rattle.std.specs.Prelude.{◌≡◌, ℕ, ◌⊎◌, Some, Ok, length}
 use Rattle.journal_model.specs.declared.script.Script.{Script}
 use Rattle.journal_model.specs.Words.{Text}
 use Rattle.journal_model.specs.FirstFault.{script_of, first_fault}
-use Rattle.script_law.specs.ScriptLaws.{IsPlainScript}
+use Rattle.law_script.specs.ScriptLaws.{IsPlainScript}
 use Rattle.simulator.specs.declared.input.Input.{Input}
 use Rattle.simulator.specs.declared.input.Input.TheVariants as input
 use Rattle.simulator.specs.Edges.{Edge, WasReadWhole, WasReadTo, WasCutOff}

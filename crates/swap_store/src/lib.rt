@@ -77,6 +77,3 @@ impl SwapStore {
         self.held.first()
     }
 }
-
-#[cfg(test)]
-mod tests;

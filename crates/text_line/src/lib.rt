@@ -98,6 +98,3 @@ impl Line {
         self.put_byte(b'\n')
     }
 }
-
-#[cfg(test)]
-mod tests;

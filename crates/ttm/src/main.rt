@@ -3,12 +3,11 @@
 
 use command_words::Words;
 use io_edge::{StdSink, StdSource};
-use launcher::ttm_top;
-use simulator::Status;
 use std::alloc::Global;
 use std::env;
 use std::process::ExitCode;
 use std::rt::Env;
+use thread_program::{Status, ttm_top};
 use ttm_base::NoMemory;
 use worker_pool::IdleGate;
 

@@ -9,8 +9,6 @@ ghost use Rattle.worker_pool.specs.Offers.{SaysOver};
 
 mod crew;
 mod crowd;
-#[cfg(test)]
-mod tests;
 
 pub use crew::Back;
 pub use crowd::work_all;

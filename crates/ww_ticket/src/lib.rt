@@ -8,9 +8,6 @@ ghost use Rattle.ww_ticket.specs.declared.Decision.TheVariants as decision;
 
 use ttm_base::Stamp;
 
-#[cfg(test)]
-mod tests;
-
 /// A counter of tickets. Its value is the number of tickets that were drawn.
 #[derive(Debug, Drop)]
 pub struct Tickets {

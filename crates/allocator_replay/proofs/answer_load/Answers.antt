@@ -1,7 +1,7 @@
 use Rattle.std.proofs.Common.{refl}
-use Rattle.replay_lines.specs.Answers.{first_bad, answer_lines}
-use Rattle.replay_lines.specs.RangeTables.{span_at, listed_span, range_answer, after_range}
-use Rattle.replay_lines.specs.Tables.{spans_at, buddy_answer, after_buddy}
+use Rattle.allocator_lines.specs.Answers.{first_bad, answer_lines}
+use Rattle.allocator_lines.specs.RangeTables.{span_at, listed_span, range_answer, after_range}
+use Rattle.allocator_lines.specs.Tables.{spans_at, buddy_answer, after_buddy}
 use Rattle.allocator_replay.proofs.AnswerLaws.{ends, puts}
 use Rattle.allocator_replay.proofs.answer_load.Goals as goal
 

@@ -24,7 +24,7 @@ mark_met-mark_half-requires t c =
     let o : c.args.order ≡ suc (c.args.order - 1) = omega arith in
     let a = ap (λ x. c.args.number * x) (ap (λ n. 2 ^ n) o ∙ pow_next (c.args.order - 1)) in
     let b = ap (λ x. c.args.number * x) c.block_len-len.ensures.value in
-    let n = low_number c.args.number (c.args.order - 1) 65536 (subst (λ k. c.args.number * 2 ^ k + 2 ^ k ≤ 65536) o c.requires.number) in
+    let n = low_number c.args.number (c.args.order - 1) 2147483648 (subst (λ k. c.args.number * 2 ^ k + 2 ^ k ≤ 2147483648) o c.requires.number) in
     (omega arith, (omega arith, (c.tell_halves.ensures.halves, (n, (c.requires.some, (omega arith, omega arith))))))
 
 pub mark_met-mark_half-requires-then-middle-span : goal.mark_met-mark_half-requires-then-middle-span
@@ -33,7 +33,7 @@ mark_met-mark_half-requires-then-middle-span t c =
     let p = ap (λ n. 2 ^ n) o ∙ pow_next (c.args.order - 1) in
     let a = ap (λ x. c.args.number * x) p in
     let b = ap (λ x. c.args.number * x) c.block_len-len.ensures.value in
-    let n = high_number c.args.number (c.args.order - 1) 65536 (subst (λ k. c.args.number * 2 ^ k + 2 ^ k ≤ 65536) o c.requires.number) in
+    let n = high_number c.args.number (c.args.order - 1) 2147483648 (subst (λ k. c.args.number * 2 ^ k + 2 ^ k ≤ 2147483648) o c.requires.number) in
     (omega arith, (omega arith, (c.mark_half.ensures.halves, (n, (c.requires.some, (omega arith, omega arith))))))
 
 pub mark_met-mark_half-requires-else-span-middle : goal.mark_met-mark_half-requires-else-span-middle
@@ -44,7 +44,7 @@ mark_met-mark_half-requires-else-span-middle t c =
     let a = ap (λ x. q * x) p in
     let b = ap (λ x. q * x) c.block_len-len.ensures.value in
     let v = c.block_len.ensures.value in
-    let fits = subst (λ k. q * 2 ^ k + 2 ^ k ≤ 65536) o c.requires.number in
+    let fits = subst (λ k. q * 2 ^ k + 2 ^ k ≤ 2147483648) o c.requires.number in
     let middle : ℕ = q * c.block_len-len.result + c.block_len.result in
     elim (cases_lt c.args.span.start middle) [
       | inl l ↦
@@ -56,7 +56,7 @@ mark_met-mark_half-requires-else-span-middle t c =
               (
                 c.tell_halves.ensures.halves,
                 (
-                  near_number q (c.args.order - 1) 65536 c.half_number-near.result (inl e) fits,
+                  near_number q (c.args.order - 1) 2147483648 c.half_number-near.result (inl e) fits,
                   (
                     c.requires.some,
                     (omega (arith, a, b, v, m, l, c.requires.above), omega (arith, a, b, v, m, l)),
@@ -74,7 +74,7 @@ mark_met-mark_half-requires-else-span-middle t c =
               (
                 c.tell_halves.ensures.halves,
                 (
-                  near_number q (c.args.order - 1) 65536 c.half_number-near.result (inr e) fits,
+                  near_number q (c.args.order - 1) 2147483648 c.half_number-near.result (inr e) fits,
                   (
                     c.requires.some,
                     (omega (arith, a, b, v, m, g, c.requires.some), omega (arith, a, b, v, m, p, c.requires.below)),

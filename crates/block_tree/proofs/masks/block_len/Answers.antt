@@ -4,5 +4,5 @@ use Rattle.block_tree.proofs.masks.block_len.Goals as goal
 
 pub returns-clause-small : goal.returns-clause-small
 returns-clause-small c =
-    let s : 2 ^ c.args.order ≤ 2 ^ 17 = small_pow c.args.order 17 (omega arith) in
+    let s : 2 ^ c.args.order ≤ 2 ^ 31 = small_pow c.args.order 31 (omega arith) in
     omega arith

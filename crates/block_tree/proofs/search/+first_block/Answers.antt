@@ -36,28 +36,28 @@ pub first_across-first_block-requires : goal.first_across-first_block-requires
 first_across-first_block-requires t c =
     let o : c.args.order ≡ suc (c.args.order - 1) = omega arith in
     let tree : IsTree (suc (c.args.order - 1)) c.args.masks.now = subst (λ n. IsTree n c.args.masks.now) o c.requires.tree in
-    let n = high_number c.args.number (c.args.order - 1) 65536 (subst (λ k. c.args.number * 2 ^ k + 2 ^ k ≤ 65536) o c.requires.number) in
+    let n = high_number c.args.number (c.args.order - 1) 2147483648 (subst (λ k. c.args.number * 2 ^ k + 2 ^ k ≤ 2147483648) o c.requires.number) in
     (omega arith, (subst (IsTree (c.args.order - 1)) (sym c.halves.ensures.high) tree.3, (omega arith, (n, (c.requires.wanted, c.requires.whole)))))
 
 pub first_across-first_block-requires-in-None : goal.first_across-first_block-requires-in-None
 first_across-first_block-requires-in-None t c =
     let o : c.args.order ≡ suc (c.args.order - 1) = omega arith in
     let tree : IsTree (suc (c.args.order - 1)) c.args.masks.now = subst (λ n. IsTree n c.args.masks.now) o c.requires.tree in
-    let n = low_number c.args.number (c.args.order - 1) 65536 (subst (λ k. c.args.number * 2 ^ k + 2 ^ k ≤ 65536) o c.requires.number) in
+    let n = low_number c.args.number (c.args.order - 1) 2147483648 (subst (λ k. c.args.number * 2 ^ k + 2 ^ k ≤ 2147483648) o c.requires.number) in
     (omega arith, (subst (IsTree (c.args.order - 1)) (sym c.halves.ensures.low) tree.2, (omega arith, (n, (c.requires.wanted, c.requires.whole)))))
 
 pub first_across-first_block-requires-else-request : goal.first_across-first_block-requires-else-request
 first_across-first_block-requires-else-request t c =
     let o : c.args.order ≡ suc (c.args.order - 1) = omega arith in
     let tree : IsTree (suc (c.args.order - 1)) c.args.masks.now = subst (λ n. IsTree n c.args.masks.now) o c.requires.tree in
-    let n = low_number c.args.number (c.args.order - 1) 65536 (subst (λ k. c.args.number * 2 ^ k + 2 ^ k ≤ 65536) o c.requires.number) in
+    let n = low_number c.args.number (c.args.order - 1) 2147483648 (subst (λ k. c.args.number * 2 ^ k + 2 ^ k ≤ 2147483648) o c.requires.number) in
     (omega arith, (subst (IsTree (c.args.order - 1)) (sym c.halves.ensures.low) tree.2, (omega arith, (n, (c.requires.wanted, c.requires.whole)))))
 
 pub first_across-first_block-requires-in-None-first_block : goal.first_across-first_block-requires-in-None-first_block
 first_across-first_block-requires-in-None-first_block t c =
     let o : c.args.order ≡ suc (c.args.order - 1) = omega arith in
     let tree : IsTree (suc (c.args.order - 1)) c.args.masks.now = subst (λ n. IsTree n c.args.masks.now) o c.requires.tree in
-    let n = high_number c.args.number (c.args.order - 1) 65536 (subst (λ k. c.args.number * 2 ^ k + 2 ^ k ≤ 65536) o c.requires.number) in
+    let n = high_number c.args.number (c.args.order - 1) 2147483648 (subst (λ k. c.args.number * 2 ^ k + 2 ^ k ≤ 2147483648) o c.requires.number) in
     (omega arith, (subst (IsTree (c.args.order - 1)) (sym c.halves.ensures.high) tree.3, (omega arith, (n, (c.requires.wanted, c.requires.whole)))))
 
 split_here : (t : ℕ) (c : first_across-After-halves t) → IsSplit (c.args.order - 1) c.args.masks.now

@@ -65,7 +65,7 @@ first_inside-requires t c =
     let s = subst (λ k. c.args.request.range.start ≤ c.args.number * 2 ^ k) o c.requires.start in
     let e = subst (λ k. c.args.number * 2 ^ k + 2 ^ k ≤ c.args.request.range.end) o c.requires.end in
     let m = ap (λ x. c.args.number * x) p in
-    let n = low_number c.args.number (c.args.order - 1) 65536 (subst (λ k. c.args.number * 2 ^ k + 2 ^ k ≤ 65536) o c.requires.number) in (
+    let n = low_number c.args.number (c.args.order - 1) 2147483648 (subst (λ k. c.args.number * 2 ^ k + 2 ^ k ≤ 2147483648) o c.requires.number) in (
       omega arith,
       (
         subst (IsTree (c.args.order - 1)) (sym c.halves.ensures.low) (tree_here t h).2,
@@ -94,7 +94,7 @@ first_inside-requires-else-is_first_low t c =
     let s = subst (λ k. c.args.request.range.start ≤ c.args.number * 2 ^ k) o c.requires.start in
     let e = subst (λ k. c.args.number * 2 ^ k + 2 ^ k ≤ c.args.request.range.end) o c.requires.end in
     let m = ap (λ x. c.args.number * x) p in
-    let n = high_number c.args.number (c.args.order - 1) 65536 (subst (λ k. c.args.number * 2 ^ k + 2 ^ k ≤ 65536) o c.requires.number) in (
+    let n = high_number c.args.number (c.args.order - 1) 2147483648 (subst (λ k. c.args.number * 2 ^ k + 2 ^ k ≤ 2147483648) o c.requires.number) in (
       omega arith,
       (
         subst (IsTree (c.args.order - 1)) (sym c.halves.ensures.high) (tree_here t h).3,

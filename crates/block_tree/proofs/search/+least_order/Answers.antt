@@ -47,14 +47,14 @@ pub least_across-least_order-requires : goal.least_across-least_order-requires
 least_across-least_order-requires t c =
     let o : c.args.order ≡ suc (c.args.order - 1) = omega arith in
     let tree : IsTree (suc (c.args.order - 1)) c.args.masks.now = subst (λ n. IsTree n c.args.masks.now) o c.requires.tree in
-    let n = low_number c.args.number (c.args.order - 1) 65536 (subst (λ k. c.args.number * 2 ^ k + 2 ^ k ≤ 65536) o c.requires.number) in
+    let n = low_number c.args.number (c.args.order - 1) 2147483648 (subst (λ k. c.args.number * 2 ^ k + 2 ^ k ≤ 2147483648) o c.requires.number) in
     (omega arith, (subst (IsTree (c.args.order - 1)) (sym c.halves.ensures.low) tree.2, (omega arith, (n, c.requires.wanted))))
 
 pub least_across-least_order-requires-2 : goal.least_across-least_order-requires-2
 least_across-least_order-requires-2 t c =
     let o : c.args.order ≡ suc (c.args.order - 1) = omega arith in
     let tree : IsTree (suc (c.args.order - 1)) c.args.masks.now = subst (λ n. IsTree n c.args.masks.now) o c.requires.tree in
-    let n = high_number c.args.number (c.args.order - 1) 65536 (subst (λ k. c.args.number * 2 ^ k + 2 ^ k ≤ 65536) o c.requires.number) in
+    let n = high_number c.args.number (c.args.order - 1) 2147483648 (subst (λ k. c.args.number * 2 ^ k + 2 ^ k ≤ 2147483648) o c.requires.number) in
     (omega arith, (subst (IsTree (c.args.order - 1)) (sym c.halves.ensures.high) tree.3, (omega arith, (n, c.requires.wanted))))
 
 pub least_across-returns : goal.least_across-returns

@@ -74,14 +74,14 @@ take_across-take_in_half-requires t c =
     let o : c.args.order ≡ suc (c.args.order - 1) = omega arith in
     let tree : IsTree (suc (c.args.order - 1)) c.args.masks.now = subst (λ n. IsTree n c.args.masks.now) o c.requires.tree in
     let which = half_which c.args.request.topdown c.args.number c.half_number-near.result c.half_number-near.ensures in
-    let fits = near_number c.args.number (c.args.order - 1) 65536 c.half_number-near.result which (subst (λ k. c.args.number * 2 ^ k + 2 ^ k ≤ 65536) o c.requires.number) in
+    let fits = near_number c.args.number (c.args.order - 1) 2147483648 c.half_number-near.result which (subst (λ k. c.args.number * 2 ^ k + 2 ^ k ≤ 2147483648) o c.requires.number) in
     (omega arith, (omega arith, (halves_of_tree (c.args.order - 1) c.args.masks.now tree, (fits, (c.requires.wanted, c.requires.whole)))))
 
 pub take_across-take_in_half-requires-2 : goal.take_across-take_in_half-requires-2
 take_across-take_in_half-requires-2 t c =
     let o : c.args.order ≡ suc (c.args.order - 1) = omega arith in
     let which = half_which _ c.args.number c.half_number-far.result c.half_number-far.ensures in
-    let fits = near_number c.args.number (c.args.order - 1) 65536 c.half_number-far.result which (subst (λ k. c.args.number * 2 ^ k + 2 ^ k ≤ 65536) o c.requires.number) in
+    let fits = near_number c.args.number (c.args.order - 1) 2147483648 c.half_number-far.result which (subst (λ k. c.args.number * 2 ^ k + 2 ^ k ≤ 2147483648) o c.requires.number) in
     (omega arith, (omega arith, (c.take_in_half.ensures.halves, (fits, (c.requires.wanted, c.requires.whole)))))
 
 pub take_across-returns-in-Some-take_in_half-clause-first : goal.take_across-returns-in-Some-take_in_half-clause-first

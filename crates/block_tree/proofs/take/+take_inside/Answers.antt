@@ -88,7 +88,7 @@ take_inside-take_half-block-requires t c =
     let o : c.args.order ≡ suc (c.args.order - 1) = omega arith in
     let h = (goal.at.take_inside-take_half-block-requires t c).After-near_half-near in
     let n = near_here t h in
-    let fits = near_number c.args.number (c.args.order - 1) 65536 c.near_half-near.result n.which (subst (λ k. c.args.number * 2 ^ k + 2 ^ k ≤ 65536) o c.requires.number) in
+    let fits = near_number c.args.number (c.args.order - 1) 2147483648 c.near_half-near.result n.which (subst (λ k. c.args.number * 2 ^ k + 2 ^ k ≤ 2147483648) o c.requires.number) in
     let start = near_start c.args.number (c.args.order - 1) c.args.request.range.start c.near_half-near.result n.which (subst (λ k. c.args.request.range.start ≤ c.args.number * 2 ^ k) o c.requires.start) in
     let end = near_number c.args.number (c.args.order - 1) c.args.request.range.end c.near_half-near.result n.which (subst (λ k. c.args.number * 2 ^ k + 2 ^ k ≤ c.args.request.range.end) o c.requires.end) in
     (omega arith, (omega arith, (halves_of_tree (c.args.order - 1) c.args.masks.now (tree_here t h), (fits, (c.requires.wanted, (c.requires.whole, (n.has, (start, end))))))))

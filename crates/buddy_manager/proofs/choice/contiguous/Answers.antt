@@ -1,5 +1,4 @@
-use Rattle.std.proofs.Common.{◌≡◌, ◌≤◌, ◌+◌, ◌^◌, ◌∷◌, ◌++◌, [], length, inl, inr, ap, sym, subst, ◌∙◌, arith}
-use Rattle.std.proofs.lemmas.Bool.{cases_lt}
+use Rattle.std.proofs.Common.{◌≤◌, ◌+◌, ◌∷◌, ◌++◌, [], length, ap, sym, subst, ◌∙◌, arith}
 use Rattle.ttm_base.specs.declared.Span.{Span}
 use Rattle.block_tree.specs.FreeSet.{is_free}
 use Rattle.buddy_manager.specs.Taking.{IsTakenBy}
@@ -9,13 +8,9 @@ use Rattle.buddy_manager.proofs.choice.contiguous.Goals.{In-Some}
 
 fits : (c : In-Some) → c.in-Some.block.start + c.args.pages ≤ c.in-Some.block.end
 fits c =
-    let small = c.in-Some.ensures.small in
     let len = c.in-Some.ensures.len in
-    let above = c.order_above.ensures.small in
-    elim (cases_lt c.order_above.result 16) [
-      | inl l ↦ let e = c.order_above.ensures.enough l in omega (arith, len, e)
-      | inr h ↦ let s : c.order_above.result ≡ 16 = omega (arith, above) in let p = ap (λ n. 2 ^ n) s in absurd (omega (arith, len, small, p))
-    ]
+    let enough = c.order_of.ensures.enough in
+    omega (arith, len, enough)
 
 pub overflow_add-span : goal.overflow_add-span
 overflow_add-span c =

@@ -1,6 +1,6 @@
 use Rattle.std.proofs.Common.{◌≡◌, ℕ, ◌+◌, ◌-◌, ◌<◌, Bool, List, [], ◌∷◌, ◌++◌, Option, length, option_map, ap, sym, subst, ◌∙◌, arith}
 use Rattle.ttm_base.specs.declared.Span.{Span}
-use Rattle.ttm_base.specs.BuddyChoice.{candidate, first_candidate, log2_below, scattered}
+use Rattle.ttm_base.specs.BuddyChoice.{candidate, first_candidate, log2, scattered}
 use Rattle.buddy_manager.specs.Taking.{beside, less, Tells, IsTakenBy}
 use Rattle.buddy_manager.proofs.TakingLaws.{beside_more, took_more, tells_beside, of_candidate, no_candidate, scattered_none, scattered_more}
 use Rattle.buddy_manager.proofs.choice.scattered.Goals as goal
@@ -8,11 +8,11 @@ use Rattle.buddy_manager.proofs.choice.scattered.Goals.{After-take_block}
 
 -- what the block in hand is among the pages that are left
 at_test : (c : After-take_block) (test : ℕ → Bool) → Tells test c.args.free.now
-    → option_map (λ c. c.block) (first_candidate (candidate (beside test c.loop-block.out) (length c.args.free.now) c.args.range c.args.topdown) (log2_below 16 c.loop-block.left + 1)) ≡ c.take_block.result
+    → option_map (λ c. c.block) (first_candidate (candidate (beside test c.loop-block.out) (length c.args.free.now) c.args.range c.args.topdown) (log2 c.loop-block.left + 1)) ≡ c.take_block.result
 at_test c test h =
     let tells = tells_beside test c.args.free.now c.loop-block.free c.loop-block.out h c.loop-block.invariant.taken in
-    ap (λ k. option_map (λ c. c.block) (first_candidate (candidate (beside test c.loop-block.out) (length c.args.free.now) c.args.range c.args.topdown) (k + 1))) (sym c.log2_below.ensures.value)
-    ∙ ap (λ n. option_map (λ c. c.block) (first_candidate (candidate (beside test c.loop-block.out) n c.args.range c.args.topdown) (c.log2_below.result + 1))) (sym c.loop-block.invariant.taken.size)
+    ap (λ k. option_map (λ c. c.block) (first_candidate (candidate (beside test c.loop-block.out) (length c.args.free.now) c.args.range c.args.topdown) (k + 1))) (sym c.log2.ensures.value)
+    ∙ ap (λ n. option_map (λ c. c.block) (first_candidate (candidate (beside test c.loop-block.out) n c.args.range c.args.topdown) (c.log2.result + 1))) (sym c.loop-block.invariant.taken.size)
     ∙ c.take_block.ensures.choice (beside test c.loop-block.out) tells
 
 pub returns-in_default-clause-none : goal.returns-in_default-clause-none
@@ -35,7 +35,7 @@ loop-block-preserved c =
     record {
       taken = subst (λ xs. IsTakenBy c.args.free.now xs c.take_block.new.free) (sym pushed) took;
       same = λ test h.
-          let found = of_candidate (first_candidate (candidate (beside test c.loop-block.out) (length c.args.free.now) c.args.range c.args.topdown) (log2_below 16 c.loop-block.left + 1)) block (at_test (goal.at.loop-block-preserved c).After-take_block test h ∙ c.in-Some.is) in
+          let found = of_candidate (first_candidate (candidate (beside test c.loop-block.out) (length c.args.free.now) c.args.range c.args.topdown) (log2 c.loop-block.left + 1)) block (at_test (goal.at.loop-block-preserved c).After-take_block test h ∙ c.in-Some.is) in
           let behind : ℕ → ℕ → List Span → Option (List Span)
           = λ n left spans. option_map (λ more. spans ++ more) (scattered n (beside test spans) (length c.args.free.now) c.args.range c.args.topdown left) in
           let step = scattered_more fuel (beside test c.loop-block.out) (length c.args.free.now) c.args.range c.args.topdown c.loop-block.left c.loop-block.out found.candidate enough some found.is in

@@ -1,4 +1,4 @@
-use Rattle.std.proofs.Common.{◌≡◌, ◌-◌, ◌<◌, Some, length, option_map, ap, sym, subst, ◌∙◌, arith}
+use Rattle.std.proofs.Common.{◌≡◌, ◌-◌, ◌<◌, Some, length, option_map, ap, sym, subst, ◌∙◌}
 use Rattle.ttm_base.specs.BuddyChoice.{candidate, first_candidate}
 use Rattle.block_tree.specs.FreeSet.{is_free}
 use Rattle.buddy_manager.proofs.TakingLaws.{of_candidate, no_candidate, first_on, first_here}
@@ -16,7 +16,6 @@ pub loop-order-preserved : goal.loop-order-preserved
 loop-order-preserved c =
     let k = c.loop-order.invariant.kept in
     record {
-      small = omega arith;
       kept = c.take.ensures.none c.in_default.is ∙ k;
       same = λ test h.
           let none = no_candidate (candidate test (length c.loop-order.free) c.args.range c.args.topdown (c.loop-order.order - 1)) (c.take.ensures.choice test (λ page l. h page (subst (λ f. page < length f) k l) ∙ ap (λ f. is_free f page) (sym k)) ∙ c.in_default.is) in

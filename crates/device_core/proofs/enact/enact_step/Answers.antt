@@ -1,6 +1,6 @@
 use Rattle.std.proofs.Common.{subst, ◌≡◌, false}
-use Rattle.replay.specs.Sure.{takes_no_memory}
-use Rattle.replay_stores.specs.Kept.{BecomesBytes, bytes_of}
+use Rattle.rules_apply.specs.Sure.{takes_no_memory}
+use Rattle.rules_stores.specs.Kept.{BecomesBytes, bytes_of}
 use Rattle.device_core.proofs.EnactLaws.{when_ok, both_on_err, no_bytes}
 use Rattle.device_core.proofs.enact.enact_step.Goals as goal
 

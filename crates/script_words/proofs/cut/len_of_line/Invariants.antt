@@ -1,5 +1,5 @@
 use Rattle.std.proofs.Common.{◌≡◌, ◌+◌, drop}
-use Rattle.journal_model.specs.Cut.{line_len}
+use Rattle.script_words.specs.Lines.{line_len}
 use Rattle.script_words.proofs.cut.len_of_line.Given as goal
 
 abbrev pub invariant-loop-b : goal.invariant-loop-b

@@ -8,9 +8,15 @@ use Rattle.block_tree.specs.Searching.{numbered, LeastOf, FirstOf, IsFirst}
 use Rattle.block_tree.specs.FreeSet.{is_free, marks_of, IsKept}
 use Rattle.block_tree.proofs.Numbers.{small_pow}
 use Rattle.block_tree.proofs.MarkLaws.{take_front, length_of_tree}
-use Rattle.block_tree.proofs.KeptLaws.{near, none_near, least_near, first_near, block_of, length_marks, none_found, some_found, found_within, found_free, least_small, kept_marked, marks_marked}
+use Rattle.block_tree.proofs.KeptLaws.{none_above, near, none_near, least_near, first_near, block_of, length_marks, none_found, some_found, found_within, found_free, least_small, kept_marked, marks_marked}
 use Rattle.block_tree.proofs.free_blocks.FreeBlocks.take.Goals as goal
 use Rattle.block_tree.proofs.free_blocks.FreeBlocks.take.Goals.{In-Some}
+
+pub returns-then-order-self-clause-choice : goal.returns-then-order-self-clause-choice
+returns-then-order-self-clause-choice c = λ test h.
+    let size = sym (length_marks c.self.inside.order c.self.inside.size c.self.inside.masks.items) ∙ ap length c.self.view_is in
+    subst (λ n. option_map block_of (candidate test n c.args.range c.args.topdown c.args.order) ≡ None) size
+    (none_above c.self.inside.order c.self.inside.size c.args.order c.args.range c.args.topdown c.self.invariant.fits c.if-order-self.true test)
 
 pub returns-in_err-whole-clause-choice : goal.returns-in_err-whole-clause-choice
 returns-in_err-whole-clause-choice c = λ test h.
@@ -121,5 +127,5 @@ returns-clause-len c =
 
 pub take_first-requires-clause-number : goal.take_first-requires-clause-number
 take_first-requires-clause-number c =
-    let p : 2 ^ c.self.inside.order ≤ 2 ^ 16 = small_pow c.self.inside.order 16 c.self.invariant.order in
+    let p : 2 ^ c.self.inside.order ≤ 2 ^ 31 = small_pow c.self.inside.order 31 c.self.invariant.order in
     omega arith

@@ -7,7 +7,7 @@ use Rattle.buddy_manager.proofs.manager.BuddyManager.new.Goals as goal
 
 pub invariant_of-result : goal.invariant_of-result
 invariant_of-result c =
-    let small : c.args.pages < 2 ^ 16 = omega arith in
+    let small : c.args.pages < 2 ^ 31 = omega arith in
     subst (λ es. IsManaged c.in_ok-free.free es 0) (sym c.in_ok-ends.ensures)
     (managed_new c.in_ok-free.free c.args.pages c.in_ok-free.ensures.size small c.in_ok-free.ensures.free)
 

@@ -1,8 +1,8 @@
 use Rattle.std.proofs.Common.{◌≡◌, ◌+◌, ◌^◌, ◌<◌, length, Ok, sym, ◌∙◌, subst}
 use Rattle.journal_model.specs.Apply.{apply}
 use Rattle.journal_model.specs.Stores.{stores_after}
-use Rattle.replay_stores.specs.Kept.{BecomesBytes, bytes_of}
-use Rattle.state_law.proofs.Rules.{rules_of}
+use Rattle.rules_stores.specs.Kept.{BecomesBytes, bytes_of}
+use Rattle.law_state.proofs.Rules.{rules_of}
 use Rattle.device_core.specs.Kept.{entry_of}
 use Rattle.device_core.proofs.EnactLaws.{can_store, of_ok, of_err}
 use Rattle.device_core.proofs.DeviceLaws.{pushed_ready, held_same, held_more}

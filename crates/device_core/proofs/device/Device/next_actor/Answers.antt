@@ -1,6 +1,6 @@
 use Rattle.std.proofs.Common.{◌≡◌, ◌+◌, ◌^◌, ◌<◌, length, arith}
 use Rattle.std.proofs.lemmas.Bool.Decides.{nat_tests}
-use Rattle.replay_stores.specs.Kept.{bytes_of}
+use Rattle.rules_stores.specs.Kept.{bytes_of}
 use Rattle.device_core.proofs.ReadyLaws.{has_room}
 use Rattle.device_core.proofs.DeviceLaws.{known}
 use Rattle.device_core.proofs.device.Device.next_actor.Goals as goal

@@ -1,5 +1,5 @@
 use Rattle.std.proofs.Common.{◌≡◌, ◌+◌, ◌^◌, ◌<◌, length, Ok, sym, ◌∙◌, subst}
-use Rattle.replay_stores.specs.Kept.{bytes_of}
+use Rattle.rules_stores.specs.Kept.{bytes_of}
 use Rattle.device_core.specs.Kept.{entry_of}
 use Rattle.device_core.proofs.ReadyLaws.{has_room}
 use Rattle.device_core.proofs.DeviceLaws.{known, entry_shown}

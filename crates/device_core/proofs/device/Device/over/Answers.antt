@@ -2,9 +2,9 @@ use Rattle.std.proofs.Common.{◌≡◌, ◌∙◌, subst, sym, false}
 use Rattle.std.specs.Prelude.{Bool, ◌↔◌}
 use Rattle.journal_model.specs.Legal.{state_of}
 use Rattle.journal_model.specs.Complete.{is_complete}
-use Rattle.progress_law.specs.Sound.{SomeGoesOn}
-use Rattle.replay_stores.specs.Kept.{bytes_of}
-use Rattle.sound_law.proofs.Orders.{until_the_end}
+use Rattle.law_progress.specs.Sound.{SomeGoesOn}
+use Rattle.rules_stores.specs.Kept.{bytes_of}
+use Rattle.law_sound.proofs.Orders.{until_the_end}
 use Rattle.device_core.proofs.DeviceLaws.{over}
 use Rattle.device_core.proofs.device.Device.over.Goals as goal
 

@@ -1,6 +1,7 @@
 use Rattle.std.proofs.Common.{◌≡◌, length, ap, ◌∙◌}
 use Rattle.fence_core.specs.Fences.{needed}
-use Rattle.fence_core.specs.Histories.{waiting, named_job}
+use Rattle.fence_core.specs.Histories.{waiting}
+use Rattle.ttm_base.specs.Fences.{named_job}
 use Rattle.fence_core.proofs.NeedLaws.{set_needs, named_none}
 use Rattle.fence_core.proofs.fence_set.FenceSet.need_of_all.Goals as goal
 

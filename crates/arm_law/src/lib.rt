@@ -1,2 +1,0 @@
-//! Toward the law that legal journals are transparent: jobs with operations, and writes. The law itself is not here yet.
-#![tactic(auto)]

@@ -1,5 +1,0 @@
-use Rattle.launcher.proofs.CountLaws.{run_of_load}
-use Rattle.launcher.proofs.top.run_drawn.Goals as goal
-
-pub returns : goal.returns
-returns g c = run_of_load _ c.run_threads.result c.in_ok-script.ensures c.run_threads.ensures

@@ -1,0 +1,3 @@
+pub mod Paid
+pub mod Drawn
+pub mod Law

@@ -1,0 +1,26 @@
+//! Laws on the states that legal journals lead to.
+#![tactic(auto)]
+
+ghost use Rattle.std.specs.Prelude.{IsTrue, List, length};
+ghost use Rattle.journal_model.specs.declared.script.Script.{Script};
+ghost use Rattle.journal_model.specs.declared.entry.Entry.{Entry};
+ghost use Rattle.journal_model.specs.ScriptRules.{is_script};
+ghost use Rattle.journal_model.specs.Legal.{IsLegal, state_of};
+ghost use Rattle.law_state.specs.GoodState.{GoodState};
+ghost use Rattle.law_state.specs.Counters.{Below};
+ghost use Rattle.law_state.specs.Courses.{GoodCourses};
+
+/// Page tables have their declared pages; jobs have distinct names, some packets each, and no more run than there are.
+pub fn states_are_good()
+    ensures { (script : Script) (journal : List Entry) → IsTrue (is_script script) → IsLegal script journal → GoodState script (state_of script journal) }
+{}
+
+/// Each entry draws one number at most: no counter is above the number of entries.
+pub fn counters_are_low()
+    ensures { (script : Script) (journal : List Entry) → IsLegal script journal → Below (length journal) (state_of script journal) }
+{}
+
+/// No buffer has more pins than can be counted, and only a command that makes something stands as made.
+pub fn courses_are_good()
+    ensures { (script : Script) (journal : List Entry) → IsLegal script journal → GoodCourses script (state_of script journal) }
+{}

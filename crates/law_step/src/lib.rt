@@ -1,0 +1,15 @@
+//! Laws on the next entry of an actor: what it tells of the state before it.
+#![tactic(auto)]
+
+ghost use Rattle.std.specs.Prelude.{◌≡◌, Ok, true};
+ghost use Rattle.ttm_base.specs.declared.Actor.{Actor};
+ghost use Rattle.journal_model.specs.declared.script.Script.{Script};
+ghost use Rattle.journal_model.specs.declared.state.State.{State};
+ghost use Rattle.journal_model.specs.declared.entry.Kind.{Kind};
+ghost use Rattle.journal_model.specs.Next.{next};
+ghost use Rattle.law_step.specs.Due.{is_due};
+
+/// What an actor makes next stands on the state before it: where the buffer is, and that the jobs to wait for are done.
+pub fn next_entries_are_due()
+    ensures { (script : Script) (s : State) (who : Actor) (k : Kind) → next script s who ≡ Ok k → is_due s k ≡ true }
+{}

@@ -1,0 +1,12 @@
+pub mod Idles
+pub mod Quiets
+pub mod Pages
+pub mod Carries
+pub mod Acts
+pub mod Workers
+pub mod Steps
+pub mod First
+pub mod Law
+pub mod Ways
+mod Worked
+pub mod Carried

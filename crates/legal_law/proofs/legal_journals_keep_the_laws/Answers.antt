@@ -1,5 +1,0 @@
-use Rattle.legal_law.proofs.All.{keeps_laws}
-use Rattle.legal_law.proofs.legal_journals_keep_the_laws.Goals as goal
-
-pub returns : goal.returns
-returns c = λ script journal fits legal. keeps_laws script journal fits legal

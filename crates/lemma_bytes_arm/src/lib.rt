@@ -1,0 +1,2 @@
+//! Lemmas for `law_transparent::legal_journals_are_transparent`: jobs with operations, and writes.
+#![tactic(auto)]

@@ -1,0 +1,2 @@
+//! Lemmas for `law_transparent::legal_journals_are_transparent`: what a thread's entry tells of the buffer that it is on.
+#![tactic(auto)]

@@ -1,5 +1,0 @@
-use Rattle.list_law.proofs.Caught.{victims_law}
-use Rattle.list_law.proofs.entries_name_the_first_victim.Goals as goal
-
-pub returns : goal.returns
-returns c = victims_law

@@ -1,4 +1,0 @@
-use Rattle.lru_bulk.proofs.tests.bulk_of_two_hundred.Given as goal
-
-abbrev pub ghosts-moved : goal.ghosts-moved
-ghosts-moved g a = record { name = a.blank.name; parts = a.blank.parts }

@@ -1,5 +1,0 @@
-use Rattle.owner_law.proofs.Accounts.{account_law}
-use Rattle.owner_law.proofs.accounts_hold.Goals as goal
-
-pub returns : goal.returns
-returns c = λ script journal fits legal. account_law script journal fits legal

@@ -1,5 +1,0 @@
-use Rattle.owner_law.proofs.Law.{owner_law}
-use Rattle.owner_law.proofs.pages_have_one_owner.Goals as goal
-
-pub returns : goal.returns
-returns c = λ script journal fits legal. owner_law script journal fits legal

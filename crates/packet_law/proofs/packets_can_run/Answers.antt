@@ -1,8 +1,0 @@
-use Rattle.ttm_base.specs.Cutting.{packets_of}
-use Rattle.cut_law.proofs.Whole.{each_at}
-use Rattle.copy_packet.specs.Runs.{CanRun}
-use Rattle.packet_law.proofs.Ready.{ops_can_run}
-use Rattle.packet_law.proofs.packets_can_run.Goals as goal
-
-pub returns : goal.returns
-returns c = λ s names pages ops there inside short k p e. each_at (CanRun s) (packets_of names ops) k p (ops_can_run s names pages there ops inside short) e

@@ -1,7 +1,0 @@
-use Rattle.std.proofs.Common.{refl}
-use Rattle.packet_law.specs.Through.{memory_of}
-use Rattle.packet_law.proofs.Through.{ops_on_memory}
-use Rattle.packet_law.proofs.packets_make_the_operations.Goals as goal
-
-pub returns : goal.returns
-returns c = λ aper names pages ops bytes apart inside b x l. ops_on_memory aper names pages apart ops bytes (memory_of aper names bytes) inside (λ c x l. refl) b x l

@@ -1,5 +1,0 @@
-use Rattle.piece_law.proofs.Pieces.{ops_on_memory}
-use Rattle.piece_law.proofs.packets_make_the_operations.Goals as goal
-
-pub returns : goal.returns
-returns c = λ script ops m h. ops_on_memory script ops m h

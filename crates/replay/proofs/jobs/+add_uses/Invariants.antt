@@ -1,5 +1,0 @@
-use Rattle.std.proofs.Common.{length}
-use Rattle.replay.proofs.jobs.+add_uses.Given as goal
-
-abbrev pub decreases-add_uses : goal.decreases-add_uses
-decreases-add_uses l = length l.bs.now

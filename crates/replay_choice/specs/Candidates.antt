@@ -1,7 +1,0 @@
--- A free block, and what it would be split from, as the definitions have them.
-use Rattle.ttm_base.specs.BuddyChoice as buddy
-use Rattle.replay_choice.specs.declared.candidates.FreeBlock.{FreeBlock}
-
--- the same block and order
-abbrev pub candidate_of : FreeBlock → buddy.Candidate
-candidate_of c = record { block = c.block; whole = c.whole }

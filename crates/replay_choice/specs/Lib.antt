@@ -1,5 +1,0 @@
-pub mod Least
-pub mod Marks
-pub mod Fits
-pub mod Candidates
-pub mod Starts

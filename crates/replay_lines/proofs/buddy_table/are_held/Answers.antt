@@ -1,5 +1,0 @@
-use Rattle.replay_lines.proofs.TableLaws.{test_is}
-use Rattle.replay_lines.proofs.buddy_table.are_held.Goals as goal
-
-pub returns : goal.returns
-returns c = test_is c.are_held.result c.args.blocks.now c.args.manager.now.held c.are_held.ensures

@@ -1,3 +1,0 @@
-pub mod CauseLaws
-pub mod LastLaws
-pub mod RoomLaws

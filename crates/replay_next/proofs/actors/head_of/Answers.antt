@@ -1,6 +1,0 @@
-use Rattle.std.proofs.Common.{◌∙◌}
-use Rattle.replay_state.proofs.PendingJobs.{head_pending}
-use Rattle.replay_next.proofs.actors.head_of.Goals as goal
-
-pub returns : goal.returns
-returns c = c.first_unfinished.ensures ∙ head_pending c.args.ctx c.args.state.now.core.jobs c.pending.result.now c.pending.ensures

@@ -1,9 +1,0 @@
-use Rattle.std.proofs.Common.{◌≡◌, take}
-use Rattle.std.specs.Prelude.{filter_map}
-use Rattle.std.specs.List.{enumerate_from}
-use Rattle.journal_model.specs.Holds.{live_entry}
-use Rattle.journal_model.specs.Dry.{cause_row}
-use Rattle.replay_next.proofs.dry.causes.Given as goal
-
-abbrev pub invariant-loop-i : goal.invariant-loop-i
-invariant-loop-i l = l.rows ≡ filter_map (cause_row l.script l.state.grips l.place) (filter_map live_entry (enumerate_from 0 (take l.i l.slots)))

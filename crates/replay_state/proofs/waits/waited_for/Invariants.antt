@@ -1,6 +1,0 @@
-use Rattle.std.proofs.Common.{◌≡◌, take}
-use Rattle.journal_model.specs.Waits.{waited_for}
-use Rattle.replay_state.proofs.waits.waited_for.Given as goal
-
-abbrev pub invariant-loop-i : goal.invariant-loop-i
-invariant-loop-i l = l.named ≡ waited_for l.core (take l.i-index l.jobs)

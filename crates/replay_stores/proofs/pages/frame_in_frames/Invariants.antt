@@ -1,6 +1,0 @@
-use Rattle.std.proofs.Common.{◌≡◌, drop}
-use Rattle.replay_stores.specs.Maps.{frame_in_frames}
-use Rattle.replay_stores.proofs.pages.frame_in_frames.Given as goal
-
-abbrev pub invariant-loop-span : goal.invariant-loop-span
-invariant-loop-span l = frame_in_frames (drop l.span-index l.spans) l.rest l.page ≡ frame_in_frames l.spans l.frames l.page

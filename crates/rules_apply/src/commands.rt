@@ -1,0 +1,208 @@
+ghost use Rattle.std.specs.Prelude.{◌≡◌, ◌==◌, ◌++◌, ◌∷◌, [], if◌then◌else◌, IfOk, OnOk, OnErr, filter, fold, option_copied};
+ghost use Rattle.journal_model.specs.State as words;
+ghost use Rattle.journal_model.specs.ApplyCommands as rows;
+ghost use Rattle.journal_model.specs.ApplyCommands.{after_new, after_free, after_bulk, after_result, named_in, released, with_pins};
+ghost use Rattle.journal_model.specs.Lists.{touched};
+ghost use Rattle.rules_parts.specs.Pins.{HasPinsLeft};
+ghost use Rattle.rules_apply.specs.Ready.{IsThread, CanShowResult};
+
+use journal_model::{BufIds, Buffer, Command, Core, Ghost, Grip, Grips, Lists, Script, State};
+use rules_holds::{jobs_before_write, push_spans, spans_in, unfinished};
+use rules_parts::buffers::put_buffer;
+use rules_parts::grips::{change_pins, put_grip, release_all};
+use rules_parts::lists::{listed_in, members_last, taken_off, touched_all};
+use rules_state::{
+    buffer_in, command_at_work, dead_buffer, declared_pages, frames_of, has_buffer, named,
+    new_buffer, new_course, no_grip, without_buffer,
+};
+use std::alloc::Global;
+use ttm_base::{BufId, Mem, NoMemory, Spans};
+
+/// A thread makes a buffer.
+pub fn make(
+    alloc: Global,
+    script: &Script,
+    state: &mut State,
+    thread: u32,
+    b: BufId,
+) -> Result<(), NoMemory>
+    requires { IsThread state.old thread }
+    ensures ok { OnOk result (state.new ≡ after_new script.now state.old thread b) }
+    ensures err { OnErr result (state.new ≡ state.old) }
+{
+    let buffer = new_buffer(alloc, declared_pages(script, b))?;
+    let lists = listed_in(alloc, script, state.lists.items(), b, Some(Mem::System))?;
+    put_buffer(&mut state.core.buffers, b, Some(buffer));
+    put_grip(&mut state.grips, b, no_grip());
+    state.lists = lists;
+    let course = state.courses.get_mut(thread as usize - 1);
+    course.made = true;
+    Ok(())
+}
+
+/// What a buffer with unfinished jobs leaves when it is freed.
+fn ghost_of_freed(alloc: Global, core: &Core, buffer: &Buffer, num: u64) -> Result<Ghost, NoMemory>
+    ensures { IfOk result (λ left. left ≡ rows.ghost_of_freed core.now buffer.now num) }
+{
+    let mut vram = Spans::new(alloc);
+    push_spans(&mut vram, spans_in(Mem::Vram, buffer))?;
+    let mut tt = Spans::new(alloc);
+    push_spans(&mut tt, spans_in(Mem::Tt, buffer))?;
+    let frames = frames_of(alloc, buffer)?;
+    let used_by = jobs_before_write(alloc, buffer)?;
+    let jobs = unfinished(alloc, core, used_by.items())?;
+    Ok(Ghost {
+        num,
+        vram,
+        tt,
+        frames,
+        jobs,
+    })
+}
+
+/// Adds the ghost of a freed buffer; the number 0 is that of no ghost.
+fn leave_ghost(alloc: Global, core: &mut Core, b: BufId, num: u64) -> Result<(), NoMemory>
+    ensures ok { OnOk result (core.new ≡ record core.old { ghosts = (if num == 0 then core.old.ghosts else core.old.ghosts ++ rows.ghost_of_freed core.old (words.buffer_in core.old b) num ∷ []) }) }
+    ensures err { OnErr result (core.new ≡ core.old) }
+{
+    if num != 0 {
+        let dead = dead_buffer(alloc);
+        let left = ghost_of_freed(alloc, core, buffer_in(core, b, &dead), num)?;
+        core.ghosts.push(left)?;
+    }
+    Ok(())
+}
+
+/// A thread frees a buffer, which leaves a ghost of this number where it isn't 0 (ttm_bo_release).
+pub fn free(
+    alloc: Global,
+    state: &mut State,
+    thread: u32,
+    b: BufId,
+    num: u64,
+) -> Result<(), NoMemory>
+    requires { IsThread state.old thread }
+    ensures ok { OnOk result (state.new ≡ after_free state.old thread b num) }
+    ensures err { OnErr result (state.new ≡ state.old) }
+{
+    let lists = taken_off(alloc, state.lists.items(), b)?;
+    let course = state.courses.get(thread as usize - 1);
+    let held = without_buffer(alloc, course.held.items(), b)?;
+    leave_ghost(alloc, &mut state.core, b, num)?;
+    put_buffer(&mut state.core.buffers, b, None);
+    put_grip(&mut state.grips, b, no_grip());
+    state.lists = lists;
+    if num != 0 {
+        state.last_ghost = num;
+    }
+    let course = state.courses.get_mut(thread as usize - 1);
+    course.held = held;
+    course.made = true;
+    Ok(())
+}
+
+/// The buffers of a group go to the end of their lists (ttm_lru_bulk_move_tail).
+pub fn bulk(
+    alloc: Global,
+    script: &Script,
+    state: &mut State,
+    thread: u32,
+    group: u32,
+) -> Result<(), NoMemory>
+    requires { IsThread state.old thread }
+    ensures ok { OnOk result (state.new ≡ after_bulk script.now state.old thread group) }
+    ensures err { OnErr result (state.new ≡ state.old) }
+{
+    state.lists = members_last(alloc, script, group, state.lists.items())?;
+    let course = state.courses.get_mut(thread as usize - 1);
+    course.made = true;
+    Ok(())
+}
+
+/// The buffers that a command names.
+pub fn buffers_of(alloc: Global, command: Option<&Command>) -> Result<BufIds, NoMemory>
+    ensures { IfOk result (λ bs. bs ≡ named_in (option_copied command.entry)) }
+{
+    match command {
+        Some(command) => named(alloc, command),
+        None => Ok(BufIds::new(alloc)),
+    }
+}
+
+/// Those of some buffers that a thread holds.
+fn held_among(alloc: Global, held: &[BufId], bs: &[BufId]) -> Result<BufIds, NoMemory>
+    ensures { IfOk result (λ found. found ≡ filter (words.has_buffer held.now) bs.now) }
+{
+    let mut found = BufIds::new(alloc);
+    for b in bs {
+        if has_buffer(held, *b) {
+            found.push(*b)?;
+        }
+    }
+    Ok(found)
+}
+
+/// The grips once a command is answered: held buffers are let go, and pins change as it asks.
+fn answered_grips(
+    alloc: Global,
+    grips: &Grips,
+    held: &[BufId],
+    command: Option<&Command>,
+) -> Result<Grips, NoMemory>
+    requires { HasPinsLeft grips.now (option_copied command) }
+    ensures { IfOk result (λ new. new ≡ with_pins (option_copied command.entry) (released grips.now held.now)) }
+{
+    let mut new = grips.copy()?;
+    release_all(&mut new, held);
+    if let Some(command) = command {
+        change_pins(&mut new, command);
+    }
+    Ok(new)
+}
+
+/// The lists once a command is answered: held buffers are touched, as the command names them.
+fn answered_lists(
+    alloc: Global,
+    script: &Script,
+    buffers: &[Option<Buffer>],
+    grips: &[Grip],
+    lists: &[BufIds],
+    held: &[BufId],
+    command: Option<&Command>,
+) -> Result<Lists, NoMemory>
+    ensures { IfOk result (λ new. new ≡ fold (touched script.now buffers.now grips.now) lists.now (filter (words.has_buffer held.now) (named_in (option_copied command.entry)))) }
+{
+    let bs = buffers_of(alloc, command)?;
+    let held = held_among(alloc, held, bs.items())?;
+    touched_all(alloc, script, buffers, grips, lists, held.items())
+}
+
+/// A thread answers its command: its buffers are let go and touched.
+pub fn answer(
+    alloc: Global,
+    script: &Script,
+    state: &mut State,
+    thread: u32,
+) -> Result<(), NoMemory>
+    requires { CanShowResult script.now state.old thread }
+    ensures ok { OnOk result (state.new ≡ after_result script.now state.old thread) }
+    ensures err { OnErr result (state.new ≡ state.old) }
+{
+    let command = command_at_work(script, state, thread);
+    let course = state.courses.get(thread as usize - 1);
+    let next = new_course(alloc, course.answered + 1);
+    let grips = answered_grips(alloc, &state.grips, course.held.items(), command)?;
+    let lists = answered_lists(
+        alloc,
+        script,
+        state.core.buffers.items(),
+        grips.items(),
+        state.lists.items(),
+        course.held.items(),
+        command,
+    )?;
+    state.grips = grips;
+    state.lists = lists;
+    state.courses.set(thread as usize - 1, next);
+    Ok(())
+}

@@ -1,0 +1,153 @@
+ghost use Rattle.std.specs.Prelude.{◌≡◌, ◌+◌, ◌==◌, ◌++◌, ◌∷◌, [], true, IfOk, OnOk, OnErr, IsTrue, filter, flat_map, fold, not, option_copied, slice_set, if◌then◌else◌};
+ghost use Rattle.journal_model.specs.Waits as waits;
+ghost use Rattle.journal_model.specs.ApplyJobs.{with_use, after_arm, after_packet_run, after_done, after_reap};
+ghost use Rattle.journal_model.specs.ApplyJobs as rows;
+ghost use Rattle.rules_apply.specs.Ready.{IsThread, CanRun};
+
+use crate::commands::buffers_of;
+use journal_model::{Buffers, Command, Core, Ghosts, Job, JobIds, Numbers, Script, State};
+use rules_holds::{jobs_before_use, packets_of, use_of};
+use rules_parts::buffers::{add_fence, drop_last_fence};
+use rules_state::command_at_work;
+use std::alloc::Global;
+use ttm_base::{BufId, JobId, NoMemory, Op};
+
+/// Keeps the number of the last job of a context.
+pub fn set_last_job(last_jobs: &mut Numbers, id: JobId)
+    ensures { last_jobs.new ≡ slice_set last_jobs.old id.ctx id.num }
+{
+    let index = id.ctx as usize;
+    if index < last_jobs.len() {
+        last_jobs.set(index, id.num);
+    }
+}
+
+/// The operations of a job.
+fn ops_of<'a>(command: Option<&'a Command>) -> &'a [Op]
+    ensures { result.now ≡ rows.ops_of (option_copied command.entry) }
+{
+    match command {
+        Some(Command::Submit { ops, .. }) => ops.items(),
+        _ => &[],
+    }
+}
+
+/// Puts job ids behind others.
+fn push_jobs(jobs: &mut JobIds, more: &[JobId]) -> Result<(), NoMemory>
+    ensures { OnOk result (jobs.new ≡ jobs.old ++ more.now) }
+{
+    for job in more {
+        jobs.push(*job)?;
+    }
+    Ok(())
+}
+
+/// The jobs that a job waits for at its buffers.
+fn waits_at(alloc: Global, core: &Core, ops: &[Op], bs: &[BufId]) -> Result<JobIds, NoMemory>
+    ensures { IfOk result (λ jobs. jobs ≡ flat_map (waits.jobs_before_use core.now ops.now) bs.now) }
+{
+    let mut jobs = JobIds::new(alloc);
+    for b in bs {
+        let more = jobs_before_use(alloc, core, ops, *b)?;
+        push_jobs(&mut jobs, more.items())?;
+    }
+    Ok(jobs)
+}
+
+/// Gives each of these buffers the job as a fence, in the way in which it uses the buffer.
+#[tactic(auto, using(rules_parts::proofs::UndoLaws::fence_undone))]
+fn add_uses(buffers: &mut Buffers, job: JobId, ops: &[Op], bs: &[BufId]) -> Result<(), NoMemory>
+    ensures ok { OnOk result (buffers.new ≡ fold (with_use job ops.now) buffers.old bs.now) }
+    ensures err { OnErr result (buffers.new ≡ buffers.old) }
+{
+    let Some((b, rest)) = bs.split_first() else {
+        return Ok(());
+    };
+    add_fence(buffers, *b, job, use_of(ops, *b))?;
+    if add_uses(buffers, job, ops, rest).is_err() {
+        drop_last_fence(buffers, *b);
+        return Err(NoMemory);
+    }
+    Ok(())
+}
+
+/// Adds a job, and gives its buffers the fences.
+fn emit(core: &mut Core, job: Job, ops: &[Op], bs: &[BufId]) -> Result<(), NoMemory>
+    ensures ok { OnOk result (core.new ≡ record core.old { jobs = core.old.jobs ++ job ∷ []; buffers = fold (with_use job.id ops.now) core.old.buffers bs.now }) }
+    ensures err { OnErr result (core.new ≡ core.old) }
+{
+    let id = job.id;
+    core.jobs.push(job)?;
+    if add_uses(&mut core.buffers, id, ops, bs).is_err() {
+        core.jobs.drop_last();
+        return Err(NoMemory);
+    }
+    Ok(())
+}
+
+/// The job of a thread's command is emitted: it waits for the jobs of its buffers, and becomes one of them.
+pub fn arm(
+    alloc: Global,
+    script: &Script,
+    state: &mut State,
+    thread: u32,
+    ctx: u32,
+    num: u64,
+) -> Result<(), NoMemory>
+    requires { IsThread state.old thread }
+    ensures ok { OnOk result (state.new ≡ after_arm script.now state.old thread ctx num) }
+    ensures err { OnErr result (state.new ≡ state.old) }
+{
+    let id = JobId { ctx, num };
+    let command = command_at_work(script, state, thread);
+    let ops = ops_of(command);
+    let bs = buffers_of(alloc, command)?;
+    let job = Job {
+        id,
+        waits: waits_at(alloc, &state.core, ops, bs.items())?,
+        packets: packets_of(alloc, &state.core, ops)?,
+        ran: 0,
+        finished: false,
+    };
+    emit(&mut state.core, job, ops, bs.items())?;
+    set_last_job(&mut state.last_jobs, id);
+    let course = state.courses.get_mut(thread as usize - 1);
+    course.made = true;
+    Ok(())
+}
+
+/// A packet of a job has run.
+pub fn packet_run(state: &mut State, ctx: u32, num: u64)
+    requires { CanRun state.old (record { ctx = ctx; num = num }) }
+    ensures { state.new ≡ after_packet_run state.old (record { ctx = ctx; num = num }) }
+{
+    state.core.jobs.count_packet(JobId { ctx, num });
+}
+
+/// A job is done.
+pub fn done(state: &mut State, ctx: u32, num: u64)
+    ensures { state.new ≡ after_done state.old (record { ctx = ctx; num = num }) }
+{
+    state.core.jobs.finish(JobId { ctx, num });
+}
+
+/// Takes a ghost out.
+fn remove_ghost(ghosts: &mut Ghosts, num: u64)
+    ensures { ghosts.new ≡ filter (λ h. not (h.num == num)) ghosts.old }
+{
+    let mut i = 0;
+    while i < ghosts.len() {
+        if ghosts.get(i).num == num {
+            let _ = ghosts.remove(i);
+        } else {
+            i += 1;
+        }
+    }
+}
+
+/// A ghost goes.
+pub fn reap(state: &mut State, num: u64)
+    ensures { state.new ≡ after_reap state.old num }
+{
+    remove_ghost(&mut state.core.ghosts, num);
+}

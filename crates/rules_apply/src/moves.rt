@@ -1,0 +1,237 @@
+ghost use Rattle.std.specs.Prelude.{◌≡◌, ◌<◌, ◌^◌, ◌++◌, ◌∷◌, [], false, IfOk, OnOk, OnErr, length, option_to_list};
+ghost use Rattle.journal_model.specs.State.{changed};
+ghost use Rattle.journal_model.specs.State as words;
+ghost use Rattle.journal_model.specs.Waits as waits;
+ghost use Rattle.journal_model.specs.ApplyMoves as rows;
+ghost use Rattle.rules_apply.specs.Ready.{HasShortTable};
+ghost use Rattle.rules_parts.specs.Undo.{without_last};
+
+use crate::jobs::set_last_job;
+use journal_model::{
+    Buffer, Core, Frames, Ghost, Ghosts, Job, JobIds, Left, Packets, Script, State,
+};
+use rules_holds::{jobs_before_write, push_spans, spans_in, unfinished};
+use rules_parts::buffers::carry;
+use rules_parts::lists::relisted;
+use rules_state::{buffer_in, dead_buffer, frames_of, name_in_spans, packet_place, target_spans};
+use std::alloc::Global;
+use ttm_base::{BufId, JobId, Mem, NoMemory, Packet, PagePlace, Span, Spans};
+
+/// A copy of a whole page.
+fn copy_of_page(to: PagePlace, from: PagePlace) -> Packet
+    ensures { result ≡ rows.copy_of_page to from }
+{
+    Packet::Copy {
+        to,
+        toff: 0,
+        from,
+        foff: 0,
+        len: 4096,
+    }
+}
+
+/// One copy of each page of a buffer, from where it stands to its target in a memory type.
+fn move_packets(alloc: Global, buffer: &Buffer, mem: Mem) -> Result<Packets, NoMemory>
+    requires { length buffer.now.table < 2 ^ 32 }
+    ensures { IfOk result (λ packets. packets ≡ rows.move_packets buffer.now mem) }
+{
+    let mut packets = Packets::new(alloc);
+    let target = target_spans(mem, buffer);
+    for i in 0..buffer.table.len() as u32 {
+        let to = name_in_spans(mem, target, i);
+        packets.push(copy_of_page(to, packet_place(buffer, i)))?;
+    }
+    Ok(packets)
+}
+
+/// The job that moves a buffer to its target in a memory type, after all jobs of the buffer.
+fn move_job(
+    alloc: Global,
+    core: &Core,
+    buffer: &Buffer,
+    mem: Mem,
+    id: JobId,
+) -> Result<Job, NoMemory>
+    requires { length buffer.now.table < 2 ^ 32 }
+    ensures { IfOk result (λ job. job ≡ record { id = id; waits = waits.unfinished core.now (waits.jobs_before_write buffer.now); packets = rows.move_packets buffer.now mem; ran = 0; finished = false }) }
+{
+    let used_by = jobs_before_write(alloc, buffer)?;
+    Ok(Job {
+        id,
+        waits: unfinished(alloc, core, used_by.items())?,
+        packets: move_packets(alloc, buffer, mem)?,
+        ran: 0,
+        finished: false,
+    })
+}
+
+/// The frames that a buffer leaves: those of a buffer in TT.
+fn frames_left(alloc: Global, buffer: &Buffer) -> Result<Frames, NoMemory>
+    ensures { IfOk result (λ frames. frames ≡ rows.frames_left buffer.now.mem buffer.now) }
+{
+    match buffer.mem {
+        Mem::Tt => frames_of(alloc, buffer),
+        Mem::Vram | Mem::System => Ok(Frames::new(alloc)),
+    }
+}
+
+/// A second list of spans.
+fn copied(alloc: Global, spans: &[Span]) -> Result<Spans, NoMemory>
+    ensures { IfOk result (λ copy. copy ≡ spans.now) }
+{
+    let mut copy = Spans::new(alloc);
+    push_spans(&mut copy, spans)?;
+    Ok(copy)
+}
+
+/// A list of one job.
+fn only(alloc: Global, id: JobId) -> Result<JobIds, NoMemory>
+    ensures { IfOk result (λ jobs. jobs ≡ id ∷ []) }
+{
+    let mut jobs = JobIds::new(alloc);
+    jobs.push(id)?;
+    Ok(jobs)
+}
+
+/// The ghost that a moved buffer leaves until the job is done.
+fn ghost_of_moved(alloc: Global, buffer: &Buffer, id: JobId, num: u64) -> Result<Ghost, NoMemory>
+    ensures { IfOk result (λ left. left ≡ rows.ghost_of_moved buffer.now id num) }
+{
+    Ok(Ghost {
+        num,
+        vram: copied(alloc, spans_in(Mem::Vram, buffer))?,
+        tt: copied(alloc, spans_in(Mem::Tt, buffer))?,
+        frames: frames_left(alloc, buffer)?,
+        jobs: only(alloc, id)?,
+    })
+}
+
+/// The ghost that a move leaves, if its pages aren't free at once.
+fn left_behind(
+    alloc: Global,
+    buffer: &Buffer,
+    id: JobId,
+    left: Left,
+) -> Result<Option<Ghost>, NoMemory>
+    ensures { IfOk result (λ behind. (ghosts : _) → rows.ghosts_left buffer.now id left ghosts ≡ ghosts ++ option_to_list behind) }
+{
+    match left {
+        Left::Now => Ok(None),
+        Left::Ghost(num) => {
+            let behind = ghost_of_moved(alloc, buffer, id, num)?;
+            Ok(Some(behind))
+        }
+    }
+}
+
+/// Takes the last ghost back.
+fn drop_last_ghost(ghosts: &mut Ghosts)
+    ensures { ghosts.new ≡ without_last ghosts.old }
+{
+    let count = ghosts.len();
+    if count > 0 {
+        let _ = ghosts.remove(count - 1);
+    }
+}
+
+/// Carries a buffer, and adds what it leaves behind.
+fn carry_and_leave(
+    alloc: Global,
+    core: &mut Core,
+    b: BufId,
+    mem: Mem,
+    id: JobId,
+    behind: Option<Ghost>,
+) -> Result<(), NoMemory>
+    ensures ok { OnOk result (core.new ≡ record core.old { buffers = changed (rows.moved mem id) core.old.buffers b; ghosts = core.old.ghosts ++ option_to_list behind }) }
+    ensures err { OnErr result (core.new ≡ core.old) }
+{
+    let Some(behind) = behind else {
+        return carry(alloc, &mut core.buffers, b, mem, id);
+    };
+    core.ghosts.push(behind)?;
+    if carry(alloc, &mut core.buffers, b, mem, id).is_err() {
+        drop_last_ghost(&mut core.ghosts);
+        return Err(NoMemory);
+    }
+    Ok(())
+}
+
+/// Emits the job of a move.
+fn emit(
+    alloc: Global,
+    core: &mut Core,
+    b: BufId,
+    mem: Mem,
+    job: Job,
+    behind: Option<Ghost>,
+) -> Result<(), NoMemory>
+    ensures ok { OnOk result (core.new ≡ record core.old { buffers = changed (rows.moved mem job.id) core.old.buffers b; jobs = core.old.jobs ++ job ∷ []; ghosts = core.old.ghosts ++ option_to_list behind }) }
+    ensures err { OnErr result (core.new ≡ core.old) }
+{
+    let id = job.id;
+    core.jobs.push(job)?;
+    if carry_and_leave(alloc, core, b, mem, id, behind).is_err() {
+        core.jobs.drop_last();
+        return Err(NoMemory);
+    }
+    Ok(())
+}
+
+/// The core after a move.
+fn move_in_core(
+    alloc: Global,
+    core: &mut Core,
+    b: BufId,
+    mem: Mem,
+    id: JobId,
+    left: Left,
+) -> Result<(), NoMemory>
+    requires { length (words.buffer_in core.old b).table < 2 ^ 32 }
+    ensures ok { OnOk result (core.new ≡ rows.core_after_move core.old b mem id left) }
+    ensures err { OnErr result (core.new ≡ core.old) }
+{
+    let dead = dead_buffer(alloc);
+    let buffer = buffer_in(core, b, &dead);
+    let job = move_job(alloc, core, buffer, mem, id)?;
+    let behind = left_behind(alloc, buffer, id, left)?;
+    emit(alloc, core, b, mem, job, behind)?;
+    if let Left::Now = left {
+        core.move_fence = Some(id);
+    }
+    Ok(())
+}
+
+/// A buffer moves to its target by a job of context 0 (ttm_bo_move_accel_cleanup).
+#[tactic(auto, using(crate::proofs::Rows::after_move_job_is))]
+pub fn move_buffer(
+    alloc: Global,
+    script: &Script,
+    state: &mut State,
+    b: BufId,
+    mem: Mem,
+    num: u64,
+    left: Left,
+) -> Result<(), NoMemory>
+    requires { HasShortTable state.old b }
+    ensures ok { OnOk result (state.new ≡ rows.after_move script.now state.old b mem num left) }
+    ensures err { OnErr result (state.new ≡ state.old) }
+{
+    let id = JobId { ctx: 0, num };
+    let lists = relisted(
+        alloc,
+        script,
+        state.core.buffers.items(),
+        state.grips.items(),
+        state.lists.items(),
+        b,
+        mem,
+    )?;
+    move_in_core(alloc, &mut state.core, b, mem, id, left)?;
+    state.lists = lists;
+    if let Left::Ghost(num) = left {
+        state.last_ghost = num;
+    }
+    set_last_job(&mut state.last_jobs, id);
+    Ok(())
+}

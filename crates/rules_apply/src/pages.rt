@@ -1,0 +1,116 @@
+ghost use Rattle.std.specs.Prelude.{◌≡◌, OnOk, OnErr, option_to_list};
+ghost use Rattle.journal_model.specs.Waits.{jobs_before_target};
+ghost use Rattle.rules_apply.specs.Ready.{IsThread};
+ghost use Rattle.journal_model.specs.ApplyPages.{after_take, after_bind, after_unbind, after_untake, after_populate, after_swap_in, after_swap_out, after_depopulate};
+
+use journal_model::{Core, Script, State};
+use rules_holds::is_unfinished;
+use rules_parts::lists::relisted;
+use rules_parts::{buffers, courses};
+use std::alloc::Global;
+use ttm_base::{BufId, JobId, Loc, Mem, NoMemory, Spans};
+
+/// The job that a target waits for: in VRAM the last one that moved a victim out, until it is done.
+fn move_fence(core: &Core, mem: Mem) -> Option<JobId>
+    ensures { option_to_list result ≡ jobs_before_target core.now mem }
+{
+    match (mem, core.move_fence) {
+        (Mem::Vram, Some(job)) if is_unfinished(core, job) => Some(job),
+        _ => None,
+    }
+}
+
+/// A buffer gets a target, in VRAM with the move fence.
+pub fn take(
+    state: &mut State,
+    thread: u32,
+    b: BufId,
+    mem: Mem,
+    spans: &Spans,
+) -> Result<(), NoMemory>
+    requires { IsThread state.old thread }
+    ensures ok { OnOk result (state.new ≡ after_take state.old thread b mem spans.now) }
+    ensures err { OnErr result (state.new ≡ state.old) }
+{
+    let fence = move_fence(&state.core, mem);
+    let taken = spans.copy()?;
+    buffers::give_target(&mut state.core.buffers, b, mem, taken, fence)?;
+    let course = state.courses.get_mut(thread as usize - 1);
+    courses::end_search(course, b);
+    Ok(())
+}
+
+/// A buffer gives a target back.
+pub fn untake(state: &mut State, b: BufId, mem: Mem)
+    ensures { state.new ≡ after_untake state.old b mem }
+{
+    buffers::drop_target(&mut state.core.buffers, b, mem);
+}
+
+/// A page of a buffer gets a frame.
+pub fn populate(state: &mut State, b: BufId, page: u32, frame: u32)
+    ensures { state.new ≡ after_populate state.old b page frame }
+{
+    buffers::set_page(&mut state.core.buffers, b, page, Loc::Frame(frame));
+}
+
+/// A page of a buffer comes back from swap into a frame.
+pub fn swap_in(state: &mut State, b: BufId, page: u32, frame: u32)
+    ensures { state.new ≡ after_swap_in state.old b page frame }
+{
+    buffers::set_page(&mut state.core.buffers, b, page, Loc::Frame(frame));
+}
+
+/// A page of a buffer goes to a swap slot.
+pub fn swap_out(state: &mut State, b: BufId, page: u32, slot: u32)
+    ensures { state.new ≡ after_swap_out state.old b page slot }
+{
+    buffers::set_page(&mut state.core.buffers, b, page, Loc::Slot(slot));
+}
+
+/// A buffer gives its frames back.
+pub fn depopulate(state: &mut State, b: BufId)
+    ensures { state.new ≡ after_depopulate state.old b }
+{
+    buffers::depopulate(&mut state.core.buffers, b);
+}
+
+/// A buffer goes from SYSTEM to TT (ttm_tt_bind).
+#[tactic(auto, using(crate::proofs::Rows::after_bind_is))]
+pub fn bind(alloc: Global, script: &Script, state: &mut State, b: BufId) -> Result<(), NoMemory>
+    ensures ok { OnOk result (state.new ≡ after_bind script.now state.old b) }
+    ensures err { OnErr result (state.new ≡ state.old) }
+{
+    let lists = relisted(
+        alloc,
+        script,
+        state.core.buffers.items(),
+        state.grips.items(),
+        state.lists.items(),
+        b,
+        Mem::Tt,
+    )?;
+    buffers::bind(alloc, &mut state.core.buffers, b);
+    state.lists = lists;
+    Ok(())
+}
+
+/// A buffer goes from TT to SYSTEM (ttm_tt_unbind).
+#[tactic(auto, using(crate::proofs::Rows::after_unbind_is))]
+pub fn unbind(alloc: Global, script: &Script, state: &mut State, b: BufId) -> Result<(), NoMemory>
+    ensures ok { OnOk result (state.new ≡ after_unbind script.now state.old b) }
+    ensures err { OnErr result (state.new ≡ state.old) }
+{
+    let lists = relisted(
+        alloc,
+        script,
+        state.core.buffers.items(),
+        state.grips.items(),
+        state.lists.items(),
+        b,
+        Mem::System,
+    )?;
+    buffers::unbind(alloc, &mut state.core.buffers, b);
+    state.lists = lists;
+    Ok(())
+}

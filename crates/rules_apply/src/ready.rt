@@ -1,0 +1,109 @@
+ghost use Rattle.std.specs.Prelude.{◌≡◌, ◌+◌, ◌<◌, ◌^◌, ◌↔◌, IsTrue, Some, option_copied, length};
+ghost use Rattle.std.specs.List.{list_all};
+ghost use Rattle.journal_model.specs.State as words;
+ghost use Rattle.rules_apply.specs.Ready as facts;
+ghost use Rattle.rules_parts.specs.Pins.{CanPin, HasPinsLeft};
+
+use journal_model::{Command, Entry, Grip, Job, Kind, Script, State, same_job};
+use rules_parts::actors::{engine_of, thread_of};
+use rules_state::{command_at_work, course_of, grip_in, live_in};
+use ttm_base::{BufId, JobId};
+
+/// The thread is there.
+fn has_thread(state: &State, thread: u32) -> bool
+    ensures { IsTrue result ↔ facts.IsThread state.now thread }
+{
+    course_of(state, thread).is_some()
+}
+
+/// The thread may answer one more command.
+fn can_answer(state: &State, thread: u32) -> bool
+    ensures { IsTrue result ↔ facts.CanAnswer state.now thread }
+{
+    match course_of(state, thread) {
+        Some(course) => course.answered < u32::MAX,
+        None => false,
+    }
+}
+
+/// The command pins no buffer that is pinned as often as can be counted.
+fn has_pins_left(grips: &[Grip], command: Option<&Command>) -> bool
+    ensures { IsTrue result ↔ HasPinsLeft grips.now (option_copied command.entry) }
+{
+    match command {
+        Some(Command::Pin { b }) => grip_in(grips, *b).pins < 255,
+        _ => true,
+    }
+}
+
+/// The thread may answer the command that it is at.
+fn can_show_result(script: &Script, state: &State, thread: u32) -> bool
+    ensures { IsTrue result ↔ facts.CanShowResult script.now state.now thread }
+{
+    can_answer(state, thread)
+        && has_pins_left(state.grips.items(), command_at_work(script, state, thread))
+}
+
+/// The search may go on behind its k-th place.
+fn can_go_dry(state: &State, thread: u32, k: u32) -> bool
+    ensures { IsTrue result ↔ facts.CanGoDry state.now thread k }
+{
+    has_thread(state, thread) && k < u32::MAX
+}
+
+/// The job is another, or one more packet of it can be counted.
+fn has_packets_left(id: JobId, job: &Job) -> bool
+    ensures { result ≡ facts.has_packets_left id job.now }
+{
+    !same_job(id, job.id) || job.ran < u32::MAX
+}
+
+/// One more packet of the job can be counted.
+fn can_run(jobs: &[Job], id: JobId) -> bool
+    ensures { result ≡ list_all (facts.has_packets_left id) jobs.now }
+{
+    jobs.iter().all(|job| has_packets_left(id, job))
+}
+
+/// The pages of a buffer can be counted.
+fn has_short_table(state: &State, b: BufId) -> bool
+    ensures { IsTrue result ↔ facts.HasShortTable state.now b }
+{
+    match live_in(state.core.buffers.items(), b) {
+        Some(buffer) => buffer.table.len() <= u32::MAX as usize,
+        None => true,
+    }
+}
+
+/// The entry can be applied in this state. Each entry that is legal next can be.
+pub fn is_ready(script: &Script, state: &State, entry: &Entry) -> bool
+    ensures { IsTrue result ↔ facts.IsReady script.now state.now entry.now }
+{
+    let thread = thread_of(entry.who);
+    match &entry.kind {
+        Kind::Ticket { .. } | Kind::Reserve { .. } | Kind::Backoff { .. } | Kind::New { .. } => {
+            has_thread(state, thread)
+        }
+        Kind::Free { .. } | Kind::Take { .. } | Kind::Catch { .. } | Kind::Loose { .. } => {
+            has_thread(state, thread)
+        }
+        Kind::Skip { .. } | Kind::NoPages { .. } | Kind::Arm { .. } | Kind::Bulk { .. } => {
+            has_thread(state, thread)
+        }
+        Kind::Dry { k, .. } => can_go_dry(state, thread, *k),
+        Kind::Packet { num, .. } => {
+            let id = JobId {
+                ctx: engine_of(entry.who),
+                num: *num,
+            };
+            can_run(state.core.jobs.items(), id)
+        }
+        Kind::Result { .. } => can_show_result(script, state, thread),
+        Kind::Refused { .. } => can_answer(state, thread),
+        Kind::Move { b, .. } => has_short_table(state, *b),
+        Kind::Untake { .. } | Kind::Populate { .. } | Kind::SwapIn { .. } | Kind::SwapOut { .. } =>
+            { true }
+        Kind::Depopulate { .. } | Kind::Bind { .. } | Kind::Unbind { .. } => true,
+        Kind::Done { .. } | Kind::Reap { .. } => true,
+    }
+}

@@ -1,0 +1,55 @@
+ghost use Rattle.std.specs.Prelude.{◌≡◌, IfOk, OnOk, OnErr, length};
+ghost use Rattle.ttm_base.specs.Placement.{forced_places};
+ghost use Rattle.journal_model.specs.Search as words;
+ghost use Rattle.journal_model.specs.ApplyVictims.{after_dry};
+ghost use Rattle.rules_apply.specs.Ready.{CanGoDry};
+
+use journal_model::{Command, Course, Script, State};
+use rules_parts::courses::{fail_search, go_dry};
+use rules_state::{command_at_work, forced_places, is_caught, quest_at_work};
+use std::alloc::Global;
+use ttm_base::{BufId, Deny, NoMemory};
+
+/// How many places the search of a buffer tries under pressure.
+fn forced_count(
+    alloc: Global,
+    script: &Script,
+    state: &State,
+    course: &Course,
+    command: &Command,
+    b: BufId,
+) -> Result<usize, NoMemory>
+    ensures { IfOk result (λ n. n ≡ length (forced_places (words.quest_at_work script.now state.now course.now command.now b).list)) }
+{
+    let quest = quest_at_work(alloc, script, state, course, command, b)?;
+    let places = forced_places(alloc, quest.list.items())?;
+    Ok(places.len())
+}
+
+/// A place is dry. After the last one the search of a named buffer has failed; a victim has one place alone.
+#[tactic(auto, using(ttm_base::proofs::ListLaws::set_same))]
+pub fn dry(
+    alloc: Global,
+    script: &Script,
+    state: &mut State,
+    thread: u32,
+    b: BufId,
+    k: u32,
+) -> Result<(), NoMemory>
+    requires { CanGoDry state.old thread k }
+    ensures ok { OnOk result (state.new ≡ after_dry script.now state.old thread b k) }
+    ensures err { OnErr result (state.new ≡ state.old) }
+{
+    let Some(command) = command_at_work(script, state, thread) else {
+        return Ok(());
+    };
+    let course = state.courses.get(thread as usize - 1);
+    let places = forced_count(alloc, script, state, course, command, b)?;
+    let course = state.courses.get_mut(thread as usize - 1);
+    if is_caught(course, b) {
+        fail_search(course, b, Deny::NoSpace);
+    } else {
+        go_dry(course, k, places);
+    }
+    Ok(())
+}

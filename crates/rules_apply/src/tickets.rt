@@ -1,0 +1,54 @@
+ghost use Rattle.std.specs.Prelude.{◌≡◌, OnOk, OnErr};
+ghost use Rattle.journal_model.specs.ApplyCommands.{after_ticket, after_reserve, after_backoff, after_refusal};
+ghost use Rattle.rules_apply.specs.Ready.{IsThread, CanAnswer};
+
+use journal_model::{BufIds, State};
+use rules_parts::grips;
+use rules_state::new_course;
+use std::alloc::Global;
+use ttm_base::{BufId, NoMemory, Stamp};
+
+/// A thread draws a ticket (ww_acquire_init).
+pub fn ticket(state: &mut State, thread: u32, stamp: Stamp)
+    requires { IsThread state.old thread }
+    ensures { state.new ≡ after_ticket state.old thread stamp }
+{
+    state.last_stamp = stamp.0;
+    let course = state.courses.get_mut(thread as usize - 1);
+    course.stamp = Some(stamp);
+}
+
+/// A thread reserves a buffer with its stamp (dma_resv_lock).
+#[tactic(auto, using(ttm_base::proofs::ListLaws::set_same))]
+pub fn reserve(state: &mut State, thread: u32, b: BufId) -> Result<(), NoMemory>
+    requires { IsThread state.old thread }
+    ensures ok { OnOk result (state.new ≡ after_reserve state.old thread b) }
+    ensures err { OnErr result (state.new ≡ state.old) }
+{
+    let course = state.courses.get_mut(thread as usize - 1);
+    course.held.push(b)?;
+    let stamp = course.stamp;
+    grips::set_holder(&mut state.grips, b, stamp);
+    Ok(())
+}
+
+/// A thread lets its reservations go, and begins anew with a buffer.
+pub fn back_off(alloc: Global, state: &mut State, thread: u32, b: BufId)
+    requires { IsThread state.old thread }
+    ensures { state.new ≡ after_backoff state.old thread b }
+{
+    let course = state.courses.get_mut(thread as usize - 1);
+    grips::release_all(&mut state.grips, course.held.items());
+    course.held = BufIds::new(alloc);
+    course.first = Some(b);
+}
+
+/// A thread's command is refused.
+pub fn refuse(alloc: Global, state: &mut State, thread: u32)
+    requires { CanAnswer state.old thread }
+    ensures { state.new ≡ after_refusal state.old thread }
+{
+    let course = state.courses.get_mut(thread as usize - 1);
+    grips::release_all(&mut state.grips, course.held.items());
+    *course = new_course(alloc, course.answered + 1);
+}

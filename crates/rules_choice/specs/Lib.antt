@@ -1,0 +1,4 @@
+pub mod Least
+pub mod Marks
+pub mod Fits
+pub mod Candidates

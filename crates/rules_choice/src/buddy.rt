@@ -1,0 +1,105 @@
+ghost use Rattle.std.specs.Prelude.{◌≡◌, ◌+◌, ◌<◌, ◌≤◌, ◌^◌, ◌∷◌, [], IfOk, Some, length, option_map};
+ghost use Rattle.ttm_base.specs.BuddyChoice as words;
+ghost use Rattle.rules_choice.specs.Marks.{marked, IsWithout};
+
+use crate::blocks::{FreePages, counted};
+use crate::candidates::{candidate, first_candidate};
+use crate::pages::take_span;
+use rules_places::length_of;
+use std::alloc::Global;
+use ttm_base::{NoMemory, Span, Spans, log2, order_of};
+
+/// The free pages without those of a block that was taken.
+fn without(alloc: Global, free: FreePages, block: Span) -> Result<FreePages, NoMemory>
+    ensures { IfOk result (λ rest. IsWithout free.marks.items block rest.marks.items) }
+{
+    let FreePages {
+        mut marks,
+        counts: _,
+    } = free;
+    take_span(&mut marks, block);
+    counted(alloc, marks)
+}
+
+/// A list of one span.
+pub fn only(alloc: Global, span: Span) -> Result<Spans, NoMemory>
+    ensures { IfOk result (λ spans. spans ≡ span ∷ []) }
+{
+    let mut spans = Spans::new(alloc);
+    spans.push(span)?;
+    Ok(spans)
+}
+
+/// Block after block until no page is left.
+fn scattered(
+    alloc: Global,
+    free: FreePages,
+    range: Span,
+    topdown: bool,
+    pages: u32,
+) -> Result<Option<Spans>, NoMemory>
+    ensures { IfOk result (λ found. found ≡ words.scattered pages (marked free.marks.items) (length free.marks.items) range topdown pages) }
+{
+    let mut rest = free;
+    let mut left = pages;
+    let mut spans = Spans::new(alloc);
+    for _block in 0..pages {
+        if left == 0 {
+            return Ok(Some(spans));
+        }
+        match first_candidate(&rest, range, topdown, log2(left) + 1) {
+            None => return Ok(None),
+            Some(found) => {
+                spans.push(found.block)?;
+                left = left.saturating_sub(length_of(found.block));
+                rest = without(alloc, rest, found.block)?;
+            }
+        }
+    }
+    if left == 0 { Ok(Some(spans)) } else { Ok(None) }
+}
+
+/// One block of the next power of two, cut to the pages.
+fn contiguous(
+    alloc: Global,
+    free: &FreePages,
+    range: Span,
+    topdown: bool,
+    pages: u32,
+) -> Result<Option<Spans>, NoMemory>
+    ensures { IfOk result (λ found. found ≡ words.contiguous (marked free.now.marks.items) (length free.now.marks.items) range topdown pages) }
+{
+    match candidate(free, range, topdown, order_of(pages)) {
+        None => Ok(None),
+        Some(found) => {
+            let spans = only(
+                alloc,
+                Span {
+                    start: found.block.start,
+                    end: found.block.start + pages,
+                },
+            )?;
+            Ok(Some(spans))
+        }
+    }
+}
+
+/// The blocks that a request takes among marked pages: one for a contiguous request, else block after block.
+pub fn buddy_choice(
+    alloc: Global,
+    marks: Vec<bool>,
+    range: Span,
+    topdown: bool,
+    contig: bool,
+    pages: u32,
+) -> Result<Option<Spans>, NoMemory>
+    requires { length marks.items < 2 ^ 32 }
+    ensures { IfOk result (λ found. found ≡ words.buddy_choice (marked marks.items) (length marks.items) range topdown contig pages) }
+{
+    let free = counted(alloc, marks)?;
+    if contig {
+        contiguous(alloc, &free, range, topdown, pages)
+    } else {
+        scattered(alloc, free, range, topdown, pages)
+    }
+}

@@ -1,0 +1,12 @@
+//! The pages that a place has for a buffer, by plain scans over all pages of a manager: by range as in drm_mm, or by blocks as in
+//! drm_buddy.
+#![tactic(auto)]
+
+mod blocks;
+mod buddy;
+mod candidates;
+mod choices;
+mod pages;
+mod ranges;
+
+pub use choices::choice;

@@ -1,0 +1,79 @@
+ghost use Rattle.std.specs.Prelude.{◌≡◌, ◌+◌, ◌<◌, ◌^◌, ◌&&◌, ℕ, IfOk, OnOk, length, not, replicate, true};
+ghost use Rattle.ttm_base.specs.Holes as words;
+ghost use Rattle.rules_choice.specs.Marks.{marked, IsMarked};
+
+use std::alloc::Global;
+use ttm_base::{NoMemory, Span, Spans};
+
+/// So many marks, all of them set.
+fn all_marked(alloc: Global, size: u32) -> Result<Vec<bool>, NoMemory>
+    ensures { IfOk result (λ marks. marks.items ≡ replicate size true) }
+{
+    let mut marks = Vec::new(alloc);
+    for _page in 0..size {
+        marks.push(true)?;
+    }
+    Ok(marks)
+}
+
+/// Clears the marks of a span's pages.
+pub fn take_span(marks: &mut Vec<bool>, span: Span)
+    ensures len { length marks.new.items ≡ length marks.old.items }
+    ensures taken { (page : ℕ) → marked marks.new.items page ≡ (marked marks.old.items page && not (words.has_page page span)) }
+{
+    let end = marks.len().min(span.end as usize);
+    let start = end.min(span.start as usize);
+    for page in start..end {
+        marks[page] = false;
+    }
+}
+
+/// Marks for the pages of a manager that no span has.
+pub fn free_marks(alloc: Global, held: &[Span], size: u32) -> Result<Vec<bool>, NoMemory>
+    ensures { IfOk result (λ marks. IsMarked (words.is_free_beside held.now) size marks.items) }
+{
+    let mut marks = all_marked(alloc, size)?;
+    for span in held {
+        take_span(&mut marks, *span);
+    }
+    Ok(marks)
+}
+
+/// Puts a free page behind all holes so far: it widens the last one that it touches, or is a new one.
+fn add_page(holes: &mut Spans, page: u32) -> Result<(), NoMemory>
+    requires { page + 1 < 2 ^ 32 }
+    ensures { OnOk result (holes.new ≡ words.with_page page holes.old) }
+{
+    let len = holes.len();
+    if len > 0 {
+        let last = holes.at(len - 1);
+        if last.end == page {
+            holes.set(
+                len - 1,
+                Span {
+                    start: last.start,
+                    end: page + 1,
+                },
+            );
+            return Ok(());
+        }
+    }
+    holes.push(Span {
+        start: page,
+        end: page + 1,
+    })
+}
+
+/// The holes among marked pages, in rising order.
+pub fn holes_among(alloc: Global, marks: &[bool]) -> Result<Spans, NoMemory>
+    requires { length marks.now < 2 ^ 32 }
+    ensures { IfOk result (λ found. found ≡ words.holes (marked marks.now) (length marks.now)) }
+{
+    let mut found = Spans::new(alloc);
+    for page in 0..marks.len() {
+        if marks[page] {
+            add_page(&mut found, page as u32)?;
+        }
+    }
+    Ok(found)
+}

@@ -1,0 +1,2 @@
+pub mod NamedJobs
+pub mod HeldLaws

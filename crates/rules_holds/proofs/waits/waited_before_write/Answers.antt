@@ -1,0 +1,14 @@
+use Rattle.std.proofs.Common.{arith}
+use Rattle.std.proofs.lemmas.Grind.{common_steps}
+use Rattle.ttm_base.specs.declared.Usage.TheVariants.{Kernel}
+use Rattle.rules_holds.proofs.NamedJobs.{waited_by_fences_more}
+use Rattle.rules_holds.proofs.waits.waited_before_write.Goals as goal
+
+pub loop-f-preserved : goal.loop-f-preserved
+loop-f-preserved c =
+    let more =
+    waited_by_fences_more c.args.core.now c.items-f-items.result.now c.loop-f.f-index
+    (record { job = record { ctx = 0; num = 0 }; usage = Kernel })
+    c.loop-f-test.true
+    in
+    grind (arith, common_steps, more)

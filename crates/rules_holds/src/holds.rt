@@ -1,0 +1,186 @@
+ghost use Rattle.std.specs.Prelude.{◌≡◌, ◌++◌, IfOk, OnOk, flat_map};
+ghost use Rattle.std.specs.List.{list_any};
+ghost use Rattle.ttm_base.specs.Holes as pages;
+ghost use Rattle.journal_model.specs.Holds as words;
+ghost use Rattle.rules_holds.specs.Held.{spans_of_slot, frames_of_slot, slots_of_slot};
+
+use journal_model::{Buffer, Core, Frames, Ghost, Script};
+use rules_places::same_mem;
+use rules_state::{frame_of, slot_of, target_spans};
+use std::alloc::Global;
+use ttm_base::{Mem, NoMemory, Span, Spans};
+
+/// The spans that a buffer has in a memory type.
+pub fn spans_in(mem: Mem, buffer: &Buffer) -> &[Span]
+    ensures { result.now ≡ words.spans_in mem buffer.now }
+{
+    if same_mem(buffer.mem, mem) {
+        buffer.spans.items()
+    } else {
+        &[]
+    }
+}
+
+/// The spans of a ghost in a memory type.
+pub fn ghost_spans(mem: Mem, left: &Ghost) -> &[Span]
+    ensures { result.now ≡ words.ghost_spans mem left.now }
+{
+    match mem {
+        Mem::System => &[],
+        Mem::Tt => left.tt.items(),
+        Mem::Vram => left.vram.items(),
+    }
+}
+
+/// Puts spans behind others.
+pub fn push_spans(spans: &mut Spans, more: &[Span]) -> Result<(), NoMemory>
+    ensures { OnOk result (spans.new ≡ spans.old ++ more.now) }
+{
+    for span in more {
+        spans.push(*span)?;
+    }
+    Ok(())
+}
+
+/// Puts the spans behind others that a declared buffer holds in a memory type, with those of its target.
+fn push_held(spans: &mut Spans, mem: Mem, slot: &Option<Buffer>) -> Result<(), NoMemory>
+    ensures { OnOk result (spans.new ≡ spans.old ++ spans_of_slot mem slot.now) }
+{
+    if let Some(buffer) = slot {
+        push_spans(spans, spans_in(mem, buffer))?;
+        push_spans(spans, target_spans(mem, buffer))?;
+    }
+    Ok(())
+}
+
+/// The spans that live buffers hold in a memory type.
+fn live_spans(alloc: Global, mem: Mem, buffers: &[Option<Buffer>]) -> Result<Spans, NoMemory>
+    ensures { IfOk result (λ spans. spans ≡ flat_map (spans_of_slot mem) buffers.now) }
+{
+    let mut spans = Spans::new(alloc);
+    for slot in buffers {
+        push_held(&mut spans, mem, slot)?;
+    }
+    Ok(spans)
+}
+
+/// Puts the spans of ghosts in a memory type behind others.
+fn push_ghosts(spans: &mut Spans, mem: Mem, ghosts: &[Ghost]) -> Result<(), NoMemory>
+    ensures { OnOk result (spans.new ≡ spans.old ++ flat_map (words.ghost_spans mem) ghosts.now) }
+{
+    for g in ghosts {
+        push_spans(spans, ghost_spans(mem, g))?;
+    }
+    Ok(())
+}
+
+/// All spans of a memory type that buffers, targets and ghosts hold.
+#[tactic(auto, using(crate::proofs::HeldLaws::held_spans_of))]
+pub fn held_spans(alloc: Global, mem: Mem, core: &Core) -> Result<Spans, NoMemory>
+    ensures { IfOk result (λ spans. spans ≡ words.held_spans mem core.now) }
+{
+    let mut spans = live_spans(alloc, mem, core.buffers.items())?;
+    push_ghosts(&mut spans, mem, core.ghosts.items())?;
+    Ok(spans)
+}
+
+/// A span has the page.
+pub fn has_page(page: u32, span: Span) -> bool
+    ensures { result ≡ pages.has_page page span }
+{
+    span.start <= page && page < span.end
+}
+
+/// Some span has the page.
+fn is_held(held: &[Span], page: u32) -> bool
+    ensures { result ≡ list_any (pages.has_page page) held.now }
+{
+    held.iter().any(|s| has_page(page, *s))
+}
+
+/// No span has the page.
+pub fn is_free_beside(held: &[Span], page: u32) -> bool
+    ensures { result ≡ pages.is_free_beside held.now page }
+{
+    !is_held(held, page)
+}
+
+/// Puts the frames of a declared buffer behind others.
+fn push_frames(frames: &mut Frames, slot: &Option<Buffer>) -> Result<(), NoMemory>
+    ensures { OnOk result (frames.new ≡ frames.old ++ frames_of_slot slot.now) }
+{
+    if let Some(buffer) = slot {
+        for loc in buffer.table.items() {
+            if let Some(frame) = frame_of(*loc) {
+                frames.push(frame)?;
+            }
+        }
+    }
+    Ok(())
+}
+
+/// Puts numbers behind others.
+fn push_numbers(numbers: &mut Frames, more: &[u32]) -> Result<(), NoMemory>
+    ensures { OnOk result (numbers.new ≡ numbers.old ++ more.now) }
+{
+    for n in more {
+        numbers.push(*n)?;
+    }
+    Ok(())
+}
+
+/// The frames in the page tables of live buffers.
+fn live_frames(alloc: Global, buffers: &[Option<Buffer>]) -> Result<Frames, NoMemory>
+    ensures { IfOk result (λ frames. frames ≡ flat_map frames_of_slot buffers.now) }
+{
+    let mut frames = Frames::new(alloc);
+    for slot in buffers {
+        push_frames(&mut frames, slot)?;
+    }
+    Ok(frames)
+}
+
+/// Puts the frames of ghosts behind others.
+fn push_ghost_frames(frames: &mut Frames, ghosts: &[Ghost]) -> Result<(), NoMemory>
+    ensures { OnOk result (frames.new ≡ frames.old ++ flat_map (λ g. g.frames) ghosts.now) }
+{
+    for g in ghosts {
+        push_numbers(frames, g.frames.items())?;
+    }
+    Ok(())
+}
+
+/// All frames that buffers and ghosts hold.
+#[tactic(auto, using(crate::proofs::HeldLaws::live_frames_of))]
+pub fn held_frames(alloc: Global, core: &Core) -> Result<Frames, NoMemory>
+    ensures { IfOk result (λ frames. frames ≡ words.held_frames core.now) }
+{
+    let mut frames = live_frames(alloc, core.buffers.items())?;
+    push_ghost_frames(&mut frames, core.ghosts.items())?;
+    Ok(frames)
+}
+
+/// Puts the slots of a declared buffer behind others.
+fn push_slots(slots: &mut Frames, slot: &Option<Buffer>) -> Result<(), NoMemory>
+    ensures { OnOk result (slots.new ≡ slots.old ++ slots_of_slot slot.now) }
+{
+    if let Some(buffer) = slot {
+        for loc in buffer.table.items() {
+            if let Some(n) = slot_of(*loc) {
+                slots.push(n)?;
+            }
+        }
+    }
+    Ok(())
+}
+
+/// All swap slots that buffers hold.
+pub fn held_slots(alloc: Global, core: &Core) -> Result<Frames, NoMemory>
+    ensures { IfOk result (λ slots. slots ≡ words.held_slots core.now) }
+{
+    let mut slots = Frames::new(alloc);
+    for slot in core.buffers.items() {
+        push_slots(&mut slots, slot)?;
+    }
+    Ok(slots)
+}

@@ -1,0 +1,20 @@
+//! What is held in a state and what is free, the packets of operations, and the jobs that a use of a buffer waits for. Each function
+//! is named after its definition and gives what the definition says.
+#![tactic(auto)]
+
+mod free;
+mod holds;
+mod packets;
+mod waits;
+
+pub use free::{free_frame, free_slot, lowest_free};
+pub use holds::{
+    ghost_spans, has_page, held_frames, held_slots, held_spans, is_free_beside, push_spans,
+    spans_in,
+};
+pub use packets::packets_of;
+pub use waits::{
+    changes, is_idle, is_unfinished, is_written, jobs_before_read, jobs_before_target,
+    jobs_before_use, jobs_before_write, unfinished, use_of, waited_before_read,
+    waited_before_write, waited_for,
+};

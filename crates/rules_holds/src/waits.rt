@@ -1,0 +1,180 @@
+ghost use Rattle.std.specs.Prelude.{◌≡◌, ◌&&◌, IfOk, not};
+ghost use Rattle.std.specs.List.{list_any};
+ghost use Rattle.journal_model.specs.State.{new_buffer};
+ghost use Rattle.ttm_base.specs.Fences as fences;
+ghost use Rattle.journal_model.specs.Waits as words;
+ghost use Rattle.rules_holds.specs.Named.{named_last};
+
+use journal_model::{Buffer, Core, Job, JobIds, same_job};
+use rules_state::{buffer_in, dead_buffer, writes};
+use std::alloc::Global;
+use ttm_base::{BufId, Fence, JobId, Mem, NoMemory, Op, Usage};
+
+/// One of these jobs has the name and isn't done.
+fn has_unfinished(jobs: &[Job], i: JobId) -> bool
+    ensures { result ≡ list_any (λ j. words.same_job i j.id && not j.finished) jobs.now }
+{
+    jobs.iter().any(|j| same_job(i, j.id) && !j.finished)
+}
+
+/// The job isn't done.
+pub fn is_unfinished(core: &Core, i: JobId) -> bool
+    ensures { result ≡ words.is_unfinished core.now i }
+{
+    has_unfinished(core.jobs.pending(), i)
+}
+
+/// Those of the jobs that aren't done.
+pub fn unfinished(alloc: Global, core: &Core, jobs: &[JobId]) -> Result<JobIds, NoMemory>
+    ensures { IfOk result (λ left. left ≡ words.unfinished core.now jobs.now) }
+{
+    let mut left = JobIds::new(alloc);
+    for i in jobs {
+        if is_unfinished(core, *i) {
+            left.push(*i)?;
+        }
+    }
+    Ok(left)
+}
+
+/// Of two jobs this one is named: in the lesser context, or the greater number.
+fn is_named_before(i: JobId, j: JobId) -> bool
+    ensures { result ≡ fences.is_named_before i j }
+{
+    i.ctx < j.ctx || (i.ctx == j.ctx && j.num < i.num)
+}
+
+/// The one of a job and those before it that is named.
+fn named_last(named: Option<JobId>, i: JobId) -> JobId
+    ensures { result ≡ named_last named i }
+{
+    match named {
+        Some(j) if !is_named_before(i, j) => j,
+        _ => i,
+    }
+}
+
+/// The unfinished job to wait for among these.
+pub fn waited_for(core: &Core, jobs: &[JobId]) -> Option<JobId>
+    ensures { result ≡ words.waited_for core.now jobs.now }
+{
+    let mut named = None;
+    for i in jobs {
+        if is_unfinished(core, *i) {
+            named = Some(named_last(named, *i));
+        }
+    }
+    named
+}
+
+/// A fence of a job that does more than read.
+pub fn changes(fence: Fence) -> bool
+    ensures { result ≡ words.changes fence }
+{
+    match fence.usage {
+        Usage::Kernel | Usage::Write => true,
+        Usage::Read => false,
+    }
+}
+
+/// The jobs that must be done before the buffer is written, or moved.
+pub fn jobs_before_write(alloc: Global, buffer: &Buffer) -> Result<JobIds, NoMemory>
+    ensures { IfOk result (λ jobs. jobs ≡ words.jobs_before_write buffer.now) }
+{
+    let mut jobs = JobIds::new(alloc);
+    for f in buffer.fences.items() {
+        jobs.push(f.job)?;
+    }
+    Ok(jobs)
+}
+
+/// The jobs that must be done before it is read.
+pub fn jobs_before_read(alloc: Global, buffer: &Buffer) -> Result<JobIds, NoMemory>
+    ensures { IfOk result (λ jobs. jobs ≡ words.jobs_before_read buffer.now) }
+{
+    let mut jobs = JobIds::new(alloc);
+    for f in buffer.fences.items() {
+        if changes(*f) {
+            jobs.push(f.job)?;
+        }
+    }
+    Ok(jobs)
+}
+
+/// The unfinished job to wait for before the buffer is written, or moved. It takes no memory.
+pub fn waited_before_write(core: &Core, buffer: &Buffer) -> Option<JobId>
+    ensures { result ≡ words.waited_for core.now (words.jobs_before_write buffer.now) }
+{
+    let mut named = None;
+    for f in buffer.fences.items() {
+        if is_unfinished(core, f.job) {
+            named = Some(named_last(named, f.job));
+        }
+    }
+    named
+}
+
+/// The unfinished job to wait for before the buffer is read. It takes no memory.
+pub fn waited_before_read(core: &Core, buffer: &Buffer) -> Option<JobId>
+    ensures { result ≡ words.waited_for core.now (words.jobs_before_read buffer.now) }
+{
+    let mut named = None;
+    for f in buffer.fences.items() {
+        if changes(*f) && is_unfinished(core, f.job) {
+            named = Some(named_last(named, f.job));
+        }
+    }
+    named
+}
+
+/// All jobs of the buffer are done.
+pub fn is_idle(core: &Core, buffer: &Buffer) -> bool
+    ensures { result ≡ words.is_idle core.now buffer.now }
+{
+    waited_before_write(core, buffer).is_none()
+}
+
+/// The jobs that a target waits for: in VRAM the one that moved the last victim out.
+pub fn jobs_before_target(alloc: Global, core: &Core, mem: Mem) -> Result<JobIds, NoMemory>
+    ensures { IfOk result (λ jobs. jobs ≡ words.jobs_before_target core.now mem) }
+{
+    let mut jobs = JobIds::new(alloc);
+    if let (Mem::Vram, Some(job)) = (mem, core.move_fence) {
+        if is_unfinished(core, job) {
+            jobs.push(job)?;
+        }
+    }
+    Ok(jobs)
+}
+
+/// An operation of the job writes the buffer.
+pub fn is_written(ops: &[Op], b: BufId) -> bool
+    ensures { result ≡ words.is_written ops.now b }
+{
+    ops.iter().any(|op| writes(b, op))
+}
+
+/// How the job joins the fences of a buffer.
+pub fn use_of(ops: &[Op], b: BufId) -> Usage
+    ensures { result ≡ words.use_of ops.now b }
+{
+    if is_written(ops, b) {
+        Usage::Write
+    } else {
+        Usage::Read
+    }
+}
+
+/// The unfinished jobs that a job waits for at a buffer: all of one that it writes, those that change one that it only reads.
+pub fn jobs_before_use(alloc: Global, core: &Core, ops: &[Op], b: BufId) -> Result<JobIds, NoMemory>
+    ensures { IfOk result (λ jobs. jobs ≡ words.jobs_before_use core.now ops.now b) }
+{
+    let dead = dead_buffer(alloc);
+    let buffer = buffer_in(core, b, &dead);
+    let jobs = if is_written(ops, b) {
+        jobs_before_write(alloc, buffer)?
+    } else {
+        jobs_before_read(alloc, buffer)?
+    };
+    unfinished(alloc, core, jobs.items())
+}

@@ -1,0 +1,10 @@
+//! The next entry of an actor, by plain lists: the rules for a command at work, engines and the reaper. Each function is named after
+//! its definition and gives what the definition says.
+#![tactic(auto)]
+
+mod actors;
+mod ready;
+mod tasks;
+
+pub use actors::next;
+pub use tasks::{stage_of, task_of};

@@ -1,0 +1,105 @@
+ghost use Rattle.std.specs.Prelude.{◌≡◌, IfOk, find, not};
+ghost use Rattle.journal_model.specs.State.{new_buffer};
+ghost use Rattle.journal_model.specs.Ready as words;
+
+use journal_model::{Buffer, Command, Script, State};
+use rules_state::{
+    buffer_in, compatible, dead_buffer, declared_places, has_some_target, is_frame, named,
+    same_mem, size_of,
+};
+use std::alloc::Global;
+use ttm_base::{BufId, Mem, NoMemory};
+
+/// Each page has a frame.
+pub fn has_all_frames(buffer: &Buffer) -> bool
+    ensures { result ≡ words.has_all_frames buffer.now }
+{
+    buffer.table.items().iter().all(|loc| is_frame(*loc))
+}
+
+/// The buffer stands where its declared placement lets it.
+pub fn is_well_placed(script: &Script, b: BufId, buffer: &Buffer) -> bool
+    ensures { result ≡ words.is_well_placed script.now b buffer.now }
+{
+    compatible(
+        buffer.mem,
+        buffer.spans.items(),
+        declared_places(script, b),
+        size_of(script, buffer.mem),
+    )
+}
+
+/// The buffer stands where the command wants it.
+pub fn meets(script: &Script, command: &Command, b: BufId, buffer: &Buffer) -> bool
+    ensures { result ≡ words.meets script.now command.now b buffer.now }
+{
+    match command {
+        Command::Submit { .. } | Command::Find { .. } => is_well_placed(script, b, buffer),
+        Command::Move { mem, .. } => same_mem(buffer.mem, *mem),
+        Command::SwapOut { .. } => same_mem(buffer.mem, Mem::System),
+        _ => true,
+    }
+}
+
+/// No target, and it stands where the command wants it.
+pub fn is_in_place(script: &Script, command: &Command, b: BufId, buffer: &Buffer) -> bool
+    ensures { result ≡ words.is_in_place script.now command.now b buffer.now }
+{
+    !has_some_target(buffer) && meets(script, command, b, buffer)
+}
+
+/// The command reads or writes the buffer's bytes.
+pub fn uses_bytes(command: &Command) -> bool
+    ensures { result ≡ words.uses_bytes command.now }
+{
+    matches!(
+        command,
+        Command::Submit { .. } | Command::Write { .. } | Command::Read { .. }
+    )
+}
+
+/// In SYSTEM, each page that the command may use has a frame.
+pub fn is_filled(command: &Command, buffer: &Buffer) -> bool
+    ensures { result ≡ words.is_filled command.now buffer.now }
+{
+    !uses_bytes(command) || !same_mem(buffer.mem, Mem::System) || has_all_frames(buffer)
+}
+
+/// In place and filled. The empty buffer stands for one that isn't live.
+fn is_ready(script: &Script, state: &State, command: &Command, b: BufId, dead: &Buffer) -> bool
+    requires { dead.now ≡ new_buffer 0 }
+    ensures { result ≡ words.is_ready script.now state.now command.now b }
+{
+    let buffer = buffer_in(&state.core, b, dead);
+    is_in_place(script, command, b, buffer) && is_filled(command, buffer)
+}
+
+/// The first of these buffers that isn't ready.
+fn first_of(
+    script: &Script,
+    state: &State,
+    command: &Command,
+    bs: &[BufId],
+    dead: &Buffer,
+) -> Option<BufId>
+    requires { dead.now ≡ new_buffer 0 }
+    ensures { result ≡ find (λ b. not (words.is_ready script.now state.now command.now b)) bs.now }
+{
+    bs.iter()
+        .copied()
+        .find(|b| !is_ready(script, state, command, *b, dead))
+}
+
+/// The named buffer at work: the first that isn't ready.
+pub fn first_unready(
+    alloc: Global,
+    script: &Script,
+    state: &State,
+    command: &Command,
+) -> Result<Option<BufId>, NoMemory>
+    ensures { IfOk result (λ found. found ≡ words.first_unready script.now state.now command.now) }
+{
+    let dead = dead_buffer(alloc);
+    let bs = named(alloc, command)?;
+    Ok(first_of(script, state, command, bs.items(), &dead))
+}

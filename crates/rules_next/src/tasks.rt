@@ -1,0 +1,285 @@
+ghost use Rattle.std.specs.Prelude.{◌≡◌, ◌++◌, IfOk, find, not, option_to_list};
+ghost use Rattle.ttm_base.specs.ListWords.{last_of};
+ghost use Rattle.journal_model.specs.State.{new_buffer, has_buffer};
+ghost use Rattle.journal_model.specs.Tasks as words;
+
+use crate::ready::{first_unready, has_all_frames, is_in_place};
+use journal_model::{Aim, Buffer, Command, Course, Grip, Script, Stage, State, Task, Victim, Why};
+use rules_search::has_frame;
+use rules_state::{
+    buffer_in, command_at_work, course_of, dead_buffer, grip_in, has_buffer, has_some_target,
+    has_target, named, same_mem,
+};
+use std::alloc::Global;
+use ttm_base::{BufId, Deny, Mem, NoMemory};
+
+/// New and touch take no ticket; each other command begins with one.
+pub fn starts(course: &Course, command: &Command) -> bool
+    ensures { result ≡ words.starts course.now command.now }
+{
+    match command {
+        Command::New { .. } | Command::Touch { .. } => true,
+        _ => course.stamp.is_none(),
+    }
+}
+
+/// The first of these buffers that isn't held.
+fn first_unheld(held: &[BufId], bs: &[BufId]) -> Option<BufId>
+    ensures { result ≡ find (λ b. not (has_buffer held.now b)) bs.now }
+{
+    bs.iter().copied().find(|b| !has_buffer(held, *b))
+}
+
+/// The next buffer to reserve: that of the last backoff first, then the named ones.
+pub fn first_missing(
+    alloc: Global,
+    course: &Course,
+    command: &Command,
+) -> Result<Option<BufId>, NoMemory>
+    ensures { IfOk result (λ found. found ≡ words.first_missing course.now command.now) }
+{
+    let held = course.held.items();
+    if let Some(b) = course.first {
+        if !has_buffer(held, b) {
+            return Ok(Some(b));
+        }
+    }
+    let bs = named(alloc, command)?;
+    Ok(first_unheld(held, bs.items()))
+}
+
+/// Fill first, where a page has no frame.
+pub fn filled_then(next: Task, b: BufId, buffer: &Buffer) -> Task
+    ensures { result ≡ words.filled_then next b buffer.now }
+{
+    if has_all_frames(buffer) {
+        next
+    } else {
+        Task::Fill(b)
+    }
+}
+
+/// Something that a search took can be given back.
+pub fn gives_back(buffer: &Buffer) -> bool
+    ensures { result ≡ words.gives_back buffer.now }
+{
+    (same_mem(buffer.mem, Mem::Vram) && has_frame(buffer)) || has_some_target(buffer)
+}
+
+/// A victim that is to leave VRAM: through TT, or it gives back what its search took and is skipped.
+fn task_in_vram(victim: Victim, buffer: &Buffer) -> Task
+    ensures { result ≡ words.task_in_vram victim buffer.now }
+{
+    let b = victim.b;
+    if victim.fail.is_some() {
+        if gives_back(buffer) {
+            Task::GiveBack(b)
+        } else {
+            Task::Skip(b)
+        }
+    } else if has_target(Mem::Tt, buffer) {
+        filled_then(Task::Move { b, mem: Mem::Tt }, b, buffer)
+    } else {
+        Task::Search { b, aim: Aim::Hop }
+    }
+}
+
+/// The last of these victims.
+#[tactic(auto, using(crate::proofs::LastLaws::last_of_at))]
+fn last_caught(caught: &[Victim]) -> Option<Victim>
+    ensures { result ≡ last_of caught.now }
+{
+    caught.last().copied()
+}
+
+/// What is to be done with the last victim that was caught.
+fn task_of_victim(victim: Victim, buffer: &Buffer) -> Task
+    ensures { result ≡ words.task_of_victim victim buffer.now }
+{
+    if has_target(Mem::System, buffer) {
+        return Task::Unbind(victim.b);
+    }
+    match victim.why {
+        Why::Tt | Why::Swap => Task::Empty(victim.b),
+        Why::Vram => {
+            if same_mem(buffer.mem, Mem::Vram) {
+                task_in_vram(victim, buffer)
+            } else {
+                Task::Empty(victim.b)
+            }
+        }
+    }
+}
+
+/// What the command may not ask of its buffer.
+pub fn forbidden(state: &State, command: &Command) -> Option<Deny>
+    ensures { result ≡ words.forbidden state.now command.now }
+{
+    let grips = state.grips.items();
+    match command {
+        Command::Pin { b } if grip_in(grips, *b).pins == 255 => Some(Deny::PinMax),
+        Command::Unpin { b } if grip_in(grips, *b).pins == 0 => Some(Deny::NotPinned),
+        Command::Free { b } if grip_in(grips, *b).pins > 0 => Some(Deny::Pinned),
+        Command::SwapOut { b } if grip_in(grips, *b).pins > 0 => Some(Deny::Pinned),
+        _ => None,
+    }
+}
+
+/// A search failed: the buffer at work gives back what it took, and the command is refused.
+fn task_of_failed(
+    alloc: Global,
+    script: &Script,
+    state: &State,
+    command: &Command,
+    deny: Deny,
+) -> Result<Task, NoMemory>
+    ensures { IfOk result (λ task. task ≡ words.task_of_failed script.now state.now command.now deny) }
+{
+    let dead = dead_buffer(alloc);
+    match first_unready(alloc, script, state, command)? {
+        Some(b) if gives_back(buffer_in(&state.core, b, &dead)) => Ok(Task::GiveBack(b)),
+        _ => Ok(Task::GiveUp(deny)),
+    }
+}
+
+/// How a buffer with targets goes on, by where it stands.
+fn carried(b: BufId, buffer: &Buffer) -> Task
+    ensures { result ≡ words.carried buffer.now.mem b buffer.now }
+{
+    match buffer.mem {
+        Mem::System => {
+            if has_target(Mem::Tt, buffer) {
+                filled_then(Task::Bind(b), b, buffer)
+            } else {
+                Task::Search { b, aim: Aim::Hop }
+            }
+        }
+        Mem::Tt => {
+            if has_target(Mem::System, buffer) || has_target(Mem::Tt, buffer) {
+                Task::Unbind(b)
+            } else {
+                Task::Move { b, mem: Mem::Vram }
+            }
+        }
+        Mem::Vram => {
+            if has_target(Mem::Vram, buffer) {
+                Task::Move { b, mem: Mem::Vram }
+            } else if has_target(Mem::Tt, buffer) {
+                filled_then(Task::Move { b, mem: Mem::Tt }, b, buffer)
+            } else {
+                Task::Search { b, aim: Aim::Hop }
+            }
+        }
+    }
+}
+
+/// A buffer that isn't in place.
+fn task_of_misplaced(b: BufId, grip: Grip, buffer: &Buffer) -> Task
+    ensures { result ≡ words.task_of_misplaced b grip buffer.now }
+{
+    if grip.pins > 0 {
+        Task::Refuse(Deny::Pinned)
+    } else if has_some_target(buffer) {
+        carried(b, buffer)
+    } else {
+        Task::Search { b, aim: Aim::Asked }
+    }
+}
+
+/// The named buffer at work. The empty buffer stands for one that isn't live.
+fn task_of_unready(
+    script: &Script,
+    state: &State,
+    command: &Command,
+    b: BufId,
+    dead: &Buffer,
+) -> Task
+    requires { dead.now ≡ new_buffer 0 }
+    ensures { result ≡ words.task_of_unready script.now state.now command.now b }
+{
+    let buffer = buffer_in(&state.core, b, dead);
+    if is_in_place(script, command, b, buffer) {
+        Task::Fill(b)
+    } else {
+        task_of_misplaced(b, grip_in(state.grips.items(), b), buffer)
+    }
+}
+
+/// What is left once each buffer is held and no victim is caught.
+fn task_of_held(
+    alloc: Global,
+    script: &Script,
+    state: &State,
+    course: &Course,
+    command: &Command,
+) -> Result<Task, NoMemory>
+    ensures { IfOk result (λ task. task ≡ words.task_of_held script.now state.now course.now command.now) }
+{
+    if let Some(deny) = forbidden(state, command) {
+        return Ok(Task::Refuse(deny));
+    }
+    if let Some(deny) = course.fail {
+        return task_of_failed(alloc, script, state, command, deny);
+    }
+    let dead = dead_buffer(alloc);
+    match first_unready(alloc, script, state, command)? {
+        Some(b) => Ok(task_of_unready(script, state, command, b, &dead)),
+        None => Ok(Task::Act),
+    }
+}
+
+/// The rules in their order.
+pub fn task_of_command(
+    alloc: Global,
+    script: &Script,
+    state: &State,
+    course: &Course,
+    command: &Command,
+) -> Result<Task, NoMemory>
+    ensures { IfOk result (λ task. task ≡ words.task_of_command script.now state.now course.now command.now) }
+{
+    if course.made {
+        return Ok(Task::Answer);
+    }
+    if starts(course, command) {
+        return Ok(Task::Start);
+    }
+    if let Some(b) = first_missing(alloc, course, command)? {
+        return Ok(Task::Lock(b));
+    }
+    let dead = dead_buffer(alloc);
+    match last_caught(course.caught.items()) {
+        Some(v) => Ok(task_of_victim(v, buffer_in(&state.core, v.b, &dead))),
+        None => task_of_held(alloc, script, state, course, command),
+    }
+}
+
+/// What the thread has to do next.
+pub fn task_of(alloc: Global, script: &Script, state: &State, thread: u32) -> Result<Task, NoMemory>
+    ensures { IfOk result (λ task. task ≡ words.task_of script.now state.now thread) }
+{
+    match (
+        course_of(state, thread),
+        command_at_work(script, state, thread),
+    ) {
+        (Some(course), Some(command)) => task_of_command(alloc, script, state, course, command),
+        _ => Ok(Task::Idle),
+    }
+}
+
+/// The group of rules of a task.
+pub fn stage_of(task: Task) -> Stage
+    ensures { result ≡ words.stage_of task }
+{
+    match task {
+        Task::Idle => Stage::Idle,
+        Task::Start => Stage::Start,
+        Task::Lock(_) => Stage::Lock,
+        Task::Search { .. } => Stage::Search,
+        Task::Bind(_) | Task::Unbind(_) | Task::Move { .. } => Stage::Carry,
+        Task::Fill(_) => Stage::Fill,
+        Task::Empty(_) => Stage::Empty,
+        Task::GiveBack(_) | Task::Skip(_) | Task::GiveUp(_) => Stage::Fail,
+        Task::Answer | Task::Refuse(_) | Task::Act => Stage::Act,
+    }
+}

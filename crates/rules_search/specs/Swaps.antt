@@ -1,0 +1,19 @@
+-- What comes of the wish to swap a page out.
+use Rattle.std.specs.Prelude.{◌≡◌}
+use Rattle.ttm_base.specs.declared.BufId.{BufId}
+use Rattle.journal_model.specs.declared.script.Script.{Script}
+use Rattle.journal_model.specs.declared.state.State.{State}
+use Rattle.journal_model.specs.Search.{Step}
+use Rattle.journal_model.specs.PageSteps.{step_of_swap_out}
+use Rattle.rules_search.specs.declared.pages.Swap.{Swap}
+use Rattle.rules_search.specs.declared.pages.Swap.TheVariants.{NoFrame, NoSlot, Page}
+
+-- its step, or those for want of a frame and of a slot
+abbrev pub step_of : Swap → (no_frame no_slot : Step) → Step
+step_of NoFrame no_frame no_slot = no_frame
+step_of NoSlot no_frame no_slot = no_slot
+step_of (Page step) no_frame no_slot = step
+
+-- whatever those two steps are, it gives the step of the buffer's next page to swap
+abbrev pub IsSwap : Script → State → BufId → Swap → Type 0
+IsSwap script s b swap = (no_frame no_slot : Step) → step_of swap no_frame no_slot ≡ step_of_swap_out script s b no_frame no_slot

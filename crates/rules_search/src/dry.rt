@@ -1,0 +1,205 @@
+ghost use Rattle.std.specs.Prelude.{◌≡◌, ◌≤◌, ◌^◌, ◌&&◌, IfOk, find, length, option_copied, option_and_then};
+ghost use Rattle.journal_model.specs.State.{buffer, grip};
+ghost use Rattle.journal_model.specs.Dry as words;
+
+use journal_model::{Buffer, Cause, CauseRow, Causes, Ghost, Grip, Script, State};
+use rules_holds::ghost_spans;
+use rules_state::{
+    declared_pages, grip_in, has_buffer, has_target, in_order, intersects, is_frame, length_of,
+    live_in, push_buffers, reach_of, same_mem,
+};
+use std::alloc::Global;
+use ttm_base::{BufId, Mem, NoMemory, Place};
+
+/// The place has as many pages as the buffer.
+pub fn is_long_enough(script: &Script, b: BufId, place: Place) -> bool
+    ensures { result ≡ words.is_long_enough script.now b place }
+{
+    declared_pages(script, b) <= length_of(reach_of(script, place))
+}
+
+/// The buffer is neither pinned nor reserved.
+pub fn is_loose(grip: Grip) -> bool
+    ensures { result ≡ words.is_loose grip }
+{
+    grip.pins == 0 && grip.holder.is_none()
+}
+
+/// The buffer stands in the place, is neither pinned nor held, and wasn't skipped.
+pub fn is_evictable(script: &Script, state: &State, skips: &[BufId], place: Place, b: BufId) -> bool
+    ensures { result ≡ words.is_evictable script.now state.now skips.now place b }
+{
+    match live_in(state.core.buffers.items(), b) {
+        Some(buffer) => {
+            same_mem(buffer.mem, place.mem)
+                && intersects(buffer.spans.items(), reach_of(script, place))
+                && is_loose(grip_in(state.grips.items(), b))
+                && !has_buffer(skips, b)
+        }
+        None => false,
+    }
+}
+
+/// The first evictable buffer, in eviction order.
+pub fn victim(
+    alloc: Global,
+    script: &Script,
+    state: &State,
+    skips: &[BufId],
+    place: Place,
+) -> Result<Option<BufId>, NoMemory>
+    ensures { IfOk result (λ found. found ≡ words.victim script.now state.now skips.now place) }
+{
+    let bs = in_order(alloc, state, place.mem)?;
+    Ok(first_evictable(script, state, skips, place, bs.items()))
+}
+
+/// The first of these buffers that is evictable.
+fn first_evictable(
+    script: &Script,
+    state: &State,
+    skips: &[BufId],
+    place: Place,
+    bs: &[BufId],
+) -> Option<BufId>
+    ensures { result ≡ find (words.is_evictable script.now state.now skips.now place) bs.now }
+{
+    bs.iter()
+        .copied()
+        .find(|b| is_evictable(script, state, skips, place, *b))
+}
+
+/// The first ghost that holds a page that the place reaches.
+pub fn ghost_in<'a>(script: &Script, state: &'a State, place: Place) -> Option<&'a Ghost>
+    ensures { option_copied result ≡ words.ghost_in script.now state.now place }
+{
+    let reach = reach_of(script, place);
+    state
+        .core
+        .ghosts
+        .items()
+        .iter()
+        .find(|g| intersects(ghost_spans(place.mem, g), reach))
+}
+
+/// The buffer has a frame.
+pub fn has_frame(buffer: &Buffer) -> bool
+    ensures { result ≡ words.has_frame buffer.now }
+{
+    buffer.table.items().iter().any(|loc| is_frame(*loc))
+}
+
+/// A buffer that may give its frames to swap.
+fn is_swappable(state: &State, b: BufId) -> bool
+    ensures { result ≡ (words.is_loose (grip state.now b) && words.has_frame (buffer state.now b)) }
+{
+    match live_in(state.core.buffers.items(), b) {
+        Some(buffer) => is_loose(grip_in(state.grips.items(), b)) && has_frame(buffer),
+        None => false,
+    }
+}
+
+/// The first of these buffers that may give its frames to swap.
+fn first_swappable(state: &State, bs: &[BufId]) -> Option<BufId>
+    ensures { result ≡ find (λ b. words.is_loose (grip state.now b) && words.has_frame (buffer state.now b)) bs.now }
+{
+    bs.iter().copied().find(|b| is_swappable(state, *b))
+}
+
+/// The first buffer that may give its frames to swap: in SYSTEM by priority, then in TT.
+pub fn swap_victim(alloc: Global, state: &State) -> Result<Option<BufId>, NoMemory>
+    ensures { IfOk result (λ found. found ≡ words.swap_victim state.now) }
+{
+    let mut bs = in_order(alloc, state, Mem::System)?;
+    let others = in_order(alloc, state, Mem::Tt)?;
+    push_buffers(&mut bs, others.items())?;
+    Ok(first_swappable(state, bs.items()))
+}
+
+/// The first ghost that holds a frame.
+pub fn ghost_with_frame(state: &State) -> Option<&Ghost>
+    ensures { option_copied result ≡ words.ghost_with_frame state.now }
+{
+    state
+        .core
+        .ghosts
+        .items()
+        .iter()
+        .find(|g| g.frames.len() > 0)
+}
+
+/// Why a buffer can't be evicted: the first cause that holds.
+pub fn cause_of(script: &Script, place: Place, grip: Grip, buffer: &Buffer) -> Cause
+    ensures { result ≡ words.cause_of script.now place grip buffer.now }
+{
+    if grip.pins > 0 {
+        return Cause::Pinned;
+    }
+    match grip.holder {
+        Some(stamp) => Cause::Reserved(stamp),
+        None => {
+            if intersects(buffer.spans.items(), reach_of(script, place)) {
+                Cause::Skipped
+            } else {
+                Cause::Outside
+            }
+        }
+    }
+}
+
+/// The cause of a buffer that has its resource or a target in the place's manager.
+fn cause_row(
+    script: &Script,
+    grips: &[Grip],
+    place: Place,
+    b: BufId,
+    buffer: &Buffer,
+) -> Option<CauseRow>
+    ensures { result ≡ words.cause_row script.now grips.now place (b, buffer.now) }
+{
+    if same_mem(buffer.mem, place.mem) || has_target(place.mem, buffer) {
+        Some(CauseRow {
+            b,
+            cause: cause_of(script, place, grip_in(grips, b), buffer),
+        })
+    } else {
+        None
+    }
+}
+
+/// The cause of a declared buffer, where it is live.
+fn row_of(
+    script: &Script,
+    grips: &[Grip],
+    place: Place,
+    b: BufId,
+    slot: &Option<Buffer>,
+) -> Option<CauseRow>
+    ensures { result ≡ option_and_then (λ x. words.cause_row script.now grips.now place (b, x)) slot.now }
+{
+    match slot {
+        Some(buffer) => cause_row(script, grips, place, b, buffer),
+        None => None,
+    }
+}
+
+/// Each live buffer with its resource or a target in the place's manager, in declared order, with the cause.
+pub fn causes(
+    alloc: Global,
+    script: &Script,
+    state: &State,
+    place: Place,
+) -> Result<Causes, NoMemory>
+    requires { length state.now.core.buffers ≤ 2 ^ 32 }
+    ensures { IfOk result (λ rows. rows ≡ words.causes script.now state.now place) }
+{
+    let mut rows = Causes::new(alloc);
+    let slots = state.core.buffers.items();
+    for i in 0..slots.len() {
+        let b = BufId(i as u32);
+        if let Some(row) = row_of(script, state.grips.items(), place, b, &slots[i]) {
+            rows.push(row)?;
+        }
+    }
+    Ok(rows)
+}

@@ -1,0 +1,265 @@
+ghost use Rattle.std.specs.Prelude.{◌≡◌, ◌+◌, ◌<◌, ◌≤◌, ◌^◌, IfOk, IfSome, find, length, not, position};
+ghost use Rattle.journal_model.specs.State as states;
+ghost use Rattle.journal_model.specs.Places.{is_frame};
+ghost use Rattle.journal_model.specs.PageSteps as words;
+ghost use Rattle.rules_search.specs.Room.{HasRoom};
+ghost use Rattle.rules_search.specs.Swaps.{IsSwap};
+
+use crate::Step;
+use crate::dry::{ghost_with_frame, has_frame, swap_victim};
+use journal_model::{Buffer, Core, Course, Kind, Left, Script, State, Victim, Why};
+use rules_holds::{free_frame, free_slot, waited_before_write};
+use rules_state::{buffer_in, dead_buffer, has_target, is_caught, is_frame, loc_of, same_buffer};
+use std::alloc::Global;
+use ttm_base::{BufId, JobId, Loc, Mem, Need, NoMemory};
+
+/// The entry, unless a job is waited for.
+pub fn unless_waiting(job: Option<JobId>, kind: Kind) -> Step
+    ensures { result ≡ words.unless_waiting job kind }
+{
+    match job {
+        None => Ok(kind),
+        Some(job) => Err(Need::Fence(job)),
+    }
+}
+
+/// The entry, unless a job of the buffer isn't done.
+pub fn once_idle(alloc: Global, core: &Core, b: BufId, kind: Kind) -> Step
+    ensures { result ≡ words.once_idle core.now b kind }
+{
+    let dead = dead_buffer(alloc);
+    let job = waited_before_write(core, buffer_in(core, b, &dead));
+    unless_waiting(job, kind)
+}
+
+/// The position of the first page without a frame.
+fn first_empty(table: &[Loc]) -> Option<usize>
+    ensures value { result ≡ position (λ l. not (is_frame l)) table.now }
+    ensures bound { IfSome result (λ page. page < length table.now) }
+{
+    table.iter().position(|loc| !is_frame(*loc))
+}
+
+/// The first page without a frame, or page 0.
+fn page_to_fill(buffer: &Buffer) -> u32
+    requires { length buffer.now.table ≤ 2 ^ 32 }
+    ensures { result ≡ words.page_to_fill buffer.now }
+{
+    match first_empty(buffer.table.items()) {
+        Some(page) => page as u32,
+        None => 0,
+    }
+}
+
+/// A fresh page, or one that comes back from swap.
+fn filled_by(b: BufId, page: u32, frame: u32, loc: Loc) -> Kind
+    ensures { result ≡ words.filled_by b page frame loc }
+{
+    match loc {
+        Loc::Slot(slot) => Kind::SwapIn {
+            b,
+            page,
+            slot,
+            frame,
+        },
+        Loc::Zero | Loc::Frame(_) => Kind::Populate { b, page, frame },
+    }
+}
+
+/// A ghost will give a frame, or none is to be had.
+fn step_without_victim(state: &State, b: BufId) -> Step
+    ensures { result ≡ words.step_without_victim state.now b }
+{
+    match ghost_with_frame(state) {
+        Some(g) => Err(Need::Ghost(g.num)),
+        None => Ok(Kind::NoPages { b }),
+    }
+}
+
+/// A victim for swap, where a slot is free.
+fn step_without_frame(
+    alloc: Global,
+    script: &Script,
+    state: &State,
+    b: BufId,
+) -> Result<Step, NoMemory>
+    ensures { IfOk result (λ step. step ≡ words.step_without_frame script.now state.now b) }
+{
+    if free_slot(alloc, script, &state.core)?.is_some() {
+        if let Some(v) = swap_victim(alloc, state)? {
+            return Ok(Ok(Kind::Catch {
+                b: v,
+                why: Why::Swap,
+            }));
+        }
+    }
+    Ok(step_without_victim(state, b))
+}
+
+/// The next page with the lowest free frame; without one, a victim for swap.
+pub fn step_of_fill(
+    alloc: Global,
+    script: &Script,
+    state: &State,
+    b: BufId,
+) -> Result<Step, NoMemory>
+    requires { HasRoom script.now state.now }
+    ensures { IfOk result (λ step. step ≡ words.step_of_fill script.now state.now b) }
+{
+    let dead = dead_buffer(alloc);
+    let buffer = buffer_in(&state.core, b, &dead);
+    let page = page_to_fill(buffer);
+    match free_frame(alloc, script, &state.core)? {
+        Some(frame) => Ok(Ok(filled_by(b, page, frame, loc_of(buffer, page)))),
+        None => step_without_frame(alloc, script, state, b),
+    }
+}
+
+/// The position of the first page with a frame.
+fn first_frame(table: &[Loc]) -> Option<usize>
+    ensures value { result ≡ position is_frame table.now }
+    ensures bound { IfSome result (λ page. page < length table.now) }
+{
+    table.iter().position(|loc| is_frame(*loc))
+}
+
+/// The first page with a frame, or page 0.
+fn first_frame_page(buffer: &Buffer) -> u32
+    requires { length buffer.now.table ≤ 2 ^ 32 }
+    ensures { result ≡ words.first_frame_page buffer.now }
+{
+    match first_frame(buffer.table.items()) {
+        Some(page) => page as u32,
+        None => 0,
+    }
+}
+
+/// What comes of the wish to swap a page of a buffer out.
+#[derive(Debug, Drop)]
+pub enum Swap {
+    NoFrame,
+    NoSlot,
+    Page(Step),
+}
+
+/// The buffer's next page to swap out, if it has a frame and a slot is free.
+pub fn swap_out(alloc: Global, script: &Script, state: &State, b: BufId) -> Result<Swap, NoMemory>
+    requires { HasRoom script.now state.now }
+    ensures { IfOk result (IsSwap script.now state.now b) }
+{
+    let dead = dead_buffer(alloc);
+    let buffer = buffer_in(&state.core, b, &dead);
+    if !has_frame(buffer) {
+        return Ok(Swap::NoFrame);
+    }
+    match free_slot(alloc, script, &state.core)? {
+        None => Ok(Swap::NoSlot),
+        Some(slot) => {
+            let page = first_frame_page(buffer);
+            let kind = Kind::SwapOut { b, page, slot };
+            Ok(Swap::Page(once_idle(alloc, &state.core, b, kind)))
+        }
+    }
+}
+
+/// The victim of this buffer, if it is caught.
+fn victim_of(caught: &[Victim], b: BufId) -> Option<Victim>
+    ensures { result ≡ find (λ v. states.same_buffer b v.b) caught.now }
+{
+    caught.iter().copied().find(|v| same_buffer(b, v.b))
+}
+
+/// For what the victim was caught.
+fn why_caught(course: &Course, b: BufId) -> Option<Why>
+    ensures { result ≡ words.why_caught course.now b }
+{
+    match victim_of(course.caught.items(), b) {
+        Some(victim) => Some(victim.why),
+        None => None,
+    }
+}
+
+/// A victim is emptied as far as can be, and let go.
+pub fn step_of_empty(
+    alloc: Global,
+    script: &Script,
+    state: &State,
+    course: &Course,
+    b: BufId,
+) -> Result<Step, NoMemory>
+    requires { HasRoom script.now state.now }
+    ensures { IfOk result (λ step. step ≡ words.step_of_empty script.now state.now course.now b) }
+{
+    match why_caught(course, b) {
+        Some(Why::Swap) => match swap_out(alloc, script, state, b)? {
+            Swap::Page(step) => Ok(step),
+            Swap::NoFrame | Swap::NoSlot => Ok(Ok(Kind::Loose { b })),
+        },
+        _ => Ok(Ok(Kind::Loose { b })),
+    }
+}
+
+/// The number of the context's next job.
+pub fn next_job(state: &State, ctx: u32) -> u64
+    requires { words.next_job state.now ctx < 2 ^ 64 }
+    ensures { result ≡ words.next_job state.now ctx }
+{
+    match state.last_jobs.items().get(ctx as usize) {
+        Some(last) => *last + 1,
+        None => 1,
+    }
+}
+
+/// The number of the next ghost.
+pub fn next_ghost(state: &State) -> u64
+    requires { state.now.last_ghost + 1 < 2 ^ 64 }
+    ensures { result ≡ words.next_ghost state.now }
+{
+    state.last_ghost + 1
+}
+
+/// A victim's pages in VRAM are free at once; others stay with a ghost.
+pub fn step_of_move(script: &Script, state: &State, course: &Course, b: BufId, mem: Mem) -> Step
+    requires { HasRoom script.now state.now }
+    ensures { result ≡ words.step_of_move state.now course.now b mem }
+{
+    let left = if is_caught(course, b) {
+        Left::Now
+    } else {
+        Left::Ghost(next_ghost(state))
+    };
+    Ok(Kind::Move {
+        b,
+        mem,
+        num: next_job(state, 0),
+        left,
+    })
+}
+
+/// The target to untake: VRAM, then TT, then SYSTEM.
+fn target_to_untake(buffer: &Buffer) -> Mem
+    ensures { result ≡ words.target_to_untake buffer.now }
+{
+    if has_target(Mem::Vram, buffer) {
+        Mem::Vram
+    } else if has_target(Mem::Tt, buffer) {
+        Mem::Tt
+    } else {
+        Mem::System
+    }
+}
+
+/// What a failed search took is given back.
+pub fn step_of_give_back(alloc: Global, state: &State, b: BufId) -> Step
+    ensures { result ≡ words.step_of_give_back state.now b }
+{
+    let dead = dead_buffer(alloc);
+    let buffer = buffer_in(&state.core, b, &dead);
+    match buffer.mem {
+        Mem::Vram if has_frame(buffer) => Ok(Kind::Depopulate { b }),
+        _ => Ok(Kind::Untake {
+            b,
+            mem: target_to_untake(buffer),
+        }),
+    }
+}

@@ -1,0 +1,144 @@
+ghost use Rattle.std.specs.Prelude.{◌≡◌, IfOk};
+ghost use Rattle.rules_state.specs.Quests.{quest_of};
+ghost use Rattle.journal_model.specs.Search as words;
+ghost use Rattle.rules_search.specs.Room.{HasRoom};
+
+use crate::Step;
+use crate::dry::{causes, ghost_in, is_long_enough, victim};
+use journal_model::{Course, DryWhy, Kind, Script, State, Why};
+use rules_choice::choice;
+use rules_state::{Quest, first_places, forced_places, whole};
+use std::alloc::Global;
+use ttm_base::{BufId, Mem, Need, NoMemory, Place, Spans};
+
+/// For what a victim of a place is caught.
+pub fn why_of(mem: Mem) -> Why
+    ensures { result ≡ words.why_of mem }
+{
+    match mem {
+        Mem::Vram => Why::Vram,
+        Mem::Tt => Why::Tt,
+        Mem::System => Why::Swap,
+    }
+}
+
+/// The k-th forced place has no choice: it is too short, a buffer is caught there, a ghost is waited for, or it is dry.
+fn step_of_crowded(
+    alloc: Global,
+    script: &Script,
+    state: &State,
+    course: &Course,
+    b: BufId,
+    k: u32,
+    place: Place,
+) -> Result<Step, NoMemory>
+    requires { HasRoom script.now state.now }
+    ensures { IfOk result (λ step. step ≡ words.step_of_crowded script.now state.now course.now b k place) }
+{
+    if !is_long_enough(script, b, place) {
+        return Ok(Ok(Kind::Dry {
+            b,
+            k,
+            why: DryWhy::Short,
+        }));
+    }
+    if let Some(v) = victim(alloc, script, state, course.skips.items(), place)? {
+        return Ok(Ok(Kind::Catch {
+            b: v,
+            why: why_of(place.mem),
+        }));
+    }
+    if let Some(g) = ghost_in(script, state, place) {
+        return Ok(Err(Need::Ghost(g.num)));
+    }
+    let rows = causes(alloc, script, state, place)?;
+    Ok(Ok(Kind::Dry {
+        b,
+        k,
+        why: DryWhy::Of(rows),
+    }))
+}
+
+/// At the k-th forced place.
+fn step_of_forced_place(
+    alloc: Global,
+    script: &Script,
+    state: &State,
+    course: &Course,
+    b: BufId,
+    k: u32,
+    place: Place,
+) -> Result<Step, NoMemory>
+    requires { HasRoom script.now state.now }
+    ensures { IfOk result (λ step. step ≡ words.step_of_forced_place script.now state.now course.now b k place) }
+{
+    match choice(alloc, script, &state.core, b, place)? {
+        Some(spans) => Ok(Ok(Kind::Take {
+            b,
+            mem: place.mem,
+            spans,
+        })),
+        None => step_of_crowded(alloc, script, state, course, b, k, place),
+    }
+}
+
+/// At the k-th of the forced places.
+fn step_of_forced(
+    alloc: Global,
+    script: &Script,
+    state: &State,
+    course: &Course,
+    b: BufId,
+    k: u32,
+    places: &[Place],
+) -> Result<Step, NoMemory>
+    requires { HasRoom script.now state.now }
+    ensures { IfOk result (λ step. step ≡ words.step_of_forced script.now state.now course.now b k places.now) }
+{
+    let place = match places.get(k as usize) {
+        Some(place) => *place,
+        None => whole(Mem::System),
+    };
+    step_of_forced_place(alloc, script, state, course, b, k, place)
+}
+
+/// The memory type and the pages of the first place with a choice.
+fn first_choice(
+    alloc: Global,
+    script: &Script,
+    state: &State,
+    b: BufId,
+    places: &[Place],
+) -> Result<Option<(Mem, Spans)>, NoMemory>
+    requires { HasRoom script.now state.now }
+    ensures { IfOk result (λ found. found ≡ words.first_choice script.now state.now b places.now) }
+{
+    for place in places {
+        if let Some(spans) = choice(alloc, script, &state.core, b, *place)? {
+            return Ok(Some((place.mem, spans)));
+        }
+    }
+    Ok(None)
+}
+
+/// Not yet under pressure, the first place with a choice among those tried first; else the forced place at work.
+pub fn step_of_quest(
+    alloc: Global,
+    script: &Script,
+    state: &State,
+    course: &Course,
+    b: BufId,
+    quest: &Quest,
+) -> Result<Step, NoMemory>
+    requires { HasRoom script.now state.now }
+    ensures { IfOk result (λ step. step ≡ words.step_of_quest script.now state.now course.now b (quest_of quest.now)) }
+{
+    if !quest.forced {
+        let first = first_places(alloc, quest.list.items())?;
+        if let Some((mem, spans)) = first_choice(alloc, script, state, b, first.items())? {
+            return Ok(Ok(Kind::Take { b, mem, spans }));
+        }
+    }
+    let forced = forced_places(alloc, quest.list.items())?;
+    step_of_forced(alloc, script, state, course, b, quest.dry, forced.items())
+}

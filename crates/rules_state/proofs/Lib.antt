@@ -1,0 +1,5 @@
+pub mod Mentions
+pub mod PageLaws
+pub mod ListSteps
+pub mod FindLaws
+pub mod PendingJobs

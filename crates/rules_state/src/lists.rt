@@ -1,0 +1,77 @@
+ghost use Rattle.std.specs.Prelude.{◌≡◌, ◌++◌, ◌*◌, ◌<◌, ◌^◌, IfOk, OnOk};
+ghost use Rattle.journal_model.specs.Lists as words;
+ghost use Rattle.journal_model.specs.Search as searches;
+
+use crate::buffers::same_buffer;
+use crate::commands::declared_group;
+use journal_model::{BufIds, Course, Script, State};
+use rules_places::mem_number;
+use std::alloc::Global;
+use ttm_base::{BufId, Mem, NoMemory};
+
+/// The place of a list among the twelve, for a priority from 0 to 3.
+pub fn list_number(mem: Mem, prio: u32) -> usize
+    ensures { result ≡ words.list_number mem prio }
+{
+    4 * mem_number(mem) as usize + prio as usize
+}
+
+/// Puts buffers behind others.
+pub fn push_buffers(bs: &mut BufIds, more: &[BufId]) -> Result<(), NoMemory>
+    ensures { OnOk result (bs.new ≡ bs.old ++ more.now) }
+{
+    for b in more {
+        bs.push(*b)?;
+    }
+    Ok(())
+}
+
+/// The buffers of a memory type in the order in which victims are looked for.
+pub fn in_order(alloc: Global, state: &State, mem: Mem) -> Result<BufIds, NoMemory>
+    ensures { IfOk result (λ bs. bs ≡ words.in_order state.now mem) }
+{
+    let mut bs = BufIds::new(alloc);
+    let lists = state.lists.items();
+    for prio in 0..4 {
+        if let Some(list) = lists.get(list_number(mem, prio)) {
+            push_buffers(&mut bs, list.items())?;
+        }
+    }
+    Ok(bs)
+}
+
+/// Both are in one group.
+pub fn same_group(a: Option<u32>, b: Option<u32>) -> bool
+    ensures { result ≡ words.same_group a b }
+{
+    match (a, b) {
+        (Some(g), Some(h)) => g == h,
+        _ => false,
+    }
+}
+
+/// Two buffers of one group.
+pub fn is_mate(script: &Script, b: BufId, c: BufId) -> bool
+    ensures { result ≡ words.is_mate script.now b c }
+{
+    same_group(declared_group(script, b), declared_group(script, c))
+}
+
+/// The buffer is in the group.
+pub fn is_member(script: &Script, group: u32, b: BufId) -> bool
+    ensures { result ≡ words.is_member script.now group b }
+{
+    same_group(declared_group(script, b), Some(group))
+}
+
+/// The buffer is a victim of this thread.
+pub fn is_caught(course: &Course, b: BufId) -> bool
+    ensures { result ≡ searches.is_caught course.now b }
+{
+    course
+        .caught
+        .items()
+        .iter()
+        .map(|v| v.b)
+        .any(|c| same_buffer(b, c))
+}

@@ -1,0 +1,25 @@
+ghost use Rattle.std.specs.Prelude.{◌≡◌};
+ghost use Rattle.journal_model.specs.Holds as holds;
+ghost use Rattle.journal_model.specs.Choice as choices;
+
+use journal_model::Script;
+use rules_places::reach;
+use ttm_base::{Mem, Place, Span};
+
+/// How many pages a memory type has.
+pub fn size_of(script: &Script, mem: Mem) -> u32
+    ensures { result ≡ holds.size_of script.now mem }
+{
+    match mem {
+        Mem::System => 0,
+        Mem::Tt => script.sizes.tt,
+        Mem::Vram => script.sizes.vram,
+    }
+}
+
+/// The pages that a place reaches.
+pub fn reach_of(script: &Script, place: Place) -> Span
+    ensures { result ≡ choices.reach_of script.now place }
+{
+    reach(place, size_of(script, place.mem))
+}

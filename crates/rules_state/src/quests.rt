@@ -1,0 +1,97 @@
+ghost use Rattle.std.specs.Prelude.{◌≡◌, IfOk};
+ghost use Rattle.journal_model.specs.State.{new_buffer};
+ghost use Rattle.journal_model.specs.Ready as ready;
+ghost use Rattle.journal_model.specs.Search as words;
+ghost use Rattle.rules_state.specs.Quests.{quest_of};
+
+use crate::buffers::{buffer_in, dead_buffer, has_target};
+use crate::commands::{as_fallback, asked_places, only_place, whole};
+use crate::lists::is_caught;
+use journal_model::{Aim, Buffer, Command, Course, Script, State};
+use std::alloc::Global;
+use ttm_base::{BufId, FlaggedPlaces, Mem, NoMemory};
+
+/// The places that a search tries, whether it is under pressure, and how many forced places are dry.
+#[derive(Debug, Drop)]
+pub struct Quest {
+    pub list: FlaggedPlaces,
+    pub forced: bool,
+    pub dry: u32,
+}
+
+/// Something waits for the buffer.
+pub fn has_some_target(buffer: &Buffer) -> bool
+    ensures { result ≡ ready.has_some_target buffer.now }
+{
+    has_target(Mem::System, buffer) || has_target(Mem::Tt, buffer) || has_target(Mem::Vram, buffer)
+}
+
+/// A victim, and a buffer that has a target, hop through TT; any other goes where its command asks.
+pub fn aim_of(course: &Course, b: BufId, buffer: &Buffer) -> Aim
+    ensures { result ≡ words.aim_of course.now b buffer.now }
+{
+    if is_caught(course, b) || has_some_target(buffer) {
+        Aim::Hop
+    } else {
+        Aim::Asked
+    }
+}
+
+/// The hop on the way between SYSTEM and VRAM: all of TT, tried under pressure alone.
+fn through_tt(alloc: Global) -> Result<FlaggedPlaces, NoMemory>
+    ensures { IfOk result (λ places. places ≡ words.through_tt) }
+{
+    only_place(alloc, as_fallback(whole(Mem::Tt)))
+}
+
+/// The search of a buffer for a command. A victim's search has come no way.
+pub fn quest_for(
+    alloc: Global,
+    script: &Script,
+    command: &Command,
+    course: &Course,
+    b: BufId,
+    aim: Aim,
+) -> Result<Quest, NoMemory>
+    ensures { IfOk result (λ q. quest_of q ≡ words.quest script.now command.now course.now b aim) }
+{
+    match aim {
+        Aim::Asked => Ok(Quest {
+            list: asked_places(alloc, script, command, b)?,
+            forced: course.forced,
+            dry: course.dry,
+        }),
+        Aim::Hop => {
+            let list = through_tt(alloc)?;
+            if is_caught(course, b) {
+                Ok(Quest {
+                    list,
+                    forced: false,
+                    dry: 0,
+                })
+            } else {
+                Ok(Quest {
+                    list,
+                    forced: course.forced,
+                    dry: course.dry,
+                })
+            }
+        }
+    }
+}
+
+/// The search of a buffer, as its state tells it.
+pub fn quest_at_work(
+    alloc: Global,
+    script: &Script,
+    state: &State,
+    course: &Course,
+    command: &Command,
+    b: BufId,
+) -> Result<Quest, NoMemory>
+    ensures { IfOk result (λ q. quest_of q ≡ words.quest_at_work script.now state.now course.now command.now b) }
+{
+    let dead = dead_buffer(alloc);
+    let aim = aim_of(course, b, buffer_in(&state.core, b, &dead));
+    quest_for(alloc, script, command, course, b, aim)
+}

@@ -1,0 +1,6 @@
+use Rattle.std.proofs.Common.{◌≡◌, drop}
+use Rattle.rules_stores.specs.Maps.{frame_in_frames}
+use Rattle.rules_stores.proofs.pages.frame_in_frames.Given as goal
+
+abbrev pub invariant-loop-span : goal.invariant-loop-span
+invariant-loop-span l = frame_in_frames (drop l.span-index l.spans) l.rest l.page ≡ frame_in_frames l.spans l.frames l.page

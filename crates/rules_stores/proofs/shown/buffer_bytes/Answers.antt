@@ -1,0 +1,7 @@
+use Rattle.std.proofs.Common.{arith}
+use Rattle.std.proofs.lemmas.Grind.{common_steps}
+use Rattle.rules_state.proofs.PageLaws.{count_from-push}
+use Rattle.rules_stores.proofs.shown.buffer_bytes.Goals as goal
+
+pub loop-i-preserved : goal.loop-i-preserved
+loop-i-preserved c = let more = count_from-push c.loop-i.i c.args.off in grind (arith, common_steps, more)

@@ -1,0 +1,105 @@
+ghost use Rattle.std.specs.Prelude.{◌≡◌, ℕ, ◌+◌, ◌<◌, ◌^◌, bit_xor, length, min, slice_index};
+ghost use Rattle.ttm_base.specs.Pages.{with_bytes};
+ghost use Rattle.journal_model.specs.State.{buffer_in};
+ghost use Rattle.journal_model.specs.Stores as words;
+ghost use Rattle.rules_stores.specs.StorePages.{page_of};
+ghost use Rattle.rules_stores.specs.Kept.{BecomesBytes, bytes_of};
+
+use crate::pages::StorePage;
+use crate::stores::PlainStores;
+use journal_model::Core;
+use ttm_base::BufId;
+
+/// Bytes of a page.
+const PAGE: usize = 4096;
+
+/// A part of a page: where it begins.
+#[derive(Clone, Copy, Debug, PartialEq, Eq)]
+pub struct PagePart {
+    pub page: StorePage,
+    pub off: u32,
+}
+
+/// Copies bytes of a page to another through a list of as many.
+fn copy_through(
+    stores: &mut PlainStores,
+    through: &mut [u8],
+    to: PagePart,
+    from: PagePart,
+    len: u32,
+)
+    requires { length through.old ≡ min len 4096 }
+    ensures { BecomesBytes stores.old stores.new (with_bytes (bytes_of stores.old) (page_of to.page) to.off len (λ i. bytes_of stores.old (page_of from.page) (from.off + i))) }
+{
+    stores.read(from.page, from.off, through);
+    stores.write(to.page, to.off, through);
+}
+
+/// Copies bytes of a page to another.
+pub fn copy_part(stores: &mut PlainStores, to: PagePart, from: PagePart, len: u32)
+    ensures { BecomesBytes stores.old stores.new (with_bytes (bytes_of stores.old) (page_of to.page) to.off len (λ i. bytes_of stores.old (page_of from.page) (from.off + i))) }
+{
+    let mut through = [0; PAGE];
+    let count = (len as usize).min(PAGE);
+    copy_through(stores, &mut through[..count], to, from, len);
+}
+
+/// Puts the exclusive or with other bytes in the place of some bytes.
+fn xor_into(bytes: &mut [u8], other: &[u8])
+    requires { length bytes.old ≡ length other.now }
+    ensures { (i : ℕ) → i < length bytes.old → slice_index bytes.new i ≡ bit_xor (slice_index bytes.old i) (slice_index other.now i) }
+{
+    for i in 0..bytes.len() {
+        bytes[i] ^= other[i];
+    }
+}
+
+/// Puts the exclusive or with bytes of another page in the place of bytes of a page, through two lists of as many.
+fn xor_through(
+    stores: &mut PlainStores,
+    through: &mut [u8],
+    beside: &mut [u8],
+    to: PagePart,
+    from: PagePart,
+    len: u32,
+)
+    requires through { length through.old ≡ min len 4096 }
+    requires beside { length beside.old ≡ min len 4096 }
+    ensures { BecomesBytes stores.old stores.new (with_bytes (bytes_of stores.old) (page_of to.page) to.off len (λ i. bit_xor (bytes_of stores.old (page_of to.page) (to.off + i)) (bytes_of stores.old (page_of from.page) (from.off + i)))) }
+{
+    stores.read(to.page, to.off, through);
+    stores.read(from.page, from.off, beside);
+    xor_into(through, beside);
+    stores.write(to.page, to.off, through);
+}
+
+/// Puts the exclusive or with bytes of another page in the place of bytes of a page.
+pub fn xor_part(stores: &mut PlainStores, to: PagePart, from: PagePart, len: u32)
+    ensures { BecomesBytes stores.old stores.new (with_bytes (bytes_of stores.old) (page_of to.page) to.off len (λ i. bit_xor (bytes_of stores.old (page_of to.page) (to.off + i)) (bytes_of stores.old (page_of from.page) (from.off + i)))) }
+{
+    let mut through = [0; PAGE];
+    let mut beside = [0; PAGE];
+    let count = (len as usize).min(PAGE);
+    xor_through(
+        stores,
+        &mut through[..count],
+        &mut beside[..count],
+        to,
+        from,
+        len,
+    );
+}
+
+/// Puts bytes into a buffer from an offset on, page by page.
+pub fn put_bytes(stores: &mut PlainStores, core: &Core, b: BufId, off: usize, bytes: &[u8])
+    requires { off + length bytes.now < 2 ^ 44 }
+    ensures { BecomesBytes stores.old stores.new (words.put_bytes (buffer_in core.now b) off bytes.now (bytes_of stores.old)) }
+{
+    let at = off % PAGE;
+    let count = bytes.len().min(PAGE - at);
+    let page = StorePage::of(core, b, (off / PAGE) as u32);
+    stores.write(page, at as u32, &bytes[..count]);
+    if count < bytes.len() {
+        put_bytes(stores, core, b, off + count, &bytes[count..]);
+    }
+}

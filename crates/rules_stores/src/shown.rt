@@ -1,0 +1,162 @@
+ghost use Rattle.std.specs.Prelude.{◌≡◌, ◌+◌, IfOk, Some, option_copied};
+ghost use Rattle.ttm_base.specs.Pages.{read_bytes};
+ghost use Rattle.ttm_base.specs.Packets.{probe_piece};
+ghost use Rattle.rules_stores.specs.StorePages.{page_of};
+ghost use Rattle.journal_model.specs.Places.{aperture};
+ghost use Rattle.journal_model.specs.State.{buffer_in};
+ghost use Rattle.journal_model.specs.Commands.{command_at_work};
+ghost use Rattle.journal_model.specs.Stores as words;
+ghost use Rattle.rules_stores.specs.Kept.{bytes_of};
+
+use crate::entries::job_packet;
+use crate::pages::StorePage;
+use crate::stores::PlainStores;
+use journal_model::{Bytes, Command, Core, Kind, Script, Shown, State};
+use rules_parts::actors::{engine_of, thread_of};
+use rules_state::command_at_work;
+use std::alloc::Global;
+use ttm_base::{Actor, BufId, JobId, NoMemory, Packet};
+
+/// Bytes of a page.
+const PAGE: u64 = 4096;
+
+/// The byte of a buffer at an offset that is counted from another.
+fn buffer_byte(stores: &PlainStores, core: &Core, b: BufId, off: u32, i: u32) -> u8
+    ensures { result ≡ words.byte_of (bytes_of stores.now) (buffer_in core.now b) (off + i) }
+{
+    let at = off as u64 + i as u64;
+    let page = StorePage::of(core, b, (at / PAGE) as u32);
+    stores.byte(page, (at % PAGE) as u32)
+}
+
+/// Bytes of a buffer from an offset on.
+fn buffer_bytes(
+    alloc: Global,
+    stores: &PlainStores,
+    core: &Core,
+    b: BufId,
+    off: u32,
+    len: u32,
+) -> Result<Bytes, NoMemory>
+    ensures { IfOk result (λ bytes. bytes ≡ words.bytes_of (bytes_of stores.now) (buffer_in core.now b) off len) }
+{
+    let mut bytes = Bytes::new(alloc);
+    for i in 0..len {
+        bytes.push(buffer_byte(stores, core, b, off, i))?;
+    }
+    Ok(bytes)
+}
+
+/// The byte of a page at an offset that is counted from another.
+fn page_byte(stores: &PlainStores, page: StorePage, off: u32, i: u32) -> u8
+    ensures { result ≡ bytes_of stores.now (page_of page) (off + i) }
+{
+    match off.checked_add(i) {
+        Some(at) => stores.byte(page, at),
+        None => 0,
+    }
+}
+
+/// Bytes of a page from an offset on.
+fn page_bytes(
+    alloc: Global,
+    stores: &PlainStores,
+    page: StorePage,
+    off: u32,
+    len: u32,
+) -> Result<Bytes, NoMemory>
+    ensures { IfOk result (λ bytes. bytes ≡ read_bytes (bytes_of stores.now) (page_of page) off len) }
+{
+    let mut bytes = Bytes::new(alloc);
+    for i in 0..len {
+        bytes.push(page_byte(stores, page, off, i))?;
+    }
+    Ok(bytes)
+}
+
+/// What a read shows: the bytes that stand at the buffer's places.
+fn read(
+    alloc: Global,
+    stores: &PlainStores,
+    state: &State,
+    command: Option<&Command>,
+) -> Result<Bytes, NoMemory>
+    ensures { IfOk result (λ bytes. bytes ≡ words.shown_by_read (bytes_of stores.now) state.now (option_copied command.entry)) }
+{
+    match command {
+        Some(Command::Read { b, off, len }) => {
+            buffer_bytes(alloc, stores, &state.core, *b, *off, *len)
+        }
+        _ => Ok(Bytes::new(alloc)),
+    }
+}
+
+/// What a packet shows: the bytes at which a probe looks.
+fn piece(
+    alloc: Global,
+    stores: &PlainStores,
+    core: &Core,
+    packet: Packet,
+) -> Result<Bytes, NoMemory>
+    ensures { IfOk result (λ bytes. bytes ≡ probe_piece (aperture core.now) (bytes_of stores.now) packet) }
+{
+    match packet {
+        Packet::Probe { from, off, len } => {
+            page_bytes(alloc, stores, StorePage::named(core, from), off, len)
+        }
+        Packet::Fill { .. } | Packet::Copy { .. } | Packet::Xor { .. } => Ok(Bytes::new(alloc)),
+    }
+}
+
+/// A result with the bytes that it shows.
+fn shown_result(
+    alloc: Global,
+    stores: &PlainStores,
+    state: &State,
+    command: Option<&Command>,
+    shown: Shown,
+) -> Result<Shown, NoMemory>
+    ensures { IfOk result (λ new. new ≡ words.shown_result (bytes_of stores.now) state.now (option_copied command.entry) shown) }
+{
+    match shown {
+        Shown::Read(_) => Ok(Shown::Read(read(alloc, stores, state, command)?)),
+        Shown::Plain => Ok(Shown::Plain),
+        Shown::Find { mem, spans } => Ok(Shown::Find { mem, spans }),
+    }
+}
+
+impl PlainStores {
+    ghost use Rattle.std.specs.Prelude.{◌≡◌, IfOk};
+    ghost use Rattle.journal_model.specs.Stores as words;
+    ghost use Rattle.rules_stores.specs.Kept.{bytes_of};
+
+    /// An entry that an actor makes next in this state, with the bytes that it shows: those of a read, or of a probe.
+    pub fn showing(
+        &self,
+        alloc: Global,
+        script: &Script,
+        state: &State,
+        who: Actor,
+        kind: Kind,
+    ) -> Result<Kind, NoMemory>
+        ensures { IfOk result (λ new. new ≡ words.showing script.now (bytes_of self.now) state.now who kind) }
+    {
+        match kind {
+            Kind::Result { shown } => {
+                let command = command_at_work(script, state, thread_of(who));
+                let shown = shown_result(alloc, self, state, command, shown)?;
+                Ok(Kind::Result { shown })
+            }
+            Kind::Packet { num, k, .. } => {
+                let id = JobId {
+                    ctx: engine_of(who),
+                    num,
+                };
+                let packet = job_packet(&state.core, id, k);
+                let piece = piece(alloc, self, &state.core, packet)?;
+                Ok(Kind::Packet { num, k, piece })
+            }
+            other => Ok(other),
+        }
+    }
+}

@@ -1,0 +1,303 @@
+//! A line by its words: each word as what must stand there.
+
+ghost use Rattle.std.specs.Prelude.{◌≡◌, ◌≤◌, ◌==◌, IfOk, length, map};
+ghost use Rattle.std.specs.List.{list_any};
+ghost use Rattle.journal_model.specs.Reading.{names_of, actor_of};
+ghost use Rattle.journal_model.specs.LineWords.{version_line, vram_line, size_line, alone, is_no_actor, turn_of_actors, turn_line_of, plain_line, write_line, read_parts, read_line, move_line, touch_line, parts_of, is_empty, line_of};
+
+use crate::buffers::buffer;
+use crate::jobs::submit;
+use journal_model::line::{ActorWord, ActorWords, Keyword, Line, Verb};
+use journal_model::{Bytes, Script};
+use script_words::names::Names;
+use script_words::words::{actor, bytes, is, memory, number, offset};
+use std::alloc::Global;
+use ttm_base::NoMemory;
+
+fn version_of(words: &[Bytes]) -> Option<Line>
+    ensures { result ≡ version_line words.now }
+{
+    match words {
+        [_, version] => {
+            if is(version.items(), b"1") {
+                Some(Line::Version { version: 1 })
+            } else if is(version.items(), b"2") {
+                Some(Line::Version { version: 2 })
+            } else {
+                None
+            }
+        }
+        _ => None,
+    }
+}
+
+fn vram_of(words: &[Bytes]) -> Option<Line>
+    ensures { result ≡ vram_line words.now }
+{
+    match words {
+        [_, kind, size] => {
+            if is(kind.items(), b"range") {
+                Some(Line::Vram {
+                    buddy: false,
+                    size: number(0, 16384, size.items()),
+                })
+            } else if is(kind.items(), b"buddy") {
+                Some(Line::Vram {
+                    buddy: true,
+                    size: number(0, 16384, size.items()),
+                })
+            } else {
+                None
+            }
+        }
+        _ => None,
+    }
+}
+
+fn tt(words: &[Bytes]) -> Option<Line>
+    ensures { result ≡ size_line (λ n. Line.Tt n) 16384 words.now }
+{
+    match words {
+        [_, size] => Some(Line::Tt {
+            size: number(0, 16384, size.items()),
+        }),
+        _ => None,
+    }
+}
+
+fn frames(words: &[Bytes]) -> Option<Line>
+    ensures { result ≡ size_line (λ n. Line.Frames n) 16384 words.now }
+{
+    match words {
+        [_, size] => Some(Line::Frames {
+            size: number(0, 16384, size.items()),
+        }),
+        _ => None,
+    }
+}
+
+fn swap(words: &[Bytes]) -> Option<Line>
+    ensures { result ≡ size_line (λ n. Line.Swap n) 32768 words.now }
+{
+    match words {
+        [_, size] => Some(Line::Swap {
+            size: number(0, 32768, size.items()),
+        }),
+        _ => None,
+    }
+}
+
+fn engines(words: &[Bytes]) -> Option<Line>
+    ensures { result ≡ size_line (λ n. Line.Engines n) 8 words.now }
+{
+    match words {
+        [_, size] => Some(Line::Engines {
+            size: number(0, 8, size.items()),
+        }),
+        _ => None,
+    }
+}
+
+fn alone_of(line: Line, words: &[Bytes]) -> Option<Line>
+    ensures { result ≡ alone line words.now }
+{
+    match words {
+        [_] => Some(line),
+        _ => None,
+    }
+}
+
+fn is_no_actor_word(word: &ActorWord) -> bool
+    ensures { result ≡ is_no_actor word.now }
+{
+    matches!(word, ActorWord::Malformed)
+}
+
+fn is_some_no_actor(actors: &[ActorWord]) -> bool
+    ensures { result ≡ list_any is_no_actor actors.now }
+{
+    actors.iter().any(|a| is_no_actor_word(a))
+}
+
+fn actors_of(
+    alloc: Global,
+    threads: u32,
+    engines: u32,
+    words: &[Bytes],
+) -> Result<ActorWords, NoMemory>
+    ensures { IfOk result (λ actors. actors ≡ map (actor_of threads engines) words.now) }
+{
+    let mut actors = ActorWords::new(alloc);
+    for word in words {
+        actors.push(actor(threads, engines, word.items()))?;
+    }
+    Ok(actors)
+}
+
+fn turn_of(actors: ActorWords) -> Option<Line>
+    ensures { result ≡ turn_of_actors actors }
+{
+    let count = actors.len();
+    if 1 <= count && count <= 64 && !is_some_no_actor(actors.items()) {
+        Some(Line::Turn { actors })
+    } else {
+        None
+    }
+}
+
+fn turn(
+    alloc: Global,
+    threads: u32,
+    engines: u32,
+    words: &[Bytes],
+) -> Result<Option<Line>, NoMemory>
+    ensures { IfOk result (λ line. line ≡ turn_line_of threads engines words.now) }
+{
+    match words {
+        [] => Ok(None),
+        [_, rest @ ..] => Ok(turn_of(actors_of(alloc, threads, engines, rest)?)),
+    }
+}
+
+fn plain(names: &Names, verb: Verb, words: &[Bytes]) -> Option<Line>
+    requires { length names.now ≤ 256 }
+    ensures { result ≡ plain_line names.now verb words.now }
+{
+    match words {
+        [_, b] => Some(Line::Plain {
+            verb,
+            b: names.find(b.items()),
+        }),
+        _ => None,
+    }
+}
+
+fn write(alloc: Global, names: &Names, words: &[Bytes]) -> Result<Option<Line>, NoMemory>
+    requires { length names.now ≤ 256 }
+    ensures { IfOk result (λ line. line ≡ write_line names.now words.now) }
+{
+    match words {
+        [_, b, off, text] => {
+            let bytes = bytes(alloc, text.items())?;
+            Ok(Some(Line::Write {
+                b: names.find(b.items()),
+                off: offset(off.items()),
+                bytes,
+            }))
+        }
+        _ => Ok(None),
+    }
+}
+
+fn read_with(names: &Names, b: &[u8], off: &[u8], len: &[u8]) -> Line
+    requires { length names.now ≤ 256 }
+    ensures { result ≡ read_parts names.now b.now off.now len.now }
+{
+    Line::Read {
+        b: names.find(b),
+        off: offset(off),
+        len: offset(len),
+    }
+}
+
+fn read(names: &Names, words: &[Bytes]) -> Option<Line>
+    requires { length names.now ≤ 256 }
+    ensures { result ≡ read_line names.now words.now }
+{
+    match words {
+        [_, b, off, len] => Some(read_with(names, b.items(), off.items(), len.items())),
+        _ => None,
+    }
+}
+
+fn move_of(names: &Names, words: &[Bytes]) -> Option<Line>
+    requires { length names.now ≤ 256 }
+    ensures { result ≡ move_line names.now words.now }
+{
+    match words {
+        [_, b, mem] => match memory(mem.items()) {
+            Some(mem) => Some(Line::Move {
+                b: names.find(b.items()),
+                mem,
+            }),
+            None => None,
+        },
+        _ => None,
+    }
+}
+
+fn touch(words: &[Bytes]) -> Option<Line>
+    ensures { result ≡ touch_line words.now }
+{
+    match words {
+        [_, group] => Some(Line::Touch {
+            group: number(0, 15, group.items()),
+        }),
+        _ => None,
+    }
+}
+
+/// The parts of a line with this keyword.
+fn parts(
+    alloc: Global,
+    names: &Names,
+    script: &Script,
+    keyword: Keyword,
+    words: &[Bytes],
+) -> Result<Option<Line>, NoMemory>
+    requires names { names.now ≡ names_of script.now.buffers }
+    requires buffers { length script.now.buffers ≤ 256 }
+    requires threads { length script.now.threads ≤ 16 }
+    ensures { IfOk result (λ line. line ≡ parts_of script.now keyword words.now) }
+{
+    match keyword {
+        Keyword::Ttm => Ok(version_of(words)),
+        Keyword::Vram => Ok(vram_of(words)),
+        Keyword::Tt => Ok(tt(words)),
+        Keyword::Frames => Ok(frames(words)),
+        Keyword::Swap => Ok(swap(words)),
+        Keyword::Engines => Ok(engines(words)),
+        Keyword::Buffer => buffer(alloc, script.version == 2, words),
+        Keyword::Thread => Ok(alone_of(Line::Thread, words)),
+        Keyword::Schedule => turn(
+            alloc,
+            script.threads.len() as u32,
+            script.sizes.engines,
+            words,
+        ),
+        Keyword::End => Ok(alone_of(Line::End, words)),
+        Keyword::Plain(verb) => Ok(plain(names, verb, words)),
+        Keyword::Write => write(alloc, names, words),
+        Keyword::Read => Ok(read(names, words)),
+        Keyword::Move => Ok(move_of(names, words)),
+        Keyword::Touch => Ok(touch(words)),
+        Keyword::Submit => submit(alloc, names, script.sizes.engines, words),
+        Keyword::Other => Ok(None),
+    }
+}
+
+fn is_some_empty(words: &[Bytes]) -> bool
+    ensures { result ≡ list_any is_empty words.now }
+{
+    words.iter().any(|w| w.len() == 0)
+}
+
+/// The line of these words, with each word read as far as it can be; None where there is a wrong space, a wrong number
+/// of words or a wrong fixed word.
+pub fn line(
+    alloc: Global,
+    names: &Names,
+    script: &Script,
+    keyword: Keyword,
+    words: &[Bytes],
+) -> Result<Option<Line>, NoMemory>
+    requires names { names.now ≡ names_of script.now.buffers }
+    requires buffers { length script.now.buffers ≤ 256 }
+    requires threads { length script.now.threads ≤ 16 }
+    ensures { IfOk result (λ line. line ≡ line_of script.now keyword words.now) }
+{
+    if is_some_empty(words) {
+        return Ok(None);
+    }
+    parts(alloc, names, script, keyword, words)
+}

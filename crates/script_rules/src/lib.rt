@@ -1,0 +1,6 @@
+//! The rules that a line of a script may break, from the fifth on: the least of them, by what the lines before have declared.
+#![tactic(auto)]
+
+mod rules;
+
+pub use rules::{broken, lens_within};

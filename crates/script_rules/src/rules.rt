@@ -1,0 +1,582 @@
+//! The rules that a line may break, from the fifth on.
+
+ghost use Rattle.std.specs.Prelude.{◌≡◌, ◌+◌, ◌*◌, ◌≤◌, [], ◌∷◌, ◌++◌, Some, None, OnOk, IfOk, if◌then◌else◌, length, is_none, sum_by, fold, map, flat_map, option_to_list, bytes_eq, nat_lt, unwrap_or};
+ghost use Rattle.std.specs.List.{list_any, list_all};
+ghost use Rattle.journal_model.specs.Commands.{decl, first_mentions};
+ghost use Rattle.journal_model.specs.Reading.{names_of};
+ghost use Rattle.journal_model.specs.ScriptRules.{is_name, is_letter, is_letter_or_digit};
+ghost use Rattle.journal_model.specs.State.{same_buffer};
+ghost use Rattle.script_rules.specs.Mentions.{mentioned};
+ghost use Rattle.journal_model.specs.LineRules.{lacks_number_in_head, is_broken_place, is_broken_actor, is_broken_engine, lacks_number_in_op, lacks_number, lacks_name_in_op, has_wrong_name, lacks_name, is_no_place, may_force, is_no_list, lacks_place, is_zero, is_more_than, passes, has_wrong_range, passes_in_op, bytes_pass, has_range_fault, lacks_byte_in_op, are_wrong_bytes, has_byte_fault, same_known, names_one_twice, buffers_of_word, is_big_job, has_job_fault, is_missing_actor, is_missing_engine, lacks_actor, is_one_too_many, len_of_word, lens_of_line, is_too_long, rule_broken};
+
+use journal_model::line::{ActorWord, BufferHead, EngineWord, Line, OpWord, PlaceWord, Progress};
+use journal_model::{Bytes, Script};
+use script_words::names::Names;
+use std::alloc::Global;
+use ttm_base::{BufId, ItemList, NoMemory};
+
+fn lacks_head_number(head: &BufferHead) -> bool
+    ensures { result ≡ lacks_number_in_head head.now }
+{
+    head.pages.is_none() || head.prio.is_none() || head.group.is_none() || head.align.is_none()
+}
+
+fn has_broken_number(place: &PlaceWord) -> bool
+    ensures { result ≡ is_broken_place place.now }
+{
+    matches!(place, PlaceWord::BrokenNumber)
+}
+
+fn has_broken_place(places: &[PlaceWord]) -> bool
+    ensures { result ≡ list_any is_broken_place places.now }
+{
+    places.iter().any(|p| has_broken_number(p))
+}
+
+fn has_broken_actor_number(actor: &ActorWord) -> bool
+    ensures { result ≡ is_broken_actor actor.now }
+{
+    matches!(actor, ActorWord::BrokenNumber)
+}
+
+fn has_broken_actor(actors: &[ActorWord]) -> bool
+    ensures { result ≡ list_any is_broken_actor actors.now }
+{
+    actors.iter().any(|a| has_broken_actor_number(a))
+}
+
+fn has_broken_engine(engine: EngineWord) -> bool
+    ensures { result ≡ is_broken_engine engine }
+{
+    matches!(engine, EngineWord::BrokenNumber)
+}
+
+fn lacks_op_number(op: &OpWord) -> bool
+    ensures { result ≡ lacks_number_in_op op.now }
+{
+    match *op {
+        OpWord::Fill { off, len, .. } | OpWord::Probe { off, len, .. } => {
+            off.is_none() || len.is_none()
+        }
+        OpWord::Copy {
+            doff,
+            soff,
+            len,
+            ..
+        }
+        | OpWord::Xor {
+            doff,
+            soff,
+            len,
+            ..
+        } => doff.is_none() || soff.is_none() || len.is_none(),
+        OpWord::Malformed => false,
+    }
+}
+
+fn lack_number(ops: &[OpWord]) -> bool
+    ensures { result ≡ list_any lacks_number_in_op ops.now }
+{
+    ops.iter().any(|o| lacks_op_number(o))
+}
+
+/// A number isn't plain or is out of its range.
+fn breaks_number(line: &Line) -> bool
+    ensures { result ≡ lacks_number line.now }
+{
+    match line {
+        Line::Vram { size, .. } => size.is_none(),
+        Line::Tt { size } => size.is_none(),
+        Line::Frames { size } => size.is_none(),
+        Line::Swap { size } => size.is_none(),
+        Line::Engines { size } => size.is_none(),
+        Line::Buffer { head, want, busy } => {
+            lacks_head_number(head)
+                || has_broken_place(want.items())
+                || has_broken_place(busy.items())
+        }
+        Line::Placed { head, list } => lacks_head_number(head) || has_broken_place(list.items()),
+        Line::Turn { actors } => has_broken_actor(actors.items()),
+        Line::Write { off, .. } => off.is_none(),
+        Line::Read { off, len, .. } => off.is_none() || len.is_none(),
+        Line::Touch { group } => group.is_none(),
+        Line::Submit { engine, ops } => has_broken_engine(*engine) || lack_number(ops.items()),
+        Line::Version { .. } | Line::Thread | Line::End | Line::Plain { .. } | Line::Move { .. } =>
+            false,
+    }
+}
+
+fn lacks_op_name(op: &OpWord) -> bool
+    ensures { result ≡ lacks_name_in_op op.now }
+{
+    match *op {
+        OpWord::Fill { dst, .. } => dst.is_none(),
+        OpWord::Probe { src, .. } => src.is_none(),
+        OpWord::Copy { dst, src, .. } | OpWord::Xor { dst, src, .. } => {
+            dst.is_none() || src.is_none()
+        }
+        OpWord::Malformed => false,
+    }
+}
+
+fn lack_name(ops: &[OpWord]) -> bool
+    ensures { result ≡ list_any lacks_name_in_op ops.now }
+{
+    ops.iter().any(|o| lacks_op_name(o))
+}
+
+fn is_small_letter(c: u8) -> bool
+    ensures { result ≡ is_letter c }
+{
+    b'a' <= c && c <= b'z'
+}
+
+fn are_letters_or_digits(word: &[u8]) -> bool
+    ensures { result ≡ list_all is_letter_or_digit word.now }
+{
+    word.iter().all(|c| (b'a' <= *c && *c <= b'z') || (b'0' <= *c && *c <= b'9'))
+}
+
+fn is_good_name(word: &[u8]) -> bool
+    ensures { result ≡ is_name word.now }
+{
+    match word {
+        [] => false,
+        [c, rest @ ..] => is_small_letter(*c) && are_letters_or_digits(rest) && rest.len() <= 7,
+    }
+}
+
+fn breaks_head_name(names: &Names, head: &BufferHead) -> bool
+    ensures { result ≡ has_wrong_name names.now head.now }
+{
+    !is_good_name(head.name.items()) || names.contains(head.name.items())
+}
+
+/// A name is malformed, unknown, or declared twice.
+fn breaks_name(names: &Names, script: &Script, line: &Line) -> bool
+    requires { names.now ≡ names_of script.now.buffers }
+    ensures { result ≡ lacks_name script.now line.now }
+{
+    match line {
+        Line::Buffer { head, .. } => breaks_head_name(names, head),
+        Line::Placed { head, .. } => breaks_head_name(names, head),
+        Line::Plain { b, .. } => b.is_none(),
+        Line::Write { b, .. } => b.is_none(),
+        Line::Read { b, .. } => b.is_none(),
+        Line::Move { b, .. } => b.is_none(),
+        Line::Submit { ops, .. } => lack_name(ops.items()),
+        _ => false,
+    }
+}
+
+fn is_malformed(place: &PlaceWord) -> bool
+    ensures { result ≡ is_no_place place.now }
+{
+    matches!(place, PlaceWord::Malformed)
+}
+
+fn has_malformed(places: &[PlaceWord]) -> bool
+    ensures { result ≡ list_any is_no_place places.now }
+{
+    places.iter().any(|p| is_malformed(p))
+}
+
+fn breaks_list(most: usize, places: &[PlaceWord]) -> bool
+    ensures { result ≡ is_no_list most places.now }
+{
+    has_malformed(places) || !(1 <= places.len() && places.len() <= most)
+}
+
+fn can_force(place: &PlaceWord) -> bool
+    ensures { result ≡ may_force place.now }
+{
+    match place {
+        PlaceWord::Is(place) => !place.desired,
+        _ => true,
+    }
+}
+
+fn has_forced(places: &[PlaceWord]) -> bool
+    ensures { result ≡ list_any may_force places.now }
+{
+    places.iter().any(|p| can_force(p))
+}
+
+/// A place or a list of places is malformed.
+fn breaks_place(line: &Line) -> bool
+    ensures { result ≡ lacks_place line.now }
+{
+    match line {
+        Line::Buffer { want, busy, .. } => {
+            breaks_list(4, want.items()) || breaks_list(4, busy.items())
+        }
+        Line::Placed { list, .. } => breaks_list(8, list.items()) || !has_forced(list.items()),
+        _ => false,
+    }
+}
+
+fn is_nothing(len: Option<u32>) -> bool
+    ensures { result ≡ is_zero len }
+{
+    match len {
+        Some(n) => n == 0,
+        None => false,
+    }
+}
+
+fn is_above(most: u32, len: Option<u32>) -> bool
+    ensures { result ≡ is_more_than most len }
+{
+    match len {
+        Some(n) => most < n,
+        None => false,
+    }
+}
+
+fn pages_of(script: &Script, b: BufId) -> u32
+    ensures { result ≡ (decl script.now b).pages }
+{
+    match script.buffers.items().get(b.0 as usize) {
+        Some(decl) => decl.pages,
+        None => 0,
+    }
+}
+
+fn ends_behind(pages: u32, off: u32, len: u32) -> bool
+    ensures { result ≡ nat_lt (4096 * pages) (off + len) }
+{
+    4096 * u64::from(pages) < u64::from(off) + u64::from(len)
+}
+
+fn does_pass(script: &Script, b: Option<BufId>, off: Option<u32>, len: Option<u32>) -> bool
+    ensures { result ≡ passes script.now b off len }
+{
+    match (b, off, len) {
+        (Some(b), Some(off), Some(len)) => ends_behind(pages_of(script, b), off, len),
+        _ => false,
+    }
+}
+
+fn is_wrong_range(script: &Script, b: Option<BufId>, off: Option<u32>, len: Option<u32>) -> bool
+    ensures { result ≡ has_wrong_range script.now b off len }
+{
+    is_nothing(len) || does_pass(script, b, off, len)
+}
+
+fn op_passes(script: &Script, op: &OpWord) -> bool
+    ensures { result ≡ passes_in_op script.now op.now }
+{
+    match *op {
+        OpWord::Fill { dst, off, len, .. } => is_wrong_range(script, dst, off, len),
+        OpWord::Copy {
+            dst,
+            doff,
+            src,
+            soff,
+            len,
+        } => { is_wrong_range(script, dst, doff, len) || does_pass(script, src, soff, len) }
+        OpWord::Xor {
+            dst,
+            doff,
+            src,
+            soff,
+            len,
+        } => { is_wrong_range(script, dst, doff, len) || does_pass(script, src, soff, len) }
+        OpWord::Probe { src, off, len } => is_wrong_range(script, src, off, len)
+            || is_above(256, len),
+        OpWord::Malformed => false,
+    }
+}
+
+fn some_op_passes(script: &Script, ops: &[OpWord]) -> bool
+    ensures { result ≡ list_any (passes_in_op script.now) ops.now }
+{
+    ops.iter().any(|o| op_passes(script, o))
+}
+
+fn count_passes(script: &Script, b: Option<BufId>, off: Option<u32>, count: usize) -> bool
+    ensures { result ≡ passes script.now b off (Some count) }
+{
+    match (b, off) {
+        (Some(b), Some(off)) => {
+            let size = 4096 * u64::from(pages_of(script, b));
+            let off = u64::from(off);
+            size < off || size - off < count as u64
+        }
+        _ => false,
+    }
+}
+
+fn do_bytes_pass(script: &Script, b: Option<BufId>, off: Option<u32>, bytes: &Option<Bytes>) -> bool
+    ensures { result ≡ bytes_pass script.now b off bytes.now }
+{
+    match bytes {
+        Some(bytes) => count_passes(script, b, off, bytes.len()),
+        None => false,
+    }
+}
+
+/// An offset and a length pass the buffer, a length is 0, or too many bytes would be shown.
+fn breaks_range(script: &Script, line: &Line) -> bool
+    ensures { result ≡ has_range_fault script.now line.now }
+{
+    match line {
+        Line::Write { b, off, bytes } => do_bytes_pass(script, *b, *off, bytes),
+        Line::Read { b, off, len } => {
+            is_wrong_range(script, *b, *off, *len) || is_above(256, *len)
+        }
+        Line::Submit { ops, .. } => some_op_passes(script, ops.items()),
+        _ => false,
+    }
+}
+
+fn lacks_op_byte(op: &OpWord) -> bool
+    ensures { result ≡ lacks_byte_in_op op.now }
+{
+    match op {
+        OpWord::Fill { byte, .. } => byte.is_none(),
+        _ => false,
+    }
+}
+
+fn lack_byte(ops: &[OpWord]) -> bool
+    ensures { result ≡ list_any lacks_byte_in_op ops.now }
+{
+    ops.iter().any(|o| lacks_op_byte(o))
+}
+
+fn are_bad_bytes(bytes: &Option<Bytes>) -> bool
+    ensures { result ≡ are_wrong_bytes bytes.now }
+{
+    match bytes {
+        Some(bytes) => !(1 <= bytes.len() && bytes.len() <= 256),
+        None => true,
+    }
+}
+
+/// Bytes are malformed, none, or more than 256.
+fn breaks_bytes(line: &Line) -> bool
+    ensures { result ≡ has_byte_fault line.now }
+{
+    match line {
+        Line::Write { bytes, .. } => are_bad_bytes(bytes),
+        Line::Submit { ops, .. } => lack_byte(ops.items()),
+        _ => false,
+    }
+}
+
+fn are_same(a: Option<BufId>, b: Option<BufId>) -> bool
+    ensures { result ≡ same_known a b }
+{
+    match (a, b) {
+        (Some(a), Some(b)) => a.0 == b.0,
+        _ => false,
+    }
+}
+
+fn is_named_twice(op: &OpWord) -> bool
+    ensures { result ≡ names_one_twice op.now }
+{
+    match *op {
+        OpWord::Copy { dst, src, .. } => are_same(dst, src),
+        OpWord::Xor { dst, src, .. } => are_same(dst, src),
+        _ => false,
+    }
+}
+
+fn some_is_named_twice(ops: &[OpWord]) -> bool
+    ensures { result ≡ list_any names_one_twice ops.now }
+{
+    ops.iter().any(|o| is_named_twice(o))
+}
+
+fn has(seen: &[BufId], b: BufId) -> bool
+    ensures { result ≡ list_any (same_buffer b) seen.now }
+{
+    seen.iter().any(|c| b.0 == c.0)
+}
+
+fn mention(seen: &mut ItemList<BufId>, b: Option<BufId>) -> Result<(), NoMemory>
+    ensures { OnOk result (seen.new ≡ fold mentioned seen.old (option_to_list b)) }
+{
+    if let Some(b) = b {
+        if !has(seen.items(), b) {
+            seen.push(b)?;
+        }
+    }
+    Ok(())
+}
+
+fn mention_op(seen: &mut ItemList<BufId>, op: &OpWord) -> Result<(), NoMemory>
+    ensures { OnOk result (seen.new ≡ fold mentioned seen.old (buffers_of_word op.now)) }
+{
+    match *op {
+        OpWord::Fill { dst, .. } => mention(seen, dst),
+        OpWord::Probe { src, .. } => mention(seen, src),
+        OpWord::Copy { dst, src, .. } => {
+            mention(seen, dst)?;
+            mention(seen, src)
+        }
+        OpWord::Xor { dst, src, .. } => {
+            mention(seen, dst)?;
+            mention(seen, src)
+        }
+        OpWord::Malformed => Ok(()),
+    }
+}
+
+/// Each buffer of a job once.
+fn mentioned_in(alloc: Global, ops: &[OpWord]) -> Result<ItemList<BufId>, NoMemory>
+    ensures { IfOk result (λ seen. seen ≡ first_mentions [] (flat_map buffers_of_word ops.now)) }
+{
+    let mut seen = ItemList::new(alloc);
+    for op in ops {
+        mention_op(&mut seen, op)?;
+    }
+    Ok(seen)
+}
+
+fn is_too_big(alloc: Global, ops: &[OpWord]) -> Result<bool, NoMemory>
+    ensures { IfOk result (λ big. big ≡ is_big_job ops.now) }
+{
+    let seen = mentioned_in(alloc, ops)?;
+    Ok(64 < ops.len() || 16 < seen.len())
+}
+
+/// One buffer twice in a copy or xor, or too many buffers or operations in a job.
+fn breaks_job(alloc: Global, line: &Line) -> Result<bool, NoMemory>
+    ensures { IfOk result (λ broken. broken ≡ has_job_fault line.now) }
+{
+    match line {
+        Line::Submit { ops, .. } => {
+            let big = is_too_big(alloc, ops.items())?;
+            Ok(some_is_named_twice(ops.items()) || big)
+        }
+        _ => Ok(false),
+    }
+}
+
+fn is_missing(actor: &ActorWord) -> bool
+    ensures { result ≡ is_missing_actor actor.now }
+{
+    matches!(actor, ActorWord::Missing)
+}
+
+fn has_missing(actors: &[ActorWord]) -> bool
+    ensures { result ≡ list_any is_missing_actor actors.now }
+{
+    actors.iter().any(|a| is_missing(a))
+}
+
+fn is_engine_missing(engine: EngineWord) -> bool
+    ensures { result ≡ is_missing_engine engine }
+{
+    matches!(engine, EngineWord::Missing)
+}
+
+/// An engine or an actor that isn't there.
+fn breaks_actor(line: &Line) -> bool
+    ensures { result ≡ lacks_actor line.now }
+{
+    match line {
+        Line::Turn { actors } => has_missing(actors.items()),
+        Line::Submit { engine, .. } => is_engine_missing(*engine),
+        _ => false,
+    }
+}
+
+/// One line too many.
+fn breaks_count(progress: &Progress, line: &Line) -> bool
+    ensures { result ≡ is_one_too_many progress.now line.now }
+{
+    match line {
+        Line::Buffer { .. } | Line::Placed { .. } => 256 <= progress.script.buffers.len(),
+        Line::Thread => 16 <= progress.script.threads.len(),
+        Line::Plain { .. }
+        | Line::Write { .. }
+        | Line::Read { .. }
+        | Line::Move { .. }
+        | Line::Touch { .. }
+        | Line::Submit { .. } => 4096 <= progress.lines,
+        _ => false,
+    }
+}
+
+fn len_of(op: &OpWord) -> u32
+    ensures { result ≡ len_of_word op.now }
+{
+    match *op {
+        OpWord::Fill { len, .. } => len.unwrap_or(0),
+        OpWord::Copy { len, .. } => len.unwrap_or(0),
+        OpWord::Xor { len, .. } => len.unwrap_or(0),
+        OpWord::Probe { len, .. } => len.unwrap_or(0),
+        OpWord::Malformed => 0,
+    }
+}
+
+/// The lengths of the operations, where they come to no more than there is left.
+pub fn lens_within(left: u64, ops: &[OpWord]) -> Option<u64>
+    ensures { result ≡ (if nat_lt left (sum_by len_of_word ops.now) then None else Some (sum_by len_of_word ops.now)) }
+{
+    let mut sum = 0;
+    for op in ops {
+        let len = u64::from(len_of(op));
+        if left - sum < len {
+            return None;
+        }
+        sum += len;
+    }
+    Some(sum)
+}
+
+/// The lengths of all operations are too great.
+fn breaks_lens(progress: &Progress, line: &Line) -> bool
+    requires { progress.now.lens ≤ 67108864 }
+    ensures { result ≡ is_too_long progress.now line.now }
+{
+    match line {
+        Line::Submit { ops, .. } => lens_within(67_108_864 - progress.lens, ops.items()).is_none(),
+        _ => false,
+    }
+}
+
+/// The least rule from the fifth on that the line breaks.
+pub fn broken(
+    alloc: Global,
+    names: &Names,
+    progress: &Progress,
+    line: &Line,
+) -> Result<Option<u32>, NoMemory>
+    requires names { names.now ≡ names_of progress.now.script.buffers }
+    requires lens { progress.now.lens ≤ 67108864 }
+    ensures { IfOk result (λ rule. rule ≡ rule_broken progress.now line.now) }
+{
+    if breaks_number(line) {
+        return Ok(Some(5));
+    }
+    if breaks_name(names, &progress.script, line) {
+        return Ok(Some(6));
+    }
+    if breaks_place(line) {
+        return Ok(Some(7));
+    }
+    if breaks_range(&progress.script, line) {
+        return Ok(Some(8));
+    }
+    if breaks_bytes(line) {
+        return Ok(Some(9));
+    }
+    if breaks_job(alloc, line)? {
+        return Ok(Some(10));
+    }
+    if breaks_actor(line) {
+        return Ok(Some(11));
+    }
+    if breaks_count(progress, line) {
+        return Ok(Some(12));
+    }
+    if breaks_lens(progress, line) {
+        return Ok(Some(13));
+    }
+    Ok(None)
+}

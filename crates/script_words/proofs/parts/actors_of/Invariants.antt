@@ -1,6 +1,0 @@
-use Rattle.std.proofs.Common.{◌≡◌, map, take}
-use Rattle.journal_model.specs.Reading.{actor_of}
-use Rattle.script_words.proofs.parts.actors_of.Given as goal
-
-abbrev pub invariant-loop-word : goal.invariant-loop-word
-invariant-loop-word l = l.actors ≡ map (actor_of l.threads l.engines) (take l.word-index l.words)

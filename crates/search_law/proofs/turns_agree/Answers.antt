@@ -1,5 +1,0 @@
-use Rattle.search_law.proofs.Forms.{journal_along_same}
-use Rattle.search_law.proofs.turns_agree.Goals as goal
-
-pub returns : goal.returns
-returns c = λ script version actors. journal_along_same version script actors

@@ -1,5 +1,0 @@
-use Rattle.sound_law.proofs.Orders.{rests_law}
-use Rattle.sound_law.proofs.nobody_goes_on_behind_the_end.Goals as goal
-
-pub returns : goal.returns
-returns c = λ script journal fits h over who. rests_law script journal fits h over who

@@ -1,5 +1,0 @@
-use Rattle.sound_law.proofs.Orders.{order_law}
-use Rattle.sound_law.proofs.own_order_finds_who_goes_on.Goals as goal
-
-pub returns : goal.returns
-returns c = λ script journal fits h over. order_law script journal fits h over

@@ -1,0 +1,17 @@
+//! Tests of the allocators: holes, ranges, blocks, who holds pages, places and free numbers.
+#![tactic(auto)]
+
+#[cfg(test)]
+mod blocks;
+#[cfg(test)]
+mod holes;
+#[cfg(test)]
+mod lines;
+#[cfg(test)]
+mod numbers;
+#[cfg(test)]
+mod places;
+#[cfg(test)]
+mod ranges;
+#[cfg(test)]
+mod rooms;

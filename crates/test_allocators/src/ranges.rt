@@ -1,0 +1,228 @@
+use range_manager::{InsertFault, RangeManager};
+use std::alloc::Global;
+use std::process::Abort;
+use std::test::Fail;
+use ttm_base::{Mode, NoMemory, Span};
+
+const FIVE: [Span; 5] = [
+    Span { start: 0, end: 4 },
+    Span { start: 4, end: 6 },
+    Span { start: 6, end: 10 },
+    Span { start: 10, end: 11 },
+    Span { start: 11, end: 16 },
+];
+
+/// A request to a manager of 16 pages of which some were held and let go, and the answer to it.
+struct Case {
+    held: &'static [Span],
+    gone: &'static [u32],
+    pages: u32,
+    align: u32,
+    range: (u32, u32),
+    mode: Mode,
+    want: Result<Span, InsertFault>,
+}
+
+/// Lets spans go, of which each is held.
+fn let_go(rt: &impl Abort, manager: &mut RangeManager, starts: &[u32]) {
+    for start in starts {
+        let held = manager.held_from(*start).is_some();
+        assert!(rt; held);
+        manager.remove(*start);
+    }
+}
+
+/// The answer to each case is the one that is wanted.
+fn answers(rt: &impl Abort, alloc: Global, cases: &[Case]) -> Result<(), NoMemory> {
+    for case in cases {
+        let mut manager = RangeManager::new(alloc, 16)?;
+        for span in case.held {
+            assert_eq!(rt; manager.reserve(*span), Ok(()));
+        }
+        let_go(rt, &mut manager, case.gone);
+        let (first, last) = case.range;
+        let got = manager.insert(case.pages, case.align.max(1), first, last, case.mode);
+        assert_eq!(rt; got, case.want);
+    }
+    Ok(())
+}
+
+#[test]
+fn range_manager_answers(rt: HostRuntime) -> Result<(), Fail> {
+    answers(
+        &rt,
+        rt.alloc(),
+        &[
+            Case {
+                held: &FIVE,
+                gone: &[4, 10],
+                pages: 1,
+                align: 1,
+                range: (0, 16),
+                mode: Mode::Low,
+                want: Ok(Span { start: 4, end: 5 }),
+            },
+            Case {
+                held: &[Span { start: 0, end: 3 }],
+                gone: &[],
+                pages: 4,
+                align: 4,
+                range: (0, 16),
+                mode: Mode::Best,
+                want: Ok(Span { start: 4, end: 8 }),
+            },
+            Case {
+                held: &[],
+                gone: &[],
+                pages: 4,
+                align: 8,
+                range: (0, 16),
+                mode: Mode::High,
+                want: Ok(Span { start: 8, end: 12 }),
+            },
+            Case {
+                held: &[],
+                gone: &[],
+                pages: 4,
+                align: 1,
+                range: (2, 5),
+                mode: Mode::Best,
+                want: Err(InsertFault::NoHole),
+            },
+        ],
+    )?;
+    Ok(())
+}
+
+#[test]
+fn rest_of_a_hole_is_free(rt: HostRuntime) -> Result<(), Fail> {
+    answers(
+        &rt,
+        rt.alloc(),
+        &[
+            Case {
+                held: &[Span { start: 5, end: 7 }],
+                gone: &[],
+                pages: 5,
+                align: 1,
+                range: (0, 16),
+                mode: Mode::Best,
+                want: Ok(Span { start: 0, end: 5 }),
+            },
+            Case {
+                held: &[Span { start: 5, end: 7 }],
+                gone: &[],
+                pages: 6,
+                align: 1,
+                range: (0, 16),
+                mode: Mode::Low,
+                want: Ok(Span { start: 7, end: 13 }),
+            },
+            Case {
+                held: &[Span { start: 12, end: 16 }],
+                gone: &[],
+                pages: 3,
+                align: 1,
+                range: (0, 16),
+                mode: Mode::High,
+                want: Ok(Span { start: 9, end: 12 }),
+            },
+            Case {
+                held: &[
+                    Span { start: 0, end: 4 },
+                    Span { start: 8, end: 16 },
+                    Span { start: 4, end: 8 },
+                ],
+                gone: &[],
+                pages: 1,
+                align: 1,
+                range: (0, 16),
+                mode: Mode::Low,
+                want: Err(InsertFault::NoHole),
+            },
+        ],
+    )?;
+    Ok(())
+}
+
+#[test]
+fn holes_that_touch_are_joined(rt: HostRuntime) -> Result<(), Fail> {
+    answers(
+        &rt,
+        rt.alloc(),
+        &[
+            Case {
+                held: &FIVE,
+                gone: &[4],
+                pages: 2,
+                align: 1,
+                range: (0, 16),
+                mode: Mode::Best,
+                want: Ok(Span { start: 4, end: 6 }),
+            },
+            Case {
+                held: &FIVE,
+                gone: &[4, 10],
+                pages: 3,
+                align: 1,
+                range: (0, 16),
+                mode: Mode::Best,
+                want: Err(InsertFault::NoHole),
+            },
+            Case {
+                held: &FIVE,
+                gone: &[4, 6],
+                pages: 6,
+                align: 1,
+                range: (0, 16),
+                mode: Mode::Best,
+                want: Ok(Span { start: 4, end: 10 }),
+            },
+            Case {
+                held: &FIVE,
+                gone: &[6, 4],
+                pages: 6,
+                align: 1,
+                range: (0, 16),
+                mode: Mode::Best,
+                want: Ok(Span { start: 4, end: 10 }),
+            },
+            Case {
+                held: &FIVE,
+                gone: &[0, 6, 4],
+                pages: 10,
+                align: 1,
+                range: (0, 16),
+                mode: Mode::Best,
+                want: Ok(Span { start: 0, end: 10 }),
+            },
+        ],
+    )?;
+    Ok(())
+}
+
+#[test]
+fn best_and_high_fit(rt: HostRuntime) -> Result<(), Fail> {
+    let mut manager = RangeManager::new(rt.alloc(), 16)?;
+    for span in &FIVE {
+        let pages = span.end.saturating_sub(span.start);
+        assert_eq!(rt; manager.insert(pages, 1, 0, 16, Mode::Best), Ok(*span));
+    }
+    assert_eq!(rt; manager.lengths(), (0, 16));
+    let_go(&rt, &mut manager, &[4, 10]);
+    assert_eq!(rt; manager.lengths(), (3, 13));
+    let best = Span { start: 10, end: 11 };
+    assert_eq!(rt; manager.insert(1, 1, 0, 16, Mode::Best), Ok(best));
+    let top = Span { start: 5, end: 6 };
+    assert_eq!(rt; manager.insert(1, 1, 0, 16, Mode::High), Ok(top));
+    Ok(())
+}
+
+#[test]
+fn reserve_twice(rt: HostRuntime) -> Result<(), Fail> {
+    let mut manager = RangeManager::new(rt.alloc(), 16)?;
+    let span = Span { start: 4, end: 8 };
+    assert_eq!(rt; manager.reserve(span), Ok(()));
+    assert_eq!(rt; manager.reserve(span), Err(InsertFault::NoHole));
+    Ok(())
+}

@@ -1,0 +1,5 @@
+//! Tables of requests to buddy managers of large sizes, with the blocks that each is to get.
+#![tactic(auto)]
+
+#[cfg(test)]
+mod tests;

@@ -1,0 +1,133 @@
+//! Steps a device by named actors, and prints what came of each turn, and the report.
+#![tactic(auto)]
+
+ghost use Rattle.std.specs.Prelude.{◌≡◌, []};
+
+use device_core::Device;
+use io_edge::{Sink, StdSink};
+use page_accounts::accounts_of;
+use report_text::{WriteFault, write_report};
+use rules_stores::StorePage;
+use script_text::read_script;
+use std::alloc::Global;
+use std::io;
+use std::io::{BufRead, BufReader};
+use test_cases::{Case, Table, no_memory};
+use ttm_base::{Actor, JobId, Need, PagePlace, Turn};
+
+/// How many turns follow the steps of a case at most.
+const MOST_TURNS: u32 = 100_000;
+
+fn print_actor(rt: &impl Print, who: Actor) -> io::Result<()> {
+    match who {
+        Actor::Thread(n) => print!(rt; "t{n} "),
+        Actor::Engine(n) => print!(rt; "e{n} "),
+        Actor::Reaper => print!(rt; "r "),
+    }
+}
+
+fn print_need(rt: &impl Print, need: Need) -> io::Result<()> {
+    match need {
+        Need::Fence(JobId { ctx, num }) => println!(rt; "blocked by job {num} of {ctx}"),
+        Need::Holder(stamp) => {
+            let stamp = stamp.0;
+            println!(rt; "blocked by ticket {stamp}")
+        }
+        Need::Ghost(num) => println!(rt; "blocked by ghost {num}"),
+        Need::NoCommand => println!(rt; "without a command"),
+        Need::NoJob => println!(rt; "without a job"),
+        Need::NoGhost => println!(rt; "without a ghost"),
+    }
+}
+
+fn print_turn(rt: &impl Print, turn: Turn) -> io::Result<()> {
+    match turn {
+        Turn::Made(number) => println!(rt; "made {number}"),
+        Turn::Blocked(need) => print_need(rt, need),
+        Turn::Over => println!(rt; "over"),
+    }
+}
+
+/// Takes the turns of a case, and prints what came of each.
+fn take_steps(rt: &impl Print, device: &mut Device, steps: &[Actor]) -> io::Result<()> {
+    for who in steps {
+        let turn = device.step(*who).map_err(no_memory)?;
+        print_actor(rt, *who)?;
+        print_turn(rt, turn)?;
+    }
+    Ok(())
+}
+
+/// Takes turns in the simulator's order until nobody has an entry.
+fn go_to_the_end(device: &mut Device) -> io::Result<()> {
+    for _ in 0..MOST_TURNS {
+        let Some(who) = device.next_actor().map_err(no_memory)? else {
+            break;
+        };
+        let _ = device.step(who).map_err(no_memory)?;
+    }
+    Ok(())
+}
+
+/// Prints the frame that each page of TT stands for.
+fn print_aperture(rt: &impl Print, device: &Device) -> io::Result<()> {
+    print!(rt; "aperture")?;
+    for page in 0..device.script().sizes.tt {
+        match StorePage::named(&device.state().core, PagePlace::Aper(page)) {
+            StorePage::Frame(frame) => print!(rt; " {frame}")?,
+            _ => print!(rt; " -")?,
+        }
+    }
+    println!(rt; "")
+}
+
+/// Writes the report of a device.
+fn write_device<K: Sink>(alloc: Global, device: &Device, sink: &mut K) -> Result<(), WriteFault>
+    requires { device.now.script.marks ≡ [] }
+{
+    let accounts = accounts_of(alloc, device.script(), device.state())?;
+    write_report(alloc, device.script(), device.journal(), &accounts, sink)
+}
+
+/// Prints the report of what was done. A script that was read has no marks.
+fn print_report(rt: &HostRuntime, alloc: Global, device: &Device) {
+    if device.script().marks.items().is_empty() {
+        let _ = write_device(alloc, device, &mut StdSink::new(rt.stdout()));
+    }
+}
+
+/// A device that runs this script.
+fn device_for(alloc: Global, text: &[u8]) -> io::Result<Option<Device>> {
+    match read_script(alloc, text) {
+        Ok(script) => Ok(Some(Device::new(alloc, script).map_err(no_memory)?)),
+        Err(_) => Ok(None),
+    }
+}
+
+fn run(rt: &HostRuntime, alloc: Global, case: &Case) -> io::Result<()> {
+    let name = case.name.as_str();
+    println!(rt; "case {name}")?;
+    let Some(mut device) = device_for(alloc, case.text.as_slice())? else {
+        return println!(rt; "no script");
+    };
+    take_steps(rt, &mut device, case.steps.as_slice())?;
+    if case.to_the_end {
+        go_to_the_end(&mut device)?;
+    }
+    if case.shows_aperture {
+        print_aperture(rt, &device)?;
+    }
+    print_report(rt, alloc, &device);
+    Ok(())
+}
+
+fn main(rt: HostRuntime) -> io::Result<()> {
+    let alloc = rt.alloc();
+    let mut table = Table::new(alloc);
+    for line in BufReader::new(alloc, rt.reader())?.lines(alloc) {
+        if let Some(case) = table.take(line?.as_str())? {
+            run(&rt, alloc, &case)?;
+        }
+    }
+    Ok(())
+}

@@ -1,0 +1,12 @@
+//! Gates that look at workers, and tests of the turn lock, of workers and of the program on threads with them.
+#![tactic(auto)]
+
+#[cfg(test)]
+mod counter;
+mod gates;
+#[cfg(test)]
+mod tests;
+#[cfg(test)]
+mod workers;
+
+pub use gates::{Counting, Meeting, Steering};

@@ -1,0 +1,7 @@
+use Rattle.std.proofs.Common.{arith}
+use Rattle.std.proofs.lemmas.Grind.{common_steps}
+use Rattle.rules_state.proofs.PageLaws.{count_from-push}
+use Rattle.thread_program.proofs.actors.push_engines.Goals as goal
+
+pub loop-e-preserved : goal.loop-e-preserved
+loop-e-preserved c = let more = count_from-push c.loop-e.e 0 in grind (arith, common_steps, more)

@@ -1,0 +1,15 @@
+//! The program from words and bytes to a report and a status, with threads.
+#![tactic(auto)]
+
+mod actors;
+mod counts;
+mod crowd;
+mod launch;
+mod top;
+
+pub use actors::actors_of;
+pub use counts::Counts;
+pub use crowd::run_threads;
+pub use launch::{Launch, read_launch};
+pub use simulator::Status;
+pub use top::ttm_top;
