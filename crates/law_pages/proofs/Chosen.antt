@@ -13,7 +13,7 @@ use Rattle.ttm_base.specs.declared.Place.{Place}
 use Rattle.ttm_base.specs.Holes.{has_page, holes}
 use Rattle.ttm_base.specs.Reach.{common, length_of}
 use Rattle.ttm_base.specs.RangeChoice.{Fit, fit_in, start_to_test, best_fit, fitting_hole, range_choice}
-use Rattle.ttm_base.specs.BuddyChoice.{Candidate, candidate, log2_below, order_above, first_candidate, taken_after, scattered, contiguous, buddy_choice}
+use Rattle.ttm_base.specs.BuddyChoice.{Candidate, candidate, log2, order_of, first_candidate, taken_after, scattered, contiguous, buddy_choice}
 use Rattle.journal_model.specs.declared.script.Script.{Script}
 use Rattle.journal_model.specs.declared.state.Core.{Core}
 use Rattle.journal_model.specs.Commands.{decl}
@@ -102,8 +102,8 @@ scattered_spans : (fuel : ℕ) (f : ℕ → Bool) (size : ℕ) (range : Span) (t
 scattered_spans fuel f size range topdown zero spans e = let same : [] ≡ spans = cc in subst HaveAPage same no_spans
 scattered_spans zero f size range topdown (suc left) spans e = cc
 scattered_spans (suc fuel) f size range topdown (suc left) spans e =
-    by (first_candidate (candidate f size range topdown) (log2_below 16 (suc left) + 1))
-    (λ c g. first_has_page f size range topdown (log2_below 16 (suc left) + 1) c g)
+    by (first_candidate (candidate f size range topdown) (log2 (suc left) + 1))
+    (λ c g. first_has_page f size range topdown (log2 (suc left) + 1) c g)
     (λ c. scattered_spans fuel (λ page. f page && not (has_page page c.block)) size range topdown (suc left - (c.block.end - c.block.start)))
     e
   where
@@ -121,7 +121,7 @@ scattered_spans (suc fuel) f size range topdown (suc left) spans e =
     by (Some c) h k g = onto c (scattered fuel (λ page. f page && not (has_page page c.block)) size range topdown (suc left - (c.block.end - c.block.start))) (h c refl) (k c) g
 
 contiguous_spans : (f : ℕ → Bool) (size : ℕ) (range : Span) (topdown : Bool) (pages : ℕ) (spans : List Span) → 0 < pages → contiguous f size range topdown pages ≡ Some spans → HaveAPage spans
-contiguous_spans f size range topdown pages spans some e = by (candidate f size range topdown (order_above 16 0 pages)) e
+contiguous_spans f size range topdown pages spans some e = by (candidate f size range topdown (order_of pages)) e
   where
     by : (o : Option Candidate) → option_map (λ c. record { start = c.block.start; end = c.block.start + pages } ∷ []) o ≡ Some spans → HaveAPage spans
     by None g = cc
