@@ -1,4 +1,4 @@
--- Statements that nothing proves yet: on the aperture, mappings, address spaces and versions. They were tried on random scripts alone.
+-- Statements that nothing proves yet: on mappings, address spaces and versions. They were tried on random scripts alone.
 use Rattle.std.specs.Prelude.{◌≡◌, ◌↔◌, ℕ, ◌≤◌, List, Some, IsTrue, Contains, drop, filter, flat_map, length}
 use Rattle.std.specs.List.{list_all}
 use Rattle.ttm_base.specs.declared.Op.{Op}
@@ -17,19 +17,7 @@ use Rattle.journal_model.specs.Spaces.{space_of, regions_of, regions_space, has_
 use Rattle.journal_model.specs.ByName.{job_by_name, after_vops, vops_shown}
 use Rattle.journal_model.specs.MarkRules.{has_apart_ranges}
 use Rattle.journal_model.specs.ReportText.{report, report_head}
-use Rattle.journal_model.specs.Spares.{spares_jobs}
 use Rattle.journal_model.specs.Laws.{ForLegal}
-
--- ---- the aperture
-
--- No entry takes or gives an aperture page that an unfinished job names, also by packets that have run. Of those that haven't
--- run it is proved.
-abbrev pub SparesJobs : Script → List Entry → Type 0
-SparesJobs script journal = IsTrue (list_all (λ m. spares_jobs m.before.core m.entry.kind) (made_of script journal))
-
--- what the waits imply of the aperture
-abbrev pub LegalSparesJobs : Type 0
-LegalSparesJobs = ForLegal SparesJobs
 
 -- ---- mappings by the CPU
 

@@ -111,7 +111,7 @@ module _ (c : Core) (page frame : ℕ) where
       let first = in_sum (of_buffer tt_pages page) c.buffers b.0 in
       omega (arith, mine, some, less, first, t)
 
-weighs_once : (script : Script) (c : Core) → AreHeldOnce script c → (page : ℕ) → weight tt_pages page c ≤ 1
+pub weighs_once : (script : Script) (c : Core) → AreHeldOnce script c → (page : ℕ) → weight tt_pages page c ≤ 1
 weighs_once script c once page = by (weight tt_pages page c) (nat_lt page script.sizes.tt) (once tt_pages page)
   where
     by : (w : ℕ) (q : Bool) → w ≤ one q → w ≤ 1
@@ -138,7 +138,7 @@ taken script c new once page less m =
     let few = weighs_once script c once page in
     absurd (omega (arith, some, few, less))
 
-unbind_takes : (c new : Core) (b : BufId) (page : ℕ) → new.buffers ≡ changed unbound c.buffers b → new.ghosts ≡ c.ghosts → has_number (pages_of (spans_in Tt (buffer_in c b))) page ≡ true → weight tt_pages page new + 1 ≤ weight tt_pages page c
+pub unbind_takes : (c new : Core) (b : BufId) (page : ℕ) → new.buffers ≡ changed unbound c.buffers b → new.ghosts ≡ c.ghosts → has_number (pages_of (spans_in Tt (buffer_in c b))) page ≡ true → weight tt_pages page new + 1 ≤ weight tt_pages page c
 unbind_takes c new b page e g h =
     let some = has_times page (pages_of (spans_in Tt (buffer_in c b))) h in
     let none : stands page (spans_in Tt (unbound (buffer_in c b))) ≡ 0 = refl in
@@ -147,7 +147,7 @@ unbind_takes c new b page e g h =
     let d : in_ghosts tt_pages page new.ghosts ≡ in_ghosts tt_pages page c.ghosts = ap (in_ghosts tt_pages page) g in
     omega (arith, some, less, a, d)
 
-free_takes : (c new : Core) (b : BufId) (page : ℕ) → new.buffers ≡ slice_set c.buffers b.0 None → new.ghosts ≡ c.ghosts → has_number (pages_of (spans_in Tt (buffer_in c b))) page ≡ true → weight tt_pages page new + 1 ≤ weight tt_pages page c
+pub free_takes : (c new : Core) (b : BufId) (page : ℕ) → new.buffers ≡ slice_set c.buffers b.0 None → new.ghosts ≡ c.ghosts → has_number (pages_of (spans_in Tt (buffer_in c b))) page ≡ true → weight tt_pages page new + 1 ≤ weight tt_pages page c
 free_takes c new b page e g h = by (live_in c.buffers b) refl h
   where
     by : (o : Option Buffer) → live_in c.buffers b ≡ o → has_number (pages_of (spans_in Tt (unwrap_or o (new_buffer 0)))) page ≡ true → weight tt_pages page new + 1 ≤ weight tt_pages page c
@@ -169,7 +169,7 @@ reaped page g (h ∷ ghosts) = by (h.num == g) (reaped page g ghosts)
     by true rest = let both = times-append page (pages_of h.tt) (tt_of_ghosts g ghosts) in omega (arith, rest, both)
     by false rest = omega (arith, rest)
 
-reap_takes : (c new : Core) (g page : ℕ) → new.buffers ≡ c.buffers → new.ghosts ≡ filter (λ h. not (h.num == g)) c.ghosts → has_number (tt_of_ghosts g c.ghosts) page ≡ true → weight tt_pages page new + 1 ≤ weight tt_pages page c
+pub reap_takes : (c new : Core) (g page : ℕ) → new.buffers ≡ c.buffers → new.ghosts ≡ filter (λ h. not (h.num == g)) c.ghosts → has_number (tt_of_ghosts g c.ghosts) page ≡ true → weight tt_pages page new + 1 ≤ weight tt_pages page c
 reap_takes c new g page e f h =
     let some = has_times page (tt_of_ghosts g c.ghosts) h in
     let less = reaped page g c.ghosts in
@@ -180,7 +180,7 @@ reap_takes c new g page e f h =
 -- ---- each kind
 
 -- a number of a list that is empty, or stands before an empty one
-in_first : (xs : List ℕ) (n : ℕ) → has_number (xs ++ []) n ≡ true → has_number xs n ≡ true
+pub in_first : (xs : List ℕ) (n : ℕ) → has_number (xs ++ []) n ≡ true → has_number xs n ≡ true
 in_first [] n h = h
 in_first (x ∷ xs) n h = by _ (has_number (xs ++ []) n) (has_number xs n) (in_first xs n) h
   where

@@ -1,0 +1,4 @@
+pub mod Holders
+pub mod Emitted
+pub mod Keeps
+pub mod Law
