@@ -14,6 +14,7 @@ use Rattle.lemma_bytes_model.specs.Memory.{Page, Nowhere, Vram, Frame, Slot, Own
 use Rattle.lemma_bytes_model.specs.View.{Owner, Idle, Free, Live, Kept, Target, Ghost}
 use Rattle.lemma_bytes_model.proofs.Actions.{same_page-refl, same_page-true}
 use Rattle.law_holders.specs.Holding.{seen, live_at, kept_in, target_at, in_ghost, buffer_at, Holds, HeldOnce}
+pub use Rattle.law_holders.specs.Holding.{unheld}
 
 -- ---- a search
 
@@ -134,11 +135,6 @@ decide c x ne =
     no none ghostless (Ghost n) h = ghostless h.0 h.1 h.2 h.4
 
 -- ---- the owner
-
--- of a page that nobody holds
-abbrev pub unheld : Page → Owner
-unheld (Vram n) = Free
-unheld _ = Idle
 
 abbrev pub chosen_owner : (c : Core) (x : Page) → Found c x ⊎ ((o : Owner) → Holds c x o → ⊥) → Owner
 chosen_owner c x (inl z) = z.0

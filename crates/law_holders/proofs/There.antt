@@ -5,7 +5,7 @@ use Rattle.ttm_base.specs.Pages as pages
 use Rattle.journal_model.specs.declared.script.Script.{Script}
 use Rattle.journal_model.specs.declared.state.Core.{Core}
 use Rattle.journal_model.specs.Stores.{is_there}
-use Rattle.lemma_bytes_model.specs.Memory.{Page, Nowhere}
+use Rattle.lemma_bytes_model.specs.Memory.{Page}
 use Rattle.lemma_bytes_model.specs.View.{Owner}
 use Rattle.law_owners.proofs.Counts.{one}
 use Rattle.law_owners.proofs.Weights.{room_size, in_buffers, in_ghosts}

@@ -54,6 +54,11 @@ Holds c x (Kept b k) = kept_in (buffer_at c b).mem (buffer_at c b) k ≡ x
 Holds c x (Target b k) = target_at (buffer_at c b) k ≡ x
 Holds c x (Ghost n) = (i : ℕ) × (g : ghosts.Ghost) × (slice_get c.ghosts i ≡ Some g) × (g.num ≡ n) × (in_ghost x g ≡ true)
 
+-- the owner of a page that nobody holds
+abbrev pub unheld : Page → Owner
+unheld (Vram n) = Free
+unheld _ = Idle
+
 -- each page that there is stands in one hold at most
 abbrev pub HeldOnce : Core → Type 0
 HeldOnce c = (x : Page) (o p : Owner) → (x ≡ Nowhere → ⊥) → Holds c x o → Holds c x p → o ≡ p

@@ -105,9 +105,11 @@ move_names x mem page own target h =
 module _ (c : Core) (b : BufId) (live : live_in c.buffers b ≡ Some (buffer_in c b)) (mem : Mem) (job : JobId)
     (own : (buffer_in c b).mem ≡ Tt → length (pages_of (buffer_in c b).spans) ≡ length (buffer_in c b).table)
     (target : mem ≡ Tt → length (pages_of (target_spans Tt (buffer_in c b))) ≡ length (buffer_in c b).table) where
+  -- the buffer that moves
   abbrev x : Buffer
   x = buffer_in c b
 
+  -- its job
   abbrev new : Job
   new = record { id = job; waits = unfinished c (jobs_before_write x); packets = move_packets x mem; ran = 0; finished = false }
 
@@ -234,9 +236,11 @@ live_holds buffers b page id h f = by (live_in buffers b) refl h f
 module _ (script : Script) (c : Core) (job : JobId) (ops : List Op) (ok : list_all (is_op script) ops ≡ true)
     (live : (b : BufId) → has_buffer (first_mentions [] (flat_map buffers_of_op ops)) b ≡ true → live_in c.buffers b ≡ Some (buffer_in c b))
     (long : (b : BufId) → live_in c.buffers b ≡ Some (buffer_in c b) → (buffer_in c b).mem ≡ Tt → length (pages_of (buffer_in c b).spans) ≡ (decl script b).pages) where
+  -- the buffers that it names
   abbrev bs : List BufId
   bs = first_mentions [] (flat_map buffers_of_op ops)
 
+  -- the job as it is emitted
   abbrev armed_job : Job
   armed_job = record { id = job; waits = flat_map (jobs_before_use c ops) bs; packets = packets_of (λ b. packet_place (buffer_in c b)) ops; ran = 0; finished = false }
 
