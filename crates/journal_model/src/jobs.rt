@@ -7,7 +7,7 @@ use ttm_base::ItemList;
 
 /// Jobs in order of emission. Of those at the front that are done it keeps the number, so that who looks for a job that isn't
 /// done doesn't pass them each time.
-#[derive(Debug, Drop)]
+#[derive(Drop)]
 pub struct Jobs {
     all: ItemList<Job>,
     closed: usize,

@@ -135,7 +135,7 @@ fn first_frame_page(buffer: &Buffer) -> u32
 }
 
 /// What comes of the wish to swap a page of a buffer out.
-#[derive(Debug, Drop)]
+#[derive(Drop)]
 pub enum Swap {
     NoFrame,
     NoSlot,

@@ -51,8 +51,8 @@ fn answers(rt: &impl Abort, alloc: Global, cases: &[Case]) -> Result<(), NoMemor
     for case in cases {
         let mut manager = BuddyManager::new(alloc, 12)?;
         let blocks = got(alloc, &mut manager, case.pages, case.range, case.flags)?;
-        assert_eq!(rt; blocks.items(), case.want);
-        assert_eq!(rt; manager.lengths(), case.lengths);
+        assert!(rt; blocks.items() == case.want);
+        assert!(rt; manager.lengths() == case.lengths);
     }
     Ok(())
 }
@@ -150,7 +150,7 @@ fn trimmed_pages_are_free(rt: HostRuntime) -> Result<(), Fail> {
     assert!(rt; manager.is_held(block));
     manager.trim(block, 1);
     let two = got(rt.alloc(), &mut manager, 2, ALL, PLAIN)?;
-    assert_eq!(rt; two.items(), [Span { start: 10, end: 12 }].as_slice());
+    assert!(rt; two.items() == [Span { start: 10, end: 12 }].as_slice());
     Ok(())
 }
 
@@ -161,8 +161,8 @@ fn buddy_splits_and_merges(rt: HostRuntime) -> Result<(), Fail> {
     assert!(rt; manager.are_held(&three));
     manager.release(&three);
     let four = got(rt.alloc(), &mut manager, 4, ALL, CONTIG)?;
-    assert_eq!(rt; four.items(), [Span { start: 8, end: 12 }].as_slice());
+    assert!(rt; four.items() == [Span { start: 8, end: 12 }].as_slice());
     let eight = got(rt.alloc(), &mut manager, 8, ALL, CONTIG)?;
-    assert_eq!(rt; eight.items(), [Span { start: 0, end: 8 }].as_slice());
+    assert!(rt; eight.items() == [Span { start: 0, end: 8 }].as_slice());
     Ok(())
 }

@@ -17,14 +17,14 @@ fn assert_holes(rt: &impl Abort, holes: &Holes, rows: &[(Mode, u32, u32, u32, Op
             Mode::Low => holes.lowest(*pages, 1, *first, *last),
             Mode::High => holes.highest(*pages, 1, *first, *last),
         };
-        assert_eq!(rt; hole, *want);
+        assert!(rt; hole == *want);
     }
 }
 
 /// The hole that has each page.
 fn assert_around(rt: &impl Abort, holes: &Holes, rows: &[(u32, Option<Span>)]) {
     for (page, want) in rows {
-        assert_eq!(rt; holes.around(*page), *want);
+        assert!(rt; holes.around(*page) == *want);
     }
 }
 
@@ -53,7 +53,7 @@ fn taken_hole_leaves_its_nodes(rt: HostRuntime) -> Result<(), Fail> {
     let mut holes = Holes::new(rt.alloc());
     holes.ready(1)?;
     holes.add(LONG);
-    assert_eq!(rt; holes.remove(4), LONG);
+    assert!(rt; holes.remove(4) == LONG);
     assert_holes(&rt, &holes, &[(Mode::Best, 1, 0, 64, None)]);
     holes.add(SHORT);
     let rows = [
@@ -102,8 +102,8 @@ fn rising_holes_are_balanced(rt: HostRuntime) -> Result<(), Fail> {
     holes.add(fourth);
     let fifth = Span { start: 60, end: 61 };
     holes.add(fifth);
-    assert_eq!(rt; holes.remove(20), SHORT);
-    assert_eq!(rt; holes.remove(4), LONG);
+    assert!(rt; holes.remove(20) == SHORT);
+    assert!(rt; holes.remove(4) == LONG);
     assert_around(&rt, &holes, &[(41, Some(HIGH))]);
     let rows = [
         (Mode::Best, 1, 0, 64, Some(fifth)),

@@ -42,7 +42,7 @@ fn buddy_splits_and_merges(rt: HostRuntime) -> Result<(), Fail> {
     let text =
         "buddy 12\nalloc 1 3 0 12 - -\nfree 1\nalloc 2 4 0 12 - contig\nalloc 3 8 0 12 - contig\nalloc 4 1 0 12 - -\nfree 1\nalloc 2 1 0 12 topdown -\n";
     let out = answers(&rt, rt.alloc(), text)?;
-    assert_eq!(rt; out.as_str(), "8-10,10-11\nok\n8-12\n0-8\nnone\nbad\nbad\n");
+    assert!(rt; out.as_str() == "8-10,10-11\nok\n8-12\n0-8\nnone\nbad\nbad\n");
     Ok(())
 }
 
@@ -51,10 +51,7 @@ fn ranges_are_held_and_let_go(rt: HostRuntime) -> Result<(), Fail> {
     let text =
         "mm 12\ninsert 1 4 1 0 12 low\ninsert 2 4 1 0 12 high\nremove 1\nreserve 3 1 2\nreserve 4 1 3\ninsert 4 1 1 0 12 best\ninsert 5 6 2 0 12 best\ninsert 6 1 1 0 12 low\nremove 9\n";
     let out = answers(&rt, rt.alloc(), text)?;
-    assert_eq!(rt;
-        out.as_str(),
-        "0-4\n8-12\nok\nok\nnone\n0-1\n2-8\nnone\nbad\n"
-    );
+    assert!(rt; out.as_str() == "0-4\n8-12\nok\nok\nnone\n0-1\n2-8\nnone\nbad\n");
     Ok(())
 }
 
@@ -103,10 +100,10 @@ fn lines_that_break_a_condition(rt: HostRuntime) -> Result<(), Fail> {
         ("", None),
     ];
     for (text, want) in cases {
-        assert_eq!(rt; readable(rt.alloc(), text)?, want, "{text}");
+        assert!(rt; readable(rt.alloc(), text)? == want, "{text}");
     }
     let operation = Operation::Remove { id: 7 };
-    assert_eq!(rt; (operation.kind(), operation.id()), (Kind::Remove, 7));
-    assert_ne!(rt; Answer::Done, Answer::Bad);
+    assert!(rt; (operation.kind(), operation.id()) == (Kind::Remove, 7));
+    assert!(rt; Answer::Done != Answer::Bad);
     Ok(())
 }

@@ -22,7 +22,7 @@ fn reach_of_a_place(rt: HostRuntime) -> Result<(), Fail> {
         (9, 0, 8, (8, 8)),
     ];
     for (first, last, size, reached) in rows {
-        assert_eq!(rt; reach(&place(Mem::Vram, first, last), size), reached);
+        assert!(rt; reach(&place(Mem::Vram, first, last), size) == reached);
     }
     Ok(())
 }
@@ -40,7 +40,7 @@ fn spans_in_a_reach(rt: HostRuntime) -> Result<(), Fail> {
         ((3, 3), false),
     ];
     for (within, met) in rows {
-        assert_eq!(rt; intersects(&spans, within), met);
+        assert!(rt; intersects(&spans, within) == met);
     }
     Ok(())
 }
@@ -73,7 +73,7 @@ fn resources_that_fit(rt: HostRuntime) -> Result<(), Fail> {
             desired: false,
             fallback: false,
         })?;
-        assert_eq!(rt; compatible(mem, &spans, &Placement { list }, 8), fits);
+        assert!(rt; compatible(mem, &spans, &Placement { list }, 8) == fits);
     }
     Ok(())
 }
@@ -98,11 +98,11 @@ fn places_by_their_flags(rt: HostRuntime) -> Result<(), Fail> {
         fallback: false,
     })?;
     let placement = Placement { list };
-    assert_eq!(rt; first_count(&placement), 2);
-    assert_eq!(rt; first_at(&placement, 0).mem, Mem::Vram);
-    assert_eq!(rt; first_at(&placement, 1).mem, Mem::System);
-    assert_eq!(rt; forced_count(&placement), 2);
-    assert_eq!(rt; forced_at(&placement, 0).mem, Mem::Tt);
-    assert_eq!(rt; forced_at(&placement, 1).mem, Mem::System);
+    assert!(rt; first_count(&placement) == 2);
+    assert!(rt; first_at(&placement, 0).mem == Mem::Vram);
+    assert!(rt; first_at(&placement, 1).mem == Mem::System);
+    assert!(rt; forced_count(&placement) == 2);
+    assert!(rt; forced_at(&placement, 0).mem == Mem::Tt);
+    assert!(rt; forced_at(&placement, 1).mem == Mem::System);
     Ok(())
 }

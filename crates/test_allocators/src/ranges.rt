@@ -37,12 +37,12 @@ fn answers(rt: &impl Abort, alloc: Global, cases: &[Case]) -> Result<(), NoMemor
     for case in cases {
         let mut manager = RangeManager::new(alloc, 16)?;
         for span in case.held {
-            assert_eq!(rt; manager.reserve(*span), Ok(()));
+            assert!(rt; manager.reserve(*span) == Ok(()));
         }
         let_go(rt, &mut manager, case.gone);
         let (first, last) = case.range;
         let got = manager.insert(case.pages, case.align.max(1), first, last, case.mode);
-        assert_eq!(rt; got, case.want);
+        assert!(rt; got == case.want);
     }
     Ok(())
 }
@@ -206,15 +206,15 @@ fn best_and_high_fit(rt: HostRuntime) -> Result<(), Fail> {
     let mut manager = RangeManager::new(rt.alloc(), 16)?;
     for span in &FIVE {
         let pages = span.end.saturating_sub(span.start);
-        assert_eq!(rt; manager.insert(pages, 1, 0, 16, Mode::Best), Ok(*span));
+        assert!(rt; manager.insert(pages, 1, 0, 16, Mode::Best) == Ok(*span));
     }
-    assert_eq!(rt; manager.lengths(), (0, 16));
+    assert!(rt; manager.lengths() == (0, 16));
     let_go(&rt, &mut manager, &[4, 10]);
-    assert_eq!(rt; manager.lengths(), (3, 13));
+    assert!(rt; manager.lengths() == (3, 13));
     let best = Span { start: 10, end: 11 };
-    assert_eq!(rt; manager.insert(1, 1, 0, 16, Mode::Best), Ok(best));
+    assert!(rt; manager.insert(1, 1, 0, 16, Mode::Best) == Ok(best));
     let top = Span { start: 5, end: 6 };
-    assert_eq!(rt; manager.insert(1, 1, 0, 16, Mode::High), Ok(top));
+    assert!(rt; manager.insert(1, 1, 0, 16, Mode::High) == Ok(top));
     Ok(())
 }
 
@@ -222,7 +222,7 @@ fn best_and_high_fit(rt: HostRuntime) -> Result<(), Fail> {
 fn reserve_twice(rt: HostRuntime) -> Result<(), Fail> {
     let mut manager = RangeManager::new(rt.alloc(), 16)?;
     let span = Span { start: 4, end: 8 };
-    assert_eq!(rt; manager.reserve(span), Ok(()));
-    assert_eq!(rt; manager.reserve(span), Err(InsertFault::NoHole));
+    assert!(rt; manager.reserve(span) == Ok(()));
+    assert!(rt; manager.reserve(span) == Err(InsertFault::NoHole));
     Ok(())
 }

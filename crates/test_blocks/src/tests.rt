@@ -60,9 +60,9 @@ fn answers(rt: &impl Abort, alloc: Global, table: Table) -> Result<(), NoMemory>
     }
     for (flags, range, want) in table.rows {
         let blocks = got(alloc, &mut manager, table.pages, *flags, *range)?;
-        assert_eq!(rt; blocks.len(), want.len());
+        assert!(rt; blocks.len() == want.len());
         for (block, (start, end)) in blocks.items().iter().zip(*want) {
-            assert_eq!(rt; (block.start, block.end), (*start, *end));
+            assert!(rt; (block.start, block.end) == (*start, *end));
         }
         if manager.are_held(&blocks) {
             manager.release(&blocks);

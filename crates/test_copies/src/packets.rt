@@ -29,7 +29,7 @@ fn assert_cut(
         places.push(row(alloc, *b, frames)?)?;
     }
     let packets = cut(alloc, ops, &places)?;
-    assert_eq!(rt; packets.as_slice(), want);
+    assert!(rt; packets.as_slice() == want);
     Ok(())
 }
 
@@ -40,7 +40,7 @@ fn assert_frames(rt: &impl Abort, stores: &Stores, rows: &[(u64, &[u8])])
     for (at, want) in rows {
         let is_within = *at < 4096 * 7 && want.len() < 4096;
         assert!(rt; is_within);
-        assert_eq!(rt; stores.frames.part(*at, want.len() as u64), *want);
+        assert!(rt; stores.frames.part(*at, want.len() as u64) == *want);
     }
 }
 
@@ -60,8 +60,8 @@ fn packet_follows_the_aperture(rt: HostRuntime) -> Result<(), Fail> {
     run(&packet, &mut stores, &mut out);
     let rows: [(u64, &[u8]); 2] = [(4096 * 5, &[0, 0]), (4096 * 6, &[170, 0])];
     assert_frames(&rt, &stores, &rows);
-    assert_eq!(rt; stores.vram.part(0, 2), [0, 0].as_slice());
-    assert_eq!(rt; out.bytes(), [].as_slice());
+    assert!(rt; stores.vram.part(0, 2) == [0, 0].as_slice());
+    assert!(rt; out.bytes() == [].as_slice());
     Ok(())
 }
 
@@ -115,7 +115,7 @@ fn job_of_three_ops(rt: HostRuntime) -> Result<(), Fail> {
     run(&copy, &mut stores, &mut out);
     run(&fill, &mut stores, &mut out);
     run(&probe, &mut stores, &mut out);
-    assert_eq!(rt; out.bytes(), [0, 1, 2, 0].as_slice());
+    assert!(rt; out.bytes() == [0, 1, 2, 0].as_slice());
     let rows: [(u64, &[u8]); 2] = [(0, &[0xff, 2, 0]), (4096 + 3, &[0, 1, 2, 0])];
     assert_frames(&rt, &stores, &rows);
     Ok(())
@@ -167,7 +167,7 @@ fn packets_between_vram_and_frames(rt: HostRuntime) -> Result<(), Fail> {
         len: 5,
     };
     run(&probe, &mut stores, &mut out);
-    assert_eq!(rt; out.bytes(), [0, 1, 2, 3, 0].as_slice());
+    assert!(rt; out.bytes() == [0, 1, 2, 3, 0].as_slice());
     let xor = Packet::Xor {
         to: PagePlace::Frame(2),
         toff: 10,
@@ -178,8 +178,8 @@ fn packets_between_vram_and_frames(rt: HostRuntime) -> Result<(), Fail> {
     run(&xor, &mut stores, &mut out);
     let rows: [(u64, &[u8]); 1] = [(4096 * 2 + 9, &[0, 3, 1, 3, 0])];
     assert_frames(&rt, &stores, &rows);
-    assert_eq!(rt; out.bytes(), [].as_slice());
+    assert!(rt; out.bytes() == [].as_slice());
     out.set(&[4, 5]);
-    assert_eq!(rt; out.bytes(), [4, 5].as_slice());
+    assert!(rt; out.bytes() == [4, 5].as_slice());
     Ok(())
 }

@@ -81,7 +81,7 @@ fn jobs_and_packets_in_order(rt: HostRuntime) -> Result<(), Fail> {
     let mut stores = stores(rt.alloc(), 0, 1, 0)?;
     let mut out = ProbeBytes::new(rt.alloc())?;
     let mut rings = Rings::new(rt.alloc(), 1)?;
-    assert_eq!(&rt; head(&rings), None);
+    assert!(&rt; head(&rings) == None);
     let one = JobId { ctx: 0, num: 1 };
     let two = JobId { ctx: 0, num: 2 };
     let fill = Packet::Fill {
@@ -109,12 +109,12 @@ fn jobs_and_packets_in_order(rt: HostRuntime) -> Result<(), Fail> {
         (two, Some(1), 0),
         (two, None, 0),
     ] {
-        assert_eq!(&rt; head(&rings), Some(job));
+        assert!(&rt; head(&rings) == Some(job));
         let ran = step(&mut rings, &mut stores, &mut out);
-        assert_eq!(&rt; ran, number);
-        assert_eq!(&rt; out.bytes().len(), shown);
+        assert!(&rt; ran == number);
+        assert!(&rt; out.bytes().len() == shown);
     }
-    assert_eq!(&rt; head(&rings), None);
+    assert!(&rt; head(&rings) == None);
     Ok(())
 }
 
@@ -133,8 +133,8 @@ fn head_waits_for_all_usages(rt: HostRuntime) -> Result<(), Fail> {
     assert!(&rt; made);
     if line.contexts() == rings.contexts() && 0 < rings.contexts() {
         if rings.head(0).is_some() {
-            assert_eq!(&rt; rings.ready(0, &line), Some(reader));
-            assert_eq!(&rt; rings.ran(0), 0);
+            assert!(&rt; rings.ready(0, &line) == Some(reader));
+            assert!(&rt; rings.ran(0) == 0);
         }
     }
     Ok(())

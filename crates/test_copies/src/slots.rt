@@ -8,17 +8,17 @@ fn two_slots(rt: HostRuntime) -> Result<(), Fail> {
     let c = [3; 4096];
     let mut into = [0; 4096];
     let mut store = SwapStore::new(rt.alloc(), 2)?;
-    assert_eq!(rt; store.put(&a), Some(0));
-    assert_eq!(rt; store.put(&b), Some(1));
-    assert_eq!(rt; store.put(&c), None);
-    assert_eq!(rt; store.first(), None);
+    assert!(rt; store.put(&a) == Some(0));
+    assert!(rt; store.put(&b) == Some(1));
+    assert!(rt; store.put(&c) == None);
+    assert!(rt; store.first() == None);
     store.take(0, &mut into);
-    assert_eq!(rt; into.as_slice(), a.as_slice());
-    assert_eq!(rt; store.first(), Some(0));
-    assert_eq!(rt; store.put(&c), Some(0));
+    assert!(rt; into.as_slice() == a.as_slice());
+    assert!(rt; store.first() == Some(0));
+    assert!(rt; store.put(&c) == Some(0));
     store.take(0, &mut into);
-    assert_eq!(rt; into.as_slice(), c.as_slice());
+    assert!(rt; into.as_slice() == c.as_slice());
     store.drop_slot(1);
-    assert_eq!(rt; store.put(&a), Some(0));
+    assert!(rt; store.put(&a) == Some(0));
     Ok(())
 }

@@ -74,7 +74,7 @@ fn report_of_an_empty_script(rt: HostRuntime) -> Result<(), Fail> {
     for chunk in [1, 7, 1000] {
         let mut sink = MemSink::new(rt.alloc(), 1000, chunk, Vec::new(rt.alloc()))?;
         write_empty(rt.alloc(), &mut sink)?;
-        assert_eq!(rt; sink.bytes(), EMPTY_REPORT);
+        assert!(rt; sink.bytes() == EMPTY_REPORT);
     }
     Ok(())
 }
@@ -85,9 +85,9 @@ fn failing_writes(rt: HostRuntime) -> Result<(), Fail> {
     for k in 1..=9 {
         let fails = Vec::from_slice(rt.alloc(), &[k])?;
         let mut sink = MemSink::new(rt.alloc(), 1000, 1000, fails)?;
-        assert_eq!(rt; write_empty(rt.alloc(), &mut sink), Err(WriteFault::Failed));
+        assert!(rt; write_empty(rt.alloc(), &mut sink) == Err(WriteFault::Failed));
         let lines = sink.bytes().iter().filter(|byte| **byte == b'\n').count();
-        assert_eq!(rt; lines as u64 + 1, k);
+        assert!(rt; lines as u64 + 1 == k);
         assert!(rt; EMPTY_REPORT.starts_with(sink.bytes()));
     }
     Ok(())
@@ -186,7 +186,7 @@ fn results_and_accounts(rt: HostRuntime) -> Result<(), Fail> {
     let mut line = Line::new(a);
     let mut sink = MemSink::new(a, 1000, 1000, Vec::new(a))?;
     write_outcome(&mut line, &script(a)?, &journal, &accounts, &mut sink)?;
-    assert_eq!(rt; sink.bytes(), OUTCOME);
+    assert!(rt; sink.bytes() == OUTCOME);
     Ok(())
 }
 
@@ -265,7 +265,7 @@ fn lines_of_entries(rt: HostRuntime) -> Result<(), Fail> {
     let mut line = Line::new(a);
     let mut sink = MemSink::new(a, 1000, 1000, Vec::new(a))?;
     write_journal(&mut line, &script(a)?, &journal, &mut sink)?;
-    assert_eq!(rt; sink.bytes(), ENTRIES);
+    assert!(rt; sink.bytes() == ENTRIES);
     Ok(())
 }
 

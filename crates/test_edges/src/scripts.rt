@@ -39,7 +39,7 @@ fn edited(alloc: Global, front: usize, text: &str, back: usize) -> Result<String
 fn assert_fault(rt: &impl Abort, alloc: Global, text: &[u8], line: u32, rule: u32, what: &str) {
     match read_script(alloc, text) {
         Ok(_) => assert!(rt; false, "read: {what}"),
-        Err(fault) => assert_eq!(rt; fault, ScriptFault::Bad { line, rule }, "{what}"),
+        Err(fault) => assert!(rt; fault == ScriptFault::Bad { line, rule }, "{what}"),
     }
 }
 
@@ -48,17 +48,17 @@ fn reads_each_command(rt: HostRuntime) -> Result<(), Fail> {
     let alloc = rt.alloc();
     let text = edited(alloc, 0, "", 0)?;
     let script = read_script(alloc, text.as_bytes())?;
-    assert_eq!(rt; script.sizes.frames, 2);
-    assert_eq!(rt; script.buffers.len(), 1);
-    assert_eq!(rt; script.buffers.get(0).name.items(), b"a".as_slice());
-    assert_eq!(rt; script.threads.len(), 1);
+    assert!(rt; script.sizes.frames == 2);
+    assert!(rt; script.buffers.len() == 1);
+    assert!(rt; script.buffers.get(0).name.items() == b"a".as_slice());
+    assert!(rt; script.threads.len() == 1);
     let commands = script.threads.get(0);
-    assert_eq!(rt; commands.len(), 3);
+    assert!(rt; commands.len() == 3);
     match commands.get(1) {
         Command::Write { b, off, bytes } => {
-            assert_eq!(rt; b.0, 0);
-            assert_eq!(rt; *off, 4094);
-            assert_eq!(rt; bytes.items(), [1, 2].as_slice());
+            assert!(rt; b.0 == 0);
+            assert!(rt; *off == 4094);
+            assert!(rt; bytes.items() == [1, 2].as_slice());
         }
         _ => assert!(rt; false, "no write"),
     }

@@ -23,9 +23,9 @@ fn reads_fail_where_listed(rt: HostRuntime) -> Result<(), Fail> {
         let mut source = source(rt.alloc(), 4, &[k])?;
         let read = read_all(rt.alloc(), &mut source, TEXT.len());
         if k == 5 {
-            assert_eq!(rt; read?.as_slice(), TEXT);
+            assert!(rt; read?.as_slice() == TEXT);
         } else {
-            assert_eq!(rt; read.err(), Some(ReadFault::Failed), "at read {k}");
+            assert!(rt; read.err() == Some(ReadFault::Failed), "at read {k}");
         }
     }
     Ok(())
@@ -36,13 +36,13 @@ fn quiet_edges_never_fault(rt: HostRuntime) -> Result<(), Fail> {
     for chunk in [1, 3, 10, 5000] {
         let mut source = source(rt.alloc(), chunk, &[])?;
         let bytes = read_all(rt.alloc(), &mut source, 5000)?;
-        assert_eq!(rt; bytes.as_slice(), TEXT);
-        assert_eq!(rt; source.read(&mut [0]), Ok(0));
+        assert!(rt; bytes.as_slice() == TEXT);
+        assert!(rt; source.read(&mut [0]) == Ok(0));
 
         let mut sink = MemSink::new(rt.alloc(), 2 * TEXT.len(), chunk, Vec::new(rt.alloc()))?;
         write_all(&mut sink, &bytes)?;
         write_all(&mut sink, &bytes)?;
-        assert_eq!(rt; sink.bytes(), b"ttm 1\nend\nttm 1\nend\n".as_slice());
+        assert!(rt; sink.bytes() == b"ttm 1\nend\nttm 1\nend\n".as_slice());
     }
     Ok(())
 }
@@ -56,9 +56,9 @@ fn one_byte_more_than_the_limit(rt: HostRuntime) -> Result<(), Fail> {
     ] {
         let mut source = source(rt.alloc(), 1, &[])?;
         let read = read_all(rt.alloc(), &mut source, limit);
-        assert_eq!(rt; read.err(), want, "limit {limit}");
+        assert!(rt; read.err() == want, "limit {limit}");
         let left = read_all(rt.alloc(), &mut source, 10)?;
-        assert_eq!(rt; left.as_slice(), &TEXT[10.min(limit + 1)..]);
+        assert!(rt; left.as_slice() == &TEXT[10.min(limit + 1)..]);
     }
     Ok(())
 }
@@ -76,8 +76,8 @@ fn writes_fail_where_listed(rt: HostRuntime) -> Result<(), Fail> {
     for (room, chunk, fail, want) in cases {
         let fails = Vec::from_slice(rt.alloc(), &[fail])?;
         let mut sink = MemSink::new(rt.alloc(), room, chunk, fails)?;
-        assert_eq!(rt; write_all(&mut sink, TEXT), Err(Failed));
-        assert_eq!(rt; sink.bytes(), want);
+        assert!(rt; write_all(&mut sink, TEXT) == Err(Failed));
+        assert!(rt; sink.bytes() == want);
     }
     Ok(())
 }
@@ -131,14 +131,8 @@ fn faults_of_a_reader_and_a_writer(rt: HostRuntime) -> Result<(), Fail> {
         good: 3,
         full: false,
     });
-    assert_eq!(rt;
-        read_all(rt.alloc(), &mut input, 9).err(),
-        Some(ReadFault::Failed)
-    );
-    assert_eq!(rt;
-        read_all(rt.alloc(), &mut StdSource::new(TEXT), 10)?.as_slice(),
-        TEXT
-    );
+    assert!(rt; read_all(rt.alloc(), &mut input, 9).err() == Some(ReadFault::Failed));
+    assert!(rt; read_all(rt.alloc(), &mut StdSource::new(TEXT), 10)?.as_slice() == TEXT);
 
     // Each piece is written and flushed: two calls.
     for (good, full, want) in [
@@ -152,7 +146,7 @@ fn faults_of_a_reader_and_a_writer(rt: HostRuntime) -> Result<(), Fail> {
             good,
             full,
         });
-        assert_eq!(rt; output.write(b"text"), want);
+        assert!(rt; output.write(b"text") == want);
     }
     Ok(())
 }

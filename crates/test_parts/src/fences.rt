@@ -44,7 +44,7 @@ fn need(set: &FenceSet, usage: Usage, line: &Timeline) -> Option<JobId> {
 /// Of each usage the job to wait for.
 fn assert_need(rt: &impl Abort, set: &FenceSet, line: &Timeline, rows: &[(Usage, Option<JobId>)]) {
     for (usage, wanted) in rows {
-        assert_eq!(rt; need(set, *usage, line), *wanted);
+        assert!(rt; need(set, *usage, line) == *wanted);
     }
 }
 
@@ -62,12 +62,12 @@ fn jobs_are_done_in_order(rt: HostRuntime) -> Result<(), Fail> {
     let mut line = Timeline::new(rt.alloc(), 2)?;
     for (ctx, num) in [(0, 1), (0, 2), (1, 1)] {
         let job = emitted(&mut line, ctx);
-        assert_eq!(&rt; job, Some(JobId { ctx, num }));
+        assert!(&rt; job == Some(JobId { ctx, num }));
     }
     let marked = finished(&mut line, 0);
     assert!(&rt; marked);
     for (ctx, num, done) in [(0, 1, true), (0, 2, false), (1, 1, false)] {
-        assert_eq!(&rt; is_done(&line, JobId { ctx, num }), done);
+        assert!(&rt; is_done(&line, JobId { ctx, num }) == done);
     }
     Ok(())
 }

@@ -71,7 +71,7 @@ fn assert_order(
     requires { prio < 4 }
 {
     let seen = walk(alloc, lru, prio, 201)?;
-    assert_eq!(rt; seen.as_slice(), want);
+    assert!(rt; seen.as_slice() == want);
     Ok(())
 }
 
@@ -117,7 +117,7 @@ fn victims_in_priority_and_bulk_order(rt: HostRuntime) -> Result<(), Fail> {
     lru.bulk_tail(0);
     for (victim, next, prio) in [(1, 3, 1), (0, 4, 1), (2, 5, 1), (3, 6, 0), (6, 7, 1)] {
         let evicted = evict(&mut lru);
-        assert_eq!(&rt; evicted, Some(BufId(victim)));
+        assert!(&rt; evicted == Some(BufId(victim)));
         list_all(&rt, &mut lru, prio, &[(next, None)])?;
     }
     Ok(())
@@ -149,7 +149,7 @@ fn touched_and_relisted(rt: HostRuntime) -> Result<(), Fail> {
     touch(&rt, &mut lru, BufId(0));
     assert_order(&rt, rt.alloc(), &lru, 2, &[2, 0, 1, 3])?;
     relist(&rt, &mut lru, BufId(2), Mem::Tt);
-    assert_eq!(&rt; lru.first(Mem::Tt, 2), Some(BufId(2)));
+    assert!(&rt; lru.first(Mem::Tt, 2) == Some(BufId(2)));
     touch(&rt, &mut lru, BufId(0));
     assert_order(&rt, rt.alloc(), &lru, 2, &[1, 3, 0])?;
     Ok(())

@@ -9,17 +9,17 @@ fn one_ticket_holds_it(rt: HostRuntime) -> Result<(), Fail> {
     let mut resv = Resv::new(rt.alloc(), 1)?;
     for (stamp, taken) in [(3, true), (2, false), (3, false)] {
         let took = resv.try_take(Stamp(stamp));
-        assert_eq!(&rt; took, taken);
-        assert_eq!(&rt; resv.holder(), Some(Stamp(3)));
+        assert!(&rt; took == taken);
+        assert!(&rt; resv.holder() == Some(Stamp(3)));
     }
     if resv.holder().is_some() {
         resv.release();
     }
-    assert_eq!(&rt; resv.holder(), None);
+    assert!(&rt; resv.holder() == None);
     let took = resv.try_take(Stamp(2));
     assert!(&rt; took);
     resv.clear();
-    assert_eq!(&rt; resv.holder(), None);
+    assert!(&rt; resv.holder() == None);
     Ok(())
 }
 
@@ -29,7 +29,7 @@ fn jobs_are_waited_for_by_usage(rt: HostRuntime) -> Result<(), Fail> {
     let mut resv = Resv::new(rt.alloc(), 1)?;
     let job = JobId { ctx: 0, num: 1 };
     let made = emitted(&mut line, 0);
-    assert_eq!(&rt; made, Some(job));
+    assert!(&rt; made == Some(job));
     if 0 < resv.fences().contexts() {
         resv.add_fence(job, Usage::Write);
     }
@@ -39,11 +39,11 @@ fn jobs_are_waited_for_by_usage(rt: HostRuntime) -> Result<(), Fail> {
             (Usage::Write, Some(job)),
             (Usage::Read, Some(job)),
         ] {
-            assert_eq!(&rt; resv.need(usage, &line), wanted);
+            assert!(&rt; resv.need(usage, &line) == wanted);
         }
         resv.clear();
         assert!(&rt; resv.fences().contexts() == 1);
     }
-    assert_eq!(&rt; resv.fences().contexts(), line.contexts());
+    assert!(&rt; resv.fences().contexts() == line.contexts());
     Ok(())
 }

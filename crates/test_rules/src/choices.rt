@@ -61,7 +61,7 @@ fn found(alloc: Global, case: &Case) -> Result<Spans, NoMemory> {
 fn answers(rt: &impl Abort, alloc: Global, cases: &[Case]) -> Result<(), NoMemory> {
     for (i, case) in cases.iter().enumerate() {
         let pages = found(alloc, case)?;
-        assert_eq!(rt; pages.items(), case.want, "case {i}");
+        assert!(rt; pages.items() == case.want, "case {i}");
     }
     Ok(())
 }

@@ -105,23 +105,23 @@ fn buffer_moves_and_leaves_a_ghost(rt: HostRuntime) -> Result<(), Fail> {
     let Some(Some(buffer)) = state.core.buffers.items().get(0) else {
         panic!(rt; "the buffer is dead");
     };
-    assert_eq!(rt; buffer.mem, Mem::Vram);
-    assert_eq!(rt; buffer.fences.len(), 2);
+    assert!(rt; buffer.mem == Mem::Vram);
+    assert!(rt; buffer.fences.len() == 2);
     let Some(left) = state.core.ghosts.items().get(0) else {
         panic!(rt; "there is no ghost");
     };
-    assert_eq!(rt; left.frames.items(), [2, 0].as_slice());
+    assert!(rt; left.frames.items() == [2, 0].as_slice());
     // The job fills up to a page border, and from there on.
     let Some(job) = state.core.jobs.items().get(0) else {
         panic!(rt; "there is no job");
     };
-    assert_eq!(rt; job.packets.len(), 2);
+    assert!(rt; job.packets.len() == 2);
     end_of_both_jobs(&rt, alloc, &script, &mut state)?;
-    assert_eq!(rt; state.core.ghosts.len(), 0);
+    assert!(rt; state.core.ghosts.len() == 0);
     let Some(course) = state.courses.items().get(0) else {
         panic!(rt; "there is no thread");
     };
-    assert_eq!(rt; course.answered, 2);
+    assert!(rt; course.answered == 2);
     Ok(())
 }
 

@@ -18,14 +18,14 @@ fn jobs_at_the_front_are_closed_once_done(rt: HostRuntime) -> Result<(), Fail> {
     let alloc = rt.alloc();
     let mut jobs = three_jobs(alloc)?;
     jobs.finish(JobId { ctx: 2, num: 1 });
-    assert_eq!(rt; jobs.pending().len(), 3);
+    assert!(rt; jobs.pending().len() == 3);
     jobs.finish(JobId { ctx: 1, num: 1 });
-    assert_eq!(rt; jobs.pending().len(), 1);
-    assert_eq!(rt; jobs.items().len(), 3);
+    assert!(rt; jobs.pending().len() == 1);
+    assert!(rt; jobs.items().len() == 3);
     assert!(rt; jobs.named(JobId { ctx: 2, num: 1 }).is_some());
     assert!(rt; jobs.named(JobId { ctx: 2, num: 2 }).is_none());
     jobs.drop_last();
-    assert_eq!(rt; jobs.items().len(), 2);
-    assert_eq!(rt; jobs.pending().len(), 0);
+    assert!(rt; jobs.items().len() == 2);
+    assert!(rt; jobs.pending().len() == 0);
     Ok(())
 }

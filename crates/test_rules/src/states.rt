@@ -87,7 +87,7 @@ fn buffers_of_commands(rt: HostRuntime) -> Result<(), Fail> {
     are(&rt, named(alloc, &Command::Pin { b: B }), &[B])?;
     let script = small_script(alloc);
     let places = asked_places(alloc, &script, &Command::SwapOut { b: A }, A)?;
-    assert_eq!(rt; places.len(), 1);
+    assert!(rt; places.len() == 1);
     Ok(())
 }
 
@@ -139,8 +139,8 @@ fn what_is_free(rt: HostRuntime) -> Result<(), Fail> {
     let core = read_core(alloc)?;
     let frame = free_frame(alloc, &script, &core)?;
     let slot = free_slot(alloc, &script, &core)?;
-    assert_eq!(rt; frame, Some(1));
-    assert_eq!(rt; slot, None);
+    assert!(rt; frame == Some(1));
+    assert!(rt; slot == None);
     Ok(())
 }
 
@@ -185,7 +185,7 @@ fn search_of_a_state(rt: HostRuntime) -> Result<(), Fail> {
         mem: Mem::Vram,
     };
     let quest = quest_at_work(alloc, &script, &state, &course, &moved, A)?;
-    assert_eq!(rt; quest.list.len(), 1);
-    assert_eq!(rt; quest.forced, false);
+    assert!(rt; quest.list.len() == 1);
+    assert!(rt; quest.forced == false);
     Ok(())
 }

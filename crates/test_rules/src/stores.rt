@@ -88,7 +88,7 @@ fn filled_page_goes_through_swap(rt: HostRuntime) -> Result<(), Fail> {
         piece: Bytes::new(alloc),
     };
     match stores.showing(alloc, &script, &state, ENGINE, look)? {
-        Kind::Packet { piece, .. } => assert_eq!(rt; piece.items(), [0, 0, 7, 7].as_slice()),
+        Kind::Packet { piece, .. } => assert!(rt; piece.items() == [0, 0, 7, 7].as_slice()),
         _ => panic!(rt; "the kind is another"),
     }
     Ok(())

@@ -46,8 +46,8 @@ fn engines_go_before_threads_and_elders_before_others(rt: HostRuntime) -> Result
         Actor::Thread(2),
         Actor::Thread(1),
     ];
-    assert_eq!(rt; order.items(), want.as_slice());
-    assert_eq!(rt; next_actor(alloc, &script, &state)?, Some(Actor::Engine(1)));
+    assert!(rt; order.items() == want.as_slice());
+    assert!(rt; next_actor(alloc, &script, &state)? == Some(Actor::Engine(1)));
     assert!(rt; !is_over(&script, &state));
     state.core.jobs.finish(JobId { ctx: 1, num: 1 });
     assert!(rt; is_over(&script, &state));

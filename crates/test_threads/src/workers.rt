@@ -40,13 +40,10 @@ fn fence_words_tell_what_was_raised(rt: HostRuntime) -> Result<(), Fail> {
     let third = turns.peek_fence(&mut pass, 0, 3);
     let fourth = turns.peek_fence(&mut pass, 0, 4);
     let others = turns.peek_fence(&mut other, 0, 3);
-    assert_eq!(rt;
-        (first, second, third, fourth, others),
-        (true, true, true, false, true)
-    );
+    assert!(rt; (first, second, third, fourth, others) == (true, true, true, false, true));
     turns.join(&mut pass, other);
     let counter = turns.close(&rt, pass);
-    assert_eq!(rt; counter.journal().len(), 6);
+    assert!(rt; counter.journal().len() == 6);
     Ok(())
 }
 
@@ -60,6 +57,6 @@ fn two_workers_are_at_work_at_once(rt: HostRuntime) -> Result<(), Fail> {
     let (answer, pass) = work_all(&rt, rt.alloc(), &turns, pass, &meeting, &actors);
     let counter = turns.close(&rt, pass);
     assert!(rt; answer.is_ok() && meeting.have_met());
-    assert_eq!(rt; counter.journal().len(), 20);
+    assert!(rt; counter.journal().len() == 20);
     Ok(())
 }
