@@ -36,7 +36,9 @@ use Rattle.journal_model.specs.LineWords.{keyword_of, may_come, line_of}
 use Rattle.journal_model.specs.LineRules.{rule_broken, lens_of_line}
 use Rattle.journal_model.specs.CommandRules.{is_between}
 
--- ---- what a line that breaks no rule says; a part that is missing counts as 0 here, which doesn't come up
+-- ---- the parts of a line
+-- A line in which a part is missing breaks one of the rules 4 to 11 and is read no further: so it doesn't matter what the functions
+-- of this block, `op_in` and `unwrap_or` below give for such a part.
 
 -- the number, or 0
 abbrev pub or_zero : Option ℕ → ℕ
@@ -50,11 +52,22 @@ or_first b = unwrap_or b (record { 0 = 0 })
 abbrev pub no_place : FlaggedPlace
 no_place = record { place = record { mem = System; first = 0; last = 0; topdown = false; contig = false }; desired = false; fallback = false }
 
--- the place of a word
+-- the place of a word, or all of SYSTEM
 abbrev pub place_in : PlaceWord → FlaggedPlace
 place_in (place_word.Is f) = f
-place_in place_word.BrokenNumber = no_place
-place_in place_word.Malformed = no_place
+place_in _ = no_place
+
+-- the actor of a word, or the reaper
+abbrev pub actor_in : ActorWord → Actor
+actor_in (actor_word.Is who) = who
+actor_in _ = actor.Reaper
+
+-- the engine of a word, or 0
+abbrev pub engine_in : EngineWord → ℕ
+engine_in (engine_word.Is engine) = engine
+engine_in _ = 0
+
+-- ---- what a line that breaks no rule says
 
 -- a place of the list that is wanted, in version 1
 abbrev pub wanted : PlaceWord → FlaggedPlace
@@ -68,19 +81,6 @@ taken_under_pressure w = record { place = (place_in w).place; desired = false; f
 abbrev pub decl_of : BufferHead → List FlaggedPlace → Decl
 decl_of h list =
     record { name = h.name; pages = or_zero h.pages; prio = or_zero h.prio; group = unwrap_or h.group None; align = or_zero h.align; placement = record { list = list } }
-
--- the actor of a word
-abbrev pub actor_in : ActorWord → Actor
-actor_in (actor_word.Is who) = who
-actor_in actor_word.BrokenNumber = actor.Reaper
-actor_in actor_word.Missing = actor.Reaper
-actor_in actor_word.Malformed = actor.Reaper
-
--- the engine of a word
-abbrev pub engine_in : EngineWord → ℕ
-engine_in (engine_word.Is engine) = engine
-engine_in engine_word.BrokenNumber = 0
-engine_in engine_word.Missing = 0
 
 -- the operation of its words
 abbrev pub op_in : OpWord → Op

@@ -30,22 +30,18 @@ lacks_number_in_head h = is_none h.pages || is_none h.prio || is_none h.group ||
 
 -- in a place
 abbrev pub is_broken_place : PlaceWord → Bool
-is_broken_place (place_word.Is place) = false
 is_broken_place place_word.BrokenNumber = true
-is_broken_place place_word.Malformed = false
+is_broken_place _ = false
 
 -- in an actor word
 abbrev pub is_broken_actor : ActorWord → Bool
-is_broken_actor (actor_word.Is who) = false
 is_broken_actor actor_word.BrokenNumber = true
-is_broken_actor actor_word.Missing = false
-is_broken_actor actor_word.Malformed = false
+is_broken_actor _ = false
 
 -- the number of an engine
 abbrev pub is_broken_engine : EngineWord → Bool
-is_broken_engine (engine_word.Is engine) = false
 is_broken_engine engine_word.BrokenNumber = true
-is_broken_engine engine_word.Missing = false
+is_broken_engine _ = false
 
 -- in an operation
 abbrev pub lacks_number_in_op : OpWord → Bool
@@ -57,7 +53,6 @@ lacks_number_in_op op_word.Malformed = false
 
 -- in a line
 abbrev pub lacks_number : Line → Bool
-lacks_number (line.Version version) = false
 lacks_number (line.Vram buddy size) = is_none size
 lacks_number (line.Tt size) = is_none size
 lacks_number (line.Frames size) = is_none size
@@ -65,15 +60,12 @@ lacks_number (line.Swap size) = is_none size
 lacks_number (line.Engines size) = is_none size
 lacks_number (line.Buffer head want busy) = lacks_number_in_head head || list_any is_broken_place want || list_any is_broken_place busy
 lacks_number (line.Placed head list) = lacks_number_in_head head || list_any is_broken_place list
-lacks_number line.Thread = false
 lacks_number (line.Turn actors) = list_any is_broken_actor actors
-lacks_number line.End = false
-lacks_number (line.Plain verb b) = false
 lacks_number (line.Write b off bytes) = is_none off
 lacks_number (line.Read b off len) = is_none off || is_none len
-lacks_number (line.Move b mem) = false
 lacks_number (line.Touch group) = is_none group
 lacks_number (line.Submit engine ops) = is_broken_engine engine || list_any lacks_number_in_op ops
+lacks_number _ = false
 
 -- ---- rule 6: a name is malformed, unknown, or declared twice
 
@@ -91,37 +83,26 @@ has_wrong_name names head = not (is_name head.name) || list_any (bytes_eq head.n
 
 -- in a line
 abbrev pub lacks_name : Script → Line → Bool
-lacks_name script (line.Version version) = false
-lacks_name script (line.Vram buddy size) = false
-lacks_name script (line.Tt size) = false
-lacks_name script (line.Frames size) = false
-lacks_name script (line.Swap size) = false
-lacks_name script (line.Engines size) = false
 lacks_name script (line.Buffer head want busy) = has_wrong_name (names_of script.buffers) head
 lacks_name script (line.Placed head list) = has_wrong_name (names_of script.buffers) head
-lacks_name script line.Thread = false
-lacks_name script (line.Turn actors) = false
-lacks_name script line.End = false
 lacks_name script (line.Plain verb b) = is_none b
 lacks_name script (line.Write b off bytes) = is_none b
 lacks_name script (line.Read b off len) = is_none b
 lacks_name script (line.Move b mem) = is_none b
-lacks_name script (line.Touch group) = false
 lacks_name script (line.Submit engine ops) = list_any lacks_name_in_op ops
+lacks_name script _ = false
 
 -- ---- rule 7: a place or a list of places is malformed
 
 -- the word is no place
 abbrev pub is_no_place : PlaceWord → Bool
-is_no_place (place_word.Is place) = false
-is_no_place place_word.BrokenNumber = false
 is_no_place place_word.Malformed = true
+is_no_place _ = false
 
 -- the place may be tried under pressure
 abbrev pub may_force : PlaceWord → Bool
 may_force (place_word.Is f) = not f.desired
-may_force place_word.BrokenNumber = true
-may_force place_word.Malformed = true
+may_force _ = true
 
 -- a malformed place, no place or too many of them
 abbrev pub is_no_list : ℕ → List PlaceWord → Bool
@@ -129,23 +110,9 @@ is_no_list most places = list_any is_no_place places || not (is_between 1 most (
 
 -- in a line; in version 2 some place must be one that is tried under pressure
 abbrev pub lacks_place : Line → Bool
-lacks_place (line.Version version) = false
-lacks_place (line.Vram buddy size) = false
-lacks_place (line.Tt size) = false
-lacks_place (line.Frames size) = false
-lacks_place (line.Swap size) = false
-lacks_place (line.Engines size) = false
 lacks_place (line.Buffer head want busy) = is_no_list 4 want || is_no_list 4 busy
 lacks_place (line.Placed head list) = is_no_list 8 list || not (list_any may_force list)
-lacks_place line.Thread = false
-lacks_place (line.Turn actors) = false
-lacks_place line.End = false
-lacks_place (line.Plain verb b) = false
-lacks_place (line.Write b off bytes) = false
-lacks_place (line.Read b off len) = false
-lacks_place (line.Move b mem) = false
-lacks_place (line.Touch group) = false
-lacks_place (line.Submit engine ops) = false
+lacks_place _ = false
 
 -- ---- rule 8: an offset and a length pass the buffer, a length is 0, or too many bytes would be shown
 
@@ -162,9 +129,7 @@ is_more_than most None = false
 -- the range ends behind the buffer
 abbrev pub passes : Script → Option BufId → Option ℕ → Option ℕ → Bool
 passes script (Some b) (Some off) (Some len) = nat_lt (4096 * (decl script b).pages) (off + len)
-passes script (Some b) (Some off) None = false
-passes script (Some b) None len = false
-passes script None off len = false
+passes script _ _ _ = false
 
 -- the range is empty or ends behind the buffer
 abbrev pub has_wrong_range : Script → Option BufId → Option ℕ → Option ℕ → Bool
@@ -185,33 +150,17 @@ bytes_pass script b off None = false
 
 -- in a line
 abbrev pub has_range_fault : Script → Line → Bool
-has_range_fault script (line.Version version) = false
-has_range_fault script (line.Vram buddy size) = false
-has_range_fault script (line.Tt size) = false
-has_range_fault script (line.Frames size) = false
-has_range_fault script (line.Swap size) = false
-has_range_fault script (line.Engines size) = false
-has_range_fault script (line.Buffer head want busy) = false
-has_range_fault script (line.Placed head list) = false
-has_range_fault script line.Thread = false
-has_range_fault script (line.Turn actors) = false
-has_range_fault script line.End = false
-has_range_fault script (line.Plain verb b) = false
 has_range_fault script (line.Write b off bytes) = bytes_pass script b off bytes
 has_range_fault script (line.Read b off len) = has_wrong_range script b off len || is_more_than 256 len
-has_range_fault script (line.Move b mem) = false
-has_range_fault script (line.Touch group) = false
 has_range_fault script (line.Submit engine ops) = list_any (passes_in_op script) ops
+has_range_fault script _ = false
 
 -- ---- rule 9: bytes are malformed, none, or more than 256
 
 -- the byte of a fill
 abbrev pub lacks_byte_in_op : OpWord → Bool
 lacks_byte_in_op (op_word.Fill dst off len byte) = is_none byte
-lacks_byte_in_op (op_word.Copy dst doff src soff len) = false
-lacks_byte_in_op (op_word.Xor dst doff src soff len) = false
-lacks_byte_in_op (op_word.Probe src off len) = false
-lacks_byte_in_op op_word.Malformed = false
+lacks_byte_in_op _ = false
 
 -- the bytes of a write
 abbrev pub are_wrong_bytes : Option (List ℕ) → Bool
@@ -220,39 +169,22 @@ are_wrong_bytes None = true
 
 -- in a line
 abbrev pub has_byte_fault : Line → Bool
-has_byte_fault (line.Version version) = false
-has_byte_fault (line.Vram buddy size) = false
-has_byte_fault (line.Tt size) = false
-has_byte_fault (line.Frames size) = false
-has_byte_fault (line.Swap size) = false
-has_byte_fault (line.Engines size) = false
-has_byte_fault (line.Buffer head want busy) = false
-has_byte_fault (line.Placed head list) = false
-has_byte_fault line.Thread = false
-has_byte_fault (line.Turn actors) = false
-has_byte_fault line.End = false
-has_byte_fault (line.Plain verb b) = false
 has_byte_fault (line.Write b off bytes) = are_wrong_bytes bytes
-has_byte_fault (line.Read b off len) = false
-has_byte_fault (line.Move b mem) = false
-has_byte_fault (line.Touch group) = false
 has_byte_fault (line.Submit engine ops) = list_any lacks_byte_in_op ops
+has_byte_fault _ = false
 
 -- ---- rule 10: one buffer twice in a copy or xor, or too many buffers or operations in a job
 
 -- both names are known, and the buffer is one
 abbrev pub same_known : Option BufId → Option BufId → Bool
 same_known (Some b) (Some c) = same_buffer b c
-same_known (Some b) None = false
-same_known None c = false
+same_known _ _ = false
 
 -- in an operation
 abbrev pub names_one_twice : OpWord → Bool
-names_one_twice (op_word.Fill dst off len byte) = false
 names_one_twice (op_word.Copy dst doff src soff len) = same_known dst src
 names_one_twice (op_word.Xor dst doff src soff len) = same_known dst src
-names_one_twice (op_word.Probe src off len) = false
-names_one_twice op_word.Malformed = false
+names_one_twice _ = false
 
 -- the known buffers of an operation, as they are mentioned
 abbrev pub buffers_of_word : OpWord → List BufId
@@ -275,16 +207,13 @@ has_job_fault _ = false
 
 -- the actor is not there
 abbrev pub is_missing_actor : ActorWord → Bool
-is_missing_actor (actor_word.Is who) = false
-is_missing_actor actor_word.BrokenNumber = false
 is_missing_actor actor_word.Missing = true
-is_missing_actor actor_word.Malformed = false
+is_missing_actor _ = false
 
 -- the engine is not there
 abbrev pub is_missing_engine : EngineWord → Bool
-is_missing_engine (engine_word.Is engine) = false
-is_missing_engine engine_word.BrokenNumber = false
 is_missing_engine engine_word.Missing = true
+is_missing_engine _ = false
 
 -- in a line
 abbrev pub lacks_actor : Line → Bool

@@ -151,10 +151,8 @@ alone made _ = None
 
 -- the word is no actor word
 abbrev pub is_no_actor : ActorWord → Bool
-is_no_actor (actor_word.Is who) = false
-is_no_actor actor_word.BrokenNumber = false
-is_no_actor actor_word.Missing = false
 is_no_actor actor_word.Malformed = true
+is_no_actor _ = false
 
 -- a schedule of 1 to 64 actor words
 abbrev pub turn_of_actors : List ActorWord → Option Line
@@ -208,11 +206,8 @@ op_of names _ = op_word.Malformed
 
 -- the words are no operation
 abbrev pub is_no_op : OpWord → Bool
-is_no_op (op_word.Fill dst off len byte) = false
-is_no_op (op_word.Copy dst doff src soff len) = false
-is_no_op (op_word.Xor dst doff src soff len) = false
-is_no_op (op_word.Probe src off len) = false
 is_no_op op_word.Malformed = true
+is_no_op _ = false
 
 -- the operations of a job
 abbrev pub op_words_of : List Text → List Text → List OpWord

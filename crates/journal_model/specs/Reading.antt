@@ -124,8 +124,7 @@ ranged mem _ _ f = place_word.BrokenNumber
 -- SYSTEM has no pages of its own to reach
 abbrev pub is_system : Mem → Bool
 is_system System = true
-is_system Tt = false
-is_system Vram = false
+is_system _ = false
 
 -- a reach of two words, which stand both there
 abbrev pub two_numbers_place : Mem → Text → Text → Flags → PlaceWord

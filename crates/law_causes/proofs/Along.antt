@@ -42,32 +42,9 @@ use Rattle.ttm_base.specs.Placement.{forced_places}
 -- what a test doesn't read of results and packets it doesn't tell apart
 pub shown_same : {A : Type 0} (f : Kind → A) → ((r r' : Shown) → f (kind.Result r) ≡ f (kind.Result r')) → ((n k : ℕ) (p p' : List ℕ) → f (kind.Packet n k p) ≡ f (kind.Packet n k p')) →
     (script : Script) (stores : Stores) (s : State) (who : Actor) (k : Kind) → f (showing script stores s who k) ≡ f k
-shown_same f r p script stores s who (kind.Ticket stamp) = refl
-shown_same f r p script stores s who (kind.Reserve b) = refl
-shown_same f r p script stores s who (kind.Backoff b stamp) = refl
-shown_same f r p script stores s who (kind.New b) = refl
-shown_same f r p script stores s who (kind.Free b g) = refl
-shown_same f r p script stores s who (kind.Take b mem spans) = refl
-shown_same f r p script stores s who (kind.Untake b mem) = refl
-shown_same f r p script stores s who (kind.Populate b page frame) = refl
-shown_same f r p script stores s who (kind.SwapIn b page slot frame) = refl
-shown_same f r p script stores s who (kind.Depopulate b) = refl
-shown_same f r p script stores s who (kind.Bind b) = refl
-shown_same f r p script stores s who (kind.Unbind b) = refl
-shown_same f r p script stores s who (kind.Move b mem n l) = refl
-shown_same f r p script stores s who (kind.Catch b w) = refl
-shown_same f r p script stores s who (kind.Loose b) = refl
-shown_same f r p script stores s who (kind.Skip b) = refl
-shown_same f r p script stores s who (kind.Dry b k w) = refl
-shown_same f r p script stores s who (kind.SwapOut b page slot) = refl
-shown_same f r p script stores s who (kind.NoPages b) = refl
-shown_same f r p script stores s who (kind.Arm engine n) = refl
 shown_same f r p script stores s who (kind.Packet n k piece) = p n k _ piece
-shown_same f r p script stores s who (kind.Done n) = refl
-shown_same f r p script stores s who (kind.Reap g) = refl
-shown_same f r p script stores s who (kind.Bulk group) = refl
 shown_same f r p script stores s who (kind.Result x) = r _ x
-shown_same f r p script stores s who (kind.Refused d) = refl
+shown_same f r p script stores s who _ = refl
 
 shown_alike : (script : Script) (stores : Stores) (s : State) (who : Actor) (k : Kind) → Alike (showing script stores s who k) k
 shown_alike script stores s who k =

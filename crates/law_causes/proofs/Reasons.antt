@@ -1,12 +1,12 @@
 -- The cause of each entry that gives up, by what is known of its thread's searches.
 use Rattle.std.proofs.Common.{◌≡◌, ℕ, Bool, true, false, List, [], ◌∷◌, length, Option, Some, None, Ok, refl, sym, ◌∙◌, ap, ap₂, subst, arith, ◌⊎◌, inl, inr, ⊎_elim}
-use Rattle.std.specs.Prelude.{not, nat_lt, filter_map, is_none, unwrap_or, option_map, slice_get, ◌==◌, ◌&&◌, ◌||◌, if◌then◌else◌}
+use Rattle.std.specs.Prelude.{not, nat_lt, is_none, unwrap_or, option_map, slice_get, ◌==◌, ◌&&◌, ◌||◌, if◌then◌else◌}
 use Rattle.std.specs.List.{list_any, list_all}
 use Rattle.std.proofs.lemmas.Grind.{common_steps}
 use Rattle.std.proofs.lemmas.Bool.{or_left, or_right, or_cases}
 use Rattle.std.proofs.lemmas.Bool.Decides.{nat_tests}
 use Rattle.ttm_base.specs.ListWords.{last_of, count_from, same_numbers}
-use Rattle.ttm_base.specs.Placement.{forced_places}
+use Rattle.ttm_base.specs.Placement.{first_places, forced_places}
 use Rattle.ttm_base.specs.declared.Mem.{Mem}
 use Rattle.ttm_base.specs.declared.Mem.TheVariants.{System, Tt, Vram}
 use Rattle.ttm_base.specs.declared.BufId.{BufId}
@@ -34,22 +34,22 @@ use Rattle.journal_model.specs.Dry.{has_frame, is_loose, swap_victim, ghost_with
 use Rattle.journal_model.specs.Ready.{is_in_place, first_unready}
 use Rattle.journal_model.specs.declared.state.Aim.TheVariants.{Asked, Hop}
 use Rattle.journal_model.specs.Ready.{has_some_target}
-use Rattle.journal_model.specs.Search.{Quest, quest, is_caught}
+use Rattle.journal_model.specs.Search.{quest, is_caught}
 use Rattle.journal_model.specs.Tasks.{carried, task_of_misplaced, task_of_unready, task_of_failed, gives_back, forbidden, task_of_command, task_of_held, task_of_victim, first_missing, starts}
 use Rattle.journal_model.specs.Legal.{Made}
 use Rattle.journal_model.specs.Next.{next, step_of_task}
 use Rattle.law_state.proofs.Moves.{thread_step}
 use Rattle.ttm_base.specs.declared.Actor.TheVariants as actor
-use Rattle.journal_model.specs.Causes.{dry_of, search_of, quest_at, dry_at_its_state, in_command, is_no_pages_of, is_out_of_space, is_out_of_frames, is_search_over, is_older, has_its_cause}
+use Rattle.journal_model.specs.Causes.{is_out_of_frames, is_older, in_command, is_no_pages_of, places_sought, search_of, PressedSearch, pressed_by, no_first_had_room, all_went_dry, all_were_dry, is_search_over, is_out_of_space, has_its_cause}
 use Rattle.law_sound.proofs.Turns.{Turn, turn_of, give_up}
 use Rattle.law_sound.proofs.Gifts.{Gives, task_gives, seeks, fills, backs, exists, no_buffer, no_swap, gives_up, refuses}
 use Rattle.law_sound.proofs.Bufs.{same_is, none_last, last_caught, clash}
 use Rattle.law_causes.specs.Explains.{Explains}
-use Rattle.lemma_causes_trail.proofs.Found.{Found, dries, no_first, quest_found, Starved, fill_starved}
-use Rattle.lemma_causes_trail.proofs.Windows.{Trail, on_list}
+use Rattle.lemma_causes_trail.proofs.Found.{Found, dries, quest_found, Starved, fill_starved}
+use Rattle.lemma_causes_trail.proofs.Windows.{Trail}
 use Rattle.lemma_causes_trail.proofs.Tasks.{places_of, quest_places, aim_is_named, Searcher, searcher_of, victims, named_one}
 use Rattle.lemma_causes_trail.proofs.Stages.{Stage, calm, pressed, spent, frameless, none_caught_is}
-use Rattle.law_causes.proofs.Steps.{made, quest_is, dry_was, own_dry}
+use Rattle.law_causes.proofs.Steps.{places_are, dry_place}
 use Rattle.law_causes.proofs.Carry.{of_search, of_fill}
 
 -- ---- backoffs
@@ -80,12 +80,9 @@ same_as_itself (n ∷ ns) = ap₂ (λ a b. a && b) (same n) (same_as_itself ns)
     same a = grind (arith, nat_tests)
 
 module _ (script : Script) (t : ℕ) (b : BufId) (list : List FlaggedPlace) (window : List Made) (r : Trail script t b list (length (forced_places list)) window) where
-  -- the same by the list alone
-  abbrev ended : List FlaggedPlace → Bool
-  ended l =
-      no_first script r.first.before b l
-      && same_numbers (filter_map (λ n. dry_of b n.entry.kind) window) (count_from 1 (length (forced_places l)) 0)
-      && list_all (dry_at_its_state script t b (on_list l)) window
+  -- the search of the trail, with the places of a list
+  abbrev search : List FlaggedPlace → PressedSearch
+  search l = record { thread = t; b = b; entries = window; start = r.first.before; first = first_places l; forced = forced_places l }
 
   three : (x y z : Bool) → x ≡ true → y ≡ true → z ≡ true → (x && y && z) ≡ true
   three true true z e f g = g
@@ -93,15 +90,11 @@ module _ (script : Script) (t : ℕ) (b : BufId) (list : List FlaggedPlace) (win
   three false y z e f g = cc
 
   pub trail_ends : is_out_of_space script t b window ≡ true
-  trail_ends = ap (λ o. elim o [ None ↦ false | Some m ↦ is_search_over script t b window m ]) r.found ∙ by
-    where
-      done : ended list ≡ true
-      done =
-          three (no_first script r.first.before b list) (same_numbers (filter_map (λ n. dry_of b n.entry.kind) window) (count_from 1 (length (forced_places list)) 0)) (list_all (dry_at_its_state script t b (on_list list)) window)
-          r.free (ap (λ l. same_numbers l (count_from 1 (length (forced_places list)) 0)) r.numbers ∙ same_as_itself (count_from 1 (length (forced_places list)) 0)) r.drys
-
-      by : is_search_over script t b window r.first ≡ true
-      by = ap ended r.same ∙ done
+  trail_ends =
+      ap (λ o. elim o [ None ↦ false | Some m ↦ is_search_over script (pressed_by script t b window m) ]) r.found
+      ∙ (ap (λ l. is_search_over script (search l)) r.same
+      ∙ three (no_first_had_room script (search list)) (all_went_dry (search list)) (all_were_dry script (search list))
+      r.free (ap (λ l. same_numbers l (count_from 1 (length (forced_places list)) 0)) r.numbers ∙ same_as_itself (count_from 1 (length (forced_places list)) 0)) r.drys)
 
 any_has : (p : BufId → Bool) (bs : List BufId) (b : BufId) → has_buffer bs b ≡ true → p b ≡ true → list_any p bs ≡ true
 any_has p [] b h k = cc
@@ -149,13 +142,7 @@ forbidden_other s (command.SwapOut b) = by (nat_lt 0 (grip s b).pins)
     by : (q : Bool) → is_other_ban (if q then Some deny.Pinned else None) ≡ true
     by true = refl
     by false = refl
-forbidden_other s (command.New b) = refl
-forbidden_other s (command.Find b) = refl
-forbidden_other s (command.Write b off bytes) = refl
-forbidden_other s (command.Read b off len) = refl
-forbidden_other s (command.Move b mem) = refl
-forbidden_other s (command.Touch group) = refl
-forbidden_other s (command.Submit engine ops) = refl
+forbidden_other s _ = refl
 
 victim_other : (s : State) (v : Victim) → is_other (task_of_victim v (buffer s v.b)) ≡ true
 victim_other s v = grind (arith, common_steps, nat_tests)
@@ -233,17 +220,17 @@ module _ (script : Script) (s : State) (t : ℕ) (cmd : Command) (at : command_a
   HasCause k = has_its_cause script j s t k ≡ true
 
   -- the places of the search are those that the entry's state tells
-  list_is : (a : BufId) (aim : Aim) (k : Kind) → Searcher script s (course s t) cmd a aim → (quest_at script t a (made script s t cmd at k)).list ≡ (quest script cmd (course s t) a aim).list
-  list_is a aim k (victims v on y f g) =
-      quest_is script s t cmd at a Hop k (ap (λ q. if q || has_some_target (buffer s a) then Hop else Asked) (subst (λ z. is_caught (course s t) z ≡ true) (sym f) (last_caught (course s t) v on.last)))
+  list_is : (a : BufId) (aim : Aim) → Searcher script s (course s t) cmd a aim → places_sought script s t a ≡ (quest script cmd (course s t) a aim).list
+  list_is a aim (victims v on y f g) =
+      places_are script s t cmd at a Hop (ap (λ q. if q || has_some_target (buffer s a) then Hop else Asked) (subst (λ z. is_caught (course s t) z ≡ true) (sym f) (last_caught (course s t) v on.last)))
       ∙ sym (quest_places script cmd (course s t) a aim ∙ ap (places_of script cmd a) g)
-  list_is a aim k (named_one on fine seek) =
-      quest_is script s t cmd at a aim k (aim_is_named (course s t) a (buffer s a) (none_caught_is (course s t) a (none_last (course s t).caught on.alone)) ∙ seek.aim_is)
+  list_is a aim (named_one on fine seek) =
+      places_are script s t cmd at a aim (aim_is_named (course s t) a (buffer s a) (none_caught_is (course s t) a (none_last (course s t).caught on.alone)) ∙ seek.aim_is)
       ∙ sym (quest_places script cmd (course s t) a aim)
 
   dry_cause : (a : BufId) (aim : Aim) (b : BufId) (n : ℕ) (w : DryWhy) → Searcher script s (course s t) cmd a aim → Found script s (course s t) a (quest script cmd (course s t) a aim) (kind.Dry b n w) → HasCause (kind.Dry b n w)
   dry_cause a aim b n w by (dries place here d y x) =
-      dry_was script s t cmd at b (quest_at script t b (made script s t cmd at (kind.Dry b n w))) (kind.Dry b n w) n place (own_dry b n w) (ap (λ l. slice_get (forced_places l) n) (list_is b aim (kind.Dry b n w) by) ∙ here) d
+      dry_place script s t cmd at b (forced_places (places_sought script s t b)) n place (ap (λ l. slice_get (forced_places l) n) (list_is b aim by) ∙ here) d
 
   dry_by : (b : BufId) (n : ℕ) (w : DryWhy) (x : Task) → Turn script s (course s t) cmd x → step_of_task script s (course s t) cmd x ≡ Ok (kind.Dry b n w) → Gives script s (course s t) cmd x (kind.Dry b n w) → HasCause (kind.Dry b n w)
   dry_by b n w x turn step (seeks {b = a} {aim} f) =
@@ -252,7 +239,7 @@ module _ (script : Script) (s : State) (t : ℕ) (cmd : Command) (at : command_a
 
   dry_explains : (a : BufId) (aim : Aim) (b : BufId) (n : ℕ) (w : DryWhy) → Searcher script s (course s t) cmd a aim → Found script s (course s t) a (quest script cmd (course s t) a aim) (kind.Dry b n w) → Explains script s t b n w
   dry_explains a aim b n w by (dries place here d y x) =
-      record { place = place; at = ap (λ l. slice_get (forced_places l) n) (list_is b aim (kind.Dry b n w) by) ∙ here; dry = d; why = y }
+      record { place = place; at = ap (λ l. slice_get (forced_places l) n) (list_is b aim by) ∙ here; dry = d; why = y }
 
   pub explains_by : (b : BufId) (n : ℕ) (w : DryWhy) (x : Task) → Turn script s (course s t) cmd x → step_of_task script s (course s t) cmd x ≡ Ok (kind.Dry b n w) → Gives script s (course s t) cmd x (kind.Dry b n w) → Explains script s t b n w
   explains_by b n w x turn step (seeks {b = a} {aim} f) =
@@ -325,40 +312,14 @@ module _ (script : Script) (s : State) (t : ℕ) (cmd : Command) (at : command_a
   refused_by : (d : Deny) (x : Task) → Turn script s (course s t) cmd x → is_other x ≡ true → Gives script s (course s t) cmd x (kind.Refused d) → Stage script s j t (course s t) cmd → HasCause (kind.Refused d)
   refused_by deny.NoSpace x turn other g stage = no_space_by (lack_of deny.NoSpace x turn other refl g) stage
   refused_by deny.NoPages x turn other g stage = no_pages_by (lack_of deny.NoPages x turn other refl g) stage
-  refused_by deny.NoBuffer x turn other g stage = refl
-  refused_by deny.Exists x turn other g stage = refl
-  refused_by deny.Pinned x turn other g stage = refl
-  refused_by deny.NotPinned x turn other g stage = refl
-  refused_by deny.PinMax x turn other g stage = refl
-  refused_by deny.NoSwap x turn other g stage = refl
+  refused_by _ x turn other g stage = refl
 
   pub own_cause : (x : Task) (k : Kind) → x ≡ task_of_command script s (course s t) cmd → Turn script s (course s t) cmd x → step_of_task script s (course s t) cmd x ≡ Ok k → Gives script s (course s t) cmd x k → NoneGives s → Stage script s j t (course s t) cmd → HasCause k
-  own_cause x (kind.Ticket stamp) is turn step g none stage = refl
-  own_cause x (kind.Reserve b) is turn step g none stage = refl
   own_cause x (kind.Backoff b stamp) is turn step g none stage = backed_by b stamp x g
-  own_cause x (kind.New b) is turn step g none stage = refl
-  own_cause x (kind.Free b n) is turn step g none stage = refl
-  own_cause x (kind.Take b mem spans) is turn step g none stage = refl
-  own_cause x (kind.Untake b mem) is turn step g none stage = refl
-  own_cause x (kind.Populate b page f) is turn step g none stage = refl
-  own_cause x (kind.SwapIn b page slot f) is turn step g none stage = refl
-  own_cause x (kind.Depopulate b) is turn step g none stage = refl
-  own_cause x (kind.Bind b) is turn step g none stage = refl
-  own_cause x (kind.Unbind b) is turn step g none stage = refl
-  own_cause x (kind.Move b mem n l) is turn step g none stage = refl
-  own_cause x (kind.Catch b w) is turn step g none stage = refl
-  own_cause x (kind.Loose b) is turn step g none stage = refl
-  own_cause x (kind.Skip b) is turn step g none stage = refl
   own_cause x (kind.Dry b k w) is turn step g none stage = dry_by b k w x turn step g
-  own_cause x (kind.SwapOut b page slot) is turn step g none stage = refl
   own_cause x (kind.NoPages b) is turn step g none stage = starved_by none b x step g
-  own_cause x (kind.Arm engine n) is turn step g none stage = refl
-  own_cause x (kind.Packet n k piece) is turn step g none stage = refl
-  own_cause x (kind.Done n) is turn step g none stage = refl
-  own_cause x (kind.Reap n) is turn step g none stage = refl
-  own_cause x (kind.Bulk group) is turn step g none stage = refl
-  own_cause x (kind.Result r) is turn step g none stage = refl
   own_cause x (kind.Refused d) is turn step g none stage = refused_by d x turn (subst (λ z. is_other z ≡ true) (sym is) (command_other script s (course s t) cmd)) g stage
+  own_cause x _ is turn step g none stage = refl
 
 -- ---- of any state
 

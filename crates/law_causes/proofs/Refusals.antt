@@ -62,28 +62,7 @@ leaves script p t (kind.New b) h = absurd (clash (sym h))
 leaves script p t (kind.Free b g) h = absurd (clash (sym h))
 leaves script p t (kind.Arm engine n) h = absurd (clash (sym h))
 leaves script p t (kind.Result r) h = absurd (clash (sym h))
-leaves script p t (kind.Ticket stamp) h = refl
-leaves script p t (kind.Reserve b) h = refl
-leaves script p t (kind.Backoff b stamp) h = refl
-leaves script p t (kind.Take b mem spans) h = refl
-leaves script p t (kind.Untake b mem) h = refl
-leaves script p t (kind.Populate b page f) h = refl
-leaves script p t (kind.SwapIn b page slot f) h = refl
-leaves script p t (kind.Depopulate b) h = refl
-leaves script p t (kind.Bind b) h = refl
-leaves script p t (kind.Unbind b) h = refl
-leaves script p t (kind.Move b mem n l) h = refl
-leaves script p t (kind.Catch b w) h = refl
-leaves script p t (kind.Loose b) h = refl
-leaves script p t (kind.Skip b) h = refl
-leaves script p t (kind.Dry b k w) h = refl
-leaves script p t (kind.SwapOut b page slot) h = refl
-leaves script p t (kind.NoPages b) h = refl
-leaves script p t (kind.Packet n k piece) h = refl
-leaves script p t (kind.Done n) h = refl
-leaves script p t (kind.Reap g) h = refl
-leaves script p t (kind.Bulk group) h = refl
-leaves script p t (kind.Refused d) h = refl
+leaves script p t _ h = refl
 
 -- ---- a command that hasn't made anything
 
@@ -129,23 +108,7 @@ unmade_before script s t (kind.Refused d) a h = absurd (clash a)
 unmade_before script s t (kind.Take b mem spans) a h = (take_made b (course s t) h, refl)
 unmade_before script s t (kind.Dry b k w) a h = (sym (dry_made script s b k (command_at_work script s t) (course s t)) ∙ h, refl)
 unmade_before script s t (kind.NoPages b) a h = (sym (fail_made b deny.NoPages (course s t)) ∙ h, refl)
-unmade_before script s t (kind.Ticket stamp) a h = (h, refl)
-unmade_before script s t (kind.Reserve b) a h = (h, refl)
-unmade_before script s t (kind.Backoff b stamp) a h = (h, refl)
-unmade_before script s t (kind.Untake b mem) a h = (h, refl)
-unmade_before script s t (kind.Populate b page f) a h = (h, refl)
-unmade_before script s t (kind.SwapIn b page slot f) a h = (h, refl)
-unmade_before script s t (kind.Depopulate b) a h = (h, refl)
-unmade_before script s t (kind.Bind b) a h = (h, refl)
-unmade_before script s t (kind.Unbind b) a h = (h, refl)
-unmade_before script s t (kind.Move b mem n l) a h = (h, refl)
-unmade_before script s t (kind.Catch b w) a h = (h, refl)
-unmade_before script s t (kind.Loose b) a h = (h, refl)
-unmade_before script s t (kind.Skip b) a h = (h, refl)
-unmade_before script s t (kind.SwapOut b page slot) a h = (h, refl)
-unmade_before script s t (kind.Packet n k piece) a h = (h, refl)
-unmade_before script s t (kind.Done n) a h = (h, refl)
-unmade_before script s t (kind.Reap g) a h = (h, refl)
+unmade_before script s t _ a h = (h, refl)
 
 -- while a command hasn't made anything, none of its entries has changed a byte
 abbrev pub Unmade : State → List Made → Type 0

@@ -1,6 +1,6 @@
 -- Each entry of a thread carries on what is known of its searches.
-use Rattle.std.proofs.Common.{◌≡◌, ℕ, ◌+◌, suc, Bool, true, false, List, [], ◌∷◌, ◌++◌, length, Option, Some, None, refl, sym, ◌∙◌, ap, ap₂, subst, arith, ◌⊎◌, inl, inr, ⊎_elim}
-use Rattle.std.specs.Prelude.{slice_get, not, unwrap_or, option_map, option_and_then, is_some, ◌==◌, ◌||◌, if◌then◌else◌}
+use Rattle.std.proofs.Common.{◌≡◌, ℕ, ◌+◌, suc, Bool, true, false, List, [], ◌∷◌, ◌++◌, length, Some, None, refl, sym, ◌∙◌, ap, ap₂, subst, arith, ◌⊎◌, inl, inr, ⊎_elim}
+use Rattle.std.specs.Prelude.{slice_get, not, unwrap_or, option_and_then, is_some, ◌==◌, ◌||◌, if◌then◌else◌}
 use Rattle.std.specs.List.{list_all}
 use Rattle.std.proofs.lemmas.Bool.{cases_eq, or_left, or_right}
 use Rattle.std.proofs.lemmas.Bool.Decides.{nat_tests}
@@ -9,7 +9,6 @@ use Rattle.ttm_base.specs.declared.Mem.{Mem}
 use Rattle.ttm_base.specs.declared.Span.{Span}
 use Rattle.ttm_base.specs.declared.Place.{Place}
 use Rattle.ttm_base.specs.declared.BufId.{BufId}
-use Rattle.ttm_base.specs.declared.FlaggedPlace.{FlaggedPlace}
 use Rattle.ttm_base.specs.declared.Deny.TheVariants as deny
 use Rattle.ttm_base.specs.declared.Actor.TheVariants as actor
 use Rattle.journal_model.specs.declared.script.Script.{Script}
@@ -25,13 +24,13 @@ use Rattle.journal_model.specs.State.{new_buffer, buffer, course, grip, same_buf
 use Rattle.journal_model.specs.Commands.{named, command_at_work}
 use Rattle.journal_model.specs.Dry.{is_dry}
 use Rattle.journal_model.specs.Ready.{is_ready, first_unready}
-use Rattle.journal_model.specs.Search.{Quest, quest, quest_at_work, is_caught, aim_of}
+use Rattle.journal_model.specs.Search.{quest, quest_at_work, is_caught, aim_of}
 use Rattle.journal_model.specs.Apply.{applied}
 use Rattle.journal_model.specs.ApplyCommands.{on_to_next}
 use Rattle.journal_model.specs.ApplyVictims.{with_fail, gone_dry, course_after_dry}
 use Rattle.journal_model.specs.Legal.{Made}
 use Rattle.journal_model.specs.Complete.{is_answer, is_by_thread}
-use Rattle.journal_model.specs.Causes.{is_take_of, dry_of, presses, is_at_work, search_of, quest_at, dry_at_its_state}
+use Rattle.journal_model.specs.Causes.{is_take_of, dry_of, presses, is_at_work, places_sought, is_dry_place, was_dry, search_of, shows_pressure}
 use Rattle.law_progress.specs.Sound.{Owned}
 use Rattle.law_sound.proofs.Turns.{Works, OnNamed}
 use Rattle.law_sound.proofs.Steadies.{next_course}
@@ -40,16 +39,13 @@ use Rattle.law_sound.proofs.Owners.{none_or}
 use Rattle.law_sound.proofs.Grips.{IsFree}
 use Rattle.lemma_end_measure_parts.proofs.Frame.{touches, untouched}
 use Rattle.lemma_causes_trail.proofs.Found.{Found, takes, catches, dries, no_first}
-use Rattle.lemma_causes_trail.proofs.Windows.{ends, tells, Quiet, quiet_cut, quiet_elsewhere, quiet_kept, more_window, Trail, on_list, trail_by_victim, trail_by_dry, trail_more, trail_dry}
+use Rattle.lemma_causes_trail.proofs.Windows.{ends, Quiet, quiet_cut, quiet_elsewhere, quiet_kept, more_window, Trail, trail_by_victim, trail_by_dry, trail_more, trail_dry}
 use Rattle.lemma_causes_trail.proofs.Tasks.{places_of, quest_places, quest_forced, quest_dry, Seeking, aim_is_named, seeking_same}
 use Rattle.lemma_causes_trail.proofs.Stages.{is_for_swap, Calm, Stage, calm, pressed, spent, Alike, none_caught_is}
 
 -- a thread's entry is by it
 pub by_self : (t : ℕ) → is_by_thread t (actor.Thread t) ≡ true
 by_self t = grind (arith, nat_tests)
-
-abbrev list_of : Option Quest → List FlaggedPlace
-list_of o = (unwrap_or o (record { list = []; forced = false; dry = 0 })).list
 
 module _ (script : Script) (s : State) (t : ℕ) (cmd : Command) (at : command_at_work script s t ≡ Some cmd) where
   -- an entry made in this state
@@ -61,16 +57,16 @@ module _ (script : Script) (s : State) (t : ℕ) (cmd : Command) (at : command_a
       ap (λ o. elim (option_and_then (λ x. first_unready script s x) o) [ None ↦ false | Some c ↦ same_buffer d c ]) at
       ∙ ap (λ o. elim o [ None ↦ false | Some c ↦ same_buffer d c ]) first
 
-  pub quest_is : (b : BufId) (aim : Aim) (k : Kind) → aim_of (course s t) b (buffer s b) ≡ aim → (quest_at script t b (made k)).list ≡ places_of script cmd b aim
-  quest_is b aim k is =
-      ap (λ o. list_of (option_map (λ x. quest_at_work script s (course s t) x b) o)) at
+  pub places_are : (b : BufId) (aim : Aim) → aim_of (course s t) b (buffer s b) ≡ aim → places_sought script s t b ≡ places_of script cmd b aim
+  places_are b aim is =
+      ap (λ o. elim o [ Some x ↦ (quest_at_work script s (course s t) x b).list | None ↦ [] ]) at
       ∙ (ap (λ a. (quest script cmd (course s t) b a).list) is ∙ quest_places script cmd (course s t) b aim)
 
-  pub dry_was : (b : BufId) (q : Quest) (k : Kind) (n : ℕ) (place : Place) → dry_of b k ≡ Some n → slice_get (forced_places q.list) n ≡ Some place → is_dry script s (course s t).skips b place ≡ true
-      → dry_at_its_state script t b q (made k) ≡ true
-  dry_was b q k n place e at d =
-      ap (λ o. elim o [ None ↦ true | Some i ↦ elim (slice_get (forced_places q.list) i) [ None ↦ false | Some place ↦ is_dry script s (course s t).skips b place ] ]) e
-      ∙ (ap (λ o. elim o [ None ↦ false | Some place ↦ is_dry script s (course s t).skips b place ]) at ∙ d)
+  pub dry_place : (b : BufId) (forced : List Place) (n : ℕ) (place : Place) → slice_get forced n ≡ Some place → is_dry script s (course s t).skips b place ≡ true → is_dry_place script s t b forced n ≡ true
+  dry_place b forced n place at d = ap (λ o. elim o [ None ↦ false | Some place ↦ is_dry script s (course s t).skips b place ]) at ∙ d
+
+  dry_then : (b : BufId) (forced : List Place) (k : Kind) (n : ℕ) → dry_of b k ≡ Some n → is_dry_place script s t b forced n ≡ true → was_dry script t b forced (made k) ≡ true
+  dry_then b forced k n e d = ap (λ o. elim o [ None ↦ true | Some i ↦ is_dry_place script s t b forced i ]) e ∙ d
 
 pub own_dry : (b : BufId) (n : ℕ) (w : DryWhy) → dry_of b (kind.Dry b n w) ≡ Some n
 own_dry b n w = ap (λ q. if q then Some n else None) (same_self b)
@@ -86,7 +82,7 @@ module _ (script : Script) (s : State) (t : ℕ) (cmd : Command) (at : command_a
   pub is_open : (b : BufId) → is_answer k ≡ false → is_take_of b k ≡ false → ends b m ≡ false
   is_open b e f = ap₂ (λ a q. a || q) (alike.answer ∙ e) (alike.takes b ∙ f)
 
-  silent : (b : BufId) → dry_of b k ≡ None → presses k ≡ false → tells b m ≡ false
+  silent : (b : BufId) → dry_of b k ≡ None → presses k ≡ false → shows_pressure b m ≡ false
   silent b e f = ap₂ (λ p q. is_some p || q) (alike.dry b ∙ e) (alike.presses ∙ f)
 
   -- an answer
@@ -176,7 +172,7 @@ module _ (script : Script) (s : State) (t : ℕ) (cmd : Command) (at : command_a
       by : Before script s j t cmd b aim → Trail script t b (places_of script cmd b aim) (course s t).dry (search_of script t b j ++ made script s t cmd at k' ∷ [])
       by (inl h) =
           subst (λ n. Trail script t b (places_of script cmd b aim) n (search_of script t b j ++ made script s t cmd at k' ∷ [])) (sym h.1)
-          (trail_by_victim script t b (places_of script cmd b aim) (search_of script t b j) (made script s t cmd at k') h.2 (or_right (is_some (dry_of b k')) (presses k') (alike.presses ∙ p)) (alike.dry b) (quest_is script s t cmd at b aim k' aim_is)
+          (trail_by_victim script t b (places_of script cmd b aim) (search_of script t b j) (made script s t cmd at k') h.2 (or_right (is_some (dry_of b k')) (presses k') (alike.presses ∙ p)) (alike.dry b) (places_are script s t cmd at b aim aim_is)
           (free_first h.0 u))
       by (inr r) = trail_more script t b (places_of script cmd b aim) (course s t).dry (search_of script t b j) (made script s t cmd at k') (alike.dry b) r
 
@@ -204,15 +200,16 @@ module _ (script : Script) (s : State) (t : ℕ) (cmd : Command) (at : command_a
       number : dry_of b k' ≡ Some (course s t).dry
       number = alike.dry b ∙ (own_dry b nth w ∙ ap Some nth_is)
 
-      is_dry_there : dry_at_its_state script t b (on_list (places_of script cmd b aim)) (made script s t cmd at k') ≡ true
+      is_dry_there : was_dry script t b (forced_places (places_of script cmd b aim)) (made script s t cmd at k') ≡ true
       is_dry_there =
-          dry_was script s t cmd at b (on_list (places_of script cmd b aim)) k' (course s t).dry place number
-          (ap₂ (λ l n. slice_get (forced_places l) n) (sym (quest_places script cmd (course s t) b aim)) (sym nth_is) ∙ here) d
+          dry_then script s t cmd at b (forced_places (places_of script cmd b aim)) k' (course s t).dry number
+          (dry_place script s t cmd at b (forced_places (places_of script cmd b aim)) (course s t).dry place
+          (ap₂ (λ l n. slice_get (forced_places l) n) (sym (quest_places script cmd (course s t) b aim)) (sym nth_is) ∙ here) d)
 
       by : Before script s j t cmd b aim → Trail script t b (places_of script cmd b aim) (suc (course s t).dry) (search_of script t b j ++ made script s t cmd at k' ∷ [])
       by (inl h) =
           subst (λ n. Trail script t b (places_of script cmd b aim) (suc n) (search_of script t b j ++ made script s t cmd at k' ∷ [])) (sym h.1)
-          (trail_by_dry script t b (places_of script cmd b aim) (search_of script t b j) (made script s t cmd at k') h.2 (number ∙ ap Some h.1) is_dry_there (quest_is script s t cmd at b aim k' aim_is) (free_first h.0 u))
+          (trail_by_dry script t b (places_of script cmd b aim) (search_of script t b j) (made script s t cmd at k') h.2 (number ∙ ap Some h.1) is_dry_there (places_are script s t cmd at b aim aim_is) (free_first h.0 u))
       by (inr r) = trail_dry script t b (places_of script cmd b aim) (course s t).dry (search_of script t b j) (made script s t cmd at k') number is_dry_there r
 
   went_dry : (w : DryWhy) → Alike k' (kind.Dry b nth w) → (place : Place) → slice_get (forced_places (quest script cmd (course s t) b aim).list) nth ≡ Some place → is_dry script s (course s t).skips b place ≡ true

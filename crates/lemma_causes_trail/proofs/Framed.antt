@@ -1,8 +1,8 @@
 -- A buffer in VRAM that has frames is on its way to TT.
-use Rattle.std.proofs.Common.{◌≡◌, ℕ, zero, suc, Bool, true, false, List, [], ◌∷◌, Option, Some, None, Ok, refl, sym, ◌∙◌, ap, subst, ◌⊎◌, inl, inr, ⊎_elim}
-use Rattle.std.specs.Prelude.{slice_get, slice_set, map, fold, find, not, unwrap_or, is_some, option_map, option_and_then, ◌||◌, ◌&&◌}
+use Rattle.std.proofs.Common.{◌≡◌, ℕ, zero, suc, Bool, true, false, List, [], ◌∷◌, Option, Some, None, refl, sym, ◌∙◌, ap, subst, ◌⊎◌, ⊎_elim}
+use Rattle.std.specs.Prelude.{slice_set, map, fold, not, unwrap_or, is_some, option_map, option_and_then, ◌||◌, ◌&&◌}
 use Rattle.std.specs.List.{list_any}
-use Rattle.std.proofs.lemmas.Bool.{cases_Bool, both_ways, or_cases, or_left, or_right}
+use Rattle.std.proofs.lemmas.Bool.{both_ways, or_cases, or_left, or_right}
 use Rattle.ttm_base.specs.declared.Mem.{Mem}
 use Rattle.ttm_base.specs.declared.Mem.TheVariants.{System, Tt, Vram}
 use Rattle.ttm_base.specs.declared.Span.{Span}
@@ -29,12 +29,11 @@ use Rattle.journal_model.specs.Places.{is_frame}
 use Rattle.journal_model.specs.Dry.{has_frame}
 use Rattle.journal_model.specs.Ready.{has_all_frames, is_in_place, is_filled, is_ready, uses_bytes, first_unready}
 use Rattle.journal_model.specs.Search.{Quest}
-use Rattle.journal_model.specs.PageSteps.{target_to_untake}
 use Rattle.journal_model.specs.Apply.{applied, thread_of}
 use Rattle.journal_model.specs.ApplyCommands.{named_in}
 use Rattle.journal_model.specs.ApplyJobs.{with_use, ops_of}
 use Rattle.journal_model.specs.ApplyMoves.{moved, table_left}
-use Rattle.journal_model.specs.ApplyPages.{with_spans, with_loc, without_frame, without_frames}
+use Rattle.journal_model.specs.ApplyPages.{with_spans, without_frame}
 use Rattle.journal_model.specs.ApplyVictims.{leaves_tt}
 use Rattle.journal_model.specs.Legal.{first_state}
 use Rattle.law_state.proofs.Lists.{set_at, live_changed}
@@ -160,19 +159,7 @@ framed_after script s who (kind.Catch b w) suits all = framed_at _ s.core.buffer
 framed_after script s who (kind.SwapOut b page slot) suits all = framed_at _ s.core.buffers b (λ x e h. λ m f. h m (slotted x.table page slot f)) all
 framed_after script s who (kind.Arm engine n) suits all =
     framed_uses (record { ctx = engine; num = n }) (ops_of (command_at_work script s (thread_of who))) s.core.buffers (named_in (command_at_work script s (thread_of who))) all
-framed_after script s who (kind.Ticket stamp) suits all = all
-framed_after script s who (kind.Reserve b) suits all = all
-framed_after script s who (kind.Backoff b stamp) suits all = all
-framed_after script s who (kind.Loose b) suits all = all
-framed_after script s who (kind.Skip b) suits all = all
-framed_after script s who (kind.Dry b k w) suits all = all
-framed_after script s who (kind.NoPages b) suits all = all
-framed_after script s who (kind.Packet n k piece) suits all = all
-framed_after script s who (kind.Done n) suits all = all
-framed_after script s who (kind.Reap g) suits all = all
-framed_after script s who (kind.Bulk group) suits all = all
-framed_after script s who (kind.Result r) suits all = all
-framed_after script s who (kind.Refused d) suits all = all
+framed_after script s who _ suits all = all
 
 module _ (script : Script) (s : State) (c : Course) (cmd : Command) where
   -- only a buffer in SYSTEM is filled in its place

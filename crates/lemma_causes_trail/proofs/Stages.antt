@@ -1,20 +1,15 @@
 -- How far a command's searches are, and how each entry of its thread carries this on.
-use Rattle.std.proofs.Common.{◌≡◌, ℕ, ◌+◌, zero, suc, Bool, true, false, List, [], ◌∷◌, ◌++◌, length, Option, Some, None, Ok, IsSome, refl, sym, ◌∙◌, ap, ap₂, subst, arith, ◌⊎◌, inl, inr, ⊎_elim}
-use Rattle.std.specs.Prelude.{slice_get, cond, filter, map, not, unwrap_or, option_map, is_some, ◌==◌, ◌||◌, ◌&&◌, if◌then◌else◌}
+use Rattle.std.proofs.Common.{◌≡◌, ℕ, Bool, true, false, List, [], ◌∷◌, length, Option, Some, None, refl, sym, ◌∙◌, ap, ap₂, subst}
+use Rattle.std.specs.Prelude.{cond, filter, map, not, ◌||◌, ◌&&◌, if◌then◌else◌}
 use Rattle.std.specs.List.{list_any, list_all}
-use Rattle.std.proofs.lemmas.Bool.{cases_Bool, both_ways, or_left, or_right, and_parts, false_from_ne_true}
-use Rattle.std.proofs.lemmas.Bool.Decides.{nat_tests}
-use Rattle.std.proofs.lemmas.List.Folds.{list_any-append, list_all-append}
+use Rattle.std.proofs.lemmas.Bool.{and_parts}
+use Rattle.std.proofs.lemmas.List.Folds.{list_all-append}
 use Rattle.ttm_base.specs.ListWords.{last_of}
 use Rattle.ttm_base.specs.Placement.{forced_places}
-use Rattle.ttm_base.specs.declared.Mem.{Mem}
-use Rattle.ttm_base.specs.declared.Span.{Span}
-use Rattle.ttm_base.specs.declared.Place.{Place}
 use Rattle.ttm_base.specs.declared.BufId.{BufId}
 use Rattle.ttm_base.specs.declared.FlaggedPlace.{FlaggedPlace}
 use Rattle.ttm_base.specs.declared.Deny.{Deny}
 use Rattle.ttm_base.specs.declared.Deny.TheVariants as deny
-use Rattle.ttm_base.specs.declared.Actor.TheVariants as actor
 use Rattle.journal_model.specs.declared.script.Script.{Script}
 use Rattle.journal_model.specs.declared.script.Command.{Command}
 use Rattle.journal_model.specs.declared.state.State.{State}
@@ -27,29 +22,21 @@ use Rattle.journal_model.specs.declared.entry.Shown.{Shown}
 use Rattle.journal_model.specs.declared.entry.Why.{Why}
 use Rattle.journal_model.specs.declared.entry.Why.TheVariants as why
 use Rattle.journal_model.specs.declared.entry.DryWhy.{DryWhy}
-use Rattle.journal_model.specs.State.{new_course, new_buffer, buffer, course, grip, same_buffer, has_buffer}
+use Rattle.journal_model.specs.State.{course, same_buffer, has_buffer}
 use Rattle.journal_model.specs.Commands.{named, command_at_work}
-use Rattle.journal_model.specs.Dry.{is_dry}
-use Rattle.journal_model.specs.Ready.{is_ready, first_unready}
-use Rattle.journal_model.specs.Search.{Quest, quest, quest_at_work, is_caught, aim_of}
-use Rattle.journal_model.specs.Apply.{applied}
-use Rattle.journal_model.specs.ApplyCommands.{on_to_next}
+use Rattle.journal_model.specs.Search.{quest_at_work, is_caught}
 use Rattle.journal_model.specs.ApplyPages.{search_over}
-use Rattle.journal_model.specs.ApplyVictims.{failed_if, with_fail, gone_dry, course_after_dry, with_victim, forces}
+use Rattle.journal_model.specs.ApplyVictims.{failed_if, with_fail, gone_dry, course_after_dry, with_victim}
 use Rattle.journal_model.specs.Legal.{Made}
-use Rattle.journal_model.specs.Complete.{is_answer, is_by_thread}
-use Rattle.journal_model.specs.Causes.{is_take_of, dry_of, presses, is_at_work, search_of, quest_at, dry_at_its_state, in_command, is_no_pages_of}
-use Rattle.law_progress.specs.Sound.{Owned, command_of}
-use Rattle.law_sound.proofs.Turns.{Turn, Works}
-use Rattle.law_sound.proofs.Gifts.{Gives}
+use Rattle.journal_model.specs.Complete.{is_answer}
+use Rattle.journal_model.specs.Causes.{in_command, is_no_pages_of, is_take_of, dry_of, presses, search_of}
+use Rattle.law_sound.proofs.Turns.{Works}
 use Rattle.law_sound.proofs.Steadies.{next_course}
-use Rattle.law_sound.proofs.Bufs.{same_self, same_is, other_is, has_found, none_missing, none_last, last_caught, victims_of, let_go, clash}
-use Rattle.law_sound.proofs.Owners.{none_or}
-use Rattle.law_sound.proofs.Grips.{IsFree}
-use Rattle.lemma_end_measure_parts.proofs.Frame.{touches, untouched}
-use Rattle.lemma_causes_trail.proofs.Found.{Found, takes, catches, dries, no_first}
-use Rattle.lemma_causes_trail.proofs.Windows.{ends, tells, Quiet, quiet_cut, quiet_elsewhere, quiet_kept, more_window, more_command, any_more, Trail, on_list, trail_by_victim, trail_by_dry, trail_more, trail_dry, trail_goes_on}
-use Rattle.lemma_causes_trail.proofs.Tasks.{places_of, quest_places, quest_forced, quest_dry, Seeking, seeking_same, is_aside, Aside, on_it, one_more}
+use Rattle.law_sound.proofs.Bufs.{same_is, other_is, victims_of, clash}
+use Rattle.lemma_end_measure_parts.proofs.Frame.{touches}
+use Rattle.lemma_causes_trail.proofs.Found.{takes}
+use Rattle.lemma_causes_trail.proofs.Windows.{Quiet, Trail}
+use Rattle.lemma_causes_trail.proofs.Tasks.{places_of, Seeking, is_aside}
 
 -- ---- what is known of a command's searches
 
@@ -114,32 +101,12 @@ pub data Sort : Kind → Type 0 where
   denied : {d : Deny} → Sort (kind.Refused d)
 
 pub sort_of : (k : Kind) → Sort k
-sort_of (kind.Ticket stamp) = plain refl refl refl (λ b. refl)
-sort_of (kind.Reserve b) = plain refl refl refl (λ b. refl)
-sort_of (kind.Backoff b stamp) = plain refl refl refl (λ b. refl)
-sort_of (kind.New b) = plain refl refl refl (λ b. refl)
-sort_of (kind.Free b g) = plain refl refl refl (λ b. refl)
-sort_of (kind.Take b mem spans) = plain refl refl refl (λ b. refl)
-sort_of (kind.Untake b mem) = plain refl refl refl (λ b. refl)
-sort_of (kind.Populate b page f) = plain refl refl refl (λ b. refl)
-sort_of (kind.SwapIn b page slot f) = plain refl refl refl (λ b. refl)
-sort_of (kind.Depopulate b) = plain refl refl refl (λ b. refl)
-sort_of (kind.Bind b) = plain refl refl refl (λ b. refl)
-sort_of (kind.Unbind b) = plain refl refl refl (λ b. refl)
-sort_of (kind.Move b mem n l) = plain refl refl refl (λ b. refl)
 sort_of (kind.Catch b w) = caught
-sort_of (kind.Loose b) = plain refl refl refl (λ b. refl)
-sort_of (kind.Skip b) = plain refl refl refl (λ b. refl)
 sort_of (kind.Dry b k w) = dried
-sort_of (kind.SwapOut b page slot) = plain refl refl refl (λ b. refl)
 sort_of (kind.NoPages b) = lacking
-sort_of (kind.Arm engine n) = plain refl refl refl (λ b. refl)
-sort_of (kind.Packet n k piece) = plain refl refl refl (λ b. refl)
-sort_of (kind.Done n) = plain refl refl refl (λ b. refl)
-sort_of (kind.Reap g) = plain refl refl refl (λ b. refl)
-sort_of (kind.Bulk group) = plain refl refl refl (λ b. refl)
 sort_of (kind.Result r) = result
 sort_of (kind.Refused d) = denied
+sort_of _ = plain refl refl refl (λ b. refl)
 
 -- what an entry shows doesn't matter for searches
 pub record Alike (k' k : Kind) : Type 0 where
@@ -187,32 +154,15 @@ search_calm b c h = by (is_caught c b)
     by false = (refl, refl, h.2, h.3)
 
 pub calm_plain : (script : Script) (s : State) (t : ℕ) (k : Kind) → is_plain k ≡ true → Calm (course s t) → Calm (next_course script s t k)
-calm_plain script s t (kind.Ticket stamp) p h = h
-calm_plain script s t (kind.Reserve b) p h = h
-calm_plain script s t (kind.Backoff b stamp) p h = h
-calm_plain script s t (kind.New b) p h = h
-calm_plain script s t (kind.Free b g) p h = h
 calm_plain script s t (kind.Take b mem spans) p h = search_calm b (course s t) h
-calm_plain script s t (kind.Untake b mem) p h = h
-calm_plain script s t (kind.Populate b page f) p h = h
-calm_plain script s t (kind.SwapIn b page slot f) p h = h
-calm_plain script s t (kind.Depopulate b) p h = h
-calm_plain script s t (kind.Bind b) p h = h
-calm_plain script s t (kind.Unbind b) p h = h
-calm_plain script s t (kind.Move b mem n l) p h = h
 calm_plain script s t (kind.Catch b w) p h = absurd (clash (sym p))
 calm_plain script s t (kind.Loose b) p h = (h.0, h.1, h.2, swaps_filtered (λ v. not (same_buffer b v.b)) (course s t).caught h.3)
 calm_plain script s t (kind.Skip b) p h = (h.0, h.1, h.2, swaps_filtered (λ v. not (same_buffer b v.b)) (course s t).caught h.3)
 calm_plain script s t (kind.Dry b k w) p h = absurd (clash (sym p))
-calm_plain script s t (kind.SwapOut b page slot) p h = h
 calm_plain script s t (kind.NoPages b) p h = absurd (clash (sym p))
-calm_plain script s t (kind.Arm engine n) p h = h
-calm_plain script s t (kind.Packet n k piece) p h = h
-calm_plain script s t (kind.Done n) p h = h
-calm_plain script s t (kind.Reap g) p h = h
-calm_plain script s t (kind.Bulk group) p h = h
 calm_plain script s t (kind.Result r) p h = absurd (clash (sym p))
 calm_plain script s t (kind.Refused d) p h = absurd (clash (sym p))
+calm_plain script s t _ p h = h
 
 -- one more victim for swap
 pub calm_swap : (v : BufId) (c : Course) → Calm c → Calm (with_victim v why.Swap c)
@@ -252,32 +202,19 @@ module _ (script : Script) (s : State) (t : ℕ) (cmd : Command) (v : BufId) (mi
   no_aside h c' = absurd (clash (sym h))
 
   pub aside_course : (k : Kind) → is_aside v k ≡ true → Keeps (course s t) (next_course script s t k) cmd
-  aside_course (kind.Ticket stamp) h = no_aside h _
-  aside_course (kind.Reserve b) h = no_aside h _
-  aside_course (kind.Backoff b stamp) h = no_aside h _
-  aside_course (kind.New b) h = no_aside h _
-  aside_course (kind.Free b g) h = no_aside h _
   aside_course (kind.Take b mem spans) h = subst (λ q. Keeps (course s t) (if q then course s t else record (course s t) { forced = false; dry = 0 }) cmd) (sym (also b h)) stays
   aside_course (kind.Untake b mem) h = stays
   aside_course (kind.Populate b page f) h = stays
   aside_course (kind.SwapIn b page slot f) h = stays
   aside_course (kind.Depopulate b) h = stays
-  aside_course (kind.Bind b) h = no_aside h _
   aside_course (kind.Unbind b) h = stays
   aside_course (kind.Move b mem n l) h = stays
-  aside_course (kind.Catch b w) h = no_aside h _
   aside_course (kind.Loose b) h = ((λ w. record { unmade = w.unmade; begun = w.begun; whole = w.whole }), refl, refl)
   aside_course (kind.Skip b) h = ((λ w. record { unmade = w.unmade; begun = w.begun; whole = w.whole }), refl, refl)
   aside_course (kind.Dry b k w) h = dry_keeps script s b k (command_at_work script s t) (course s t) cmd (also b h)
   aside_course (kind.SwapOut b page slot) h = stays
   aside_course (kind.NoPages b) h = fail_keeps b deny.NoPages (course s t) cmd (also b h)
-  aside_course (kind.Arm engine n) h = no_aside h _
-  aside_course (kind.Packet n k piece) h = no_aside h _
-  aside_course (kind.Done n) h = no_aside h _
-  aside_course (kind.Reap g) h = no_aside h _
-  aside_course (kind.Bulk group) h = no_aside h _
-  aside_course (kind.Result r) h = no_aside h _
-  aside_course (kind.Refused d) h = no_aside h _
+  aside_course _ h = no_aside h _
 
   -- what it tells of another buffer: nothing
   module _ (d : BufId) (other : d ≡ v → ⊥) where
@@ -291,29 +228,16 @@ module _ (script : Script) (s : State) (t : ℕ) (cmd : Command) (v : BufId) (mi
     Apart k = (is_answer k ≡ false) × (is_take_of d k ≡ false) × (dry_of d k ≡ None) × (touches script s t k d ≡ false)
 
     pub aside_apart : (k : Kind) → is_aside v k ≡ true → Apart k
-    aside_apart (kind.Ticket stamp) h = absurd (clash (sym h))
-    aside_apart (kind.Reserve b) h = absurd (clash (sym h))
-    aside_apart (kind.Backoff b stamp) h = absurd (clash (sym h))
-    aside_apart (kind.New b) h = absurd (clash (sym h))
-    aside_apart (kind.Free b g) h = absurd (clash (sym h))
     aside_apart (kind.Take b mem spans) h = (refl, differs b h, refl, differs_back b h)
     aside_apart (kind.Untake b mem) h = (refl, refl, refl, differs_back b h)
     aside_apart (kind.Populate b page f) h = (refl, refl, refl, differs_back b h)
     aside_apart (kind.SwapIn b page slot f) h = (refl, refl, refl, differs_back b h)
     aside_apart (kind.Depopulate b) h = (refl, refl, refl, differs_back b h)
-    aside_apart (kind.Bind b) h = absurd (clash (sym h))
     aside_apart (kind.Unbind b) h = (refl, refl, refl, differs_back b h)
     aside_apart (kind.Move b mem n l) h = (refl, refl, refl, differs_back b h)
-    aside_apart (kind.Catch b w) h = absurd (clash (sym h))
     aside_apart (kind.Loose b) h = (refl, refl, refl, refl)
     aside_apart (kind.Skip b) h = (refl, refl, refl, refl)
     aside_apart (kind.Dry b k w) h = (refl, refl, ap (λ q. if q then Some k else None) (differs b h), refl)
     aside_apart (kind.SwapOut b page slot) h = (refl, refl, refl, differs_back b h)
     aside_apart (kind.NoPages b) h = (refl, refl, refl, refl)
-    aside_apart (kind.Arm engine n) h = absurd (clash (sym h))
-    aside_apart (kind.Packet n k piece) h = absurd (clash (sym h))
-    aside_apart (kind.Done n) h = absurd (clash (sym h))
-    aside_apart (kind.Reap g) h = absurd (clash (sym h))
-    aside_apart (kind.Bulk group) h = absurd (clash (sym h))
-    aside_apart (kind.Result r) h = absurd (clash (sym h))
-    aside_apart (kind.Refused d) h = absurd (clash (sym h))
+    aside_apart _ h = absurd (clash (sym h))

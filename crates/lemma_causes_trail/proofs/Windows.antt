@@ -1,6 +1,6 @@
 -- The entries of a thread since a buffer's last target, as the journal grows.
 use Rattle.std.proofs.Common.{◌≡◌, ℕ, ◌+◌, zero, suc, Bool, true, false, List, [], ◌∷◌, ◌++◌, Option, Some, None, refl, sym, ◌∙◌, ap, ap₂, subst, arith, append-nil, ◌⊎◌, ⊎_elim}
-use Rattle.std.specs.Prelude.{filter, filter_map, find, cond, is_some, slice_get, ◌||◌, ◌&&◌, if◌then◌else◌}
+use Rattle.std.specs.Prelude.{filter, filter_map, find, cond, is_some, ◌||◌, ◌&&◌, if◌then◌else◌}
 use Rattle.std.specs.List.{list_any, list_all, cons_option}
 use Rattle.std.specs.Option.{option_or}
 use Rattle.std.proofs.lemmas.Bool.{cases_Bool, or_parts, or_left, or_right}
@@ -11,12 +11,9 @@ use Rattle.ttm_base.specs.declared.FlaggedPlace.{FlaggedPlace}
 use Rattle.ttm_base.specs.ListWords.{count_from}
 use Rattle.ttm_base.specs.Placement.{forced_places}
 use Rattle.journal_model.specs.declared.script.Script.{Script}
-use Rattle.journal_model.specs.State.{course}
-use Rattle.journal_model.specs.Dry.{is_dry}
 use Rattle.journal_model.specs.Legal.{Made}
-use Rattle.journal_model.specs.Search.{Quest}
 use Rattle.journal_model.specs.Complete.{is_answer, is_by_thread}
-use Rattle.journal_model.specs.Causes.{since_last, is_take_of, dry_of, presses, is_at_work, search_of, quest_at, dry_at_its_state, in_command}
+use Rattle.journal_model.specs.Causes.{since_last, in_command, is_take_of, dry_of, presses, is_at_work, places_sought, is_dry_place, was_dry, search_of, shows_pressure}
 use Rattle.lemma_causes_trail.proofs.Found.{no_first}
 
 -- ---- one entry more
@@ -73,35 +70,16 @@ map_new f xs x y h = filter_map-append f xs (x ∷ []) ∙ ap (λ l. filter_map 
 
 -- ---- a thread's window
 
-abbrev pub ends : BufId → Made → Bool
-ends b m = is_answer m.entry.kind || is_take_of b m.entry.kind
+abbrev takes : BufId → Made → Bool
+takes b m = is_take_of b m.entry.kind
 
-abbrev pub tells : BufId → Made → Bool
-tells b m = is_some (dry_of b m.entry.kind) || presses m.entry.kind
+abbrev pub ends : BufId → Made → Bool
+ends b m = is_answer m.entry.kind || takes b m
 
 abbrev mine : ℕ → List Made → List Made
 mine t j = filter (λ m. is_by_thread t m.entry.who) j
 
 module _ (script : Script) (t : ℕ) (j : List Made) (m : Made) where
-  pub others_window : (b : BufId) → is_by_thread t m.entry.who ≡ false → search_of script t b (j ++ m ∷ []) ≡ search_of script t b j
-  others_window b h = ap (λ l. filter (is_at_work script t b) (since_last (ends b) l)) (filter_less (λ x. is_by_thread t x.entry.who) j m h)
-
-  pub cut_window : (b : BufId) → is_by_thread t m.entry.who ≡ true → ends b m ≡ true → search_of script t b (j ++ m ∷ []) ≡ []
-  cut_window b h e =
-      ap (λ l. filter (is_at_work script t b) (since_last (ends b) l)) (filter_new (λ x. is_by_thread t x.entry.who) j m h)
-      ∙ ap (filter (is_at_work script t b)) (behind_cut (ends b) (mine t j) m e)
-
-  grown : (b : BufId) → is_by_thread t m.entry.who ≡ true → ends b m ≡ false → search_of script t b (j ++ m ∷ []) ≡ filter (is_at_work script t b) (since_last (ends b) (mine t j) ++ m ∷ [])
-  grown b h e =
-      ap (λ l. filter (is_at_work script t b) (since_last (ends b) l)) (filter_new (λ x. is_by_thread t x.entry.who) j m h)
-      ∙ ap (filter (is_at_work script t b)) (behind_kept (ends b) (mine t j) m e)
-
-  pub same_window : (b : BufId) → is_by_thread t m.entry.who ≡ true → ends b m ≡ false → is_at_work script t b m ≡ false → search_of script t b (j ++ m ∷ []) ≡ search_of script t b j
-  same_window b h e a = grown b h e ∙ filter_less (is_at_work script t b) (since_last (ends b) (mine t j)) m a
-
-  pub more_window : (b : BufId) → is_by_thread t m.entry.who ≡ true → ends b m ≡ false → is_at_work script t b m ≡ true → search_of script t b (j ++ m ∷ []) ≡ search_of script t b j ++ m ∷ []
-  more_window b h e a = grown b h e ∙ filter_new (is_at_work script t b) (since_last (ends b) (mine t j)) m a
-
   -- the command's entries
   pub others_command : is_by_thread t m.entry.who ≡ false → in_command t (j ++ m ∷ []) ≡ in_command t j
   others_command h = ap (since_last (λ x. is_answer x.entry.kind)) (filter_less (λ x. is_by_thread t x.entry.who) j m h)
@@ -116,46 +94,67 @@ module _ (script : Script) (t : ℕ) (j : List Made) (m : Made) where
       ap (since_last (λ x. is_answer x.entry.kind)) (filter_new (λ x. is_by_thread t x.entry.who) j m h)
       ∙ behind_kept (λ x. is_answer x.entry.kind) (mine t j) m e
 
+  -- those of a search
+  abbrev since_take : BufId → List Made → List Made
+  since_take b l = filter (is_at_work script t b) (since_last (takes b) l)
+
+  pub others_window : (b : BufId) → is_by_thread t m.entry.who ≡ false → search_of script t b (j ++ m ∷ []) ≡ search_of script t b j
+  others_window b h = ap (since_take b) (others_command h)
+
+  pub cut_window : (b : BufId) → is_by_thread t m.entry.who ≡ true → ends b m ≡ true → search_of script t b (j ++ m ∷ []) ≡ []
+  cut_window b h e =
+      ⊎_elim
+      (λ a. ap (since_take b) (cut_command h a))
+      (λ a. ap (since_take b) (more_command h a) ∙ ap (filter (is_at_work script t b)) (behind_cut (takes b) (in_command t j) m (ap (λ q. q || takes b m) (sym a) ∙ e)))
+      (cases_Bool (is_answer m.entry.kind))
+
+  grown : (b : BufId) → is_by_thread t m.entry.who ≡ true → ends b m ≡ false → search_of script t b (j ++ m ∷ []) ≡ filter (is_at_work script t b) (since_last (takes b) (in_command t j) ++ m ∷ [])
+  grown b h e =
+      let q = or_parts (is_answer m.entry.kind) (takes b m) e in
+      ap (since_take b) (more_command h q.0) ∙ ap (filter (is_at_work script t b)) (behind_kept (takes b) (in_command t j) m q.1)
+
+  pub same_window : (b : BufId) → is_by_thread t m.entry.who ≡ true → ends b m ≡ false → is_at_work script t b m ≡ false → search_of script t b (j ++ m ∷ []) ≡ search_of script t b j
+  same_window b h e a = grown b h e ∙ filter_less (is_at_work script t b) (since_last (takes b) (in_command t j)) m a
+
+  pub more_window : (b : BufId) → is_by_thread t m.entry.who ≡ true → ends b m ≡ false → is_at_work script t b m ≡ true → search_of script t b (j ++ m ∷ []) ≡ search_of script t b j ++ m ∷ []
+  more_window b h e a = grown b h e ∙ filter_new (is_at_work script t b) (since_last (takes b) (in_command t j)) m a
+
 -- ---- windows without pressure
 
 abbrev pub Quiet : Script → ℕ → BufId → List Made → Type 0
-Quiet script t b j = list_any (tells b) (search_of script t b j) ≡ false
+Quiet script t b j = list_any (shows_pressure b) (search_of script t b j) ≡ false
 
 module _ (script : Script) (t : ℕ) (j : List Made) (m : Made) (b : BufId) where
   pub quiet_others : is_by_thread t m.entry.who ≡ false → Quiet script t b j → Quiet script t b (j ++ m ∷ [])
-  quiet_others h q = ap (list_any (tells b)) (others_window script t j m b h) ∙ q
+  quiet_others h q = ap (list_any (shows_pressure b)) (others_window script t j m b h) ∙ q
 
   pub quiet_cut : is_by_thread t m.entry.who ≡ true → ends b m ≡ true → Quiet script t b (j ++ m ∷ [])
-  quiet_cut h e = ap (list_any (tells b)) (cut_window script t j m b h e)
+  quiet_cut h e = ap (list_any (shows_pressure b)) (cut_window script t j m b h e)
 
   pub quiet_elsewhere : is_by_thread t m.entry.who ≡ true → is_at_work script t b m ≡ false → Quiet script t b j → Quiet script t b (j ++ m ∷ [])
   quiet_elsewhere h a q =
-      ⊎_elim (λ e. quiet_cut h e) (λ e. ap (list_any (tells b)) (same_window script t j m b h e a) ∙ q) (cases_Bool (ends b m))
+      ⊎_elim (λ e. quiet_cut h e) (λ e. ap (list_any (shows_pressure b)) (same_window script t j m b h e a) ∙ q) (cases_Bool (ends b m))
 
-  pub quiet_kept : is_by_thread t m.entry.who ≡ true → tells b m ≡ false → Quiet script t b j → Quiet script t b (j ++ m ∷ [])
+  pub quiet_kept : is_by_thread t m.entry.who ≡ true → shows_pressure b m ≡ false → Quiet script t b j → Quiet script t b (j ++ m ∷ [])
   quiet_kept h n q = ⊎_elim (λ e. quiet_cut h e) (λ e. by e) (cases_Bool (ends b m))
     where
       by : ends b m ≡ false → Quiet script t b (j ++ m ∷ [])
       by e =
           ⊎_elim
-          (λ a. ap (list_any (tells b)) (more_window script t j m b h e a) ∙ (any_same (tells b) (search_of script t b j) m n ∙ q))
-          (λ a. ap (list_any (tells b)) (same_window script t j m b h e a) ∙ q)
+          (λ a. ap (list_any (shows_pressure b)) (more_window script t j m b h e a) ∙ (any_same (shows_pressure b) (search_of script t b j) m n ∙ q))
+          (λ a. ap (list_any (shows_pressure b)) (same_window script t j m b h e a) ∙ q)
           (cases_Bool (is_at_work script t b m))
 
 -- ---- a search under pressure
 
--- a quest that only has places
-abbrev pub on_list : List FlaggedPlace → Quest
-on_list list = record { list = list; forced = false; dry = 0 }
-
 -- from an entry on the search is under pressure: then no first place had a choice, and so many forced places went dry, in order
 pub record Trail (script : Script) (t : ℕ) (b : BufId) (list : List FlaggedPlace) (n : ℕ) (window : List Made) : Type 0 where
   pub first : Made
-  pub found : find (tells b) window ≡ Some first
-  pub same : (quest_at script t b first).list ≡ list
+  pub found : find (shows_pressure b) window ≡ Some first
+  pub same : places_sought script first.before t b ≡ list
   pub free : no_first script first.before b list ≡ true
   pub numbers : filter_map (λ m. dry_of b m.entry.kind) window ≡ count_from 1 n 0
-  pub drys : list_all (dry_at_its_state script t b (on_list list)) window ≡ true
+  pub drys : list_all (was_dry script t b (forced_places list)) window ≡ true
 
 -- one number more
 count_more : (n start : ℕ) → count_from 1 n start ++ (n + start) ∷ [] ≡ count_from 1 (suc n) start
@@ -167,39 +166,36 @@ none_is None h = refl
 none_is (Some z) h = cc
 
 module _ (script : Script) (t : ℕ) (b : BufId) (list : List FlaggedPlace) where
-  quiet_numbers : (xs : List Made) → list_any (tells b) xs ≡ false → filter_map (λ m. dry_of b m.entry.kind) xs ≡ []
+  quiet_numbers : (xs : List Made) → list_any (shows_pressure b) xs ≡ false → filter_map (λ m. dry_of b m.entry.kind) xs ≡ []
   quiet_numbers [] h = refl
   quiet_numbers (x ∷ xs) h =
-      let q = or_parts (tells b x) (list_any (tells b) xs) h in
+      let q = or_parts (shows_pressure b x) (list_any (shows_pressure b) xs) h in
       ap (λ o. cons_option o (filter_map (λ m. dry_of b m.entry.kind) xs)) (none_is (dry_of b x.entry.kind) (or_parts (is_some (dry_of b x.entry.kind)) (presses x.entry.kind) q.0).0) ∙ quiet_numbers xs q.1
 
-  pub other_dry : (m : Made) → dry_of b m.entry.kind ≡ None → dry_at_its_state script t b (on_list list) m ≡ true
-  other_dry m e =
-      ap
-      (λ o. elim o [ None ↦ true | Some k ↦ elim (slice_get (forced_places list) k) [ None ↦ false | Some place ↦ is_dry script m.before (course m.before t).skips b place ] ])
-      e
+  pub other_dry : (m : Made) → dry_of b m.entry.kind ≡ None → was_dry script t b (forced_places list) m ≡ true
+  other_dry m e = ap (λ o. elim o [ None ↦ true | Some k ↦ is_dry_place script m.before t b (forced_places list) k ]) e
 
-  quiet_drys : (xs : List Made) → list_any (tells b) xs ≡ false → list_all (dry_at_its_state script t b (on_list list)) xs ≡ true
+  quiet_drys : (xs : List Made) → list_any (shows_pressure b) xs ≡ false → list_all (was_dry script t b (forced_places list)) xs ≡ true
   quiet_drys [] h = refl
   quiet_drys (x ∷ xs) h =
-      let q = or_parts (tells b x) (list_any (tells b) xs) h in
+      let q = or_parts (shows_pressure b x) (list_any (shows_pressure b) xs) h in
       let none = none_is (dry_of b x.entry.kind) (or_parts (is_some (dry_of b x.entry.kind)) (presses x.entry.kind) q.0).0 in
       ap₂ (λ a c. a && c) (other_dry x none) (quiet_drys xs q.1)
 
-  all_new : (xs : List Made) (m : Made) → list_all (dry_at_its_state script t b (on_list list)) xs ≡ true → dry_at_its_state script t b (on_list list) m ≡ true →
-      list_all (dry_at_its_state script t b (on_list list)) (xs ++ m ∷ []) ≡ true
-  all_new xs m h k = list_all-append (dry_at_its_state script t b (on_list list)) xs (m ∷ []) ∙ ap₂ (λ a c. a && (c && true)) h k
+  all_new : (xs : List Made) (m : Made) → list_all (was_dry script t b (forced_places list)) xs ≡ true → was_dry script t b (forced_places list) m ≡ true →
+      list_all (was_dry script t b (forced_places list)) (xs ++ m ∷ []) ≡ true
+  all_new xs m h k = list_all-append (was_dry script t b (forced_places list)) xs (m ∷ []) ∙ ap₂ (λ a c. a && (c && true)) h k
 
   no_number : (xs : List Made) (m : Made) → dry_of b m.entry.kind ≡ None → filter_map (λ x. dry_of b x.entry.kind) (xs ++ m ∷ []) ≡ filter_map (λ x. dry_of b x.entry.kind) xs
   no_number xs m e = filter_map-append (λ x. dry_of b x.entry.kind) xs (m ∷ []) ∙ (ap (λ o. filter_map (λ x. dry_of b x.entry.kind) xs ++ cons_option o []) e ∙ append-nil (filter_map (λ x. dry_of b x.entry.kind) xs))
 
   -- the search comes under pressure by a victim
-  pub trail_by_victim : (xs : List Made) (m : Made) → list_any (tells b) xs ≡ false → tells b m ≡ true → dry_of b m.entry.kind ≡ None → (quest_at script t b m).list ≡ list → no_first script m.before b list ≡ true
+  pub trail_by_victim : (xs : List Made) (m : Made) → list_any (shows_pressure b) xs ≡ false → shows_pressure b m ≡ true → dry_of b m.entry.kind ≡ None → places_sought script m.before t b ≡ list → no_first script m.before b list ≡ true
       → Trail script t b list 0 (xs ++ m ∷ [])
   trail_by_victim xs m quiet h e same free =
       record {
         first = m;
-        found = find_new (tells b) xs m quiet h;
+        found = find_new (shows_pressure b) xs m quiet h;
         same = same;
         free = free;
         numbers = no_number xs m e ∙ quiet_numbers xs quiet;
@@ -207,12 +203,12 @@ module _ (script : Script) (t : ℕ) (b : BufId) (list : List FlaggedPlace) wher
       }
 
   -- or by a dry place
-  pub trail_by_dry : (xs : List Made) (m : Made) → list_any (tells b) xs ≡ false → dry_of b m.entry.kind ≡ Some 0 → dry_at_its_state script t b (on_list list) m ≡ true → (quest_at script t b m).list ≡ list
+  pub trail_by_dry : (xs : List Made) (m : Made) → list_any (shows_pressure b) xs ≡ false → dry_of b m.entry.kind ≡ Some 0 → was_dry script t b (forced_places list) m ≡ true → places_sought script m.before t b ≡ list
       → no_first script m.before b list ≡ true → Trail script t b list 1 (xs ++ m ∷ [])
   trail_by_dry xs m quiet e d same free =
       record {
         first = m;
-        found = find_new (tells b) xs m quiet (or_left (is_some (dry_of b m.entry.kind)) (presses m.entry.kind) (ap is_some e));
+        found = find_new (shows_pressure b) xs m quiet (or_left (is_some (dry_of b m.entry.kind)) (presses m.entry.kind) (ap is_some e));
         same = same;
         free = free;
         numbers = map_new (λ x. dry_of b x.entry.kind) xs m 0 e ∙ ap (λ l. l ++ 0 ∷ []) (quiet_numbers xs quiet);
@@ -224,7 +220,7 @@ module _ (script : Script) (t : ℕ) (b : BufId) (list : List FlaggedPlace) wher
   trail_more n xs m e r =
       record {
         first = r.first;
-        found = find_more (tells b) xs (m ∷ []) r.first r.found;
+        found = find_more (shows_pressure b) xs (m ∷ []) r.first r.found;
         same = r.same;
         free = r.free;
         numbers = no_number xs m e ∙ r.numbers;
@@ -232,11 +228,11 @@ module _ (script : Script) (t : ℕ) (b : BufId) (list : List FlaggedPlace) wher
       }
 
   -- one more dry place
-  pub trail_dry : (n : ℕ) (xs : List Made) (m : Made) → dry_of b m.entry.kind ≡ Some n → dry_at_its_state script t b (on_list list) m ≡ true → Trail script t b list n xs → Trail script t b list (suc n) (xs ++ m ∷ [])
+  pub trail_dry : (n : ℕ) (xs : List Made) (m : Made) → dry_of b m.entry.kind ≡ Some n → was_dry script t b (forced_places list) m ≡ true → Trail script t b list n xs → Trail script t b list (suc n) (xs ++ m ∷ [])
   trail_dry n xs m e d r =
       record {
         first = r.first;
-        found = find_more (tells b) xs (m ∷ []) r.first r.found;
+        found = find_more (shows_pressure b) xs (m ∷ []) r.first r.found;
         same = r.same;
         free = r.free;
         numbers = map_new (λ x. dry_of b x.entry.kind) xs m n e ∙ (ap (λ l. l ++ n ∷ []) r.numbers ∙ (let z : n ≡ n + 0 = omega arith in ap (λ i. count_from 1 n 0 ++ i ∷ []) z ∙ count_more n 0));
