@@ -87,29 +87,33 @@ apart_below t u d a b e = grind (arith, nat_tests)
 pub course_kept : (courses : List Course) (t u : ℕ) (c : Course) → IsSome (if t == 0 then None else slice_get courses (t - 1)) → (u ≡ t → ⊥) → course_in (with_course courses t c) u ≡ course_in courses u
 course_kept courses t u c h d = picked_kept (t == 0) (u == 0) courses (t - 1) (u - 1) c h (apart_below t u d)
 
--- ---- how many commands are answered
+-- ---- how many commands are answered, and whether the next is made
 
-fail_keeps : (b : BufId) (d : Deny) (c : Course) → (with_fail b d c).answered ≡ c.answered
+-- both are as they were
+abbrev pub IsAsFar : Course → Course → Type 0
+IsAsFar c d = (d.answered ≡ c.answered) × (d.made ≡ c.made)
+
+pub fail_keeps : (b : BufId) (d : Deny) (c : Course) → IsAsFar c (with_fail b d c)
 fail_keeps b d c = by (is_caught c b) refl
   where
-    by : (q : Bool) → is_caught c b ≡ q → (with_fail b d c).answered ≡ c.answered
-    by true e = simp e
-    by false e = simp e
+    by : (q : Bool) → is_caught c b ≡ q → IsAsFar c (with_fail b d c)
+    by true e = (simp e, simp e)
+    by false e = (simp e, simp e)
 
-search_keeps : (b : BufId) (c : Course) → (search_over b c).answered ≡ c.answered
+pub search_keeps : (b : BufId) (c : Course) → IsAsFar c (search_over b c)
 search_keeps b c = by (is_caught c b) refl
   where
-    by : (q : Bool) → is_caught c b ≡ q → (search_over b c).answered ≡ c.answered
-    by true e = simp e
-    by false e = simp e
+    by : (q : Bool) → is_caught c b ≡ q → IsAsFar c (search_over b c)
+    by true e = (simp e, simp e)
+    by false e = (simp e, simp e)
 
-dry_keeps : (script : Script) (s : State) (b : BufId) (k : ℕ) (cmd : Option Command) (c : Course) → (course_after_dry script s b k cmd c).answered ≡ c.answered
-dry_keeps script s b k None c = refl
+pub dry_keeps : (script : Script) (s : State) (b : BufId) (k : ℕ) (cmd : Option Command) (c : Course) → IsAsFar c (course_after_dry script s b k cmd c)
+dry_keeps script s b k None c = (refl, refl)
 dry_keeps script s b k (Some cmd) c = by (is_caught c b) refl
   where
-    by : (q : Bool) → is_caught c b ≡ q → (course_after_dry script s b k (Some cmd) c).answered ≡ c.answered
-    by true e = simp e
-    by false e = simp e
+    by : (q : Bool) → is_caught c b ≡ q → IsAsFar c (course_after_dry script s b k (Some cmd) c)
+    by true e = (simp e, simp e)
+    by false e = (simp e, simp e)
 
 -- ---- the course of the thread that makes an entry
 
@@ -168,9 +172,9 @@ one_more_if true n = n + 1
 one_more_if false n = n
 
 next_answered : (script : Script) (s : State) (t : ℕ) (k : Kind) → (next_course script s t k).answered ≡ one_more_if (is_answer k) (course s t).answered
-next_answered script s t (kind.Take b mem spans) = search_keeps b (course s t)
-next_answered script s t (kind.Dry b k w) = dry_keeps script s b k (command_at_work script s t) (course s t)
-next_answered script s t (kind.NoPages b) = fail_keeps b deny.NoPages (course s t)
+next_answered script s t (kind.Take b mem spans) = (search_keeps b (course s t)).0
+next_answered script s t (kind.Dry b k w) = (dry_keeps script s b k (command_at_work script s t) (course s t)).0
+next_answered script s t (kind.NoPages b) = (fail_keeps b deny.NoPages (course s t)).0
 next_answered script s t k = refl
 
 pub own_answered : (script : Script) (s : State) (t : ℕ) (k : Kind) → IsSome (course_of s t) → (course (applied script s (actor.Thread t) k) t).answered ≡ one_more_if (is_answer k) (course s t).answered
