@@ -41,8 +41,8 @@ use Rattle.journal_model.specs.ApplyPages.{with_spans, with_loc, without_frames,
 use Rattle.journal_model.specs.ApplyMoves.{moved}
 use Rattle.journal_model.specs.ApplyVictims.{failed_if, with_fail, with_victim, gone_dry, course_after_dry}
 use Rattle.law_progress.specs.Sound.{Carried, Fits, command_of, locks, system_tt, system_vram, system_both, tt_system, tt_tt, tt_vram, vram_vram, vram_tt, vram_system, vram_both}
-use Rattle.law_sound.proofs.Turns.{Turn, Works, OnVictim, OnBuffer, OnCarried, answer, start, lock, victim_unbind, victim_empty, victim_give, victim_skip, victim_move, victim_fill, victim_search, refuse, give, give_up, act, fill_in_place, ask, bind, fill_to_bind, hop_up, unbind, move_up, move_across, move_down, fill_to_move, hop_down}
-use Rattle.law_sound.proofs.Gifts.{Gives, Sought, Filled, answers, makes, exists, shifts, draws, no_buffer, reserves, backs, seeks, binds, unbinds, moves, fills, lets_go, empties, depopulates, untakes, skips, gives_up, refuses, arms, frees, swaps, no_swap, acts, finds, evicts, dries, fresh, again, back, evicts_for_swap, nothing}
+use Rattle.law_sound.proofs.Turns.{Turn, Works, OnVictim, OnBuffer, OnCarried, start, lock, victim_unbind, victim_empty, victim_give, victim_skip, victim_move, victim_fill, victim_search, give, act, fill_in_place, ask, bind, fill_to_bind, hop_up, unbind, move_up, move_across, move_down, fill_to_move, hop_down}
+use Rattle.law_sound.proofs.Gifts.{Gives, Sought, Filled, answers, makes, shifts, draws, reserves, backs, seeks, binds, unbinds, moves, fills, lets_go, empties, depopulates, untakes, skips, arms, frees, swaps, finds, evicts, dries, fresh, again, back, evicts_for_swap, nothing}
 use Rattle.law_sound.proofs.Bufs.{same_or_other, other_is, has_found, found_passes, has_pushed, has_without, without_gone, last_caught, none_missing, clash}
 use Rattle.law_sound.proofs.Steadies.{next_course, locking_command}
 use Rattle.law_sound.proofs.Owners.{none_or}
@@ -440,12 +440,10 @@ module _ (script : Script) (s : State) (t : ℕ) (cmd : Command) (here : IsSome 
   -- ---- each entry
 
   pub goes : (x : Task) (k : Kind) → Turn script s (course s t) cmd x → Gives script s (course s t) cmd x k → Goes k (next_course script s t k)
-  goes x k (answer m) answers = goes_empty k
+  goes x k turn answers = goes_empty k
   goes x k (start m q) (makes e dead) = goes_clear k _ (λ d h. absurd (unlocked script s t cmd here at known.owned (ap locks e) d (inl h))) (not_begun q)
-  goes x k (start m q) (exists e) = goes_empty k
   goes x k (start m q) (shifts e) = goes_clear k _ (λ d h. absurd (unlocked script s t cmd here at known.owned (ap locks e) d (inl h))) (not_begun q)
   goes x k (start m q) (draws l) = goes_clear k _ (λ d h. absurd (bare script s t cmd here at known.owned (locking_command (course s t) cmd q l) d (inl h))) (not_begun q)
-  goes x k (lock m n f) (no_buffer l) = goes_empty k
   goes x k (lock m n f) (reserves {b} l free) =
       goes_clear k _
       (λ d h. ⊎_elim
@@ -481,8 +479,6 @@ module _ (script : Script) (s : State) (t : ℕ) (cmd : Command) (here : IsSome 
       (λ h. has_targets (buffer s b) g n) (untaken_meets (target_to_untake (buffer s b)) b (buffer s b))
       (unmet_unready script cmd b (with_spans (target_to_untake (buffer s b)) None (buffer s b))
       (untaken_meets (target_to_untake (buffer s b)) b (buffer s b) ∙ failed_unmet script (course s t) cmd b (buffer s b) d f (fares.away b (held_first b on.works u) (has_targets (buffer s b) g n))))
-  goes x k (give_up on a f u) gives_up = goes_empty k
-  goes x k (refuse on r) refuses = goes_empty k
   goes x k (act on a f u) (arms {engine} ops e) =
       goes_clear k _ (λ d h. targets_used (record { ctx = engine; num = next_job s engine }) (ops_of (command_at_work script s t)) s.core.buffers (named_in (command_at_work script s t)) d ∙ ready_clear u d h) (fine f)
   goes x k (act on a f u) (frees {b} {g} e q) =
@@ -492,5 +488,4 @@ module _ (script : Script) (s : State) (t : ℕ) (cmd : Command) (here : IsSome 
       ap (λ o. has_some_target (unwrap_or o (new_buffer 0))) (live_set s.core.buffers b d None n) ∙ ready_clear u d (has_without (course s t).held b d h))
       (fine f)
   goes x k (act on a f u) (swaps {b} {slot} e q r) = goes_clear k _ (λ d h. targets_changed (with_loc _ (loc.Slot slot)) s.core.buffers b d (λ y. refl) ∙ ready_clear u d h) (fine f)
-  goes x k (act on a f u) (no_swap e) = goes_empty k
-  goes x k (act on a f u) acts = goes_empty k
+  goes x k turn gives = goes_empty k

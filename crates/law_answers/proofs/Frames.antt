@@ -40,7 +40,7 @@ use Rattle.journal_model.specs.Legal.{first_state}
 use Rattle.law_state.proofs.Lists.{set_at}
 use Rattle.law_progress.specs.Sound.{OnItsWay, in_vram, to_tt, out_of_vram, in_tt, in_system}
 use Rattle.law_sound.proofs.Turns.{Turn, bind, victim_move, move_up, move_across, move_down, victim_empty, act}
-use Rattle.law_sound.proofs.Gifts.{Gives, Sought, Filled, answers, makes, exists, shifts, draws, no_buffer, reserves, backs, seeks, binds, unbinds, moves, fills, lets_go, empties, depopulates, untakes, skips, gives_up, refuses, arms, frees, swaps, no_swap, acts, finds, evicts, dries, fresh, again, back, evicts_for_swap, nothing}
+use Rattle.law_sound.proofs.Gifts.{Gives, Sought, Filled, makes, seeks, binds, unbinds, moves, fills, empties, depopulates, untakes, arms, frees, swaps, finds, evicts, dries, fresh, again, back, evicts_for_swap, nothing}
 use Rattle.law_sound.proofs.Bufs.{same_self, none_found, clash}
 use Rattle.lemma_end_measure.proofs.Parts.{after}
 use Rattle.lemma_end_carrying.proofs.Takes.{taken, taken_body}
@@ -162,14 +162,7 @@ module _ (script : Script) (s : State) (t : ℕ) (cmd : Command) (few : Caught (
   up_full b job = changed_full (moved Vram job) s.core.buffers b (λ x e full m. absurd (vram_tt m)) h
 
   pub full_keeps : (x : Task) (k : Kind) → Turn script s (course s t) cmd x → Gives script s (course s t) cmd x k → AreFull (after script s t k).core.buffers
-  full_keeps x k turn answers = h
   full_keeps x k turn (makes {b} e l) = set_full s.core.buffers b (Some (new_buffer (decl script b).pages)) (λ y q. let same : new_buffer (decl script b).pages ≡ y = cc in subst IsFull same (λ m. absurd (system_tt m))) h
-  full_keeps x k turn (exists e) = h
-  full_keeps x k turn (shifts e) = h
-  full_keeps x k turn (draws l) = h
-  full_keeps x k turn (no_buffer l) = h
-  full_keeps x k turn (reserves l f) = h
-  full_keeps x k turn (backs l f q) = h
   full_keeps x k turn (seeks {b} sought) = sought_full b _ k sought
   full_keeps x k turn (fills {b} filled) = filled_full b k filled
   full_keeps x k (bind {b} on q r) binds =
@@ -179,22 +172,17 @@ module _ (script : Script) (s : State) (t : ℕ) (cmd : Command) (few : Caught (
   full_keeps x k (move_up {b} on q) moves = up_full b _
   full_keeps x k (move_across {b} on q) moves = up_full b _
   full_keeps x k (move_down {b} on v q r) moves = down_full b _ on.stands r
-  full_keeps x k turn lets_go = h
   full_keeps x k (victim_empty v on q e) (empties {b} {slot} w f g) =
       changed_full (with_loc _ (loc.Slot slot)) s.core.buffers v.b
       (λ y p full m. absurd (emptied_elsewhere y v.why v.fail (at_live (λ z. OnItsWay z v.why v.fail) v.b y p (way v on.last)) (swapped v on.last w) (at_live (λ z. has_target System z ≡ false) v.b y p q) m)) h
   full_keeps x k turn (depopulates {b} m f) =
       changed_full without_frames s.core.buffers b (λ y e full q. absurd (vram_tt (sym (at_live (λ z. z.mem ≡ Vram) b y e m) ∙ q))) h
   full_keeps x k turn (untakes {b} n) = changed_full _ s.core.buffers b (λ y e full m. full m) h
-  full_keeps x k turn skips = h
-  full_keeps x k turn gives_up = h
-  full_keeps x k turn refuses = h
   full_keeps x k turn (arms {engine} ops e) = used_full _ (ops_of (command_at_work script s t)) (named_in (command_at_work script s t)) s.core.buffers h
   full_keeps x k turn (frees {b} e q) = set_full s.core.buffers b None (λ y q. cc) h
   full_keeps x k (act on a f u) (swaps {b} {slot} e q r) =
       changed_full (with_loc _ (loc.Slot slot)) s.core.buffers b (λ y p full m. absurd (out_of_system b e u (ap (λ z. z.mem) (ap (λ o. unwrap_or o (new_buffer 0)) p) ∙ m))) h
-  full_keeps x k turn (no_swap e) = h
-  full_keeps x k turn acts = h
+  full_keeps x k turn gives = h
 
 pub full_first : (script : Script) → AreFull (first_state script).core.buffers
 full_first script b x e = absurd (some_not x (sym (first_live script b) ∙ e))

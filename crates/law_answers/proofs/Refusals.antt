@@ -1,16 +1,14 @@
 -- A command that is refused for want of space or pages has a buffer at work.
-use Rattle.std.proofs.Common.{◌≡◌, ℕ, Bool, true, false, List, Option, Some, None, Ok, IsTrue, refl, sym, ◌∙◌, ap, subst, ◌⊎◌, inl, inr}
+use Rattle.std.proofs.Common.{◌≡◌, ℕ, Bool, true, false, List, Option, Some, None, IsTrue, refl, sym, ◌∙◌, ap, subst, ◌⊎◌, inl, inr}
 use Rattle.std.specs.Prelude.{take, not, nat_lt, ◌==◌, if◌then◌else◌}
 use Rattle.ttm_base.specs.declared.BufId.{BufId}
 use Rattle.ttm_base.specs.declared.Deny.{Deny}
 use Rattle.ttm_base.specs.declared.Deny.TheVariants as deny
-use Rattle.ttm_base.specs.declared.Actor.{Actor}
 use Rattle.ttm_base.specs.declared.Actor.TheVariants as actor
 use Rattle.journal_model.specs.declared.script.Script.{Script}
 use Rattle.journal_model.specs.declared.script.Command.{Command}
 use Rattle.journal_model.specs.declared.script.Command.TheVariants as command
 use Rattle.journal_model.specs.declared.entry.Entry.{Entry}
-use Rattle.journal_model.specs.declared.entry.Kind.{Kind}
 use Rattle.journal_model.specs.declared.entry.Kind.TheVariants as kind
 use Rattle.journal_model.specs.declared.state.State.{State}
 use Rattle.journal_model.specs.declared.state.Course.{Course}
@@ -60,13 +58,7 @@ forbidden_other s (command.SwapOut b) d h = by (nat_lt 0 (grip s b).pins) h
     by : (q : Bool) → ◌≡◌ {A = Option Deny} (if q then Some deny.Pinned else None) (Some d) → is_want d ≡ false
     by true h = let it : deny.Pinned ≡ d = cc in subst (λ e. is_want e ≡ false) it refl
     by false h = cc
-forbidden_other s (command.New b) d h = cc
-forbidden_other s (command.Find b) d h = cc
-forbidden_other s (command.Write b off bytes) d h = cc
-forbidden_other s (command.Read b off len) d h = cc
-forbidden_other s (command.Move b mem) d h = cc
-forbidden_other s (command.Touch group) d h = cc
-forbidden_other s (command.Submit engine ops) d h = cc
+forbidden_other s cmd d h = cc
 
 -- a command that may not ask what it asks is refused for that
 forbidden_task : (script : Script) (s : State) (c : Course) (cmd : Command) (d : Deny) → OnNamed s c cmd → forbidden s cmd ≡ Some d → task_of_command script s c cmd ≡ task.Refuse d

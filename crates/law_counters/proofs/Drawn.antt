@@ -12,7 +12,7 @@ use Rattle.journal_model.specs.declared.state.Course.{Course}
 use Rattle.journal_model.specs.declared.state.Task.{Task}
 use Rattle.journal_model.specs.declared.entry.Kind.{Kind}
 use Rattle.journal_model.specs.declared.entry.Kind.TheVariants as kind
-use Rattle.journal_model.specs.State.{course, course_of, new_course, with_course}
+use Rattle.journal_model.specs.State.{course, course_of, new_course}
 use Rattle.journal_model.specs.PageSteps.{next_job}
 use Rattle.journal_model.specs.Apply.{applied}
 use Rattle.journal_model.specs.Legal.{first_state}
@@ -22,7 +22,8 @@ use Rattle.law_state.proofs.Counters.{is_counted}
 use Rattle.law_owners.proofs.Counts.{one, summed}
 use Rattle.law_sound.proofs.Turns.{Turn, start, act}
 use Rattle.law_sound.proofs.Gifts.{Gives, draws, arms, seeks, fills}
-use Rattle.law_sound.proofs.Steadies.{next_course, locking_command}
+use Rattle.law_journal.proofs.Courses.{next_course, courses_after}
+use Rattle.law_sound.proofs.Steadies.{locking_command}
 use Rattle.law_sound.proofs.Along.{Stepped, OfWorker, packet, done, reap}
 
 -- a thread with a stamp, and one whose command is done but for its answer
@@ -58,34 +59,6 @@ course_there s t here = by (t == 0) here
     by : (q : Bool) → IsSome (if q then None else slice_get s.courses (t - 1)) → slice_get s.courses (t - 1) ≡ Some (unwrap_or (if q then None else slice_get s.courses (t - 1)) (new_course 0))
     by true h = cc
     by false h = known (slice_get s.courses (t - 1)) h (new_course 0)
-
-courses_after : (script : Script) (s : State) (t : ℕ) (k : Kind) → ((applied script s (actor.Thread t) k).courses ≡ with_course s.courses t (next_course script s t k)) ⊎ (((applied script s (actor.Thread t) k).courses ≡ s.courses) × (next_course script s t k ≡ course s t))
-courses_after script s t (kind.Ticket stamp) = inl refl
-courses_after script s t (kind.Reserve b) = inl refl
-courses_after script s t (kind.Backoff b stamp) = inl refl
-courses_after script s t (kind.New b) = inl refl
-courses_after script s t (kind.Free b g) = inl refl
-courses_after script s t (kind.Take b mem spans) = inl refl
-courses_after script s t (kind.Untake b mem) = inr (refl, refl)
-courses_after script s t (kind.Populate b page f) = inr (refl, refl)
-courses_after script s t (kind.SwapIn b page slot f) = inr (refl, refl)
-courses_after script s t (kind.Depopulate b) = inr (refl, refl)
-courses_after script s t (kind.Bind b) = inr (refl, refl)
-courses_after script s t (kind.Unbind b) = inr (refl, refl)
-courses_after script s t (kind.Move b mem n l) = inr (refl, refl)
-courses_after script s t (kind.Catch b w) = inl refl
-courses_after script s t (kind.Loose b) = inl refl
-courses_after script s t (kind.Skip b) = inl refl
-courses_after script s t (kind.Dry b k w) = inl refl
-courses_after script s t (kind.SwapOut b page slot) = inr (refl, refl)
-courses_after script s t (kind.NoPages b) = inl refl
-courses_after script s t (kind.Arm engine n) = inl refl
-courses_after script s t (kind.Packet n k piece) = inr (refl, refl)
-courses_after script s t (kind.Done n) = inr (refl, refl)
-courses_after script s t (kind.Reap g) = inr (refl, refl)
-courses_after script s t (kind.Bulk group) = inl refl
-courses_after script s t (kind.Result r) = inl refl
-courses_after script s t (kind.Refused d) = inl refl
 
 sum_after : (f : Course → ℕ) (script : Script) (s : State) (t : ℕ) (k : Kind) → IsSome (course_of s t) →
     summed f (applied script s (actor.Thread t) k).courses + f (course s t) ≡ summed f s.courses + f (next_course script s t k)

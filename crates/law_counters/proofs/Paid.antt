@@ -37,7 +37,7 @@ use Rattle.law_owners.proofs.Counts.{one, summed, weigh, summed-set}
 use Rattle.law_owners.proofs.Weights.{changed_weight}
 use Rattle.law_sound.proofs.Along.{OfWorker, packet, done, reap}
 use Rattle.lemma_bytes_told.specs.Told.{is_still, Told, still, makes, frees, leaves, takes, untakes, populates, swaps_in, depopulates, binds, unbinds, moves_up, moves_across, moves_down, evicts, catches, swaps_out, arms, reads, writes, results}
-use Rattle.lemma_bytes_shapes.proofs.Shapes.{still_core}
+use Rattle.lemma_bytes_shapes.proofs.Shapes.{still_core, still_ghosts}
 use Rattle.lemma_bytes_shapes.proofs.Numbers.{not_zero}
 
 -- ---- what live buffers are worth: that they were made, and their targets
@@ -122,60 +122,8 @@ some_engine : (script : Script) (engine : ℕ) (ops : List Op) → is_command sc
 some_engine script engine ops h = grind (arith, nat_tests)
 
 still_jobs : (script : Script) (s : State) (t : ℕ) (k : Kind) → is_still k ≡ true → (applied script s (actor.Thread t) k).last_jobs ≡ s.last_jobs
-still_jobs script s t (kind.Ticket stamp) e = refl
-still_jobs script s t (kind.Reserve b) e = refl
-still_jobs script s t (kind.Backoff b stamp) e = refl
-still_jobs script s t (kind.Loose b) e = refl
-still_jobs script s t (kind.Skip b) e = refl
-still_jobs script s t (kind.Dry b k w) e = refl
-still_jobs script s t (kind.NoPages b) e = refl
-still_jobs script s t (kind.Bulk group) e = refl
-still_jobs script s t (kind.Refused d) e = refl
-still_jobs script s t (kind.New b) e = cc
-still_jobs script s t (kind.Free b g) e = cc
-still_jobs script s t (kind.Take b mem spans) e = cc
-still_jobs script s t (kind.Untake b mem) e = cc
-still_jobs script s t (kind.Populate b page f) e = cc
-still_jobs script s t (kind.SwapIn b page slot f) e = cc
-still_jobs script s t (kind.Depopulate b) e = cc
-still_jobs script s t (kind.Bind b) e = cc
-still_jobs script s t (kind.Unbind b) e = cc
-still_jobs script s t (kind.Move b mem n l) e = cc
-still_jobs script s t (kind.Catch b w) e = cc
-still_jobs script s t (kind.SwapOut b page slot) e = cc
-still_jobs script s t (kind.Arm engine n) e = cc
-still_jobs script s t (kind.Packet n k piece) e = cc
-still_jobs script s t (kind.Done n) e = cc
-still_jobs script s t (kind.Reap g) e = cc
-still_jobs script s t (kind.Result r) e = cc
-
-still_ghosts : (script : Script) (s : State) (t : ℕ) (k : Kind) → is_still k ≡ true → (applied script s (actor.Thread t) k).last_ghost ≡ s.last_ghost
-still_ghosts script s t (kind.Ticket stamp) e = refl
-still_ghosts script s t (kind.Reserve b) e = refl
-still_ghosts script s t (kind.Backoff b stamp) e = refl
-still_ghosts script s t (kind.Loose b) e = refl
-still_ghosts script s t (kind.Skip b) e = refl
-still_ghosts script s t (kind.Dry b k w) e = refl
-still_ghosts script s t (kind.NoPages b) e = refl
-still_ghosts script s t (kind.Bulk group) e = refl
-still_ghosts script s t (kind.Refused d) e = refl
-still_ghosts script s t (kind.New b) e = cc
-still_ghosts script s t (kind.Free b g) e = cc
-still_ghosts script s t (kind.Take b mem spans) e = cc
-still_ghosts script s t (kind.Untake b mem) e = cc
-still_ghosts script s t (kind.Populate b page f) e = cc
-still_ghosts script s t (kind.SwapIn b page slot f) e = cc
-still_ghosts script s t (kind.Depopulate b) e = cc
-still_ghosts script s t (kind.Bind b) e = cc
-still_ghosts script s t (kind.Unbind b) e = cc
-still_ghosts script s t (kind.Move b mem n l) e = cc
-still_ghosts script s t (kind.Catch b w) e = cc
-still_ghosts script s t (kind.SwapOut b page slot) e = cc
-still_ghosts script s t (kind.Arm engine n) e = cc
-still_ghosts script s t (kind.Packet n k piece) e = cc
-still_ghosts script s t (kind.Done n) e = cc
-still_ghosts script s t (kind.Reap g) e = cc
-still_ghosts script s t (kind.Result r) e = cc
+still_jobs script s t (kind.Ticket stamp) e = cc
+still_jobs script s t k e = cc
 
 -- ---- each entry
 

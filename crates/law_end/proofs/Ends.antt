@@ -1,21 +1,15 @@
 -- Each entry lowers the measure, so journals end, and so does the simulator.
-use Rattle.std.proofs.Common.{◌≡◌, ℕ, ◌<◌, ◌≤◌, ◌+◌, ◌*◌, Bool, true, false, List, length, Option, Some, None, Ok, IsTrue, refl, sym, ◌∙◌, ap, subst, arith}
-use Rattle.std.specs.Prelude.{find, sum_by}
-use Rattle.ttm_base.specs.declared.Actor.{Actor}
+use Rattle.std.proofs.Common.{◌≡◌, ◌<◌, ◌+◌, ◌*◌, true, List, length, IsTrue, sym, ◌∙◌, ap, subst, arith}
+use Rattle.std.specs.Prelude.{sum_by}
 use Rattle.journal_model.specs.declared.script.Script.{Script}
-use Rattle.journal_model.specs.declared.state.State.{State}
 use Rattle.journal_model.specs.declared.entry.Entry.{Entry}
-use Rattle.journal_model.specs.declared.entry.Kind.{Kind}
 use Rattle.journal_model.specs.ScriptRules.{is_script}
-use Rattle.journal_model.specs.Next.{next}
-use Rattle.journal_model.specs.Apply.{applied}
-use Rattle.journal_model.specs.Legal.{first_state, world_of, state_of, IsLegal}
+use Rattle.journal_model.specs.Legal.{IsLegal}
 use Rattle.journal_model.specs.Complete.{is_over, is_complete}
 use Rattle.journal_model.specs.DeadEnd.{can_step}
 use Rattle.journal_model.specs.Scheduled.{run_of, own_order, scheduled_actors, packets_in, scheduled, turn_limit}
 use Rattle.law_journal.proofs.Counted.{over_law}
 use Rattle.law_journal.proofs.Turns.{run_good}
-use Rattle.law_progress.proofs.Measure.{measure}
 use Rattle.law_progress.proofs.JournalEnds.{journal_ends, sim_ends}
 use Rattle.law_sound.proofs.Orders.{goes, rests, none_passes}
 use Rattle.lemma_end_measure.proofs.MeasureFirst.{first_below}

@@ -1,6 +1,6 @@
 -- What holds in the states of legal journals, and that each entry of each actor lowers the measure there.
-use Rattle.std.proofs.Common.{◌≡◌, ℕ, ◌<◌, ◌≤◌, ◌+◌, Bool, true, false, List, [], ◌∷◌, length, Option, Some, None, Ok, IsTrue, refl, sym, ◌∙◌, ap, subst, arith, ◌⊎◌, inl, inr, ⊎_elim}
-use Rattle.std.specs.Prelude.{slice_get, unwrap_or, ◌||◌}
+use Rattle.std.proofs.Common.{◌≡◌, ℕ, ◌<◌, ◌≤◌, ◌+◌, true, false, List, [], ◌∷◌, length, Some, Ok, IsTrue, refl, sym, ◌∙◌, ap, subst, arith, ◌⊎◌, inl, inr, ⊎_elim}
+use Rattle.std.specs.Prelude.{slice_get, unwrap_or}
 use Rattle.std.proofs.lemmas.Bool.{or_left, or_right, both_ways}
 use Rattle.ttm_base.specs.ListWords.{last_of}
 use Rattle.ttm_base.specs.Placement.{forced_places}
@@ -15,9 +15,8 @@ use Rattle.journal_model.specs.declared.state.Course.{Course}
 use Rattle.journal_model.specs.declared.state.Victim.{Victim}
 use Rattle.journal_model.specs.declared.state.Task.{Task}
 use Rattle.journal_model.specs.declared.entry.Kind.{Kind}
-use Rattle.journal_model.specs.declared.entry.Kind.TheVariants as kind
-use Rattle.journal_model.specs.State.{buffer, course, same_buffer, has_buffer}
-use Rattle.journal_model.specs.Commands.{decl, undeclared, asked_places, command_at_work}
+use Rattle.journal_model.specs.State.{buffer, course, same_buffer}
+use Rattle.journal_model.specs.Commands.{decl, undeclared, asked_places}
 use Rattle.journal_model.specs.Ready.{has_some_target}
 use Rattle.journal_model.specs.Search.{Quest}
 use Rattle.journal_model.specs.ScriptRules.{is_script}
@@ -31,11 +30,11 @@ use Rattle.law_state.proofs.Lists.{get_within}
 use Rattle.law_state.proofs.Rules.{Rules, rules_of, declared_pages}
 use Rattle.law_state.proofs.GoodStates.{good_keeps, good_first}
 use Rattle.law_state.proofs.Pins.{courses_keep, courses_law}
-use Rattle.law_progress.specs.Sound.{Sound, Carried, Fits, command_of}
+use Rattle.law_progress.specs.Sound.{Sound}
 use Rattle.law_progress.proofs.DeadEnds.{command_is}
 use Rattle.law_progress.proofs.Measure.{measure}
 use Rattle.law_sound.proofs.Along.{Stepped, OfWorker, of_worker, stepped_of, sound_keeps, sound_first}
-use Rattle.law_sound.proofs.Gifts.{Gives, Sought, Filled, answers, makes, exists, shifts, draws, no_buffer, reserves, backs, seeks, binds, unbinds, moves, fills, lets_go, empties, depopulates, untakes, skips, gives_up, refuses, arms, frees, swaps, no_swap, acts, finds, evicts, dries, fresh, again, back, evicts_for_swap, nothing}
+use Rattle.law_sound.proofs.Gifts.{Gives, Sought, Filled, seeks, binds, unbinds, moves, fills, lets_go, empties, depopulates, untakes, swaps, finds, evicts, dries, fresh, again, back, evicts_for_swap, nothing}
 use Rattle.law_sound.proofs.Bufs.{same_self, clash}
 use Rattle.lemma_end_measure_parts.proofs.Locks.{few_threads}
 use Rattle.lemma_end_measure.proofs.Border.{Known}
@@ -101,21 +100,7 @@ module _ (script : Script) (s : State) (c : Course) (cmd : Command) where
   searching_kind x k lets_go h = inr refl
   searching_kind x k (empties w f g) h = inr refl
   searching_kind x k (swaps e f g) h = inr refl
-  searching_kind x k answers h = absurd (clash (sym h))
-  searching_kind x k (makes e d) h = absurd (clash (sym h))
-  searching_kind x k (exists e) h = absurd (clash (sym h))
-  searching_kind x k (shifts e) h = absurd (clash (sym h))
-  searching_kind x k (draws l) h = absurd (clash (sym h))
-  searching_kind x k (no_buffer l) h = absurd (clash (sym h))
-  searching_kind x k (reserves l f) h = absurd (clash (sym h))
-  searching_kind x k (backs l f q) h = absurd (clash (sym h))
-  searching_kind x k skips h = absurd (clash (sym h))
-  searching_kind x k gives_up h = absurd (clash (sym h))
-  searching_kind x k refuses h = absurd (clash (sym h))
-  searching_kind x k (arms ops e) h = absurd (clash (sym h))
-  searching_kind x k (frees e q) h = absurd (clash (sym h))
-  searching_kind x k (no_swap e) h = absurd (clash (sym h))
-  searching_kind x k acts h = absurd (clash (sym h))
+  searching_kind x k it h = absurd (clash (sym h))
 
 module _ (script : Script) (fits : IsTrue (is_script script)) where
   rules : Rules script

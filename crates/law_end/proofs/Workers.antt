@@ -1,6 +1,6 @@
 -- The entries of engines and of the reaper lower the measure.
-use Rattle.std.proofs.Common.{◌≡◌, ℕ, ◌≤◌, ◌+◌, Bool, true, false, List, [], ◌∷◌, length, Option, Some, None, Ok, Err, refl, sym, ◌∙◌, ap, subst, arith}
-use Rattle.std.specs.Prelude.{slice_get, find, not, nat_lt, ◌==◌, ◌&&◌}
+use Rattle.std.proofs.Common.{◌≡◌, ℕ, ◌≤◌, ◌+◌, Bool, true, false, [], length, Option, Some, None, Ok, Err, refl, ap, subst}
+use Rattle.std.specs.Prelude.{slice_get, not, nat_lt, ◌==◌, ◌&&◌}
 use Rattle.std.proofs.lemmas.Bool.{and_parts, eqb-true, not-true}
 use Rattle.ttm_base.specs.declared.JobId.{JobId}
 use Rattle.ttm_base.specs.declared.Need.TheVariants as need
@@ -15,7 +15,7 @@ use Rattle.journal_model.specs.declared.entry.Kind.TheVariants as kind
 use Rattle.journal_model.specs.Waits.{waited_for}
 use Rattle.journal_model.specs.Search.{Step}
 use Rattle.journal_model.specs.PageSteps.{unless_waiting}
-use Rattle.journal_model.specs.Next.{head_of, step_of_job, step_of_engine, step_of_reaper, next}
+use Rattle.journal_model.specs.Next.{head_of, step_of_job, next}
 use Rattle.journal_model.specs.Apply.{applied}
 use Rattle.journal_model.specs.ApplyJobs.{after_packet_run, after_done}
 use Rattle.law_progress.proofs.Measure.{measure}

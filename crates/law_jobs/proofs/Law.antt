@@ -80,20 +80,7 @@ emits script last jobs after job waits packets good e f rooms number lines =
 -- no thread ends one
 no_end : (s : State) (cmd : Command) (t : Task) (n : ℕ) → is_made_by s cmd t (kind.Done n) ≡ true → ⊥
 no_end s cmd task.Idle n h = cc
-no_end s cmd task.Answer n h = cc
-no_end s cmd task.Start n h = cc
-no_end s cmd (task.Lock x) n h = cc
-no_end s cmd (task.Search x aim) n h = cc
-no_end s cmd (task.Bind x) n h = cc
-no_end s cmd (task.Unbind x) n h = cc
-no_end s cmd (task.Move x mem) n h = cc
-no_end s cmd (task.Fill x) n h = cc
-no_end s cmd (task.Empty x) n h = cc
-no_end s cmd (task.GiveBack x) n h = cc
-no_end s cmd (task.Skip x) n h = cc
-no_end s cmd (task.GiveUp d) n h = cc
-no_end s cmd (task.Refuse d) n h = cc
-no_end s cmd task.Act n h = cc
+no_end s cmd t n h = cc
 
 -- the head of the engine's context
 record Head (s : State) (e n : ℕ) : Type 0 where
@@ -132,35 +119,14 @@ ends script s (actor.Engine e) n h lines ctx =
 -- ---- each kind
 
 lines_keep : (script : Script) (s : State) (who : Actor) (k : Kind) → GoodState script s → GoodState script (applied script s who k) → next script s who ≡ Ok k → is_counted s k ≡ true → HaveLines s → HaveLines (applied script s who k)
-lines_keep script s who (kind.Ticket stamp) good after h q lines = lines
-lines_keep script s who (kind.Reserve b) good after h q lines = lines
-lines_keep script s who (kind.Backoff b stamp) good after h q lines = lines
-lines_keep script s who (kind.New b) good after h q lines = lines
-lines_keep script s who (kind.Free b g) good after h q lines = lines
-lines_keep script s who (kind.Take b mem spans) good after h q lines = lines
-lines_keep script s who (kind.Untake b mem) good after h q lines = lines
-lines_keep script s who (kind.Populate b page f) good after h q lines = lines
-lines_keep script s who (kind.SwapIn b page slot f) good after h q lines = lines
-lines_keep script s who (kind.Depopulate b) good after h q lines = lines
-lines_keep script s who (kind.Bind b) good after h q lines = lines
-lines_keep script s who (kind.Unbind b) good after h q lines = lines
 lines_keep script s who (kind.Move b mem n l) good after h q lines =
     emits script s.last_jobs s.core.jobs (applied script s who (kind.Move b mem n l)) (record { ctx = 0; num = n }) _ _ after refl refl good.jobs.rooms
     (eqb-true n (next_job s 0) (and_parts (n == next_job s 0) (is_left s l) q).0) lines
-lines_keep script s who (kind.Catch b w) good after h q lines = lines
-lines_keep script s who (kind.Loose b) good after h q lines = lines
-lines_keep script s who (kind.Skip b) good after h q lines = lines
-lines_keep script s who (kind.Dry b k w) good after h q lines = lines
-lines_keep script s who (kind.SwapOut b page slot) good after h q lines = lines
-lines_keep script s who (kind.NoPages b) good after h q lines = lines
 lines_keep script s who (kind.Arm engine n) good after h q lines =
     emits script s.last_jobs s.core.jobs (applied script s who (kind.Arm engine n)) (record { ctx = engine; num = n }) _ _ after refl refl good.jobs.rooms (eqb-true n (next_job s engine) q) lines
 lines_keep script s who (kind.Packet n k piece) good after h q lines = λ ctx. line_ran ctx (last_number s.last_jobs ctx) s.core.jobs (record { ctx = engine_of who; num = n }) (lines ctx)
 lines_keep script s who (kind.Done n) good after h q lines = ends script s who n h lines
-lines_keep script s who (kind.Reap g) good after h q lines = lines
-lines_keep script s who (kind.Bulk group) good after h q lines = lines
-lines_keep script s who (kind.Result shown) good after h q lines = lines
-lines_keep script s who (kind.Refused d) good after h q lines = lines
+lines_keep script s who k good after h q lines = lines
 
 -- ---- along a journal
 

@@ -24,32 +24,8 @@ use Rattle.law_journal.proofs.Courses.{of_engine, of_reaper, thread_is_there, on
 
 -- what is shown doesn't make an answer
 shown_answers : (script : Script) (stores : Stores) (s : State) (who : Actor) (k : Kind) → is_answer (showing script stores s who k) ≡ is_answer k
-shown_answers script stores s who (kind.Ticket stamp) = refl
-shown_answers script stores s who (kind.Reserve b) = refl
-shown_answers script stores s who (kind.Backoff b stamp) = refl
-shown_answers script stores s who (kind.New b) = refl
-shown_answers script stores s who (kind.Free b g) = refl
-shown_answers script stores s who (kind.Take b mem spans) = refl
-shown_answers script stores s who (kind.Untake b mem) = refl
-shown_answers script stores s who (kind.Populate b page frame) = refl
-shown_answers script stores s who (kind.SwapIn b page slot frame) = refl
-shown_answers script stores s who (kind.Depopulate b) = refl
-shown_answers script stores s who (kind.Bind b) = refl
-shown_answers script stores s who (kind.Unbind b) = refl
-shown_answers script stores s who (kind.Move b mem n l) = refl
-shown_answers script stores s who (kind.Catch b w) = refl
-shown_answers script stores s who (kind.Loose b) = refl
-shown_answers script stores s who (kind.Skip b) = refl
-shown_answers script stores s who (kind.Dry b k w) = refl
-shown_answers script stores s who (kind.SwapOut b page slot) = refl
-shown_answers script stores s who (kind.NoPages b) = refl
-shown_answers script stores s who (kind.Arm engine n) = refl
-shown_answers script stores s who (kind.Packet n k piece) = refl
-shown_answers script stores s who (kind.Done n) = refl
-shown_answers script stores s who (kind.Reap g) = refl
-shown_answers script stores s who (kind.Bulk group) = refl
 shown_answers script stores s who (kind.Result r) = refl
-shown_answers script stores s who (kind.Refused d) = refl
+shown_answers script stores s who k = refl
 
 -- an entry counts for a thread
 abbrev counts_for : ℕ → Entry → Bool

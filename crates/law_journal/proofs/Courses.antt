@@ -1,5 +1,5 @@
 -- What each entry does to the courses of threads.
-use Rattle.std.proofs.Common.{◌≡◌, ℕ, ◌+◌, ◌-◌, zero, suc, Bool, true, false, List, [], ◌∷◌, Option, Some, None, IsSome, Ok, refl, ◌∙◌, ap, arith}
+use Rattle.std.proofs.Common.{◌≡◌, ℕ, ◌+◌, ◌-◌, zero, suc, Bool, true, false, List, [], ◌∷◌, Option, Some, None, IsSome, Ok, ◌++◌, ◌⊎◌, inl, inr, ⊎_elim, refl, sym, ◌∙◌, ap, arith}
 use Rattle.std.proofs.lemmas.Grind.{common_steps}
 use Rattle.std.proofs.lemmas.Bool.Decides.{nat_tests}
 use Rattle.std.specs.Prelude.{slice_get, slice_set, unwrap_or, if◌then◌else◌, ◌==◌}
@@ -14,13 +14,14 @@ use Rattle.journal_model.specs.declared.state.State.{State}
 use Rattle.journal_model.specs.declared.state.Course.{Course}
 use Rattle.journal_model.specs.declared.entry.Kind.{Kind}
 use Rattle.journal_model.specs.declared.entry.Kind.TheVariants as kind
-use Rattle.journal_model.specs.State.{course, course_of, new_course, with_course}
+use Rattle.journal_model.specs.State.{course, course_of, new_course, with_course, without_buffer}
 use Rattle.journal_model.specs.Commands.{command_at_work}
 use Rattle.journal_model.specs.Search.{is_caught}
 use Rattle.journal_model.specs.Next.{next}
 use Rattle.journal_model.specs.Apply.{applied}
+use Rattle.journal_model.specs.ApplyCommands.{has_made, on_to_next}
 use Rattle.journal_model.specs.ApplyPages.{search_over}
-use Rattle.journal_model.specs.ApplyVictims.{with_fail, course_after_dry}
+use Rattle.journal_model.specs.ApplyVictims.{with_fail, no_longer_caught, with_victim, with_skip, course_after_dry}
 use Rattle.journal_model.specs.Complete.{is_answer}
 
 -- ---- who makes which kinds
@@ -86,146 +87,104 @@ apart_below t u d a b e = grind (arith, nat_tests)
 pub course_kept : (courses : List Course) (t u : ℕ) (c : Course) → IsSome (if t == 0 then None else slice_get courses (t - 1)) → (u ≡ t → ⊥) → course_in (with_course courses t c) u ≡ course_in courses u
 course_kept courses t u c h d = picked_kept (t == 0) (u == 0) courses (t - 1) (u - 1) c h (apart_below t u d)
 
--- ---- how many commands are answered
+-- ---- how many commands are answered, and whether the next is made
 
-fail_keeps : (b : BufId) (d : Deny) (c : Course) → (with_fail b d c).answered ≡ c.answered
+-- both are as they were
+abbrev pub IsAsFar : Course → Course → Type 0
+IsAsFar c d = (d.answered ≡ c.answered) × (d.made ≡ c.made)
+
+pub fail_keeps : (b : BufId) (d : Deny) (c : Course) → IsAsFar c (with_fail b d c)
 fail_keeps b d c = by (is_caught c b) refl
   where
-    by : (q : Bool) → is_caught c b ≡ q → (with_fail b d c).answered ≡ c.answered
-    by true e = simp e
-    by false e = simp e
+    by : (q : Bool) → is_caught c b ≡ q → IsAsFar c (with_fail b d c)
+    by true e = (simp e, simp e)
+    by false e = (simp e, simp e)
 
-search_keeps : (b : BufId) (c : Course) → (search_over b c).answered ≡ c.answered
+pub search_keeps : (b : BufId) (c : Course) → IsAsFar c (search_over b c)
 search_keeps b c = by (is_caught c b) refl
   where
-    by : (q : Bool) → is_caught c b ≡ q → (search_over b c).answered ≡ c.answered
-    by true e = simp e
-    by false e = simp e
+    by : (q : Bool) → is_caught c b ≡ q → IsAsFar c (search_over b c)
+    by true e = (simp e, simp e)
+    by false e = (simp e, simp e)
 
-dry_keeps : (script : Script) (s : State) (b : BufId) (k : ℕ) (cmd : Option Command) (c : Course) → (course_after_dry script s b k cmd c).answered ≡ c.answered
-dry_keeps script s b k None c = refl
+pub dry_keeps : (script : Script) (s : State) (b : BufId) (k : ℕ) (cmd : Option Command) (c : Course) → IsAsFar c (course_after_dry script s b k cmd c)
+dry_keeps script s b k None c = (refl, refl)
 dry_keeps script s b k (Some cmd) c = by (is_caught c b) refl
   where
-    by : (q : Bool) → is_caught c b ≡ q → (course_after_dry script s b k (Some cmd) c).answered ≡ c.answered
-    by true e = simp e
-    by false e = simp e
+    by : (q : Bool) → is_caught c b ≡ q → IsAsFar c (course_after_dry script s b k (Some cmd) c)
+    by true e = (simp e, simp e)
+    by false e = (simp e, simp e)
+
+-- ---- the course of the thread that makes an entry
+
+-- the course after an entry of its thread
+abbrev pub next_course : Script → State → ℕ → Kind → Course
+next_course script s t (kind.Ticket stamp) = record (course s t) { stamp = Some stamp }
+next_course script s t (kind.Reserve b) = record (course s t) { held = (course s t).held ++ b ∷ [] }
+next_course script s t (kind.Backoff b stamp) = record (course s t) { held = []; first = Some b }
+next_course script s t (kind.New b) = has_made (course s t)
+next_course script s t (kind.Free b g) = has_made (record (course s t) { held = without_buffer (course s t).held b })
+next_course script s t (kind.Take b mem spans) = search_over b (course s t)
+next_course script s t (kind.Catch b w) = with_victim b w (course s t)
+next_course script s t (kind.Loose b) = no_longer_caught b (course s t)
+next_course script s t (kind.Skip b) = with_skip b (no_longer_caught b (course s t))
+next_course script s t (kind.Dry b k w) = course_after_dry script s b k (command_at_work script s t) (course s t)
+next_course script s t (kind.NoPages b) = with_fail b deny.NoPages (course s t)
+next_course script s t (kind.Arm engine n) = has_made (course s t)
+next_course script s t (kind.Bulk group) = has_made (course s t)
+next_course script s t (kind.Result shown) = on_to_next (course s t)
+next_course script s t (kind.Refused d) = on_to_next (course s t)
+next_course script s t _ = course s t
+
+-- an entry sets the course of its thread, or leaves all courses alone
+pub courses_after : (script : Script) (s : State) (t : ℕ) (k : Kind) → ((applied script s (actor.Thread t) k).courses ≡ with_course s.courses t (next_course script s t k)) ⊎ (((applied script s (actor.Thread t) k).courses ≡ s.courses) × (next_course script s t k ≡ course s t))
+courses_after script s t (kind.Untake b mem) = inr (refl, refl)
+courses_after script s t (kind.Populate b page frame) = inr (refl, refl)
+courses_after script s t (kind.SwapIn b page slot frame) = inr (refl, refl)
+courses_after script s t (kind.Depopulate b) = inr (refl, refl)
+courses_after script s t (kind.Bind b) = inr (refl, refl)
+courses_after script s t (kind.Unbind b) = inr (refl, refl)
+courses_after script s t (kind.Move b mem n l) = inr (refl, refl)
+courses_after script s t (kind.SwapOut b page slot) = inr (refl, refl)
+courses_after script s t (kind.Packet n k piece) = inr (refl, refl)
+courses_after script s t (kind.Done n) = inr (refl, refl)
+courses_after script s t (kind.Reap g) = inr (refl, refl)
+courses_after script s t k = inl refl
+
+pub own_course : (script : Script) (s : State) (t : ℕ) (k : Kind) → IsSome (course_of s t) → course (applied script s (actor.Thread t) k) t ≡ next_course script s t k
+own_course script s t k here =
+    ⊎_elim
+    (λ e. ap (λ cs. course_in cs t) e ∙ course_set s.courses t _ here)
+    (λ e. ap (λ cs. course_in cs t) e.0 ∙ sym e.1)
+    (courses_after script s t k)
+
+-- the other threads
+pub others_kept : (script : Script) (s : State) (t u : ℕ) (k : Kind) → IsSome (course_of s t) → (u ≡ t → ⊥) → course (applied script s (actor.Thread t) k) u ≡ course s u
+others_kept script s t u k here other =
+    ⊎_elim
+    (λ e. ap (λ cs. course_in cs u) e ∙ course_kept s.courses t u _ here other)
+    (λ e. ap (λ cs. course_in cs u) e.0)
+    (courses_after script s t k)
 
 -- one more, if it is so
 abbrev pub one_more_if : Bool → ℕ → ℕ
 one_more_if true n = n + 1
 one_more_if false n = n
 
--- the thread that made the entry
-pub own_answered : (script : Script) (s : State) (t : ℕ) (k : Kind) → IsSome (course_of s t) → (course (applied script s (actor.Thread t) k) t).answered ≡ one_more_if (is_answer k) (course s t).answered
-own_answered script s t (kind.Ticket stamp) here = ap (λ c. c.answered) (course_set s.courses t _ here)
-own_answered script s t (kind.Reserve b) here = ap (λ c. c.answered) (course_set s.courses t _ here)
-own_answered script s t (kind.Backoff b stamp) here = ap (λ c. c.answered) (course_set s.courses t _ here)
-own_answered script s t (kind.New b) here = ap (λ c. c.answered) (course_set s.courses t _ here)
-own_answered script s t (kind.Free b g) here = ap (λ c. c.answered) (course_set s.courses t _ here)
-own_answered script s t (kind.Take b mem spans) here = ap (λ c. c.answered) (course_set s.courses t _ here) ∙ search_keeps b (course s t)
-own_answered script s t (kind.Untake b mem) here = refl
-own_answered script s t (kind.Populate b page frame) here = refl
-own_answered script s t (kind.SwapIn b page slot frame) here = refl
-own_answered script s t (kind.Depopulate b) here = refl
-own_answered script s t (kind.Bind b) here = refl
-own_answered script s t (kind.Unbind b) here = refl
-own_answered script s t (kind.Move b mem n l) here = refl
-own_answered script s t (kind.Catch b w) here = ap (λ c. c.answered) (course_set s.courses t _ here)
-own_answered script s t (kind.Loose b) here = ap (λ c. c.answered) (course_set s.courses t _ here)
-own_answered script s t (kind.Skip b) here = ap (λ c. c.answered) (course_set s.courses t _ here)
-own_answered script s t (kind.Dry b k w) here = ap (λ c. c.answered) (course_set s.courses t _ here) ∙ dry_keeps script s b k (command_at_work script s t) (course s t)
-own_answered script s t (kind.SwapOut b page slot) here = refl
-own_answered script s t (kind.NoPages b) here = ap (λ c. c.answered) (course_set s.courses t _ here) ∙ fail_keeps b deny.NoPages (course s t)
-own_answered script s t (kind.Arm engine n) here = ap (λ c. c.answered) (course_set s.courses t _ here)
-own_answered script s t (kind.Packet n k piece) here = refl
-own_answered script s t (kind.Done n) here = refl
-own_answered script s t (kind.Reap g) here = refl
-own_answered script s t (kind.Bulk group) here = ap (λ c. c.answered) (course_set s.courses t _ here)
-own_answered script s t (kind.Result r) here = ap (λ c. c.answered) (course_set s.courses t _ here)
-own_answered script s t (kind.Refused d) here = ap (λ c. c.answered) (course_set s.courses t _ here)
+next_answered : (script : Script) (s : State) (t : ℕ) (k : Kind) → (next_course script s t k).answered ≡ one_more_if (is_answer k) (course s t).answered
+next_answered script s t (kind.Take b mem spans) = (search_keeps b (course s t)).0
+next_answered script s t (kind.Dry b k w) = (dry_keeps script s b k (command_at_work script s t) (course s t)).0
+next_answered script s t (kind.NoPages b) = (fail_keeps b deny.NoPages (course s t)).0
+next_answered script s t k = refl
 
--- the other threads
-pub others_kept : (script : Script) (s : State) (t u : ℕ) (k : Kind) → IsSome (course_of s t) → (u ≡ t → ⊥) → course (applied script s (actor.Thread t) k) u ≡ course s u
-others_kept script s t u (kind.Ticket stamp) here other = course_kept s.courses t u _ here other
-others_kept script s t u (kind.Reserve b) here other = course_kept s.courses t u _ here other
-others_kept script s t u (kind.Backoff b stamp) here other = course_kept s.courses t u _ here other
-others_kept script s t u (kind.New b) here other = course_kept s.courses t u _ here other
-others_kept script s t u (kind.Free b g) here other = course_kept s.courses t u _ here other
-others_kept script s t u (kind.Take b mem spans) here other = course_kept s.courses t u _ here other
-others_kept script s t u (kind.Untake b mem) here other = refl
-others_kept script s t u (kind.Populate b page frame) here other = refl
-others_kept script s t u (kind.SwapIn b page slot frame) here other = refl
-others_kept script s t u (kind.Depopulate b) here other = refl
-others_kept script s t u (kind.Bind b) here other = refl
-others_kept script s t u (kind.Unbind b) here other = refl
-others_kept script s t u (kind.Move b mem n l) here other = refl
-others_kept script s t u (kind.Catch b w) here other = course_kept s.courses t u _ here other
-others_kept script s t u (kind.Loose b) here other = course_kept s.courses t u _ here other
-others_kept script s t u (kind.Skip b) here other = course_kept s.courses t u _ here other
-others_kept script s t u (kind.Dry b k w) here other = course_kept s.courses t u _ here other
-others_kept script s t u (kind.SwapOut b page slot) here other = refl
-others_kept script s t u (kind.NoPages b) here other = course_kept s.courses t u _ here other
-others_kept script s t u (kind.Arm engine n) here other = course_kept s.courses t u _ here other
-others_kept script s t u (kind.Packet n k piece) here other = refl
-others_kept script s t u (kind.Done n) here other = refl
-others_kept script s t u (kind.Reap g) here other = refl
-others_kept script s t u (kind.Bulk group) here other = course_kept s.courses t u _ here other
-others_kept script s t u (kind.Result r) here other = course_kept s.courses t u _ here other
-others_kept script s t u (kind.Refused d) here other = course_kept s.courses t u _ here other
+pub own_answered : (script : Script) (s : State) (t : ℕ) (k : Kind) → IsSome (course_of s t) → (course (applied script s (actor.Thread t) k) t).answered ≡ one_more_if (is_answer k) (course s t).answered
+own_answered script s t k here = ap (λ c. c.answered) (own_course script s t k here) ∙ next_answered script s t k
 
 -- engines and the reaper leave all courses alone
 pub engine_keeps : (script : Script) (s : State) (who : Actor) (k : Kind) → is_of_engine k ≡ true → (applied script s who k).courses ≡ s.courses
-engine_keeps script s who (kind.Ticket stamp) h = cc
-engine_keeps script s who (kind.Reserve b) h = cc
-engine_keeps script s who (kind.Backoff b stamp) h = cc
-engine_keeps script s who (kind.New b) h = cc
-engine_keeps script s who (kind.Free b g) h = cc
-engine_keeps script s who (kind.Take b mem spans) h = cc
-engine_keeps script s who (kind.Untake b mem) h = cc
-engine_keeps script s who (kind.Populate b page frame) h = cc
-engine_keeps script s who (kind.SwapIn b page slot frame) h = cc
-engine_keeps script s who (kind.Depopulate b) h = cc
-engine_keeps script s who (kind.Bind b) h = cc
-engine_keeps script s who (kind.Unbind b) h = cc
-engine_keeps script s who (kind.Move b mem n l) h = cc
-engine_keeps script s who (kind.Catch b w) h = cc
-engine_keeps script s who (kind.Loose b) h = cc
-engine_keeps script s who (kind.Skip b) h = cc
-engine_keeps script s who (kind.Dry b k w) h = cc
-engine_keeps script s who (kind.SwapOut b page slot) h = cc
-engine_keeps script s who (kind.NoPages b) h = cc
-engine_keeps script s who (kind.Arm engine n) h = cc
-engine_keeps script s who (kind.Packet n k piece) h = refl
-engine_keeps script s who (kind.Done n) h = refl
-engine_keeps script s who (kind.Reap g) h = cc
-engine_keeps script s who (kind.Bulk group) h = cc
-engine_keeps script s who (kind.Result r) h = cc
-engine_keeps script s who (kind.Refused d) h = cc
+engine_keeps script s who (kind.Packet n k piece) h = cc
+engine_keeps script s who k h = cc
 
 pub reaper_keeps : (script : Script) (s : State) (who : Actor) (k : Kind) → is_of_reaper k ≡ true → (applied script s who k).courses ≡ s.courses
-reaper_keeps script s who (kind.Ticket stamp) h = cc
-reaper_keeps script s who (kind.Reserve b) h = cc
-reaper_keeps script s who (kind.Backoff b stamp) h = cc
-reaper_keeps script s who (kind.New b) h = cc
-reaper_keeps script s who (kind.Free b g) h = cc
-reaper_keeps script s who (kind.Take b mem spans) h = cc
-reaper_keeps script s who (kind.Untake b mem) h = cc
-reaper_keeps script s who (kind.Populate b page frame) h = cc
-reaper_keeps script s who (kind.SwapIn b page slot frame) h = cc
-reaper_keeps script s who (kind.Depopulate b) h = cc
-reaper_keeps script s who (kind.Bind b) h = cc
-reaper_keeps script s who (kind.Unbind b) h = cc
-reaper_keeps script s who (kind.Move b mem n l) h = cc
-reaper_keeps script s who (kind.Catch b w) h = cc
-reaper_keeps script s who (kind.Loose b) h = cc
-reaper_keeps script s who (kind.Skip b) h = cc
-reaper_keeps script s who (kind.Dry b k w) h = cc
-reaper_keeps script s who (kind.SwapOut b page slot) h = cc
-reaper_keeps script s who (kind.NoPages b) h = cc
-reaper_keeps script s who (kind.Arm engine n) h = cc
-reaper_keeps script s who (kind.Packet n k piece) h = cc
-reaper_keeps script s who (kind.Done n) h = cc
-reaper_keeps script s who (kind.Reap g) h = refl
-reaper_keeps script s who (kind.Bulk group) h = cc
-reaper_keeps script s who (kind.Result r) h = cc
-reaper_keeps script s who (kind.Refused d) h = cc
+reaper_keeps script s who (kind.Reap g) h = cc
+reaper_keeps script s who k h = cc

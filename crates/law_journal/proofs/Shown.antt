@@ -14,32 +14,8 @@ use Rattle.journal_model.specs.Legal.{World, world_after, shown_step, IsLegalNex
 
 -- the state doesn't depend on what is shown
 pub shown_alike : (script : Script) (stores : Stores) (s z : State) (who : Actor) (k : Kind) → applied script s who (showing script stores z who k) ≡ applied script s who k
-shown_alike script stores s z who (kind.Ticket stamp) = refl
-shown_alike script stores s z who (kind.Reserve b) = refl
-shown_alike script stores s z who (kind.Backoff b stamp) = refl
-shown_alike script stores s z who (kind.New b) = refl
-shown_alike script stores s z who (kind.Free b g) = refl
-shown_alike script stores s z who (kind.Take b mem spans) = refl
-shown_alike script stores s z who (kind.Untake b mem) = refl
-shown_alike script stores s z who (kind.Populate b page frame) = refl
-shown_alike script stores s z who (kind.SwapIn b page slot frame) = refl
-shown_alike script stores s z who (kind.Depopulate b) = refl
-shown_alike script stores s z who (kind.Bind b) = refl
-shown_alike script stores s z who (kind.Unbind b) = refl
-shown_alike script stores s z who (kind.Move b mem n l) = refl
-shown_alike script stores s z who (kind.Catch b w) = refl
-shown_alike script stores s z who (kind.Loose b) = refl
-shown_alike script stores s z who (kind.Skip b) = refl
-shown_alike script stores s z who (kind.Dry b k w) = refl
-shown_alike script stores s z who (kind.SwapOut b page slot) = refl
-shown_alike script stores s z who (kind.NoPages b) = refl
-shown_alike script stores s z who (kind.Arm engine n) = refl
-shown_alike script stores s z who (kind.Packet n k piece) = refl
-shown_alike script stores s z who (kind.Done n) = refl
-shown_alike script stores s z who (kind.Reap g) = refl
-shown_alike script stores s z who (kind.Bulk group) = refl
 shown_alike script stores s z who (kind.Result r) = refl
-shown_alike script stores s z who (kind.Refused d) = refl
+shown_alike script stores s z who k = refl
 
 -- a step of the actor, and what the entry does and is by it
 pub record LegalStep (script : Script) (w : World) (e : Entry) : Type 0 where
@@ -69,32 +45,9 @@ shows (kind.Result r) = true
 shows _ = false
 
 pub shown_plain : (script : Script) (stores : Stores) (s : State) (who : Actor) (k : Kind) → shows (showing script stores s who k) ≡ false → showing script stores s who k ≡ k
-shown_plain script stores s who (kind.Ticket stamp) h = refl
-shown_plain script stores s who (kind.Reserve b) h = refl
-shown_plain script stores s who (kind.Backoff b stamp) h = refl
-shown_plain script stores s who (kind.New b) h = refl
-shown_plain script stores s who (kind.Free b g) h = refl
-shown_plain script stores s who (kind.Take b mem spans) h = refl
-shown_plain script stores s who (kind.Untake b mem) h = refl
-shown_plain script stores s who (kind.Populate b page frame) h = refl
-shown_plain script stores s who (kind.SwapIn b page slot frame) h = refl
-shown_plain script stores s who (kind.Depopulate b) h = refl
-shown_plain script stores s who (kind.Bind b) h = refl
-shown_plain script stores s who (kind.Unbind b) h = refl
-shown_plain script stores s who (kind.Move b mem n l) h = refl
-shown_plain script stores s who (kind.Catch b w) h = refl
-shown_plain script stores s who (kind.Loose b) h = refl
-shown_plain script stores s who (kind.Skip b) h = refl
-shown_plain script stores s who (kind.Dry b k w) h = refl
-shown_plain script stores s who (kind.SwapOut b page slot) h = refl
-shown_plain script stores s who (kind.NoPages b) h = refl
-shown_plain script stores s who (kind.Arm engine n) h = refl
 shown_plain script stores s who (kind.Packet n k piece) h = cc
-shown_plain script stores s who (kind.Done n) h = refl
-shown_plain script stores s who (kind.Reap g) h = refl
-shown_plain script stores s who (kind.Bulk group) h = refl
 shown_plain script stores s who (kind.Result r) h = cc
-shown_plain script stores s who (kind.Refused d) h = refl
+shown_plain script stores s who k h = refl
 
 -- an entry that shows nothing is its actor's step
 pub legal_plain : (script : Script) (w : World) (e : Entry) → IsLegalNext script w e → shows e.kind ≡ false → next script w.state e.who ≡ Ok e.kind

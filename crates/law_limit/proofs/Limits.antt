@@ -149,16 +149,7 @@ ops_most ops =
 
 packets_most : (cmd : Command) → packets_in cmd ≤ command_len cmd
 packets_most (command.Submit engine ops) = ops_most ops
-packets_most (command.New b) = omega arith
-packets_most (command.Free b) = omega arith
-packets_most (command.Pin b) = omega arith
-packets_most (command.Unpin b) = omega arith
-packets_most (command.Find b) = omega arith
-packets_most (command.SwapOut b) = omega arith
-packets_most (command.Write b off bytes) = omega arith
-packets_most (command.Read b off len) = omega arith
-packets_most (command.Move b mem) = omega arith
-packets_most (command.Touch group) = omega arith
+packets_most cmd = omega arith
 
 all_packets_most : (script : Script) → Bounds script → sum_by (sum_by packets_in) script.threads ≤ 67108864
 all_packets_most script b =

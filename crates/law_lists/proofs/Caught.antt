@@ -139,32 +139,9 @@ step_names script s t v w h =
 -- ---- along a journal
 
 shown_catch : (script : Script) (stores : Stores) (s : State) (who : Actor) (v : BufId) (w : Why) (k : Kind) → showing script stores s who k ≡ kind.Catch v w → k ≡ kind.Catch v w
-shown_catch script stores s who v w (kind.Ticket stamp) h = h
-shown_catch script stores s who v w (kind.Reserve b) h = h
-shown_catch script stores s who v w (kind.Backoff b stamp) h = h
-shown_catch script stores s who v w (kind.New b) h = h
-shown_catch script stores s who v w (kind.Free b g) h = h
-shown_catch script stores s who v w (kind.Take b mem spans) h = h
-shown_catch script stores s who v w (kind.Untake b mem) h = h
-shown_catch script stores s who v w (kind.Populate b page frame) h = h
-shown_catch script stores s who v w (kind.SwapIn b page slot frame) h = h
-shown_catch script stores s who v w (kind.Depopulate b) h = h
-shown_catch script stores s who v w (kind.Bind b) h = h
-shown_catch script stores s who v w (kind.Unbind b) h = h
-shown_catch script stores s who v w (kind.Move b mem n l) h = h
-shown_catch script stores s who v w (kind.Catch b y) h = h
-shown_catch script stores s who v w (kind.Loose b) h = h
-shown_catch script stores s who v w (kind.Skip b) h = h
-shown_catch script stores s who v w (kind.Dry b k y) h = h
-shown_catch script stores s who v w (kind.SwapOut b page slot) h = h
-shown_catch script stores s who v w (kind.NoPages b) h = h
-shown_catch script stores s who v w (kind.Arm engine n) h = h
 shown_catch script stores s who v w (kind.Packet n k piece) h = cc
-shown_catch script stores s who v w (kind.Done n) h = h
-shown_catch script stores s who v w (kind.Reap g) h = h
-shown_catch script stores s who v w (kind.Bulk group) h = h
 shown_catch script stores s who v w (kind.Result r) h = cc
-shown_catch script stores s who v w (kind.Refused d) h = h
+shown_catch script stores s who v w k h = h
 
 entry_names : (script : Script) (w : World) (e : Entry) → IsLegalFrom script w (e ∷ []) → (t : ℕ) (v : BufId) (y : Why) → e ≡ record { who = actor.Thread t; kind = kind.Catch v y } → IsNamedVictim script w.state t v y
 entry_names script w e h t v y is =

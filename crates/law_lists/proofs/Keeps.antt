@@ -167,14 +167,7 @@ pins_elsewhere c (Some (command.Unpin b)) grips held d h = by (same_or_other d b
     by (inl e) = absurd (clash (sym (there (has_buffer c.held b) (held b (inr refl))) ∙ subst (λ z. has_buffer (held_as_named c (Some (command.Unpin b))) z ≡ false) e h))
     by (inr n) = ap (λ g. g.pins) (grip_other grips b d (pinned_less (grip_in grips b)) n)
 pins_elsewhere c (Some (command.New b)) grips held d h = refl
-pins_elsewhere c (Some (command.Free b)) grips held d h = refl
-pins_elsewhere c (Some (command.Find b)) grips held d h = refl
-pins_elsewhere c (Some (command.SwapOut b)) grips held d h = refl
-pins_elsewhere c (Some (command.Write b off bytes)) grips held d h = refl
-pins_elsewhere c (Some (command.Read b off len)) grips held d h = refl
-pins_elsewhere c (Some (command.Move b mem)) grips held d h = refl
-pins_elsewhere c (Some (command.Touch group)) grips held d h = refl
-pins_elsewhere c (Some (command.Submit engine ops)) grips held d h = refl
+pins_elsewhere c (Some cmd) grips held d h = refl
 
 -- it pins or unpins the buffer
 abbrev Pins : Command → BufId → Type 0
@@ -191,19 +184,7 @@ pins_named cmd b (inr e) = ap (λ k. has_buffer (named k) b) e ∙ or_left (same
 held_at : (script : Script) (s : State) (c : Course) (cmd : Command) (t : Task) (r : Shown) → Turn script s c cmd t → is_shown_by cmd t (kind.Result r) ≡ true → (c.made ≡ true → asks_to_make cmd ≡ true) → (b : BufId) → Pins cmd b → has_buffer c.held b ≡ true
 held_at script s c cmd task.Answer r (answer made) g m b p = absurd (pins_unmade cmd b p (m made))
 held_at script s c cmd task.Act r (act on a f u) g m b p = none_missing c cmd b on.works.whole (pins_named cmd b p)
-held_at script s c cmd task.Idle r turn g m b p = cc
-held_at script s c cmd task.Start r turn g m b p = cc
-held_at script s c cmd (task.Lock x) r turn g m b p = cc
-held_at script s c cmd (task.Search x aim) r turn g m b p = cc
-held_at script s c cmd (task.Bind x) r turn g m b p = cc
-held_at script s c cmd (task.Unbind x) r turn g m b p = cc
-held_at script s c cmd (task.Move x mem) r turn g m b p = cc
-held_at script s c cmd (task.Fill x) r turn g m b p = cc
-held_at script s c cmd (task.Empty x) r turn g m b p = cc
-held_at script s c cmd (task.GiveBack x) r turn g m b p = cc
-held_at script s c cmd (task.Skip x) r turn g m b p = cc
-held_at script s c cmd (task.GiveUp x) r turn g m b p = cc
-held_at script s c cmd (task.Refuse x) r turn g m b p = cc
+held_at script s c cmd t r turn g m b p = cc
 
 result_holds : (script : Script) (s : State) (t : ℕ) (r : Shown) → GoodCourses script s → Stepped script s t (kind.Result r) → HoldsPinned (course s t) (command_at_work script s t)
 result_holds script s t r good st b p =
@@ -234,7 +215,6 @@ new_within script r s t b good st = declared (new_command script s (course s t) 
 
 module _ (script : Script) (r : Rules script) (s : State) (t : ℕ) (good : GoodState script s) (courses : GoodCourses script s) (h : AreListed script s) where
   pub listed_keeps : (k : Kind) → Stepped script s t k → AreListed script (applied script s (actor.Thread t) k)
-  listed_keeps (kind.Ticket stamp) st = h
   listed_keeps (kind.Reserve b) st = other_grips script s h (regripped (with_holder (course s t).stamp) s.grips b) (λ d. pins_set s.grips b d (with_holder (course s t).stamp (grip_in s.grips b)) refl)
   listed_keeps (kind.Backoff b stamp) st = other_grips script s h (released s.grips (course s t).held) (pins_released (course s t).held s.grips)
   listed_keeps (kind.New b) st = new_listed script s h r b (new_within script r s t b good st) (new_buffer (decl script b).pages)
@@ -254,15 +234,10 @@ module _ (script : Script) (r : Rules script) (s : State) (t : ℕ) (good : Good
       (other_grips script s h (regripped (with_holder (course s t).stamp) s.grips b) (λ d. pins_set s.grips b d (with_holder (course s t).stamp (grip_in s.grips b)) refl))
   listed_keeps (kind.Loose b) st = loose_listed script s h r b (with_holder None (grip_in s.grips b))
   listed_keeps (kind.Skip b) st = other_grips script s h (regripped (with_holder None) s.grips b) (λ d. pins_set s.grips b d (with_holder None (grip_in s.grips b)) refl)
-  listed_keeps (kind.Dry b k w) st = h
   listed_keeps (kind.SwapOut b page slot) st = one_changed script s h (with_loc page (loc.Slot slot)) (λ x. refl) b
-  listed_keeps (kind.NoPages b) st = h
   listed_keeps (kind.Arm engine n) st =
       fit_same script (list_in script s.grips s.core.buffers) _ s.lists
       (λ d. list_used script (record { ctx = engine; num = n }) (ops_of (command_at_work script s t)) (named_in (command_at_work script s t)) s.core.buffers d (grip_in s.grips d).pins) h
-  listed_keeps (kind.Packet n k piece) st = h
-  listed_keeps (kind.Done n) st = h
-  listed_keeps (kind.Reap g) st = h
   listed_keeps (kind.Bulk group) st = fit_bulk script (list_in script s.grips s.core.buffers) group s.lists h
   listed_keeps (kind.Result shown) st =
       fit_all_touched script r s.core.buffers (with_pins (command_at_work script s t) (released s.grips (course s t).held)) (held_as_named (course s t) (command_at_work script s t)) (list_in script s.grips s.core.buffers) s.lists
@@ -271,6 +246,7 @@ module _ (script : Script) (r : Rules script) (s : State) (t : ℕ) (good : Good
       (pins_elsewhere (course s t) (command_at_work script s t) (released s.grips (course s t).held) (result_holds script s t shown courses st) d none ∙ pins_released (course s t).held s.grips d))
       h
   listed_keeps (kind.Refused d) st = other_grips script s h (released s.grips (course s t).held) (pins_released (course s t).held s.grips)
+  listed_keeps k st = h
 
 pub listed_stays : (script : Script) (s : State) (who : Actor) (k : Kind) → OfWorker k → AreListed script s → AreListed script (applied script s who k)
 listed_stays script s who k packet h = h

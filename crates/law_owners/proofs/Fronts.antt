@@ -1,5 +1,5 @@
 -- The front of a legal journal is a legal journal, so the accounts hold behind it.
-use Rattle.std.proofs.Common.{◌≡◌, ℕ, zero, suc, true, List, [], ◌∷◌, take}
+use Rattle.std.proofs.Common.{ℕ, zero, suc, List, [], ◌∷◌, take}
 use Rattle.std.specs.Prelude.{IsTrue}
 use Rattle.journal_model.specs.declared.script.Script.{Script}
 use Rattle.journal_model.specs.declared.entry.Entry.{Entry}

@@ -51,32 +51,11 @@ Gives script s (kind.SwapOut b page k) = free_slot script s.core ≡ Some k
 Gives script s _ = Unit {0}
 
 pub quiet : (script : Script) (s : State) (k : Kind) → takes k ≡ false → Gives script s k
-quiet script s (kind.Ticket stamp) h = tt
-quiet script s (kind.Reserve b) h = tt
-quiet script s (kind.Backoff b stamp) h = tt
-quiet script s (kind.New b) h = tt
-quiet script s (kind.Free b g) h = tt
 quiet script s (kind.Take b mem spans) h = cc
-quiet script s (kind.Untake b mem) h = tt
 quiet script s (kind.Populate b page f) h = cc
 quiet script s (kind.SwapIn b page slot f) h = cc
-quiet script s (kind.Depopulate b) h = tt
-quiet script s (kind.Bind b) h = tt
-quiet script s (kind.Unbind b) h = tt
-quiet script s (kind.Move b mem n l) h = tt
-quiet script s (kind.Catch b w) h = tt
-quiet script s (kind.Loose b) h = tt
-quiet script s (kind.Skip b) h = tt
-quiet script s (kind.Dry b k w) h = tt
 quiet script s (kind.SwapOut b page slot) h = cc
-quiet script s (kind.NoPages b) h = tt
-quiet script s (kind.Arm engine n) h = tt
-quiet script s (kind.Packet n k piece) h = tt
-quiet script s (kind.Done n) h = tt
-quiet script s (kind.Reap g) h = tt
-quiet script s (kind.Bulk group) h = tt
-quiet script s (kind.Result r) h = tt
-quiet script s (kind.Refused d) h = tt
+quiet script s k h = tt
 
 same_gives : (script : Script) (s : State) (k e : Kind) → ◌≡◌ {A = Step} (Ok k) (Ok e) → Gives script s k → Gives script s e
 same_gives script s k e h g = let same : k ≡ e = cc in subst (Gives script s) same g
@@ -193,32 +172,14 @@ empty_gives script s c b e h = by (why_caught c b) h
 -- ---- each task
 
 act_takes_none : (script : Script) (s : State) (cmd : Command) (k : Kind) → step_of_act script s cmd ≡ Ok k → Gives script s k
-act_takes_none script s (command.New b) k h = quiet script s k (grind (arith, common_steps))
-act_takes_none script s (command.Free b) k h = quiet script s k (grind (arith, common_steps))
-act_takes_none script s (command.Pin b) k h = quiet script s k (grind (arith, common_steps))
-act_takes_none script s (command.Unpin b) k h = quiet script s k (grind (arith, common_steps))
-act_takes_none script s (command.Find b) k h = quiet script s k (grind (arith, common_steps))
 act_takes_none script s (command.SwapOut b) k h =
     swap_out_gives script s b plain (Ok (kind.Refused deny.NoSwap)) k (λ g. quiet script s k (loose_takes_none k _ refl g)) (λ g. quiet script s k (loose_takes_none k (kind.Refused deny.NoSwap) refl g)) h
-act_takes_none script s (command.Write b off bytes) k h = quiet script s k (grind (arith, common_steps))
-act_takes_none script s (command.Read b off len) k h = quiet script s k (grind (arith, common_steps))
-act_takes_none script s (command.Move b mem) k h = quiet script s k (grind (arith, common_steps))
-act_takes_none script s (command.Touch group) k h = quiet script s k (grind (arith, common_steps))
-act_takes_none script s (command.Submit engine ops) k h = quiet script s k (grind (arith, common_steps))
+act_takes_none script s cmd k h = quiet script s k (grind (arith, common_steps))
 
 pub task_gives : (script : Script) (s : State) (c : Course) (cmd : Command) (t : Task) (k : Kind) → step_of_task script s c cmd t ≡ Ok k → Gives script s k
 task_gives script s c cmd task.Idle k h = cc
-task_gives script s c cmd task.Answer k h = quiet script s k (grind (arith, common_steps))
-task_gives script s c cmd task.Start k h = quiet script s k (grind (arith, common_steps))
-task_gives script s c cmd (task.Lock x) k h = quiet script s k (grind (arith, common_steps))
 task_gives script s c cmd (task.Search x aim) k h = quest_gives script s c x (quest script cmd c x aim) k h
-task_gives script s c cmd (task.Bind x) k h = quiet script s k (grind (arith, common_steps))
-task_gives script s c cmd (task.Unbind x) k h = quiet script s k (grind (arith, common_steps))
-task_gives script s c cmd (task.Move x mem) k h = quiet script s k (grind (arith, common_steps))
 task_gives script s c cmd (task.Fill x) k h = fill_gives script s x k h
 task_gives script s c cmd (task.Empty x) k h = empty_gives script s c x k h
-task_gives script s c cmd (task.GiveBack x) k h = quiet script s k (grind (arith, common_steps))
-task_gives script s c cmd (task.Skip x) k h = quiet script s k (grind (arith, common_steps))
-task_gives script s c cmd (task.GiveUp d) k h = quiet script s k (grind (arith, common_steps))
-task_gives script s c cmd (task.Refuse d) k h = quiet script s k (grind (arith, common_steps))
 task_gives script s c cmd task.Act k h = act_takes_none script s cmd k h
+task_gives script s c cmd t k h = quiet script s k (grind (arith, common_steps))

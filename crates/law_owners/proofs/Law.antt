@@ -111,9 +111,6 @@ module _ (script : Script) (c : Core) (h : AreHeldOnce script c) where
 -- ---- each kind
 
 kind_keeps : (script : Script) → Rules script → (s : State) (who : Actor) (k : Kind) → Gives script s k → AreHeldOnce script s.core → AreHeldOnce script (applied script s who k).core
-kind_keeps script r s who (kind.Ticket stamp) g h = h
-kind_keeps script r s who (kind.Reserve b) g h = h
-kind_keeps script r s who (kind.Backoff b stamp) g h = h
 kind_keeps script r s who (kind.New b) g h = same_or_less script s.core h (applied script s who (kind.New b)).core (λ q n. new_keeps q n s.core b (decl script b).pages)
 kind_keeps script r s who (kind.Free b g) gives h = same_or_less script s.core h (applied script s who (kind.Free b g)).core (λ q n. free_keeps q n s.core b g)
 kind_keeps script r s who (kind.Take b mem spans) g h =
@@ -128,20 +125,12 @@ kind_keeps script r s who (kind.Bind b) g h = same_or_less script s.core h (appl
 kind_keeps script r s who (kind.Unbind b) g h = same_or_less script s.core h (applied script s who (kind.Unbind b)).core (λ q n. unbind_keeps q n s.core b)
 kind_keeps script r s who (kind.Move b mem n l) g h = same_or_less script s.core h (applied script s who (kind.Move b mem n l)).core (λ q m. move_keeps q m s.core b mem (record { ctx = 0; num = n }) l)
 kind_keeps script r s who (kind.Catch b w) g h = same_or_less script s.core h (applied script s who (kind.Catch b w)).core (λ q n. catch_keeps q n s.core b)
-kind_keeps script r s who (kind.Loose b) g h = h
-kind_keeps script r s who (kind.Skip b) g h = h
-kind_keeps script r s who (kind.Dry b k w) g h = h
 kind_keeps script r s who (kind.SwapOut b page slot) g h =
     slot_taken script s.core h slot (applied script s who (kind.SwapOut b page slot)).core (lowest_is_free (held_slots s.core) script.sizes.swap slot g) (λ q n. page_adds q n s.core b page (loc.Slot slot))
-kind_keeps script r s who (kind.NoPages b) g h = h
 kind_keeps script r s who (kind.Arm engine n) g h =
     same_or_less script s.core h (applied script s who (kind.Arm engine n)).core (λ q m. arm_keeps q m s.core (record { ctx = engine; num = n }) (ops_of (command_at_work script s (thread_of who))) (named_in (command_at_work script s (thread_of who))))
-kind_keeps script r s who (kind.Packet n k piece) g h = h
-kind_keeps script r s who (kind.Done n) g h = h
 kind_keeps script r s who (kind.Reap g) gives h = same_or_less script s.core h (applied script s who (kind.Reap g)).core (λ q n. reap_keeps q n s.core g)
-kind_keeps script r s who (kind.Bulk group) g h = h
-kind_keeps script r s who (kind.Result shown) g h = h
-kind_keeps script r s who (kind.Refused d) g h = h
+kind_keeps script r s who k g h = h
 
 -- ---- each actor
 

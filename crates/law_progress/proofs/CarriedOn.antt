@@ -20,13 +20,7 @@ meets_alike script (command.Submit engine ops) b x y m s = grind (arith, common_
 meets_alike script (command.Find c) b x y m s = grind (arith, common_steps)
 meets_alike script (command.Move c mem) b x y m s = grind (arith, common_steps)
 meets_alike script (command.SwapOut c) b x y m s = grind (arith, common_steps)
-meets_alike script (command.New c) b x y m s = refl
-meets_alike script (command.Free c) b x y m s = refl
-meets_alike script (command.Pin c) b x y m s = refl
-meets_alike script (command.Unpin c) b x y m s = refl
-meets_alike script (command.Write c off bytes) b x y m s = refl
-meets_alike script (command.Read c off len) b x y m s = refl
-meets_alike script (command.Touch group) b x y m s = refl
+meets_alike script cmd b x y m s = refl
 
 -- out of place with targets: so many carries
 far : (script : Script) (cmd : Command) (b : BufId) (x : Buffer) → has_some_target x ≡ true → steps_left script cmd b x ≡ carries_left x

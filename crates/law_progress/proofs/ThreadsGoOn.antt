@@ -81,50 +81,28 @@ module _ (script : Script) (s : State) (quiet : Quiet s) where
   goes_on _ = true
 
   act_ok : (cmd : Command) → is_ok (step_of_act script s cmd) ≡ true
-  act_ok (command.Submit engine ops) = refl
-  act_ok (command.Free b) = refl
   act_ok (command.SwapOut b) = swap_out_ok b _ _
   act_ok (command.Write b off bytes) = idle_ok b _
   act_ok (command.Read b off len) = let g : waited_for s.core (jobs_before_read (buffer s b)) ≡ None = quiet.jobs _ in grind (arith, common_steps)
-  act_ok (command.Find b) = refl
-  act_ok (command.Pin b) = refl
-  act_ok (command.Unpin b) = refl
-  act_ok (command.Move b mem) = refl
-  act_ok (command.New b) = refl
-  act_ok (command.Touch group) = refl
+  act_ok cmd = refl
 
   start_ok : (cmd : Command) → is_ok (step_of_start s cmd) ≡ true
   start_ok (command.New b) = refl
-  start_ok (command.Touch group) = refl
-  start_ok (command.Submit engine ops) = refl
-  start_ok (command.Free b) = refl
-  start_ok (command.SwapOut b) = refl
-  start_ok (command.Write b off bytes) = refl
-  start_ok (command.Read b off len) = refl
-  start_ok (command.Find b) = refl
-  start_ok (command.Pin b) = refl
-  start_ok (command.Unpin b) = refl
-  start_ok (command.Move b mem) = refl
+  start_ok cmd = refl
 
   empty_ok : (c : Course) (b : BufId) → is_ok (step_of_empty script s c b) ≡ true
   empty_ok c b = let g : is_ok (step_of_swap_out script s b (Ok (kind.Loose b)) (Ok (kind.Loose b))) ≡ true = swap_out_ok b _ _ in grind (arith, common_steps)
 
   task_ok : (c : Course) (cmd : Command) (k : Task) → goes_on k ≡ true → is_ok (step_of_task script s c cmd k) ≡ true
   task_ok c cmd task.Idle h = cc
-  task_ok c cmd task.Answer h = refl
   task_ok c cmd task.Start h = start_ok cmd
   task_ok c cmd (task.Lock b) h = cc
   task_ok c cmd (task.Search b aim) h = quest_ok c b (quest script cmd c b aim)
-  task_ok c cmd (task.Bind b) h = refl
   task_ok c cmd (task.Unbind b) h = idle_ok b _
-  task_ok c cmd (task.Move b mem) h = refl
   task_ok c cmd (task.Fill b) h = fill_ok b
   task_ok c cmd (task.Empty b) h = empty_ok c b
-  task_ok c cmd (task.GiveBack b) h = refl
-  task_ok c cmd (task.Skip b) h = refl
-  task_ok c cmd (task.GiveUp d) h = refl
-  task_ok c cmd (task.Refuse d) h = refl
   task_ok c cmd task.Act h = act_ok cmd
+  task_ok c cmd x h = refl
 
   victim_goes_on : (v : Victim) (x : Buffer) → goes_on (task_of_victim v x) ≡ true
   victim_goes_on v x = grind (arith, common_steps)

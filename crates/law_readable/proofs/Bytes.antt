@@ -66,18 +66,8 @@ written_bytes : (script : Script) → Rules script → (s : State) (t : ℕ) (st
 written_bytes script r s t stores h = by (command_at_work script s t) (λ cmd e. (at_work_rules script r s t cmd e).command)
   where
     by : (o : Option Command) → ((cmd : Command) → o ≡ Some cmd → is_command script cmd ≡ true) → AreBytes (written s o stores)
-    by None k = h
     by (Some (command.Write b off bytes)) k = put_all (buffer s b) off bytes stores (and_parts _ (list_all is_byte bytes) (k (command.Write b off bytes) refl)).1 h
-    by (Some (command.New b)) k = h
-    by (Some (command.Free b)) k = h
-    by (Some (command.Pin b)) k = h
-    by (Some (command.Unpin b)) k = h
-    by (Some (command.Find b)) k = h
-    by (Some (command.SwapOut b)) k = h
-    by (Some (command.Read b off len)) k = h
-    by (Some (command.Move b mem)) k = h
-    by (Some (command.Touch group)) k = h
-    by (Some (command.Submit engine ops)) k = h
+    by o k = h
 
 -- a packet of a job, or the one in its place
 packet_is : (s : State) → ArePackets s.core.jobs → (i : JobId) (k : ℕ) → is_packet (job_packet s.core i k) ≡ true
@@ -97,27 +87,7 @@ kind_bytes script r s who (kind.SwapOut b page k) stores j h = put stores (slot 
 kind_bytes script r s who (kind.Packet n k piece) stores j h =
     packet_bytes (aperture s.core) stores (job_packet s.core (record { ctx = engine_of who; num = n }) k) (packet_is s j (record { ctx = engine_of who; num = n }) k) h
 kind_bytes script r s who (kind.Result x) stores j h = written_bytes script r s (thread_of who) stores h
-kind_bytes script r s who (kind.Ticket stamp) stores j h = h
-kind_bytes script r s who (kind.Reserve b) stores j h = h
-kind_bytes script r s who (kind.Backoff b stamp) stores j h = h
-kind_bytes script r s who (kind.New b) stores j h = h
-kind_bytes script r s who (kind.Free b g) stores j h = h
-kind_bytes script r s who (kind.Take b mem spans) stores j h = h
-kind_bytes script r s who (kind.Untake b mem) stores j h = h
-kind_bytes script r s who (kind.Depopulate b) stores j h = h
-kind_bytes script r s who (kind.Bind b) stores j h = h
-kind_bytes script r s who (kind.Unbind b) stores j h = h
-kind_bytes script r s who (kind.Move b mem n l) stores j h = h
-kind_bytes script r s who (kind.Catch b w) stores j h = h
-kind_bytes script r s who (kind.Loose b) stores j h = h
-kind_bytes script r s who (kind.Skip b) stores j h = h
-kind_bytes script r s who (kind.Dry b k w) stores j h = h
-kind_bytes script r s who (kind.NoPages b) stores j h = h
-kind_bytes script r s who (kind.Arm engine n) stores j h = h
-kind_bytes script r s who (kind.Done n) stores j h = h
-kind_bytes script r s who (kind.Reap g) stores j h = h
-kind_bytes script r s who (kind.Bulk group) stores j h = h
-kind_bytes script r s who (kind.Refused d) stores j h = h
+kind_bytes script r s who k stores j h = h
 
 within_bytes : (sizes : Sizes) (stores : Stores) → AreBytes stores → AreBytes (within sizes stores)
 within_bytes sizes stores h p o = chosen (is_there sizes p && nat_lt o 4096) (stores p o) 0 (h p o) zero_byte
@@ -140,16 +110,7 @@ shown_bytes : (stores : Stores) (s : State) (o : Option Command) → AreBytes st
 shown_bytes stores s None h = refl
 shown_bytes stores s (Some (command.Read b off len)) h =
     all_mapped is_byte (byte_of stores (buffer s b)) (λ i. byte (byte_of stores (buffer s b) i) (h (page_at (buffer s b) (i / 4096)) (i % 4096))) (count_from 1 len off)
-shown_bytes stores s (Some (command.Write b off bytes)) h = refl
-shown_bytes stores s (Some (command.New b)) h = refl
-shown_bytes stores s (Some (command.Free b)) h = refl
-shown_bytes stores s (Some (command.Pin b)) h = refl
-shown_bytes stores s (Some (command.Unpin b)) h = refl
-shown_bytes stores s (Some (command.Find b)) h = refl
-shown_bytes stores s (Some (command.SwapOut b)) h = refl
-shown_bytes stores s (Some (command.Move b mem)) h = refl
-shown_bytes stores s (Some (command.Touch group)) h = refl
-shown_bytes stores s (Some (command.Submit engine ops)) h = refl
+shown_bytes stores s (Some cmd) h = refl
 
 result_is : (stores : Stores) (s : State) (o : Option Command) (x : Shown) → is_shown x ≡ true → AreBytes stores → is_shown (shown_result stores s o x) ≡ true
 result_is stores s o shown.Plain k h = refl
@@ -162,27 +123,4 @@ shown_readable script stores s who (kind.Result x) h q = result_is stores s (com
 shown_readable script stores s who (kind.Packet n k piece) h q =
     joint (is_u64 n && is_u32 k) (are_bytes (probe_piece (aperture s.core) stores (job_packet s.core (record { ctx = engine_of who; num = n }) k))) (and_parts (is_u64 n && is_u32 k) (are_bytes piece) q).0
     (piece_is (aperture s.core) stores (job_packet s.core (record { ctx = engine_of who; num = n }) k) h)
-shown_readable script stores s who (kind.Ticket stamp) h q = q
-shown_readable script stores s who (kind.Reserve b) h q = q
-shown_readable script stores s who (kind.Backoff b stamp) h q = q
-shown_readable script stores s who (kind.New b) h q = q
-shown_readable script stores s who (kind.Free b g) h q = q
-shown_readable script stores s who (kind.Take b mem spans) h q = q
-shown_readable script stores s who (kind.Untake b mem) h q = q
-shown_readable script stores s who (kind.Populate b page f) h q = q
-shown_readable script stores s who (kind.SwapIn b page k f) h q = q
-shown_readable script stores s who (kind.Depopulate b) h q = q
-shown_readable script stores s who (kind.Bind b) h q = q
-shown_readable script stores s who (kind.Unbind b) h q = q
-shown_readable script stores s who (kind.Move b mem n l) h q = q
-shown_readable script stores s who (kind.Catch b w) h q = q
-shown_readable script stores s who (kind.Loose b) h q = q
-shown_readable script stores s who (kind.Skip b) h q = q
-shown_readable script stores s who (kind.Dry b k w) h q = q
-shown_readable script stores s who (kind.SwapOut b page k) h q = q
-shown_readable script stores s who (kind.NoPages b) h q = q
-shown_readable script stores s who (kind.Arm engine n) h q = q
-shown_readable script stores s who (kind.Done n) h q = q
-shown_readable script stores s who (kind.Reap g) h q = q
-shown_readable script stores s who (kind.Bulk group) h q = q
-shown_readable script stores s who (kind.Refused d) h q = q
+shown_readable script stores s who k h q = q

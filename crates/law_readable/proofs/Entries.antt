@@ -57,7 +57,7 @@ use Rattle.law_sound.proofs.Bufs.{has_found, last_caught, none_missing}
 use Rattle.law_sound.proofs.Grips.{live_within, victim_free, swap_free}
 use Rattle.law_sound.proofs.Orders.{there}
 use Rattle.law_sound.proofs.Along.{stepped_of}
-use Rattle.law_sound.proofs.Turns.{Turn, OnVictim, OnNamed, OnBuffer, answer, start, lock, victim_unbind, victim_empty, victim_give, victim_skip, victim_move, victim_fill, victim_search, refuse, give, give_up, act, fill_in_place, ask, bind, fill_to_bind, hop_up, unbind, move_up, move_across, move_down, fill_to_move, hop_down}
+use Rattle.law_sound.proofs.Turns.{Turn, OnVictim, OnNamed, OnBuffer, victim_unbind, victim_empty, victim_give, victim_skip, victim_move, victim_fill, victim_search, give, fill_in_place, ask, bind, fill_to_bind, hop_up, unbind, move_up, move_across, move_down, fill_to_move, hop_down}
 use Rattle.law_sound.proofs.Gifts as gifts
 use Rattle.law_sound.proofs.Gifts.{Gives, Sought, Filled}
 use Rattle.law_owners.proofs.Taken.{lowest_is_free}
@@ -206,9 +206,6 @@ module _ (script : Script) (fits : IsTrue (is_script script)) (s : State) (n : �
     at_declared b on = first_declared b on.named on.first
 
     turn_declared : (x : Task) → Turn script s (course s t) cmd x → names_declared script x ≡ true
-    turn_declared x (answer m) = refl
-    turn_declared x (start m q) = refl
-    turn_declared x (lock m q f) = refl
     turn_declared x (victim_unbind v on h) = victim_declared v on
     turn_declared x (victim_empty v on h e) = victim_declared v on
     turn_declared x (victim_give v d on i f g) = victim_declared v on
@@ -216,10 +213,7 @@ module _ (script : Script) (fits : IsTrue (is_script script)) (s : State) (n : �
     turn_declared x (victim_move v on i f g q) = victim_declared v on
     turn_declared x (victim_fill v on i f g q) = victim_declared v on
     turn_declared x (victim_search v on i f g) = victim_declared v on
-    turn_declared x (refuse on r) = refl
     turn_declared x (give {b} d on a f u g) = first_declared b on u
-    turn_declared x (give_up on a f u) = refl
-    turn_declared x (act on a f u) = refl
     turn_declared x (fill_in_place {b} on i) = at_declared b on
     turn_declared x (ask {b} on g) = at_declared b on.on
     turn_declared x (bind {b} on g q) = at_declared b on.on.on
@@ -231,6 +225,7 @@ module _ (script : Script) (fits : IsTrue (is_script script)) (s : State) (n : �
     turn_declared x (move_down {b} on g q r) = at_declared b on.on.on
     turn_declared x (fill_to_move {b} on g q r) = at_declared b on.on.on
     turn_declared x (hop_down {b} on g q) = at_declared b on.on.on
+    turn_declared x it = refl
 
     -- ---- searches
 
@@ -326,12 +321,9 @@ module _ (script : Script) (fits : IsTrue (is_script script)) (s : State) (n : �
     -- ---- each task
 
     task_fits : (x : Task) (k : Kind) → names_declared script x ≡ true → step_of_task script s (course s t) cmd x ≡ Ok k → Gives script s (course s t) cmd x k → is_kind script k ≡ true
-    task_fits x k here step gifts.answers = refl
     task_fits x k here step (gifts.makes {b} e l) = subst (λ c. is_command script c ≡ true) e command_fits
-    task_fits x k here step (gifts.exists {b} e) = refl
     task_fits x k here step (gifts.shifts {group} e) = group_fits group (subst (λ c. is_command script c ≡ true) e command_fits)
     task_fits x k here step (gifts.draws l) = stamp_fits
-    task_fits x k here step (gifts.no_buffer {b} l) = refl
     task_fits x k here step (gifts.reserves {b} l h) = live_declared b l
     task_fits x k here step (gifts.backs {b} {st} l h q) = joint (is_declared script b) (is_u64 st.0) (live_declared b l) (drawn b st h)
     task_fits x k here step (gifts.seeks {b} {aim} sought) = sought_fits b aim k here step sought
@@ -346,15 +338,13 @@ module _ (script : Script) (fits : IsTrue (is_script script)) (s : State) (n : �
     task_fits x k here step (gifts.depopulates {b} m f) = here
     task_fits x k here step (gifts.untakes {b} h) = here
     task_fits x k here step (gifts.skips {b}) = here
-    task_fits x k here step (gifts.gives_up {d}) = refl
-    task_fits x k here step (gifts.refuses {d}) = refl
     task_fits x k here step (gifts.arms {engine} ops e) =
         joint (is_u32 engine) (is_u64 (next_job s engine)) (engine_fits engine ops (subst (λ c. is_command script c ≡ true) e command_fits)) (job_fits engine)
     task_fits x k here step (gifts.frees {b} {g} e q) =
         joint (is_declared script b) (is_u64 g) (subst (λ c. is_command script c ≡ true) e command_fits) (subst (λ g. is_u64 g ≡ true) (sym q) (freed_fits _))
     task_fits x k here step (gifts.swaps {b} {slot} e f g) = swapped_fits b slot (subst (λ c. is_command script c ≡ true) e command_fits) g
-    task_fits x k here step (gifts.no_swap {b} e) = refl
     task_fits x k here step (gifts.acts {r}) = act_shown r cmd step
+    task_fits x k here step it = refl
 
   thread_fits : (t : ℕ) (k : Kind) → next script s (actor.Thread t) ≡ Ok k → is_kind script k ≡ true
   thread_fits t k h =

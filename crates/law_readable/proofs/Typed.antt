@@ -162,9 +162,6 @@ used_typed job ops (b ∷ bs) buffers h = used_typed job ops bs (with_use job op
 -- ---- each kind
 
 buffers_keep : (script : Script) (s : State) (who : Actor) (k : Kind) → is_kind script k ≡ true → AreTyped s.core.buffers → AreTyped (applied script s who k).core.buffers
-buffers_keep script s who (kind.Ticket stamp) q h = h
-buffers_keep script s who (kind.Reserve b) q h = h
-buffers_keep script s who (kind.Backoff b stamp) q h = h
 buffers_keep script s who (kind.New b) q h = set_typed s.core.buffers b (Some (new_buffer (decl script b).pages)) (λ x e. some_typed _ x (fresh_typed (decl script b).pages) e) h
 buffers_keep script s who (kind.Free b g) q h = set_typed s.core.buffers b None (λ x e. cc) h
 buffers_keep script s who (kind.Take b mem spans) q h =
@@ -178,19 +175,10 @@ buffers_keep script s who (kind.Bind b) q h = changed_typed _ s.core.buffers b b
 buffers_keep script s who (kind.Unbind b) q h = changed_typed _ s.core.buffers b unbound_typed h
 buffers_keep script s who (kind.Move b mem n l) q h = changed_typed _ s.core.buffers b (moved_typed mem (record { ctx = 0; num = n })) h
 buffers_keep script s who (kind.Catch b w) q h = changed_typed _ s.core.buffers b (λ x k. caught_typed x.mem x k) h
-buffers_keep script s who (kind.Loose b) q h = h
-buffers_keep script s who (kind.Skip b) q h = h
-buffers_keep script s who (kind.Dry b k w) q h = h
 buffers_keep script s who (kind.SwapOut b page slot) q h = changed_typed _ s.core.buffers b (λ x k. paged page (loc.Slot slot) x (and_parts _ (is_u32 slot) q).1 k) h
-buffers_keep script s who (kind.NoPages b) q h = h
 buffers_keep script s who (kind.Arm engine n) q h =
     used_typed (record { ctx = engine; num = n }) (ops_of (command_at_work script s (thread_of who))) (named_in (command_at_work script s (thread_of who))) s.core.buffers h
-buffers_keep script s who (kind.Packet n k piece) q h = h
-buffers_keep script s who (kind.Done n) q h = h
-buffers_keep script s who (kind.Reap g) q h = h
-buffers_keep script s who (kind.Bulk group) q h = h
-buffers_keep script s who (kind.Result r) q h = h
-buffers_keep script s who (kind.Refused d) q h = h
+buffers_keep script s who k q h = h
 
 -- ---- ghosts
 
@@ -225,32 +213,10 @@ left_drawn s x job left.Now q h = h
 left_drawn s x job (left.Ghost g) q h = pushed s.core.ghosts _ s.last_ghost (eqb-true g (next_ghost s) q) h
 
 ghosts_keep : (script : Script) (s : State) (who : Actor) (k : Kind) → is_counted s k ≡ true → AreDrawn s.core.ghosts s.last_ghost → AreDrawn (applied script s who k).core.ghosts (applied script s who k).last_ghost
-ghosts_keep script s who (kind.Ticket stamp) q h = h
-ghosts_keep script s who (kind.Reserve b) q h = h
-ghosts_keep script s who (kind.Backoff b stamp) q h = h
-ghosts_keep script s who (kind.New b) q h = h
 ghosts_keep script s who (kind.Free b g) q h = freed s.core.ghosts _ s.last_ghost q h
-ghosts_keep script s who (kind.Take b mem spans) q h = h
-ghosts_keep script s who (kind.Untake b mem) q h = h
-ghosts_keep script s who (kind.Populate b page f) q h = h
-ghosts_keep script s who (kind.SwapIn b page slot f) q h = h
-ghosts_keep script s who (kind.Depopulate b) q h = h
-ghosts_keep script s who (kind.Bind b) q h = h
-ghosts_keep script s who (kind.Unbind b) q h = h
 ghosts_keep script s who (kind.Move b mem n l) q h = left_drawn s (buffer_in s.core b) (record { ctx = 0; num = n }) l (and_parts _ (counters.is_left s l) q).1 h
-ghosts_keep script s who (kind.Catch b w) q h = h
-ghosts_keep script s who (kind.Loose b) q h = h
-ghosts_keep script s who (kind.Skip b) q h = h
-ghosts_keep script s who (kind.Dry b k w) q h = h
-ghosts_keep script s who (kind.SwapOut b page slot) q h = h
-ghosts_keep script s who (kind.NoPages b) q h = h
-ghosts_keep script s who (kind.Arm engine n) q h = h
-ghosts_keep script s who (kind.Packet n k piece) q h = h
-ghosts_keep script s who (kind.Done n) q h = h
 ghosts_keep script s who (kind.Reap g) q h = filtered (λ x. not (x.num == g)) s.core.ghosts s.last_ghost h
-ghosts_keep script s who (kind.Bulk group) q h = h
-ghosts_keep script s who (kind.Result r) q h = h
-ghosts_keep script s who (kind.Refused d) q h = h
+ghosts_keep script s who k q h = h
 
 -- ---- packets
 
@@ -292,16 +258,7 @@ ops_packets script pages (o ∷ ops) h =
 command_ops : (script : Script) (cmd : Command) → is_command script cmd ≡ true → list_all (is_op script) (ops_of (Some cmd)) ≡ true
 command_ops script (command.Submit engine ops) h =
     (and_parts (is_between 1 script.sizes.engines engine && _) (list_all (is_op script) ops) (and_parts (is_between 1 script.sizes.engines engine && _ && list_all (is_op script) ops) _ h).0).1
-command_ops script (command.New b) h = refl
-command_ops script (command.Free b) h = refl
-command_ops script (command.Pin b) h = refl
-command_ops script (command.Unpin b) h = refl
-command_ops script (command.Find b) h = refl
-command_ops script (command.SwapOut b) h = refl
-command_ops script (command.Write b off bytes) h = refl
-command_ops script (command.Read b off len) h = refl
-command_ops script (command.Move b mem) h = refl
-command_ops script (command.Touch group) h = refl
+command_ops script cmd h = refl
 
 work_ops : (script : Script) → Rules script → (s : State) (t : ℕ) → list_all (is_op script) (ops_of (command_at_work script s t)) ≡ true
 work_ops script r s t = by (command_at_work script s t) (λ cmd e. (at_work_rules script r s t cmd e).command)
@@ -315,33 +272,12 @@ copies_fill_none x mem =
     all_mapped {X = ℕ} is_packet (λ i. copy_of_page (name_in_spans mem (target_spans mem x) i) (packet_place x i)) (λ i. refl) (count_from 1 (length x.table) 0)
 
 packets_keep : (script : Script) → Rules script → (s : State) (who : Actor) (k : Kind) → ArePackets s.core.jobs → ArePackets (applied script s who k).core.jobs
-packets_keep script r s who (kind.Ticket stamp) h = h
-packets_keep script r s who (kind.Reserve b) h = h
-packets_keep script r s who (kind.Backoff b stamp) h = h
-packets_keep script r s who (kind.New b) h = h
-packets_keep script r s who (kind.Free b g) h = h
-packets_keep script r s who (kind.Take b mem spans) h = h
-packets_keep script r s who (kind.Untake b mem) h = h
-packets_keep script r s who (kind.Populate b page f) h = h
-packets_keep script r s who (kind.SwapIn b page slot f) h = h
-packets_keep script r s who (kind.Depopulate b) h = h
-packets_keep script r s who (kind.Bind b) h = h
-packets_keep script r s who (kind.Unbind b) h = h
 packets_keep script r s who (kind.Move b mem n l) h = one_more s.core.jobs _ (copies_fill_none (buffer_in s.core b) mem) h
-packets_keep script r s who (kind.Catch b w) h = h
-packets_keep script r s who (kind.Loose b) h = h
-packets_keep script r s who (kind.Skip b) h = h
-packets_keep script r s who (kind.Dry b k w) h = h
-packets_keep script r s who (kind.SwapOut b page slot) h = h
-packets_keep script r s who (kind.NoPages b) h = h
 packets_keep script r s who (kind.Arm engine n) h =
     one_more s.core.jobs _ (ops_packets script (λ b. packet_place (buffer_in s.core b)) (ops_of (command_at_work script s (thread_of who))) (work_ops script r s (thread_of who))) h
 packets_keep script r s who (kind.Packet n k piece) h = job_changed (λ j. record j { ran = j.ran + 1 }) _ s.core.jobs (λ j. refl) h
 packets_keep script r s who (kind.Done n) h = job_changed (λ j. record j { finished = true }) _ s.core.jobs (λ j. refl) h
-packets_keep script r s who (kind.Reap g) h = h
-packets_keep script r s who (kind.Bulk group) h = h
-packets_keep script r s who (kind.Result x) h = h
-packets_keep script r s who (kind.Refused d) h = h
+packets_keep script r s who k h = h
 
 -- ---- all of it
 

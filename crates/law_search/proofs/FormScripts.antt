@@ -68,18 +68,9 @@ module _ (v : ℕ) (script : Script) where
   op_same (op.Probe src off len) = refl
 
   command_same : (cmd : Command) → is_command (in_version v script) cmd ≡ is_command script cmd
-  command_same (command.New b) = refl
-  command_same (command.Free b) = refl
-  command_same (command.Pin b) = refl
-  command_same (command.Unpin b) = refl
-  command_same (command.Find b) = refl
-  command_same (command.SwapOut b) = refl
-  command_same (command.Write b off bytes) = refl
-  command_same (command.Read b off len) = refl
-  command_same (command.Move b mem) = refl
-  command_same (command.Touch group) = refl
   command_same (command.Submit engine ops) = λ i.
       is_between 1 script.sizes.engines engine && is_between 1 64 (length ops) && list_all (λ o. op_same o i) ops && nat_le (length (named (command.Submit engine ops))) 16
+  command_same cmd = refl
 
   actor_same : (who : Actor) → is_actor (in_version v script) who ≡ is_actor script who
   actor_same (actor.Thread t) = refl

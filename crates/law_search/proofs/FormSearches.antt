@@ -88,16 +88,7 @@ module _ (v : ℕ) (script : Script) where
 
   asked_same : (cmd : Command) (b : BufId) → asked_places (in_version v script) cmd b ≡ asked_places script cmd b
   asked_same (command.New c) b = refl
-  asked_same (command.Free c) b = refl
-  asked_same (command.Pin c) b = refl
-  asked_same (command.Unpin c) b = refl
-  asked_same (command.Find c) b = refl
-  asked_same (command.SwapOut c) b = refl
-  asked_same (command.Write c off bytes) b = refl
-  asked_same (command.Read c off len) b = refl
-  asked_same (command.Move c mem) b = refl
-  asked_same (command.Touch group) b = refl
-  asked_same (command.Submit engine ops) b = refl
+  asked_same cmd b = refl
 
   pub quest_same : (cmd : Command) (c : Course) (b : BufId) (aim : Aim) → quest (in_version v script) cmd c b aim ≡ quest script cmd c b aim
   quest_same cmd c b Asked = λ i. record { list = asked_same cmd b i; forced = c.forced; dry = c.dry }
@@ -149,12 +140,4 @@ module _ (v : ℕ) (script : Script) where
   pub meets_same : (cmd : Command) (b : BufId) (x : Buffer) → meets (in_version v script) cmd b x ≡ meets script cmd b x
   meets_same (command.Submit engine ops) b x = ap (compatible x.mem x.spans (decl script b).placement) (size_same x.mem)
   meets_same (command.Find c) b x = ap (compatible x.mem x.spans (decl script b).placement) (size_same x.mem)
-  meets_same (command.Move c mem) b x = refl
-  meets_same (command.SwapOut c) b x = refl
-  meets_same (command.New c) b x = refl
-  meets_same (command.Free c) b x = refl
-  meets_same (command.Pin c) b x = refl
-  meets_same (command.Unpin c) b x = refl
-  meets_same (command.Write c off bytes) b x = refl
-  meets_same (command.Read c off len) b x = refl
-  meets_same (command.Touch group) b x = refl
+  meets_same cmd b x = refl

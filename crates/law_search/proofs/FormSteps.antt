@@ -86,33 +86,12 @@ module _ (v : ℕ) (script : Script) where
 
   act_same : (s : State) (cmd : Command) → step_of_act (in_version v script) s cmd ≡ step_of_act script s cmd
   act_same s (command.New b) = refl
-  act_same s (command.Free b) = refl
-  act_same s (command.Pin b) = refl
-  act_same s (command.Unpin b) = refl
-  act_same s (command.Find b) = refl
-  act_same s (command.SwapOut b) = refl
-  act_same s (command.Write b off bytes) = refl
-  act_same s (command.Read b off len) = refl
-  act_same s (command.Move b mem) = refl
-  act_same s (command.Touch group) = refl
-  act_same s (command.Submit engine ops) = refl
+  act_same s cmd = refl
 
   step_same : (s : State) (c : Course) (cmd : Command) (t : Task) → step_of_task (in_version v script) s c cmd t ≡ step_of_task script s c cmd t
-  step_same s c cmd task.Idle = refl
-  step_same s c cmd task.Answer = refl
-  step_same s c cmd task.Start = refl
-  step_same s c cmd (task.Lock b) = refl
   step_same s c cmd (task.Search b aim) = λ i. search_same v script s c b (quest_same v script cmd c b aim i) i
-  step_same s c cmd (task.Bind b) = refl
-  step_same s c cmd (task.Unbind b) = refl
-  step_same s c cmd (task.Move b mem) = refl
-  step_same s c cmd (task.Fill b) = refl
-  step_same s c cmd (task.Empty b) = refl
-  step_same s c cmd (task.GiveBack b) = refl
-  step_same s c cmd (task.Skip b) = refl
-  step_same s c cmd (task.GiveUp d) = refl
-  step_same s c cmd (task.Refuse d) = refl
   step_same s c cmd task.Act = act_same s cmd
+  step_same s c cmd x = refl
 
   thread_same : (s : State) (t : ℕ) → step_of_thread (in_version v script) s t ≡ step_of_thread script s t
   thread_same s t = λ i.
@@ -148,96 +127,29 @@ module _ (v : ℕ) (script : Script) where
       else gone_dry k (length (forced_places (quest_same v script cmd c b (aim_of c b (buffer s b)) i).list)) c
 
   pub applied_same : (s : State) (who : Actor) (k : Kind) → applied (in_version v script) s who k ≡ applied script s who k
-  applied_same s who (kind.Ticket stamp) = refl
-  applied_same s who (kind.Reserve b) = refl
-  applied_same s who (kind.Backoff b stamp) = refl
-  applied_same s who (kind.New b) = refl
-  applied_same s who (kind.Free b g) = refl
-  applied_same s who (kind.Take b mem spans) = refl
-  applied_same s who (kind.Untake b mem) = refl
-  applied_same s who (kind.Populate b page frame) = refl
-  applied_same s who (kind.SwapIn b page slot frame) = refl
-  applied_same s who (kind.Depopulate b) = refl
   applied_same s who (kind.Bind b) = λ i. record (with_changed bound b s) { lists = touched_same (changed bound s.core.buffers b) s.grips s.lists b i }
   applied_same s who (kind.Unbind b) = λ i. record (with_changed unbound b s) { lists = touched_same (changed unbound s.core.buffers b) s.grips s.lists b i }
   applied_same s who (kind.Move b mem n l) =
       ap (λ lists. record (applied script s who (kind.Move b mem n l)) { lists = lists }) (touched_same (changed (moved mem (record { ctx = 0; num = n })) s.core.buffers b) s.grips s.lists b)
-  applied_same s who (kind.Catch b w) = refl
   applied_same s who (kind.Loose b) =
       ap (λ lists. record (applied script s who (kind.Loose b)) { lists = lists }) (touched_same s.core.buffers (regripped (with_holder None) s.grips b) s.lists b)
-  applied_same s who (kind.Skip b) = refl
   applied_same s who (kind.Dry b k w) =
       ap (λ c. record s { courses = with_course s.courses (thread_of who) c }) (dry_same s b k (command_at_work script s (thread_of who)) (course s (thread_of who)))
-  applied_same s who (kind.SwapOut b page slot) = refl
-  applied_same s who (kind.NoPages b) = refl
-  applied_same s who (kind.Arm engine n) = refl
-  applied_same s who (kind.Packet n k piece) = refl
-  applied_same s who (kind.Done n) = refl
-  applied_same s who (kind.Reap g) = refl
-  applied_same s who (kind.Bulk group) = refl
   applied_same s who (kind.Result r) =
       ap (λ lists. record (applied script s who (kind.Result r)) { lists = lists })
       (all_touched_same s.core.buffers (with_pins (command_at_work script s (thread_of who)) (released s.grips (course s (thread_of who)).held))
       (held_as_named (course s (thread_of who)) (command_at_work script s (thread_of who))) s.lists)
-  applied_same s who (kind.Refused d) = refl
+  applied_same s who k = refl
 
   -- ---- bytes
 
   stores_same : (s : State) (who : Actor) (k : Kind) (stores : Stores) → stores_after (in_version v script) s who k stores ≡ stores_after script s who k stores
   stores_same s who (kind.Ticket stamp) stores = refl
-  stores_same s who (kind.Reserve b) stores = refl
-  stores_same s who (kind.Backoff b stamp) stores = refl
-  stores_same s who (kind.New b) stores = refl
-  stores_same s who (kind.Free b g) stores = refl
-  stores_same s who (kind.Take b mem spans) stores = refl
-  stores_same s who (kind.Untake b mem) stores = refl
-  stores_same s who (kind.Populate b page frame) stores = refl
-  stores_same s who (kind.SwapIn b page slot frame) stores = refl
-  stores_same s who (kind.Depopulate b) stores = refl
-  stores_same s who (kind.Bind b) stores = refl
-  stores_same s who (kind.Unbind b) stores = refl
-  stores_same s who (kind.Move b mem n l) stores = refl
-  stores_same s who (kind.Catch b w) stores = refl
-  stores_same s who (kind.Loose b) stores = refl
-  stores_same s who (kind.Skip b) stores = refl
-  stores_same s who (kind.Dry b k w) stores = refl
-  stores_same s who (kind.SwapOut b page slot) stores = refl
-  stores_same s who (kind.NoPages b) stores = refl
-  stores_same s who (kind.Arm engine n) stores = refl
-  stores_same s who (kind.Packet n k piece) stores = refl
-  stores_same s who (kind.Done n) stores = refl
-  stores_same s who (kind.Reap g) stores = refl
-  stores_same s who (kind.Bulk group) stores = refl
-  stores_same s who (kind.Result r) stores = refl
-  stores_same s who (kind.Refused d) stores = refl
+  stores_same s who k stores = refl
 
   showing_same : (stores : Stores) (s : State) (who : Actor) (k : Kind) → showing (in_version v script) stores s who k ≡ showing script stores s who k
   showing_same stores s who (kind.Ticket stamp) = refl
-  showing_same stores s who (kind.Reserve b) = refl
-  showing_same stores s who (kind.Backoff b stamp) = refl
-  showing_same stores s who (kind.New b) = refl
-  showing_same stores s who (kind.Free b g) = refl
-  showing_same stores s who (kind.Take b mem spans) = refl
-  showing_same stores s who (kind.Untake b mem) = refl
-  showing_same stores s who (kind.Populate b page frame) = refl
-  showing_same stores s who (kind.SwapIn b page slot frame) = refl
-  showing_same stores s who (kind.Depopulate b) = refl
-  showing_same stores s who (kind.Bind b) = refl
-  showing_same stores s who (kind.Unbind b) = refl
-  showing_same stores s who (kind.Move b mem n l) = refl
-  showing_same stores s who (kind.Catch b w) = refl
-  showing_same stores s who (kind.Loose b) = refl
-  showing_same stores s who (kind.Skip b) = refl
-  showing_same stores s who (kind.Dry b k w) = refl
-  showing_same stores s who (kind.SwapOut b page slot) = refl
-  showing_same stores s who (kind.NoPages b) = refl
-  showing_same stores s who (kind.Arm engine n) = refl
-  showing_same stores s who (kind.Packet n k piece) = refl
-  showing_same stores s who (kind.Done n) = refl
-  showing_same stores s who (kind.Reap g) = refl
-  showing_same stores s who (kind.Bulk group) = refl
-  showing_same stores s who (kind.Result r) = refl
-  showing_same stores s who (kind.Refused d) = refl
+  showing_same stores s who k = refl
 
   -- ---- worlds
 

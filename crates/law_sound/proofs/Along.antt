@@ -1,27 +1,24 @@
 -- The states of legal journals are sound.
-use Rattle.std.proofs.Common.{◌≡◌, ℕ, ◌≤◌, ◌+◌, ◌-◌, zero, suc, Bool, true, false, List, [], ◌∷◌, length, Option, Some, None, Ok, IsTrue, IsSome, refl, sym, ◌∙◌, ap, subst, arith, ⊎_elim}
+use Rattle.std.proofs.Common.{◌≡◌, ℕ, ◌+◌, ◌-◌, zero, suc, Bool, true, false, List, [], ◌∷◌, length, Some, None, Ok, IsTrue, IsSome, refl, sym, ◌∙◌, ap, subst, arith, ⊎_elim}
 use Rattle.std.proofs.lemmas.Bool.{or_left, or_right}
 use Rattle.std.specs.Prelude.{slice_get, map, unwrap_or, ◌==◌, ◌||◌, if◌then◌else◌}
 use Rattle.ttm_base.specs.declared.BufId.{BufId}
-use Rattle.ttm_base.specs.declared.Stamp.{Stamp}
 use Rattle.ttm_base.specs.declared.Actor.{Actor}
 use Rattle.ttm_base.specs.declared.Actor.TheVariants as actor
 use Rattle.journal_model.specs.declared.script.Script.{Script}
 use Rattle.journal_model.specs.declared.state.State.{State}
-use Rattle.journal_model.specs.declared.state.Course.{Course}
 use Rattle.journal_model.specs.declared.entry.Entry.{Entry}
 use Rattle.journal_model.specs.declared.entry.Kind.{Kind}
 use Rattle.journal_model.specs.declared.entry.Kind.TheVariants as kind
-use Rattle.journal_model.specs.State.{new_course, course, course_of, grip, no_grip, buffer_in, has_buffer}
+use Rattle.journal_model.specs.State.{new_course, course, course_of, no_grip, buffer_in, has_buffer}
 use Rattle.journal_model.specs.Search.{is_caught}
 use Rattle.journal_model.specs.Commands.{command_at_work}
 use Rattle.journal_model.specs.ScriptRules.{is_script}
-use Rattle.journal_model.specs.Places.{packet_place}
 use Rattle.journal_model.specs.Waits.{jobs_before_write}
 use Rattle.journal_model.specs.Next.{next}
 use Rattle.journal_model.specs.Apply.{applied, engine_of}
 use Rattle.journal_model.specs.ApplyJobs.{ops_of}
-use Rattle.journal_model.specs.Complete.{is_complete, is_over}
+use Rattle.journal_model.specs.Complete.{is_complete}
 use Rattle.journal_model.specs.DeadEnd.{IsDeadEnd}
 use Rattle.journal_model.specs.Legal.{World, first_state, first_world, world_after, world_along, state_of, IsLegalFrom, IsLegal}
 use Rattle.law_journal.proofs.Shown.{legal_step}
@@ -31,7 +28,7 @@ use Rattle.law_state.specs.GoodState.{GoodState}
 use Rattle.law_state.proofs.Rules.{Rules, rules_of}
 use Rattle.law_state.proofs.Moves.{ThreadStep, thread_step}
 use Rattle.law_state.proofs.GoodStates.{arm_of, move_of, good_keeps, good_first}
-use Rattle.law_progress.specs.Sound.{SoundJobs, Owned, Steady, Sound, Has, SomeGoesOn, command_of}
+use Rattle.law_progress.specs.Sound.{SoundJobs, Steady, Sound, Has, SomeGoesOn, command_of}
 use Rattle.law_progress.proofs.DeadEnds.{command_is, no_dead_end}
 use Rattle.law_sound.proofs.Turns.{Turn, turn_of}
 use Rattle.law_sound.proofs.Gifts.{Gives, task_gives}
@@ -51,28 +48,7 @@ thread_jobs script s t (kind.Move b mem n l) st good after j =
     pushed_back script _ s.core.jobs _ j (all_among s.core (jobs_before_write (buffer_in s.core b))) (fresh_name script.sizes.engines s.last_jobs s.core.jobs (record { ctx = 0; num = n }) good.jobs (move_of script s t b mem n l st).number) after.jobs
 thread_jobs script s t (kind.Packet n k piece) st good after j = changed_back (λ x. record x { ran = x.ran + 1 }) (record { ctx = 0; num = n }) (λ x. refl) (λ x. refl) script _ s.core.jobs j after.jobs
 thread_jobs script s t (kind.Done n) st good after j = changed_back (λ x. record x { finished = true }) (record { ctx = 0; num = n }) (λ x. refl) (λ x. refl) script _ s.core.jobs j after.jobs
-thread_jobs script s t (kind.Ticket stamp) st good after j = j
-thread_jobs script s t (kind.Reserve b) st good after j = j
-thread_jobs script s t (kind.Backoff b stamp) st good after j = j
-thread_jobs script s t (kind.New b) st good after j = j
-thread_jobs script s t (kind.Free b g) st good after j = j
-thread_jobs script s t (kind.Take b mem spans) st good after j = j
-thread_jobs script s t (kind.Untake b mem) st good after j = j
-thread_jobs script s t (kind.Populate b page f) st good after j = j
-thread_jobs script s t (kind.SwapIn b page slot f) st good after j = j
-thread_jobs script s t (kind.Depopulate b) st good after j = j
-thread_jobs script s t (kind.Bind b) st good after j = j
-thread_jobs script s t (kind.Unbind b) st good after j = j
-thread_jobs script s t (kind.Catch b w) st good after j = j
-thread_jobs script s t (kind.Loose b) st good after j = j
-thread_jobs script s t (kind.Skip b) st good after j = j
-thread_jobs script s t (kind.Dry b k w) st good after j = j
-thread_jobs script s t (kind.SwapOut b page slot) st good after j = j
-thread_jobs script s t (kind.NoPages b) st good after j = j
-thread_jobs script s t (kind.Reap g) st good after j = j
-thread_jobs script s t (kind.Bulk group) st good after j = j
-thread_jobs script s t (kind.Result shown) st good after j = j
-thread_jobs script s t (kind.Refused d) st good after j = j
+thread_jobs script s t k st good after j = j
 
 -- ---- engines and the reaper
 
@@ -85,29 +61,7 @@ pub of_worker : (k : Kind) → (is_of_engine k || is_of_reaper k) ≡ true → O
 of_worker (kind.Packet n k piece) q = packet
 of_worker (kind.Done n) q = done
 of_worker (kind.Reap g) q = reap
-of_worker (kind.Ticket stamp) q = cc
-of_worker (kind.Reserve b) q = cc
-of_worker (kind.Backoff b stamp) q = cc
-of_worker (kind.New b) q = cc
-of_worker (kind.Free b g) q = cc
-of_worker (kind.Take b mem spans) q = cc
-of_worker (kind.Untake b mem) q = cc
-of_worker (kind.Populate b page f) q = cc
-of_worker (kind.SwapIn b page slot f) q = cc
-of_worker (kind.Depopulate b) q = cc
-of_worker (kind.Bind b) q = cc
-of_worker (kind.Unbind b) q = cc
-of_worker (kind.Move b mem n l) q = cc
-of_worker (kind.Catch b w) q = cc
-of_worker (kind.Loose b) q = cc
-of_worker (kind.Skip b) q = cc
-of_worker (kind.Dry b k w) q = cc
-of_worker (kind.SwapOut b page slot) q = cc
-of_worker (kind.NoPages b) q = cc
-of_worker (kind.Arm engine n) q = cc
-of_worker (kind.Bulk group) q = cc
-of_worker (kind.Result shown) q = cc
-of_worker (kind.Refused d) q = cc
+of_worker k q = cc
 
 worker_keeps : (script : Script) (s : State) (who : Actor) (k : Kind) → OfWorker k → Sound script s → GoodState script (applied script s who k) → Sound script (applied script s who k)
 worker_keeps script s who k (packet {n}) sound after =

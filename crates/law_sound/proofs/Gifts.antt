@@ -1,6 +1,6 @@
 -- What an entry tells of the task that made it.
-use Rattle.std.proofs.Common.{◌≡◌, ℕ, ◌+◌, zero, suc, Bool, true, false, List, [], ◌∷◌, Option, Some, None, Ok, Err, refl, sym, ◌∙◌, ap, subst, arith}
-use Rattle.std.specs.Prelude.{slice_get, unwrap_or, if◌then◌else◌, option_map}
+use Rattle.std.proofs.Common.{◌≡◌, ℕ, ◌+◌, zero, suc, Bool, true, false, List, [], ◌∷◌, Option, Some, None, Ok, Err, refl, sym, ◌∙◌, ap, subst}
+use Rattle.std.specs.Prelude.{slice_get, unwrap_or, if◌then◌else◌}
 use Rattle.ttm_base.specs.declared.Mem.{Mem}
 use Rattle.ttm_base.specs.declared.Mem.TheVariants.{System, Tt, Vram}
 use Rattle.ttm_base.specs.declared.BufId.{BufId}
@@ -33,16 +33,15 @@ use Rattle.journal_model.specs.declared.entry.DryWhy.TheVariants as dry
 use Rattle.journal_model.specs.declared.entry.Left.TheVariants as left
 use Rattle.journal_model.specs.declared.entry.Shown.{Shown}
 use Rattle.journal_model.specs.declared.entry.Shown.TheVariants as shown
-use Rattle.journal_model.specs.State.{buffer, grip, is_live, has_target}
+use Rattle.journal_model.specs.State.{buffer, grip, is_live}
 use Rattle.journal_model.specs.Commands.{whole}
 use Rattle.journal_model.specs.Choice.{choice}
 use Rattle.journal_model.specs.Places.{loc_of}
 use Rattle.journal_model.specs.Holds.{free_frame, free_slot}
 use Rattle.journal_model.specs.Dry.{is_long_enough, victim, ghost_in, has_frame, swap_victim, ghost_with_frame, causes}
 use Rattle.journal_model.specs.Waits.{waited_for, jobs_before_write, is_idle}
-use Rattle.journal_model.specs.State.{buffer_in}
-use Rattle.journal_model.specs.Search.{Step, Quest, quest, is_caught, why_of, step_of_crowded, step_of_forced_place, step_of_forced, first_choice, step_of_quest}
-use Rattle.journal_model.specs.PageSteps.{unless_waiting, once_idle, page_to_fill, filled_by, step_without_victim, step_without_frame, step_of_fill, first_frame_page, step_of_swap_out, why_caught, step_of_empty, next_job, next_ghost, step_of_move, target_to_untake, step_of_give_back}
+use Rattle.journal_model.specs.Search.{Step, Quest, quest, is_caught, why_of, step_of_crowded, step_of_forced, first_choice, step_of_quest}
+use Rattle.journal_model.specs.PageSteps.{unless_waiting, once_idle, page_to_fill, filled_by, step_without_victim, step_without_frame, step_of_fill, first_frame_page, step_of_swap_out, why_caught, step_of_empty, next_job, next_ghost, target_to_untake, step_of_give_back}
 use Rattle.journal_model.specs.Next.{step_of_start, backs_off, step_of_holder, step_of_lock, step_of_act, step_of_task}
 use Rattle.law_progress.specs.Sound.{locks}
 
@@ -259,15 +258,7 @@ module _ (script : Script) (s : State) (c : Course) (cmd : Command) where
       by_live true l h = let it : kind.Refused deny.Exists ≡ k = cc in subst (Gives script s c cmd task.Start) it (exists e)
       by_live false l h = let it : kind.New b ≡ k = cc in subst (Gives script s c cmd task.Start) it (makes e l)
   start_gives (command.Touch group) e k h = let it : kind.Bulk group ≡ k = cc in subst (Gives script s c cmd task.Start) it (shifts e)
-  start_gives (command.Free b) e k h = ticket_gives k (ap locks e) h
-  start_gives (command.Pin b) e k h = ticket_gives k (ap locks e) h
-  start_gives (command.Unpin b) e k h = ticket_gives k (ap locks e) h
-  start_gives (command.Find b) e k h = ticket_gives k (ap locks e) h
-  start_gives (command.SwapOut b) e k h = ticket_gives k (ap locks e) h
-  start_gives (command.Write b off bytes) e k h = ticket_gives k (ap locks e) h
-  start_gives (command.Read b off len) e k h = ticket_gives k (ap locks e) h
-  start_gives (command.Move b mem) e k h = ticket_gives k (ap locks e) h
-  start_gives (command.Submit engine ops) e k h = ticket_gives k (ap locks e) h
+  start_gives cmd e k h = ticket_gives k (ap locks e) h
 
   unbind_gives : (b : BufId) (k : Kind) → once_idle s.core b (kind.Unbind b) ≡ Ok k → Gives script s c cmd (task.Unbind b) k
   unbind_gives b k h =

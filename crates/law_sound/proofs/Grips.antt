@@ -1,18 +1,15 @@
 -- Holders in lists of grips, what is live, and what keeps its length.
-use Rattle.std.proofs.Common.{◌≡◌, ℕ, ◌<◌, ◌≤◌, ◌+◌, zero, suc, Bool, true, false, List, [], ◌∷◌, ◌++◌, length, Option, Some, None, IsSome, Ok, refl, sym, ◌∙◌, ap, subst, arith, ◌⊎◌, inl, inr, ⊎_elim}
-use Rattle.std.specs.Prelude.{slice_get, slice_set, unwrap_or, is_some, is_none, option_map, option_and_then, fold, ◌&&◌, ◌||◌, ◌==◌, ◌-◌, not}
-use Rattle.std.proofs.lemmas.Bool.{cases_Bool, and_parts, or_parts, or_cases}
-use Rattle.std.proofs.lemmas.Bool.Decides.{nat_tests}
+use Rattle.std.proofs.Common.{◌≡◌, ℕ, ◌<◌, zero, suc, true, false, List, [], ◌∷◌, length, Option, Some, None, IsSome, refl, sym, ◌∙◌, ap, subst, arith, ⊎_elim}
+use Rattle.std.specs.Prelude.{slice_get, slice_set, unwrap_or, is_some, is_none, option_map, option_and_then, fold, ◌&&◌, ◌==◌, ◌-◌, not}
+use Rattle.std.proofs.lemmas.Bool.{and_parts, or_parts, or_cases}
 use Rattle.std.proofs.Math.ListN.{length-set}
 use Rattle.ttm_base.specs.declared.BufId.{BufId}
 use Rattle.ttm_base.specs.declared.Stamp.{Stamp}
 use Rattle.ttm_base.specs.declared.JobId.{JobId}
 use Rattle.ttm_base.specs.declared.Op.{Op}
 use Rattle.ttm_base.specs.declared.Place.{Place}
-use Rattle.ttm_base.specs.declared.Span.{Span}
 use Rattle.ttm_base.specs.Reach.{same_mem}
 use Rattle.ttm_base.specs.Reach.{intersects}
-use Rattle.ttm_base.specs.declared.Actor.{Actor}
 use Rattle.ttm_base.specs.declared.Actor.TheVariants as actor
 use Rattle.journal_model.specs.declared.script.Script.{Script}
 use Rattle.journal_model.specs.declared.script.Command.{Command}
@@ -31,10 +28,10 @@ use Rattle.journal_model.specs.Apply.{applied}
 use Rattle.journal_model.specs.ApplyCommands.{with_holder, released, with_pins, pinned_more, pinned_less}
 use Rattle.journal_model.specs.ApplyJobs.{with_use}
 use Rattle.journal_model.proofs.KeptLengths.{length-applied}
-use Rattle.law_journal.proofs.Courses.{others_kept}
+use Rattle.law_journal.proofs.Courses.{others_kept, courses_after}
 use Rattle.law_state.proofs.Lists.{set_at, live_changed}
 use Rattle.law_sound.proofs.Bufs.{same_self, same_is, same_or_other, found_passes, clash}
-use Rattle.law_sound.proofs.Owners.{SameLengths, OneCourse}
+use Rattle.law_sound.proofs.Owners.{OneCourse}
 
 -- ---- one grip set
 
@@ -97,15 +94,7 @@ pub pins_hold : (o : Option Command) (grips : List Grip) (d : BufId) → (grip_i
 pins_hold None grips d = refl
 pins_hold (Some (command.Pin b)) grips d = pin_set grips b d (pinned_more (grip_in grips b)) refl
 pins_hold (Some (command.Unpin b)) grips d = pin_set grips b d (pinned_less (grip_in grips b)) refl
-pins_hold (Some (command.New b)) grips d = refl
-pins_hold (Some (command.Free b)) grips d = refl
-pins_hold (Some (command.Find b)) grips d = refl
-pins_hold (Some (command.SwapOut b)) grips d = refl
-pins_hold (Some (command.Write b off bytes)) grips d = refl
-pins_hold (Some (command.Read b off len)) grips d = refl
-pins_hold (Some (command.Move b mem)) grips d = refl
-pins_hold (Some (command.Touch group)) grips d = refl
-pins_hold (Some (command.Submit engine ops)) grips d = refl
+pins_hold (Some cmd) grips d = refl
 
 -- ---- what is live
 
@@ -184,15 +173,7 @@ length-pins : (o : Option Command) (grips : List Grip) → length (with_pins o g
 length-pins None grips = refl
 length-pins (Some (command.Pin b)) grips = length-set grips b.0 _
 length-pins (Some (command.Unpin b)) grips = length-set grips b.0 _
-length-pins (Some (command.New b)) grips = refl
-length-pins (Some (command.Free b)) grips = refl
-length-pins (Some (command.Find b)) grips = refl
-length-pins (Some (command.SwapOut b)) grips = refl
-length-pins (Some (command.Write b off bytes)) grips = refl
-length-pins (Some (command.Read b off len)) grips = refl
-length-pins (Some (command.Move b mem)) grips = refl
-length-pins (Some (command.Touch group)) grips = refl
-length-pins (Some (command.Submit engine ops)) grips = refl
+length-pins (Some cmd) grips = refl
 
 length-grips : (script : Script) (s : State) (t : ℕ) (k : Kind) → length (applied script s (actor.Thread t) k).grips ≡ length s.grips
 length-grips script s t (kind.Reserve b) = length-set s.grips b.0 _
@@ -204,51 +185,10 @@ length-grips script s t (kind.Loose b) = length-set s.grips b.0 _
 length-grips script s t (kind.Skip b) = length-set s.grips b.0 _
 length-grips script s t (kind.Result r) = length-pins (command_at_work script s t) (released s.grips (course s t).held) ∙ length-released (course s t).held s.grips
 length-grips script s t (kind.Refused d) = length-released (course s t).held s.grips
-length-grips script s t (kind.Ticket stamp) = refl
-length-grips script s t (kind.Take b mem spans) = refl
-length-grips script s t (kind.Untake b mem) = refl
-length-grips script s t (kind.Populate b page frame) = refl
-length-grips script s t (kind.SwapIn b page slot frame) = refl
-length-grips script s t (kind.Depopulate b) = refl
-length-grips script s t (kind.Bind b) = refl
-length-grips script s t (kind.Unbind b) = refl
-length-grips script s t (kind.Move b mem n l) = refl
-length-grips script s t (kind.Dry b k w) = refl
-length-grips script s t (kind.SwapOut b page slot) = refl
-length-grips script s t (kind.NoPages b) = refl
-length-grips script s t (kind.Arm engine n) = refl
-length-grips script s t (kind.Packet n k piece) = refl
-length-grips script s t (kind.Done n) = refl
-length-grips script s t (kind.Reap g) = refl
-length-grips script s t (kind.Bulk group) = refl
+length-grips script s t k = refl
 
 length-courses : (script : Script) (s : State) (t : ℕ) (k : Kind) → length (applied script s (actor.Thread t) k).courses ≡ length s.courses
-length-courses script s t (kind.Ticket stamp) = length-set s.courses (t - 1) _
-length-courses script s t (kind.Reserve b) = length-set s.courses (t - 1) _
-length-courses script s t (kind.Backoff b stamp) = length-set s.courses (t - 1) _
-length-courses script s t (kind.New b) = length-set s.courses (t - 1) _
-length-courses script s t (kind.Free b g) = length-set s.courses (t - 1) _
-length-courses script s t (kind.Take b mem spans) = length-set s.courses (t - 1) _
-length-courses script s t (kind.Catch b w) = length-set s.courses (t - 1) _
-length-courses script s t (kind.Loose b) = length-set s.courses (t - 1) _
-length-courses script s t (kind.Skip b) = length-set s.courses (t - 1) _
-length-courses script s t (kind.Dry b k w) = length-set s.courses (t - 1) _
-length-courses script s t (kind.NoPages b) = length-set s.courses (t - 1) _
-length-courses script s t (kind.Arm engine n) = length-set s.courses (t - 1) _
-length-courses script s t (kind.Bulk group) = length-set s.courses (t - 1) _
-length-courses script s t (kind.Result r) = length-set s.courses (t - 1) _
-length-courses script s t (kind.Refused d) = length-set s.courses (t - 1) _
-length-courses script s t (kind.Untake b mem) = refl
-length-courses script s t (kind.Populate b page frame) = refl
-length-courses script s t (kind.SwapIn b page slot frame) = refl
-length-courses script s t (kind.Depopulate b) = refl
-length-courses script s t (kind.Bind b) = refl
-length-courses script s t (kind.Unbind b) = refl
-length-courses script s t (kind.Move b mem n l) = refl
-length-courses script s t (kind.SwapOut b page slot) = refl
-length-courses script s t (kind.Packet n k piece) = refl
-length-courses script s t (kind.Done n) = refl
-length-courses script s t (kind.Reap g) = refl
+length-courses script s t k = ⊎_elim (λ e. ap length e ∙ length-set s.courses (t - 1) _) (λ e. ap length e.0) (courses_after script s t k)
 
 pub one_course : (script : Script) (s : State) (t : ℕ) (k : Kind) → IsSome (course_of s t) → OneCourse s (applied script s (actor.Thread t) k) t
 one_course script s t k here =

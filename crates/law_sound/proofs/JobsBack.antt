@@ -1,22 +1,20 @@
 -- Jobs wait for jobs that were emitted before them.
-use Rattle.std.proofs.Common.{◌≡◌, ℕ, ◌<◌, ◌≤◌, ◌+◌, zero, suc, Bool, true, false, List, [], ◌∷◌, ◌++◌, length, Option, Some, None, refl, sym, ◌∙◌, ap, ap₂, subst, arith, ◌⊎◌, inl, inr, ⊎_elim}
-use Rattle.std.specs.Prelude.{not, ◌||◌, ◌&&◌, filter, map, flat_map, slice_get, slice_set, unwrap_or, nat_le, cond, if◌then◌else◌}
+use Rattle.std.proofs.Common.{◌≡◌, ℕ, ◌+◌, zero, suc, Bool, true, false, List, [], ◌∷◌, ◌++◌, Some, refl, sym, ◌∙◌, ap, ap₂, subst, arith, ⊎_elim}
+use Rattle.std.specs.Prelude.{not, ◌||◌, ◌&&◌, flat_map, slice_get, nat_le, cond, if◌then◌else◌}
 use Rattle.std.specs.List.{list_any, list_all}
-use Rattle.std.proofs.lemmas.Bool.{cases_Bool, and_parts, and_from, or_cases, or_left, or_right, or_from, false_from_ne_true, not_from_false, not-true}
+use Rattle.std.proofs.lemmas.Bool.{and_parts, and_from, or_cases, or_left, or_right, or_from, false_from_ne_true, not_from_false, not-true}
 use Rattle.std.proofs.lemmas.Bool.Decides.{nat_tests}
 use Rattle.std.proofs.lemmas.List.Folds.{list_any-append, list_all-append}
 use Rattle.ttm_base.specs.declared.BufId.{BufId}
 use Rattle.ttm_base.specs.declared.JobId.{JobId}
 use Rattle.ttm_base.specs.declared.Op.{Op}
-use Rattle.ttm_base.specs.declared.Packet.{Packet}
 use Rattle.journal_model.specs.declared.script.Script.{Script}
 use Rattle.journal_model.specs.declared.state.Core.{Core}
 use Rattle.journal_model.specs.declared.state.Job.{Job}
 use Rattle.journal_model.specs.Waits.{same_job, is_unfinished, unfinished, jobs_before_use}
-use Rattle.journal_model.specs.ApplyMoves.{with_job}
 use Rattle.journal_model.specs.ApplyJobs.{changed_job}
 use Rattle.law_state.specs.GoodState.{GoodJobs, last_number}
-use Rattle.law_progress.specs.Sound.{SoundJobs, is_among, waits_for_some_of, waits_for_none_of, WaitsGoBack}
+use Rattle.law_progress.specs.Sound.{SoundJobs, is_among, waits_for_some_of, WaitsGoBack}
 
 -- ---- tests of lists
 

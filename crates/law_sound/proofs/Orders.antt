@@ -1,12 +1,11 @@
 -- Who has an entry stands in the simulator's own order; and where all is over nobody has one.
 use Rattle.std.proofs.Common.{◌≡◌, ℕ, ◌<◌, ◌≤◌, ◌+◌, ◌-◌, zero, suc, Bool, true, false, List, [], ◌∷◌, ◌++◌, length, Option, Some, None, Result, Ok, Err, IsTrue, IsSome, refl, sym, ◌∙◌, ap, subst, arith, ◌⊎◌, inl, inr, ⊎_elim}
-use Rattle.std.specs.Prelude.{◌↔◌, slice_get, map, filter, filter_map, find, cond, unwrap_or, option_map, option_and_then, is_none, is_ok, nat_le, ◌==◌, ◌&&◌, not, if◌then◌else◌}
+use Rattle.std.specs.Prelude.{◌↔◌, slice_get, map, filter, filter_map, find, cond, option_map, option_and_then, is_none, is_ok, nat_le, ◌==◌, ◌&&◌, not, if◌then◌else◌}
 use Rattle.std.specs.List.{list_all, cons_option}
-use Rattle.std.proofs.lemmas.Bool.{cases_Bool, cases_eq, and_parts}
+use Rattle.std.proofs.lemmas.Bool.{cases_eq, and_parts}
 use Rattle.std.proofs.lemmas.Bool.Decides.{nat_tests}
 use Rattle.ttm_base.specs.ListWords.{count_from}
 use Rattle.ttm_base.specs.declared.Stamp.{Stamp}
-use Rattle.ttm_base.specs.declared.Need.{Need}
 use Rattle.ttm_base.specs.declared.Need.TheVariants as need
 use Rattle.ttm_base.specs.declared.Actor.{Actor}
 use Rattle.ttm_base.specs.declared.Actor.TheVariants as actor
@@ -19,13 +18,13 @@ use Rattle.journal_model.specs.declared.state.Course.{Course}
 use Rattle.journal_model.specs.declared.entry.Kind.{Kind}
 use Rattle.journal_model.specs.declared.entry.Kind.TheVariants as kind
 use Rattle.journal_model.specs.declared.entry.Entry.{Entry}
-use Rattle.journal_model.specs.State.{course, course_of, new_course}
+use Rattle.journal_model.specs.State.{course, course_of}
 use Rattle.journal_model.specs.Commands.{commands_of, command_at_work}
 use Rattle.journal_model.specs.ScriptRules.{is_script}
 use Rattle.journal_model.specs.Search.{Step}
 use Rattle.journal_model.specs.PageSteps.{unless_waiting}
 use Rattle.journal_model.specs.Waits.{waited_for}
-use Rattle.journal_model.specs.Next.{next, head_of, step_of_job, step_of_engine, step_of_reaper, step_of_thread, step_of_task}
+use Rattle.journal_model.specs.Next.{next, head_of, step_of_job, step_of_engine, step_of_task}
 use Rattle.journal_model.specs.Tasks.{task_of}
 use Rattle.journal_model.specs.Complete.{is_over, is_complete, has_answered, thread_numbers}
 use Rattle.journal_model.specs.DeadEnd.{can_step}

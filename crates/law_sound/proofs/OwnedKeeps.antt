@@ -1,6 +1,6 @@
 -- Each entry keeps who has what.
-use Rattle.std.proofs.Common.{◌≡◌, ℕ, ◌<◌, ◌≤◌, ◌+◌, Bool, true, false, List, [], ◌∷◌, ◌++◌, length, Option, Some, None, IsSome, Ok, refl, sym, ◌∙◌, ap, subst, arith, ◌⊎◌, inl, inr, ⊎_elim}
-use Rattle.std.specs.Prelude.{slice_get, slice_set, unwrap_or, is_some, is_none, map, if◌then◌else◌, ◌||◌}
+use Rattle.std.proofs.Common.{◌≡◌, ℕ, ◌<◌, Bool, true, false, List, [], ◌∷◌, ◌++◌, length, Option, Some, None, IsSome, refl, sym, ◌∙◌, ap, subst, arith, ◌⊎◌, inl, inr, ⊎_elim}
+use Rattle.std.specs.Prelude.{slice_set, is_some, is_none, map, if◌then◌else◌, ◌||◌}
 use Rattle.std.proofs.lemmas.Bool.{cases_Bool, both_ways}
 use Rattle.ttm_base.specs.declared.BufId.{BufId}
 use Rattle.ttm_base.specs.declared.Stamp.{Stamp}
@@ -13,8 +13,6 @@ use Rattle.journal_model.specs.declared.script.Command.{Command}
 use Rattle.journal_model.specs.declared.script.Command.TheVariants as command
 use Rattle.journal_model.specs.declared.state.State.{State}
 use Rattle.journal_model.specs.declared.state.Course.{Course}
-use Rattle.journal_model.specs.declared.state.Grip.{Grip}
-use Rattle.journal_model.specs.declared.state.Buffer.{Buffer}
 use Rattle.journal_model.specs.declared.state.Victim.{Victim}
 use Rattle.journal_model.specs.declared.state.Task.{Task}
 use Rattle.journal_model.specs.declared.state.Task.TheVariants as task
@@ -25,23 +23,23 @@ use Rattle.journal_model.specs.declared.entry.Shown.{Shown}
 use Rattle.journal_model.specs.declared.entry.Shown.TheVariants as shown
 use Rattle.journal_model.specs.declared.entry.Kind.{Kind}
 use Rattle.journal_model.specs.declared.entry.Kind.TheVariants as kind
-use Rattle.journal_model.specs.State.{new_buffer, new_course, course, course_of, grip, grip_in, no_grip, is_live, live_in, has_buffer, same_buffer, without_buffer}
+use Rattle.journal_model.specs.State.{course, course_of, grip, grip_in, no_grip, is_live, has_buffer, same_buffer, without_buffer}
 use Rattle.journal_model.specs.Commands.{named, command_at_work}
 use Rattle.journal_model.specs.Search.{Quest, is_caught, quest_at_work}
 use Rattle.journal_model.specs.Tasks.{starts, first_missing}
 use Rattle.journal_model.specs.Apply.{applied}
-use Rattle.journal_model.specs.ApplyCommands.{with_holder, released, with_pins, on_to_next}
+use Rattle.journal_model.specs.ApplyCommands.{with_holder, released, on_to_next}
 use Rattle.journal_model.specs.PageSteps.{next_job}
 use Rattle.journal_model.specs.ApplyJobs.{ops_of}
 use Rattle.journal_model.specs.ApplyCommands.{named_in}
 use Rattle.journal_model.specs.ApplyPages.{search_over}
-use Rattle.journal_model.specs.ApplyVictims.{failed_if, with_fail, with_victim, no_longer_caught, with_skip, gone_dry, course_after_dry}
-use Rattle.law_progress.specs.Sound.{Has, Steady, Owned, command_of, wants, locks}
-use Rattle.law_sound.proofs.Turns.{Turn, Works, OnVictim, OnNamed, answer, start, lock, victim_unbind, victim_empty, victim_give, victim_skip, victim_move, victim_fill, victim_search, refuse, give, give_up, act, fill_in_place, ask, bind, fill_to_bind, hop_up, unbind, move_up, move_across, move_down, fill_to_move, hop_down, OnBuffer}
+use Rattle.journal_model.specs.ApplyVictims.{failed_if, with_fail, with_victim, no_longer_caught, gone_dry, course_after_dry}
+use Rattle.law_progress.specs.Sound.{Has, Steady, Owned, command_of, locks}
+use Rattle.law_sound.proofs.Turns.{Turn, Works, OnVictim, OnNamed, answer, start, lock, victim_empty, victim_skip, victim_fill, victim_search, refuse, give_up, act, fill_in_place, ask, fill_to_bind, hop_up, fill_to_move, hop_down, OnBuffer}
 use Rattle.law_sound.proofs.Gifts.{Gives, Sought, Filled, answers, makes, exists, shifts, draws, no_buffer, reserves, backs, seeks, binds, unbinds, moves, fills, lets_go, empties, depopulates, untakes, skips, gives_up, refuses, arms, frees, swaps, no_swap, acts, finds, evicts, dries, fresh, again, back, evicts_for_swap, nothing}
-use Rattle.law_sound.proofs.Bufs.{victims_of, let_go, same_self, same_is, same_or_other, other_is, has_pushed, has_more, has_new, has_without, without_gone, without_kept, names_let_go, names_failed, names_pushed, last_caught, none_last, none_caught, none_missing, clash}
-use Rattle.law_sound.proofs.Steadies.{next_course, own_course, locking_command, works_wants, lock_wants, locks_alone, ticket_steady, reserve_steady, backoff_steady, made_steady, search_steady, dry_steady, fail_steady, catch_steady, loose_steady, next_steady}
-use Rattle.law_sound.proofs.Owners.{OneCourse, Lets, lets_keeps, Gets, gets_keeps, Draws, draws_keeps, none_or}
+use Rattle.law_sound.proofs.Bufs.{victims_of, same_self, same_is, same_or_other, other_is, has_pushed, has_more, has_new, has_without, without_gone, without_kept, names_let_go, names_failed, names_pushed, last_caught, none_last, none_caught, none_missing, clash}
+use Rattle.law_sound.proofs.Steadies.{next_course, own_course, locking_command, lock_wants, locks_alone, ticket_steady, reserve_steady, backoff_steady, made_steady, search_steady, dry_steady, fail_steady, catch_steady, loose_steady, next_steady}
+use Rattle.law_sound.proofs.Owners.{lets_keeps, gets_keeps, draws_keeps, none_or}
 use Rattle.law_sound.proofs.Grips.{grip_other, grip_here, grip_gone, released_gone, released_other, pins_hold, live_same, live_uses, live_set, live_more, live_within, IsFree, victim_free, swap_free, one_course}
 
 -- a course has the buffer
@@ -296,15 +294,7 @@ module _ (script : Script) (s : State) (t : ℕ) (cmd : Command) (here : IsSome 
           begins : (x : Command) → locks x ≡ true → (course s t).stamp ≡ None → starts (course s t) x ≡ true
           begins (command.New b) q e = cc
           begins (command.Touch group) q e = cc
-          begins (command.Free b) q e = ap is_none e
-          begins (command.Pin b) q e = ap is_none e
-          begins (command.Unpin b) q e = ap is_none e
-          begins (command.Find b) q e = ap is_none e
-          begins (command.SwapOut b) q e = ap is_none e
-          begins (command.Write b off bytes) q e = ap is_none e
-          begins (command.Read b off len) q e = ap is_none e
-          begins (command.Move b mem) q e = ap is_none e
-          begins (command.Submit engine ops) q e = ap is_none e
+          begins cmd q e = ap is_none e
 
   -- only a command that locks gets beyond its start
   pub begun_locks : starts (course s t) cmd ≡ false → locks cmd ≡ true
@@ -313,15 +303,7 @@ module _ (script : Script) (s : State) (t : ℕ) (cmd : Command) (here : IsSome 
       by : (x : Command) → starts (course s t) x ≡ false → locks x ≡ true
       by (command.New b) q = cc
       by (command.Touch group) q = cc
-      by (command.Free b) q = refl
-      by (command.Pin b) q = refl
-      by (command.Unpin b) q = refl
-      by (command.Find b) q = refl
-      by (command.SwapOut b) q = refl
-      by (command.Write b off bytes) q = refl
-      by (command.Read b off len) q = refl
-      by (command.Move b mem) q = refl
-      by (command.Submit engine ops) q = refl
+      by cmd q = refl
 
   reserve_keeps : (b : BufId) → (course s t).made ≡ false → starts (course s t) cmd ≡ false → first_missing (course s t) cmd ≡ Some b → is_live s b ≡ true → (grip s b).holder ≡ None → Owned script (applied script s (actor.Thread t) (kind.Reserve b))
   reserve_keeps b m n f alive free =

@@ -1,11 +1,10 @@
 -- A buffer's holder tells which thread has it: classes of changes that keep this.
-use Rattle.std.proofs.Common.{◌≡◌, ℕ, ◌<◌, ◌≤◌, ◌+◌, zero, suc, Bool, true, false, List, [], ◌∷◌, ◌++◌, length, Option, Some, None, refl, sym, ◌∙◌, ap, subst, arith, ◌⊎◌, inl, inr, ⊎_elim}
-use Rattle.std.proofs.lemmas.Bool.{cases_Bool, cases_eq, both_ways}
+use Rattle.std.proofs.Common.{◌≡◌, ℕ, ◌<◌, ◌≤◌, Bool, true, false, length, Option, Some, None, sym, ◌∙◌, ap, subst, arith, ◌⊎◌, ⊎_elim}
+use Rattle.std.proofs.lemmas.Bool.{cases_Bool, cases_eq}
 use Rattle.ttm_base.specs.declared.BufId.{BufId}
 use Rattle.ttm_base.specs.declared.Stamp.{Stamp}
 use Rattle.journal_model.specs.declared.script.Script.{Script}
 use Rattle.journal_model.specs.declared.state.State.{State}
-use Rattle.journal_model.specs.declared.state.Course.{Course}
 use Rattle.journal_model.specs.State.{course, grip, is_live, has_buffer}
 use Rattle.journal_model.specs.Search.{is_caught}
 use Rattle.law_progress.specs.Sound.{Has, Steady, Owned}

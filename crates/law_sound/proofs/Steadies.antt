@@ -1,82 +1,28 @@
 -- What a thread's own course tells holds after each of its entries.
-use Rattle.std.proofs.Common.{◌≡◌, ℕ, ◌<◌, ◌≤◌, ◌+◌, zero, suc, Bool, true, false, List, [], ◌∷◌, ◌++◌, length, Option, Some, None, IsSome, refl, sym, ◌∙◌, ap, subst, arith, ◌⊎◌, inl, inr, ⊎_elim}
-use Rattle.std.specs.Prelude.{not, map, filter, slice_get, is_none, if◌then◌else◌, ◌==◌, ◌||◌}
-use Rattle.std.proofs.lemmas.Bool.{cases_Bool, false_from_ne_true}
+use Rattle.std.proofs.Common.{◌≡◌, ℕ, ◌≤◌, ◌+◌, zero, suc, Bool, true, false, List, [], ◌∷◌, ◌++◌, length, Option, Some, None, refl, sym, ◌∙◌, ap, subst, arith, ◌⊎◌, ⊎_elim}
+use Rattle.std.specs.Prelude.{map, slice_get, is_none, if◌then◌else◌}
 use Rattle.ttm_base.specs.declared.BufId.{BufId}
 use Rattle.ttm_base.specs.declared.Stamp.{Stamp}
 use Rattle.ttm_base.specs.declared.Deny.{Deny}
 use Rattle.ttm_base.specs.declared.Deny.TheVariants as deny
 use Rattle.ttm_base.specs.Placement.{forced_places}
-use Rattle.ttm_base.specs.declared.Actor.TheVariants as actor
 use Rattle.journal_model.specs.declared.script.Script.{Script}
 use Rattle.journal_model.specs.declared.script.Command.{Command}
 use Rattle.journal_model.specs.declared.script.Command.TheVariants as command
 use Rattle.journal_model.specs.declared.state.State.{State}
 use Rattle.journal_model.specs.declared.state.Course.{Course}
-use Rattle.journal_model.specs.declared.state.Victim.{Victim}
 use Rattle.journal_model.specs.declared.entry.Why.{Why}
-use Rattle.journal_model.specs.declared.entry.Kind.{Kind}
-use Rattle.journal_model.specs.declared.entry.Kind.TheVariants as kind
-use Rattle.journal_model.specs.State.{course, course_of, new_course, has_buffer, same_buffer, without_buffer, with_course}
-use Rattle.journal_model.specs.Commands.{commands_of, command_at_work, named}
+use Rattle.journal_model.specs.State.{new_course, has_buffer}
+use Rattle.journal_model.specs.Commands.{commands_of, named}
 use Rattle.journal_model.specs.Search.{is_caught, quest_at_work}
 use Rattle.journal_model.specs.Tasks.{starts, first_missing}
-use Rattle.journal_model.specs.Apply.{applied}
 use Rattle.journal_model.specs.ApplyCommands.{has_made, on_to_next}
 use Rattle.journal_model.specs.ApplyPages.{search_over}
-use Rattle.journal_model.specs.ApplyVictims.{failed_if, with_fail, no_longer_caught, with_victim, with_skip, gone_dry, course_after_dry}
-use Rattle.law_journal.proofs.Courses.{course_set}
+use Rattle.journal_model.specs.ApplyVictims.{failed_if, with_fail, no_longer_caught, with_victim, gone_dry, course_after_dry}
+pub use Rattle.law_journal.proofs.Courses.{next_course, own_course}
 use Rattle.law_progress.specs.Sound.{Steady, command_of, wanted, wants, locks}
 use Rattle.law_sound.proofs.Turns.{Works}
-use Rattle.law_sound.proofs.Bufs.{victims_of, let_go, has_pushed, has_more, has_new, has_without, names_let_go, names_failed, names_pushed, none_caught, missing_is_named, missing_not_held, clash}
-
--- ---- the course after an entry
-
-abbrev pub next_course : Script → State → ℕ → Kind → Course
-next_course script s t (kind.Ticket stamp) = record (course s t) { stamp = Some stamp }
-next_course script s t (kind.Reserve b) = record (course s t) { held = (course s t).held ++ b ∷ [] }
-next_course script s t (kind.Backoff b stamp) = record (course s t) { held = []; first = Some b }
-next_course script s t (kind.New b) = has_made (course s t)
-next_course script s t (kind.Free b g) = has_made (record (course s t) { held = without_buffer (course s t).held b })
-next_course script s t (kind.Take b mem spans) = search_over b (course s t)
-next_course script s t (kind.Catch b w) = with_victim b w (course s t)
-next_course script s t (kind.Loose b) = no_longer_caught b (course s t)
-next_course script s t (kind.Skip b) = with_skip b (no_longer_caught b (course s t))
-next_course script s t (kind.Dry b k w) = course_after_dry script s b k (command_at_work script s t) (course s t)
-next_course script s t (kind.NoPages b) = with_fail b deny.NoPages (course s t)
-next_course script s t (kind.Arm engine n) = has_made (course s t)
-next_course script s t (kind.Bulk group) = has_made (course s t)
-next_course script s t (kind.Result shown) = on_to_next (course s t)
-next_course script s t (kind.Refused d) = on_to_next (course s t)
-next_course script s t _ = course s t
-
-pub own_course : (script : Script) (s : State) (t : ℕ) (k : Kind) → IsSome (course_of s t) → course (applied script s (actor.Thread t) k) t ≡ next_course script s t k
-own_course script s t (kind.Ticket stamp) here = course_set s.courses t _ here
-own_course script s t (kind.Reserve b) here = course_set s.courses t _ here
-own_course script s t (kind.Backoff b stamp) here = course_set s.courses t _ here
-own_course script s t (kind.New b) here = course_set s.courses t _ here
-own_course script s t (kind.Free b g) here = course_set s.courses t _ here
-own_course script s t (kind.Take b mem spans) here = course_set s.courses t _ here
-own_course script s t (kind.Untake b mem) here = refl
-own_course script s t (kind.Populate b page frame) here = refl
-own_course script s t (kind.SwapIn b page slot frame) here = refl
-own_course script s t (kind.Depopulate b) here = refl
-own_course script s t (kind.Bind b) here = refl
-own_course script s t (kind.Unbind b) here = refl
-own_course script s t (kind.Move b mem n l) here = refl
-own_course script s t (kind.Catch b w) here = course_set s.courses t _ here
-own_course script s t (kind.Loose b) here = course_set s.courses t _ here
-own_course script s t (kind.Skip b) here = course_set s.courses t _ here
-own_course script s t (kind.Dry b k w) here = course_set s.courses t _ here
-own_course script s t (kind.SwapOut b page slot) here = refl
-own_course script s t (kind.NoPages b) here = course_set s.courses t _ here
-own_course script s t (kind.Arm engine n) here = course_set s.courses t _ here
-own_course script s t (kind.Packet n k piece) here = refl
-own_course script s t (kind.Done n) here = refl
-own_course script s t (kind.Reap g) here = refl
-own_course script s t (kind.Bulk group) here = course_set s.courses t _ here
-own_course script s t (kind.Result r) here = course_set s.courses t _ here
-own_course script s t (kind.Refused d) here = course_set s.courses t _ here
+use Rattle.law_sound.proofs.Bufs.{victims_of, let_go, has_pushed, has_without, names_let_go, names_failed, names_pushed, none_caught, missing_is_named, clash}
 
 -- ---- each change of a course
 
@@ -90,15 +36,7 @@ none_is (Some st) h = cc
 pub locking_command : (c : Course) (cmd : Command) → starts c cmd ≡ true → locks cmd ≡ true → c.stamp ≡ None
 locking_command c (command.New b) h l = cc
 locking_command c (command.Touch group) h l = cc
-locking_command c (command.Free b) h l = none_is c.stamp h
-locking_command c (command.Pin b) h l = none_is c.stamp h
-locking_command c (command.Unpin b) h l = none_is c.stamp h
-locking_command c (command.Find b) h l = none_is c.stamp h
-locking_command c (command.SwapOut b) h l = none_is c.stamp h
-locking_command c (command.Write b off bytes) h l = none_is c.stamp h
-locking_command c (command.Read b off len) h l = none_is c.stamp h
-locking_command c (command.Move b mem) h l = none_is c.stamp h
-locking_command c (command.Submit engine ops) h l = none_is c.stamp h
+locking_command c cmd h l = none_is c.stamp h
 
 -- who works wants nothing
 pub works_wants : (c : Course) (cmd : Command) → Works c cmd → wants c cmd ≡ None

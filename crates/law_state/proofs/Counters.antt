@@ -45,102 +45,24 @@ is_counted s _ = true
 
 act_counted : (script : Script) (s : State) (cmd : Command) (k : Kind) → step_of_act script s cmd ≡ Ok k → is_counted s k ≡ true
 act_counted script s (command.New b) k h = grind (arith, common_steps, nat_tests)
-act_counted script s (command.Free b) k h = grind (arith, common_steps, nat_tests)
-act_counted script s (command.Pin b) k h = grind (arith, common_steps, nat_tests)
-act_counted script s (command.Unpin b) k h = grind (arith, common_steps, nat_tests)
-act_counted script s (command.Find b) k h = grind (arith, common_steps, nat_tests)
-act_counted script s (command.SwapOut b) k h = grind (arith, common_steps, nat_tests)
-act_counted script s (command.Write b off bytes) k h = grind (arith, common_steps, nat_tests)
-act_counted script s (command.Read b off len) k h = grind (arith, common_steps, nat_tests)
-act_counted script s (command.Move b mem) k h = grind (arith, common_steps, nat_tests)
-act_counted script s (command.Touch group) k h = grind (arith, common_steps, nat_tests)
-act_counted script s (command.Submit engine ops) k h = grind (arith, common_steps, nat_tests)
+act_counted script s cmd k h = grind (arith, common_steps, nat_tests)
 
 start_counted : (s : State) (cmd : Command) (k : Kind) → step_of_start s cmd ≡ Ok k → is_counted s k ≡ true
 start_counted s (command.New b) k h = grind (arith, common_steps, nat_tests)
-start_counted s (command.Free b) k h = grind (arith, common_steps, nat_tests)
-start_counted s (command.Pin b) k h = grind (arith, common_steps, nat_tests)
-start_counted s (command.Unpin b) k h = grind (arith, common_steps, nat_tests)
-start_counted s (command.Find b) k h = grind (arith, common_steps, nat_tests)
-start_counted s (command.SwapOut b) k h = grind (arith, common_steps, nat_tests)
-start_counted s (command.Write b off bytes) k h = grind (arith, common_steps, nat_tests)
-start_counted s (command.Read b off len) k h = grind (arith, common_steps, nat_tests)
-start_counted s (command.Move b mem) k h = grind (arith, common_steps, nat_tests)
-start_counted s (command.Touch group) k h = grind (arith, common_steps, nat_tests)
-start_counted s (command.Submit engine ops) k h = grind (arith, common_steps, nat_tests)
+start_counted s cmd k h = grind (arith, common_steps, nat_tests)
 
 task_counted : (script : Script) (s : State) (c : Course) (cmd : Command) (t : Task) (k : Kind) → step_of_task script s c cmd t ≡ Ok k → is_counted s k ≡ true
-task_counted script s c cmd task.Idle k h = grind (arith, common_steps, nat_tests)
-task_counted script s c cmd task.Answer k h = grind (arith, common_steps, nat_tests)
 task_counted script s c cmd task.Start k h = start_counted s cmd k h
-task_counted script s c cmd (task.Lock x) k h = grind (arith, common_steps, nat_tests)
-task_counted script s c cmd (task.Search x aim) k h = grind (arith, common_steps, nat_tests)
-task_counted script s c cmd (task.Bind x) k h = grind (arith, common_steps, nat_tests)
-task_counted script s c cmd (task.Unbind x) k h = grind (arith, common_steps, nat_tests)
-task_counted script s c cmd (task.Move x mem) k h = grind (arith, common_steps, nat_tests)
-task_counted script s c cmd (task.Fill x) k h = grind (arith, common_steps, nat_tests)
-task_counted script s c cmd (task.Empty x) k h = grind (arith, common_steps, nat_tests)
-task_counted script s c cmd (task.GiveBack x) k h = grind (arith, common_steps, nat_tests)
-task_counted script s c cmd (task.Skip x) k h = grind (arith, common_steps, nat_tests)
-task_counted script s c cmd (task.GiveUp d) k h = grind (arith, common_steps, nat_tests)
-task_counted script s c cmd (task.Refuse d) k h = grind (arith, common_steps, nat_tests)
 task_counted script s c cmd task.Act k h = act_counted script s cmd k h
+task_counted script s c cmd t k h = grind (arith, common_steps, nat_tests)
 
 engine_counted : (s : State) (k : Kind) → is_of_engine k ≡ true → is_counted s k ≡ true
-engine_counted s (kind.Ticket stamp) q = cc
-engine_counted s (kind.Reserve b) q = cc
-engine_counted s (kind.Backoff b stamp) q = cc
-engine_counted s (kind.New b) q = cc
-engine_counted s (kind.Free b g) q = cc
-engine_counted s (kind.Take b mem spans) q = cc
-engine_counted s (kind.Untake b mem) q = cc
-engine_counted s (kind.Populate b page f) q = cc
-engine_counted s (kind.SwapIn b page slot f) q = cc
-engine_counted s (kind.Depopulate b) q = cc
-engine_counted s (kind.Bind b) q = cc
-engine_counted s (kind.Unbind b) q = cc
-engine_counted s (kind.Move b mem n l) q = cc
-engine_counted s (kind.Catch b w) q = cc
-engine_counted s (kind.Loose b) q = cc
-engine_counted s (kind.Skip b) q = cc
-engine_counted s (kind.Dry b k w) q = cc
-engine_counted s (kind.SwapOut b page slot) q = cc
-engine_counted s (kind.NoPages b) q = cc
-engine_counted s (kind.Arm engine n) q = cc
-engine_counted s (kind.Packet n k piece) q = refl
-engine_counted s (kind.Done n) q = refl
-engine_counted s (kind.Reap g) q = cc
-engine_counted s (kind.Bulk group) q = cc
-engine_counted s (kind.Result shown) q = cc
-engine_counted s (kind.Refused d) q = cc
+engine_counted s (kind.Packet n k piece) q = cc
+engine_counted s k q = cc
 
 reaper_counted : (s : State) (k : Kind) → is_of_reaper k ≡ true → is_counted s k ≡ true
-reaper_counted s (kind.Ticket stamp) q = cc
-reaper_counted s (kind.Reserve b) q = cc
-reaper_counted s (kind.Backoff b stamp) q = cc
-reaper_counted s (kind.New b) q = cc
-reaper_counted s (kind.Free b g) q = cc
-reaper_counted s (kind.Take b mem spans) q = cc
-reaper_counted s (kind.Untake b mem) q = cc
-reaper_counted s (kind.Populate b page f) q = cc
-reaper_counted s (kind.SwapIn b page slot f) q = cc
-reaper_counted s (kind.Depopulate b) q = cc
-reaper_counted s (kind.Bind b) q = cc
-reaper_counted s (kind.Unbind b) q = cc
-reaper_counted s (kind.Move b mem n l) q = cc
-reaper_counted s (kind.Catch b w) q = cc
-reaper_counted s (kind.Loose b) q = cc
-reaper_counted s (kind.Skip b) q = cc
-reaper_counted s (kind.Dry b k w) q = cc
-reaper_counted s (kind.SwapOut b page slot) q = cc
-reaper_counted s (kind.NoPages b) q = cc
-reaper_counted s (kind.Arm engine n) q = cc
-reaper_counted s (kind.Packet n k piece) q = cc
-reaper_counted s (kind.Done n) q = cc
-reaper_counted s (kind.Reap g) q = refl
-reaper_counted s (kind.Bulk group) q = cc
-reaper_counted s (kind.Result shown) q = cc
-reaper_counted s (kind.Refused d) q = cc
+reaper_counted s (kind.Reap g) q = cc
+reaper_counted s k q = cc
 
 pub next_counted : (script : Script) (s : State) (who : Actor) (k : Kind) → next script s who ≡ Ok k → is_counted s k ≡ true
 next_counted script s (actor.Thread t) k h = let st = thread_step script s t k h in task_counted script s (course s t) st.cmd st.task k st.step
@@ -183,31 +105,10 @@ left_ghost n s (left.Ghost g) b h = let l = b.ghosts in let e : g ≡ next_ghost
 
 below_keeps : (script : Script) (n : ℕ) (s : State) (who : Actor) (k : Kind) → Below n s → is_counted s k ≡ true → Below (n + 1) (applied script s who k)
 below_keeps script n s who (kind.Ticket stamp) b q = record { stamps = (let e : stamp.0 ≡ s.last_stamp + 1 = is_number stamp.0 (s.last_stamp + 1) q in let l = b.stamps in omega (arith, e, l)); ghosts = (more n s b).ghosts; jobs = (more n s b).jobs }
-below_keeps script n s who (kind.Reserve b) x q = let y = more n s x in record { stamps = y.stamps; ghosts = y.ghosts; jobs = y.jobs }
-below_keeps script n s who (kind.Backoff b stamp) x q = let y = more n s x in record { stamps = y.stamps; ghosts = y.ghosts; jobs = y.jobs }
-below_keeps script n s who (kind.New b) x q = let y = more n s x in record { stamps = y.stamps; ghosts = y.ghosts; jobs = y.jobs }
 below_keeps script n s who (kind.Free b g) x q = record { stamps = (more n s x).stamps; ghosts = free_ghost n s g x q; jobs = (more n s x).jobs }
-below_keeps script n s who (kind.Take b mem spans) x q = let y = more n s x in record { stamps = y.stamps; ghosts = y.ghosts; jobs = y.jobs }
-below_keeps script n s who (kind.Untake b mem) x q = let y = more n s x in record { stamps = y.stamps; ghosts = y.ghosts; jobs = y.jobs }
-below_keeps script n s who (kind.Populate b page f) x q = let y = more n s x in record { stamps = y.stamps; ghosts = y.ghosts; jobs = y.jobs }
-below_keeps script n s who (kind.SwapIn b page slot f) x q = let y = more n s x in record { stamps = y.stamps; ghosts = y.ghosts; jobs = y.jobs }
-below_keeps script n s who (kind.Depopulate b) x q = let y = more n s x in record { stamps = y.stamps; ghosts = y.ghosts; jobs = y.jobs }
-below_keeps script n s who (kind.Bind b) x q = let y = more n s x in record { stamps = y.stamps; ghosts = y.ghosts; jobs = y.jobs }
-below_keeps script n s who (kind.Unbind b) x q = let y = more n s x in record { stamps = y.stamps; ghosts = y.ghosts; jobs = y.jobs }
 below_keeps script n s who (kind.Move b mem m l) x q = let p = both (m == next_job s 0) (is_left s l) q in record { stamps = (more n s x).stamps; ghosts = left_ghost n s l x p.1; jobs = arm_below n s 0 m x (is_number m (next_job s 0) p.0) }
-below_keeps script n s who (kind.Catch b w) x q = let y = more n s x in record { stamps = y.stamps; ghosts = y.ghosts; jobs = y.jobs }
-below_keeps script n s who (kind.Loose b) x q = let y = more n s x in record { stamps = y.stamps; ghosts = y.ghosts; jobs = y.jobs }
-below_keeps script n s who (kind.Skip b) x q = let y = more n s x in record { stamps = y.stamps; ghosts = y.ghosts; jobs = y.jobs }
-below_keeps script n s who (kind.Dry b k w) x q = let y = more n s x in record { stamps = y.stamps; ghosts = y.ghosts; jobs = y.jobs }
-below_keeps script n s who (kind.SwapOut b page slot) x q = let y = more n s x in record { stamps = y.stamps; ghosts = y.ghosts; jobs = y.jobs }
-below_keeps script n s who (kind.NoPages b) x q = let y = more n s x in record { stamps = y.stamps; ghosts = y.ghosts; jobs = y.jobs }
 below_keeps script n s who (kind.Arm engine m) x q = record { stamps = (more n s x).stamps; ghosts = (more n s x).ghosts; jobs = arm_below n s engine m x (is_number m (next_job s engine) q) }
-below_keeps script n s who (kind.Packet m k piece) x q = let y = more n s x in record { stamps = y.stamps; ghosts = y.ghosts; jobs = y.jobs }
-below_keeps script n s who (kind.Done m) x q = let y = more n s x in record { stamps = y.stamps; ghosts = y.ghosts; jobs = y.jobs }
-below_keeps script n s who (kind.Reap g) x q = let y = more n s x in record { stamps = y.stamps; ghosts = y.ghosts; jobs = y.jobs }
-below_keeps script n s who (kind.Bulk group) x q = let y = more n s x in record { stamps = y.stamps; ghosts = y.ghosts; jobs = y.jobs }
-below_keeps script n s who (kind.Result shown) x q = let y = more n s x in record { stamps = y.stamps; ghosts = y.ghosts; jobs = y.jobs }
-below_keeps script n s who (kind.Refused d) x q = let y = more n s x in record { stamps = y.stamps; ghosts = y.ghosts; jobs = y.jobs }
+below_keeps script n s who k x q = let y = more n s x in record { stamps = y.stamps; ghosts = y.ghosts; jobs = y.jobs }
 
 below_along : (script : Script) (n : ℕ) (w : World) (es : List Entry) → Below n w.state → IsLegalFrom script w es → Below (n + length es) (world_along script w es).state
 below_along script n w [] b h = let e : n ≡ n + 0 = omega arith in subst (λ m. Below m w.state) e b

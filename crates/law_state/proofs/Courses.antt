@@ -1,24 +1,24 @@
 -- What a thread's entry tells of its course: only commands that make something are made, a result is of a made command or one that
 -- nothing forbids, and only a place that there is goes dry.
 use Rattle.std.proofs.Common.{◌≡◌, ℕ, ◌<◌, Bool, true, false, List, Option, Some, None, Ok, refl, ap, arith}
-use Rattle.std.specs.Prelude.{nat_lt, length, is_none, slice_get, unwrap_or}
+use Rattle.std.specs.Prelude.{nat_lt, length, not, is_none, slice_get, unwrap_or}
 use Rattle.std.proofs.lemmas.Grind.{common_steps}
 use Rattle.std.proofs.lemmas.Bool.Decides.{nat_tests}
 use Rattle.ttm_base.specs.ListWords.{last_of}
 use Rattle.ttm_base.specs.declared.Mem.{Mem}
-use Rattle.ttm_base.specs.declared.Mem.TheVariants.{System, Tt, Vram}
+use Rattle.ttm_base.specs.declared.Mem.TheVariants.{System}
 use Rattle.ttm_base.specs.declared.BufId.{BufId}
 use Rattle.ttm_base.specs.declared.Deny.{Deny}
 use Rattle.ttm_base.specs.declared.Place.{Place}
 use Rattle.ttm_base.specs.declared.Span.{Span}
 use Rattle.ttm_base.specs.Placement.{first_places, forced_places}
+use Rattle.ttm_base.specs.Reach.{same_mem}
 use Rattle.journal_model.specs.declared.script.Script.{Script}
 use Rattle.journal_model.specs.declared.script.Command.{Command}
 use Rattle.journal_model.specs.declared.script.Command.TheVariants as command
 use Rattle.journal_model.specs.declared.state.State.{State}
 use Rattle.journal_model.specs.declared.state.Course.{Course}
 use Rattle.journal_model.specs.declared.state.Victim.{Victim}
-use Rattle.journal_model.specs.declared.state.Buffer.{Buffer}
 use Rattle.journal_model.specs.declared.state.Grip.{Grip}
 use Rattle.journal_model.specs.declared.state.Task.{Task}
 use Rattle.journal_model.specs.declared.state.Task.TheVariants as task
@@ -36,29 +36,30 @@ use Rattle.law_state.proofs.Lists.{get_within}
 
 -- ---- tasks
 
--- an answer is of a made command, and acting is of one that nothing forbids
+-- an answer is of a made command, acting is of one that nothing forbids, what is moved by a job doesn't stand in SYSTEM, and what is bound does
 abbrev pub may : State → Course → Command → Task → Bool
 may s c cmd task.Answer = c.made
 may s c cmd task.Act = is_none (forbidden s cmd)
+may s c cmd (task.Move b mem) = not (same_mem (buffer s b).mem System)
+may s c cmd (task.Bind b) = same_mem (buffer s b).mem System
 may s c cmd _ = true
 
-victim_may : (s : State) (c : Course) (cmd : Command) (v : Victim) (x : Buffer) → may s c cmd (task_of_victim v x) ≡ true
-victim_may s c cmd v x = grind (arith, common_steps)
+victim_may : (s : State) (c : Course) (cmd : Command) (v : Victim) → may s c cmd (task_of_victim v (buffer s v.b)) ≡ true
+victim_may s c cmd v = grind (arith, common_steps, nat_tests)
 
-carried_may : (s : State) (c : Course) (cmd : Command) (mem : Mem) (b : BufId) (x : Buffer) → may s c cmd (carried mem b x) ≡ true
-carried_may s c cmd System b x = grind (arith, common_steps)
-carried_may s c cmd Tt b x = grind (arith, common_steps)
-carried_may s c cmd Vram b x = grind (arith, common_steps)
+carried_may : (s : State) (c : Course) (cmd : Command) (mem : Mem) (b : BufId) → (buffer s b).mem ≡ mem → may s c cmd (carried mem b (buffer s b)) ≡ true
+carried_may s c cmd System b e = grind (arith, common_steps, nat_tests)
+carried_may s c cmd mem b e = grind (arith, common_steps, nat_tests)
 
-misplaced_may : (s : State) (c : Course) (cmd : Command) (b : BufId) (g : Grip) (x : Buffer) → may s c cmd (task_of_misplaced b g x) ≡ true
-misplaced_may s c cmd b g x = let on : may s c cmd (carried x.mem b x) ≡ true = carried_may s c cmd x.mem b x in grind (arith, common_steps)
+misplaced_may : (s : State) (c : Course) (cmd : Command) (b : BufId) (g : Grip) → may s c cmd (task_of_misplaced b g (buffer s b)) ≡ true
+misplaced_may s c cmd b g = let on : may s c cmd (carried (buffer s b).mem b (buffer s b)) ≡ true = carried_may s c cmd (buffer s b).mem b refl in grind (arith, common_steps)
 
 unready_may : (script : Script) (s : State) (c : Course) (cmd : Command) (b : BufId) → may s c cmd (task_of_unready script s cmd b) ≡ true
 unready_may script s c cmd b = by (is_in_place script cmd b (buffer s b))
   where
     by : (q : Bool) → may s c cmd (elim q [ true ↦ task.Fill b | false ↦ task_of_misplaced b (grip s b) (buffer s b) ]) ≡ true
     by true = refl
-    by false = misplaced_may s c cmd b (grip s b) (buffer s b)
+    by false = misplaced_may s c cmd b (grip s b)
 
 failed_may : (script : Script) (s : State) (c : Course) (cmd : Command) (d : Deny) → may s c cmd (task_of_failed script s cmd d) ≡ true
 failed_may script s c cmd d = by_buffer (first_unready script s cmd)
@@ -110,64 +111,34 @@ command_may script s c cmd = by c.made refl (starts c cmd) (first_missing c cmd)
     by true e began m v = e
     by false e true m v = refl
     by false e false (Some b) v = refl
-    by false e false None (Some w) = victim_may s c cmd w (buffer s w.b)
+    by false e false None (Some w) = victim_may s c cmd w
     by false e false None None = held_may script s c cmd
 
 -- ---- steps
 
 -- a result is of a made command or of one that acts; what makes a command made is of one that makes something
 abbrev pub is_shown_by : Command → Task → Kind → Bool
-is_shown_by cmd task.Answer (kind.Result r) = true
-is_shown_by cmd task.Act (kind.Result r) = true
-is_shown_by cmd t (kind.Result r) = false
 is_shown_by cmd t (kind.New b) = makes cmd
 is_shown_by cmd t (kind.Free b g) = makes cmd
 is_shown_by cmd t (kind.Bulk group) = makes cmd
 is_shown_by cmd t (kind.Arm engine n) = makes cmd
+is_shown_by cmd task.Answer (kind.Result r) = true
+is_shown_by cmd task.Act (kind.Result r) = true
+is_shown_by cmd t (kind.Result r) = false
 is_shown_by cmd t _ = true
 
 act_shows : (script : Script) (s : State) (cmd : Command) (k : Kind) → step_of_act script s cmd ≡ Ok k → is_shown_by cmd task.Act k ≡ true
 act_shows script s (command.New b) k h = grind (arith, common_steps)
-act_shows script s (command.Free b) k h = grind (arith, common_steps)
-act_shows script s (command.Pin b) k h = grind (arith, common_steps)
-act_shows script s (command.Unpin b) k h = grind (arith, common_steps)
-act_shows script s (command.Find b) k h = grind (arith, common_steps)
-act_shows script s (command.SwapOut b) k h = grind (arith, common_steps)
-act_shows script s (command.Write b off bytes) k h = grind (arith, common_steps)
-act_shows script s (command.Read b off len) k h = grind (arith, common_steps)
-act_shows script s (command.Move b mem) k h = grind (arith, common_steps)
-act_shows script s (command.Touch group) k h = grind (arith, common_steps)
-act_shows script s (command.Submit engine ops) k h = grind (arith, common_steps)
+act_shows script s cmd k h = grind (arith, common_steps)
 
 start_shows : (s : State) (cmd : Command) (k : Kind) → step_of_start s cmd ≡ Ok k → is_shown_by cmd task.Start k ≡ true
 start_shows s (command.New b) k h = grind (arith, common_steps)
-start_shows s (command.Free b) k h = grind (arith, common_steps)
-start_shows s (command.Pin b) k h = grind (arith, common_steps)
-start_shows s (command.Unpin b) k h = grind (arith, common_steps)
-start_shows s (command.Find b) k h = grind (arith, common_steps)
-start_shows s (command.SwapOut b) k h = grind (arith, common_steps)
-start_shows s (command.Write b off bytes) k h = grind (arith, common_steps)
-start_shows s (command.Read b off len) k h = grind (arith, common_steps)
-start_shows s (command.Move b mem) k h = grind (arith, common_steps)
-start_shows s (command.Touch group) k h = grind (arith, common_steps)
-start_shows s (command.Submit engine ops) k h = grind (arith, common_steps)
+start_shows s cmd k h = grind (arith, common_steps)
 
 pub shown_by_task : (script : Script) (s : State) (c : Course) (cmd : Command) (t : Task) (k : Kind) → step_of_task script s c cmd t ≡ Ok k → is_shown_by cmd t k ≡ true
-shown_by_task script s c cmd task.Idle k h = grind (arith, common_steps)
-shown_by_task script s c cmd task.Answer k h = grind (arith, common_steps)
 shown_by_task script s c cmd task.Start k h = start_shows s cmd k h
-shown_by_task script s c cmd (task.Lock x) k h = grind (arith, common_steps)
-shown_by_task script s c cmd (task.Search x aim) k h = grind (arith, common_steps)
-shown_by_task script s c cmd (task.Bind x) k h = grind (arith, common_steps)
-shown_by_task script s c cmd (task.Unbind x) k h = grind (arith, common_steps)
-shown_by_task script s c cmd (task.Move x mem) k h = grind (arith, common_steps)
-shown_by_task script s c cmd (task.Fill x) k h = grind (arith, common_steps)
-shown_by_task script s c cmd (task.Empty x) k h = grind (arith, common_steps)
-shown_by_task script s c cmd (task.GiveBack x) k h = grind (arith, common_steps)
-shown_by_task script s c cmd (task.Skip x) k h = grind (arith, common_steps)
-shown_by_task script s c cmd (task.GiveUp d) k h = grind (arith, common_steps)
-shown_by_task script s c cmd (task.Refuse d) k h = grind (arith, common_steps)
 shown_by_task script s c cmd task.Act k h = act_shows script s cmd k h
+shown_by_task script s c cmd t k h = grind (arith, common_steps)
 
 -- ---- dry places
 

@@ -21,6 +21,7 @@ use Rattle.journal_model.specs.declared.script.Command.TheVariants as command
 use Rattle.journal_model.specs.declared.state.State.{State}
 use Rattle.journal_model.specs.declared.state.Job.{Job}
 use Rattle.journal_model.specs.declared.state.Buffer.{Buffer}
+use Rattle.journal_model.specs.declared.state.Course.{Course}
 use Rattle.journal_model.specs.declared.state.Task.{Task}
 use Rattle.journal_model.specs.declared.state.Task.TheVariants as task
 use Rattle.journal_model.specs.declared.entry.Entry.{Entry}
@@ -47,28 +48,16 @@ use Rattle.law_state.proofs.Lists.{get_within}
 use Rattle.law_state.specs.GoodState.{HasPages, GoodJobs, GoodState}
 use Rattle.law_state.proofs.Tables.{tables_keep}
 use Rattle.law_state.proofs.JobNames.{no_jobs, one_job_more, jobs_changed, found_at}
-use Rattle.law_state.proofs.Moves.{ThreadStep, thread_step, is_arm_of, is_move_of, is_of_worker, is_made_by, made_by_task, command_stands, stands}
+use Rattle.law_state.proofs.Moves.{ThreadStep, thread_step, is_arm_of, is_move_of, is_of_worker, is_made_by, made_by_task}
+use Rattle.law_state.proofs.Courses.{may, command_may}
 use Rattle.law_state.proofs.JobsKeep.{few_packets, some_packets, op_has_bytes, all_at}
 use Rattle.law_state.proofs.Rules.{Rules, rules_of, at_work_rules, declared_pages}
 
 -- ---- an arm
 
 arm_made : (s : State) (cmd : Command) (t : Task) (engine n : ℕ) → is_made_by s cmd t (kind.Arm engine n) ≡ true → is_arm_of s cmd (kind.Arm engine n) ≡ true
-arm_made s cmd task.Idle engine n h = cc
-arm_made s cmd task.Answer engine n h = cc
-arm_made s cmd task.Start engine n h = cc
-arm_made s cmd (task.Lock x) engine n h = cc
-arm_made s cmd (task.Search x aim) engine n h = cc
-arm_made s cmd (task.Bind x) engine n h = cc
-arm_made s cmd (task.Unbind x) engine n h = cc
-arm_made s cmd (task.Move x mem) engine n h = cc
-arm_made s cmd (task.Fill x) engine n h = cc
-arm_made s cmd (task.Empty x) engine n h = cc
-arm_made s cmd (task.GiveBack x) engine n h = cc
-arm_made s cmd (task.Skip x) engine n h = cc
-arm_made s cmd (task.GiveUp d) engine n h = cc
-arm_made s cmd (task.Refuse d) engine n h = cc
 arm_made s cmd task.Act engine n h = h
+arm_made s cmd t engine n h = cc
 
 -- the command of an arm, and its number
 pub record IsArm (s : State) (cmd : Command) (engine n : ℕ) : Type 0 where
@@ -81,16 +70,7 @@ arm_is s (command.Submit e ops) engine n h =
     let same : engine ≡ e = grind (arith, nat_tests) in
     let num : n ≡ next_job s e = grind (arith, nat_tests) in
     record { ops = ops; command = ap (λ x. command.Submit x ops) (sym same); number = num ∙ ap (next_job s) (sym same) }
-arm_is s (command.New b) engine n h = cc
-arm_is s (command.Free b) engine n h = cc
-arm_is s (command.Pin b) engine n h = cc
-arm_is s (command.Unpin b) engine n h = cc
-arm_is s (command.Find b) engine n h = cc
-arm_is s (command.SwapOut b) engine n h = cc
-arm_is s (command.Write b off bytes) engine n h = cc
-arm_is s (command.Read b off len) engine n h = cc
-arm_is s (command.Move b mem) engine n h = cc
-arm_is s (command.Touch group) engine n h = cc
+arm_is s cmd engine n h = cc
 
 pub arm_of : (script : Script) (s : State) (t engine n : ℕ) → (st : ThreadStep script s t (kind.Arm engine n)) → IsArm s st.cmd engine n
 arm_of script s t engine n st = arm_is s st.cmd engine n (arm_made s st.cmd st.task engine n (made_by_task script s (course s t) st.cmd st.task (kind.Arm engine n) st.step))
@@ -126,8 +106,8 @@ pub record IsMove (s : State) (b : BufId) (n : ℕ) : Type 0 where
   pub elsewhere : same_mem (buffer s b).mem System ≡ false
   pub number : n ≡ next_job s 0
 
-move_is : (s : State) (b c : BufId) (mem m : Mem) (n : ℕ) (l : Left) → stands s (task.Move b mem) ≡ true → is_move_of s b (kind.Move c m n l) ≡ true → IsMove s c n
-move_is s b c mem m n l h g =
+move_is : (s : State) (b c : BufId) (m : Mem) (n : ℕ) (l : Left) → not (same_mem (buffer s b).mem System) ≡ true → is_move_of s b (kind.Move c m n l) ≡ true → IsMove s c n
+move_is s b c m n l h g =
     let same : b.0 ≡ c.0 = grind (arith, nat_tests) in
     let it : b ≡ c = ap (λ i. record { 0 = i }) same in
     let num : n ≡ next_job s 0 = grind (arith, nat_tests) in
@@ -138,27 +118,14 @@ move_is s b c mem m n l h g =
     flip true h = cc
     flip false h = refl
 
-move_made : (s : State) (cmd : Command) (t : Task) (b : BufId) (mem : Mem) (n : ℕ) (l : Left) → stands s t ≡ true → is_made_by s cmd t (kind.Move b mem n l) ≡ true → IsMove s b n
-move_made s cmd (task.Move x m) b mem n l h g = move_is s x b m mem n l h g
-move_made s cmd task.Idle b mem n l h g = cc
-move_made s cmd task.Answer b mem n l h g = cc
-move_made s cmd task.Start b mem n l h g = cc
-move_made s cmd (task.Lock x) b mem n l h g = cc
-move_made s cmd (task.Search x aim) b mem n l h g = cc
-move_made s cmd (task.Bind x) b mem n l h g = cc
-move_made s cmd (task.Unbind x) b mem n l h g = cc
-move_made s cmd (task.Fill x) b mem n l h g = cc
-move_made s cmd (task.Empty x) b mem n l h g = cc
-move_made s cmd (task.GiveBack x) b mem n l h g = cc
-move_made s cmd (task.Skip x) b mem n l h g = cc
-move_made s cmd (task.GiveUp d) b mem n l h g = cc
-move_made s cmd (task.Refuse d) b mem n l h g = cc
-move_made s cmd task.Act b mem n l h g = cc
+move_made : (s : State) (c : Course) (cmd : Command) (t : Task) (b : BufId) (mem : Mem) (n : ℕ) (l : Left) → may s c cmd t ≡ true → is_made_by s cmd t (kind.Move b mem n l) ≡ true → IsMove s b n
+move_made s c cmd (task.Move x m) b mem n l h g = move_is s x b mem n l h g
+move_made s c cmd t b mem n l h g = cc
 
 pub move_of : (script : Script) (s : State) (t : ℕ) (b : BufId) (mem : Mem) (n : ℕ) (l : Left) → ThreadStep script s t (kind.Move b mem n l) → IsMove s b n
 move_of script s t b mem n l st =
-    move_made s st.cmd st.task b mem n l
-    (subst (λ k. stands s k ≡ true) (sym st.is_task) (command_stands script s (course s t) st.cmd))
+    move_made s (course s t) st.cmd st.task b mem n l
+    (subst (λ k. may s (course s t) st.cmd k ≡ true) (sym st.is_task) (command_may script s (course s t) st.cmd))
     (made_by_task script s (course s t) st.cmd st.task (kind.Move b mem n l) st.step)
 
 -- a buffer that doesn't stand in SYSTEM is live
@@ -211,46 +178,9 @@ move_keeps script r s t b mem n l waits good st =
 
 -- no task makes an entry of an engine or of the reaper
 no_worker : (s : State) (cmd : Command) (t : Task) (k : Kind) → is_of_worker k ≡ true → is_made_by s cmd t k ≡ true → ⊥
-no_worker s cmd task.Idle k h made = grind arith
-no_worker s cmd task.Answer k h made = grind arith
-no_worker s cmd task.Start k h made = grind arith
-no_worker s cmd (task.Lock x) k h made = grind arith
-no_worker s cmd (task.Search x aim) k h made = grind arith
-no_worker s cmd (task.Bind x) k h made = grind arith
-no_worker s cmd (task.Unbind x) k h made = grind arith
 no_worker s cmd (task.Move x mem) (kind.Packet n p piece) h made = cc
-no_worker s cmd (task.Move x mem) (kind.Done n) h made = cc
-no_worker s cmd (task.Move x mem) (kind.Reap n) h made = cc
-no_worker s cmd (task.Move x mem) (kind.Ticket stamp) h made = cc
-no_worker s cmd (task.Move x mem) (kind.Reserve b) h made = cc
-no_worker s cmd (task.Move x mem) (kind.Backoff b stamp) h made = cc
-no_worker s cmd (task.Move x mem) (kind.New b) h made = cc
-no_worker s cmd (task.Move x mem) (kind.Free b g) h made = cc
-no_worker s cmd (task.Move x mem) (kind.Take b m spans) h made = cc
-no_worker s cmd (task.Move x mem) (kind.Untake b m) h made = cc
-no_worker s cmd (task.Move x mem) (kind.Populate b page f) h made = cc
-no_worker s cmd (task.Move x mem) (kind.SwapIn b page slot f) h made = cc
-no_worker s cmd (task.Move x mem) (kind.Depopulate b) h made = cc
-no_worker s cmd (task.Move x mem) (kind.Bind b) h made = cc
-no_worker s cmd (task.Move x mem) (kind.Unbind b) h made = cc
-no_worker s cmd (task.Move x mem) (kind.Move b m n l) h made = cc
-no_worker s cmd (task.Move x mem) (kind.Catch b w) h made = cc
-no_worker s cmd (task.Move x mem) (kind.Loose b) h made = cc
-no_worker s cmd (task.Move x mem) (kind.Skip b) h made = cc
-no_worker s cmd (task.Move x mem) (kind.Dry b k w) h made = cc
-no_worker s cmd (task.Move x mem) (kind.SwapOut b page slot) h made = cc
-no_worker s cmd (task.Move x mem) (kind.NoPages b) h made = cc
-no_worker s cmd (task.Move x mem) (kind.Arm engine n) h made = cc
-no_worker s cmd (task.Move x mem) (kind.Bulk group) h made = cc
-no_worker s cmd (task.Move x mem) (kind.Result shown) h made = cc
-no_worker s cmd (task.Move x mem) (kind.Refused d) h made = cc
-no_worker s cmd (task.Fill x) k h made = grind arith
-no_worker s cmd (task.Empty x) k h made = grind arith
-no_worker s cmd (task.GiveBack x) k h made = grind arith
-no_worker s cmd (task.Skip x) k h made = grind arith
-no_worker s cmd (task.GiveUp d) k h made = grind arith
-no_worker s cmd (task.Refuse d) k h made = grind arith
-no_worker s cmd task.Act k h made = grind arith
+no_worker s cmd (task.Move x mem) k h made = cc
+no_worker s cmd t k h made = grind arith
 
 -- ---- a packet, and the end of a job
 
@@ -317,90 +247,23 @@ done_keeps script s id good =
 
 thread_jobs : (script : Script) → Rules script → (s : State) (t : ℕ) (k : Kind) → GoodState script s → ThreadStep script s t k
     → GoodJobs script.sizes.engines (applied script s (actor.Thread t) k).last_jobs (applied script s (actor.Thread t) k).core.jobs
-thread_jobs script r s t (kind.Ticket stamp) good st = good.jobs
-thread_jobs script r s t (kind.Reserve b) good st = good.jobs
-thread_jobs script r s t (kind.Backoff b stamp) good st = good.jobs
-thread_jobs script r s t (kind.New b) good st = good.jobs
-thread_jobs script r s t (kind.Free b g) good st = good.jobs
-thread_jobs script r s t (kind.Take b mem spans) good st = good.jobs
-thread_jobs script r s t (kind.Untake b mem) good st = good.jobs
-thread_jobs script r s t (kind.Populate b page f) good st = good.jobs
-thread_jobs script r s t (kind.SwapIn b page slot f) good st = good.jobs
-thread_jobs script r s t (kind.Depopulate b) good st = good.jobs
-thread_jobs script r s t (kind.Bind b) good st = good.jobs
-thread_jobs script r s t (kind.Unbind b) good st = good.jobs
 thread_jobs script r s t (kind.Move b mem n l) good st = move_keeps script r s t b mem n l _ good st
-thread_jobs script r s t (kind.Catch b w) good st = good.jobs
-thread_jobs script r s t (kind.Loose b) good st = good.jobs
-thread_jobs script r s t (kind.Skip b) good st = good.jobs
-thread_jobs script r s t (kind.Dry b k w) good st = good.jobs
-thread_jobs script r s t (kind.SwapOut b page slot) good st = good.jobs
-thread_jobs script r s t (kind.NoPages b) good st = good.jobs
 thread_jobs script r s t (kind.Arm engine n) good st = arm_keeps script r s t engine n _ (λ b. packet_place (buffer_in s.core b)) good st
 thread_jobs script r s t (kind.Packet n k piece) good st = absurd (no_worker s st.cmd st.task (kind.Packet n k piece) refl (made_by_task script s (course s t) st.cmd st.task (kind.Packet n k piece) st.step))
 thread_jobs script r s t (kind.Done n) good st = absurd (no_worker s st.cmd st.task (kind.Done n) refl (made_by_task script s (course s t) st.cmd st.task (kind.Done n) st.step))
 thread_jobs script r s t (kind.Reap g) good st = absurd (no_worker s st.cmd st.task (kind.Reap g) refl (made_by_task script s (course s t) st.cmd st.task (kind.Reap g) st.step))
-thread_jobs script r s t (kind.Bulk group) good st = good.jobs
-thread_jobs script r s t (kind.Result shown) good st = good.jobs
-thread_jobs script r s t (kind.Refused d) good st = good.jobs
+thread_jobs script r s t k good st = good.jobs
 
 engine_jobs : (script : Script) (s : State) (e : ℕ) (k : Kind) → GoodState script s → next script s (actor.Engine e) ≡ Ok k → is_of_engine k ≡ true
     → GoodJobs script.sizes.engines (applied script s (actor.Engine e) k).last_jobs (applied script s (actor.Engine e) k).core.jobs
-engine_jobs script s e (kind.Ticket stamp) good h q = cc
-engine_jobs script s e (kind.Reserve b) good h q = cc
-engine_jobs script s e (kind.Backoff b stamp) good h q = cc
-engine_jobs script s e (kind.New b) good h q = cc
-engine_jobs script s e (kind.Free b g) good h q = cc
-engine_jobs script s e (kind.Take b mem spans) good h q = cc
-engine_jobs script s e (kind.Untake b mem) good h q = cc
-engine_jobs script s e (kind.Populate b page f) good h q = cc
-engine_jobs script s e (kind.SwapIn b page slot f) good h q = cc
-engine_jobs script s e (kind.Depopulate b) good h q = cc
-engine_jobs script s e (kind.Bind b) good h q = cc
-engine_jobs script s e (kind.Unbind b) good h q = cc
-engine_jobs script s e (kind.Move b mem n l) good h q = cc
-engine_jobs script s e (kind.Catch b w) good h q = cc
-engine_jobs script s e (kind.Loose b) good h q = cc
-engine_jobs script s e (kind.Skip b) good h q = cc
-engine_jobs script s e (kind.Dry b k w) good h q = cc
-engine_jobs script s e (kind.SwapOut b page slot) good h q = cc
-engine_jobs script s e (kind.NoPages b) good h q = cc
-engine_jobs script s e (kind.Arm engine n) good h q = cc
 engine_jobs script s e (kind.Packet n k piece) good h q = packet_keeps script s e n k piece good h
 engine_jobs script s e (kind.Done n) good h q = done_keeps script s (record { ctx = e; num = n }) good
-engine_jobs script s e (kind.Reap g) good h q = cc
-engine_jobs script s e (kind.Bulk group) good h q = cc
-engine_jobs script s e (kind.Result shown) good h q = cc
-engine_jobs script s e (kind.Refused d) good h q = cc
+engine_jobs script s e k good h q = cc
 
 reaper_jobs : (script : Script) (s : State) (k : Kind) → GoodState script s → is_of_reaper k ≡ true
     → GoodJobs script.sizes.engines (applied script s actor.Reaper k).last_jobs (applied script s actor.Reaper k).core.jobs
-reaper_jobs script s (kind.Ticket stamp) good q = cc
-reaper_jobs script s (kind.Reserve b) good q = cc
-reaper_jobs script s (kind.Backoff b stamp) good q = cc
-reaper_jobs script s (kind.New b) good q = cc
-reaper_jobs script s (kind.Free b g) good q = cc
-reaper_jobs script s (kind.Take b mem spans) good q = cc
-reaper_jobs script s (kind.Untake b mem) good q = cc
-reaper_jobs script s (kind.Populate b page f) good q = cc
-reaper_jobs script s (kind.SwapIn b page slot f) good q = cc
-reaper_jobs script s (kind.Depopulate b) good q = cc
-reaper_jobs script s (kind.Bind b) good q = cc
-reaper_jobs script s (kind.Unbind b) good q = cc
-reaper_jobs script s (kind.Move b mem n l) good q = cc
-reaper_jobs script s (kind.Catch b w) good q = cc
-reaper_jobs script s (kind.Loose b) good q = cc
-reaper_jobs script s (kind.Skip b) good q = cc
-reaper_jobs script s (kind.Dry b k w) good q = cc
-reaper_jobs script s (kind.SwapOut b page slot) good q = cc
-reaper_jobs script s (kind.NoPages b) good q = cc
-reaper_jobs script s (kind.Arm engine n) good q = cc
-reaper_jobs script s (kind.Packet n k piece) good q = cc
-reaper_jobs script s (kind.Done n) good q = cc
 reaper_jobs script s (kind.Reap g) good q = good.jobs
-reaper_jobs script s (kind.Bulk group) good q = cc
-reaper_jobs script s (kind.Result shown) good q = cc
-reaper_jobs script s (kind.Refused d) good q = cc
+reaper_jobs script s k good q = cc
 
 jobs_keep : (script : Script) → Rules script → (s : State) (who : Actor) (k : Kind) → GoodState script s → next script s who ≡ Ok k
     → GoodJobs script.sizes.engines (applied script s who k).last_jobs (applied script s who k).core.jobs

@@ -79,9 +79,6 @@ length-replicate (suc n) x = ap suc (length-replicate n x)
 
 -- each entry keeps them
 pub tables_keep : (script : Script) (s : State) (who : Actor) (k : Kind) → HaveTables script s.core.buffers → HaveTables script (applied script s who k).core.buffers
-tables_keep script s who (kind.Ticket stamp) h = h
-tables_keep script s who (kind.Reserve b) h = h
-tables_keep script s who (kind.Backoff b stamp) h = h
 tables_keep script s who (kind.New b) h = set_tables script s.core.buffers b (Some (new_buffer (decl script b).pages)) (length-replicate (decl script b).pages loc.Zero) h
 tables_keep script s who (kind.Free b g) h = set_tables script s.core.buffers b None tt h
 tables_keep script s who (kind.Take b mem spans) h =
@@ -95,16 +92,7 @@ tables_keep script s who (kind.Unbind b) h = changed_tables script unbound s.cor
 tables_keep script s who (kind.Move b mem n l) h =
     changed_tables script (moved mem (record { ctx = 0; num = n })) s.core.buffers b (λ x. length-left x.mem x.table) h
 tables_keep script s who (kind.Catch b w) h = changed_tables script _ s.core.buffers b (λ x. leaves_keeps x.mem x) h
-tables_keep script s who (kind.Loose b) h = h
-tables_keep script s who (kind.Skip b) h = h
-tables_keep script s who (kind.Dry b k w) h = h
 tables_keep script s who (kind.SwapOut b page slot) h = changed_tables script _ s.core.buffers b (λ x. length-set x.table page (loc.Slot slot)) h
-tables_keep script s who (kind.NoPages b) h = h
 tables_keep script s who (kind.Arm engine n) h =
     uses_keep script (record { ctx = engine; num = n }) (ops_of (command_at_work script s (thread_of who))) s.core.buffers (named_in (command_at_work script s (thread_of who))) h
-tables_keep script s who (kind.Packet n k piece) h = h
-tables_keep script s who (kind.Done n) h = h
-tables_keep script s who (kind.Reap g) h = h
-tables_keep script s who (kind.Bulk group) h = h
-tables_keep script s who (kind.Result r) h = h
-tables_keep script s who (kind.Refused d) h = h
+tables_keep script s who k h = h

@@ -4,12 +4,10 @@ use Rattle.std.specs.Prelude.{not, ◌&&◌, ◌||◌, ◌==◌, is_none, slice_
 use Rattle.std.proofs.lemmas.Grind.{common_steps}
 use Rattle.std.proofs.lemmas.Bool.{eq-eqb}
 use Rattle.std.proofs.lemmas.Bool.Decides.{nat_tests}
-use Rattle.ttm_base.specs.ListWords.{last_of}
 use Rattle.ttm_base.specs.declared.Mem.{Mem}
 use Rattle.ttm_base.specs.declared.Mem.TheVariants.{System, Tt, Vram}
 use Rattle.ttm_base.specs.declared.BufId.{BufId}
 use Rattle.ttm_base.specs.declared.JobId.{JobId}
-use Rattle.ttm_base.specs.declared.Deny.{Deny}
 use Rattle.ttm_base.specs.declared.Need.TheVariants as need
 use Rattle.ttm_base.specs.declared.Actor.{Actor}
 use Rattle.ttm_base.specs.declared.Actor.TheVariants as actor
@@ -23,8 +21,6 @@ use Rattle.journal_model.specs.declared.script.Command.TheVariants as command
 use Rattle.journal_model.specs.declared.state.State.{State}
 use Rattle.journal_model.specs.declared.state.Ghost.{Ghost}
 use Rattle.journal_model.specs.declared.state.Course.{Course}
-use Rattle.journal_model.specs.declared.state.Victim.{Victim}
-use Rattle.journal_model.specs.declared.state.Grip.{Grip}
 use Rattle.journal_model.specs.declared.state.Task.{Task}
 use Rattle.journal_model.specs.declared.state.Task.TheVariants as task
 use Rattle.journal_model.specs.declared.entry.Left.TheVariants as left
@@ -32,104 +28,24 @@ use Rattle.journal_model.specs.declared.entry.Kind.{Kind}
 use Rattle.journal_model.specs.declared.entry.Kind.TheVariants as kind
 use Rattle.journal_model.specs.declared.entry.Why.{Why}
 use Rattle.journal_model.specs.declared.entry.Why.TheVariants as why
-use Rattle.journal_model.specs.State.{buffer, grip, course}
+use Rattle.journal_model.specs.State.{buffer, course}
 use Rattle.journal_model.specs.Holds.{free_slot}
 use Rattle.journal_model.specs.Dry.{has_frame}
-use Rattle.journal_model.specs.Ready.{is_in_place, first_unready}
 use Rattle.journal_model.specs.Waits.{waited_for, jobs_before_write, is_idle}
-use Rattle.journal_model.specs.Tasks.{carried, task_of_misplaced, task_of_unready, task_of_failed, gives_back, forbidden, task_of_command, task_of_held, task_of_victim, first_missing, starts}
 use Rattle.journal_model.specs.Choice.{choice}
 use Rattle.journal_model.specs.Commands.{whole}
 use Rattle.journal_model.specs.Search.{Step, Quest, quest, is_caught, step_of_quest, step_of_forced, step_of_forced_place, step_of_crowded, first_choice}
 use Rattle.journal_model.specs.PageSteps.{unless_waiting, next_job, next_ghost, step_of_move, step_of_give_back, step_of_swap_out, step_of_empty, first_frame_page, why_caught, target_to_untake}
 use Rattle.journal_model.specs.Next.{next, step_of_task, step_of_act, step_of_start}
-use Rattle.law_state.proofs.Moves.{ThreadStep, thread_step, stands, command_stands}
+use Rattle.law_state.proofs.Moves.{ThreadStep, thread_step}
+use Rattle.law_state.proofs.Courses.{may, command_may}
 use Rattle.law_step.specs.Due.{is_over, is_due}
-
--- what is bound stands in SYSTEM
-abbrev pub binds : State → Task → Bool
-binds s (task.Bind b) = same_mem (buffer s b).mem System
-binds s _ = true
-
-victim_binds : (s : State) (v : Victim) → binds s (task_of_victim v (buffer s v.b)) ≡ true
-victim_binds s v = grind (arith, common_steps, nat_tests)
-
-carried_binds : (s : State) (mem : Mem) (b : BufId) → (buffer s b).mem ≡ mem → binds s (carried mem b (buffer s b)) ≡ true
-carried_binds s System b e = grind (arith, common_steps)
-carried_binds s Tt b e = grind (arith, common_steps, nat_tests)
-carried_binds s Vram b e = grind (arith, common_steps, nat_tests)
-
-misplaced_binds : (s : State) (b : BufId) (g : Grip) → binds s (task_of_misplaced b g (buffer s b)) ≡ true
-misplaced_binds s b g = let on : binds s (carried (buffer s b).mem b (buffer s b)) ≡ true = carried_binds s (buffer s b).mem b refl in grind (arith, common_steps)
-
-unready_binds : (script : Script) (s : State) (cmd : Command) (b : BufId) → binds s (task_of_unready script s cmd b) ≡ true
-unready_binds script s cmd b = by (is_in_place script cmd b (buffer s b))
-  where
-    by : (q : Bool) → binds s (elim q [ true ↦ task.Fill b | false ↦ task_of_misplaced b (grip s b) (buffer s b) ]) ≡ true
-    by true = refl
-    by false = misplaced_binds s b (grip s b)
-
-failed_binds : (script : Script) (s : State) (cmd : Command) (d : Deny) → binds s (task_of_failed script s cmd d) ≡ true
-failed_binds script s cmd d = by_buffer (first_unready script s cmd)
-  where
-    by_gift : (q : Bool) (b : BufId) → binds s (elim q [ true ↦ task.GiveBack b | false ↦ task.GiveUp d ]) ≡ true
-    by_gift true b = refl
-    by_gift false b = refl
-
-    by_buffer : (o : Option BufId) → binds s (elim o [ Some b ↦ elim (gives_back (buffer s b)) [ true ↦ task.GiveBack b | false ↦ task.GiveUp d ] | None ↦ task.GiveUp d ]) ≡ true
-    by_buffer None = refl
-    by_buffer (Some b) = by_gift (gives_back (buffer s b)) b
-
-held_binds : (script : Script) (s : State) (c : Course) (cmd : Command) → binds s (task_of_held script s c cmd) ≡ true
-held_binds script s c cmd = by_ban (forbidden s cmd) c.fail (first_unready script s cmd)
-  where
-    by_ban : (o : Option Deny) (f : Option Deny) (u : Option BufId) →
-        binds s (elim o [
-          | Some d ↦ task.Refuse d
-          | None ↦ elim f [
-            | Some d ↦ task_of_failed script s cmd d
-            | None ↦ elim u [ Some b ↦ task_of_unready script s cmd b | None ↦ task.Act ]
-          ]
-        ]) ≡ true
-    by_ban (Some d) f u = refl
-    by_ban None (Some d) u = failed_binds script s cmd d
-    by_ban None None (Some b) = unready_binds script s cmd b
-    by_ban None None None = refl
-
-pub command_binds : (script : Script) (s : State) (c : Course) (cmd : Command) → binds s (task_of_command script s c cmd) ≡ true
-command_binds script s c cmd = by_phase c.made (starts c cmd) (first_missing c cmd) (last_of c.caught)
-  where
-    by_phase : (made began : Bool) (m : Option BufId) (v : Option Victim) →
-        binds s (elim made [
-          | true ↦ task.Answer
-          | false ↦ elim began [
-            | true ↦ task.Start
-            | false ↦ elim m [
-              | Some b ↦ task.Lock b
-              | None ↦ elim v [ Some w ↦ task_of_victim w (buffer s w.b) | None ↦ task_of_held script s c cmd ]
-            ]
-          ]
-        ]) ≡ true
-    by_phase true began m v = refl
-    by_phase false true m v = refl
-    by_phase false false (Some b) v = refl
-    by_phase false false None (Some w) = victim_binds s w
-    by_phase false false None None = held_binds script s c cmd
 
 -- ---- each step
 
 start_due : (s : State) (cmd : Command) (k : Kind) → step_of_start s cmd ≡ Ok k → is_due s k ≡ true
 start_due s (command.New b) k h = grind (arith, common_steps, nat_tests)
-start_due s (command.Free b) k h = grind (arith, common_steps, nat_tests)
-start_due s (command.Pin b) k h = grind (arith, common_steps, nat_tests)
-start_due s (command.Unpin b) k h = grind (arith, common_steps, nat_tests)
-start_due s (command.Find b) k h = grind (arith, common_steps, nat_tests)
-start_due s (command.SwapOut b) k h = grind (arith, common_steps, nat_tests)
-start_due s (command.Write b off bytes) k h = grind (arith, common_steps, nat_tests)
-start_due s (command.Read b off len) k h = grind (arith, common_steps, nat_tests)
-start_due s (command.Move b mem) k h = grind (arith, common_steps, nat_tests)
-start_due s (command.Touch group) k h = grind (arith, common_steps, nat_tests)
-start_due s (command.Submit engine ops) k h = grind (arith, common_steps, nat_tests)
+start_due s cmd k h = grind (arith, common_steps, nat_tests)
 
 free_due : (s : State) (b : BufId) (k : Kind) → ◌≡◌ {A = Step} (Ok (kind.Free b (if is_idle s.core (buffer s b) then 0 else next_ghost s))) (Ok k) → is_due s k ≡ true
 free_due s b k h = let same : kind.Free b (if is_idle s.core (buffer s b) then 0 else next_ghost s) ≡ k = cc in subst (λ e. is_due s e ≡ true) same (by (is_idle s.core (buffer s b)) refl)
@@ -139,22 +55,13 @@ free_due s b k h = let same : kind.Free b (if is_idle s.core (buffer s b) then 0
     by false e = grind (arith, nat_tests)
 
 act_due : (script : Script) (s : State) (cmd : Command) (k : Kind) → step_of_act script s cmd ≡ Ok k → is_due s k ≡ true
-act_due script s (command.New b) k h = grind (arith, common_steps, nat_tests)
 act_due script s (command.Free b) k h = free_due s b k h
-act_due script s (command.Pin b) k h = grind (arith, common_steps, nat_tests)
-act_due script s (command.Unpin b) k h = grind (arith, common_steps, nat_tests)
-act_due script s (command.Find b) k h = grind (arith, common_steps, nat_tests)
-act_due script s (command.SwapOut b) k h = grind (arith, common_steps, nat_tests)
-act_due script s (command.Write b off bytes) k h = grind (arith, common_steps, nat_tests)
-act_due script s (command.Read b off len) k h = grind (arith, common_steps, nat_tests)
-act_due script s (command.Move b mem) k h = grind (arith, common_steps, nat_tests)
-act_due script s (command.Touch group) k h = grind (arith, common_steps, nat_tests)
-act_due script s (command.Submit engine ops) k h = grind (arith, common_steps, nat_tests)
+act_due script s cmd k h = grind (arith, common_steps, nat_tests)
 
-bind_due : (s : State) (b : BufId) (k : Kind) → binds s (task.Bind b) ≡ true → ◌≡◌ {A = Step} (Ok (kind.Bind b)) (Ok k) → is_due s k ≡ true
+bind_due : (s : State) (b : BufId) (k : Kind) → same_mem (buffer s b).mem System ≡ true → ◌≡◌ {A = Step} (Ok (kind.Bind b)) (Ok k) → is_due s k ≡ true
 bind_due s b k t h = let same : kind.Bind b ≡ k = cc in subst (λ e. is_due s e ≡ true) same t
 
-move_due : (s : State) (c : Course) (b : BufId) (mem : Mem) (k : Kind) → stands s (task.Move b mem) ≡ true → step_of_move s c b mem ≡ Ok k → is_due s k ≡ true
+move_due : (s : State) (c : Course) (b : BufId) (mem : Mem) (k : Kind) → not (same_mem (buffer s b).mem System) ≡ true → step_of_move s c b mem ≡ Ok k → is_due s k ≡ true
 move_due s c b mem k t h =
     let same : kind.Move b mem (next_job s 0) (if is_caught c b then left.Now else left.Ghost (next_ghost s)) ≡ k = cc in subst (λ e. is_due s e ≡ true) same t
 
@@ -242,28 +149,21 @@ empty_due script s c b k h = by (why_caught c b) h
     by (Some w) g = by_why w g
     by None g = loose_due s b k g
 
-task_due : (script : Script) (s : State) (c : Course) (cmd : Command) (t : Task) (k : Kind) → binds s t ≡ true → stands s t ≡ true → step_of_task script s c cmd t ≡ Ok k → is_due s k ≡ true
-task_due script s c cmd task.Idle k b m h = cc
-task_due script s c cmd task.Answer k b m h = grind (arith, common_steps, nat_tests)
-task_due script s c cmd task.Start k b m h = start_due s cmd k h
-task_due script s c cmd (task.Lock x) k b m h = grind (arith, common_steps, nat_tests)
-task_due script s c cmd (task.Search x aim) k b m h = quest_due script s c x (quest script cmd c x aim) k h
-task_due script s c cmd (task.Bind x) k b m h = bind_due s x k b h
-task_due script s c cmd (task.Unbind x) k b m h = grind (arith, common_steps, nat_tests)
-task_due script s c cmd (task.Move x mem) k b m h = move_due s c x mem k m h
-task_due script s c cmd (task.Fill x) k b m h = grind (arith, common_steps, nat_tests)
-task_due script s c cmd (task.Empty x) k b m h = empty_due script s c x k h
-task_due script s c cmd (task.GiveBack x) k b m h = give_back_due s x k h
-task_due script s c cmd (task.Skip x) k b m h = grind (arith, common_steps, nat_tests)
-task_due script s c cmd (task.GiveUp d) k b m h = grind (arith, common_steps, nat_tests)
-task_due script s c cmd (task.Refuse d) k b m h = grind (arith, common_steps, nat_tests)
-task_due script s c cmd task.Act k b m h = act_due script s cmd k h
+task_due : (script : Script) (s : State) (c : Course) (cmd : Command) (t : Task) (k : Kind) → may s c cmd t ≡ true → step_of_task script s c cmd t ≡ Ok k → is_due s k ≡ true
+task_due script s c cmd task.Idle k m h = cc
+task_due script s c cmd task.Start k m h = start_due s cmd k h
+task_due script s c cmd (task.Search x aim) k m h = quest_due script s c x (quest script cmd c x aim) k h
+task_due script s c cmd (task.Bind x) k m h = bind_due s x k m h
+task_due script s c cmd (task.Move x mem) k m h = move_due s c x mem k m h
+task_due script s c cmd (task.Empty x) k m h = empty_due script s c x k h
+task_due script s c cmd (task.GiveBack x) k m h = give_back_due s x k h
+task_due script s c cmd task.Act k m h = act_due script s cmd k h
+task_due script s c cmd t k m h = grind (arith, common_steps, nat_tests)
 
 thread_due : (script : Script) (s : State) (t : ℕ) (k : Kind) → ThreadStep script s t k → is_due s k ≡ true
 thread_due script s t k st =
     task_due script s (course s t) st.cmd st.task k
-    (ap (binds s) st.is_task ∙ command_binds script s (course s t) st.cmd)
-    (ap (stands s) st.is_task ∙ command_stands script s (course s t) st.cmd)
+    (ap (may s (course s t) st.cmd) st.is_task ∙ command_may script s (course s t) st.cmd)
     st.step
 
 engine_due : (script : Script) (s : State) (e : ℕ) (k : Kind) → next script s (actor.Engine e) ≡ Ok k → is_due s k ≡ true

@@ -1,5 +1,5 @@
 -- What is carried along holds in every state that a legal journal leads to: its good view, and what a thread's next entry tells.
-use Rattle.std.proofs.Common.{◌≡◌, ℕ, ◌+◌, zero, suc, List, [], ◌∷◌, ◌++◌, length, length-append, Ok, IsTrue, refl, sym, subst, ◌∙◌, ap, arith}
+use Rattle.std.proofs.Common.{◌≡◌, ℕ, ◌+◌, suc, List, [], ◌∷◌, ◌++◌, length, length-append, Ok, IsTrue, sym, subst, arith}
 use Rattle.std.specs.Prelude.{fold}
 use Rattle.ttm_base.specs.declared.Actor.{Actor}
 use Rattle.ttm_base.specs.declared.Actor.TheVariants as actor

@@ -39,59 +39,11 @@ legal_push script w (x ∷ xs) e l n = (l.0, legal_push script (world_after scri
 -- what an entry shows changes nothing
 shown_stores : (script : Script) (s : State) (bytes : Stores) (who : Actor) (k : Kind) → stores_after script s who (showing script bytes s who k) bytes ≡ stores_after script s who k bytes
 shown_stores script s bytes who (kind.Ticket stamp) = refl
-shown_stores script s bytes who (kind.Reserve b) = refl
-shown_stores script s bytes who (kind.Backoff b stamp) = refl
-shown_stores script s bytes who (kind.Loose b) = refl
-shown_stores script s bytes who (kind.Skip b) = refl
-shown_stores script s bytes who (kind.Dry b k w) = refl
-shown_stores script s bytes who (kind.NoPages b) = refl
-shown_stores script s bytes who (kind.Bulk group) = refl
-shown_stores script s bytes who (kind.Refused d) = refl
-shown_stores script s bytes who (kind.New b) = refl
-shown_stores script s bytes who (kind.Free b g) = refl
-shown_stores script s bytes who (kind.Take b mem spans) = refl
-shown_stores script s bytes who (kind.Untake b mem) = refl
-shown_stores script s bytes who (kind.Populate b page f) = refl
-shown_stores script s bytes who (kind.SwapIn b page slot f) = refl
-shown_stores script s bytes who (kind.Depopulate b) = refl
-shown_stores script s bytes who (kind.Bind b) = refl
-shown_stores script s bytes who (kind.Unbind b) = refl
-shown_stores script s bytes who (kind.Move b mem n l) = refl
-shown_stores script s bytes who (kind.Catch b w) = refl
-shown_stores script s bytes who (kind.SwapOut b page slot) = refl
-shown_stores script s bytes who (kind.Arm engine n) = refl
-shown_stores script s bytes who (kind.Packet n k piece) = refl
-shown_stores script s bytes who (kind.Done n) = refl
-shown_stores script s bytes who (kind.Reap g) = refl
-shown_stores script s bytes who (kind.Result r) = refl
+shown_stores script s bytes who k = refl
 
 shown_plain : (script : Script) (s : State) (bytes : Stores) (who : Actor) (p : Plain) (t : ℕ) (k : Kind) → plain_after_kind script p t (showing script bytes s who k) ≡ plain_after_kind script p t k
 shown_plain script s bytes who p t (kind.Ticket stamp) = refl
-shown_plain script s bytes who p t (kind.Reserve b) = refl
-shown_plain script s bytes who p t (kind.Backoff b stamp) = refl
-shown_plain script s bytes who p t (kind.Loose b) = refl
-shown_plain script s bytes who p t (kind.Skip b) = refl
-shown_plain script s bytes who p t (kind.Dry b k w) = refl
-shown_plain script s bytes who p t (kind.NoPages b) = refl
-shown_plain script s bytes who p t (kind.Bulk group) = refl
-shown_plain script s bytes who p t (kind.Refused d) = refl
-shown_plain script s bytes who p t (kind.New b) = refl
-shown_plain script s bytes who p t (kind.Free b g) = refl
-shown_plain script s bytes who p t (kind.Take b mem spans) = refl
-shown_plain script s bytes who p t (kind.Untake b mem) = refl
-shown_plain script s bytes who p t (kind.Populate b page f) = refl
-shown_plain script s bytes who p t (kind.SwapIn b page slot f) = refl
-shown_plain script s bytes who p t (kind.Depopulate b) = refl
-shown_plain script s bytes who p t (kind.Bind b) = refl
-shown_plain script s bytes who p t (kind.Unbind b) = refl
-shown_plain script s bytes who p t (kind.Move b mem n l) = refl
-shown_plain script s bytes who p t (kind.Catch b w) = refl
-shown_plain script s bytes who p t (kind.SwapOut b page slot) = refl
-shown_plain script s bytes who p t (kind.Arm engine n) = refl
-shown_plain script s bytes who p t (kind.Packet n k piece) = refl
-shown_plain script s bytes who p t (kind.Done n) = refl
-shown_plain script s bytes who p t (kind.Reap g) = refl
-shown_plain script s bytes who p t (kind.Result r) = refl
+shown_plain script s bytes who p t k = refl
 
 -- ---- along a journal
 

@@ -86,107 +86,27 @@ module _ (script : Script) (s : State) (bytes : Stores) (p : Plain) where
   still_viewed t (kind.NoPages b) e u = viewed_within script s.core p.dues p.memory bytes u
   still_viewed t (kind.Bulk group) e u = viewed_within script s.core p.dues p.memory bytes u
   still_viewed t (kind.Refused d) e u = viewed_within script s.core p.dues p.memory bytes u
-  still_viewed t (kind.New b) e u = cc
-  still_viewed t (kind.Free b g) e u = cc
-  still_viewed t (kind.Take b mem spans) e u = cc
-  still_viewed t (kind.Untake b mem) e u = cc
-  still_viewed t (kind.Populate b page f) e u = cc
-  still_viewed t (kind.SwapIn b page slot f) e u = cc
-  still_viewed t (kind.Depopulate b) e u = cc
-  still_viewed t (kind.Bind b) e u = cc
-  still_viewed t (kind.Unbind b) e u = cc
-  still_viewed t (kind.Move b mem n l) e u = cc
-  still_viewed t (kind.Catch b w) e u = cc
-  still_viewed t (kind.SwapOut b page slot) e u = cc
-  still_viewed t (kind.Arm engine n) e u = cc
-  still_viewed t (kind.Packet n k piece) e u = cc
-  still_viewed t (kind.Done n) e u = cc
-  still_viewed t (kind.Reap g) e u = cc
-  still_viewed t (kind.Result r) e u = cc
+  still_viewed t k e u = cc
 
   still_plain : (who : Actor) (k : Kind) → is_still k ≡ true → IsKindPlain script p who k
-  still_plain who (kind.Ticket stamp) e = tt
-  still_plain who (kind.Reserve b) e = tt
-  still_plain who (kind.Backoff b stamp) e = tt
-  still_plain who (kind.Loose b) e = tt
-  still_plain who (kind.Skip b) e = tt
-  still_plain who (kind.Dry b k w) e = tt
-  still_plain who (kind.NoPages b) e = tt
-  still_plain who (kind.Bulk group) e = tt
-  still_plain who (kind.Refused d) e = tt
-  still_plain who (kind.New b) e = tt
-  still_plain who (kind.Free b g) e = tt
-  still_plain who (kind.Take b mem spans) e = tt
-  still_plain who (kind.Untake b mem) e = tt
-  still_plain who (kind.Populate b page f) e = tt
-  still_plain who (kind.SwapIn b page slot f) e = tt
-  still_plain who (kind.Depopulate b) e = tt
-  still_plain who (kind.Bind b) e = tt
-  still_plain who (kind.Unbind b) e = tt
-  still_plain who (kind.Move b mem n l) e = tt
-  still_plain who (kind.Catch b w) e = tt
-  still_plain who (kind.SwapOut b page slot) e = tt
-  still_plain who (kind.Arm engine n) e = tt
   still_plain who (kind.Packet n k piece) e = cc
-  still_plain who (kind.Done n) e = tt
-  still_plain who (kind.Reap g) e = tt
   still_plain who (kind.Result r) e = cc
+  still_plain who k e = tt
 
   -- what they show is left as it is
   still_shown : (who : Actor) (k : Kind) → is_still k ≡ true → showing script bytes s who k ≡ k
-  still_shown who (kind.Ticket stamp) e = refl
-  still_shown who (kind.Reserve b) e = refl
-  still_shown who (kind.Backoff b stamp) e = refl
-  still_shown who (kind.Loose b) e = refl
-  still_shown who (kind.Skip b) e = refl
-  still_shown who (kind.Dry b k w) e = refl
-  still_shown who (kind.NoPages b) e = refl
-  still_shown who (kind.Bulk group) e = refl
-  still_shown who (kind.Refused d) e = refl
-  still_shown who (kind.New b) e = refl
-  still_shown who (kind.Free b g) e = refl
-  still_shown who (kind.Take b mem spans) e = refl
-  still_shown who (kind.Untake b mem) e = refl
-  still_shown who (kind.Populate b page f) e = refl
-  still_shown who (kind.SwapIn b page slot f) e = refl
-  still_shown who (kind.Depopulate b) e = refl
-  still_shown who (kind.Bind b) e = refl
-  still_shown who (kind.Unbind b) e = refl
-  still_shown who (kind.Move b mem n l) e = refl
-  still_shown who (kind.Catch b w) e = refl
-  still_shown who (kind.SwapOut b page slot) e = refl
-  still_shown who (kind.Arm engine n) e = refl
   still_shown who (kind.Packet n k piece) e = cc
-  still_shown who (kind.Done n) e = refl
-  still_shown who (kind.Reap g) e = refl
   still_shown who (kind.Result r) e = cc
+  still_shown who k e = refl
 
 -- a command that writes nothing leaves the bytes, and the plain memory
 unwritten : (s : State) (cmd : Command) (bytes : Stores) → is_write cmd ≡ false → written s (Some cmd) bytes ≡ bytes
-unwritten s (command.New b) bytes h = refl
-unwritten s (command.Free b) bytes h = refl
-unwritten s (command.Pin b) bytes h = refl
-unwritten s (command.Unpin b) bytes h = refl
-unwritten s (command.Find b) bytes h = refl
-unwritten s (command.SwapOut b) bytes h = refl
 unwritten s (command.Write b off values) bytes h = cc
-unwritten s (command.Read b off len) bytes h = refl
-unwritten s (command.Move b mem) bytes h = refl
-unwritten s (command.Touch group) bytes h = refl
-unwritten s (command.Submit engine ops) bytes h = refl
+unwritten s cmd bytes h = refl
 
 unchanged : (cmd : Command) (m : Memory) → is_write cmd ≡ false → memory_after_result (Some cmd) m ≡ m
-unchanged (command.New b) m h = refl
-unchanged (command.Free b) m h = refl
-unchanged (command.Pin b) m h = refl
-unchanged (command.Unpin b) m h = refl
-unchanged (command.Find b) m h = refl
-unchanged (command.SwapOut b) m h = refl
 unchanged (command.Write b off values) m h = cc
-unchanged (command.Read b off len) m h = refl
-unchanged (command.Move b mem) m h = refl
-unchanged (command.Touch group) m h = refl
-unchanged (command.Submit engine ops) m h = refl
+unchanged cmd m h = refl
 
 module _ (script : Script) (r : Rules script) (s : State) (bytes : Stores) (p : Plain) (c : Clear script s bytes p) (known : Known script s) where
   at : (b : BufId) → live_in s.core.buffers b ≡ Some (buffer s b) → IsAt s.core b (buffer s b)
@@ -281,110 +201,31 @@ module _ (script : Script) (r : Rules script) (s : State) (bytes : Stores) (p : 
 
   thread_plain : (t : ℕ) (k : Kind) → Told script s t k → IsKindPlain script p (actor.Thread t) (showing script bytes s (actor.Thread t) k)
   thread_plain t k (still q) = subst (IsKindPlain script p (actor.Thread t)) (sym (still_shown script s bytes p (actor.Thread t) k q)) (still_plain script s bytes p (actor.Thread t) k q)
-  thread_plain t k (makes {b} dead) = tt
-  thread_plain t k (frees {b} there quiet) = tt
-  thread_plain t k (leaves {b} there) = tt
-  thread_plain t k (takes {b} {mem} {spans} place there m ch free) = tt
-  thread_plain t k (untakes {b} {mem} there) = tt
-  thread_plain t k (populates {b} {f} there free l some tt_not) = tt
   thread_plain t k (swaps_in {b} {k = slot} {f} there free l some tt_not) = tt
-  thread_plain t k (depopulates {b} there m) = tt
-  thread_plain t k (binds {b} there m t' f) = tt
-  thread_plain t k (unbinds {b} there quiet m) = tt
-  thread_plain t k (moves_up {b} there m t') = tt
-  thread_plain t k (moves_across {b} there m t') = tt
-  thread_plain t k (moves_down {b} there m t' f) = tt
-  thread_plain t k (evicts {b} there m t' f) = tt
-  thread_plain t k (catches {b} {w}) = tt
   thread_plain t k (swaps_out {b} {k = slot} there m quiet f free) = tt
-  thread_plain t k (arms {engine} ops e live ready) = tt
   thread_plain t k (reads b off len e none) = read_plain t b off len e none
-  thread_plain t k (writes b off values e there ready quiet) = tt
   thread_plain t k (results {r = x} cmd e w h) = result_plain t x h
+  thread_plain t k x = tt
 
   -- dues of the move engine
   still_dues : (t : ℕ) (k : Kind) → is_still k ≡ true → (plain_after_kind script p t k).dues ≡ p.dues
-  still_dues t (kind.Ticket stamp) e = refl
-  still_dues t (kind.Reserve b) e = refl
-  still_dues t (kind.Backoff b stamp) e = refl
-  still_dues t (kind.Loose b) e = refl
-  still_dues t (kind.Skip b) e = refl
-  still_dues t (kind.Dry b k w) e = refl
-  still_dues t (kind.NoPages b) e = refl
-  still_dues t (kind.Bulk group) e = refl
-  still_dues t (kind.Refused d) e = refl
-  still_dues t (kind.New b) e = refl
-  still_dues t (kind.Free b g) e = refl
-  still_dues t (kind.Take b mem spans) e = refl
-  still_dues t (kind.Untake b mem) e = refl
-  still_dues t (kind.Populate b page f) e = refl
-  still_dues t (kind.SwapIn b page slot f) e = refl
-  still_dues t (kind.Depopulate b) e = refl
-  still_dues t (kind.Bind b) e = refl
-  still_dues t (kind.Unbind b) e = refl
-  still_dues t (kind.Move b mem n l) e = refl
-  still_dues t (kind.Catch b w) e = refl
-  still_dues t (kind.SwapOut b page slot) e = refl
   still_dues t (kind.Arm engine n) e = cc
-  still_dues t (kind.Packet n k piece) e = refl
-  still_dues t (kind.Done n) e = refl
-  still_dues t (kind.Reap g) e = refl
-  still_dues t (kind.Result r) e = refl
+  still_dues t k e = refl
 
   thread_undue : (t : ℕ) (k : Kind) → Told script s t k → (n i : ℕ) → (plain_after_kind script p t k).dues (record { ctx = 0; num = n }) i ≡ []
   thread_undue t k (still q) n i = ap (λ (d : Dues). d (record { ctx = 0; num = n }) i) (still_dues t k q) ∙ c.undue n i
-  thread_undue t k (makes {b} dead) n i = c.undue n i
-  thread_undue t k (frees {b} there quiet) n i = c.undue n i
-  thread_undue t k (leaves {b} there) n i = c.undue n i
-  thread_undue t k (takes {b} {mem} {spans} place there m ch free) n i = c.undue n i
-  thread_undue t k (untakes {b} {mem} there) n i = c.undue n i
-  thread_undue t k (populates {b} {f} there free l some tt_not) n i = c.undue n i
   thread_undue t k (swaps_in {b} {k = slot} {f} there free l some tt_not) n i = c.undue n i
-  thread_undue t k (depopulates {b} there m) n i = c.undue n i
-  thread_undue t k (binds {b} there m t' f) n i = c.undue n i
-  thread_undue t k (unbinds {b} there quiet m) n i = c.undue n i
-  thread_undue t k (moves_up {b} there m t') n i = c.undue n i
-  thread_undue t k (moves_across {b} there m t') n i = c.undue n i
-  thread_undue t k (moves_down {b} there m t' f) n i = c.undue n i
-  thread_undue t k (evicts {b} there m t' f) n i = c.undue n i
-  thread_undue t k (catches {b} {w}) n i = c.undue n i
   thread_undue t k (swaps_out {b} {k = slot} there m quiet f free) n i = c.undue n i
   thread_undue t k (arms {engine} ops e live ready) n i =
       ap (λ q. if q then unwrap_or (slice_get (pieces_shown p.memory (ops_of (command_of script p t))) i) [] else p.dues (record { ctx = 0; num = n }) i)
       (engine_is_other script engine ops (next_job s engine) n (at_work_rules script r s t (command.Submit engine ops) e).command)
       ∙ c.undue n i
-  thread_undue t k (reads b off len e none) n i = c.undue n i
-  thread_undue t k (writes b off values e there ready quiet) n i = c.undue n i
-  thread_undue t k (results {r = x} cmd e w h) n i = c.undue n i
+  thread_undue t k x n i = c.undue n i
 
   -- how many commands were answered
   plain_answers : (t u : ℕ) (k : Kind) → (plain_after_kind script p t k).answered u ≡ (if is_answer k then (if u == t then p.answered u + 1 else p.answered u) else p.answered u)
   plain_answers t u (kind.Ticket stamp) = refl
-  plain_answers t u (kind.Reserve b) = refl
-  plain_answers t u (kind.Backoff b stamp) = refl
-  plain_answers t u (kind.Loose b) = refl
-  plain_answers t u (kind.Skip b) = refl
-  plain_answers t u (kind.Dry b k w) = refl
-  plain_answers t u (kind.NoPages b) = refl
-  plain_answers t u (kind.Bulk group) = refl
-  plain_answers t u (kind.Refused d) = refl
-  plain_answers t u (kind.New b) = refl
-  plain_answers t u (kind.Free b g) = refl
-  plain_answers t u (kind.Take b mem spans) = refl
-  plain_answers t u (kind.Untake b mem) = refl
-  plain_answers t u (kind.Populate b page f) = refl
-  plain_answers t u (kind.SwapIn b page slot f) = refl
-  plain_answers t u (kind.Depopulate b) = refl
-  plain_answers t u (kind.Bind b) = refl
-  plain_answers t u (kind.Unbind b) = refl
-  plain_answers t u (kind.Move b mem n l) = refl
-  plain_answers t u (kind.Catch b w) = refl
-  plain_answers t u (kind.SwapOut b page slot) = refl
-  plain_answers t u (kind.Arm engine n) = refl
-  plain_answers t u (kind.Packet n k piece) = refl
-  plain_answers t u (kind.Done n) = refl
-  plain_answers t u (kind.Reap g) = refl
-  plain_answers t u (kind.Result r) = refl
+  plain_answers t u k = refl
 
   thread_answered : (t : ℕ) (k : Kind) → next script s (actor.Thread t) ≡ Ok k → (u : ℕ) → (plain_after_kind script p t k).answered u ≡ (course (applied script s (actor.Thread t) k) u).answered
   thread_answered t k h u =

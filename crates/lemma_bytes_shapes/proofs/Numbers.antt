@@ -9,11 +9,10 @@ use Rattle.journal_model.specs.declared.state.State.{State}
 use Rattle.journal_model.specs.declared.state.Core.{Core}
 use Rattle.journal_model.specs.declared.state.Ghost.{Ghost}
 use Rattle.journal_model.specs.declared.entry.Kind.{Kind}
-use Rattle.journal_model.specs.declared.entry.Kind.TheVariants as kind
 use Rattle.journal_model.specs.Apply.{applied}
 use Rattle.law_state.proofs.Lists.{get_pushed}
-use Rattle.lemma_bytes_told.specs.Told.{is_still, Told, still, makes, frees, leaves, takes, untakes, populates, swaps_in, depopulates, binds, unbinds, moves_up, moves_across, moves_down, evicts, catches, swaps_out, arms, reads, writes, results}
-use Rattle.lemma_bytes_shapes.proofs.Shapes.{still_core}
+use Rattle.lemma_bytes_told.specs.Told.{Told, still, leaves, moves_up, moves_across, moves_down, evicts}
+use Rattle.lemma_bytes_shapes.proofs.Shapes.{still_core, still_ghosts}
 
 -- none has the number of one before it
 abbrev pub AreDistinct : List Ghost → Type 0
@@ -80,34 +79,6 @@ first_only (x ∷ gs) g e d (suc i) h f q = let a : x ≡ g = cc in absurd (d.0 
 abbrev pub NumberedState : State → Type 0
 NumberedState s = Numbered s.core.ghosts s.last_ghost s.core.move_fence
 
-still_last : (script : Script) (s : State) (t : ℕ) (k : Kind) → is_still k ≡ true → (applied script s (actor.Thread t) k).last_ghost ≡ s.last_ghost
-still_last script s t (kind.Ticket stamp) e = refl
-still_last script s t (kind.Reserve b) e = refl
-still_last script s t (kind.Backoff b stamp) e = refl
-still_last script s t (kind.Loose b) e = refl
-still_last script s t (kind.Skip b) e = refl
-still_last script s t (kind.Dry b k w) e = refl
-still_last script s t (kind.NoPages b) e = refl
-still_last script s t (kind.Bulk group) e = refl
-still_last script s t (kind.Refused d) e = refl
-still_last script s t (kind.New b) e = cc
-still_last script s t (kind.Free b g) e = cc
-still_last script s t (kind.Take b mem spans) e = cc
-still_last script s t (kind.Untake b mem) e = cc
-still_last script s t (kind.Populate b page f) e = cc
-still_last script s t (kind.SwapIn b page slot f) e = cc
-still_last script s t (kind.Depopulate b) e = cc
-still_last script s t (kind.Bind b) e = cc
-still_last script s t (kind.Unbind b) e = cc
-still_last script s t (kind.Move b mem n l) e = cc
-still_last script s t (kind.Catch b w) e = cc
-still_last script s t (kind.SwapOut b page slot) e = cc
-still_last script s t (kind.Arm engine n) e = cc
-still_last script s t (kind.Packet n k piece) e = cc
-still_last script s t (kind.Done n) e = cc
-still_last script s t (kind.Reap g) e = cc
-still_last script s t (kind.Result r) e = cc
-
 -- a number that is drawn isn't 0
 pub not_zero : (n : ℕ) → ((n + 1) == 0) ≡ false
 not_zero n = grind (arith, nat_tests)
@@ -119,17 +90,8 @@ freed_numbered gs g last mover true e k n = cc
 pub numbers_keep : (script : Script) (s : State) (t : ℕ) (k : Kind) → NumberedState s → Told script s t k → NumberedState (applied script s (actor.Thread t) k)
 numbers_keep script s t k n (still q) =
     subst (λ (c : Core). Numbered c.ghosts (applied script s (actor.Thread t) k).last_ghost c.move_fence) (sym (still_core script s t k q))
-    (subst (λ last. Numbered s.core.ghosts last s.core.move_fence) (sym (still_last script s t k q)) n)
-numbers_keep script s t k n (makes {b} dead) = n
-numbers_keep script s t k n (frees {b} there quiet) = n
+    (subst (λ last. Numbered s.core.ghosts last s.core.move_fence) (sym (still_ghosts script s t k q)) n)
 numbers_keep script s t k n (leaves {b} there) = freed_numbered s.core.ghosts _ s.last_ghost s.core.move_fence ((s.last_ghost + 1) == 0) (not_zero s.last_ghost) refl n
-numbers_keep script s t k n (takes {b} {mem} {spans} place there m c free) = n
-numbers_keep script s t k n (untakes {b} {mem} there) = n
-numbers_keep script s t k n (populates {b} {f} there free l some tt_not) = n
-numbers_keep script s t k n (swaps_in {b} {k = slot} {f} there free l some tt_not) = n
-numbers_keep script s t k n (depopulates {b} there m) = n
-numbers_keep script s t k n (binds {b} there m t' f) = n
-numbers_keep script s t k n (unbinds {b} there quiet m) = n
 numbers_keep script s t k n (moves_up {b} there m t') = pushed s.core.ghosts _ s.last_ghost s.core.move_fence refl n
 numbers_keep script s t k n (moves_across {b} there m t') = pushed s.core.ghosts _ s.last_ghost s.core.move_fence refl n
 numbers_keep script s t k n (moves_down {b} there m t' f) = pushed s.core.ghosts _ s.last_ghost s.core.move_fence refl n
@@ -137,9 +99,4 @@ numbers_keep script s t k n (evicts {b} there m t' f) = record { below = n.below
   where
     ring_of : {j : ℕ} (i : JobId) → Some (record { ctx = 0; num = j }) ≡ Some i → i.ctx ≡ 0
     ring_of {j} i e = let same : (record { ctx = 0; num = j }) ≡ i = cc in ap (λ (x : JobId). x.ctx) (sym same)
-numbers_keep script s t k n (catches {b} {w}) = n
-numbers_keep script s t k n (swaps_out {b} {k = slot} there m quiet f free) = n
-numbers_keep script s t k n (arms {engine} ops at live ready) = n
-numbers_keep script s t k n (reads b off len at none) = n
-numbers_keep script s t k n (writes b off bytes at there ready quiet) = n
-numbers_keep script s t k n (results cmd at w r) = n
+numbers_keep script s t k n told = n

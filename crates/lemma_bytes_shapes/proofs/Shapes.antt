@@ -253,32 +253,12 @@ uses_shape job ops (b ∷ bs) buffers h = uses_shape job ops bs (with_use job op
 -- ---- each entry of a thread
 
 pub still_core : (script : Script) (s : State) (t : ℕ) (k : Kind) → is_still k ≡ true → (applied script s (actor.Thread t) k).core ≡ s.core
-still_core script s t (kind.Ticket stamp) e = refl
-still_core script s t (kind.Reserve b) e = refl
-still_core script s t (kind.Backoff b stamp) e = refl
-still_core script s t (kind.Loose b) e = refl
-still_core script s t (kind.Skip b) e = refl
-still_core script s t (kind.Dry b k w) e = refl
-still_core script s t (kind.NoPages b) e = refl
-still_core script s t (kind.Bulk group) e = refl
-still_core script s t (kind.Refused d) e = refl
-still_core script s t (kind.New b) e = cc
-still_core script s t (kind.Free b g) e = cc
-still_core script s t (kind.Take b mem spans) e = cc
-still_core script s t (kind.Untake b mem) e = cc
-still_core script s t (kind.Populate b page f) e = cc
-still_core script s t (kind.SwapIn b page slot f) e = cc
-still_core script s t (kind.Depopulate b) e = cc
-still_core script s t (kind.Bind b) e = cc
-still_core script s t (kind.Unbind b) e = cc
-still_core script s t (kind.Move b mem n l) e = cc
-still_core script s t (kind.Catch b w) e = cc
-still_core script s t (kind.SwapOut b page slot) e = cc
-still_core script s t (kind.Arm engine n) e = cc
-still_core script s t (kind.Packet n k piece) e = cc
-still_core script s t (kind.Done n) e = cc
-still_core script s t (kind.Reap g) e = cc
-still_core script s t (kind.Result r) e = cc
+still_core script s t (kind.Ticket stamp) e = cc
+still_core script s t k e = cc
+
+pub still_ghosts : (script : Script) (s : State) (t : ℕ) (k : Kind) → is_still k ≡ true → (applied script s (actor.Thread t) k).last_ghost ≡ s.last_ghost
+still_ghosts script s t (kind.Ticket stamp) e = cc
+still_ghosts script s t k e = cc
 
 -- where the buffer is known
 at_buffer : (P : Buffer → Type 0) (s : State) (b : BufId) (x : Buffer) → live_in s.core.buffers b ≡ Some (buffer s b) → live_in s.core.buffers b ≡ Some x → P (buffer s b) → P x

@@ -41,7 +41,7 @@ use Rattle.law_state.specs.Courses as courses
 use Rattle.law_state.proofs.JobNames.{found_at}
 use Rattle.law_step.specs.Due.{is_due}
 use Rattle.law_progress.specs.Sound.{Has, Owned}
-use Rattle.law_sound.proofs.Turns.{Turn, OnVictim, OnNamed, OnBuffer, answer, start, lock, victim_unbind, victim_empty, victim_give, victim_move, victim_fill, victim_search, refuse, give, give_up, act, fill_in_place, ask, bind, fill_to_bind, hop_up, unbind, move_up, move_across, move_down, fill_to_move, hop_down}
+use Rattle.law_sound.proofs.Turns.{Turn, OnVictim, OnNamed, OnBuffer, answer, start, victim_unbind, victim_empty, victim_give, victim_move, victim_fill, victim_search, give, act, fill_in_place, ask, bind, fill_to_bind, hop_up, unbind, move_up, move_across, move_down, fill_to_move, hop_down}
 use Rattle.law_sound.proofs.Gifts as gifts
 use Rattle.law_sound.proofs.Gifts.{Gives, Sought, Filled, PlaceOf}
 use Rattle.law_sound.proofs.Bufs.{same_self, same_is, has_found, found_passes, last_caught, none_last, none_found, none_missing}
@@ -179,15 +179,7 @@ module _ (script : Script) (s : State) (t : ℕ) (cmd : Command) (at : command_a
           let one : shown.Read [] ≡ r = (let two : kind.Result (shown.Read []) ≡ kind.Result r = cc in cc) in
           subst (λ r. Told script s t (kind.Result r)) one (reads b off len (at ∙ ap Some e) q)
       by (Some i) q g = cc
-  act_told r on f (command.New b) e h = results cmd at (ap is_write e) (grind (arith, common_steps, nat_tests))
-  act_told r on f (command.Free b) e h = results cmd at (ap is_write e) (grind (arith, common_steps, nat_tests))
-  act_told r on f (command.Pin b) e h = results cmd at (ap is_write e) (grind (arith, common_steps, nat_tests))
-  act_told r on f (command.Unpin b) e h = results cmd at (ap is_write e) (grind (arith, common_steps, nat_tests))
-  act_told r on f (command.Find b) e h = results cmd at (ap is_write e) (grind (arith, common_steps, nat_tests))
-  act_told r on f (command.SwapOut b) e h = results cmd at (ap is_write e) (grind (arith, common_steps, nat_tests))
-  act_told r on f (command.Move b mem) e h = results cmd at (ap is_write e) (grind (arith, common_steps, nat_tests))
-  act_told r on f (command.Touch group) e h = results cmd at (ap is_write e) (grind (arith, common_steps, nat_tests))
-  act_told r on f (command.Submit engine ops) e h = results cmd at (ap is_write e) (grind (arith, common_steps, nat_tests))
+  act_told r on f asked e h = results cmd at (ap is_write e) (grind (arith, common_steps, nat_tests))
 
   -- a command that makes something writes nothing
   made_writes_none : (x : Command) → courses.makes x ≡ true → is_write x ≡ false
@@ -195,13 +187,7 @@ module _ (script : Script) (s : State) (t : ℕ) (cmd : Command) (at : command_a
   made_writes_none (command.Free b) h = refl
   made_writes_none (command.Touch group) h = refl
   made_writes_none (command.Submit engine ops) h = refl
-  made_writes_none (command.Pin b) h = cc
-  made_writes_none (command.Unpin b) h = cc
-  made_writes_none (command.Find b) h = cc
-  made_writes_none (command.SwapOut b) h = cc
-  made_writes_none (command.Write b off bytes) h = cc
-  made_writes_none (command.Read b off len) h = cc
-  made_writes_none (command.Move b mem) h = cc
+  made_writes_none cmd h = cc
 
   free_told : (b : BufId) (g : ℕ) → IsThere s b → g ≡ (if is_idle s.core (buffer s b) then 0 else next_ghost s) → Told script s t (kind.Free b g)
   free_told b g there e = by (is_idle s.core (buffer s b)) refl e
@@ -307,12 +293,6 @@ module _ (script : Script) (s : State) (t : ℕ) (cmd : Command) (at : command_a
   pub tells : (x : Task) (k : Kind) → ((course s t).made ≡ true → courses.makes cmd ≡ true) → step_of_task script s (course s t) cmd x ≡ Ok k → is_due s k ≡ true → Turn script s (course s t) cmd x → Gives script s (course s t) cmd x k → Told script s t k
   tells x k made step due (answer m) gifts.answers = results cmd at (made_writes_none cmd (made m)) refl
   tells x k made step due (start m q) (gifts.makes {b} e l) = makes (is_dead s b l)
-  tells x k made step due (start m q) (gifts.exists e) = still refl
-  tells x k made step due (start m q) (gifts.shifts {group} e) = still refl
-  tells x k made step due (start m q) (gifts.draws l) = still refl
-  tells x k made step due (lock m n f) (gifts.no_buffer {b} l) = still refl
-  tells x k made step due (lock m n f) (gifts.reserves {b} l h) = still refl
-  tells x k made step due (lock m n f) (gifts.backs {b} {st} l h q) = still refl
   tells x k made step due turn (gifts.seeks {b} {aim} sought) = search_told b aim k turn sought
   tells x k made step due turn (gifts.binds {b}) = bind_told b turn
     where
@@ -321,17 +301,13 @@ module _ (script : Script) (s : State) (t : ℕ) (cmd : Command) (at : command_a
   tells x k made step due turn (gifts.unbinds {b} i) = unbind_told b turn i
   tells x k made step due turn (gifts.moves {b} {mem}) = move_told b mem turn
   tells x k made step due turn (gifts.fills {b} filled) = fill_told b k turn filled
-  tells x k made step due turn (gifts.lets_go {b}) = still refl
   tells x k made step due turn (gifts.empties {b} {slot} w f e) = empty_told b slot turn w f e due
   tells x k made step due turn (gifts.depopulates {b} m f) = depopulates (give_there b turn) m
   tells x k made step due turn (gifts.untakes {b} n) = untakes (give_there b turn)
-  tells x k made step due turn (gifts.skips {b}) = still refl
-  tells x k made step due (give_up on a f u) (gifts.gives_up {d}) = still refl
-  tells x k made step due (refuse on r) (gifts.refuses {d}) = still refl
   tells x k made step due (act on a f u) (gifts.arms {engine} ops e) =
       arms ops (at ∙ ap Some e) (λ b h. named_there b on (ap (λ z. has_buffer (named z) b) e ∙ h)) (λ b h. ap (λ z. is_ready script s z b) (sym e) ∙ ready_at b u (ap (λ z. has_buffer (named z) b) e ∙ h))
   tells x k made step due (act on a f u) (gifts.frees {b} {g} e q) = free_told b g (named_there b on (ap (λ z. has_buffer (named z) b) e ∙ ap (λ q. q || false) (same_self b))) q
   tells x k made step due (act on a f u) (gifts.swaps {b} {slot} e q r) =
       swap_told b slot (named_there b on (ap (λ z. has_buffer (named z) b) e ∙ ap (λ q. q || false) (same_self b))) (swap_in_place b e u) q r due
-  tells x k made step due (act on a f u) (gifts.no_swap e) = still refl
   tells x k made step due (act on a f u) (gifts.acts {r}) = act_told r on u cmd refl step
+  tells x k made step due turn gives = still refl

@@ -42,32 +42,15 @@ no_bytes = λ o. 0
 
 -- ---- one packet on the bytes
 
+same_turned : (m n : ℕ) → nat_eq m n ≡ (n == m)
+same_turned m n = grind (arith, nat_tests)
+
 pub same_seen : (p q : pages.Page) → same_page (seen p) (seen q) ≡ pages.same_page q p
 same_seen pages.nowhere pages.nowhere = refl
-same_seen pages.nowhere (pages.vram n) = refl
-same_seen pages.nowhere (pages.frame n) = refl
-same_seen pages.nowhere (pages.slot n) = refl
-same_seen (pages.vram m) pages.nowhere = refl
-same_seen (pages.vram m) (pages.vram n) = turned m n
-  where
-    turned : (m n : ℕ) → nat_eq m n ≡ (n == m)
-    turned m n = grind (arith, nat_tests)
-same_seen (pages.vram m) (pages.frame n) = refl
-same_seen (pages.vram m) (pages.slot n) = refl
-same_seen (pages.frame m) pages.nowhere = refl
-same_seen (pages.frame m) (pages.vram n) = refl
-same_seen (pages.frame m) (pages.frame n) = turned m n
-  where
-    turned : (m n : ℕ) → nat_eq m n ≡ (n == m)
-    turned m n = grind (arith, nat_tests)
-same_seen (pages.frame m) (pages.slot n) = refl
-same_seen (pages.slot m) pages.nowhere = refl
-same_seen (pages.slot m) (pages.vram n) = refl
-same_seen (pages.slot m) (pages.frame n) = refl
-same_seen (pages.slot m) (pages.slot n) = turned m n
-  where
-    turned : (m n : ℕ) → nat_eq m n ≡ (n == m)
-    turned m n = grind (arith, nat_tests)
+same_seen (pages.vram m) (pages.vram n) = same_turned m n
+same_seen (pages.frame m) (pages.frame n) = same_turned m n
+same_seen (pages.slot m) (pages.slot n) = same_turned m n
+same_seen p q = refl
 
 pub same-true : (p q : pages.Page) → pages.same_page p q ≡ true → p ≡ q
 same-true pages.nowhere pages.nowhere h = refl

@@ -1,8 +1,6 @@
 -- Carrying a named buffer lowers the measure: between SYSTEM and TT, and by a job to or from VRAM.
-use Rattle.std.proofs.Common.{◌≡◌, ℕ, ◌<◌, ◌≤◌, ◌+◌, ◌*◌, zero, suc, Bool, true, false, List, [], ◌∷◌, length, Option, Some, None, refl, sym, ◌∙◌, ap, subst, arith, inl}
-use Rattle.std.specs.Prelude.{not, slice_get, sum_by, unwrap_or, is_none, is_some, ◌||◌}
-use Rattle.std.specs.List.{enumerate_from}
-use Rattle.ttm_base.specs.ListWords.{last_of}
+use Rattle.std.proofs.Common.{◌≡◌, ℕ, ◌≤◌, ◌+◌, ◌*◌, true, false, [], length, Option, Some, None, refl, ◌∙◌, ap, arith, inl}
+use Rattle.std.specs.Prelude.{not, sum_by, unwrap_or, is_some, ◌||◌}
 use Rattle.ttm_base.specs.declared.Mem.{Mem}
 use Rattle.ttm_base.specs.declared.Mem.TheVariants.{System, Tt, Vram}
 use Rattle.ttm_base.specs.declared.BufId.{BufId}
@@ -12,7 +10,6 @@ use Rattle.ttm_base.specs.declared.Actor.TheVariants as actor
 use Rattle.journal_model.specs.declared.script.Script.{Script}
 use Rattle.journal_model.specs.declared.script.Command.{Command}
 use Rattle.journal_model.specs.declared.state.State.{State}
-use Rattle.journal_model.specs.declared.state.Course.{Course}
 use Rattle.journal_model.specs.declared.state.Buffer.{Buffer}
 use Rattle.journal_model.specs.declared.entry.Left.{Left}
 use Rattle.journal_model.specs.declared.entry.Kind.{Kind}
@@ -20,12 +17,12 @@ use Rattle.journal_model.specs.declared.entry.Kind.TheVariants as kind
 use Rattle.journal_model.specs.State.{new_buffer, buffer, course, same_buffer, has_buffer, has_target, live_in, is_live, changed}
 use Rattle.journal_model.specs.Commands.{named}
 use Rattle.journal_model.specs.Waits.{unfinished, jobs_before_write}
-use Rattle.journal_model.specs.Ready.{has_all_frames, is_ready, first_unready}
+use Rattle.journal_model.specs.Ready.{has_all_frames, is_ready}
 use Rattle.journal_model.specs.Apply.{applied}
 use Rattle.journal_model.specs.ApplyPages.{bound, unbound}
 use Rattle.journal_model.specs.ApplyMoves.{moved}
 use Rattle.law_progress.specs.Sound.{Carried, Fits}
-use Rattle.law_progress.proofs.Measure.{packet_count, steps_left, slots_to_fill, named_left, victim_left, search_left, later_commands, left_of_buffer, locks_left, measure}
+use Rattle.law_progress.proofs.Measure.{steps_left, slots_to_fill, named_left, victim_left, left_of_buffer, locks_left, measure}
 use Rattle.law_progress.proofs.CarriedOn.{step_worth}
 use Rattle.law_sound.proofs.Along.{Stepped}
 use Rattle.law_sound.proofs.Turns.{Works, OnBuffer}

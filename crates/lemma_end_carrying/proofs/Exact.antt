@@ -1,12 +1,9 @@
 -- An entry that changes no lock lowers the measure as soon as its own thread and the buffers cost less.
-use Rattle.std.proofs.Common.{◌≡◌, ℕ, ◌<◌, ◌≤◌, ◌+◌, ◌*◌, zero, suc, Bool, true, false, List, [], ◌∷◌, length, Option, Some, None, IsSome, refl, sym, ◌∙◌, ap, ap₂, subst, arith, ◌⊎◌, inl, inr, ⊎_elim}
-use Rattle.std.specs.Prelude.{slice_get, slice_set, sum_by, count_by, unwrap_or, is_none, option_map, cond, not, if◌then◌else◌}
+use Rattle.std.proofs.Common.{◌≡◌, ℕ, ◌≤◌, ◌+◌, ◌*◌, Bool, true, false, List, length, Option, Some, refl, sym, ◌∙◌, ap, subst, arith, ⊎_elim}
+use Rattle.std.specs.Prelude.{slice_set, sum_by, unwrap_or, option_map, if◌then◌else◌}
 use Rattle.std.specs.List.{enumerate_from}
-use Rattle.std.proofs.lemmas.Bool.{cases_Bool, cases_eq}
-use Rattle.std.proofs.lemmas.List.Sums.{sum_by-cons}
-use Rattle.ttm_base.specs.ListWords.{count_from}
+use Rattle.std.proofs.lemmas.Bool.{cases_Bool}
 use Rattle.ttm_base.specs.declared.BufId.{BufId}
-use Rattle.ttm_base.specs.declared.Stamp.{Stamp}
 use Rattle.ttm_base.specs.declared.Actor.TheVariants as actor
 use Rattle.journal_model.specs.declared.script.Script.{Script}
 use Rattle.journal_model.specs.declared.script.Decl.{Decl}
@@ -14,26 +11,22 @@ use Rattle.journal_model.specs.declared.script.Command.{Command}
 use Rattle.journal_model.specs.declared.state.State.{State}
 use Rattle.journal_model.specs.declared.state.Course.{Course}
 use Rattle.journal_model.specs.declared.state.Buffer.{Buffer}
-use Rattle.journal_model.specs.declared.state.Victim.{Victim}
 use Rattle.journal_model.specs.declared.entry.Kind.{Kind}
-use Rattle.journal_model.specs.State.{new_buffer, buffer, course, same_buffer, has_buffer, live_in, changed}
+use Rattle.journal_model.specs.State.{buffer, course, same_buffer, has_buffer, live_in, changed}
 use Rattle.journal_model.specs.Commands.{decl, undeclared, named}
 use Rattle.journal_model.specs.Apply.{applied}
-use Rattle.law_progress.specs.Sound.{Has}
-use Rattle.law_progress.proofs.Measure.{packet_count, steps_left, slots_to_fill, not_skipped, if_named, named_left, search_share, search_left, later_commands, thread_left, slot_debts, left_of_buffer, job_left, locks_left, measure}
+use Rattle.law_progress.proofs.Measure.{steps_left, slots_to_fill, not_skipped, if_named, named_left, search_share, slot_debts, left_of_buffer, locks_left, measure}
 use Rattle.law_progress.proofs.MeasureFalls.{sum_set, sum_most}
 use Rattle.law_state.specs.GoodState.{HasPages}
 use Rattle.law_state.proofs.Lists.{get_within}
 use Rattle.law_sound.proofs.Along.{Stepped}
-use Rattle.law_sound.proofs.Bufs.{same_self, same_is}
+use Rattle.law_sound.proofs.Bufs.{same_is}
 use Rattle.law_sound.proofs.Steadies.{next_course}
-use Rattle.law_sound.proofs.Owners.{OneCourse}
-use Rattle.lemma_end_measure_parts.proofs.Frame.{left_of, left_is, others_left}
-use Rattle.lemma_end_measure_parts.proofs.Slots.{Fewer, debts_keep}
-use Rattle.lemma_end_measure_parts.proofs.Sums.{sum_one}
+use Rattle.lemma_end_measure_parts.proofs.Frame.{left_of}
+use Rattle.lemma_end_measure_parts.proofs.Slots.{Fewer}
 use Rattle.lemma_end_measure.proofs.Giving.{enumerate_falls, live_at, get_below}
 use Rattle.lemma_end_measure.proofs.Border.{Known, shared}
-use Rattle.lemma_end_measure.proofs.Parts.{after, parts_fall}
+use Rattle.lemma_end_measure.proofs.Parts.{parts_fall}
 
 module _ (script : Script) (s : State) (t : ℕ) (k : Kind) (known : Known script s) (st : Stepped script s t k) where
   -- what the own thread, its debts, the buffers, the jobs and the ghosts cost

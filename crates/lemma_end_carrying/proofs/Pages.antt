@@ -1,7 +1,7 @@
 -- What a buffer's pages cost by its memory type, and what the steps of carrying leave of its slots.
-use Rattle.std.proofs.Common.{◌≡◌, ℕ, ◌≤◌, ◌+◌, ◌*◌, ◌-◌, zero, suc, Bool, true, false, List, [], ◌∷◌, ◌++◌, length, length-append, Option, Some, None, refl, sym, ◌∙◌, ap, subst, arith, ⊎_elim}
-use Rattle.std.specs.Prelude.{map, filter_map, nat_eq, sum_by, count_by, cond, not, option_map, ◌||◌}
-use Rattle.std.specs.List.{list_all, list_any}
+use Rattle.std.proofs.Common.{◌≡◌, ℕ, ◌≤◌, ◌+◌, ◌*◌, zero, suc, Bool, true, false, List, [], ◌∷◌, length, length-append, Option, Some, None, refl, ap, arith}
+use Rattle.std.specs.Prelude.{map, filter_map, sum_by, count_by, cond, not, option_map}
+use Rattle.std.specs.List.{list_all}
 use Rattle.std.proofs.lemmas.Bool.{and_parts}
 use Rattle.std.proofs.lemmas.List.Sums.{sum_by-cons}
 use Rattle.ttm_base.specs.ListWords.{count_from}
@@ -9,7 +9,6 @@ use Rattle.ttm_base.specs.declared.Mem.{Mem}
 use Rattle.ttm_base.specs.declared.Mem.TheVariants.{System, Tt, Vram}
 use Rattle.ttm_base.specs.declared.BufId.{BufId}
 use Rattle.ttm_base.specs.declared.JobId.{JobId}
-use Rattle.ttm_base.specs.declared.Packet.{Packet}
 use Rattle.ttm_base.specs.declared.Loc.{Loc}
 use Rattle.ttm_base.specs.declared.Loc.TheVariants as loc
 use Rattle.journal_model.specs.declared.script.Command.{Command}
@@ -19,10 +18,9 @@ use Rattle.journal_model.specs.declared.state.Job.{Job}
 use Rattle.journal_model.specs.declared.state.Ghost.{Ghost}
 use Rattle.journal_model.specs.declared.entry.Left.{Left}
 use Rattle.journal_model.specs.declared.entry.Left.TheVariants as left
-use Rattle.journal_model.specs.State.{changed, live_in, target_spans}
+use Rattle.journal_model.specs.State.{changed, target_spans}
 use Rattle.journal_model.specs.Places.{is_frame, slot_of, packet_place, name_in_spans}
 use Rattle.journal_model.specs.Holds.{has_number}
-use Rattle.journal_model.specs.Ready.{has_all_frames}
 use Rattle.journal_model.specs.ApplyPages.{bound, unbound}
 use Rattle.journal_model.specs.ApplyMoves.{with_job, copy_of_page, move_packets, table_left, moved, ghosts_left, ghost_of_moved}
 use Rattle.law_progress.proofs.Measure.{is_slot, slots_to_fill, page_left, left_of_buffer, job_left}
@@ -90,16 +88,7 @@ fewer_to_fill cmd m x y e = let less = left_slots m x.table in let is : count_by
   where
     by : (cmd : Command) → count_by is_slot y.table ≤ count_by is_slot x.table → slots_to_fill cmd y ≤ slots_to_fill cmd x
     by (command.SwapOut b) l = omega arith
-    by (command.New b) l = l
-    by (command.Free b) l = l
-    by (command.Pin b) l = l
-    by (command.Unpin b) l = l
-    by (command.Find b) l = l
-    by (command.Write b off bytes) l = l
-    by (command.Read b off len) l = l
-    by (command.Move b mem) l = l
-    by (command.Touch group) l = l
-    by (command.Submit engine ops) l = l
+    by cmd l = l
 
 -- out of TT each page is one without a frame
 others_most : (table : List Loc) → count_by (λ l. not (is_frame l)) table ≤ length table

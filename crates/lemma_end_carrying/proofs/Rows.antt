@@ -1,15 +1,14 @@
 -- The rows of the carrying table: what each step makes of them, and that it brings the buffer nearer to its place.
-use Rattle.std.proofs.Common.{◌≡◌, ℕ, ◌≤◌, ◌+◌, Bool, true, false, List, [], ◌∷◌, Option, Some, None, refl, sym, ◌∙◌, ap, ap₂, subst, arith, ◌⊎◌, inl, inr, ⊎_elim}
+use Rattle.std.proofs.Common.{◌≡◌, ℕ, ◌≤◌, ◌+◌, Bool, true, false, List, [], ◌∷◌, None, refl, sym, ◌∙◌, ap, ap₂, arith, ◌⊎◌, inl, inr, ⊎_elim}
 use Rattle.std.specs.Prelude.{is_some, unwrap_or, not, ◌&&◌, ◌||◌, if◌then◌else◌}
 use Rattle.std.specs.List.{list_all, list_any}
-use Rattle.std.proofs.lemmas.Bool.{and_parts, and_from, or_cases, or_left, or_right}
+use Rattle.std.proofs.lemmas.Bool.{and_parts, or_cases, or_left, or_right}
 use Rattle.ttm_base.specs.declared.Mem.{Mem}
 use Rattle.ttm_base.specs.declared.Mem.TheVariants.{System, Tt, Vram}
 use Rattle.ttm_base.specs.declared.Span.{Span}
 use Rattle.ttm_base.specs.declared.FlaggedPlace.{FlaggedPlace}
 use Rattle.ttm_base.specs.declared.BufId.{BufId}
 use Rattle.ttm_base.specs.declared.JobId.{JobId}
-use Rattle.ttm_base.specs.declared.Deny.{Deny}
 use Rattle.ttm_base.specs.Reach.{same_mem, is_inside, is_contiguous, reach}
 use Rattle.ttm_base.specs.Placement.{accepts, compatible}
 use Rattle.journal_model.specs.declared.script.Script.{Script}
@@ -17,15 +16,14 @@ use Rattle.journal_model.specs.declared.script.Command.{Command}
 use Rattle.journal_model.specs.declared.script.Command.TheVariants as command
 use Rattle.journal_model.specs.declared.state.Course.{Course}
 use Rattle.journal_model.specs.declared.state.Buffer.{Buffer}
-use Rattle.journal_model.specs.State.{has_target, target_of, with_target}
+use Rattle.journal_model.specs.State.{has_target, target_of}
 use Rattle.journal_model.specs.Commands.{decl}
 use Rattle.journal_model.specs.Holds.{size_of}
 use Rattle.journal_model.specs.Ready.{is_well_placed, meets, has_some_target}
-use Rattle.journal_model.specs.PageSteps.{target_to_untake}
-use Rattle.journal_model.specs.ApplyPages.{bound, unbound, with_spans}
+use Rattle.journal_model.specs.ApplyPages.{bound, unbound}
 use Rattle.journal_model.specs.ApplyMoves.{moved}
 use Rattle.law_progress.proofs.Measure.{carries_left, steps_left}
-use Rattle.law_progress.specs.Sound.{Targeted, Carried, Fits, at_target, asks, system_tt, system_vram, system_both, tt_system, tt_tt, tt_vram, vram_vram, vram_tt, vram_system, vram_both}
+use Rattle.law_progress.specs.Sound.{Targeted, Carried, Fits, at_target, system_tt, system_vram, system_both, tt_system, tt_tt, tt_vram, vram_vram, vram_tt, vram_system, vram_both}
 use Rattle.law_sound.proofs.Bufs.{clash}
 
 -- ---- whether a buffer meets its command
@@ -39,13 +37,7 @@ meets_alike script (command.Submit engine ops) b x y m s = placed_alike script b
 meets_alike script (command.Find c) b x y m s = placed_alike script b x y m s
 meets_alike script (command.Move c mem) b x y m s = ap (λ z. same_mem z mem) m
 meets_alike script (command.SwapOut c) b x y m s = ap (λ z. same_mem z System) m
-meets_alike script (command.New c) b x y m s = refl
-meets_alike script (command.Free c) b x y m s = refl
-meets_alike script (command.Pin c) b x y m s = refl
-meets_alike script (command.Unpin c) b x y m s = refl
-meets_alike script (command.Write c off bytes) b x y m s = refl
-meets_alike script (command.Read c off len) b x y m s = refl
-meets_alike script (command.Touch group) b x y m s = refl
+meets_alike script cmd b x y m s = refl
 
 -- what accepts spans accepts none
 accepts_none : (mem : Mem) (spans : List Span) (size : ℕ) (list : List FlaggedPlace) → list_any (λ p. accepts mem spans size p.place) list ≡ true → list_any (λ p. accepts mem [] size p.place) list ≡ true
@@ -73,13 +65,7 @@ meets_bare script (command.Submit engine ops) b x y m s h = placed_bare script b
 meets_bare script (command.Find c) b x y m s h = placed_bare script b x y m s h
 meets_bare script (command.Move c mem) b x y m s h = ap (λ z. same_mem z mem) m ∙ h
 meets_bare script (command.SwapOut c) b x y m s h = ap (λ z. same_mem z System) m ∙ h
-meets_bare script (command.New c) b x y m s h = refl
-meets_bare script (command.Free c) b x y m s h = refl
-meets_bare script (command.Pin c) b x y m s h = refl
-meets_bare script (command.Unpin c) b x y m s h = refl
-meets_bare script (command.Write c off bytes) b x y m s h = refl
-meets_bare script (command.Read c off len) b x y m s h = refl
-meets_bare script (command.Touch group) b x y m s h = refl
+meets_bare script cmd b x y m s h = refl
 
 -- ---- how near it is
 

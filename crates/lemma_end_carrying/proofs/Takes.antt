@@ -1,16 +1,13 @@
 -- A choice that is taken lowers the measure: the buffer is nearer to its place, or the victim on its way.
-use Rattle.std.proofs.Common.{◌≡◌, ℕ, ◌<◌, ◌≤◌, ◌+◌, ◌*◌, ◌-◌, zero, suc, Bool, true, false, List, [], ◌∷◌, length, Option, Some, None, refl, sym, ◌∙◌, ap, ap₂, subst, arith}
-use Rattle.std.specs.Prelude.{slice_get, map, filter_map, count_by, sum_by, fold, unwrap_or, is_none, is_some, option_map, not, ◌&&◌, ◌||◌, if◌then◌else◌}
-use Rattle.std.specs.List.{enumerate_from}
+use Rattle.std.proofs.Common.{◌≡◌, ℕ, ◌≤◌, ◌+◌, ◌*◌, Bool, true, false, List, [], ◌∷◌, length, Option, Some, None, refl, ◌∙◌, ap, ap₂, subst, arith}
+use Rattle.std.specs.Prelude.{slice_get, map, filter_map, count_by, sum_by, unwrap_or, is_some, option_map, not, ◌||◌, if◌then◌else◌}
 use Rattle.std.proofs.lemmas.Bool.{or_left, or_right}
-use Rattle.ttm_base.specs.ListWords.{last_of}
 use Rattle.ttm_base.specs.declared.Mem.{Mem}
 use Rattle.ttm_base.specs.declared.Mem.TheVariants.{System, Tt, Vram}
 use Rattle.ttm_base.specs.declared.Span.{Span}
 use Rattle.ttm_base.specs.declared.BufId.{BufId}
 use Rattle.ttm_base.specs.declared.JobId.{JobId}
 use Rattle.ttm_base.specs.declared.Place.{Place}
-use Rattle.ttm_base.specs.declared.Stamp.{Stamp}
 use Rattle.ttm_base.specs.declared.Usage.TheVariants as usage
 use Rattle.ttm_base.specs.declared.Actor.TheVariants as actor
 use Rattle.journal_model.specs.declared.script.Script.{Script}
@@ -19,35 +16,29 @@ use Rattle.journal_model.specs.declared.state.State.{State}
 use Rattle.journal_model.specs.declared.state.Course.{Course}
 use Rattle.journal_model.specs.declared.state.Victim.{Victim}
 use Rattle.journal_model.specs.declared.state.Buffer.{Buffer}
-use Rattle.journal_model.specs.declared.state.Aim.{Aim}
-use Rattle.journal_model.specs.declared.state.Aim.TheVariants.{Asked, Hop}
-use Rattle.journal_model.specs.declared.entry.Kind.{Kind}
+use Rattle.journal_model.specs.declared.state.Aim.TheVariants.{Hop}
 use Rattle.journal_model.specs.declared.entry.Kind.TheVariants as kind
-use Rattle.journal_model.specs.declared.entry.Why.TheVariants as why
-use Rattle.journal_model.specs.State.{new_buffer, buffer, course, same_buffer, has_buffer, has_target, target_of, with_target, live_in, changed}
-use Rattle.journal_model.specs.Commands.{named, whole}
+use Rattle.journal_model.specs.State.{new_buffer, buffer, course, has_buffer, has_target, with_target, changed}
+use Rattle.journal_model.specs.Commands.{whole}
 use Rattle.journal_model.specs.Places.{is_frame, slot_of}
 use Rattle.journal_model.specs.Holds.{has_number}
 use Rattle.journal_model.specs.Waits.{jobs_before_target}
-use Rattle.journal_model.specs.Ready.{meets, has_some_target, is_in_place}
+use Rattle.journal_model.specs.Ready.{has_some_target, is_in_place}
 use Rattle.ttm_base.specs.Placement.{forced_places}
-use Rattle.journal_model.specs.Search.{Quest, quest, is_caught, through_tt}
-use Rattle.journal_model.specs.Tasks.{first_missing}
+use Rattle.journal_model.specs.Search.{quest, is_caught, through_tt}
 use Rattle.journal_model.specs.Apply.{applied}
-use Rattle.journal_model.specs.ApplyPages.{with_fence, with_spans, with_kernel_fences, search_over}
-use Rattle.law_progress.specs.Sound.{Targeted}
-use Rattle.law_progress.proofs.Measure.{packet_count, carries_left, steps_left, slots_to_fill, named_left, not_skipped, victim_left, search_left, page_left, left_of_buffer, locks_left, measure}
+use Rattle.journal_model.specs.ApplyPages.{with_fence, with_spans, with_kernel_fences}
+use Rattle.law_progress.proofs.Measure.{carries_left, steps_left, slots_to_fill, named_left, not_skipped, victim_left, page_left, left_of_buffer, measure}
 use Rattle.law_sound.proofs.Along.{Stepped}
-use Rattle.law_sound.proofs.Turns.{Works, OnVictim, InVram}
+use Rattle.law_sound.proofs.Turns.{InVram}
 use Rattle.law_sound.proofs.Gifts.{PlaceOf, first, forced}
-use Rattle.law_sound.proofs.Bufs.{last_caught}
 use Rattle.law_sound.proofs.Steadies.{next_course, own_course}
 use Rattle.lemma_end_measure_parts.proofs.Frame.{left_of, untouched}
 use Rattle.lemma_end_measure_parts.proofs.Working.{pick_most, carries_most}
 use Rattle.lemma_end_measure_parts.proofs.Slots.{OneFewer, Fewer, no_debts}
 use Rattle.lemma_end_measure_parts.proofs.Sums.{fewer_kept}
 use Rattle.lemma_end_measure.proofs.Giving.{changed_here}
-use Rattle.lemma_end_measure.proofs.Border.{Known, shared}
+use Rattle.lemma_end_measure.proofs.Border.{Known}
 use Rattle.lemma_end_measure.proofs.Skipping.{wide_falls, search_was}
 use Rattle.lemma_end_measure.proofs.Parts.{locks_stay}
 use Rattle.lemma_end_carrying.proofs.Exact.{changed_left, has_page, shares_fall}

@@ -1,10 +1,8 @@
 -- The steps of a victim on its way lower the measure: out of VRAM and TT, and giving back what its search took.
-use Rattle.std.proofs.Common.{◌≡◌, ℕ, ◌<◌, ◌≤◌, ◌+◌, ◌*◌, zero, suc, Bool, true, false, List, [], ◌∷◌, length, Option, Some, None, refl, sym, ◌∙◌, ap, ap₂, subst, arith, ◌⊎◌, inl, inr, ⊎_elim}
-use Rattle.std.specs.Prelude.{slice_get, sum_by, unwrap_or, is_none, is_some, not, ◌&&◌, ◌||◌, if◌then◌else◌}
-use Rattle.std.specs.List.{enumerate_from}
-use Rattle.std.proofs.lemmas.Bool.{false_from_ne_true, cases_Bool}
+use Rattle.std.proofs.Common.{◌≡◌, ℕ, ◌≤◌, ◌+◌, Bool, true, false, List, [], ◌∷◌, Some, None, refl, sym, ◌∙◌, ap, ap₂, arith, inr}
+use Rattle.std.specs.Prelude.{sum_by, unwrap_or, is_some, not, ◌&&◌, ◌||◌, if◌then◌else◌}
+use Rattle.std.proofs.lemmas.Bool.{false_from_ne_true}
 use Rattle.std.proofs.lemmas.List.Sums.{sum_by-cons}
-use Rattle.ttm_base.specs.ListWords.{last_of}
 use Rattle.ttm_base.specs.declared.Mem.{Mem}
 use Rattle.ttm_base.specs.declared.Mem.TheVariants.{System, Tt, Vram}
 use Rattle.ttm_base.specs.declared.BufId.{BufId}
@@ -14,7 +12,6 @@ use Rattle.ttm_base.specs.declared.Actor.TheVariants as actor
 use Rattle.journal_model.specs.declared.script.Script.{Script}
 use Rattle.journal_model.specs.declared.script.Command.{Command}
 use Rattle.journal_model.specs.declared.state.State.{State}
-use Rattle.journal_model.specs.declared.state.Course.{Course}
 use Rattle.journal_model.specs.declared.state.Victim.{Victim}
 use Rattle.journal_model.specs.declared.state.Buffer.{Buffer}
 use Rattle.journal_model.specs.declared.entry.Why.{Why}
@@ -22,7 +19,7 @@ use Rattle.journal_model.specs.declared.entry.Why.TheVariants as why
 use Rattle.journal_model.specs.declared.entry.Left.{Left}
 use Rattle.journal_model.specs.declared.entry.Kind.{Kind}
 use Rattle.journal_model.specs.declared.entry.Kind.TheVariants as kind
-use Rattle.journal_model.specs.State.{new_buffer, buffer, course, same_buffer, has_buffer, has_target, live_in, is_live, changed}
+use Rattle.journal_model.specs.State.{new_buffer, buffer, course, same_buffer, has_buffer, has_target, live_in}
 use Rattle.journal_model.specs.Commands.{named}
 use Rattle.journal_model.specs.Holds.{free_slot}
 use Rattle.journal_model.specs.Dry.{has_frame}
@@ -30,10 +27,10 @@ use Rattle.journal_model.specs.Search.{is_caught}
 use Rattle.journal_model.specs.Apply.{applied}
 use Rattle.journal_model.specs.ApplyPages.{with_spans, without_frames, unbound}
 use Rattle.journal_model.specs.ApplyMoves.{moved}
-use Rattle.law_progress.proofs.Measure.{one_if, frame_count, to_give_back, victim_left, search_left, left_of_buffer, slot_debt, slot_debts, locks_left, measure}
+use Rattle.law_progress.proofs.Measure.{one_if, to_give_back, victim_left, slot_debt, slot_debts, locks_left, measure}
 use Rattle.law_sound.proofs.Along.{Stepped}
 use Rattle.law_sound.proofs.Turns.{Works, OnVictim, InVram}
-use Rattle.law_sound.proofs.Bufs.{same_is, other_is, last_caught, none_missing, clash}
+use Rattle.law_sound.proofs.Bufs.{other_is, last_caught, none_missing, clash}
 use Rattle.law_sound.proofs.Steadies.{next_course, own_course}
 use Rattle.law_sound.proofs.OwnedKeeps.{has_stamp, begun_locks}
 use Rattle.lemma_end_measure_parts.proofs.Frame.{left_of, untouched}

@@ -1,12 +1,9 @@
 -- Entries that begin and end commands lower the measure.
-use Rattle.std.proofs.Common.{◌≡◌, ℕ, ◌<◌, ◌≤◌, ◌+◌, ◌*◌, ◌-◌, zero, suc, Bool, true, false, List, [], ◌∷◌, ◌++◌, length, length-append, Option, Some, None, IsSome, refl, sym, ◌∙◌, ap, subst, arith, ◌⊎◌, inl, inr, ⊎_elim}
+use Rattle.std.proofs.Common.{◌≡◌, ℕ, ◌<◌, ◌≤◌, ◌+◌, ◌*◌, Bool, true, false, List, [], ◌∷◌, ◌++◌, length, length-append, Option, Some, None, refl, sym, ◌∙◌, ap, subst, arith, inr}
 use Rattle.std.specs.Prelude.{slice_get, slice_set, sum_by, flat_map, unwrap_or, is_none, drop, ◌==◌, if◌then◌else◌}
-use Rattle.std.proofs.lemmas.Bool.{cases_Bool}
 use Rattle.ttm_base.specs.declared.BufId.{BufId}
-use Rattle.ttm_base.specs.declared.JobId.{JobId}
 use Rattle.ttm_base.specs.declared.Op.{Op}
 use Rattle.ttm_base.specs.declared.Stamp.{Stamp}
-use Rattle.ttm_base.specs.declared.Deny.{Deny}
 use Rattle.ttm_base.specs.declared.Actor.TheVariants as actor
 use Rattle.ttm_base.specs.Cutting.{packets_of, pieces_of}
 use Rattle.journal_model.specs.declared.script.Script.{Script}
@@ -15,23 +12,20 @@ use Rattle.journal_model.specs.declared.script.Command.{Command}
 use Rattle.journal_model.specs.declared.script.Command.TheVariants as command
 use Rattle.journal_model.specs.declared.state.State.{State}
 use Rattle.journal_model.specs.declared.state.Course.{Course}
-use Rattle.journal_model.specs.declared.state.Ghost.{Ghost}
-use Rattle.journal_model.specs.declared.entry.Shown.{Shown}
 use Rattle.journal_model.specs.declared.entry.Kind.{Kind}
 use Rattle.journal_model.specs.declared.entry.Kind.TheVariants as kind
-use Rattle.journal_model.specs.State.{new_buffer, new_course, buffer, buffer_in, live_in, course, course_of, without_buffer}
+use Rattle.journal_model.specs.State.{new_buffer, new_course, buffer, buffer_in, live_in, course, without_buffer}
 use Rattle.journal_model.specs.Commands.{commands_of, command_at_work, decl}
 use Rattle.journal_model.specs.Places.{packet_place}
-use Rattle.journal_model.specs.Tasks.{starts, first_missing}
+use Rattle.journal_model.specs.Tasks.{first_missing}
 use Rattle.journal_model.specs.Waits.{jobs_before_use}
 use Rattle.journal_model.specs.Apply.{applied}
-use Rattle.journal_model.specs.ApplyCommands.{has_made, on_to_next, named_in, ghost_of_freed}
+use Rattle.journal_model.specs.ApplyCommands.{on_to_next, named_in, ghost_of_freed}
 use Rattle.journal_model.specs.ApplyJobs.{ops_of}
-use Rattle.journal_model.specs.Complete.{thread_numbers}
 use Rattle.law_state.specs.GoodState.{GoodState}
 use Rattle.law_state.proofs.Rules.{Rules}
-use Rattle.law_progress.specs.Sound.{Has, Owned, command_of, locks}
-use Rattle.law_progress.proofs.Measure.{all_pages, packet_count, whole_command, locking_left, held_left, command_left, later_commands, thread_left, slot_debts, left_of_buffer, job_left, locks_left, measure}
+use Rattle.law_progress.specs.Sound.{Has, Owned}
+use Rattle.law_progress.proofs.Measure.{all_pages, packet_count, whole_command, locking_left, command_left, later_commands, thread_left, slot_debts, left_of_buffer, job_left, measure}
 use Rattle.law_sound.proofs.Along.{Stepped}
 use Rattle.law_sound.proofs.Orders.{there}
 use Rattle.law_sound.proofs.Turns.{OnNamed, Works}

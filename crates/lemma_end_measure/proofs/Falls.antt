@@ -1,46 +1,36 @@
 -- Entries that begin and end commands, and those of engines and the reaper, lower the measure; those of searches are left.
-use Rattle.std.proofs.Common.{◌≡◌, ℕ, ◌<◌, ◌≤◌, ◌+◌, zero, suc, Bool, true, false, List, [], ◌∷◌, Option, Some, None, Result, Ok, Err, IsTrue, refl, sym, ◌∙◌, ap, subst, arith, ⊎_elim, inl, inr}
-use Rattle.std.specs.Prelude.{slice_get, slice_set, replicate, filter_map, find, nat_lt, not, unwrap_or, is_some, length, ◌==◌, ◌&&◌, ◌||◌}
-use Rattle.std.proofs.lemmas.Bool.{and_parts, not-true}
-use Rattle.std.proofs.lemmas.Bool.Decides.{nat_tests}
+use Rattle.std.proofs.Common.{◌≡◌, ℕ, ◌≤◌, ◌+◌, zero, suc, Bool, true, false, List, [], ◌∷◌, Option, Some, None, refl, sym, ◌∙◌, ap, subst, inl, inr}
+use Rattle.std.specs.Prelude.{slice_set, not, unwrap_or, is_some, ◌||◌}
 use Rattle.ttm_base.specs.declared.BufId.{BufId}
 use Rattle.ttm_base.specs.declared.Stamp.{Stamp}
-use Rattle.ttm_base.specs.declared.JobId.{JobId}
-use Rattle.ttm_base.specs.declared.Loc.TheVariants as loc
-use Rattle.ttm_base.specs.declared.Need.{Need}
-use Rattle.ttm_base.specs.declared.Need.TheVariants as need
-use Rattle.ttm_base.specs.declared.Actor.{Actor}
 use Rattle.ttm_base.specs.declared.Actor.TheVariants as actor
 use Rattle.journal_model.specs.declared.script.Script.{Script}
 use Rattle.journal_model.specs.declared.script.Command.{Command}
-use Rattle.journal_model.specs.declared.script.Command.TheVariants as command
 use Rattle.journal_model.specs.declared.state.State.{State}
-use Rattle.journal_model.specs.declared.state.Course.{Course}
 use Rattle.journal_model.specs.declared.state.Victim.{Victim}
 use Rattle.journal_model.specs.declared.state.Buffer.{Buffer}
 use Rattle.journal_model.specs.declared.state.Task.{Task}
 use Rattle.journal_model.specs.declared.state.Task.TheVariants as task
 use Rattle.journal_model.specs.declared.entry.Kind.{Kind}
 use Rattle.journal_model.specs.declared.entry.Kind.TheVariants as kind
-use Rattle.journal_model.specs.State.{new_buffer, buffer, course, course_of, grip, has_buffer, has_target, live_in}
+use Rattle.journal_model.specs.State.{new_buffer, buffer, course, has_buffer, has_target, live_in}
 use Rattle.journal_model.specs.Tasks.{starts, first_missing}
 use Rattle.journal_model.specs.PageSteps.{next_job, target_to_untake}
 use Rattle.ttm_base.specs.declared.Mem.TheVariants.{Vram}
 use Rattle.journal_model.specs.Commands.{decl, named}
 use Rattle.journal_model.specs.Dry.{has_frame}
 use Rattle.journal_model.specs.Ready.{first_unready, is_ready}
-use Rattle.journal_model.specs.Search.{is_caught}
 use Rattle.journal_model.specs.Places.{slots_of}
 use Rattle.journal_model.specs.Holds.{has_number}
 use Rattle.journal_model.specs.Apply.{applied}
-use Rattle.law_progress.specs.Sound.{locks, command_of}
+use Rattle.law_progress.specs.Sound.{locks}
 use Rattle.law_progress.proofs.Measure.{measure}
 use Rattle.law_sound.proofs.Along.{Stepped}
-use Rattle.law_sound.proofs.Turns.{Turn, Works, OnNamed, OnVictim, answer, start, lock, refuse, give, give_up, victim_skip, act}
-use Rattle.law_sound.proofs.Gifts.{Gives, answers, makes, exists, shifts, draws, no_buffer, reserves, backs, seeks, binds, unbinds, moves, fills, lets_go, empties, depopulates, untakes, skips, gives_up, refuses, arms, frees, swaps, no_swap, acts}
+use Rattle.law_sound.proofs.Turns.{Turn, Works, OnNamed, OnVictim, answer, start, lock, give, victim_skip, act}
+use Rattle.law_sound.proofs.Gifts.{Gives, answers, makes, exists, shifts, draws, no_buffer, reserves, backs, depopulates, untakes, skips, gives_up, refuses, arms, frees, no_swap, acts}
 use Rattle.law_sound.proofs.Bufs.{victims_of, same_self, has_found, none_missing, none_last, last_caught}
 use Rattle.law_sound.proofs.Steadies.{locking_command, lock_wants, locks_alone}
-use Rattle.law_sound.proofs.OwnedKeeps.{HasIn, bare, unlocked, unlocked_alone, has_stamp, begun_locks}
+use Rattle.law_sound.proofs.OwnedKeeps.{bare, unlocked_alone, has_stamp, begun_locks}
 use Rattle.lemma_end_measure_parts.proofs.Slots.{OneFewer, Fewer, same_one, same_all}
 use Rattle.lemma_end_measure.proofs.Border.{Known, next_falls, new_falls, bulk_falls, ticket_falls, free_falls, arm_falls}
 use Rattle.lemma_end_measure.proofs.Skipping.{skip_falls}
@@ -147,13 +137,6 @@ module _ (script : Script) (s : State) (t : ℕ) (known : Known script s) where
       let f' = subst (λ z. first_missing (course s t) z ≡ Some b) (sym e) f in
       let stamp = stamp_of k st n' in
       backoff_falls script s t b holder stamp.0 known st stamp.1 m f' held older (lock_victim k st b m n' f')
-  thread_falls k st cmd e x turn (seeks sought) rest = rest refl
-  thread_falls k st cmd e x turn binds rest = rest refl
-  thread_falls k st cmd e x turn (unbinds i) rest = rest refl
-  thread_falls k st cmd e x turn moves rest = rest refl
-  thread_falls k st cmd e x turn (fills filled) rest = rest refl
-  thread_falls k st cmd e x turn lets_go rest = rest refl
-  thread_falls k st cmd e x turn (empties w f g) rest = rest refl
   thread_falls k st cmd e x (give {b = b} d on l fail u g) (depopulates m f) rest =
       let on' = subst (λ z. OnNamed s (course s t) z) (sym e) on in
       let w = at_work st.step.cmd b on'.works (subst (λ z. first_unready script s z ≡ Some b) (sym e) u) in
@@ -161,7 +144,6 @@ module _ (script : Script) (s : State) (t : ℕ) (known : Known script s) where
       let stamp = stamp_of k st on'.works.begun in
       depopulate_falls script s t b w.buffer stamp.0 d known st w.live w.member (none_last (course s t).caught on'.alone) on'.works stamp.1 fail
       (subst (λ y. y.mem ≡ Vram) is m) (subst (λ y. has_frame y ≡ true) is f)
-  thread_falls k st cmd e x turn (depopulates m f) rest = rest refl
   thread_falls k st cmd e x (give {b = b} d on l fail u g) (untakes n) rest =
       let on' = subst (λ z. OnNamed s (course s t) z) (sym e) on in
       let w = at_work st.step.cmd b on'.works (subst (λ z. first_unready script s z ≡ Some b) (sym e) u) in
@@ -169,7 +151,6 @@ module _ (script : Script) (s : State) (t : ℕ) (known : Known script s) where
       let stamp = stamp_of k st on'.works.begun in
       untake_falls script s t b w.buffer stamp.0 d (target_to_untake (buffer s b)) known st w.live w.member (none_last (course s t).caught on'.alone) on'.works stamp.1 fail
       (subst (λ y. has_target (target_to_untake (buffer s b)) y ≡ true) is (target_there (buffer s b) g n))
-  thread_falls k st cmd e x turn (untakes n) rest = rest refl
   thread_falls k st cmd e x (victim_skip v d on vram fail g) skips rest =
       let on' = subst (λ z. OnVictim (course s t) z v) (sym e) on in
       let stamp = stamp_of k st on'.works.begun in
@@ -184,9 +165,9 @@ module _ (script : Script) (s : State) (t : ℕ) (known : Known script s) where
       let on' = subst (λ z. OnNamed s (course s t) z) (sym e) on in
       let stamp = stamp_of k st on'.works.begun in
       free_falls script s t b g stamp.0 known st stamp.1 on' f
-  thread_falls k st cmd e x turn (swaps is f g) rest = rest refl
   thread_falls k st cmd e x turn (no_swap is) rest = next_falls script s t k known st refl refl
   thread_falls k st cmd e x turn acts rest = next_falls script s t k known st refl refl
+  thread_falls k st cmd e x turn gives rest = rest refl
 
   -- the entry of a thread, where those of searches do
   pub entry_falls : (k : Kind) (st : Stepped script s t k) → (is_searching st.step.task k ≡ true → Lower k) → Lower k

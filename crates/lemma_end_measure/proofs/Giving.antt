@@ -1,6 +1,6 @@
 -- What a failed search of a named buffer gives back lowers the measure.
-use Rattle.std.proofs.Common.{◌≡◌, ℕ, ◌<◌, ◌≤◌, ◌+◌, ◌*◌, zero, suc, Bool, true, false, List, [], ◌∷◌, length, Option, Some, None, refl, sym, ◌∙◌, ap, subst, arith, ◌⊎◌, inl, inr, ⊎_elim}
-use Rattle.std.specs.Prelude.{slice_get, slice_set, map, filter_map, nat_eq, count_by, sum_by, cond, not, unwrap_or, is_some, is_none, option_map, option_and_then, ◌||◌, ◌&&◌, if◌then◌else◌}
+use Rattle.std.proofs.Common.{◌≡◌, ℕ, ◌<◌, ◌≤◌, ◌+◌, ◌*◌, zero, suc, Bool, true, false, List, [], ◌∷◌, length, Option, Some, None, refl, sym, ◌∙◌, ap, subst, arith, inr, ⊎_elim}
+use Rattle.std.specs.Prelude.{slice_get, slice_set, map, filter_map, nat_eq, count_by, sum_by, cond, not, unwrap_or, is_none, option_map, option_and_then, ◌||◌, ◌&&◌, if◌then◌else◌}
 use Rattle.std.specs.List.{list_any, enumerate_from}
 use Rattle.std.proofs.lemmas.Bool.{cases_Bool, and_parts, or_cases, or_left, or_right, both_ways}
 use Rattle.std.proofs.lemmas.List.Sums.{sum_by-cons}
@@ -17,7 +17,6 @@ use Rattle.journal_model.specs.declared.script.Script.{Script}
 use Rattle.journal_model.specs.declared.script.Decl.{Decl}
 use Rattle.journal_model.specs.declared.script.Command.{Command}
 use Rattle.journal_model.specs.declared.state.State.{State}
-use Rattle.journal_model.specs.declared.state.Course.{Course}
 use Rattle.journal_model.specs.declared.state.Buffer.{Buffer}
 use Rattle.journal_model.specs.declared.entry.Kind.{Kind}
 use Rattle.journal_model.specs.declared.entry.Kind.TheVariants as kind
@@ -27,7 +26,7 @@ use Rattle.journal_model.specs.Places.{is_frame, slot_of}
 use Rattle.journal_model.specs.Holds.{has_number}
 use Rattle.journal_model.specs.Dry.{has_frame}
 use Rattle.journal_model.specs.Ready.{has_some_target}
-use Rattle.journal_model.specs.Tasks.{first_missing, gives_back}
+use Rattle.journal_model.specs.Tasks.{gives_back}
 use Rattle.journal_model.specs.PageSteps.{target_to_untake}
 use Rattle.journal_model.specs.Apply.{applied}
 use Rattle.journal_model.specs.ApplyPages.{with_spans, without_frame, without_frames}
@@ -36,14 +35,13 @@ use Rattle.law_progress.proofs.MeasureFalls.{sum_set, sum_most}
 use Rattle.law_state.proofs.Lists.{get_within}
 use Rattle.law_sound.proofs.Along.{Stepped}
 use Rattle.law_sound.proofs.Turns.{Works}
-use Rattle.law_sound.proofs.Bufs.{same_self, same_is, same_or_other, other_is, none_missing}
+use Rattle.law_sound.proofs.Bufs.{same_is}
 use Rattle.law_sound.proofs.Steadies.{next_course, own_course}
-use Rattle.law_sound.proofs.Owners.{OneCourse}
 use Rattle.lemma_end_measure_parts.proofs.Frame.{left_of, left_is, others_left, untouched}
-use Rattle.lemma_end_measure_parts.proofs.Working.{phase, phase_is}
+use Rattle.lemma_end_measure_parts.proofs.Working.{phase_is}
 use Rattle.lemma_end_measure_parts.proofs.Slots.{OneFewer, Fewer, debts_keep, no_debts}
 use Rattle.lemma_end_measure_parts.proofs.Sums.{sum_one, fewer_kept}
-use Rattle.lemma_end_measure.proofs.Border.{Known, shared, range, one, others_same, own_is, own_now}
+use Rattle.lemma_end_measure.proofs.Border.{Known, range, one, others_same, own_is, own_now}
 
 -- ---- one buffer
 

@@ -1,10 +1,9 @@
 -- Reservations and backoffs lower the measure.
-use Rattle.std.proofs.Common.{◌≡◌, ℕ, ◌<◌, ◌≤◌, ◌+◌, ◌*◌, zero, suc, Bool, true, false, List, [], ◌∷◌, ◌++◌, length, Option, Some, None, IsSome, refl, sym, ◌∙◌, ap, ap₂, subst, arith, ◌⊎◌, inl, inr, ⊎_elim}
-use Rattle.std.specs.Prelude.{slice_get, sum_by, count_by, cond, filter_map, find, not, unwrap_or, is_none, nat_lt, nat_le, option_map, option_to_list, ◌==◌, ◌&&◌, ◌||◌, if◌then◌else◌}
+use Rattle.std.proofs.Common.{◌≡◌, ℕ, ◌<◌, ◌≤◌, ◌+◌, zero, suc, Bool, true, false, List, [], ◌∷◌, ◌++◌, length, Option, Some, None, refl, sym, ◌∙◌, ap, ap₂, subst, arith, ◌⊎◌, inl, inr, ⊎_elim}
+use Rattle.std.specs.Prelude.{sum_by, count_by, cond, filter_map, find, not, unwrap_or, is_none, nat_lt, option_map, option_to_list, ◌==◌, ◌&&◌}
 use Rattle.std.specs.List.{cons_option}
-use Rattle.std.proofs.lemmas.Bool.{cases_Bool, cases_eq, and_parts, and_from, or_cases, or_parts, both_ways, not-false, not_from_true, not-true, not_from_false, false_from_ne_true}
+use Rattle.std.proofs.lemmas.Bool.{cases_eq, and_parts, or_cases, both_ways, not-false, not_from_true, not-true, not_from_false, false_from_ne_true}
 use Rattle.std.proofs.lemmas.Bool.Decides.{nat_tests}
-use Rattle.std.proofs.lemmas.Grind.{common_steps}
 use Rattle.std.proofs.lemmas.List.Sums.{sum_by-cons}
 use Rattle.ttm_base.specs.ListWords.{count_from}
 use Rattle.ttm_base.specs.declared.BufId.{BufId}
@@ -16,24 +15,23 @@ use Rattle.journal_model.specs.declared.state.State.{State}
 use Rattle.journal_model.specs.declared.state.Course.{Course}
 use Rattle.journal_model.specs.declared.entry.Kind.{Kind}
 use Rattle.journal_model.specs.declared.entry.Kind.TheVariants as kind
-use Rattle.journal_model.specs.State.{new_buffer, course, grip, live_in, is_live, same_buffer, has_buffer}
-use Rattle.journal_model.specs.Commands.{command_at_work, named}
-use Rattle.journal_model.specs.Tasks.{starts, first_missing}
+use Rattle.journal_model.specs.State.{new_buffer, course, grip, is_live, same_buffer, has_buffer}
+use Rattle.journal_model.specs.Commands.{named}
+use Rattle.journal_model.specs.Tasks.{first_missing}
 use Rattle.journal_model.specs.Next.{backs_off}
 use Rattle.journal_model.specs.Apply.{applied}
-use Rattle.journal_model.specs.ApplyCommands.{with_holder, released}
 use Rattle.journal_model.specs.Complete.{thread_numbers}
 use Rattle.journal_model.specs.Scheduled.{Ticketed, ticketed}
-use Rattle.law_progress.specs.Sound.{Has, Owned, command_of}
+use Rattle.law_progress.specs.Sound.{command_of}
 use Rattle.law_progress.proofs.DeadEnds.{command_is}
 use Rattle.law_progress.proofs.Measure.{left_of_buffer, job_left, is_elder, number_of, waits_for_elder, missing_of, missing, locks_left, locking_left, command_left, thread_left, slot_debts, measure}
 use Rattle.law_sound.proofs.Along.{Stepped}
-use Rattle.law_sound.proofs.Bufs.{same_self, same_is, same_or_other, has_pushed, has_more, has_new, missing_is_named, missing_not_held, clash}
+use Rattle.law_sound.proofs.Bufs.{same_is, has_more, has_new, missing_is_named, missing_not_held}
 use Rattle.law_sound.proofs.Steadies.{next_course, own_course}
-use Rattle.law_sound.proofs.Owners.{OneCourse, none_or}
+use Rattle.law_sound.proofs.Owners.{none_or}
 use Rattle.law_sound.proofs.Grips.{grip_other, released_other}
 use Rattle.lemma_end_measure_parts.proofs.Locks.{digit, Each, Among, missing_most, locks_fall, backoff_lowers}
-use Rattle.lemma_end_measure_parts.proofs.Frame.{left_of, left_is, others_left, others_buffer}
+use Rattle.lemma_end_measure_parts.proofs.Frame.{left_of, left_is, others_left}
 use Rattle.lemma_end_measure_parts.proofs.Working.{phase, phase_is, working_most}
 use Rattle.lemma_end_measure_parts.proofs.Slots.{Fewer, same_all, debts_keep, no_debts}
 use Rattle.lemma_end_measure_parts.proofs.Sums.{sum_one}

@@ -1,6 +1,6 @@
 -- The measure of the first state, against the limit of turns.
-use Rattle.std.proofs.Common.{◌≡◌, ℕ, ◌<◌, ◌≤◌, ◌+◌, ◌*◌, ◌-◌, zero, suc, Bool, true, false, List, [], ◌∷◌, length, Option, Some, None, refl, sym, ◌∙◌, ap, ap₂, subst, arith}
-use Rattle.std.specs.Prelude.{slice_get, map, filter_map, sum_by, unwrap_or, is_some, is_none, option_map, drop, not, ◌==◌, if◌then◌else◌}
+use Rattle.std.proofs.Common.{◌≡◌, ℕ, ◌<◌, ◌+◌, ◌*◌, ◌-◌, zero, suc, true, false, List, [], ◌∷◌, length, Option, Some, None, refl, sym, ◌∙◌, ap, ap₂, arith}
+use Rattle.std.specs.Prelude.{slice_get, map, filter_map, sum_by, unwrap_or, is_none, option_map, drop, not, ◌==◌, if◌then◌else◌}
 use Rattle.std.specs.List.{cons_option}
 use Rattle.std.proofs.lemmas.Bool.Decides.{nat_tests}
 use Rattle.std.proofs.lemmas.List.Sums.{sum_by-cons}
@@ -8,9 +8,7 @@ use Rattle.ttm_base.specs.ListWords.{count_from}
 use Rattle.journal_model.specs.declared.script.Script.{Script}
 use Rattle.journal_model.specs.declared.script.Command.{Command}
 use Rattle.journal_model.specs.declared.script.Command.TheVariants as command
-use Rattle.journal_model.specs.declared.state.State.{State}
 use Rattle.journal_model.specs.declared.state.Course.{Course}
-use Rattle.journal_model.specs.declared.state.Buffer.{Buffer}
 use Rattle.journal_model.specs.State.{course, new_course}
 use Rattle.journal_model.specs.Commands.{commands_of, command_at_work}
 use Rattle.journal_model.specs.Complete.{thread_numbers}
@@ -18,7 +16,7 @@ use Rattle.journal_model.specs.Legal.{first_state}
 use Rattle.journal_model.specs.Scheduled.{ticketed, packets_in, turn_limit, scheduled_actors}
 use Rattle.law_progress.proofs.DeadEnds.{command_is}
 use Rattle.law_progress.proofs.OthersSame.{sum_same}
-use Rattle.law_progress.proofs.Measure.{all_pages, packet_count, whole_command, command_left, later_commands, thread_left, slot_debts, left_of_buffer, missing, binary, by_age, may_lock, locks_left, measure, missing_of, waits_for_elder}
+use Rattle.law_progress.proofs.Measure.{all_pages, packet_count, whole_command, command_left, thread_left, slot_debts, left_of_buffer, missing, binary, by_age, may_lock, measure, missing_of, waits_for_elder}
 use Rattle.lemma_end_measure_parts.proofs.Slots.{no_debts}
 use Rattle.law_sound.proofs.Along.{first_course, sound_first}
 
@@ -126,16 +124,7 @@ module _ (script : Script) where
 
   packets_same : (cmd : Command) → packet_count cmd ≡ packets_in cmd
   packets_same (command.Submit engine ops) = refl
-  packets_same (command.New b) = refl
-  packets_same (command.Free b) = refl
-  packets_same (command.Pin b) = refl
-  packets_same (command.Unpin b) = refl
-  packets_same (command.Find b) = refl
-  packets_same (command.SwapOut b) = refl
-  packets_same (command.Write b off bytes) = refl
-  packets_same (command.Read b off len) = refl
-  packets_same (command.Move b mem) = refl
-  packets_same (command.Touch group) = refl
+  packets_same cmd = refl
 
   -- the measure and the schedule stay below the limit
   pub first_below : measure script (first_state script) + length (scheduled_actors script) < turn_limit script

@@ -1,5 +1,5 @@
 -- The parts of the measure after an entry of one thread.
-use Rattle.std.proofs.Common.{◌≡◌, ℕ, ◌≤◌, ◌+◌, Bool, true, false, List, [], ◌∷◌, ◌++◌, length, Option, Some, None, refl, sym, ◌∙◌, ap, subst, arith, ◌⊎◌, inl, inr, ⊎_elim}
+use Rattle.std.proofs.Common.{◌≡◌, ℕ, ◌≤◌, ◌+◌, true, false, length, Some, None, sym, ◌∙◌, ap, subst, arith, inr, ⊎_elim}
 use Rattle.std.specs.Prelude.{sum_by, unwrap_or, is_none}
 use Rattle.std.specs.List.{enumerate_from}
 use Rattle.std.proofs.lemmas.Bool.{cases_eq, not-false, not_from_true}
@@ -18,9 +18,8 @@ use Rattle.journal_model.specs.Scheduled.{Ticketed}
 use Rattle.law_progress.proofs.Measure.{is_elder, number_of, waits_for_elder, missing, packet_count, to_give_back, if_named, search_left, later_commands, thread_left, slot_debts, locks_left, measure}
 use Rattle.law_sound.proofs.Along.{Stepped}
 use Rattle.law_sound.proofs.Steadies.{next_course, own_course}
-use Rattle.law_sound.proofs.Owners.{OneCourse}
 use Rattle.lemma_end_measure_parts.proofs.Locks.{digit, locks_keep}
-use Rattle.lemma_end_measure.proofs.Locking.{Waits, waits_of, waits_from, missing_in, missing_is, stamps_same, missing_other, missing_own}
+use Rattle.lemma_end_measure.proofs.Locking.{waits_of, waits_from, missing_in, missing_is, stamps_same, missing_other, missing_own}
 use Rattle.lemma_end_measure_parts.proofs.Frame.{left_of, left_is, others_left}
 use Rattle.lemma_end_measure_parts.proofs.Working.{phase_is}
 use Rattle.lemma_end_measure_parts.proofs.Slots.{Fewer, debts_keep}

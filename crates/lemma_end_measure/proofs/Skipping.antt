@@ -1,11 +1,10 @@
 -- A skipped victim lowers the measure, and what a failed search of a named buffer gives back.
-use Rattle.std.proofs.Common.{◌≡◌, ℕ, ◌<◌, ◌≤◌, ◌+◌, ◌*◌, ◌-◌, zero, suc, Bool, true, false, List, [], ◌∷◌, ◌++◌, length, Option, Some, None, refl, sym, ◌∙◌, ap, ap₂, subst, arith, ◌⊎◌, inl, inr, ⊎_elim}
-use Rattle.std.specs.Prelude.{slice_get, slice_set, filter, sum_by, cond, not, unwrap_or, is_some, is_none, ◌||◌, ◌&&◌, if◌then◌else◌}
+use Rattle.std.proofs.Common.{◌≡◌, ℕ, ◌≤◌, ◌+◌, Bool, true, false, List, [], ◌∷◌, ◌++◌, length, Option, Some, None, refl, sym, ◌∙◌, ap, ap₂, subst, arith, inr, ⊎_elim}
+use Rattle.std.specs.Prelude.{sum_by, cond, not, unwrap_or, is_some, is_none, ◌||◌, if◌then◌else◌}
 use Rattle.std.specs.List.{list_any, enumerate_from}
-use Rattle.std.proofs.lemmas.Bool.{cases_Bool, and_parts, and_from, or_cases, or_left, or_right, or_parts, or_from, both_ways, false_from_ne_true}
+use Rattle.std.proofs.lemmas.Bool.{and_parts, or_cases, or_left, or_right}
 use Rattle.std.proofs.lemmas.List.Sums.{sum_by-cons}
 use Rattle.ttm_base.specs.ListWords.{last_of, last_or}
-use Rattle.ttm_base.specs.declared.Mem.{Mem}
 use Rattle.ttm_base.specs.declared.Mem.TheVariants.{System, Tt, Vram}
 use Rattle.ttm_base.specs.declared.BufId.{BufId}
 use Rattle.ttm_base.specs.declared.Deny.{Deny}
@@ -17,30 +16,27 @@ use Rattle.journal_model.specs.declared.script.Command.{Command}
 use Rattle.journal_model.specs.declared.state.State.{State}
 use Rattle.journal_model.specs.declared.state.Course.{Course}
 use Rattle.journal_model.specs.declared.state.Victim.{Victim}
-use Rattle.journal_model.specs.declared.state.Buffer.{Buffer}
 use Rattle.journal_model.specs.declared.entry.Why.{Why}
 use Rattle.journal_model.specs.declared.entry.Why.TheVariants as why
 use Rattle.journal_model.specs.declared.entry.Kind.{Kind}
 use Rattle.journal_model.specs.declared.entry.Kind.TheVariants as kind
 use Rattle.journal_model.specs.State.{new_buffer, buffer, course, same_buffer, has_buffer, has_target}
-use Rattle.journal_model.specs.Commands.{named}
 use Rattle.journal_model.specs.Tasks.{first_missing}
 use Rattle.journal_model.specs.Holds.{free_slot}
 use Rattle.journal_model.specs.Apply.{applied}
 use Rattle.journal_model.specs.ApplyVictims.{no_longer_caught, with_skip}
-use Rattle.law_progress.proofs.Measure.{one_if, packet_count, to_give_back, victim_left, has_failed, not_skipped, room_for_victims, if_named, named_left, search_share, search_left, held_left, later_commands, thread_left, slot_debt, slot_debts, locks_left, measure}
+use Rattle.law_progress.proofs.Measure.{one_if, packet_count, to_give_back, victim_left, has_failed, not_skipped, room_for_victims, if_named, search_share, search_left, later_commands, thread_left, slot_debt, slot_debts, measure}
 use Rattle.law_progress.proofs.MeasureFalls.{sum_most}
 use Rattle.law_sound.proofs.Along.{Stepped}
-use Rattle.law_sound.proofs.Turns.{Works, OnVictim, InVram}
+use Rattle.law_sound.proofs.Turns.{OnVictim, InVram}
 use Rattle.law_sound.proofs.Bufs.{same_self, same_is, same_or_other, let_go, has_more, has_new}
 use Rattle.law_sound.proofs.Steadies.{next_course, own_course}
-use Rattle.law_sound.proofs.Owners.{OneCourse}
 use Rattle.lemma_end_measure_parts.proofs.Locks.{locks_most}
 use Rattle.lemma_end_measure_parts.proofs.Frame.{left_of, left_is, others_left}
-use Rattle.lemma_end_measure_parts.proofs.Working.{phase, phase_is}
+use Rattle.lemma_end_measure_parts.proofs.Working.{phase_is}
 use Rattle.lemma_end_measure_parts.proofs.Slots.{Fewer, same_all, debts_keep}
 use Rattle.lemma_end_measure_parts.proofs.Sums.{sum_one}
-use Rattle.lemma_end_measure.proofs.Border.{Known, shared, range, one, others_same, own_is, own_was, own_now}
+use Rattle.lemma_end_measure.proofs.Border.{Known, shared, range, one, others_same, own_is, own_now}
 
 -- ---- victims let go
 

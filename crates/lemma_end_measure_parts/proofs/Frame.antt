@@ -1,16 +1,14 @@
 -- An entry of one thread leaves the others' buffers and costs alone.
-use Rattle.std.proofs.Common.{◌≡◌, ℕ, Bool, true, false, List, [], ◌∷◌, length, ◌+◌, Option, Some, None, IsSome, refl, sym, ◌∙◌, ap, subst, ◌⊎◌, inl, inr, ⊎_elim}
-use Rattle.std.specs.Prelude.{slice_get, slice_set, unwrap_or, fold, find, not, ◌||◌}
+use Rattle.std.proofs.Common.{◌≡◌, ℕ, Bool, true, false, List, [], ◌∷◌, length, ◌+◌, Option, Some, None, refl, sym, ◌∙◌, ap, subst, ◌⊎◌, inl, inr, ⊎_elim}
+use Rattle.std.specs.Prelude.{unwrap_or, fold, not}
 use Rattle.std.proofs.lemmas.Bool.{cases_Bool, or_cases, or_parts, or_left, both_ways}
 use Rattle.ttm_base.specs.declared.BufId.{BufId}
 use Rattle.ttm_base.specs.declared.Stamp.{Stamp}
 use Rattle.ttm_base.specs.declared.JobId.{JobId}
 use Rattle.ttm_base.specs.declared.Op.{Op}
-use Rattle.ttm_base.specs.declared.Mem.{Mem}
 use Rattle.ttm_base.specs.declared.Actor.TheVariants as actor
 use Rattle.journal_model.specs.declared.script.Script.{Script}
 use Rattle.journal_model.specs.declared.script.Command.{Command}
-use Rattle.journal_model.specs.declared.script.Command.TheVariants as command
 use Rattle.journal_model.specs.declared.state.State.{State}
 use Rattle.journal_model.specs.declared.state.Course.{Course}
 use Rattle.journal_model.specs.declared.state.Victim.{Victim}
@@ -19,7 +17,7 @@ use Rattle.journal_model.specs.declared.state.Task.{Task}
 use Rattle.journal_model.specs.declared.state.Task.TheVariants as task
 use Rattle.journal_model.specs.declared.entry.Kind.{Kind}
 use Rattle.journal_model.specs.declared.entry.Kind.TheVariants as kind
-use Rattle.journal_model.specs.State.{new_buffer, new_course, same_buffer, has_buffer, live_in, is_live, buffer, changed, grip, course, course_of}
+use Rattle.journal_model.specs.State.{new_buffer, same_buffer, has_buffer, live_in, is_live, buffer, changed, grip, course}
 use Rattle.journal_model.specs.Commands.{named, command_at_work}
 use Rattle.journal_model.specs.Search.{is_caught, Quest}
 use Rattle.journal_model.specs.Tasks.{first_missing}
@@ -31,11 +29,11 @@ use Rattle.law_progress.specs.Sound.{Has, Owned, command_of}
 use Rattle.law_progress.proofs.DeadEnds.{command_is}
 use Rattle.law_progress.proofs.Measure.{command_left, later_commands, thread_left}
 use Rattle.law_progress.proofs.OthersSame.{SameHad, command_same}
-use Rattle.law_sound.proofs.Turns.{Turn, Works, OnVictim, OnNamed, OnBuffer, answer, start, lock, victim_unbind, victim_empty, victim_give, victim_skip, victim_move, victim_fill, victim_search, refuse, give, give_up, act, fill_in_place, ask, bind, fill_to_bind, hop_up, unbind, move_up, move_across, move_down, fill_to_move, hop_down}
-use Rattle.law_sound.proofs.Gifts.{Gives, Sought, Filled, answers, makes, exists, shifts, draws, no_buffer, reserves, backs, seeks, binds, unbinds, moves, fills, lets_go, empties, depopulates, untakes, skips, gives_up, refuses, arms, frees, swaps, no_swap, acts, finds, evicts, dries, fresh, again, back, evicts_for_swap, nothing}
+use Rattle.law_sound.proofs.Turns.{Turn, Works, OnVictim, OnBuffer, victim_unbind, victim_empty, victim_give, victim_skip, victim_move, victim_fill, victim_search, give, act, fill_in_place, ask, bind, fill_to_bind, hop_up, unbind, move_up, move_across, move_down, fill_to_move, hop_down}
+use Rattle.law_sound.proofs.Gifts.{Gives, Sought, Filled, makes, seeks, binds, unbinds, moves, fills, empties, depopulates, untakes, arms, frees, swaps, finds, evicts, dries, fresh, again, back, evicts_for_swap, nothing}
 use Rattle.law_sound.proofs.Bufs.{same_self, same_is, has_found, last_caught, none_missing, clash}
 use Rattle.law_sound.proofs.Owners.{OneCourse, none_or}
-use Rattle.law_sound.proofs.Grips.{live_set, IsFree, victim_free, swap_free}
+use Rattle.law_sound.proofs.Grips.{live_set, victim_free, swap_free}
 use Rattle.law_sound.proofs.OwnedKeeps.{HasIn}
 
 -- ---- which buffers an entry changes
@@ -83,19 +81,7 @@ untouched script s t (kind.Move b mem n l) d h = other_changed _ s.core.buffers 
 untouched script s t (kind.Catch b w) d h = other_changed _ s.core.buffers b d h
 untouched script s t (kind.SwapOut b page slot) d h = other_changed _ s.core.buffers b d h
 untouched script s t (kind.Arm engine n) d h = other_uses (record { ctx = engine; num = n }) (ops_of (command_at_work script s t)) (named_in (command_at_work script s t)) s.core.buffers d h
-untouched script s t (kind.Ticket stamp) d h = refl
-untouched script s t (kind.Reserve b) d h = refl
-untouched script s t (kind.Backoff b stamp) d h = refl
-untouched script s t (kind.Loose b) d h = refl
-untouched script s t (kind.Skip b) d h = refl
-untouched script s t (kind.Dry b k w) d h = refl
-untouched script s t (kind.NoPages b) d h = refl
-untouched script s t (kind.Packet n k piece) d h = refl
-untouched script s t (kind.Done n) d h = refl
-untouched script s t (kind.Reap g) d h = refl
-untouched script s t (kind.Bulk group) d h = refl
-untouched script s t (kind.Result r) d h = refl
-untouched script s t (kind.Refused x) d h = refl
+untouched script s t k d h = refl
 
 -- ---- whose they are
 
@@ -128,9 +114,6 @@ module _ (script : Script) (s : State) (c : Course) (cmd : Command) where
 
   -- the thread has the buffer of its task
   pub turn_has : (x : Task) (b : BufId) → Turn script s c cmd x → own_buffer x ≡ Some b → HasIn c b
-  turn_has x b (answer m) e = nothing_is b e
-  turn_has x b (start m q) e = nothing_is b e
-  turn_has x b (lock m n f) e = nothing_is b e
   turn_has x b (victim_unbind v on q) e = of_victim v b on e
   turn_has x b (victim_empty v on q r) e = of_victim v b on e
   turn_has x b (victim_give v d on i f q) e = of_victim v b on e
@@ -138,10 +121,7 @@ module _ (script : Script) (s : State) (c : Course) (cmd : Command) where
   turn_has x b (victim_move v on i f q r) e = of_victim v b on e
   turn_has x b (victim_fill v on i f q r) e = of_victim v b on e
   turn_has x b (victim_search v on i f q) e = of_victim v b on e
-  turn_has x b (refuse on r) e = nothing_is b e
   turn_has x b (give {b = a} d on l f u g) e = of_first a b on.works u e
-  turn_has x b (give_up on l f u) e = nothing_is b e
-  turn_has x b (act on l f u) e = nothing_is b e
   turn_has x b (fill_in_place {b = a} on i) e = of_buffer a b on e
   turn_has x b (ask {b = a} on n) e = of_buffer a b on.on e
   turn_has x b (bind {b = a} on q r) e = of_buffer a b on.on.on e
@@ -153,6 +133,7 @@ module _ (script : Script) (s : State) (c : Course) (cmd : Command) where
   turn_has x b (move_down {b = a} on q r p) e = of_buffer a b on.on.on e
   turn_has x b (fill_to_move {b = a} on q r p) e = of_buffer a b on.on.on e
   turn_has x b (hop_down {b = a} on q r) e = of_buffer a b on.on.on e
+  turn_has x b it e = nothing_is b e
 
 module _ (script : Script) (s : State) (t : ℕ) (cmd : Command) (at : command_at_work script s t ≡ Some cmd) (o : Owned script s) where
   dead_free : (b : BufId) → is_live s b ≡ false → (grip s b).holder ≡ None
@@ -191,31 +172,19 @@ module _ (script : Script) (s : State) (t : ℕ) (cmd : Command) (at : command_a
   act_works (act on l f u) = on.works
 
   pub touched_mine : (x : Task) (k : Kind) (d : BufId) → Turn script s (course s t) cmd x → Gives script s (course s t) cmd x k → touches script s t k d ≡ true → Mine d
-  touched_mine x k d turn answers g = absurd (clash (sym g))
   touched_mine x k d turn (makes {b} e l) g = nobodys b d (dead_free b l) g
-  touched_mine x k d turn (exists e) g = absurd (clash (sym g))
-  touched_mine x k d turn (shifts e) g = absurd (clash (sym g))
-  touched_mine x k d turn (draws l) g = absurd (clash (sym g))
-  touched_mine x k d turn (no_buffer l) g = absurd (clash (sym g))
-  touched_mine x k d turn (reserves l h) g = absurd (clash (sym g))
-  touched_mine x k d turn (backs l h q) g = absurd (clash (sym g))
   touched_mine x k d turn (seeks {b} {aim} sought) g = mine_sought b d _ k (turn_has script s (course s t) cmd (task.Search b aim) b turn refl) sought g
   touched_mine x k d turn (binds {b}) g = its b d (turn_has script s (course s t) cmd (task.Bind b) b turn refl) g
   touched_mine x k d turn (unbinds {b} i) g = its b d (turn_has script s (course s t) cmd (task.Unbind b) b turn refl) g
   touched_mine x k d turn (moves {b} {mem}) g = its b d (turn_has script s (course s t) cmd (task.Move b mem) b turn refl) g
   touched_mine x k d turn (fills {b} filled) g = mine_filled b d k (turn_has script s (course s t) cmd (task.Fill b) b turn refl) filled g
-  touched_mine x k d turn lets_go g = absurd (clash (sym g))
   touched_mine x k d turn (empties {b} w f e) g = its b d (turn_has script s (course s t) cmd (task.Empty b) b turn refl) g
   touched_mine x k d turn (depopulates {b} m f) g = its b d (turn_has script s (course s t) cmd (task.GiveBack b) b turn refl) g
   touched_mine x k d turn (untakes {b} n) g = its b d (turn_has script s (course s t) cmd (task.GiveBack b) b turn refl) g
-  touched_mine x k d turn skips g = absurd (clash (sym g))
-  touched_mine x k d turn gives_up g = absurd (clash (sym g))
-  touched_mine x k d turn refuses g = absurd (clash (sym g))
   touched_mine x k d turn (arms ops e) g = inl (named_mine d (act_works turn) (sym (ap (λ z. has_buffer (named_in z) d) at) ∙ g))
   touched_mine x k d turn (frees {b} e q) g = its b d (named_mine b (act_works turn) (subst (λ z. has_buffer (named z) b ≡ true) (sym e) (or_left (same_buffer b b) false (same_self b)))) g
   touched_mine x k d turn (swaps {b} e q r) g = its b d (named_mine b (act_works turn) (subst (λ z. has_buffer (named z) b ≡ true) (sym e) (or_left (same_buffer b b) false (same_self b)))) g
-  touched_mine x k d turn (no_swap e) g = absurd (clash (sym g))
-  touched_mine x k d turn acts g = absurd (clash (sym g))
+  touched_mine x k d turn it g = absurd (clash (sym g))
 
   -- what another thread has stays as it is
   pub others_buffer : (x : Task) (k : Kind) (u : ℕ) (d : BufId) → Turn script s (course s t) cmd x → Gives script s (course s t) cmd x k → (u ≡ t → ⊥) → Has s u d →

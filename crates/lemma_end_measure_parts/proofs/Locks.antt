@@ -1,28 +1,24 @@
 -- The part of the measure that counts reservations: how high it is at most, and what keeps or lowers it.
-use Rattle.std.proofs.Common.{◌≡◌, ℕ, ◌<◌, ◌≤◌, ◌+◌, ◌*◌, zero, suc, Bool, true, false, List, [], ◌∷◌, ◌++◌, length, Option, Some, None, IsTrue, refl, sym, ◌∙◌, ap, ap₂, subst, arith, ◌⊎◌, inl, inr, ⊎_elim}
-use Rattle.std.specs.Prelude.{slice_get, map, filter_map, count_by, sum_by, cond, not, nat_le, nat_lt, is_none, option_map, ◌==◌, ◌&&◌, ◌||◌, if◌then◌else◌}
+use Rattle.std.proofs.Common.{◌≡◌, ℕ, ◌<◌, ◌≤◌, ◌+◌, ◌*◌, zero, suc, Bool, true, false, List, [], ◌∷◌, length, Option, Some, None, IsTrue, refl, sym, ◌∙◌, ap, ap₂, subst, arith, ◌⊎◌, inl, inr}
+use Rattle.std.specs.Prelude.{map, filter_map, count_by, sum_by, cond, not, nat_le, is_none, option_map, if◌then◌else◌}
 use Rattle.std.specs.List.{list_all, cons_option}
-use Rattle.std.proofs.lemmas.Bool.{cases_Bool, and_parts, and_from, both_ways}
+use Rattle.std.proofs.lemmas.Bool.{and_parts, and_from}
 use Rattle.std.proofs.lemmas.Bool.Decides.{nat_tests}
 use Rattle.std.proofs.lemmas.List.Sums.{sum_by-cons}
 use Rattle.ttm_base.specs.ListWords.{count_from}
-use Rattle.ttm_base.specs.declared.BufId.{BufId}
-use Rattle.ttm_base.specs.declared.Stamp.{Stamp}
 use Rattle.journal_model.specs.declared.script.Script.{Script}
 use Rattle.journal_model.specs.declared.script.Command.{Command}
 use Rattle.journal_model.specs.declared.script.Command.TheVariants as command
 use Rattle.journal_model.specs.declared.state.State.{State}
-use Rattle.journal_model.specs.declared.state.Course.{Course}
-use Rattle.journal_model.specs.State.{course, grip, has_buffer}
+use Rattle.journal_model.specs.State.{course, has_buffer}
 use Rattle.journal_model.specs.Commands.{command_at_work, named}
 use Rattle.journal_model.specs.CommandRules.{is_command}
 use Rattle.journal_model.specs.ScriptRules.{is_script}
 use Rattle.journal_model.specs.Complete.{thread_numbers}
 use Rattle.journal_model.specs.Scheduled.{Ticketed, ticketed}
 use Rattle.law_state.proofs.Rules.{Rules, at_work_rules}
-use Rattle.law_progress.proofs.Measure.{one_if, is_elder, number_of, waits_for_elder, put_by_age, by_age, binary, may_lock, missing_of, missing, locks_left}
+use Rattle.law_progress.proofs.Measure.{waits_for_elder, put_by_age, by_age, binary, may_lock, missing_of, missing, locks_left}
 use Rattle.law_progress.proofs.MeasureFalls.{sum_most, sum_but_one}
-use Rattle.law_progress.proofs.OthersSame.{sum_same}
 use Rattle.law_progress.proofs.BackoffLowers.{NoneRises, OneFalls, nil, same, falls, here, later, binary_keeps, binary_falls, binary_most, two_to}
 
 -- ---- at most
@@ -75,16 +71,7 @@ two_most (suc n) (suc m) h = let rest : two_to n ≤ two_to m = two_most n m (om
 
 few_named : (script : Script) (cmd : Command) → is_command script cmd ≡ true → length (named cmd) ≤ 16
 few_named script (command.Submit engine ops) h = grind (arith, nat_tests)
-few_named script (command.New b) h = omega arith
-few_named script (command.Free b) h = omega arith
-few_named script (command.Pin b) h = omega arith
-few_named script (command.Unpin b) h = omega arith
-few_named script (command.Find b) h = omega arith
-few_named script (command.SwapOut b) h = omega arith
-few_named script (command.Write b off bytes) h = omega arith
-few_named script (command.Read b off len) h = omega arith
-few_named script (command.Move b mem) h = omega arith
-few_named script (command.Touch group) h = omega arith
+few_named script cmd h = omega arith
 
 sum_below : (f : ℕ → ℕ) (xs : List ℕ) → ((x : ℕ) → f x ≤ 16) → sum_by f xs ≤ 16 * length xs
 sum_below f [] h = omega arith

@@ -1,8 +1,8 @@
 -- Which slots are free, and what victims of swap may still cost.
-use Rattle.std.proofs.Common.{◌≡◌, ℕ, ◌≤◌, ◌+◌, zero, suc, Bool, true, false, List, [], ◌∷◌, ◌++◌, Option, Some, None, refl, sym, ◌∙◌, ap, subst, arith, ⊎_elim, inl, inr, ◌⊎◌}
+use Rattle.std.proofs.Common.{◌≡◌, ℕ, ◌≤◌, ◌+◌, zero, suc, Bool, true, false, List, [], ◌∷◌, Option, Some, None, refl, sym, ◌∙◌, ap, arith, ⊎_elim}
 use Rattle.std.specs.Prelude.{slice_set, filter_map, flat_map, find, cond, not, is_some, nat_eq, sum_by, ◌||◌, ◌&&◌, if◌then◌else◌}
-use Rattle.std.specs.List.{list_any, enumerate_from, cons_option}
-use Rattle.std.proofs.lemmas.Bool.{cases_Bool, or_cases, or_left, or_right, not-true, not_from_false, false_from_ne_true}
+use Rattle.std.specs.List.{enumerate_from}
+use Rattle.std.proofs.lemmas.Bool.{or_cases, or_left, or_right, not-true, not_from_false, false_from_ne_true}
 use Rattle.std.proofs.lemmas.List.Folds.{list_any-append}
 use Rattle.std.proofs.lemmas.List.Sums.{sum_by-cons}
 use Rattle.ttm_base.specs.ListWords.{count_from}
@@ -11,7 +11,6 @@ use Rattle.journal_model.specs.declared.state.State.{State}
 use Rattle.journal_model.specs.declared.state.Core.{Core}
 use Rattle.journal_model.specs.declared.state.Buffer.{Buffer}
 use Rattle.journal_model.specs.declared.state.Victim.{Victim}
-use Rattle.journal_model.specs.declared.state.Course.{Course}
 use Rattle.journal_model.specs.declared.entry.Why.TheVariants as why
 use Rattle.journal_model.specs.declared.entry.Why.{Why}
 use Rattle.ttm_base.specs.declared.Mem.TheVariants.{System}
@@ -20,7 +19,7 @@ use Rattle.journal_model.specs.Search.{is_caught}
 use Rattle.journal_model.specs.State.{buffer, has_target, has_buffer, same_buffer, course}
 use Rattle.journal_model.specs.Places.{slots_of}
 use Rattle.journal_model.specs.Dry.{has_frame}
-use Rattle.journal_model.specs.Holds.{live_entry, live_buffers, held_slots, has_number, lowest_free, free_slot}
+use Rattle.journal_model.specs.Holds.{live_entry, held_slots, has_number, free_slot}
 use Rattle.law_progress.proofs.Measure.{slot_debt, slot_debts}
 use Rattle.law_sound.proofs.Bufs.{victims_of, same_self}
 

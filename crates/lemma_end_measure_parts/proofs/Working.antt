@@ -1,9 +1,7 @@
 -- A command that begins to work costs at most what it cost while it locked.
-use Rattle.std.proofs.Common.{◌≡◌, ℕ, ◌<◌, ◌≤◌, ◌+◌, ◌*◌, ◌-◌, zero, suc, Bool, true, false, List, [], ◌∷◌, length, Option, Some, None, refl, sym, ◌∙◌, ap, subst, arith, ⊎_elim}
-use Rattle.std.specs.Prelude.{slice_get, count_by, sum_by, cond, unwrap_or, is_some, is_none, ◌||◌, ◌&&◌, not, if◌then◌else◌}
+use Rattle.std.proofs.Common.{◌≡◌, ℕ, ◌≤◌, ◌+◌, ◌*◌, zero, suc, Bool, true, false, List, [], ◌∷◌, length, Option, Some, None, refl, ◌∙◌, ap, subst, arith}
+use Rattle.std.specs.Prelude.{slice_get, sum_by, unwrap_or, is_none, ◌||◌, if◌then◌else◌}
 use Rattle.std.specs.List.{list_any, enumerate_from}
-use Rattle.std.proofs.lemmas.Bool.{cases_Bool}
-use Rattle.std.proofs.lemmas.Bool.Decides.{nat_tests}
 use Rattle.std.proofs.lemmas.List.Sums.{sum_by-cons}
 use Rattle.ttm_base.specs.ListWords.{last_of}
 use Rattle.ttm_base.specs.declared.Mem.{Mem}
@@ -16,7 +14,6 @@ use Rattle.journal_model.specs.declared.script.Command.{Command}
 use Rattle.journal_model.specs.declared.script.Command.TheVariants as command
 use Rattle.journal_model.specs.declared.state.State.{State}
 use Rattle.journal_model.specs.declared.state.Course.{Course}
-use Rattle.journal_model.specs.declared.state.Victim.{Victim}
 use Rattle.journal_model.specs.declared.state.Buffer.{Buffer}
 use Rattle.journal_model.specs.State.{new_buffer, live_in, buffer, has_target, has_buffer}
 use Rattle.journal_model.specs.Commands.{decl, undeclared, named}
@@ -24,7 +21,7 @@ use Rattle.journal_model.specs.Places.{is_frame}
 use Rattle.journal_model.specs.Ready.{is_in_place, has_some_target}
 use Rattle.journal_model.specs.Tasks.{first_missing}
 use Rattle.law_state.specs.GoodState.{GoodState, HasPages}
-use Rattle.law_progress.proofs.Measure.{one_if, all_pages, packet_count, frame_count, target_count, to_give_back, carries_left, steps_left, is_slot, slots_to_fill, named_left, victim_left, has_failed, not_skipped, room_for_victims, if_named, search_share, search_left, held_left, whole_command, locking_left, command_left}
+use Rattle.law_progress.proofs.Measure.{one_if, all_pages, packet_count, frame_count, to_give_back, carries_left, steps_left, is_slot, slots_to_fill, named_left, victim_left, has_failed, not_skipped, room_for_victims, if_named, search_share, search_left, held_left, whole_command, locking_left, command_left}
 use Rattle.lemma_end_measure_parts.proofs.Locks.{count_most}
 
 -- ---- one buffer
@@ -67,16 +64,7 @@ steps_most script cmd b x = by (is_in_place script cmd b x) (has_some_target x)
 
 pub slots_most : (cmd : Command) (x : Buffer) → slots_to_fill cmd x ≤ length x.table
 slots_most (command.SwapOut b) x = omega arith
-slots_most (command.New b) x = count_most is_slot x.table
-slots_most (command.Free b) x = count_most is_slot x.table
-slots_most (command.Pin b) x = count_most is_slot x.table
-slots_most (command.Unpin b) x = count_most is_slot x.table
-slots_most (command.Find b) x = count_most is_slot x.table
-slots_most (command.Write b off bytes) x = count_most is_slot x.table
-slots_most (command.Read b off len) x = count_most is_slot x.table
-slots_most (command.Move b mem) x = count_most is_slot x.table
-slots_most (command.Touch group) x = count_most is_slot x.table
-slots_most (command.Submit engine ops) x = count_most is_slot x.table
+slots_most cmd x = count_most is_slot x.table
 
 pub named_most : (script : Script) (cmd : Command) (b : BufId) (x : Buffer) → (5 + 6291456 * steps_left script cmd b x) * length x.table + 67108865 * slots_to_fill cmd x ≤ 92274694 * length x.table
 named_most script cmd b x =

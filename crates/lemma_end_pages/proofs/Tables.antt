@@ -73,16 +73,7 @@ first_frame x h = position_at is_frame x.table h
 
 meets_same : (script : Script) (cmd : Command) (b : BufId) (x : Buffer) (page : ℕ) (l : Loc) → meets script cmd b (with_loc page l x) ≡ meets script cmd b x
 meets_same script (command.New c) b x page l = refl
-meets_same script (command.Free c) b x page l = refl
-meets_same script (command.Pin c) b x page l = refl
-meets_same script (command.Unpin c) b x page l = refl
-meets_same script (command.Find c) b x page l = refl
-meets_same script (command.SwapOut c) b x page l = refl
-meets_same script (command.Write c off bytes) b x page l = refl
-meets_same script (command.Read c off len) b x page l = refl
-meets_same script (command.Move c mem) b x page l = refl
-meets_same script (command.Touch group) b x page l = refl
-meets_same script (command.Submit engine ops) b x page l = refl
+meets_same script cmd b x page l = refl
 
 steps_same : (script : Script) (cmd : Command) (b : BufId) (x : Buffer) (page : ℕ) (l : Loc) → steps_left script cmd b (with_loc page l x) ≡ steps_left script cmd b x
 steps_same script cmd b x page l =
@@ -94,32 +85,14 @@ is_swap_out _ = false
 
 pub slots_fall : (cmd : Command) (x y : Buffer) (n : ℕ) → is_swap_out cmd ≡ false → count_by is_slot y.table + n ≤ count_by is_slot x.table → slots_to_fill cmd y + n ≤ slots_to_fill cmd x
 slots_fall (command.SwapOut b) x y n q h = cc
-slots_fall (command.New b) x y n q h = h
-slots_fall (command.Free b) x y n q h = h
-slots_fall (command.Pin b) x y n q h = h
-slots_fall (command.Unpin b) x y n q h = h
-slots_fall (command.Find b) x y n q h = h
-slots_fall (command.Write b off bytes) x y n q h = h
-slots_fall (command.Read b off len) x y n q h = h
-slots_fall (command.Move b mem) x y n q h = h
-slots_fall (command.Touch group) x y n q h = h
-slots_fall (command.Submit engine ops) x y n q h = h
+slots_fall cmd x y n q h = h
 
 pub slots_keep : (cmd : Command) (x y : Buffer) → count_by is_slot y.table ≤ count_by is_slot x.table → slots_to_fill cmd y ≤ slots_to_fill cmd x
 slots_keep cmd x y h = by (is_swap_out cmd) refl
   where
     none : (d : Command) → is_swap_out d ≡ true → slots_to_fill d y ≤ slots_to_fill d x
     none (command.SwapOut b) q = omega arith
-    none (command.New b) q = cc
-    none (command.Free b) q = cc
-    none (command.Pin b) q = cc
-    none (command.Unpin b) q = cc
-    none (command.Find b) q = cc
-    none (command.Write b off bytes) q = cc
-    none (command.Read b off len) q = cc
-    none (command.Move b mem) q = cc
-    none (command.Touch group) q = cc
-    none (command.Submit engine ops) q = cc
+    none cmd q = cc
 
     by : (q : Bool) → is_swap_out cmd ≡ q → slots_to_fill cmd y ≤ slots_to_fill cmd x
     by true q = none cmd q

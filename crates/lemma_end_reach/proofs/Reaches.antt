@@ -13,13 +13,13 @@ use Rattle.ttm_base.specs.declared.BufId.{BufId}
 use Rattle.ttm_base.specs.declared.Place.{Place}
 use Rattle.ttm_base.specs.declared.FlaggedPlace.{FlaggedPlace}
 use Rattle.ttm_base.specs.Reach.{same_mem, reach, common, length_of, is_inside, is_contiguous}
-use Rattle.ttm_base.specs.Placement.{first_places, forced_places, accepts, compatible}
+use Rattle.ttm_base.specs.Placement.{forced_places, accepts, compatible}
 use Rattle.ttm_base.specs.Holes.{holes, has_page}
 use Rattle.ttm_base.specs.RangeChoice.{Fit, fit_in, best_fit, fitting_hole, range_choice, start_to_test}
 use Rattle.ttm_base.specs.BlockStarts.{starts_of, candidate_at}
 use Rattle.ttm_base.proofs.OrderLaws.{order_suffices}
 use Rattle.ttm_base.proofs.StartLaws.{candidate_by_start}
-use Rattle.ttm_base.specs.BuddyChoice.{Candidate, block_around, is_free_block, candidate_of, candidate, first_candidate, log2, order_of, taken_after, scattered, contiguous, buddy_choice}
+use Rattle.ttm_base.specs.BuddyChoice.{Candidate, block_around, is_free_block, candidate_of, candidate, first_candidate, log2, order_of, taken_after, scattered, contiguous}
 use Rattle.journal_model.specs.declared.script.Script.{Script}
 use Rattle.journal_model.specs.declared.script.Decl.{Decl}
 use Rattle.journal_model.specs.declared.script.Command.{Command}
@@ -35,7 +35,6 @@ use Rattle.journal_model.specs.Ready.{meets}
 use Rattle.journal_model.specs.Search.{Quest}
 use Rattle.law_state.proofs.JobsKeep.{all_at}
 use Rattle.law_state.proofs.Rules.{Rules}
-use Rattle.law_progress.specs.Sound.{asks}
 use Rattle.law_sound.proofs.Gifts.{PlaceOf, first, forced}
 use Rattle.law_owners.proofs.Choices.{Each, least_is, first_is, last_is, each_given}
 use Rattle.law_owners.proofs.Blocks.{chosen_is_block}
@@ -281,13 +280,7 @@ asked_fits script r c cmd b place mem spans x listed m e xm xs = by cmd listed
     by (command.Find d) l = placed l
     by (command.Move d to) l = only to l
     by (command.SwapOut d) l = only System l
-    by (command.New d) l = refl
-    by (command.Free d) l = refl
-    by (command.Pin d) l = refl
-    by (command.Unpin d) l = refl
-    by (command.Write d off bytes) l = refl
-    by (command.Read d off len) l = refl
-    by (command.Touch group) l = refl
+    by cmd l = refl
 
 -- some place is tried under pressure
 one_forced : (version : ℕ) (d : Decl) → is_decl version d ≡ true → 0 < length (forced_places d.placement.list)
@@ -312,12 +305,4 @@ some_forced script r cmd b inside = by cmd
     by : (cmd : Command) → 0 < length (forced_places (asked_places script cmd b))
     by (command.Move d to) = omega arith
     by (command.SwapOut d) = omega arith
-    by (command.Submit engine ops) = declared
-    by (command.Find d) = declared
-    by (command.New d) = declared
-    by (command.Free d) = declared
-    by (command.Pin d) = declared
-    by (command.Unpin d) = declared
-    by (command.Write d off bytes) = declared
-    by (command.Read d off len) = declared
-    by (command.Touch group) = declared
+    by cmd = declared

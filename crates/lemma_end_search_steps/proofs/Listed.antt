@@ -191,9 +191,6 @@ new_mem xs b n = ⊎_elim (λ e. ap (λ o. (unwrap_or o (new_buffer 0)).mem) e) 
 -- ---- each entry
 
 pub listed_keeps : (script : Script) (s : State) (t : ℕ) (k : Kind) → Listed s → Listed (applied script s (actor.Thread t) k)
-listed_keeps script s t (kind.Ticket stamp) low = low
-listed_keeps script s t (kind.Reserve b) low = low
-listed_keeps script s t (kind.Backoff b stamp) low = low
 listed_keeps script s t (kind.New b) low =
     let x = new_buffer (decl script b).pages in
     listed_low b (mem_in (slice_set s.core.buffers b.0 (Some (new_buffer (decl script b).pages)))) s.lists
@@ -215,17 +212,11 @@ listed_keeps script s t (kind.Unbind b) low = relisted_low script unbound s.core
 listed_keeps script s t (kind.Move b mem n l) low = relisted_low script (moved mem (record { ctx = 0; num = n })) s.core.buffers s.grips s.lists b low
 listed_keeps script s t (kind.Catch b w) low = low_same (mem_in s.core.buffers) _ s.lists (mem_kept (λ x. leaves_tt x.mem x) (λ x. leaves_mem x.mem x) s.core.buffers b) low
 listed_keeps script s t (kind.Loose b) low = touched_low script s.core.buffers _ s.lists b (λ i l n h d q k m. low i l n h d k m)
-listed_keeps script s t (kind.Skip b) low = low
-listed_keeps script s t (kind.Dry b k w) low = low
 listed_keeps script s t (kind.SwapOut b page slot) low = low_same (mem_in s.core.buffers) _ s.lists (mem_kept (with_loc page (loc.Slot slot)) (λ x. refl) s.core.buffers b) low
-listed_keeps script s t (kind.NoPages b) low = low
 listed_keeps script s t (kind.Arm engine n) low = low_same (mem_in s.core.buffers) _ s.lists (mem_used (record { ctx = engine; num = n }) (ops_of (command_at_work script s t)) (named_in (command_at_work script s t)) s.core.buffers) low
-listed_keeps script s t (kind.Packet n k piece) low = low
-listed_keeps script s t (kind.Done n) low = low
-listed_keeps script s t (kind.Reap g) low = low
 listed_keeps script s t (kind.Bulk group) low = bulk_low (is_member script group) (mem_in s.core.buffers) s.lists low
 listed_keeps script s t (kind.Result r) low = all_touched script s.core.buffers _ (held_as_named (course s t) (command_at_work script s t)) s.lists low
-listed_keeps script s t (kind.Refused d) low = low
+listed_keeps script s t k low = low
 
 pub listed_stays : (script : Script) (s : State) (who : Actor) (k : Kind) → OfWorker k → Listed s → Listed (applied script s who k)
 listed_stays script s who k packet low = low

@@ -44,7 +44,7 @@ use Rattle.journal_model.specs.Waits.{jobs_before_target}
 use Rattle.law_progress.specs.Sound.{OnItsWay, locks, command_of}
 use Rattle.law_sound.proofs.Along.{Stepped, OfWorker, packet, done, reap, first_course}
 use Rattle.law_sound.proofs.Turns.{Turn, InVram, answer, start, lock, victim_unbind, victim_empty, victim_give, victim_skip, victim_move, victim_fill, victim_search, refuse, give, give_up, act, fill_in_place, ask, bind, fill_to_bind, hop_up, unbind, move_up, move_across, move_down, fill_to_move, hop_down}
-use Rattle.law_sound.proofs.Gifts.{Gives, Sought, Filled, answers, makes, exists, shifts, draws, no_buffer, reserves, backs, seeks, binds, unbinds, moves, fills, lets_go, empties, depopulates, untakes, skips, gives_up, refuses, arms, frees, swaps, no_swap, acts, finds, evicts, dries, fresh, again, back, evicts_for_swap, nothing}
+use Rattle.law_sound.proofs.Gifts.{Gives, Sought, Filled, seeks, unbinds, moves, fills, lets_go, empties, depopulates, untakes, skips, finds, evicts, dries, fresh, again, back, evicts_for_swap, nothing}
 use Rattle.law_sound.proofs.Bufs.{same_self, other_is, victims_of, let_go, none_last, last_caught}
 use Rattle.law_sound.proofs.Steadies.{next_course, own_course, locking_command, lock_wants, locks_alone}
 use Rattle.law_sound.proofs.Owners.{none_or}
@@ -74,23 +74,11 @@ is_catch (kind.Catch b w) = true
 is_catch k = false
 
 stays_alone : (script : Script) (s : State) (t : ℕ) (k : Kind) → is_catch k ≡ false → (course s t).caught ≡ [] → (next_course script s t k).caught ≡ []
-stays_alone script s t (kind.Ticket stamp) q h = h
-stays_alone script s t (kind.Reserve b) q h = h
-stays_alone script s t (kind.Backoff b stamp) q h = h
-stays_alone script s t (kind.New b) q h = h
-stays_alone script s t (kind.Free b g) q h = h
 stays_alone script s t (kind.Take b mem spans) q h = by (is_caught (course s t) b)
   where
     by : (z : Bool) → (if z then course s t else record (course s t) { forced = false; dry = 0 }).caught ≡ []
     by true = h
     by false = h
-stays_alone script s t (kind.Untake b mem) q h = h
-stays_alone script s t (kind.Populate b page frame) q h = h
-stays_alone script s t (kind.SwapIn b page slot frame) q h = h
-stays_alone script s t (kind.Depopulate b) q h = h
-stays_alone script s t (kind.Bind b) q h = h
-stays_alone script s t (kind.Unbind b) q h = h
-stays_alone script s t (kind.Move b mem n l) q h = h
 stays_alone script s t (kind.Catch b w) q h = cc
 stays_alone script s t (kind.Loose b) q h = ap (let_go b) h
 stays_alone script s t (kind.Skip b) q h = ap (let_go b) h
@@ -107,19 +95,14 @@ stays_alone script s t (kind.Dry b k w) q h = by_command (command_at_work script
     by_command : (o : Option Command) → (course_after_dry script s b k o (course s t)).caught ≡ []
     by_command None = h
     by_command (Some cmd) = by_caught cmd (is_caught (course s t) b)
-stays_alone script s t (kind.SwapOut b page slot) q h = h
 stays_alone script s t (kind.NoPages b) q h = by (is_caught (course s t) b)
   where
     by : (z : Bool) → (if z then record (course s t) { caught = map (failed_if deny.NoPages b) (course s t).caught } else record (course s t) { fail = Some deny.NoPages }).caught ≡ []
     by true = ap (map (failed_if deny.NoPages b)) h
     by false = h
-stays_alone script s t (kind.Arm engine n) q h = h
-stays_alone script s t (kind.Packet n k piece) q h = h
-stays_alone script s t (kind.Done n) q h = h
-stays_alone script s t (kind.Reap g) q h = h
-stays_alone script s t (kind.Bulk group) q h = h
 stays_alone script s t (kind.Result shown) q h = refl
 stays_alone script s t (kind.Refused d) q h = refl
+stays_alone script s t k q h = h
 
 -- only searches and fills catch
 abbrev is_plain : Task → Bool
@@ -128,31 +111,9 @@ is_plain (task.Fill b) = false
 is_plain x = true
 
 never_catches : (script : Script) (s : State) (c : Course) (cmd : Command) (x : Task) (k : Kind) → is_plain x ≡ true → Gives script s c cmd x k → is_catch k ≡ false
-never_catches script s c cmd x k q answers = refl
-never_catches script s c cmd x k q (makes is dead) = refl
-never_catches script s c cmd x k q (exists is) = refl
-never_catches script s c cmd x k q (shifts is) = refl
-never_catches script s c cmd x k q (draws l) = refl
-never_catches script s c cmd x k q (no_buffer l) = refl
-never_catches script s c cmd x k q (reserves l h) = refl
-never_catches script s c cmd x k q (backs l h o) = refl
 never_catches script s c cmd x k q (seeks sought) = cc
-never_catches script s c cmd x k q binds = refl
-never_catches script s c cmd x k q (unbinds i) = refl
-never_catches script s c cmd x k q moves = refl
 never_catches script s c cmd x k q (fills filled) = cc
-never_catches script s c cmd x k q lets_go = refl
-never_catches script s c cmd x k q (empties w f g) = refl
-never_catches script s c cmd x k q (depopulates m f) = refl
-never_catches script s c cmd x k q (untakes n) = refl
-never_catches script s c cmd x k q skips = refl
-never_catches script s c cmd x k q gives_up = refl
-never_catches script s c cmd x k q refuses = refl
-never_catches script s c cmd x k q (arms ops is) = refl
-never_catches script s c cmd x k q (frees is o) = refl
-never_catches script s c cmd x k q (swaps is o r) = refl
-never_catches script s c cmd x k q (no_swap is) = refl
-never_catches script s c cmd x k q acts = refl
+never_catches script s c cmd x k q gives = refl
 
 -- ---- the thread's own victims
 

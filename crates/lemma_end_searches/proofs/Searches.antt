@@ -51,7 +51,7 @@ use Rattle.law_progress.specs.Sound.{Carried, Fits, at_target, system_tt, system
 use Rattle.law_progress.proofs.Measure.{room_for_victims, measure}
 use Rattle.law_sound.proofs.Along.{Stepped}
 use Rattle.law_sound.proofs.Turns.{Turn, Works, OnVictim, OnNamed, OnBuffer, InVram, victim_empty, victim_fill, victim_search, act, fill_in_place, ask, fill_to_bind, hop_up, fill_to_move, hop_down}
-use Rattle.law_sound.proofs.Gifts.{Gives, Sought, Filled, answers, makes, exists, shifts, draws, no_buffer, reserves, backs, seeks, binds, unbinds, moves, fills, lets_go, empties, depopulates, untakes, skips, gives_up, refuses, arms, frees, swaps, no_swap, acts, finds, evicts, dries, fresh, again, back, evicts_for_swap, nothing}
+use Rattle.law_sound.proofs.Gifts.{Gives, Sought, Filled, answers, seeks, fills, lets_go, empties, swaps, finds, evicts, dries, fresh, again, back, evicts_for_swap, nothing}
 use Rattle.law_sound.proofs.Bufs.{same_self, clash, has_found, found_passes, none_found, none_missing, none_last, last_caught, none_caught}
 use Rattle.law_sound.proofs.Steadies.{next_course}
 use Rattle.law_sound.proofs.Grips.{IsFree, victim_free, swap_free, swap_passes}
@@ -102,15 +102,7 @@ few_asked script r cmd b = by cmd
     by : (x : Command) → length (forced_places (asked_places script x b)) ≤ 8
     by (command.Move d to) = omega arith
     by (command.SwapOut d) = omega arith
-    by (command.Submit engine ops) = declared
-    by (command.Find d) = declared
-    by (command.New d) = declared
-    by (command.Free d) = declared
-    by (command.Pin d) = declared
-    by (command.Unpin d) = declared
-    by (command.Write d off bytes) = declared
-    by (command.Read d off len) = declared
-    by (command.Touch group) = declared
+    by cmd = declared
 
 -- a place without a choice is one of the list: in SYSTEM there is always one
 pub real_place : (script : Script) (s : State) (b : BufId) (places : List Place) (k : ℕ) → choice script s.core b (unwrap_or (slice_get places k) (whole System)) ≡ None → k < length places
@@ -170,16 +162,7 @@ unfilled script s cmd b u i =
 
     no_swap_out : (x : Command) → uses_bytes x ≡ true → is_swap_out x ≡ false
     no_swap_out (command.SwapOut c) h = cc
-    no_swap_out (command.New c) h = refl
-    no_swap_out (command.Free c) h = refl
-    no_swap_out (command.Pin c) h = refl
-    no_swap_out (command.Unpin c) h = refl
-    no_swap_out (command.Find c) h = refl
-    no_swap_out (command.Write c off bytes) h = refl
-    no_swap_out (command.Read c off len) h = refl
-    no_swap_out (command.Move c mem) h = refl
-    no_swap_out (command.Touch group) h = refl
-    no_swap_out (command.Submit engine ops) h = refl
+    no_swap_out cmd h = refl
 
 -- a command that swaps its buffer out carries none from SYSTEM to TT
 stays_in_system : (script : Script) (cmd : Command) (b : BufId) (x : Buffer) (m : Mem) → (m ≡ System → ⊥) → meets script cmd b (at_target m x) ≡ true → is_swap_out cmd ≡ false
@@ -437,6 +420,7 @@ module _ (script : Script) (s : State) (t : ℕ) (known : Known script s) (good 
   -- ---- each task
 
   thread_falls : (k : Kind) (st : Stepped script s t k) (cmd : Command) → st.step.cmd ≡ cmd → (x : Task) → Turn script s (course s t) cmd x → Gives script s (course s t) cmd x k → step_of_task script s (course s t) cmd x ≡ Ok k → is_search k ≡ true → Lower k
+  thread_falls k st cmd e x turn answers step mine = cc
   thread_falls k st cmd e x (victim_search v on vram f n) (seeks sought) step mine =
       victim_seeks k st v (subst (λ z. OnVictim (course s t) z v) (sym e) on) vram f (subst (λ z. Sought script s (course s t) v.b (quest script z (course s t) v.b Hop) k) (sym e) sought) mine
   thread_falls k st cmd e x (ask {b} on n) (seeks sought) step mine =
@@ -485,26 +469,7 @@ module _ (script : Script) (s : State) (t : ℕ) (known : Known script s) (good 
       let stands : same_mem (buffer s b).mem System ≡ true = subst (λ z. meets script z b (buffer s b) ≡ true) is meet in
       swap_out_falls script s t b slot known st stamp.0 stamp.1 on'.works f (λ x. (good x).few) (held_live b (none_missing (course s t) cmd b on.works.whole member)) q (system_is (buffer s b).mem stands)
       (by_name (none_last (course s t).caught on.alone) (e ∙ is))
-  thread_falls k st cmd e x turn answers step mine = cc
-  thread_falls k st cmd e x turn (makes is dead) step mine = cc
-  thread_falls k st cmd e x turn (exists is) step mine = cc
-  thread_falls k st cmd e x turn (shifts is) step mine = cc
-  thread_falls k st cmd e x turn (draws l) step mine = cc
-  thread_falls k st cmd e x turn (no_buffer l) step mine = cc
-  thread_falls k st cmd e x turn (reserves l h) step mine = cc
-  thread_falls k st cmd e x turn (backs l h q) step mine = cc
-  thread_falls k st cmd e x turn binds step mine = cc
-  thread_falls k st cmd e x turn (unbinds i) step mine = cc
-  thread_falls k st cmd e x turn moves step mine = cc
-  thread_falls k st cmd e x turn (depopulates m f) step mine = cc
-  thread_falls k st cmd e x turn (untakes n) step mine = cc
-  thread_falls k st cmd e x turn skips step mine = cc
-  thread_falls k st cmd e x turn gives_up step mine = cc
-  thread_falls k st cmd e x turn refuses step mine = cc
-  thread_falls k st cmd e x turn (arms ops is) step mine = cc
-  thread_falls k st cmd e x turn (frees is q) step mine = cc
-  thread_falls k st cmd e x turn (no_swap is) step mine = cc
-  thread_falls k st cmd e x turn acts step mine = cc
+  thread_falls k st cmd e x turn gives step mine = cc
 
   -- the entries of searches
   pub search_falls : (k : Kind) (st : Stepped script s t k) → is_search k ≡ true → Lower k

@@ -1,6 +1,6 @@
 -- Each entry that takes a choice, carries a buffer, or gives back what a search took, lowers the measure.
-use Rattle.std.proofs.Common.{◌≡◌, ℕ, zero, suc, ◌<◌, ◌≤◌, ◌+◌, Bool, true, false, List, [], ◌∷◌, Option, Some, None, refl, sym, ◌∙◌, ap, subst, ◌⊎◌, inl, inr, ⊎_elim}
-use Rattle.std.specs.Prelude.{not, is_some, unwrap_or, ◌||◌, ◌&&◌}
+use Rattle.std.proofs.Common.{◌≡◌, ℕ, ◌≤◌, ◌+◌, Bool, true, false, List, [], Option, Some, refl, sym, ◌∙◌, ap, subst, inl, ⊎_elim}
+use Rattle.std.specs.Prelude.{not}
 use Rattle.ttm_base.specs.ListWords.{last_of}
 use Rattle.ttm_base.specs.declared.Mem.{Mem}
 use Rattle.ttm_base.specs.declared.Mem.TheVariants.{System, Tt, Vram}
@@ -9,32 +9,28 @@ use Rattle.ttm_base.specs.declared.BufId.{BufId}
 use Rattle.ttm_base.specs.declared.Place.{Place}
 use Rattle.ttm_base.specs.declared.Deny.{Deny}
 use Rattle.ttm_base.specs.declared.Stamp.{Stamp}
-use Rattle.ttm_base.specs.declared.Actor.TheVariants as actor
 use Rattle.journal_model.specs.declared.script.Script.{Script}
 use Rattle.journal_model.specs.declared.script.Command.{Command}
 use Rattle.journal_model.specs.declared.state.State.{State}
-use Rattle.journal_model.specs.declared.state.Course.{Course}
 use Rattle.journal_model.specs.declared.state.Victim.{Victim}
 use Rattle.journal_model.specs.declared.state.Buffer.{Buffer}
 use Rattle.journal_model.specs.declared.state.Task.{Task}
 use Rattle.journal_model.specs.declared.state.Task.TheVariants as task
 use Rattle.journal_model.specs.declared.state.Aim.{Aim}
-use Rattle.journal_model.specs.declared.state.Aim.TheVariants.{Asked, Hop}
+use Rattle.journal_model.specs.declared.state.Aim.TheVariants.{Hop}
 use Rattle.journal_model.specs.declared.entry.Why.{Why}
-use Rattle.journal_model.specs.declared.entry.Why.TheVariants as why
 use Rattle.journal_model.specs.declared.entry.Kind.{Kind}
 use Rattle.journal_model.specs.declared.entry.Kind.TheVariants as kind
-use Rattle.journal_model.specs.State.{buffer, grip, course, has_buffer, has_target, live_in}
+use Rattle.journal_model.specs.State.{buffer, course, has_buffer, has_target, live_in}
 use Rattle.journal_model.specs.Commands.{named}
-use Rattle.journal_model.specs.Dry.{has_frame}
 use Rattle.journal_model.specs.Ready.{is_in_place, is_ready, first_unready, has_some_target}
 use Rattle.journal_model.specs.Search.{quest, is_caught}
 use Rattle.journal_model.specs.PageSteps.{target_to_untake}
 use Rattle.law_progress.specs.Sound.{Carried, Fits, OnItsWay, in_vram, to_tt, out_of_vram, in_tt, in_system}
 use Rattle.law_progress.proofs.Measure.{measure}
 use Rattle.law_sound.proofs.Along.{Stepped}
-use Rattle.law_sound.proofs.Turns.{Turn, Works, OnVictim, OnNamed, OnBuffer, OnCarried, answer, start, lock, victim_unbind, victim_empty, victim_give, victim_skip, victim_move, victim_fill, victim_search, refuse, give, give_up, act, fill_in_place, ask, bind, fill_to_bind, hop_up, unbind, move_up, move_across, move_down, fill_to_move, hop_down}
-use Rattle.law_sound.proofs.Gifts.{Gives, Sought, Filled, PlaceOf, answers, makes, exists, shifts, draws, no_buffer, reserves, backs, seeks, binds, unbinds, moves, fills, lets_go, empties, depopulates, untakes, skips, gives_up, refuses, arms, frees, swaps, no_swap, acts, finds, evicts, dries, fresh, again, back, evicts_for_swap, nothing}
+use Rattle.law_sound.proofs.Turns.{Turn, Works, OnVictim, OnNamed, OnBuffer, OnCarried, victim_unbind, victim_give, victim_move, victim_search, give, ask, bind, hop_up, unbind, move_up, move_across, move_down, hop_down}
+use Rattle.law_sound.proofs.Gifts.{Gives, Sought, Filled, PlaceOf, seeks, binds, unbinds, moves, fills, depopulates, untakes, finds, evicts, dries, fresh, again, back, evicts_for_swap, nothing}
 use Rattle.law_sound.proofs.Bufs.{has_found, last_caught, none_last, none_missing, clash}
 use Rattle.law_sound.proofs.OwnedKeeps.{has_stamp, begun_locks}
 use Rattle.lemma_end_measure.proofs.Border.{Known}
@@ -168,24 +164,7 @@ module _ (script : Script) (s : State) (t : ℕ) (known : Known script s) (carry
   falls_of k st cmd e places x (give {b} d on a f u g) (untakes n) h =
       let w = gift_at k st cmd b e on u in
       untake_falls script s t b (buffer s b) w.stamp d (target_to_untake (buffer s b)) known st w.live w.member w.alone w.works w.stamped f (target_there (buffer s b) g n)
-  falls_of k st cmd e places x (answer m) answers h = absurd (clash (sym h))
-  falls_of k st cmd e places x (start m q) (makes is dead) h = absurd (clash (sym h))
-  falls_of k st cmd e places x (start m q) (exists is) h = absurd (clash (sym h))
-  falls_of k st cmd e places x (start m q) (shifts is) h = absurd (clash (sym h))
-  falls_of k st cmd e places x (start m q) (draws l) h = absurd (clash (sym h))
-  falls_of k st cmd e places x (lock m n f) (no_buffer l) h = absurd (clash (sym h))
-  falls_of k st cmd e places x (lock m n f) (reserves l free) h = absurd (clash (sym h))
-  falls_of k st cmd e places x (lock m n f) (backs l g q) h = absurd (clash (sym h))
-  falls_of k st cmd e places x (victim_empty v on q r) lets_go h = absurd (clash (sym h))
-  falls_of k st cmd e places x (victim_empty v on q r) (empties w f g) h = absurd (clash (sym h))
-  falls_of k st cmd e places x (victim_skip v d on i f g) skips h = absurd (clash (sym h))
-  falls_of k st cmd e places x (refuse on r) refuses h = absurd (clash (sym h))
-  falls_of k st cmd e places x (give_up on a f u) gives_up h = absurd (clash (sym h))
-  falls_of k st cmd e places x (act on a f u) (arms ops is) h = absurd (clash (sym h))
-  falls_of k st cmd e places x (act on a f u) (frees is q) h = absurd (clash (sym h))
-  falls_of k st cmd e places x (act on a f u) (swaps is q r) h = absurd (clash (sym h))
-  falls_of k st cmd e places x (act on a f u) (no_swap is) h = absurd (clash (sym h))
-  falls_of k st cmd e places x (act on a f u) acts h = absurd (clash (sym h))
+  falls_of k st cmd e places x turn gives h = absurd (clash (sym h))
 
   pub carries_fall : (k : Kind) (st : Stepped script s t k) → Places st.step.cmd → is_carry k ≡ true → Lower k
   carries_fall k st places h = falls_of k st st.step.cmd refl places st.step.task st.turn st.gives h

@@ -1,7 +1,7 @@
 -- After each entry of a thread the buffers that it holds are still on their way.
-use Rattle.std.proofs.Common.{◌≡◌, ℕ, zero, suc, ◌<◌, ◌≤◌, ◌+◌, Bool, true, false, List, [], ◌∷◌, ◌++◌, length, Option, Some, None, IsSome, refl, sym, ◌∙◌, ap, ap₂, subst, arith, ◌⊎◌, inl, inr, ⊎_elim}
-use Rattle.std.specs.Prelude.{slice_get, slice_set, find, fold, map, unwrap_or, is_some, is_none, option_map, not, nat_lt, ◌||◌, ◌&&◌, if◌then◌else◌}
-use Rattle.std.proofs.lemmas.Bool.{cases_Bool, and_parts, false_from_ne_true}
+use Rattle.std.proofs.Common.{◌≡◌, ℕ, zero, suc, ◌<◌, Bool, true, false, List, [], ◌∷◌, length, Option, Some, None, IsSome, refl, sym, ◌∙◌, ap, ap₂, subst, arith, ◌⊎◌, inl, inr, ⊎_elim}
+use Rattle.std.specs.Prelude.{slice_get, fold, unwrap_or, option_map, not, nat_lt, ◌&&◌}
+use Rattle.std.proofs.lemmas.Bool.{false_from_ne_true}
 use Rattle.std.proofs.lemmas.Bool.Decides.{nat_tests}
 use Rattle.ttm_base.specs.declared.Mem.{Mem}
 use Rattle.ttm_base.specs.declared.Mem.TheVariants.{System, Tt, Vram}
@@ -12,10 +12,8 @@ use Rattle.ttm_base.specs.declared.Op.{Op}
 use Rattle.ttm_base.specs.declared.Loc.{Loc}
 use Rattle.ttm_base.specs.declared.Loc.TheVariants as loc
 use Rattle.ttm_base.specs.declared.Place.{Place}
-use Rattle.ttm_base.specs.declared.Stamp.{Stamp}
 use Rattle.ttm_base.specs.declared.Deny.{Deny}
 use Rattle.ttm_base.specs.declared.Deny.TheVariants as deny
-use Rattle.ttm_base.specs.declared.Actor.TheVariants as actor
 use Rattle.ttm_base.specs.Placement.{forced_places}
 use Rattle.journal_model.specs.declared.script.Script.{Script}
 use Rattle.journal_model.specs.declared.script.Command.{Command}
@@ -33,27 +31,27 @@ use Rattle.journal_model.specs.declared.entry.Why.TheVariants as why
 use Rattle.journal_model.specs.declared.entry.Left.{Left}
 use Rattle.journal_model.specs.declared.entry.Kind.{Kind}
 use Rattle.journal_model.specs.declared.entry.Kind.TheVariants as kind
-use Rattle.journal_model.specs.State.{new_buffer, new_course, buffer, grip, grip_in, no_grip, course, course_of, has_buffer, has_target, same_buffer, without_buffer, live_in, is_live, changed}
-use Rattle.journal_model.specs.Commands.{commands_of, named, asked_places, whole, command_at_work}
+use Rattle.journal_model.specs.State.{new_buffer, buffer, grip, course, course_of, has_buffer, same_buffer, without_buffer, live_in, changed}
+use Rattle.journal_model.specs.Commands.{commands_of, named, asked_places, command_at_work}
 use Rattle.journal_model.specs.Choice.{choice}
 use Rattle.journal_model.specs.Ready.{meets, is_in_place, is_filled, is_ready, first_unready, has_some_target}
-use Rattle.journal_model.specs.Search.{Quest, quest, is_caught}
-use Rattle.journal_model.specs.Tasks.{starts, first_missing}
+use Rattle.journal_model.specs.Search.{quest}
+use Rattle.journal_model.specs.Tasks.{first_missing}
 use Rattle.journal_model.specs.PageSteps.{target_to_untake, next_job}
 use Rattle.journal_model.specs.ApplyCommands.{named_in, on_to_next}
 use Rattle.journal_model.specs.ApplyJobs.{with_use, ops_of}
 use Rattle.journal_model.specs.ApplyPages.{bound, unbound, with_spans, with_loc, without_frames, search_over}
 use Rattle.journal_model.specs.ApplyMoves.{moved}
-use Rattle.journal_model.specs.ApplyVictims.{with_fail, with_victim, no_longer_caught, with_skip, course_after_dry}
+use Rattle.journal_model.specs.ApplyVictims.{with_fail, with_victim, course_after_dry}
 use Rattle.law_state.proofs.Lists.{get_within, live_changed}
-use Rattle.law_progress.specs.Sound.{Has, Owned, Carried, Fits, asks, command_of, locks, at_target}
-use Rattle.law_sound.proofs.Turns.{Turn, Works, OnVictim, OnNamed, OnBuffer, OnMisplaced, answer, start, lock, victim_unbind, victim_empty, victim_give, victim_skip, victim_move, victim_fill, victim_search, refuse, give, give_up, act, fill_in_place, ask, bind, fill_to_bind, hop_up, unbind, move_up, move_across, move_down, fill_to_move, hop_down}
-use Rattle.law_sound.proofs.Gifts.{Gives, Sought, Filled, PlaceOf, answers, makes, exists, shifts, draws, no_buffer, reserves, backs, seeks, binds, unbinds, moves, fills, lets_go, empties, depopulates, untakes, skips, gives_up, refuses, arms, frees, swaps, no_swap, acts, finds, evicts, dries, fresh, again, back, evicts_for_swap, nothing}
-use Rattle.law_sound.proofs.Bufs.{same_self, same_is, same_or_other, other_is, has_found, has_pushed, has_without, without_gone, last_caught, none_missing, clash}
+use Rattle.law_progress.specs.Sound.{Carried, Fits, asks, command_of, locks, at_target}
+use Rattle.law_sound.proofs.Turns.{Turn, Works, OnVictim, OnNamed, OnBuffer, OnMisplaced, start, lock, victim_unbind, victim_empty, victim_give, victim_skip, victim_move, victim_fill, victim_search, give, act, fill_in_place, ask, bind, fill_to_bind, hop_up, unbind, move_up, move_across, move_down, fill_to_move, hop_down}
+use Rattle.law_sound.proofs.Gifts.{Gives, Sought, Filled, PlaceOf, answers, makes, shifts, draws, reserves, backs, seeks, binds, unbinds, moves, fills, lets_go, empties, depopulates, untakes, skips, arms, frees, swaps, finds, evicts, dries, fresh, again, back, evicts_for_swap, nothing}
+use Rattle.law_sound.proofs.Bufs.{same_or_other, other_is, has_found, has_pushed, has_without, without_gone, last_caught, none_missing, clash}
 use Rattle.law_sound.proofs.Steadies.{next_course, locking_command}
 use Rattle.law_sound.proofs.Owners.{none_or}
 use Rattle.law_sound.proofs.Grips.{live_set, victim_free, swap_free}
-use Rattle.law_sound.proofs.OwnedKeeps.{HasIn, bare, unlocked, at_search, at_fill, Seeks}
+use Rattle.law_sound.proofs.OwnedKeeps.{bare, unlocked, at_search, at_fill}
 use Rattle.lemma_end_measure_parts.proofs.Frame.{untouched}
 use Rattle.lemma_end_measure.proofs.Giving.{live_at, changed_here}
 use Rattle.lemma_end_measure.proofs.Border.{Known}
@@ -102,13 +100,7 @@ asks_of script b x (command.Submit engine ops) h n = refl
 asks_of script b x (command.Find c) h n = refl
 asks_of script b x (command.Move c mem) h n = refl
 asks_of script b x (command.SwapOut c) h n = refl
-asks_of script b x (command.New c) h n = absurd (clash (sym (ap (λ z. not z && true) n) ∙ h))
-asks_of script b x (command.Free c) h n = absurd (clash (sym (ap (λ z. not z && true) n) ∙ h))
-asks_of script b x (command.Pin c) h n = absurd (clash (sym (ap (λ z. not z && true) n) ∙ h))
-asks_of script b x (command.Unpin c) h n = absurd (clash (sym (ap (λ z. not z && true) n) ∙ h))
-asks_of script b x (command.Write c off bytes) h n = absurd (clash (sym (ap (λ z. not z && true) n) ∙ h))
-asks_of script b x (command.Read c off len) h n = absurd (clash (sym (ap (λ z. not z && true) n) ∙ h))
-asks_of script b x (command.Touch group) h n = absurd (clash (sym (ap (λ z. not z && true) n) ∙ h))
+asks_of script b x cmd h n = absurd (clash (sym (ap (λ z. not z && true) n) ∙ h))
 
 no_pins : (n : ℕ) → nat_lt 0 n ≡ false → n ≡ 0
 no_pins n h = grind (arith, nat_tests)
@@ -389,12 +381,10 @@ module _ (script : Script) (s : State) (t : ℕ) (cmd : Command) (here : IsSome 
   -- ---- each entry
 
   pub own_keeps : (x : Task) (k : Kind) → Turn script s (course s t) cmd x → Gives script s (course s t) cmd x k → Own k (next_course script s t k)
-  own_keeps x k (answer m) answers = own_empty k
+  own_keeps x k turn answers = own_empty k
   own_keeps x k (start m q) (makes e dead) = own_none k _ (λ d h. absurd (unlocked script s t cmd here at known.owned (ap locks e) d (inl h)))
-  own_keeps x k (start m q) (exists e) = own_empty k
   own_keeps x k (start m q) (shifts e) = own_none k _ (λ d h. absurd (unlocked script s t cmd here at known.owned (ap locks e) d (inl h)))
   own_keeps x k (start m q) (draws l) = own_none k _ (λ d h. absurd (bare script s t cmd here at known.owned (locking_command (course s t) cmd q l) d (inl h)))
-  own_keeps x k (lock m n f) (no_buffer l) = own_empty k
   own_keeps x k (lock m n f) (reserves {b} l free) =
       own_none k _
       (λ d h. ⊎_elim
@@ -432,8 +422,6 @@ module _ (script : Script) (s : State) (t : ℕ) (cmd : Command) (here : IsSome 
       (fewer_targets (target_to_untake (buffer s b)) (buffer s b))
       (untaken_row (Fits script (course s t) cmd b (buffer s b)) (Fits script (course s t) cmd b (with_spans (target_to_untake (buffer s b)) None (buffer s b))) (buffer s b)
       (any_fits d b (with_spans (target_to_untake (buffer s b)) None (buffer s b)) f))
-  own_keeps x k (give_up on a f u) gives_up = own_empty k
-  own_keeps x k (refuse on r) refuses = own_empty k
   own_keeps x k (act on a f u) (arms {engine} ops e) =
       own_none k _ (λ d h. targets_used (record { ctx = engine; num = next_job s engine }) (ops_of (command_at_work script s t)) s.core.buffers (named_in (command_at_work script s t)) d ∙ clear_ready u d h)
   own_keeps x k (act on a f u) (frees {b} {g} e q) =
@@ -442,5 +430,4 @@ module _ (script : Script) (s : State) (t : ℕ) (cmd : Command) (here : IsSome 
       let n : d ≡ b → ⊥ = λ r. clash (sym (subst (λ z. has_buffer (without_buffer (course s t).held b) z ≡ true) r h) ∙ without_gone (course s t).held b) in
       ap (λ o. has_some_target (unwrap_or o (new_buffer 0))) (live_set s.core.buffers b d None n) ∙ clear_ready u d (has_without (course s t).held b d h))
   own_keeps x k (act on a f u) (swaps {b} {slot} e q r) = own_none k _ (λ d h. targets_changed (with_loc _ (loc.Slot slot)) s.core.buffers b d (λ y. refl) ∙ clear_ready u d h)
-  own_keeps x k (act on a f u) (no_swap e) = own_empty k
-  own_keeps x k (act on a f u) acts = own_empty k
+  own_keeps x k turn gives = own_empty k

@@ -1,10 +1,8 @@
 -- A held buffer with targets is the one at work, on its way to where the command wants it: what keeps this.
-use Rattle.std.proofs.Common.{◌≡◌, ℕ, zero, suc, ◌≤◌, Bool, true, false, List, [], ◌∷◌, ◌++◌, length, Option, Some, None, IsSome, refl, sym, ◌∙◌, ap, ap₂, subst, ◌⊎◌, inl, inr, ⊎_elim}
-use Rattle.std.specs.Prelude.{slice_get, slice_set, map, option_to_list, find, fold, cond, unwrap_or, is_some, is_none, option_map, not, ◌||◌, ◌&&◌, if◌then◌else◌}
-use Rattle.std.proofs.lemmas.Bool.{cases_Bool, cases_eq, both_ways, or_left, or_right, or_cases}
-use Rattle.ttm_base.specs.declared.Mem.{Mem}
+use Rattle.std.proofs.Common.{◌≡◌, ℕ, Bool, true, false, List, [], ◌∷◌, ◌++◌, length, Option, Some, None, refl, sym, ◌∙◌, ap, ap₂, subst, inl, ⊎_elim}
+use Rattle.std.specs.Prelude.{slice_get, slice_set, map, option_to_list, find, cond, unwrap_or, is_none, not, ◌&&◌, if◌then◌else◌}
+use Rattle.std.proofs.lemmas.Bool.{cases_Bool, both_ways, or_left, or_right}
 use Rattle.ttm_base.specs.declared.BufId.{BufId}
-use Rattle.ttm_base.specs.declared.Stamp.{Stamp}
 use Rattle.ttm_base.specs.declared.Deny.{Deny}
 use Rattle.ttm_base.specs.declared.Deny.TheVariants as deny
 use Rattle.ttm_base.specs.Placement.{forced_places}
@@ -14,18 +12,16 @@ use Rattle.journal_model.specs.declared.script.Command.TheVariants as command
 use Rattle.journal_model.specs.declared.state.State.{State}
 use Rattle.journal_model.specs.declared.state.Course.{Course}
 use Rattle.journal_model.specs.declared.state.Grip.{Grip}
-use Rattle.journal_model.specs.declared.state.Buffer.{Buffer}
-use Rattle.journal_model.specs.declared.state.Victim.{Victim}
 use Rattle.journal_model.specs.declared.state.Task.{Task}
 use Rattle.journal_model.specs.declared.state.Task.TheVariants as task
 use Rattle.journal_model.specs.declared.entry.Kind.{Kind}
 use Rattle.journal_model.specs.declared.entry.Kind.TheVariants as kind
 use Rattle.journal_model.specs.declared.entry.Shown.{Shown}
-use Rattle.journal_model.specs.State.{new_buffer, buffer, grip, grip_in, no_grip, regripped, course, has_buffer, same_buffer, live_in, changed}
+use Rattle.journal_model.specs.State.{new_buffer, buffer, grip, grip_in, no_grip, regripped, course, has_buffer, same_buffer}
 use Rattle.journal_model.specs.Commands.{named, command_at_work}
 use Rattle.journal_model.specs.Ready.{is_in_place, is_filled, is_ready, first_unready, has_some_target}
 use Rattle.journal_model.specs.Search.{is_caught, quest_at_work}
-use Rattle.journal_model.specs.Tasks.{starts, first_missing}
+use Rattle.journal_model.specs.Tasks.{starts}
 use Rattle.journal_model.specs.ApplyCommands.{with_holder, released, with_pins, pinned_more, pinned_less}
 use Rattle.journal_model.specs.ApplyPages.{search_over}
 use Rattle.journal_model.specs.ApplyVictims.{failed_if, with_fail, gone_dry, course_after_dry}
@@ -35,8 +31,7 @@ use Rattle.law_progress.specs.Sound.{Has, Owned, Carried, Fits, asks, command_of
 use Rattle.law_sound.proofs.Along.{Stepped}
 use Rattle.law_sound.proofs.Turns.{Turn, Works, answer, act}
 use Rattle.law_sound.proofs.Gifts.{Gives, answers, seeks, fills, acts}
-use Rattle.law_sound.proofs.Bufs.{same_self, same_is, same_or_other, other_is, has_found, none_missing, clash}
-use Rattle.law_sound.proofs.Steadies.{next_course, own_course}
+use Rattle.law_sound.proofs.Bufs.{same_self, same_is, same_or_other, has_found, none_missing, clash}
 use Rattle.law_sound.proofs.Owners.{OneCourse, none_or}
 use Rattle.law_sound.proofs.Grips.{grip_other}
 use Rattle.law_sound.proofs.OwnedKeeps.{HasIn}
@@ -93,15 +88,7 @@ lock_same c = record { answered = refl; made = refl; stamp = refl; held = refl; 
 starts_alike : (c c' : Course) (cmd : Command) → c'.stamp ≡ c.stamp → starts c' cmd ≡ starts c cmd
 starts_alike c c' (command.New b) e = refl
 starts_alike c c' (command.Touch group) e = refl
-starts_alike c c' (command.Free b) e = ap is_none e
-starts_alike c c' (command.Pin b) e = ap is_none e
-starts_alike c c' (command.Unpin b) e = ap is_none e
-starts_alike c c' (command.Find b) e = ap is_none e
-starts_alike c c' (command.SwapOut b) e = ap is_none e
-starts_alike c c' (command.Write b off bytes) e = ap is_none e
-starts_alike c c' (command.Read b off len) e = ap is_none e
-starts_alike c c' (command.Move b mem) e = ap is_none e
-starts_alike c c' (command.Submit engine ops) e = ap is_none e
+starts_alike c c' cmd e = ap is_none e
 
 pub works_alike : (c c' : Course) (cmd : Command) → SameLock c c' → Works c cmd → Works c' cmd
 works_alike c c' cmd l w = record {
@@ -164,15 +151,7 @@ pins_with : (o : Option Command) (grips : List Grip) (d : BufId) → pinned_by o
 pins_with None grips d h = refl
 pins_with (Some (command.Pin b)) grips d h = ap (λ g. g.pins) (grip_other grips b d (pinned_more (grip_in grips b)) (not_it b d h))
 pins_with (Some (command.Unpin b)) grips d h = ap (λ g. g.pins) (grip_other grips b d (pinned_less (grip_in grips b)) (not_it b d h))
-pins_with (Some (command.New b)) grips d h = refl
-pins_with (Some (command.Free b)) grips d h = refl
-pins_with (Some (command.Find b)) grips d h = refl
-pins_with (Some (command.SwapOut b)) grips d h = refl
-pins_with (Some (command.Write b off bytes)) grips d h = refl
-pins_with (Some (command.Read b off len)) grips d h = refl
-pins_with (Some (command.Move b mem)) grips d h = refl
-pins_with (Some (command.Touch group)) grips d h = refl
-pins_with (Some (command.Submit engine ops)) grips d h = refl
+pins_with (Some cmd) grips d h = refl
 
 pub pins_same : (script : Script) (s : State) (t : ℕ) (k : Kind) (d : BufId) → repinned script s t k d ≡ false → (grip (after script s t k) d).pins ≡ (grip s d).pins
 pins_same script s t (kind.New b) d h = ap (λ g. g.pins) (grip_other s.grips b d no_grip (not_it b d h))
@@ -184,23 +163,7 @@ pins_same script s t (kind.Reserve b) d h = pins_set s.grips b d (with_holder (c
 pins_same script s t (kind.Catch b w) d h = pins_set s.grips b d (with_holder (course s t).stamp (grip s b)) refl
 pins_same script s t (kind.Loose b) d h = pins_set s.grips b d (with_holder None (grip s b)) refl
 pins_same script s t (kind.Skip b) d h = pins_set s.grips b d (with_holder None (grip s b)) refl
-pins_same script s t (kind.Ticket stamp) d h = refl
-pins_same script s t (kind.Take b mem spans) d h = refl
-pins_same script s t (kind.Untake b mem) d h = refl
-pins_same script s t (kind.Populate b page f) d h = refl
-pins_same script s t (kind.SwapIn b page slot f) d h = refl
-pins_same script s t (kind.Depopulate b) d h = refl
-pins_same script s t (kind.Bind b) d h = refl
-pins_same script s t (kind.Unbind b) d h = refl
-pins_same script s t (kind.Move b mem n l) d h = refl
-pins_same script s t (kind.Dry b k w) d h = refl
-pins_same script s t (kind.SwapOut b page slot) d h = refl
-pins_same script s t (kind.NoPages b) d h = refl
-pins_same script s t (kind.Arm engine n) d h = refl
-pins_same script s t (kind.Packet n k piece) d h = refl
-pins_same script s t (kind.Done n) d h = refl
-pins_same script s t (kind.Reap g) d h = refl
-pins_same script s t (kind.Bulk group) d h = refl
+pins_same script s t k d h = refl
 
 -- ---- on its way still
 
@@ -244,15 +207,7 @@ module _ (script : Script) (s : State) (t : ℕ) (k : Kind) (owned : Owned scrip
   pinned_named : (x : Command) (d : BufId) → pinned_by (Some x) d ≡ true → (has_buffer (named x) d ≡ true) × (makes x ≡ false)
   pinned_named (command.Pin b) d h = (or_left (same_buffer d b) false (subst (λ z. same_buffer z b ≡ true) (same_is b d h) (same_self b)), refl)
   pinned_named (command.Unpin b) d h = (or_left (same_buffer d b) false (subst (λ z. same_buffer z b ≡ true) (same_is b d h) (same_self b)), refl)
-  pinned_named (command.New b) d h = cc
-  pinned_named (command.Free b) d h = cc
-  pinned_named (command.Find b) d h = cc
-  pinned_named (command.SwapOut b) d h = cc
-  pinned_named (command.Write b off bytes) d h = cc
-  pinned_named (command.Read b off len) d h = cc
-  pinned_named (command.Move b mem) d h = cc
-  pinned_named (command.Touch group) d h = cc
-  pinned_named (command.Submit engine ops) d h = cc
+  pinned_named cmd d h = cc
 
   made_of : Turn script s (course s t) st.step.cmd task.Answer → (course s t).made ≡ true
   made_of (answer m) = m
@@ -276,29 +231,7 @@ module _ (script : Script) (s : State) (t : ℕ) (k : Kind) (owned : Owned scrip
       (answered_pin st.step.task r d st.turn (subst (Gives script s (course s t) st.step.cmd st.step.task) e st.gives) (subst (λ o. pinned_by o d ≡ true) st.step.at_work q))))
       (λ q. q)
       (cases_Bool (pinned_by (command_at_work script s t) d))
-  not_repinned (kind.Refused x) e u d other h = refl
-  not_repinned (kind.Backoff b stamp) e u d other h = refl
-  not_repinned (kind.Reserve b) e u d other h = refl
-  not_repinned (kind.Catch b w) e u d other h = refl
-  not_repinned (kind.Loose b) e u d other h = refl
-  not_repinned (kind.Skip b) e u d other h = refl
-  not_repinned (kind.Ticket stamp) e u d other h = refl
-  not_repinned (kind.Take b mem spans) e u d other h = refl
-  not_repinned (kind.Untake b mem) e u d other h = refl
-  not_repinned (kind.Populate b page f) e u d other h = refl
-  not_repinned (kind.SwapIn b page slot f) e u d other h = refl
-  not_repinned (kind.Depopulate b) e u d other h = refl
-  not_repinned (kind.Bind b) e u d other h = refl
-  not_repinned (kind.Unbind b) e u d other h = refl
-  not_repinned (kind.Move b mem n l) e u d other h = refl
-  not_repinned (kind.Dry b n w) e u d other h = refl
-  not_repinned (kind.SwapOut b page slot) e u d other h = refl
-  not_repinned (kind.NoPages b) e u d other h = refl
-  not_repinned (kind.Arm engine n) e u d other h = refl
-  not_repinned (kind.Packet n i piece) e u d other h = refl
-  not_repinned (kind.Done n) e u d other h = refl
-  not_repinned (kind.Reap g) e u d other h = refl
-  not_repinned (kind.Bulk group) e u d other h = refl
+  not_repinned k e u d other h = refl
 
   -- it is on its way as it was
   pub others_on_way : Carrying script s → OneCourse s (after script s t k) t → (u : ℕ) (cmd : Command) (b : BufId) → (u ≡ t → ⊥) → command_of script u (course (after script s t k) u) ≡ Some cmd

@@ -1,7 +1,6 @@
 -- A buffer in SYSTEM has no spans.
-use Rattle.std.proofs.Common.{◌≡◌, ℕ, zero, suc, Bool, true, false, List, [], ◌∷◌, Option, Some, None, Ok, refl, sym, ◌∙◌, ap, subst, ◌⊎◌, inl, inr, ⊎_elim}
-use Rattle.std.specs.Prelude.{slice_get, slice_set, map, fold, unwrap_or, option_map, option_and_then, ◌||◌}
-use Rattle.std.proofs.lemmas.Bool.{or_left, or_right}
+use Rattle.std.proofs.Common.{◌≡◌, ℕ, zero, suc, List, [], ◌∷◌, Option, Some, None, refl, sym, ◌∙◌, subst, ⊎_elim}
+use Rattle.std.specs.Prelude.{slice_get, slice_set, map, fold, unwrap_or, option_map, option_and_then}
 use Rattle.ttm_base.specs.declared.Mem.{Mem}
 use Rattle.ttm_base.specs.declared.Mem.TheVariants.{System, Tt, Vram}
 use Rattle.ttm_base.specs.declared.Span.{Span}
@@ -22,15 +21,13 @@ use Rattle.journal_model.specs.declared.entry.Kind.{Kind}
 use Rattle.journal_model.specs.declared.entry.Kind.TheVariants as kind
 use Rattle.journal_model.specs.State.{new_buffer, buffer, course, live_in, changed}
 use Rattle.journal_model.specs.Commands.{decl, command_at_work}
-use Rattle.journal_model.specs.Next.{next}
 use Rattle.journal_model.specs.Apply.{applied, thread_of}
 use Rattle.journal_model.specs.ApplyCommands.{named_in}
 use Rattle.journal_model.specs.ApplyJobs.{with_use, ops_of}
 use Rattle.journal_model.specs.ApplyVictims.{leaves_tt}
 use Rattle.journal_model.specs.Legal.{first_state}
-use Rattle.law_journal.proofs.Courses.{is_of_engine, is_of_reaper, of_engine, of_reaper}
 use Rattle.law_state.proofs.Lists.{set_at, live_changed}
-use Rattle.law_sound.proofs.Along.{Stepped, OfWorker, of_worker, packet, done, reap, stepped_of}
+use Rattle.law_sound.proofs.Along.{Stepped, OfWorker, packet, done, reap}
 use Rattle.law_sound.proofs.Turns.{Turn, victim_move, move_up, move_across, move_down}
 use Rattle.law_sound.proofs.Gifts.{Gives, seeks, moves, fills}
 use Rattle.lemma_end_carrying.proofs.Takes.{taken, taken_body}
@@ -94,19 +91,7 @@ bare_after script s who (kind.Catch b w) low all = bare_changed _ s.core.buffers
 bare_after script s who (kind.SwapOut b page slot) low all = bare_changed _ s.core.buffers b (λ x h. h) all
 bare_after script s who (kind.Arm engine n) low all =
     bare_uses (record { ctx = engine; num = n }) (ops_of (command_at_work script s (thread_of who))) s.core.buffers (named_in (command_at_work script s (thread_of who))) all
-bare_after script s who (kind.Ticket stamp) low all = all
-bare_after script s who (kind.Reserve b) low all = all
-bare_after script s who (kind.Backoff b stamp) low all = all
-bare_after script s who (kind.Loose b) low all = all
-bare_after script s who (kind.Skip b) low all = all
-bare_after script s who (kind.Dry b k w) low all = all
-bare_after script s who (kind.NoPages b) low all = all
-bare_after script s who (kind.Packet n k piece) low all = all
-bare_after script s who (kind.Done n) low all = all
-bare_after script s who (kind.Reap g) low all = all
-bare_after script s who (kind.Bulk group) low all = all
-bare_after script s who (kind.Result r) low all = all
-bare_after script s who (kind.Refused d) low all = all
+bare_after script s who k low all = all
 
 module _ (script : Script) (s : State) (c : Course) (cmd : Command) where
   -- no job carries a buffer to SYSTEM

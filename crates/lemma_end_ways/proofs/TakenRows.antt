@@ -1,6 +1,6 @@
 -- The rows of the carrying table after a choice was taken, or a target given back.
-use Rattle.std.proofs.Common.{◌≡◌, ℕ, ◌≤◌, ◌+◌, Bool, true, false, List, [], ◌∷◌, Option, Some, None, refl, sym, ◌∙◌, ap, ap₂, subst, arith, ◌⊎◌, inl, inr, ⊎_elim}
-use Rattle.std.specs.Prelude.{is_some, unwrap_or, not, ◌&&◌, ◌||◌, if◌then◌else◌}
+use Rattle.std.proofs.Common.{◌≡◌, Bool, true, false, List, [], Some, None, refl, sym, ◌∙◌, ap, ap₂, subst, ◌⊎◌, inl, inr}
+use Rattle.std.specs.Prelude.{is_some, unwrap_or, if◌then◌else◌}
 use Rattle.ttm_base.specs.declared.Mem.{Mem}
 use Rattle.ttm_base.specs.declared.Mem.TheVariants.{System, Tt, Vram}
 use Rattle.ttm_base.specs.declared.Span.{Span}
@@ -8,13 +8,12 @@ use Rattle.ttm_base.specs.declared.BufId.{BufId}
 use Rattle.ttm_base.specs.Reach.{same_mem}
 use Rattle.journal_model.specs.declared.script.Script.{Script}
 use Rattle.journal_model.specs.declared.script.Command.{Command}
-use Rattle.journal_model.specs.declared.state.Course.{Course}
 use Rattle.journal_model.specs.declared.state.Buffer.{Buffer}
 use Rattle.journal_model.specs.State.{has_target, target_of, with_target}
-use Rattle.journal_model.specs.Ready.{meets, has_some_target}
+use Rattle.journal_model.specs.Ready.{has_some_target}
 use Rattle.journal_model.specs.PageSteps.{target_to_untake}
 use Rattle.journal_model.specs.ApplyPages.{with_spans}
-use Rattle.law_progress.specs.Sound.{Targeted, Carried, Fits, at_target, system_tt, system_vram, system_both, tt_system, tt_tt, tt_vram, vram_vram, vram_tt, vram_system, vram_both}
+use Rattle.law_progress.specs.Sound.{Targeted, Carried, system_tt, system_vram, system_both, tt_system, tt_tt, tt_vram, vram_vram, vram_tt, vram_system, vram_both}
 use Rattle.law_sound.proofs.Bufs.{clash}
 use Rattle.lemma_end_carrying.proofs.Rows.{MeetsAt, meets_at, some_is}
 

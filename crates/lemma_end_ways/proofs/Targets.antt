@@ -1,18 +1,14 @@
 -- After each entry a buffer with targets still has a holder, and is on its way where it is held by name.
-use Rattle.std.proofs.Common.{◌≡◌, ℕ, ◌<◌, ◌≤◌, ◌+◌, Bool, true, false, List, [], ◌∷◌, length, Option, Some, None, IsSome, Ok, refl, sym, ◌∙◌, ap, ap₂, subst, arith, ◌⊎◌, inl, inr, ⊎_elim}
-use Rattle.std.specs.Prelude.{slice_get, slice_set, map, fold, unwrap_or, is_some, option_and_then, nat_lt, not, ◌||◌, ◌&&◌, if◌then◌else◌}
-use Rattle.std.proofs.lemmas.Bool.{cases_Bool, cases_eq, or_left, or_right, or_cases, or_parts, both_ways}
+use Rattle.std.proofs.Common.{◌≡◌, ℕ, true, false, Option, Some, None, IsSome, refl, sym, ◌∙◌, ap, subst, arith, inl, ⊎_elim}
+use Rattle.std.specs.Prelude.{unwrap_or, is_some, option_and_then, nat_lt, not, ◌&&◌, if◌then◌else◌}
+use Rattle.std.proofs.lemmas.Bool.{cases_Bool, cases_eq, or_left, or_cases, or_parts}
 use Rattle.ttm_base.specs.ListWords.{last_of}
 use Rattle.ttm_base.specs.Reach.{same_mem}
-use Rattle.ttm_base.specs.declared.Mem.{Mem}
-use Rattle.ttm_base.specs.declared.Mem.TheVariants.{System, Tt, Vram}
+use Rattle.ttm_base.specs.declared.Mem.TheVariants.{System, Vram}
 use Rattle.ttm_base.specs.declared.BufId.{BufId}
-use Rattle.ttm_base.specs.declared.Stamp.{Stamp}
 use Rattle.ttm_base.specs.declared.Deny.{Deny}
 use Rattle.ttm_base.specs.declared.Deny.TheVariants as deny
-use Rattle.ttm_base.specs.declared.Loc.TheVariants as loc
 use Rattle.ttm_base.specs.declared.Actor.{Actor}
-use Rattle.ttm_base.specs.declared.Actor.TheVariants as actor
 use Rattle.journal_model.specs.declared.script.Script.{Script}
 use Rattle.journal_model.specs.declared.script.Command.{Command}
 use Rattle.journal_model.specs.declared.script.Command.TheVariants as command
@@ -27,27 +23,26 @@ use Rattle.journal_model.specs.declared.entry.Why.{Why}
 use Rattle.journal_model.specs.declared.entry.Why.TheVariants as why
 use Rattle.journal_model.specs.declared.entry.Kind.{Kind}
 use Rattle.journal_model.specs.declared.entry.Kind.TheVariants as kind
-use Rattle.journal_model.specs.State.{new_buffer, new_course, buffer, grip, grip_in, no_grip, course, course_of, has_buffer, has_target, same_buffer, live_in, is_live}
+use Rattle.journal_model.specs.State.{new_buffer, buffer, grip, grip_in, no_grip, course, course_of, has_buffer, has_target, same_buffer, live_in, is_live}
 use Rattle.journal_model.specs.Commands.{named, command_at_work}
 use Rattle.journal_model.specs.Dry.{has_frame}
 use Rattle.journal_model.specs.Ready.{is_ready, first_unready, has_some_target}
-use Rattle.journal_model.specs.Search.{quest, is_caught}
-use Rattle.journal_model.specs.Tasks.{forbidden, gives_back}
+use Rattle.journal_model.specs.Search.{quest}
+use Rattle.journal_model.specs.Tasks.{forbidden}
 use Rattle.journal_model.specs.ApplyCommands.{named_in, released, with_holder}
-use Rattle.journal_model.specs.Next.{next}
 use Rattle.journal_model.specs.Apply.{applied}
 use Rattle.journal_model.specs.Legal.{first_state}
 use Rattle.law_state.specs.Courses.{GoodCourses}
 use Rattle.law_state.proofs.Lists.{set_at}
-use Rattle.law_progress.specs.Sound.{Has, asks, command_of, locks, Targeted, OnItsWay, in_vram, to_tt, out_of_vram, in_tt, in_system}
-use Rattle.law_sound.proofs.Along.{Stepped, OfWorker, packet, done, reap, first_course}
-use Rattle.law_sound.proofs.Turns.{Turn, Works, OnVictim, OnNamed, Emptied, for_tt, for_swap, left_vram, Refusal, ban, pinned, Surrender, bare, ready, answer, start, lock, victim_unbind, victim_empty, victim_give, victim_skip, victim_move, victim_fill, victim_search, refuse, give, give_up, act, fill_in_place, ask, bind, fill_to_bind, hop_up, unbind, move_up, move_across, move_down, fill_to_move, hop_down}
+use Rattle.law_progress.specs.Sound.{asks, command_of, locks, OnItsWay, in_vram, to_tt, out_of_vram, in_tt, in_system}
+use Rattle.law_sound.proofs.Along.{Stepped, OfWorker, packet, done, reap}
+use Rattle.law_sound.proofs.Turns.{Turn, Works, OnNamed, Emptied, for_tt, for_swap, left_vram, Refusal, ban, pinned, Surrender, bare, ready, answer, start, lock, victim_empty, victim_skip, refuse, give_up, act}
 use Rattle.law_sound.proofs.Gifts.{Gives, Sought, Filled, answers, makes, exists, shifts, draws, no_buffer, reserves, backs, seeks, binds, unbinds, moves, fills, lets_go, empties, depopulates, untakes, skips, gives_up, refuses, arms, frees, swaps, no_swap, acts, finds, evicts, dries, fresh, again, back, evicts_for_swap, nothing}
 use Rattle.law_sound.proofs.Bufs.{same_self, same_is, same_or_other, other_is, has_found, none_missing, clash}
 use Rattle.law_sound.proofs.Owners.{none_or}
-use Rattle.law_sound.proofs.Grips.{IsFree, grip_other, grip_here, grip_gone, released_other, pins_hold, live_set, live_within, victim_free, swap_free, one_course}
+use Rattle.law_sound.proofs.Grips.{IsFree, grip_other, grip_here, released_other, pins_hold, live_set, live_within, victim_free, swap_free, one_course}
 use Rattle.law_sound.proofs.OwnedKeeps.{HasIn, unlocked, at_search, at_fill, has_stamp, begun_locks}
-use Rattle.law_sound.proofs.Steadies.{next_course, own_course}
+use Rattle.law_sound.proofs.Steadies.{own_course}
 use Rattle.lemma_end_measure_parts.proofs.Frame.{touches, untouched, turn_has}
 use Rattle.lemma_end_measure.proofs.Border.{Known}
 use Rattle.lemma_end_measure.proofs.Parts.{after}
@@ -147,13 +142,7 @@ module _ (script : Script) (s : State) (t : ℕ) (cmd : Command) (here : IsSome 
       let it : d ≡ b = ⊎_elim (λ q. same_is d b q) (λ q. absurd (let z : false ≡ true = q in cc)) (or_cases (same_buffer d b) false member) in
       let loose : (grip s b).pins ≡ 0 = subst (λ z. (grip s z).pins ≡ 0) it w.loose in
       let z : None ≡ Some e = sym (ap (λ n. if nat_lt 0 n then Some deny.Pinned else None) loose) ∙ f in cc
-  banned (command.New b) e is f d w = cc
-  banned (command.Find b) e is f d w = cc
-  banned (command.Write b off bytes) e is f d w = cc
-  banned (command.Read b off len) e is f d w = cc
-  banned (command.Move b mem) e is f d w = cc
-  banned (command.Touch group) e is f d w = cc
-  banned (command.Submit engine ops) e is f d w = cc
+  banned cmd e is f d w = cc
 
   refused_clear : Refusal script s (course s t) cmd → Clear
   refused_clear (ban e f) = is_clear (λ d w some. banned cmd e refl f d w)

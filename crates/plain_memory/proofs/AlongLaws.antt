@@ -36,121 +36,26 @@ use Rattle.plain_memory.proofs.FitLaws.{command_fits}
 -- the memory after an entry
 memory_is_after : (script : Script) (p : Plain) (t : ℕ) (k : Kind) → (plain_after_kind script p t k).memory ≡ memory_after (command_of script p t) k p.memory
 memory_is_after script p t (kind.Ticket s) = refl
-memory_is_after script p t (kind.Reserve b) = refl
-memory_is_after script p t (kind.Backoff b s) = refl
-memory_is_after script p t (kind.New b) = refl
-memory_is_after script p t (kind.Free b g) = refl
-memory_is_after script p t (kind.Take b mem spans) = refl
-memory_is_after script p t (kind.Untake b mem) = refl
-memory_is_after script p t (kind.Populate b page f) = refl
-memory_is_after script p t (kind.SwapIn b page l f) = refl
-memory_is_after script p t (kind.Depopulate b) = refl
-memory_is_after script p t (kind.Bind b) = refl
-memory_is_after script p t (kind.Unbind b) = refl
-memory_is_after script p t (kind.Move b mem n l) = refl
-memory_is_after script p t (kind.Catch b w) = refl
-memory_is_after script p t (kind.Loose b) = refl
-memory_is_after script p t (kind.Skip b) = refl
-memory_is_after script p t (kind.Dry b j w) = refl
-memory_is_after script p t (kind.SwapOut b page l) = refl
-memory_is_after script p t (kind.NoPages b) = refl
-memory_is_after script p t (kind.Arm engine n) = refl
-memory_is_after script p t (kind.Packet n j piece) = refl
-memory_is_after script p t (kind.Done n) = refl
-memory_is_after script p t (kind.Reap g) = refl
-memory_is_after script p t (kind.Bulk group) = refl
-memory_is_after script p t (kind.Result r) = refl
-memory_is_after script p t (kind.Refused d) = refl
+memory_is_after script p t k = refl
 
 -- how many commands are answered after it
 answered_is_after : (script : Script) (p : Plain) (t : ℕ) (k : Kind) (u : ℕ) → (plain_after_kind script p t k).answered u ≡ (if is_answer k then answered_one_more t p.answered u else p.answered u)
 answered_is_after script p t (kind.Ticket s) u = refl
-answered_is_after script p t (kind.Reserve b) u = refl
-answered_is_after script p t (kind.Backoff b s) u = refl
-answered_is_after script p t (kind.New b) u = refl
-answered_is_after script p t (kind.Free b g) u = refl
-answered_is_after script p t (kind.Take b mem spans) u = refl
-answered_is_after script p t (kind.Untake b mem) u = refl
-answered_is_after script p t (kind.Populate b page f) u = refl
-answered_is_after script p t (kind.SwapIn b page l f) u = refl
-answered_is_after script p t (kind.Depopulate b) u = refl
-answered_is_after script p t (kind.Bind b) u = refl
-answered_is_after script p t (kind.Unbind b) u = refl
-answered_is_after script p t (kind.Move b mem n l) u = refl
-answered_is_after script p t (kind.Catch b w) u = refl
-answered_is_after script p t (kind.Loose b) u = refl
-answered_is_after script p t (kind.Skip b) u = refl
-answered_is_after script p t (kind.Dry b j w) u = refl
-answered_is_after script p t (kind.SwapOut b page l) u = refl
-answered_is_after script p t (kind.NoPages b) u = refl
-answered_is_after script p t (kind.Arm engine n) u = refl
-answered_is_after script p t (kind.Packet n j piece) u = refl
-answered_is_after script p t (kind.Done n) u = refl
-answered_is_after script p t (kind.Reap g) u = refl
-answered_is_after script p t (kind.Bulk group) u = refl
-answered_is_after script p t (kind.Result r) u = refl
-answered_is_after script p t (kind.Refused d) u = refl
+answered_is_after script p t k u = refl
 
 -- entries of the other kinds leave the memory alone
 pub memory_stays : (command : Option Command) (k : Kind) (memory : Memory) → ((b : BufId) → k ≡ kind.New b → ⊥) → ((b : BufId) (g : ℕ) → k ≡ kind.Free b g → ⊥) →
     ((engine n : ℕ) → k ≡ kind.Arm engine n → ⊥) → ((r : Shown) → k ≡ kind.Result r → ⊥) → memory ≡ memory_after command k memory
-memory_stays command (kind.Ticket s) memory x y z v = refl
-memory_stays command (kind.Reserve b) memory x y z v = refl
-memory_stays command (kind.Backoff b s) memory x y z v = refl
 memory_stays command (kind.New b) memory x y z v = absurd (x b refl)
 memory_stays command (kind.Free b g) memory x y z v = absurd (y b g refl)
-memory_stays command (kind.Take b mem spans) memory x y z v = refl
-memory_stays command (kind.Untake b mem) memory x y z v = refl
-memory_stays command (kind.Populate b page f) memory x y z v = refl
-memory_stays command (kind.SwapIn b page l f) memory x y z v = refl
-memory_stays command (kind.Depopulate b) memory x y z v = refl
-memory_stays command (kind.Bind b) memory x y z v = refl
-memory_stays command (kind.Unbind b) memory x y z v = refl
-memory_stays command (kind.Move b mem n l) memory x y z v = refl
-memory_stays command (kind.Catch b w) memory x y z v = refl
-memory_stays command (kind.Loose b) memory x y z v = refl
-memory_stays command (kind.Skip b) memory x y z v = refl
-memory_stays command (kind.Dry b j w) memory x y z v = refl
-memory_stays command (kind.SwapOut b page l) memory x y z v = refl
-memory_stays command (kind.NoPages b) memory x y z v = refl
 memory_stays command (kind.Arm engine n) memory x y z v = absurd (z engine n refl)
-memory_stays command (kind.Packet n j piece) memory x y z v = refl
-memory_stays command (kind.Done n) memory x y z v = refl
-memory_stays command (kind.Reap g) memory x y z v = refl
-memory_stays command (kind.Bulk group) memory x y z v = refl
 memory_stays command (kind.Result r) memory x y z v = absurd (v r refl)
-memory_stays command (kind.Refused d) memory x y z v = refl
+memory_stays command k memory x y z v = refl
 
 -- an entry that is transparent is no mismatch
 no_mismatch : (script : Script) (p : Plain) (who : Actor) (k : Kind) → IsKindPlain script p who k → mismatch_at script p (record { who = who; kind = k }) ≡ 0
-no_mismatch script p who (kind.Ticket s) h = refl
-no_mismatch script p who (kind.Reserve b) h = refl
-no_mismatch script p who (kind.Backoff b s) h = refl
-no_mismatch script p who (kind.New b) h = refl
-no_mismatch script p who (kind.Free b g) h = refl
-no_mismatch script p who (kind.Take b mem spans) h = refl
-no_mismatch script p who (kind.Untake b mem) h = refl
-no_mismatch script p who (kind.Populate b page f) h = refl
-no_mismatch script p who (kind.SwapIn b page l f) h = refl
-no_mismatch script p who (kind.Depopulate b) h = refl
-no_mismatch script p who (kind.Bind b) h = refl
-no_mismatch script p who (kind.Unbind b) h = refl
-no_mismatch script p who (kind.Move b mem n l) h = refl
-no_mismatch script p who (kind.Catch b w) h = refl
-no_mismatch script p who (kind.Loose b) h = refl
-no_mismatch script p who (kind.Skip b) h = refl
-no_mismatch script p who (kind.Dry b j w) h = refl
-no_mismatch script p who (kind.SwapOut b page l) h = refl
-no_mismatch script p who (kind.NoPages b) h = refl
-no_mismatch script p who (kind.Arm engine n) h = refl
-no_mismatch script p who (kind.Packet n j piece) h = refl
-no_mismatch script p who (kind.Done n) h = refl
-no_mismatch script p who (kind.Reap g) h = refl
-no_mismatch script p who (kind.Bulk group) h = refl
 no_mismatch script p who (kind.Result (shown.Read bytes)) h = let e = (bytes_eq-Decides bytes (read_of (command_of script p (thread_of who)) p.memory)).1 h in let count : Bool → ℕ = λ b. if not b then 1 else 0 in ap count e
-no_mismatch script p who (kind.Result shown.Plain) h = refl
-no_mismatch script p who (kind.Result (shown.Find mem spans)) h = refl
-no_mismatch script p who (kind.Refused d) h = refl
+no_mismatch script p who k h = refl
 
 no_mismatches : (script : Script) (p : Plain) (es : List Entry) → IsTransparentFrom script p es → mismatches_from script p es ≡ 0
 no_mismatches script p [] h = refl

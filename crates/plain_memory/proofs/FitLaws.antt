@@ -77,19 +77,12 @@ ops_fit script ops h = λ k d l. op_fits script (get_or ops k d) (passes_at (is_
 
 -- a command of a script is inside
 command_fits_here : (script : Script) (c : Command) → is_command script c ≡ true → CommandFits (sizes_of script) (Some c)
-command_fits_here script (command.New b) h = tt
-command_fits_here script (command.Free b) h = tt
-command_fits_here script (command.Pin b) h = tt
-command_fits_here script (command.Unpin b) h = tt
-command_fits_here script (command.Find b) h = tt
-command_fits_here script (command.SwapOut b) h = tt
 command_fits_here script (command.Write b off bytes) h =
     range_fits script b off (length bytes) (first_of_three (is_range_of script b off (length bytes)) (nat_le (length bytes) 256) (list_all is_byte bytes) h)
 command_fits_here script (command.Read b off len) h = range_fits script b off len (first_of_two (is_range_of script b off len) (nat_le len 256) h)
-command_fits_here script (command.Move b mem) h = tt
-command_fits_here script (command.Touch group) h = tt
 command_fits_here script (command.Submit engine ops) h =
     ops_fit script ops (third_of_four (is_between 1 script.sizes.engines engine) (is_between 1 64 (length ops)) (list_all (is_op script) ops) (nat_le (length (named (command.Submit engine ops))) 16) h)
+command_fits_here script cmd h = tt
 
 module _ (script : Script) (fits : IsTrue (is_script script)) where
   commands_pass : list_all (list_all (is_command script)) script.threads ≡ true
