@@ -33,3 +33,4 @@ pub mod BufferAgain
 pub mod ThreadsAgain
 pub mod ReadsScript
 pub mod Story
+pub mod Parts

@@ -1,1 +1,2 @@
 pub mod ScriptLaws
+pub mod LineParts

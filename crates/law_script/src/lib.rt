@@ -1,7 +1,8 @@
-//! The laws that tie the value of a script to its bytes, each as the contract of a function that does nothing. All but
-//! the first speak of scripts without marks.
+//! The laws that tie the value of a script to its bytes, each as the contract of a function that does nothing. The first
+//! speaks of all scripts, the last of lines, and the others of scripts without marks.
 #![tactic(auto)]
 
+ghost use Rattle.law_script.specs.LineParts.{LinesHaveAllParts};
 ghost use Rattle.law_script.specs.ScriptLaws.{OneSpelling, OneValue, TakesScripts, ReadsScripts, FaultWhereNoScript};
 
 /// A script has one spelling.
@@ -27,4 +28,9 @@ pub fn one_value()
 /// Bytes have a first fault exactly where they are the spelling of no script.
 pub fn fault_where_no_script()
     ensures { FaultWhereNoScript }
+{}
+
+/// A line that breaks no rule has all its parts, so what `with_line` puts in the place of a missing one gets into no script.
+pub fn lines_have_all_parts()
+    ensures { LinesHaveAllParts }
 {}
