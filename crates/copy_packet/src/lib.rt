@@ -10,5 +10,5 @@ mod stores;
 pub use cutting::cut;
 pub use places::{PagePlaces, PlaceMap, PlaceRow};
 pub use probe::ProbeBytes;
-pub use running::run;
+pub use running::{run, show};
 pub use stores::Stores;

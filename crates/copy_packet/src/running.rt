@@ -8,6 +8,18 @@ use crate::probe::ProbeBytes;
 use crate::stores::Stores;
 use ttm_base::Packet;
 
+/// Shows the bytes that a packet probes, or none, and does nothing else. Takes no memory.
+pub fn show(packet: &Packet, stores: &Stores, out: &mut ProbeBytes)
+    requires { CanRun stores.now packet.now }
+    ensures { out.new ≡ probe_piece (aperture_of stores.now) (bytes_of stores.now) packet.now }
+{
+    out.clear();
+    if let Packet::Probe { from, off, len } = *packet {
+        let source = stores.spot(from, off);
+        out.set(stores.part(source, len as u64))
+    }
+}
+
 /// Does a packet, and shows the bytes that it probes, or none. Takes no memory. Source and target may overlap: all bytes are
 /// read before one is written.
 pub fn run(packet: &Packet, stores: &mut Stores, out: &mut ProbeBytes)
@@ -18,7 +30,7 @@ pub fn run(packet: &Packet, stores: &mut Stores, out: &mut ProbeBytes)
     ensures aper { stores.new.aper ≡ stores.old.aper }
     ensures out { out.new ≡ probe_piece (aperture_of stores.old) (bytes_of stores.old) packet.now }
 {
-    out.clear();
+    show(packet, stores, out);
     match *packet {
         Packet::Fill { to, off, len, byte } => {
             let target = stores.spot(to, off);
@@ -46,9 +58,6 @@ pub fn run(packet: &Packet, stores: &mut Stores, out: &mut ProbeBytes)
             let source = stores.spot(from, foff);
             stores.xor(target, source, len as u64)
         }
-        Packet::Probe { from, off, len } => {
-            let source = stores.spot(from, off);
-            out.set(stores.part(source, len as u64))
-        }
+        Packet::Probe { .. } => {}
     }
 }

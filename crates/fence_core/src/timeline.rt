@@ -83,6 +83,17 @@ impl Timeline {
         job.num <= self.contexts[job.ctx as usize].done
     }
 
+    /// How far a context is: the number of its last job that is done, or 0 where none is. Jobs up to it are done, greater ones
+    /// aren't. Takes constant time.
+    pub fn reached(&self, ctx: u32) -> u64
+        requires { ctx < length self.now }
+        ensures done { result ≡ (progress_of self.now ctx).done }
+        ensures emitted { result ≤ (progress_of self.now ctx).emitted }
+    {
+        let progress = &self.contexts[ctx as usize];
+        progress.done
+    }
+
     /// The number that `emit` would give. No job with this number or a greater one is done.
     pub fn next(&self, ctx: u32) -> u64
         requires { ctx < length self.now }

@@ -1,3 +1,4 @@
 pub mod WordLaws
 pub mod BitmapLaws
 pub mod CountLaws
+pub mod FoundLaws

@@ -2,7 +2,8 @@
 //! Only `new` takes memory. The other calls look at three words where there are at most 262,144 numbers.
 #![tactic(auto)]
 
-ghost use Rattle.std.specs.Prelude.{◌≡◌, true, false, not, Some, IfOk, IfSome, IfNone, count_by, position, replicate, slice_get, slice_set};
+ghost use Rattle.std.specs.Prelude.{◌≡◌, ℕ, ◌<◌, Bool, true, false, not, List, length, Some, IfOk, IfSome, IfNone, count_by, find, position, replicate, slice_get, slice_set};
+ghost use Rattle.ttm_base.specs.ListWords.{count_from};
 
 use bitmap::Bitmap;
 use std::alloc::Global;
@@ -76,3 +77,9 @@ impl FreeMap {
         self.held.first()
     }
 }
+
+/// The lowest number that isn't held is what a search among all numbers finds, by any test that tells of each whether it is held.
+pub fn lowest_is_found()
+    ensures { (held : List Bool) (is_held : ℕ → Bool) → ((n : ℕ) → n < length held → slice_get held n ≡ Some (is_held n))
+        → position not held ≡ find (λ n. not (is_held n)) (count_from 1 (length held) 0) }
+{}

@@ -2,8 +2,8 @@
 //! memory.
 #![tactic(auto)]
 
-ghost use Rattle.std.specs.Prelude.{◌≡◌, Some, None, IfOk, IfSome, IfNone, IsTrue, is_none, length, position, replicate, slice_get, slice_set};
-ghost use Rattle.swap_store.specs.Slots.{is_held};
+ghost use Rattle.std.specs.Prelude.{◌≡◌, ◌*◌, ◌<◌, false, true, not, Some, IfOk, IfSome, IfNone, length, position, replicate, slice_get, slice_set};
+ghost use Rattle.byte_store.specs.Parts.{filled, overwritten, part};
 
 use byte_store::{ByteStore, PAGE};
 use free_map::FreeMap;
@@ -11,7 +11,7 @@ use std::alloc::Global;
 use std::marker::Model;
 use ttm_base::NoMemory;
 
-/// For each slot the bytes that were put there, where it is held, seen as a list.
+/// For each slot whether it is held, and the bytes of all slots. A slot keeps its bytes when it is given back.
 #[derive(Debug, Drop)]
 pub struct SwapStore {
     held: FreeMap,
@@ -19,20 +19,21 @@ pub struct SwapStore {
 }
 
 impl Model for SwapStore {
-    ghost use Rattle.std.specs.Prelude.{◌≡◌, ◌*◌, ◌^◌, ◌<◌, ℕ, List, Option, length};
-    ghost use Rattle.swap_store.specs.Slots.{slots_of};
+    ghost use Rattle.std.specs.Prelude.{◌≡◌, ◌*◌, ◌^◌, ◌<◌, length};
+    ghost use Rattle.swap_store.specs.Slots.{SwapSlots};
 
-    ghost Value = { List (Option (List ℕ)) };
+    ghost Value = { SwapSlots };
 
-    ghost view = { λ s. slots_of s.held s.bytes };
+    ghost view = { λ s. record { held = s.held; bytes = s.bytes } };
 
     ghost invariant = { λ s. (length s.bytes ≡ 4096 * length s.held) × (length s.held < 2 ^ 32) };
 }
 
 impl SwapStore {
-    /// So many slots, each of them free.
+    /// So many slots, each of them free, with zeros in it.
     pub fn new(alloc: Global, slots: u32) -> Result<SwapStore, NoMemory>
-        ensures { IfOk result (λ store. store ≡ replicate slots None) }
+        ensures zeros { IfOk result (λ store. store ≡ record { held = replicate slots false; bytes = filled (PAGE * slots) 0 }) }
+        ensures len { IfOk result (λ store. length store.bytes ≡ PAGE * length store.held) }
     {
         let bytes = ByteStore::new(alloc, slots)?;
         let held = FreeMap::new(alloc, slots)?;
@@ -42,9 +43,11 @@ impl SwapStore {
     /// Puts a page of bytes into the lowest free slot, which is then held.
     pub fn put(&mut self, page: &[u8]) -> Option<u32>
         requires { length page.now ≡ PAGE }
-        ensures lowest { result ≡ position is_none self.old }
-        ensures stored { IfSome result (λ slot. self.new ≡ slice_set self.old slot (Some page.now)) }
+        ensures lowest { result ≡ position not self.old.held }
+        ensures held { IfSome result (λ slot. self.new.held ≡ slice_set self.old.held slot true) }
+        ensures stored { IfSome result (λ slot. self.new.bytes ≡ overwritten self.old.bytes (PAGE * slot) page.now) }
         ensures none { IfNone result (self.new ≡ self.old) }
+        ensures len { length self.new.bytes ≡ PAGE * length self.new.held }
     {
         let slot = self.held.take()?;
         self.bytes.copy_page_part(PAGE * slot as u64, page);
@@ -53,26 +56,35 @@ impl SwapStore {
 
     /// Takes a page of bytes out of a slot that is held, and frees the slot.
     pub fn take(&mut self, slot: u32, into: &mut [u8])
-        requires held { IsTrue (is_held self.old slot) }
+        requires held { slice_get self.old.held slot ≡ Some true }
         requires page { length into.old ≡ PAGE }
-        ensures bytes { slice_get self.old slot ≡ Some (Some into.new) }
-        ensures freed { self.new ≡ slice_set self.old slot None }
+        ensures bytes { into.new ≡ part self.old.bytes (PAGE * slot) PAGE }
+        ensures freed { self.new ≡ record { held = slice_set self.old.held slot false; bytes = self.old.bytes } }
     {
-        into.copy_from_slice(self.bytes.part(PAGE * slot as u64, PAGE));
+        into.copy_from_slice(self.page(slot));
         self.drop_slot(slot);
     }
 
     /// Frees a slot that is held, and doesn't read its bytes.
     pub fn drop_slot(&mut self, slot: u32)
-        requires { IsTrue (is_held self.old slot) }
-        ensures { self.new ≡ slice_set self.old slot None }
+        requires { slice_get self.old.held slot ≡ Some true }
+        ensures { self.new ≡ record { held = slice_set self.old.held slot false; bytes = self.old.bytes } }
     {
         self.held.give(slot);
     }
 
+    /// Lends the page of a slot, be it held or free.
+    pub fn page(&self, slot: u32) -> &[u8]
+        requires { slot < length self.now.held }
+        ensures value { result.now ≡ part self.now.bytes (PAGE * slot) PAGE }
+        ensures len { length result.now ≡ PAGE }
+    {
+        self.bytes.part(PAGE * slot as u64, PAGE)
+    }
+
     /// The lowest free slot, into which `put` would put a page.
     pub fn first(&self) -> Option<u32>
-        ensures { result ≡ position is_none self.now }
+        ensures { result ≡ position not self.now.held }
     {
         self.held.first()
     }

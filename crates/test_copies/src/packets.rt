@@ -1,7 +1,7 @@
 ghost use Rattle.std.specs.Prelude.{◌≡◌, ◌*◌, length};
 
 use crate::stores::stores;
-use copy_packet::{PagePlaces, PlaceMap, PlaceRow, ProbeBytes, Stores, cut, run};
+use copy_packet::{PagePlaces, PlaceMap, PlaceRow, ProbeBytes, Stores, cut, run, show};
 use std::alloc::Global;
 use std::process::Abort;
 use std::test::Fail;
@@ -181,5 +181,32 @@ fn packets_between_vram_and_frames(rt: HostRuntime) -> Result<(), Fail> {
     assert!(rt; out.bytes() == [].as_slice());
     out.set(&[4, 5]);
     assert!(rt; out.bytes() == [4, 5].as_slice());
+    Ok(())
+}
+
+/// A probe is shown over lent stores, through the aperture; another packet shows nothing and isn't done.
+#[test]
+fn probe_over_lent_stores(rt: HostRuntime) -> Result<(), Fail> {
+    let mut stores = stores(rt.alloc(), 1, 8, 4)?;
+    let mut out = ProbeBytes::new(rt.alloc())?;
+    stores.aper.set(3, 2);
+    stores.frames.copy_page_part(4096 * 2 + 10, &[1, 2, 3]);
+    let probe = Packet::Probe {
+        from: PagePlace::Aper(3),
+        off: 9,
+        len: 5,
+    };
+    show(&probe, &stores, &mut out);
+    assert!(rt; out.bytes() == [0, 1, 2, 3, 0].as_slice());
+    let fill = Packet::Fill {
+        to: PagePlace::Aper(3),
+        off: 10,
+        len: 1,
+        byte: 9,
+    };
+    show(&fill, &stores, &mut out);
+    assert!(rt; out.bytes() == [].as_slice());
+    let rows: [(u64, &[u8]); 1] = [(4096 * 2 + 9, &[0, 1, 2, 3, 0])];
+    assert_frames(&rt, &stores, &rows);
     Ok(())
 }

@@ -1,6 +1,4 @@
-use Rattle.copy_packet.proofs.SpotLaws.{fill_written, copy_written, xor_written, page_read}
-use Rattle.std.proofs.Common.{◌∙◌, ap}
-use Rattle.copy_packet.specs.Spots.{part_at}
+use Rattle.copy_packet.proofs.SpotLaws.{fill_written, copy_written, xor_written}
 use Rattle.copy_packet.proofs.running.run.Goals as goal
 
 pub returns-in-Fill-clause-bytes : goal.returns-in-Fill-clause-bytes
@@ -17,8 +15,3 @@ pub returns-in-Xor-clause-bytes : goal.returns-in-Xor-clause-bytes
 returns-in-Xor-clause-bytes c =
     let h = rw c.in-Xor.is at c.requires in
     rw c.in-Xor.is (xor_written _ _ _ _ _ _ _ _ _ h.0.0 h.0.1 h.1.0 h.1.1 c.spot-target-in-Xor.ensures c.spot-source-in-Xor.ensures c.xor.ensures.after)
-
-pub returns-in-Probe-clause-out : goal.returns-in-Probe-clause-out
-returns-in-Probe-clause-out c =
-    let h = rw c.in-Probe.is at c.requires in
-    rw c.in-Probe.is (c.set.ensures ∙ c.part.ensures ∙ ap (λ x. part_at c.args.stores.now x c.in-Probe.len) c.spot-source-in-Probe.ensures ∙ page_read c.args.stores.now _ _ _ h.0.0 h.0.1)
