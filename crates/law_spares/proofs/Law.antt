@@ -122,27 +122,7 @@ module _ (script : Script) (s : State) (who : Actor) (once : AreHeldOnce script 
   unnamed (kind.Move b Tt m l) after page i j h e f n = given script s.core once b page i j.id h (before i page j e f n)
   unnamed (kind.Move b Vram m l) after page i j h e f n = cc
   unnamed (kind.Move b System m l) after page i j h e f n = cc
-  unnamed (kind.Ticket stamp) after page i j h e f n = cc
-  unnamed (kind.Reserve b) after page i j h e f n = cc
-  unnamed (kind.Backoff b stamp) after page i j h e f n = cc
-  unnamed (kind.New b) after page i j h e f n = cc
-  unnamed (kind.Take b mem spans) after page i j h e f n = cc
-  unnamed (kind.Untake b mem) after page i j h e f n = cc
-  unnamed (kind.Populate b at frame) after page i j h e f n = cc
-  unnamed (kind.SwapIn b at slot frame) after page i j h e f n = cc
-  unnamed (kind.Depopulate b) after page i j h e f n = cc
-  unnamed (kind.Catch b w) after page i j h e f n = cc
-  unnamed (kind.Loose b) after page i j h e f n = cc
-  unnamed (kind.Skip b) after page i j h e f n = cc
-  unnamed (kind.Dry b k w) after page i j h e f n = cc
-  unnamed (kind.SwapOut b at slot) after page i j h e f n = cc
-  unnamed (kind.NoPages b) after page i j h e f n = cc
-  unnamed (kind.Arm engine m) after page i j h e f n = cc
-  unnamed (kind.Packet m k piece) after page i j h e f n = cc
-  unnamed (kind.Done m) after page i j h e f n = cc
-  unnamed (kind.Bulk group) after page i j h e f n = cc
-  unnamed (kind.Result r) after page i j h e f n = cc
-  unnamed (kind.Refused d) after page i j h e f n = cc
+  unnamed k after page i j h e f n = cc
 
 -- ---- the same as a test
 
