@@ -6,7 +6,7 @@ use std::alloc::Global;
 use ttm_base::{NoMemory, Span};
 
 /// What came of an operation.
-#[derive(Clone, Copy, Debug, PartialEq, Eq)]
+#[derive(Clone, Copy, PartialEq, Eq)]
 pub enum Answer {
     /// The ID got spans.
     Spans,

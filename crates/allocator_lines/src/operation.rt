@@ -9,14 +9,14 @@ use std::alloc::Global;
 use ttm_base::{ItemList, Mode, NoMemory};
 
 /// What a list is for: a buddy manager or a range manager, of so many pages.
-#[derive(Clone, Copy, Debug, PartialEq, Eq)]
+#[derive(Clone, Copy, PartialEq, Eq)]
 pub enum Head {
     Buddy(u32),
     Ranges(u32),
 }
 
 /// One operation, for an ID below 65,536. Sizes and places are in pages.
-#[derive(Clone, Copy, Debug, PartialEq, Eq)]
+#[derive(Clone, Copy, PartialEq, Eq)]
 pub enum Operation {
     Alloc {
         id: u32,
@@ -48,7 +48,7 @@ pub enum Operation {
 }
 
 /// The kinds of operations.
-#[derive(Clone, Copy, Debug, PartialEq, Eq)]
+#[derive(Clone, Copy, PartialEq, Eq)]
 pub enum Kind {
     Alloc,
     Free,
@@ -58,7 +58,7 @@ pub enum Kind {
 }
 
 /// A list up to its end, or up to the first line that can't be read.
-#[derive(Debug, Drop)]
+#[derive(Drop)]
 pub struct Load {
     pub head: Head,
     pub operations: ItemList<Operation>,

@@ -10,7 +10,7 @@ use ttm_base::NoMemory;
 
 /// The frames of TT pages, seen as a list: of each page its frame, or None where the page isn't mapped.
 /// A call takes no memory but for `new`.
-#[derive(Debug, Drop)]
+#[derive(Drop)]
 pub struct Aperture {
     frames: Vec<Option<u32>>,
 }

@@ -24,7 +24,7 @@ pub const SIZE: usize = LEN * PAGES as usize;
 const FILL: u8 = 0x5a;
 
 /// A way to copy or to fill pages.
-#[derive(Clone, Copy, Debug, PartialEq, Eq)]
+#[derive(Clone, Copy, PartialEq, Eq)]
 pub enum Way {
     PlainCopy,
     StoreCopy,

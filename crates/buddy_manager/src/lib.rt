@@ -8,7 +8,7 @@ mod manager;
 pub use manager::BuddyManager;
 
 /// How blocks are taken: from the top, and as one block.
-#[derive(Clone, Copy, Debug, PartialEq, Eq)]
+#[derive(Clone, Copy, PartialEq, Eq)]
 pub struct BuddyFlags {
     pub topdown: bool,
     pub contig: bool,

@@ -12,7 +12,7 @@ use ttm_base::NoMemory;
 pub const PAGE: u64 = 4096;
 
 /// The bytes of so many pages, one page behind the other, seen as a list. A call takes no memory but for `new`.
-#[derive(Debug, Drop)]
+#[derive(Drop)]
 pub struct ByteStore {
     bytes: Vec<u8>,
 }

@@ -12,7 +12,7 @@ use std::marker::Model;
 use ttm_base::{ItemList, NoMemory};
 
 /// What the words ask for.
-#[derive(Clone, Copy, Debug, PartialEq, Eq)]
+#[derive(Clone, Copy, PartialEq, Eq)]
 pub enum Form {
     /// Run a script, with a limit of turns.
     Sim(Option<u64>),

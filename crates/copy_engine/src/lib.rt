@@ -22,7 +22,7 @@ use ring_job::RingJob;
 
 /// One ring of jobs for each context. The head of a ring is its oldest job: its packets run when the jobs that it waits for
 /// are done. Only `new` and `push` take memory.
-#[derive(Debug, Drop)]
+#[derive(Drop)]
 pub struct Rings {
     rings: Vec<Ring>,
 }

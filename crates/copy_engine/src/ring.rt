@@ -13,7 +13,7 @@ use std::marker::Model;
 use ttm_base::NoMemory;
 
 /// Jobs in the order in which they were pushed, seen as a list.
-#[derive(Debug, Drop)]
+#[derive(Drop)]
 pub struct Ring {
     jobs: VecDeque<RingJob>,
 }

@@ -11,7 +11,7 @@ use std::marker::Model;
 use ttm_base::{JobId, Packet, Usage};
 
 /// A job in a ring.
-#[derive(Debug, Drop)]
+#[derive(Drop)]
 pub struct RingJob {
     job: JobId,
     waits: FenceSet,

@@ -4,7 +4,7 @@ use ttm_base::{BufId, ItemList, PagePlace};
 pub type PagePlaces = ItemList<PagePlace>;
 
 /// A buffer, and how packets name its pages.
-#[derive(Debug, Drop)]
+#[derive(Drop)]
 pub struct PlaceRow {
     pub b: BufId,
     pub pages: PagePlaces,

@@ -8,7 +8,7 @@ use ttm_base::NoMemory;
 const ROOM: usize = 256;
 
 /// The bytes that a probe shows, seen as a list of at most 256. Nothing but `new` takes memory.
-#[derive(Debug, Drop)]
+#[derive(Drop)]
 pub struct ProbeBytes {
     bytes: Vec<u8>,
 }

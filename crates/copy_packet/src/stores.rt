@@ -9,7 +9,7 @@ use byte_store::{ByteStore, PAGE};
 use ttm_base::PagePlace;
 
 /// The bytes that engines reach, and the aperture through which they reach the pages of TT.
-#[derive(Debug, Drop)]
+#[derive(Drop)]
 pub struct Stores {
     pub vram: ByteStore,
     pub frames: ByteStore,
@@ -17,7 +17,7 @@ pub struct Stores {
 }
 
 /// A place of a byte: in VRAM, or in frames.
-#[derive(Clone, Copy, Debug, PartialEq, Eq)]
+#[derive(Clone, Copy, PartialEq, Eq)]
 pub(crate) enum Spot {
     Vram(u64),
     Frames(u64),

@@ -12,7 +12,7 @@ use std::marker::Model;
 use ttm_base::{JobId, NoMemory, Usage};
 
 /// The latest job of each usage in one context, by its number; 0 where there is none.
-#[derive(Clone, Copy, Debug, PartialEq, Eq)]
+#[derive(Clone, Copy, PartialEq, Eq)]
 pub struct Latest {
     pub kernel: u64,
     pub write: u64,
@@ -109,7 +109,7 @@ fn is_open(kept: &[Latest], usage: Usage, line: &Timeline, ctx: u32) -> bool
 
 /// Jobs that use a buffer, by usage. It keeps the latest job of each context and usage: where that one is done, so are the
 /// others. Only `new` takes memory.
-#[derive(Debug, Drop)]
+#[derive(Drop)]
 pub struct FenceSet {
     kept: Vec<Latest>,
 }

@@ -6,14 +6,14 @@ use std::marker::Model;
 use ttm_base::{JobId, NoMemory};
 
 /// How many jobs of a context were emitted, and how many of them are done: those with the least numbers.
-#[derive(Clone, Copy, Debug, PartialEq, Eq)]
+#[derive(Clone, Copy, PartialEq, Eq)]
 pub struct Progress {
     pub emitted: u64,
     pub done: u64,
 }
 
 /// The jobs of all contexts, by number from 1. The jobs of one context are done in order.
-#[derive(Debug, Drop)]
+#[derive(Drop)]
 pub struct Timeline {
     contexts: Vec<Progress>,
 }

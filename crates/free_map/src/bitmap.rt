@@ -8,7 +8,7 @@ use ttm_base::NoMemory;
 /// For each number below a length whether it is held. A bit is set where its number is free, and the words above tell which words
 /// below have a bit. The lowest free number is found in three steps, where the first looks through a word for each 262,144
 /// numbers.
-#[derive(Debug, Drop)]
+#[derive(Drop)]
 pub struct Bitmap {
     len: u32,
     /// A bit for each number.

@@ -14,7 +14,7 @@ mod bitmap;
 mod words;
 
 /// For each number below a length whether it is held, seen as a list.
-#[derive(Debug, Drop)]
+#[derive(Drop)]
 pub struct FreeMap {
     held: Bitmap,
     free: u32,

@@ -5,7 +5,7 @@ use crate::draws::Draws;
 use ttm_base::BufId;
 
 /// The kinds of commands that are drawn.
-#[derive(Clone, Copy, Debug, PartialEq, Eq)]
+#[derive(Clone, Copy, PartialEq, Eq)]
 pub enum ChoiceKind {
     Write,
     Read,
@@ -19,7 +19,7 @@ pub enum ChoiceKind {
 }
 
 /// What is drawn for a command of a thread: two of its buffers, an offset and a byte, and an engine.
-#[derive(Clone, Copy, Debug, PartialEq, Eq)]
+#[derive(Clone, Copy, PartialEq, Eq)]
 pub struct Choice {
     pub kind: ChoiceKind,
     pub x: BufId,

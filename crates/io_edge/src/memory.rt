@@ -9,7 +9,7 @@ use std::marker::Model;
 use ttm_base::NoMemory;
 
 /// How much a call moves, which calls fail, and how many there were.
-#[derive(Debug, Drop)]
+#[derive(Drop)]
 struct Plan {
     chunk: usize,
     fails: Vec<u64>,
@@ -59,7 +59,7 @@ fn move_front(from: &[u8], to: &mut [u8], most: usize) -> usize
 }
 
 /// A source of bytes in memory. It tells its bytes.
-#[derive(Debug, Drop)]
+#[derive(Drop)]
 pub struct MemSource {
     bytes: Vec<u8>,
     at: usize,
@@ -121,7 +121,7 @@ impl Source for MemSource {
 }
 
 /// A sink in memory. It tells its bytes.
-#[derive(Debug, Drop)]
+#[derive(Drop)]
 pub struct MemSink {
     bytes: Vec<u8>,
     room: usize,

@@ -9,7 +9,7 @@ use std::marker::Model;
 use ttm_base::NoMemory;
 
 /// For each frame whether it is held, seen as a list.
-#[derive(Debug, Drop)]
+#[derive(Drop)]
 pub struct PagePool {
     frames: FreeMap,
 }

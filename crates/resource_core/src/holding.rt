@@ -9,14 +9,14 @@ ghost use Rattle.buddy_manager.specs.Held as lengths;
 use ttm_base::{ItemList, NoMemory, Owner, Span, Spans};
 
 /// An owner with the spans that it holds.
-#[derive(Debug, Drop)]
+#[derive(Drop)]
 pub struct Holding {
     pub owner: Owner,
     pub spans: Spans,
 }
 
 /// What an owner is: a live buffer, the target of a move that isn't done, or a ghost.
-#[derive(Clone, Copy, Debug, PartialEq, Eq)]
+#[derive(Clone, Copy, PartialEq, Eq)]
 pub enum OwnerKind {
     Live,
     Target,

@@ -18,7 +18,7 @@ pub enum TakeFault {
 }
 
 /// How many pages are free, and how many are held by live buffers, by targets of moves that aren't done, and by ghosts.
-#[derive(Clone, Copy, Debug, PartialEq, Eq)]
+#[derive(Clone, Copy, PartialEq, Eq)]
 pub struct Lengths {
     pub free: u32,
     pub live: u32,

@@ -10,7 +10,7 @@ use std::marker::Model;
 use ttm_base::{JobId, NoMemory, Stamp, Usage};
 
 /// A reservation. Only `new` takes memory.
-#[derive(Debug, Drop)]
+#[derive(Drop)]
 pub struct Resv {
     holder: Option<Stamp>,
     fences: FenceSet,

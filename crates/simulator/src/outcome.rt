@@ -4,7 +4,7 @@ ghost use Rattle.simulator.specs.Outcomes.{code_of, status_of, status_of_run};
 use device_core::Device;
 
 /// How a run of the program ended.
-#[derive(Clone, Copy, Debug, PartialEq, Eq)]
+#[derive(Clone, Copy, PartialEq, Eq)]
 pub enum Status {
     /// All that was asked for was written.
     Done,

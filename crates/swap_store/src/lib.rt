@@ -12,7 +12,7 @@ use std::marker::Model;
 use ttm_base::NoMemory;
 
 /// For each slot whether it is held, and the bytes of all slots. A slot keeps its bytes when it is given back.
-#[derive(Debug, Drop)]
+#[derive(Drop)]
 pub struct SwapStore {
     held: FreeMap,
     bytes: ByteStore,

@@ -7,7 +7,7 @@ use std::io::{Error, ErrorKind, Result};
 use ttm_base::Actor;
 
 /// What a program is given, and how.
-#[derive(Debug, Drop)]
+#[derive(Drop)]
 pub struct Case {
     pub name: String,
     /// The words after the program's name.

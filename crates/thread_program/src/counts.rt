@@ -14,7 +14,7 @@ use std::alloc::Global;
 use ttm_base::NoMemory;
 
 /// What a run came to, in numbers.
-#[derive(Clone, Copy, Debug, PartialEq, Eq)]
+#[derive(Clone, Copy, PartialEq, Eq)]
 pub struct Counts {
     pub threads: u64,
     pub commands: u64,

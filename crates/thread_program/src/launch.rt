@@ -5,7 +5,7 @@ use command_words::{Words, plain_number};
 use script_words::words::is;
 
 /// What the words ask of threads.
-#[derive(Clone, Copy, Debug, PartialEq, Eq)]
+#[derive(Clone, Copy, PartialEq, Eq)]
 pub enum Launch {
     /// Run a script, one worker for each actor.
     Run,

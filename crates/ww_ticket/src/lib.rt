@@ -9,7 +9,7 @@ ghost use Rattle.ww_ticket.specs.declared.Decision.TheVariants as decision;
 use ttm_base::Stamp;
 
 /// A counter of tickets. Its value is the number of tickets that were drawn.
-#[derive(Debug, Drop)]
+#[derive(Drop)]
 pub struct Tickets {
     drawn: u64,
     ghost few: { drawn ≤ 2 ^ 63 },
@@ -50,7 +50,7 @@ impl Tickets {
 }
 
 /// What a thread does at a buffer that it wants to reserve.
-#[derive(Clone, Copy, Debug, PartialEq, Eq)]
+#[derive(Clone, Copy, PartialEq, Eq)]
 pub enum Decision {
     /// Nobody holds the buffer.
     Take,
