@@ -1,10 +1,11 @@
-ghost use Rattle.std.specs.Prelude.{◌≡◌, ◌+◌, ◌<◌, ◌≤◌, ◌∷◌, ◌++◌, [], OnOk, OnErr, IfOk, length, insert, slice_get, slice_set};
+ghost use Rattle.std.specs.Prelude.{◌≡◌, ◌+◌, ◌<◌, ◌≤◌, ◌∷◌, ◌++◌, [], OnOk, OnErr, IfOk, length, insert, slice_get, slice_set, take};
 
 use crate::NoMemory;
 use std::alloc::Global;
 use std::marker::Model;
 
-/// A list of items in memory, seen as a list.
+/// A list of items in memory, seen as a list. How much room it has can't be seen. A step that makes several lists longer does
+/// so one by one, and where memory is refused cuts each back to the length that it had, which can't fail.
 #[derive(Drop)]
 pub struct ItemList<T> {
     items: Vec<T>,
@@ -108,6 +109,15 @@ impl<T> ItemList<T> {
         self.items.remove(index)
     }
 
+    /// Keeps so many items from the start, and drops the others.
+    pub fn truncate(&mut self, len: usize)
+    where
+        T: Drop,
+        ensures { self.new ≡ take len self.old }
+    {
+        self.items.truncate(len);
+    }
+
     /// Takes all items out, and keeps their room.
     pub fn clear(&mut self)
     where
@@ -119,12 +129,28 @@ impl<T> ItemList<T> {
 }
 
 impl<T: Copy> ItemList<T> {
+    /// A list of copies of these items.
+    pub fn from_slice(alloc: Global, items: &[T]) -> Result<ItemList<T>, NoMemory>
+        ensures { IfOk result (λ list. list ≡ items.now) }
+    {
+        let items = Vec::from_slice(alloc, items)?;
+        Ok(ItemList { items })
+    }
+
     /// A second list of the same items.
     pub fn copy(&self) -> Result<ItemList<T>, NoMemory>
         ensures { IfOk result (λ list. list ≡ self.now) }
     {
-        let items = Vec::from_slice(*self.items.allocator(), &self.items)?;
-        Ok(ItemList { items })
+        ItemList::from_slice(*self.items.allocator(), self.items())
+    }
+
+    /// Puts copies of these items at the end: all of them, or none where memory is refused.
+    pub fn extend(&mut self, items: &[T]) -> Result<(), NoMemory>
+        ensures ok { OnOk result (self.new ≡ self.old ++ items.now) }
+        ensures err { OnErr result (self.new ≡ self.old) }
+    {
+        self.items.extend_from_slice(items)?;
+        Ok(())
     }
 
     /// The item at a position.
