@@ -84,9 +84,6 @@ can_take_now before now bs b t c =
 
 -- ---- blocks that are given back
 
-pub none_given : (marks : List Bool) → IsSame marks marks
-none_given marks = record { size = refl; marks = λ page. refl }
-
 pub all_by_taken : (f : ℕ → Bool) (n : ℕ) (bs : List Span) → AreTaken f n bs → AllBy n bs
 all_by_taken f n [] a = tt
 all_by_taken f n (b ∷ bs) a = ((a.0).within, all_by_taken (less f b) n bs a.1)

@@ -3,7 +3,7 @@ use Rattle.std.specs.List.{list_any}
 use Rattle.ttm_base.specs.Holes.{has_page}
 use Rattle.block_tree.specs.FreeSet.{is_free}
 use Rattle.buddy_manager.specs.Held.{AllBy}
-use Rattle.buddy_manager.proofs.TakingLaws.{all_by_taken, given_back, none_given}
+use Rattle.buddy_manager.proofs.TakingLaws.{all_by_taken, given_back}
 use Rattle.buddy_manager.proofs.choice.find_choice.Goals as goal
 
 pub free_spans-requires : goal.free_spans-requires
