@@ -9,7 +9,7 @@ use std::marker::Model;
 use ttm_base::{NoMemory, Span, Spans};
 
 /// A buddy manager, and the blocks that each ID got there. It isn't proved that the manager still holds them: `free` looks, and
-/// a look is a few comparisons for each block.
+/// compares each block with those behind it.
 #[derive(Drop)]
 pub struct BuddyTable {
     manager: BuddyManager,

@@ -11,7 +11,7 @@ use Rattle.block_tree.specs.Masks.{is_marked}
 use Rattle.buddy_manager.specs.Held.{held_from, with_block, with_blocks, without, without_all, is_held, pages_of, AllBy, AreHeld, IsApart}
 use Rattle.buddy_manager.specs.Taking.{less, beside, CanTake, AreTaken, IsTakenBy, IsSame, IsManaged}
 use Rattle.buddy_manager.proofs.HeldLaws.{has_parts, has_from, free_with, apart_with, all_by_with, pages_with, held_is_by, held_not_free, apart_without, all_by_without, free_without, pages_without, pages_within, held_set, held_clear, end_of_held, free_begins_none, none_held, is_held_at}
-use Rattle.buddy_manager.proofs.TakingLaws.{taken_same, marked_more}
+use Rattle.buddy_manager.proofs.TakingLaws.{taken_same, taken_below, marked_more}
 
 -- ---- one block in the list of ends
 
@@ -90,6 +90,17 @@ pub can_hold : (marks after : List Bool) (ends : List ℕ) (used : ℕ) (out : L
 can_hold marks after ends used out m t =
     subst (λ n. AreTaken (is_free_beside (held_from 0 ends)) n out) (sym m.size)
     (taken_same (is_free marks) (is_free_beside (held_from 0 ends)) (length marks) out (λ page. free_tells marks ends used page m) t.each)
+
+-- blocks that are free beside those that are held are marked as free
+pub can_take_all_of : (marks : List Bool) (ends : List ℕ) (used : ℕ) (out : List Span) → IsManaged marks ends used → AreTaken (is_free_beside (held_from 0 ends)) (length marks) out → AreTaken (is_free marks) (length marks) out
+can_take_all_of marks ends used out m =
+    taken_below (is_free_beside (held_from 0 ends)) (is_free marks) (length marks) out (λ page l e. m.free page ∙ and_right_of (lt-ltb page (length marks) l) e) where
+      and_right_of : {x y : Bool} → x ≡ true → y ≡ true → (x && y) ≡ true
+      and_right_of a b = cc
+
+-- the other way round
+pub can_hold_all : (marks : List Bool) (ends : List ℕ) (used : ℕ) (out : List Span) → IsManaged marks ends used → AreTaken (is_free marks) (length marks) out → AreTaken (is_free_beside (held_from 0 ends)) (length marks) out
+can_hold_all marks ends used out m = taken_same (is_free marks) (is_free_beside (held_from 0 ends)) (length marks) out (λ page. free_tells marks ends used page m)
 
 taken_kept : (marks after : List Bool) (ends : List ℕ) (used : ℕ) (out : List Span) → IsManaged marks ends used → IsTakenBy marks out after → AreKept (length marks) (pages_of out + used) (with_blocks out (held_from 0 ends))
 taken_kept marks after ends used out m t =

@@ -1,5 +1,5 @@
 -- Blocks that are taken one after the other.
-use Rattle.std.proofs.Common.{◌≡◌, ℕ, zero, suc, ◌+◌, ◌-◌, ◌^◌, ◌<◌, ◌≤◌, ◌&&◌, ◌||◌, Bool, true, false, List, [], ◌∷◌, ◌++◌, Option, Some, None, append_assoc, length, get_or, pow_pos, refl, ap, sym, ◌∙◌, subst, arith, not, option_map, if◌then◌else◌}
+use Rattle.std.proofs.Common.{◌≡◌, ℕ, zero, suc, ◌+◌, ◌-◌, ◌^◌, ◌<◌, ◌≤◌, ◌&&◌, ◌||◌, Bool, true, false, List, [], ◌∷◌, ◌++◌, Option, Some, None, append_assoc, length, get_or, take, pow_pos, refl, ap, sym, ◌∙◌, subst, arith, not, option_map, if◌then◌else◌}
 use Rattle.std.specs.List.{list_any}
 use Rattle.ttm_base.specs.declared.Span.{Span}
 use Rattle.ttm_base.specs.Holes.{has_page}
@@ -55,6 +55,32 @@ took_more before now after bs b t c l m =
       each = taken_more (is_free before) (length before) bs b t.each
           (subst (λ n. CanTake (beside (is_free before) bs) n b) t.size (can_take_same (is_free now) (beside (is_free before) bs) (length now) b (λ page e. sym (t.marks page) ∙ e) c));
     }
+
+-- only pages below the size are told
+pub taken_below : (f g : ℕ → Bool) (n : ℕ) (bs : List Span) → ((page : ℕ) → page < n → f page ≡ true → g page ≡ true) → AreTaken f n bs → AreTaken g n bs
+taken_below f g n [] h a = tt
+taken_below f g n (b ∷ bs) h a =
+    let c = a.0 in
+    let w = c.within in
+    (
+      record { some = c.some; within = c.within; free = λ page t. h page (let u = (has_parts page b t).1 in omega arith) (c.free page t) },
+      taken_below (less f b) (less g b) n bs (λ page l. two (f page) (g page) (has_page page b) (h page l)) a.1,
+    )
+  where
+    two : (x y t : Bool) → (x ≡ true → y ≡ true) → (x && not t) ≡ true → (y && not t) ≡ true
+    two true y t h e = ap (λ y. y && not t) (h refl) ∙ e
+    two false y t h e = absurd cc
+
+-- the block whose turn it is
+pub taken_at : (f : ℕ → Bool) (n : ℕ) (bs : List Span) (i : ℕ) (d : Span) → AreTaken f n bs → i < length bs → CanTake (beside f (take i bs)) n (get_or bs i d)
+taken_at f n [] i d a h = absurd (omega arith)
+taken_at f n (b ∷ bs) zero d a h = a.0
+taken_at f n (b ∷ bs) (suc i) d a h = taken_at (less f b) n bs i d a.1 (omega arith)
+
+-- a block that is free beside those that were taken is marked as free
+pub can_take_now : (before now : List Bool) (bs : List Span) (b : Span) → IsTakenBy before bs now → CanTake (beside (is_free before) bs) (length before) b → CanTake (is_free now) (length now) b
+can_take_now before now bs b t c =
+    subst (λ n. CanTake (is_free now) n b) (sym t.size) (can_take_same (beside (is_free before) bs) (is_free now) (length before) b (λ page e. t.marks page ∙ e) c)
 
 -- ---- blocks that are given back
 

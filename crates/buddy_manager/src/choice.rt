@@ -5,7 +5,7 @@ ghost use Rattle.ttm_base.specs.BuddyChoice as words;
 ghost use Rattle.block_tree.specs.FreeSet.{is_free};
 ghost use Rattle.block_tree.specs.Masks.{is_marked};
 ghost use Rattle.buddy_manager.specs.Held.{AllBy};
-ghost use Rattle.buddy_manager.specs.Taking.{CanTake, Tells, IsTakenBy, IsSame};
+ghost use Rattle.buddy_manager.specs.Taking.{AreTaken, CanTake, Tells, IsTakenBy, IsSame};
 
 use crate::{AllocFault, BuddyFlags};
 use block_tree::FreeBlocks;
@@ -63,6 +63,34 @@ fn scattered(
     }
 }
 
+/// Finds one block of the next power of two, cut to the pages.
+fn find_block(
+    free: &FreeBlocks,
+    range: Span,
+    topdown: bool,
+    pages: u32,
+    out: &mut Spans,
+) -> Result<(), AllocFault>
+    requires empty { out.old ≡ [] }
+    requires some { 1 ≤ pages }
+    ensures can { OnOk result (AreTaken (is_free free.now) (length free.now) out.new) }
+    ensures ok { OnOk result ((test : ℕ → Bool) → Tells test free.now → words.contiguous test (length free.now) range topdown pages ≡ Some out.new) }
+    ensures none { result ≡ Err AllocFault.NoBlocks → (test : ℕ → Bool) → Tells test free.now → words.contiguous test (length free.now) range topdown pages ≡ None }
+    ensures empty { OnErr result (out.new ≡ []) }
+{
+    let Some(block) = free.candidate(range, topdown, order_of(pages)) else {
+        return Err(AllocFault::NoBlocks);
+    };
+    let span = Span {
+        start: block.start,
+        end: block.start + pages,
+    };
+    let Ok(()) = out.push(span) else {
+        return Err(AllocFault::NoMemory);
+    };
+    Ok(())
+}
+
 /// Takes one block of the next power of two, cut to the pages.
 fn contiguous(
     free: &mut FreeBlocks,
@@ -77,18 +105,19 @@ fn contiguous(
     ensures ok { OnOk result ((test : ℕ → Bool) → Tells test free.old → words.contiguous test (length free.old) range topdown pages ≡ Some out.new) }
     ensures none { result ≡ Err AllocFault.NoBlocks → (test : ℕ → Bool) → Tells test free.old → words.contiguous test (length free.old) range topdown pages ≡ None }
 {
-    let Some(block) = free.candidate(range, topdown, order_of(pages)) else {
-        return Err(AllocFault::NoBlocks);
-    };
-    let span = Span {
-        start: block.start,
-        end: block.start + pages,
-    };
-    let Ok(()) = out.push(span) else {
-        return Err(AllocFault::NoMemory);
-    };
-    free.mark(span, false);
+    find_block(free, range, topdown, pages, out)?;
+    take_spans(free, out.items());
     Ok(())
+}
+
+/// Marks the pages of spans as held.
+pub fn take_spans(free: &mut FreeBlocks, spans: &[Span])
+    requires { AreTaken (is_free free.old) (length free.old) spans.now }
+    ensures { IsTakenBy free.old spans.now free.new }
+{
+    for span in spans {
+        free.mark(*span, false);
+    }
 }
 
 /// Marks the pages of spans as free.
@@ -147,4 +176,28 @@ pub fn take_choice(
             Err(fault)
         }
     }
+}
+
+/// The blocks of the choice, of which none stays taken.
+pub fn find_choice(
+    free: &mut FreeBlocks,
+    range: Span,
+    flags: BuddyFlags,
+    pages: u32,
+    out: &mut Spans,
+) -> Result<(), AllocFault>
+    requires empty { out.old ≡ [] }
+    requires some { 1 ≤ pages }
+    ensures can { OnOk result (AreTaken (is_free free.old) (length free.old) out.new) }
+    ensures same { IsSame free.old free.new }
+    ensures ok { OnOk result ((test : ℕ → Bool) → Tells test free.old → words.buddy_choice test (length free.old) range flags.topdown flags.contig pages ≡ Some out.new) }
+    ensures none { result ≡ Err AllocFault.NoBlocks → (test : ℕ → Bool) → Tells test free.old → words.buddy_choice test (length free.old) range flags.topdown flags.contig pages ≡ None }
+    ensures empty { OnErr result (out.new ≡ []) }
+{
+    if flags.contig {
+        return find_block(free, range, flags.topdown, pages, out);
+    }
+    take_choice(free, range, flags, pages, out)?;
+    free_spans(free, out.items());
+    Ok(())
 }

@@ -3,8 +3,9 @@ ghost use Rattle.ttm_base.specs.BuddyChoice.{buddy_choice};
 ghost use Rattle.ttm_base.specs.Holes.{is_free_beside};
 ghost use Rattle.ttm_base.specs.Reach.{length_of};
 ghost use Rattle.buddy_manager.specs.Held.{with_block, with_blocks, without, without_all, is_held, pages_of, AreHeld};
+ghost use Rattle.buddy_manager.specs.Taking.{AreTaken};
 
-use crate::choice::{free_spans, take_choice};
+use crate::choice::{find_choice, free_spans, take_choice, take_spans};
 use crate::ends::{are_held, cut, hold, is_held, let_go, pages_of};
 use crate::{AllocFault, BuddyFlags};
 use block_tree::FreeBlocks;
@@ -64,6 +65,31 @@ impl BuddyManager {
         })
     }
 
+    /// The blocks that `alloc` takes, in their order; none of them is taken here. The manager stays as it was, whatever the answer.
+    pub fn choice(
+        &mut self,
+        pages: u32,
+        first: u32,
+        last: u32,
+        flags: BuddyFlags,
+        out: &mut Spans,
+    ) -> Result<(), AllocFault>
+        requires empty { out.old ≡ [] }
+        requires some { 1 ≤ pages }
+        ensures same { self.new ≡ self.old }
+        ensures ok { OnOk result (buddy_choice (is_free_beside self.old.held) self.old.size (record { start = first; end = last }) flags.topdown flags.contig pages ≡ Some out.new) }
+        ensures none { result ≡ Err AllocFault.NoBlocks → buddy_choice (is_free_beside self.old.held) self.old.size (record { start = first; end = last }) flags.topdown flags.contig pages ≡ None }
+        ensures free { OnOk result (AreTaken (is_free_beside self.old.held) self.old.size out.new) }
+        ensures empty { OnErr result (out.new ≡ []) }
+    {
+        let range = Span {
+            start: first,
+            end: last,
+        };
+        find_choice(&mut self.free, range, flags, pages, out)?;
+        Ok(())
+    }
+
     /// Takes blocks for so many pages between two pages, in the order of the buddy choice. After a refusal nothing is changed.
     pub fn alloc(
         &mut self,
@@ -92,6 +118,17 @@ impl BuddyManager {
         Ok(())
     }
 
+    /// Holds these blocks, as a journal names them. It takes no memory.
+    pub fn hold(&mut self, spans: &Spans)
+        requires { AreTaken (is_free_beside self.old.held) self.old.size spans.now }
+        ensures size { self.new.size ≡ self.old.size }
+        ensures held { self.new.held ≡ with_blocks spans.now self.old.held }
+    {
+        take_spans(&mut self.free, spans.items());
+        hold(&mut self.ends, spans.items());
+        self.used += pages_of(spans.items());
+    }
+
     /// A block is held, as it was given out or as `trim` left it.
     pub fn is_held(&self, block: Span) -> bool
         ensures { result ≡ is_held block self.now.held }
@@ -99,7 +136,7 @@ impl BuddyManager {
         is_held(&self.ends, block)
     }
 
-    /// Blocks are distinct, and each is held.
+    /// Blocks are distinct, and each is held. Each is compared with those behind it, since they stand in no order of pages.
     pub fn are_held(&self, blocks: &Spans) -> bool
         ensures { Decides result (AreHeld blocks.now self.now.held) }
     {

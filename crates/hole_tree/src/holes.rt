@@ -1,5 +1,5 @@
 //! The holes of a range of pages (drm_mm's hole trees).
-ghost use Rattle.std.specs.Prelude.{◌≡◌, ◌+◌, ◌-◌, ◌*◌, ◌^◌, ◌≤◌, max, [], length, true, Some, IsSome, OnOk};
+ghost use Rattle.std.specs.Prelude.{◌≡◌, ◌+◌, ◌-◌, ◌*◌, ◌^◌, ◌≤◌, max, [], length, true, Some, IsSome, OnOk, OnErr};
 ghost use Rattle.std.specs.List.{find, list_all};
 ghost use Rattle.std.specs.Vec.{vec_len, vec_capacity};
 ghost use Rattle.ttm_base.specs.Holes.{has_page};
@@ -61,19 +61,25 @@ impl Holes {
         }
     }
 
-    /// Makes room for `n` holes more, if there isn't.
+    /// Makes room for `n` holes more, if there isn't. After a refusal nothing is changed.
     pub fn ready(&mut self, n: u32) -> Result<(), NoMemory>
         ensures holes { self.new.holes ≡ self.old.holes }
         ensures ok { OnOk result (self.new.spare ≡ max self.old.spare n) }
         ensures kept { self.old.spare ≤ self.new.spare }
+        ensures err { OnErr result (self.new ≡ self.old) }
     {
         let n = n as usize;
-        if n <= self.spare.len() {
+        let had = self.spare.len();
+        if n <= had {
             return Ok(());
         }
         let room = self.count.checked_add(n).ok_or(NoMemory)?;
         self.spare.reserve(room)?;
-        fill(&mut self.spare, n)
+        let Ok(()) = fill(&mut self.spare, n) else {
+            self.spare.truncate(had);
+            return Err(NoMemory);
+        };
+        Ok(())
     }
 
     /// One hole more. It takes no memory.

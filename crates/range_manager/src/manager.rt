@@ -91,6 +91,26 @@ impl RangeManager {
         })
     }
 
+    /// The span that `insert` takes, of which nothing is taken here. It takes no memory.
+    pub fn choice(
+        &self,
+        pages: u32,
+        align: u32,
+        first: u32,
+        last: u32,
+        mode: Mode,
+    ) -> Option<Span>
+        requires { 1 ≤ align }
+        ensures { result ≡ range_choice mode (holes (is_free_beside self.now.held) self.now.size) pages align (record { start = first; end = last }) }
+    {
+        let range = Span {
+            start: first,
+            end: last,
+        };
+        let choice = chosen(&self.holes, pages, align, range, mode)?;
+        Some(choice.pages)
+    }
+
     /// Takes so many pages at a multiple of `align`, from `first` up to `last`, in the hole of the range choice (drm_mm_insert_node).
     /// After a refusal nothing is changed.
     pub fn insert(

@@ -51,7 +51,34 @@ fn got(
     }
 }
 
-/// Each request gets the blocks that are wanted, and gives them back.
+/// The blocks that a request would get, none where there are none. Each is held once, and given back.
+fn chosen(
+    rt: &impl Abort,
+    alloc: Global,
+    manager: &mut BuddyManager,
+    pages: u32,
+    flags: BuddyFlags,
+    range: (u32, u32),
+) -> Result<Spans, NoMemory> {
+    let mut out = Spans::new(alloc);
+    let lengths = manager.lengths();
+    match manager.choice(pages.max(1), range.0, range.1, flags, &mut out) {
+        Ok(()) => {
+            assert!(rt; manager.lengths() == lengths);
+            manager.hold(&out);
+            assert!(rt; manager.lengths() == (lengths.0.saturating_sub(pages), lengths.1.saturating_add(pages)));
+            let held = manager.are_held(&out);
+            assert!(rt; held);
+            manager.release(&out);
+        }
+        Err(AllocFault::NoBlocks) => {}
+        Err(AllocFault::NoMemory) => return Err(NoMemory),
+    }
+    assert!(rt; manager.lengths() == lengths);
+    Ok(out)
+}
+
+/// Each request gets the blocks that are wanted, which are those of the choice before it, and gives them back.
 fn answers(rt: &impl Abort, alloc: Global, table: Table) -> Result<(), NoMemory> {
     let mut manager = BuddyManager::new(alloc, table.size)?;
     for page in table.held {
@@ -59,7 +86,9 @@ fn answers(rt: &impl Abort, alloc: Global, table: Table) -> Result<(), NoMemory>
         let _held = got(alloc, &mut manager, 1, PLAIN, only)?;
     }
     for (flags, range, want) in table.rows {
+        let choice = chosen(rt, alloc, &mut manager, table.pages, *flags, *range)?;
         let blocks = got(alloc, &mut manager, table.pages, *flags, *range)?;
+        assert!(rt; choice.items() == blocks.items());
         assert!(rt; blocks.len() == want.len());
         for (block, (start, end)) in blocks.items().iter().zip(*want) {
             assert!(rt; (block.start, block.end) == (*start, *end));
