@@ -6,6 +6,7 @@ use Rattle.lru_bulk.specs.Lists.{Order, listing_of}
 use Rattle.journal_model.specs.declared.script.Script.{Script}
 use Rattle.journal_model.specs.declared.state.Buffer.{Buffer}
 use Rattle.journal_model.specs.declared.state.Grip.{Grip}
+use Rattle.journal_model.specs.declared.state.State.{State}
 use Rattle.journal_model.specs.State.{live_in, grip_in}
 use Rattle.journal_model.specs.Commands.{decl}
 
@@ -24,3 +25,7 @@ pub record AreListed (script : Script) (buffers : List (Option Buffer)) (grips :
   pub listings_are : (b : BufId) → listing_of o b ≡ listing_due script buffers grips b
   pub room_is : length o.listings ≡ length buffers
   pub groups_are : o.groups ≡ 16
+
+-- the LRU has the lists of the state
+abbrev pub HasLists : Script → State → Order → Type 0
+HasLists script s o = AreListed script s.core.buffers s.grips s.lists o
