@@ -1,5 +1,5 @@
 -- What stands on a list is listed for it, and stands there once.
-use Rattle.std.proofs.Common.{◌≡◌, ◌≢◌, ℕ, zero, suc, ◌<◌, true, false, List, [], ◌∷◌, ◌++◌, length, get_or, map, Option, Some, None, IsSome, refl, sym, ap, subst, ◌∙◌, inl, inr, arith}
+use Rattle.std.proofs.Common.{◌≡◌, ℕ, zero, suc, ◌<◌, true, false, List, [], ◌∷◌, ◌++◌, length, map, Option, Some, None, IsSome, refl, sym, ap, subst, ◌∙◌, inl, inr, arith}
 use Rattle.std.specs.Prelude.{◌==◌, filter}
 use Rattle.std.specs.List.{All, AllByRecursion, IsDistinct}
 use Rattle.std.proofs.lemmas.Bool.{cases_lt}
@@ -8,7 +8,6 @@ use Rattle.std.proofs.lemmas.List.{get_or_past}
 use Rattle.std.proofs.lemmas.List.Sums.{length-filter}
 use Rattle.ttm_base.specs.declared.BufId.{BufId}
 use Rattle.lru_bulk.specs.declared.nodes.Listing.{Listing}
-use Rattle.lru_bulk.specs.declared.nodes.Spot.{Spot}
 use Rattle.lru_bulk.specs.declared.nodes.Spot.TheVariants.{End, Of}
 use Rattle.lru_bulk.specs.declared.rings.Rings.{Rings}
 use Rattle.lru_bulk.specs.Rings.{Each}
@@ -19,7 +18,7 @@ use Rattle.lru_bulk.proofs.Paths.{each_map, NotIn, Distinct}
 use Rattle.lru_bulk.proofs.Walks.{ring_distinct}
 use Rattle.lru_bulk.proofs.Blocks.{filter_none}
 use Rattle.lru_bulk.proofs.OwnBlock.{Unlike}
-use Rattle.lru_bulk.proofs.GroupLaws.{unlike_id, number_below}
+use Rattle.lru_bulk.proofs.GroupLaws.{unlike_id}
 use Rattle.lru_bulk.proofs.LeaveLaws.{place_cut, place_distinct}
 use Rattle.lru_bulk.proofs.Neighbors.{unlike_front, unlike_back}
 use Rattle.lru_bulk.proofs.WholeLaws.{some_of}

@@ -1,5 +1,5 @@
 -- Other tests in the place of those by listings: where both say the same of what stands on the lists, the lists come out the same.
-use Rattle.std.proofs.Common.{◌≡◌, ◌≢◌, ℕ, zero, suc, ◌<◌, Bool, true, false, List, [], ◌∷◌, ◌++◌, length, get_or, set, map, cond, Option, Some, None, refl, sym, ap, subst, ◌∙◌, arith}
+use Rattle.std.proofs.Common.{◌≡◌, ◌≢◌, ℕ, suc, ◌<◌, Bool, true, false, List, [], ◌∷◌, ◌++◌, length, get_or, set, map, cond, Option, Some, None, refl, sym, ap, subst, ◌∙◌, arith}
 use Rattle.std.specs.Prelude.{not, filter, insert, unwrap_or, option_and_then, ◌==◌}
 use Rattle.std.specs.List.{All}
 use Rattle.std.proofs.lemmas.List.{length-set, get_or-set_same, get_or-set_other, get_or_past}
@@ -7,8 +7,8 @@ use Rattle.std.proofs.lemmas.List.Elements.{All-filter, filter_passes}
 use Rattle.ttm_base.specs.declared.Mem.{Mem}
 use Rattle.ttm_base.specs.declared.BufId.{BufId}
 use Rattle.lru_bulk.specs.declared.nodes.Listing.{Listing}
-use Rattle.lru_bulk.specs.Lists.{Order, list_at, listing_in, listing_of, number_of, group_in, same_group, is_mate, is_member, one_further, behind_last, placed_in, without_buffer, taken_off, put_on, members_last, added, removed, touched, touched_as, relisted, relisted_as, bulk_moved, bulk_moved_in}
-use Rattle.lru_bulk.specs.Members.{IsListedFor, AreMembersListed}
+use Rattle.lru_bulk.specs.Lists.{Order, list_at, listing_of, number_of, group_in, same_group, is_mate, is_member, one_further, behind_last, placed_in, taken_off, put_on, members_last, added, touched, touched_as, relisted, relisted_as, bulk_moved, bulk_moved_in}
+use Rattle.lru_bulk.specs.Members.{AreMembersListed}
 use Rattle.lru_bulk.proofs.GroupLaws.{taken_off_at, not_same_id}
 
 -- one list

@@ -1,8 +1,6 @@
 use Rattle.std.proofs.Common.{◌≡◌, ◌<◌, length, Some, None, IsSome, subst}
 use Rattle.std.specs.Prelude.{◌↔◌}
 use Rattle.std.specs.List.{IsDistinct}
-use Rattle.ttm_base.specs.declared.BufId.{BufId}
-use Rattle.lru_bulk.specs.declared.nodes.Listing.{Listing}
 use Rattle.lru_bulk.specs.Lists.{Order, list_at, list_of, listing_of}
 use Rattle.lru_bulk.specs.Members.{same_buffer, times_in, AreMembersListed, IsOnNone}
 use Rattle.lru_bulk.proofs.MemberLaws.{members_listed, stands_once, stand_apart, unlisted_nowhere, nowhere_unlisted}
