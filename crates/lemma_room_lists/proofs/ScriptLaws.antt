@@ -14,7 +14,7 @@ use Rattle.journal_model.specs.State.{grip_in}
 use Rattle.journal_model.specs.Commands.{decl, undeclared}
 use Rattle.journal_model.specs.ScriptRules.{is_script, is_decl}
 use Rattle.journal_model.specs.Legal.{first_state}
-use Rattle.lemma_room_lists.specs.Listed.{listing_as, listing_due, HasLists}
+use Rattle.lemma_room_lists.specs.Listed.{listing_as, HasLists}
 
 -- what is declared may be listed
 pub record MayBeListed (d : Decl) : Type 0 where

@@ -1,6 +1,6 @@
 -- Each call of the LRU does to its lists what the definition does to the state's.
 use Rattle.std.proofs.Common.{◌≡◌, ◌≢◌, ℕ, zero, suc, ◌<◌, Bool, true, false, List, [], ◌∷◌, length, get_or, set, map, cond, Option, Some, None, refl, sym, ap, subst, ◌∙◌, inl, inr, arith}
-use Rattle.std.specs.Prelude.{◌==◌, not, filter, slice_get, unwrap_or, option_map, option_and_then, if◌then◌else◌}
+use Rattle.std.specs.Prelude.{◌==◌, not, slice_get, unwrap_or, option_map, option_and_then, if◌then◌else◌}
 use Rattle.std.specs.List.{All}
 use Rattle.std.proofs.lemmas.Bool.{cases_eq}
 use Rattle.std.proofs.lemmas.List.{length-set, get_or-set_same, get_or-set_other, get_or_past}
@@ -9,7 +9,7 @@ use Rattle.ttm_base.specs.declared.BufId.{BufId}
 use Rattle.lru_bulk.specs.declared.nodes.Listing.{Listing}
 use Rattle.lru_bulk.specs.Lists.{Order, list_at, list_number, number_of, listing_in, listing_of, group_in, is_mate, same_group, added, removed, touched, touched_as, relisted, relisted_as, bulk_moved}
 use Rattle.lru_bulk.specs.Lists as lru
-use Rattle.lru_bulk.specs.Members.{IsListedFor, AreMembersListed}
+use Rattle.lru_bulk.specs.Members.{AreMembersListed}
 use Rattle.lru_bulk.proofs.GroupLaws.{unlike_id}
 use Rattle.lru_bulk.proofs.OtherTests.{bulk_moved-same, touched-same, added-same, relisted-same}
 use Rattle.journal_model.specs.declared.script.Script.{Script}
