@@ -14,3 +14,5 @@ pub mod SpliceLaws
 pub mod NodeChange
 pub mod WholeLaws
 pub mod OrderLaws
+pub mod MemberLaws
+pub mod OtherTests

@@ -128,6 +128,10 @@ relisted o b mem = relisted_as o b mem (listing_of o b)
 abbrev pub bulk_moved : Order → ℕ → Order
 bulk_moved o group = record o { lists = map (members_last (is_member o.listings group)) o.lists }
 
+-- one list alone with its members of a group behind the others
+abbrev pub bulk_moved_in : Order → ℕ → ℕ → Order
+bulk_moved_in o i group = record o { lists = slice_set o.lists i (members_last (is_member o.listings group) (list_at o.lists i)) }
+
 -- the buffer behind b in a list
 abbrev pub behind : BufId → List BufId → Option BufId
 behind b [] = None

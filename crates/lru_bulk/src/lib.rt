@@ -4,7 +4,9 @@
 #![tactic(auto)]
 
 ghost use Rattle.std.specs.Prelude.{◌≡◌, ◌+◌, ◌*◌, ◌<◌, ◌≤◌, ◌↔◌, ℕ, Some, None, IsSome, IsTrue, IfOk, OnOk, OnErr, length, slice_get};
-ghost use Rattle.lru_bulk.specs.Lists.{nothing_listed, listing_of, list_number, list_at, list_of, added, removed, touched, relisted, bulk_moved, behind, is_member, IsGroup, StandTogether};
+ghost use Rattle.std.specs.List.{IsDistinct};
+ghost use Rattle.lru_bulk.specs.Lists.{nothing_listed, listing_of, list_number, list_at, list_of, added, removed, touched, relisted, bulk_moved, bulk_moved_in, behind, is_member, IsGroup, StandTogether};
+ghost use Rattle.lru_bulk.specs.Members.{same_buffer, times_in, AreMembersListed, IsOnNone};
 
 use std::alloc::Global;
 use std::marker::{Brand, Model};
@@ -39,6 +41,8 @@ impl Model for Lru {
 }
 
 impl Lru {
+    ghost use Rattle.lru_bulk.specs.declared.nodes.Listing.{Listing as Listed};
+
     /// No buffer of so many is listed.
     pub fn new(alloc: Global, buffers: u32, groups: u32) -> Result<Lru, NoMemory>
         ensures { IfOk result (λ lru. lru ≡ nothing_listed buffers groups) }
@@ -103,6 +107,22 @@ impl Lru {
         self.rings.splice_all(group, steps);
     }
 
+    /// Makes one list alone its non-members of a group followed by its members, as `bulk_tail` does with each of the twelve. Each
+    /// link that is written counts one step: six at most, however many members the group has there.
+    pub fn bulk_tail_in<L: Ledger>(&mut self, mem: Mem, prio: u32, group: u32, steps: &mut Steps<L>)
+        requires prio { prio < 4 }
+        requires group { group < self.old.groups }
+        ensures list { self.new ≡ bulk_moved_in self.old (list_number mem prio) group }
+        ensures cost { steps.new ≤ steps.old + 6 }
+    {
+        let listing = Listing {
+            mem,
+            prio,
+            group: None,
+        };
+        self.rings.splice(group, rings::list_number(listing), steps);
+    }
+
     /// Whether a buffer is on a list.
     pub fn is_listed(&self, b: BufId) -> bool
         ensures { IsTrue result ↔ IsSome (listing_of self.now b) }
@@ -140,6 +160,18 @@ impl Lru {
         ensures { result ≡ behind b (list_of self.now b) }
     {
         self.rings.next(b)
+    }
+
+    /// What stands on a list is listed for it, and stands there once. It does nothing: its contract is the law.
+    pub fn members_stand_once(&self)
+        ensures twelve { length self.now.lists ≡ 12 }
+        ensures listed { AreMembersListed self.now }
+        ensures once { (b : BufId) → IsSome (listing_of self.now b) → times_in b (list_of self.now b) ≡ 1 }
+        ensures distinct { (i : ℕ) → IsDistinct same_buffer (list_at self.now.lists i) }
+        ensures absent { (b : BufId) → (listing_of self.now b ≡ None) ↔ IsOnNone self.now b }
+        ensures prios { (b : BufId) (x : Listed) → listing_of self.now b ≡ Some x → x.prio < 4 }
+    {
+        let _groups = self.rings.groups;
     }
 
     /// In each list the members of one group stand side by side. It does nothing: its contract is the law.

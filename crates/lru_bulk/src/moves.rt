@@ -157,8 +157,8 @@ impl Rings {
         }
     }
 
-    // Splices the range of a group, if it has one, to the end of a list. Six links are written at most.
-    fn splice<L: Ledger>(&mut self, group: u32, list: usize, steps: &mut Steps<L>)
+    /// Splices the range of a group, if it has one, to the end of a list. Six links are written at most.
+    pub fn splice<L: Ledger>(&mut self, group: u32, list: usize, steps: &mut Steps<L>)
         requires sound { IsWhole self.old None }
         requires group { group < self.old.groups }
         requires list { list < 12 }

@@ -6,7 +6,7 @@ use std::marker::Model;
 use ttm_base::{BufId, ItemList, Mem, NoMemory};
 
 /// How a buffer is listed: the list of its memory type and priority, and its group.
-#[derive(Clone, Copy, PartialEq, Eq)]
+#[derive(Clone, Copy)]
 pub struct Listing {
     pub mem: Mem,
     pub prio: u32,
@@ -14,14 +14,14 @@ pub struct Listing {
 }
 
 /// A place that links lead to: the end of a list, which stands before its first node and behind its last, or a buffer's node.
-#[derive(Clone, Copy, PartialEq, Eq)]
+#[derive(Clone, Copy)]
 pub enum Spot {
     End(usize),
     Of(BufId),
 }
 
 /// The links of a spot.
-#[derive(Clone, Copy, PartialEq, Eq)]
+#[derive(Clone, Copy)]
 pub struct Links {
     pub next: Spot,
     pub prev: Spot,

@@ -13,7 +13,7 @@ use ttm_base::{BufId, ItemList, Mem, NoMemory};
 pub const LISTS: usize = 12;
 
 /// The first and the last member of a group in a list.
-#[derive(Clone, Copy, PartialEq, Eq)]
+#[derive(Clone, Copy)]
 pub struct Range {
     pub first: BufId,
     pub last: BufId,
@@ -31,7 +31,7 @@ pub struct Rings {
 }
 
 /// Which of its two links.
-#[derive(Clone, Copy, PartialEq, Eq)]
+#[derive(Clone, Copy)]
 enum Way {
     Next,
     Prev,

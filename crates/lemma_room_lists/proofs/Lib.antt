@@ -1,0 +1,4 @@
+pub mod Due
+pub mod Ties
+pub mod KindLaws
+pub mod ScriptLaws
