@@ -1,6 +1,6 @@
 //! The tests of places: which pages of a manager a place reaches, whether a resource meets or fits them, and which places of a
-//! list are tried first or under pressure.
-//! Placements are those of TTM (ttm_placement since kernel 6.9). No call takes memory.
+//! list are tried first or under pressure. And a cursor over the pages of a resource.
+//! Placements are those of TTM (ttm_placement since kernel 6.9), the cursor is that of drivers (xe_res_cursor). No call takes memory.
 #![tactic(auto)]
 
 ghost use Rattle.std.specs.Prelude.{◌≡◌, ◌^◌, ◌<◌, length, not, slice_get, Some};
@@ -8,6 +8,10 @@ ghost use Rattle.ttm_base.specs.Reach as words;
 ghost use Rattle.ttm_base.specs.Placement as rules;
 
 use ttm_base::{FlaggedPlace, Mem, Place, Placement, Span, Spans};
+
+pub mod page_cursor;
+
+pub use page_cursor::PageCursor;
 
 /// The pages of a manager of this size that a place reaches, from the first up to the last without the last. Both are one
 /// where the place reaches none.

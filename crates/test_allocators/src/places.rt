@@ -1,4 +1,6 @@
-use place_list::{compatible, first_at, first_count, forced_at, forced_count, intersects, reach};
+use place_list::{
+    PageCursor, compatible, first_at, first_count, forced_at, forced_count, intersects, reach,
+};
 use std::test::Fail;
 use ttm_base::{FlaggedPlace, ItemList, Mem, Place, Placement, Span};
 
@@ -104,5 +106,23 @@ fn places_by_their_flags(rt: HostRuntime) -> Result<(), Fail> {
     assert!(rt; forced_count(&placement) == 2);
     assert!(rt; forced_at(&placement, 0).mem == Mem::Tt);
     assert!(rt; forced_at(&placement, 1).mem == Mem::System);
+    Ok(())
+}
+
+/// Three spans, of which one is empty, walked from each of their pages and from behind them.
+#[test]
+fn pages_of_spans_in_order(rt: HostRuntime) -> Result<(), Fail> {
+    let spans = [
+        Span { start: 7, end: 9 },
+        Span { start: 5, end: 5 },
+        Span { start: 0, end: 3 },
+    ];
+    let pages = [7, 8, 0, 1, 2];
+    for (skipped, left) in [(0, 0), (1, 1), (2, 2), (4, 4), (5, 5), (9, 5)] {
+        let mut cursor = PageCursor::new(&spans);
+        cursor.skip_pages(skipped);
+        let walked: Vec<u32> = cursor.collect(rt.alloc())?;
+        assert!(rt; walked.as_slice() == &pages[left..]);
+    }
     Ok(())
 }

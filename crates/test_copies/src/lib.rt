@@ -1,4 +1,4 @@
-//! Tests of copies: stores of bytes, the aperture, operations cut into packets, packets that run, rings of jobs and swap slots.
+//! Tests of copies: stores of bytes, the aperture, operations cut into packets, packets that run, rings of jobs, and swap slots.
 #![tactic(auto)]
 
 #[cfg(test)]
@@ -15,3 +15,5 @@ mod rings;
 mod slots;
 #[cfg(test)]
 mod stores;
+#[cfg(test)]
+mod swaps;

@@ -1,0 +1,73 @@
+ghost use Rattle.std.specs.Prelude.{◌≡◌, drop};
+ghost use Rattle.std.specs.Iterator.{YieldsFirst, item_count};
+ghost use Rattle.place_list.specs.SpanPages.{pages_of};
+
+use std::marker::Model;
+use ttm_base::Span;
+
+/// A walk over the pages of spans, in order, seen as the list of the pages that are left (xe_res_cursor). All pages together
+/// cost as many steps as there are pages and spans, where to look each page up costs as many as there are spans.
+#[derive(Drop)]
+pub struct PageCursor<'a> {
+    /// The pages of the span at hand that are left.
+    here: Span,
+    /// The spans behind it.
+    behind: &'a [Span],
+}
+
+impl<'a> Model for PageCursor<'a> {
+    ghost use Rattle.std.specs.Prelude.{ℕ, List, ◌++◌};
+    ghost use Rattle.place_list.specs.SpanPages.{pages_of_span, pages_of};
+
+    ghost Value = { List ℕ };
+
+    ghost view = { λ c. pages_of_span c.here ++ pages_of c.behind.now };
+}
+
+impl<'a> PageCursor<'a> {
+    /// A walk from the first page of the spans.
+    pub fn new(spans: &'a [Span]) -> PageCursor<'a>
+        ensures { result ≡ pages_of spans.now }
+    {
+        PageCursor {
+            here: Span { start: 0, end: 0 },
+            behind: spans,
+        }
+    }
+
+    /// Passes over so many pages, or over all where fewer are left, in as many steps as spans are passed (xe_res_next).
+    pub fn skip_pages(&mut self, pages: u32)
+        ensures { self.new ≡ drop pages self.old }
+    {
+        let mut left = pages;
+        while left > self.here.end.saturating_sub(self.here.start) {
+            let Some((first, others)) = self.behind.split_first() else {
+                self.here.start = self.here.end;
+                return;
+            };
+            left -= self.here.end.saturating_sub(self.here.start);
+            self.here = *first;
+            self.behind = others;
+        }
+        self.here.start += left;
+    }
+}
+
+impl<'a> Iterator for PageCursor<'a> {
+    type Item = u32;
+
+    ghost next_gives = { YieldsFirst (λ left. left) };
+
+    ghost remaining = { item_count (λ left. left) };
+
+    fn next(&mut self) -> Option<u32> {
+        while self.here.start >= self.here.end {
+            let (first, others) = self.behind.split_first()?;
+            self.here = *first;
+            self.behind = others;
+        }
+        let page = self.here.start;
+        self.here.start += 1;
+        Some(page)
+    }
+}
