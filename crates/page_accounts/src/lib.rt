@@ -19,7 +19,7 @@ use std::alloc::Global;
 use ttm_base::{Loc, Mem, NoMemory, Span};
 
 /// What is counted of a buffer or a ghost.
-#[derive(Clone, Copy, Debug)]
+#[derive(Clone, Copy)]
 pub enum Holding {
     /// Pages that it has in a memory type.
     Pages(Mem),

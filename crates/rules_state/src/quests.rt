@@ -12,7 +12,7 @@ use std::alloc::Global;
 use ttm_base::{BufId, FlaggedPlaces, Mem, NoMemory};
 
 /// The places that a search tries, whether it is under pressure, and how many forced places are dry.
-#[derive(Debug, Drop)]
+#[derive(Drop)]
 pub struct Quest {
     pub list: FlaggedPlaces,
     pub forced: bool,

@@ -8,7 +8,7 @@ use ttm_base::{FlaggedPlace, NoMemory, Place};
 
 /// The places of a buffer that one word of its line names: those that are tried first, those that are tried under
 /// pressure, or all of them, with their flags.
-#[derive(Clone, Copy, Debug)]
+#[derive(Clone, Copy)]
 pub(crate) enum Part {
     First,
     Forced,
