@@ -85,7 +85,7 @@ impl PlainMemory {
 }
 
 /// Where some bytes begin.
-#[derive(Clone, Copy, PartialEq, Eq)]
+#[derive(Clone, Copy)]
 struct Spot {
     b: BufId,
     off: u32,

@@ -1,5 +1,5 @@
 /// How the pages, frames or slots are held, by number.
-#[derive(Clone, Copy, PartialEq, Eq)]
+#[derive(Clone, Copy)]
 pub struct Account {
     pub free: u64,
     pub live: u64,
@@ -8,7 +8,7 @@ pub struct Account {
 }
 
 /// The accounts of VRAM, TT, frames and swap slots.
-#[derive(Clone, Copy, PartialEq, Eq)]
+#[derive(Clone, Copy)]
 pub struct Accounts {
     pub vram: Account,
     pub tt: Account,

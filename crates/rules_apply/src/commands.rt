@@ -60,14 +60,21 @@ fn ghost_of_freed(alloc: Global, core: &Core, buffer: &Buffer, num: u64) -> Resu
     })
 }
 
+/// What a buffer of the core leaves when it is freed.
+fn ghost_of_buffer(alloc: Global, core: &Core, b: BufId, num: u64) -> Result<Ghost, NoMemory>
+    ensures { IfOk result (λ left. left ≡ rows.ghost_of_freed core.now (words.buffer_in core.now b) num) }
+{
+    let dead = dead_buffer(alloc);
+    ghost_of_freed(alloc, core, buffer_in(core, b, &dead), num)
+}
+
 /// Adds the ghost of a freed buffer; the number 0 is that of no ghost.
 fn leave_ghost(alloc: Global, core: &mut Core, b: BufId, num: u64) -> Result<(), NoMemory>
     ensures ok { OnOk result (core.new ≡ record core.old { ghosts = (if num == 0 then core.old.ghosts else core.old.ghosts ++ rows.ghost_of_freed core.old (words.buffer_in core.old b) num ∷ []) }) }
     ensures err { OnErr result (core.new ≡ core.old) }
 {
     if num != 0 {
-        let dead = dead_buffer(alloc);
-        let left = ghost_of_freed(alloc, core, buffer_in(core, b, &dead), num)?;
+        let left = ghost_of_buffer(alloc, core, b, num)?;
         core.ghosts.push(left)?;
     }
     Ok(())

@@ -172,9 +172,9 @@ pub fn jobs_before_use(alloc: Global, core: &Core, ops: &[Op], b: BufId) -> Resu
     let dead = dead_buffer(alloc);
     let buffer = buffer_in(core, b, &dead);
     let jobs = if is_written(ops, b) {
-        jobs_before_write(alloc, buffer)?
+        jobs_before_write(alloc, buffer)
     } else {
-        jobs_before_read(alloc, buffer)?
+        jobs_before_read(alloc, buffer)
     };
-    unfinished(alloc, core, jobs.items())
+    unfinished(alloc, core, jobs?.items())
 }

@@ -99,7 +99,7 @@ pub fn first_unready(
 ) -> Result<Option<BufId>, NoMemory>
     ensures { IfOk result (λ found. found ≡ words.first_unready script.now state.now command.now) }
 {
-    let dead = dead_buffer(alloc);
     let bs = named(alloc, command)?;
+    let dead = dead_buffer(alloc);
     Ok(first_of(script, state, command, bs.items(), &dead))
 }

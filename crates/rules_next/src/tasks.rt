@@ -135,8 +135,9 @@ fn task_of_failed(
 ) -> Result<Task, NoMemory>
     ensures { IfOk result (λ task. task ≡ words.task_of_failed script.now state.now command.now deny) }
 {
+    let unready = first_unready(alloc, script, state, command)?;
     let dead = dead_buffer(alloc);
-    match first_unready(alloc, script, state, command)? {
+    match unready {
         Some(b) if gives_back(buffer_in(&state.core, b, &dead)) => Ok(Task::GiveBack(b)),
         _ => Ok(Task::GiveUp(deny)),
     }
@@ -221,8 +222,9 @@ fn task_of_held(
     if let Some(deny) = course.fail {
         return task_of_failed(alloc, script, state, command, deny);
     }
+    let unready = first_unready(alloc, script, state, command)?;
     let dead = dead_buffer(alloc);
-    match first_unready(alloc, script, state, command)? {
+    match unready {
         Some(b) => Ok(task_of_unready(script, state, command, b, &dead)),
         None => Ok(Task::Act),
     }

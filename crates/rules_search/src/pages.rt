@@ -1,6 +1,7 @@
-ghost use Rattle.std.specs.Prelude.{◌≡◌, ◌+◌, ◌<◌, ◌≤◌, ◌^◌, IfOk, IfSome, find, length, not, position};
+ghost use Rattle.std.specs.Prelude.{◌≡◌, ◌+◌, ◌<◌, ◌≤◌, ◌^◌, IfOk, IfSome, None, Some, find, if◌then◌else◌, length, not, position};
 ghost use Rattle.journal_model.specs.State as states;
-ghost use Rattle.journal_model.specs.Places.{is_frame};
+ghost use Rattle.journal_model.specs.Places.{is_frame, loc_of};
+ghost use Rattle.journal_model.specs.Dry.{has_frame};
 ghost use Rattle.journal_model.specs.PageSteps as words;
 ghost use Rattle.rules_search.specs.Room.{HasRoom};
 ghost use Rattle.rules_search.specs.Swaps.{IsSwap};
@@ -96,6 +97,17 @@ fn step_without_frame(
     Ok(step_without_victim(state, b))
 }
 
+/// The next page without a frame gets one.
+fn filled_with(alloc: Global, core: &Core, b: BufId, frame: u32) -> Kind
+    requires { length (states.buffer_in core.now b).table ≤ 2 ^ 32 }
+    ensures { result ≡ words.filled_by b (words.page_to_fill (states.buffer_in core.now b)) frame (loc_of (states.buffer_in core.now b) (words.page_to_fill (states.buffer_in core.now b))) }
+{
+    let dead = dead_buffer(alloc);
+    let buffer = buffer_in(core, b, &dead);
+    let page = page_to_fill(buffer);
+    filled_by(b, page, frame, loc_of(buffer, page))
+}
+
 /// The next page with the lowest free frame; without one, a victim for swap.
 pub fn step_of_fill(
     alloc: Global,
@@ -106,11 +118,8 @@ pub fn step_of_fill(
     requires { HasRoom script.now state.now }
     ensures { IfOk result (λ step. step ≡ words.step_of_fill script.now state.now b) }
 {
-    let dead = dead_buffer(alloc);
-    let buffer = buffer_in(&state.core, b, &dead);
-    let page = page_to_fill(buffer);
     match free_frame(alloc, script, &state.core)? {
-        Some(frame) => Ok(Ok(filled_by(b, page, frame, loc_of(buffer, page)))),
+        Some(frame) => Ok(Ok(filled_with(alloc, &state.core, b, frame))),
         None => step_without_frame(alloc, script, state, b),
     }
 }
@@ -142,20 +151,31 @@ pub enum Swap {
     Page(Step),
 }
 
+/// The next page to swap out, if the buffer has a frame.
+fn page_to_swap(alloc: Global, core: &Core, b: BufId) -> Option<u32>
+    requires { length (states.buffer_in core.now b).table ≤ 2 ^ 32 }
+    ensures { result ≡ (if has_frame (states.buffer_in core.now b) then Some (words.first_frame_page (states.buffer_in core.now b)) else None) }
+{
+    let dead = dead_buffer(alloc);
+    let buffer = buffer_in(core, b, &dead);
+    if has_frame(buffer) {
+        Some(first_frame_page(buffer))
+    } else {
+        None
+    }
+}
+
 /// The buffer's next page to swap out, if it has a frame and a slot is free.
 pub fn swap_out(alloc: Global, script: &Script, state: &State, b: BufId) -> Result<Swap, NoMemory>
     requires { HasRoom script.now state.now }
     ensures { IfOk result (IsSwap script.now state.now b) }
 {
-    let dead = dead_buffer(alloc);
-    let buffer = buffer_in(&state.core, b, &dead);
-    if !has_frame(buffer) {
+    let Some(page) = page_to_swap(alloc, &state.core, b) else {
         return Ok(Swap::NoFrame);
-    }
+    };
     match free_slot(alloc, script, &state.core)? {
         None => Ok(Swap::NoSlot),
         Some(slot) => {
-            let page = first_frame_page(buffer);
             let kind = Kind::SwapOut { b, page, slot };
             Ok(Swap::Page(once_idle(alloc, &state.core, b, kind)))
         }

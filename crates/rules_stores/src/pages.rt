@@ -10,7 +10,7 @@ use rules_state::{length_of, live_in, loc_of, page_at};
 use ttm_base::{BufId, Loc, Mem, PagePlace, Span};
 
 /// A page that has bytes: of VRAM, a frame, or a swap slot. Zeros stand nowhere.
-#[derive(Clone, Copy, PartialEq, Eq)]
+#[derive(Clone, Copy)]
 pub enum StorePage {
     Nowhere,
     Vram(u32),

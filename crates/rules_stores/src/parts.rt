@@ -14,7 +14,7 @@ use ttm_base::BufId;
 const PAGE: usize = 4096;
 
 /// A part of a page: where it begins.
-#[derive(Clone, Copy, PartialEq, Eq)]
+#[derive(Clone, Copy)]
 pub struct PagePart {
     pub page: StorePage,
     pub off: u32,
