@@ -87,7 +87,9 @@ pub fn sim_top<S: Source, K: Sink>(
     match outcome_of(alloc, words, source) {
         Ok(outcome) => {
             let status = outcome.status();
-            status_after(status, write_outcome(alloc, &outcome, sink))
+            let ended = status_after(status, write_outcome(alloc, &outcome, sink));
+            drop(outcome);
+            ended
         }
         Err(NoMemory) => Status::NoMemory,
     }

@@ -3,10 +3,9 @@
 
 #[cfg(test)]
 mod counter;
+#[cfg(test)]
 mod gates;
 #[cfg(test)]
 mod tests;
 #[cfg(test)]
 mod workers;
-
-pub use gates::{Counting, Meeting, Steering};

@@ -1,4 +1,4 @@
-use crate::{Counting, Meeting, Steering};
+use crate::gates::{Counting, Meeting, Steering};
 use command_words::Words;
 use generated_load::generated;
 use io_edge::{MemSink, MemSource};

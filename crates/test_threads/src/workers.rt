@@ -2,8 +2,8 @@ ghost use Rattle.std.specs.Prelude.{◌≡◌, ◌<◌};
 ghost use Rattle.turn_lock.specs.Locks.{lock_id, context_count};
 ghost use Rattle.turn_lock.specs.Turning.{IsFree, IsOnward};
 
-use crate::Meeting;
 use crate::counter::Counter;
+use crate::gates::Meeting;
 use std::sync::Wait;
 use std::test::Fail;
 use ttm_base::{Actor, Logged, Stepper};
