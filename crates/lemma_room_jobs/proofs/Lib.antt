@@ -1,0 +1,12 @@
+pub mod Lists
+pub mod Later
+pub mod Needs
+pub mod Sets
+pub mod Heads
+pub mod Rows
+pub mod Changed
+pub mod Emitted
+pub mod GhostSteps
+pub mod First
+pub mod InLine
+pub mod Tied
