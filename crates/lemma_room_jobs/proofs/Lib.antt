@@ -1,12 +1,8 @@
-pub mod Lists
-pub mod Later
-pub mod Needs
-pub mod Sets
 pub mod Heads
 pub mod Rows
 pub mod Changed
 pub mod Emitted
-pub mod GhostSteps
 pub mod First
 pub mod InLine
+pub mod Packets
 pub mod Tied

@@ -1,2 +1,2 @@
-//! Lemmas for the kinds of entries on jobs: what they do to timeline, rings, ghosts and sets of jobs is what they do to the state.
+//! Lemmas for the entries of engines and for jobs that are emitted: what they do to timeline, rings and stores is what they do to the state.
 #![tactic(auto)]

@@ -15,7 +15,7 @@ use Rattle.room_ties.specs.Fences.{fences_of, jobs_in, is_unfinished_in, unfinis
 use Rattle.room_ties.specs.RingJobs.{IsPushed, IsRing}
 use Rattle.room_ties.specs.Ghosts.{IsGhost, AreGhosts}
 use Rattle.room_ties.specs.MoveFences.{IsMoveFence}
-use Rattle.lemma_room_jobs.proofs.Lists.{both, filter_within}
+use Rattle.lemma_room_sets.proofs.Lists.{both, filter_within}
 
 -- what was emitted still is, and what of it isn't done wasn't done before
 pub record IsLater (jobs : List Job) (last : List ℕ) (jobs_then : List Job) (last_then : List ℕ) : Type 0 where

@@ -31,7 +31,7 @@ use Rattle.room_ties.specs.Fences.{fences_of, jobs_in, is_unfinished_in, unfinis
 use Rattle.room_ties.specs.Lines.{IsTimeline, AreInLine}
 use Rattle.room_ties.specs.RingJobs.{IsRing, AreRings}
 use Rattle.room_ties.specs.Ghosts.{AreGhosts}
-use Rattle.lemma_room_jobs.proofs.Lists.{all_at, find_is, get_map}
+use Rattle.lemma_room_sets.proofs.Lists.{all_at, find_is, get_map}
 
 -- ---- jobs that aren't done, by their numbers
 

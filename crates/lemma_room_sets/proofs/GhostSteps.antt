@@ -19,7 +19,7 @@ use Rattle.journal_model.specs.declared.state.Ghost as state
 use Rattle.room_ties.specs.declared.parts.Ghost.{Ghost}
 use Rattle.room_ties.specs.Fences.{is_emitted, WaitsFor}
 use Rattle.room_ties.specs.Ghosts.{IsGhost, AreGhosts}
-use Rattle.lemma_room_jobs.proofs.Sets.{waits_none, waits_one}
+use Rattle.lemma_room_sets.proofs.Sets.{waits_none, waits_one}
 
 -- a ghost of the state and the one that stands for it
 pub record IsFound (jobs : List Job) (last : List ℕ) (g : state.Ghost) (rs : List Ghost) (i : ℕ) : Type 0 where

@@ -22,8 +22,8 @@ use Rattle.journal_model.specs.Waits.{changes, unfinished, is_written, use_of, j
 use Rattle.journal_model.specs.ApplyPages.{with_fence}
 use Rattle.journal_model.specs.ApplyJobs.{with_use}
 use Rattle.room_ties.specs.Fences.{fences_of, jobs_in, is_unfinished_in, unfinished_in, is_emitted, are_emitted, WaitsFor, AreFences, set_at, with_use_in, without_jobs_in}
-use Rattle.lemma_room_jobs.proofs.Lists.{both, all_append, all_filter, all_set, filter_append, filter_again, map_append, map_set, is_there, unseen, still_there}
-use Rattle.lemma_room_jobs.proofs.Needs.{covered_all, changes_covered, known_of, set_is, fences_known, fences_in}
+use Rattle.lemma_room_sets.proofs.Lists.{both, all_append, all_filter, all_set, filter_append, filter_again, map_append, map_set, is_there, unseen, still_there}
+use Rattle.lemma_room_sets.proofs.Needs.{covered_all, changes_covered, known_of, set_is, fences_known, fences_in}
 
 -- a set has a place for each context
 pub set_length : (contexts : ℕ) (fences : List Fence) → length (set_of contexts fences) ≡ contexts
