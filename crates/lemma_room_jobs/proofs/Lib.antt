@@ -6,3 +6,5 @@ pub mod First
 pub mod InLine
 pub mod Packets
 pub mod Tied
+pub mod Stays
+pub mod Armed

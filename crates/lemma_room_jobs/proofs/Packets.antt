@@ -117,13 +117,16 @@ nothing_at xs n p o h e = by (nat_lt o 4096) refl
 pub nothing_beyond : (sizes : Sizes) (bytes : PageBytes) → HasNoMore sizes (within sizes bytes)
 nothing_beyond sizes bytes page o h = ap (λ q. if q then bytes page o else 0) h
 
--- what there is stays
-pub within_same : (sizes : Sizes) (bytes : PageBytes) → HasNoMore sizes bytes → (page : Page) (o : ℕ) → within sizes bytes page o ≡ bytes page o
-within_same sizes bytes h page o = by (is_there sizes page && nat_lt o 4096) refl
+within_at : (sizes : Sizes) (bytes : PageBytes) → HasNoMore sizes bytes → (page : Page) (o : ℕ) → within sizes bytes page o ≡ bytes page o
+within_at sizes bytes h page o = by (is_there sizes page && nat_lt o 4096) refl
   where
     by : (b : Bool) → (is_there sizes page && nat_lt o 4096) ≡ b → (if is_there sizes page && nat_lt o 4096 then bytes page o else 0) ≡ bytes page o
     by true g = ap (λ q. if q then bytes page o else 0) g
     by false g = ap (λ q. if q then bytes page o else 0) g ∙ sym (h page o g)
+
+-- what there is stays, so an entry that changes no byte leaves the bytes
+pub within_same : (sizes : Sizes) (bytes : PageBytes) → HasNoMore sizes bytes → within sizes bytes ≡ bytes
+within_same sizes bytes h = λ i page o. within_at sizes bytes h page o i
 
 -- where stores have the bytes of pages that there are, and none beyond, they have them within the sizes
 within_is : (sizes : Sizes) (bytes : PageBytes) (page : Page) (o x : ℕ) → x ≡ bytes page o → ((is_there sizes page && nat_lt o 4096) ≡ false → x ≡ 0) → x ≡ within sizes bytes page o
