@@ -8,3 +8,4 @@ pub mod Packets
 pub mod Tied
 pub mod Stays
 pub mod Armed
+pub mod BufferSets
