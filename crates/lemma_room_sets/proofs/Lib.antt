@@ -1,0 +1,5 @@
+pub mod Lists
+pub mod Later
+pub mod Needs
+pub mod Sets
+pub mod GhostSteps

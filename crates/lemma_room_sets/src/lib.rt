@@ -1,0 +1,2 @@
+//! Lemmas on the sets of jobs and on the ghosts of a room: they ask for what the state waits for, and stay true of later states.
+#![tactic(auto)]

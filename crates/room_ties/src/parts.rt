@@ -1,0 +1,48 @@
+use copy_engine::Rings;
+use copy_packet::Stores;
+use fence_core::{FenceSet, Timeline};
+use journal_model::{Courses, Frames};
+use page_pool::PagePool;
+use swap_store::SwapStore;
+use ttm_base::{ItemList, Spans};
+use ww_ticket::Tickets;
+
+/// What a moved or freed buffer left behind until its jobs are done (the ghost object of ttm_bo_move_accel_cleanup).
+#[derive(Drop)]
+pub struct Ghost {
+    /// Its number, one above the last.
+    pub num: u64,
+    /// Pages of VRAM that it still holds.
+    pub vram: Spans,
+    /// Pages of TT that it still holds; its frames are mapped there.
+    pub tt: Spans,
+    /// Its frames, page by page.
+    pub frames: Frames,
+    /// The jobs that it waits for.
+    pub jobs: FenceSet,
+}
+
+pub type Ghosts = ItemList<Ghost>;
+
+/// The parts beside buffers, their lists and the managers of pages.
+#[derive(Drop)]
+pub struct Parts {
+    /// How far the jobs of each context are.
+    pub line: Timeline,
+    /// The jobs that aren't done.
+    pub rings: Rings,
+    /// In order of making.
+    pub ghosts: Ghosts,
+    /// Which frames are held.
+    pub pool: PagePool,
+    /// Which slots are held, and their bytes.
+    pub swap: SwapStore,
+    /// The bytes of VRAM and frames, and the aperture.
+    pub stores: Stores,
+    /// Where threads stand.
+    pub courses: Courses,
+    /// The stamps that were drawn.
+    pub tickets: Tickets,
+    /// The last ghost's number.
+    pub last_ghost: u64,
+}
