@@ -1,3 +1,5 @@
+ghost use Rattle.std.specs.Prelude.{◌≡◌, [], ◌∷◌, IfOk};
+
 use buddy_manager::{AllocFault, BuddyFlags, BuddyManager};
 use std::alloc::Global;
 use std::process::Abort;
@@ -164,5 +166,37 @@ fn buddy_splits_and_merges(rt: HostRuntime) -> Result<(), Fail> {
     assert!(rt; four.items() == [Span { start: 8, end: 12 }].as_slice());
     let eight = got(rt.alloc(), &mut manager, 8, ALL, CONTIG)?;
     assert!(rt; eight.items() == [Span { start: 0, end: 8 }].as_slice());
+    Ok(())
+}
+
+/// One span.
+fn named(alloc: Global, span: Span) -> Result<Spans, NoMemory>
+    ensures { IfOk result (λ spans. spans ≡ span ∷ []) }
+{
+    let mut spans = Spans::new(alloc);
+    spans.push(span)?;
+    Ok(spans)
+}
+
+#[test]
+fn named_pages_are_held(rt: HostRuntime) -> Result<(), Fail> {
+    let alloc = rt.alloc();
+    let mut manager = BuddyManager::new(alloc, 12)?;
+    let spans = named(alloc, Span { start: 5, end: 7 })?;
+    manager.hold(&spans);
+    assert!(rt; manager.lengths() == (10, 2));
+    for want in [
+        (4, Span { start: 0, end: 4 }),
+        (4, Span { start: 8, end: 12 }),
+        (1, Span { start: 4, end: 5 }),
+        (1, Span { start: 7, end: 8 }),
+    ] {
+        let blocks = got(alloc, &mut manager, want.0, ALL, PLAIN)?;
+        assert!(rt; blocks.items() == [want.1].as_slice());
+    }
+    let held = manager.are_held(&spans);
+    assert!(rt; held);
+    manager.release(&spans);
+    assert!(rt; manager.lengths() == (2, 10));
     Ok(())
 }

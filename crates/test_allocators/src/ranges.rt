@@ -32,7 +32,7 @@ fn let_go(rt: &impl Abort, manager: &mut RangeManager, starts: &[u32]) {
     }
 }
 
-/// The answer to each case is the one that is wanted.
+/// The answer to each case is the one that is wanted, and the choice before it.
 fn answers(rt: &impl Abort, alloc: Global, cases: &[Case]) -> Result<(), NoMemory> {
     for case in cases {
         let mut manager = RangeManager::new(alloc, 16)?;
@@ -41,8 +41,11 @@ fn answers(rt: &impl Abort, alloc: Global, cases: &[Case]) -> Result<(), NoMemor
         }
         let_go(rt, &mut manager, case.gone);
         let (first, last) = case.range;
-        let got = manager.insert(case.pages, case.align.max(1), first, last, case.mode);
+        let align = case.align.max(1);
+        let choice = manager.choice(case.pages, align, first, last, case.mode);
+        let got = manager.insert(case.pages, align, first, last, case.mode);
         assert!(rt; got == case.want);
+        assert!(rt; choice == got.ok());
     }
     Ok(())
 }
@@ -224,5 +227,18 @@ fn reserve_twice(rt: HostRuntime) -> Result<(), Fail> {
     let span = Span { start: 4, end: 8 };
     assert!(rt; manager.reserve(span) == Ok(()));
     assert!(rt; manager.reserve(span) == Err(InsertFault::NoHole));
+    Ok(())
+}
+
+#[test]
+fn chosen_span_is_reserved(rt: HostRuntime) -> Result<(), Fail> {
+    let mut manager = RangeManager::new(rt.alloc(), 16)?;
+    let first = Span { start: 0, end: 4 };
+    assert!(rt; manager.choice(4, 1, 0, 16, Mode::Low) == Some(first));
+    assert!(rt; manager.lengths() == (16, 0));
+    assert!(rt; manager.reserve(first) == Ok(()));
+    let next = Span { start: 4, end: 8 };
+    assert!(rt; manager.insert(4, 1, 0, 16, Mode::Low) == Ok(next));
+    assert!(rt; manager.choice(4, 1, 0, 8, Mode::Low) == None);
     Ok(())
 }
