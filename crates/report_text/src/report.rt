@@ -20,7 +20,7 @@ use text_line::{Line, put_numbered};
 use ttm_base::{Actor, NoMemory};
 
 /// Why not all of a report was written.
-#[derive(Clone, Copy, PartialEq, Eq)]
+#[derive(Clone, Copy, Debug, PartialEq, Eq)]
 pub enum WriteFault {
     Failed,
     NoMemory,
