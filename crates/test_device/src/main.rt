@@ -48,35 +48,60 @@ fn print_turn(rt: &impl Print, turn: Turn) -> io::Result<()> {
     }
 }
 
+/// Takes a turn of an actor, and prints what came of it.
+fn take_step(rt: &impl Print, device: &mut Device, who: Actor) -> io::Result<()> {
+    let turn = device.step(who).map_err(no_memory)?;
+    print_actor(rt, who)?;
+    print_turn(rt, turn)
+}
+
 /// Takes the turns of a case, and prints what came of each.
 fn take_steps(rt: &impl Print, device: &mut Device, steps: &[Actor]) -> io::Result<()> {
     for who in steps {
-        let turn = device.step(*who).map_err(no_memory)?;
-        print_actor(rt, *who)?;
-        print_turn(rt, turn)?;
+        take_step(rt, device, *who)?;
     }
     Ok(())
+}
+
+/// Takes the next turn in the simulator's order, if somebody has an entry.
+fn take_next(device: &mut Device) -> io::Result<bool> {
+    let Some(who) = device.next_actor().map_err(no_memory)? else {
+        return Ok(false);
+    };
+    let _ = device.step(who).map_err(no_memory)?;
+    Ok(true)
 }
 
 /// Takes turns in the simulator's order until nobody has an entry.
 fn go_to_the_end(device: &mut Device) -> io::Result<()> {
     for _ in 0..MOST_TURNS {
-        let Some(who) = device.next_actor().map_err(no_memory)? else {
+        if !take_next(device)? {
             break;
-        };
-        let _ = device.step(who).map_err(no_memory)?;
+        }
     }
     Ok(())
+}
+
+/// The frame that a page of TT stands for.
+fn frame_of(device: &Device, page: u32) -> Option<u32> {
+    match StorePage::named(&device.state().core, PagePlace::Aper(page)) {
+        StorePage::Frame(frame) => Some(frame),
+        _ => None,
+    }
+}
+
+fn print_frame(rt: &impl Print, frame: Option<u32>) -> io::Result<()> {
+    match frame {
+        Some(frame) => print!(rt; " {frame}"),
+        None => print!(rt; " -"),
+    }
 }
 
 /// Prints the frame that each page of TT stands for.
 fn print_aperture(rt: &impl Print, device: &Device) -> io::Result<()> {
     print!(rt; "aperture")?;
     for page in 0..device.script().sizes.tt {
-        match StorePage::named(&device.state().core, PagePlace::Aper(page)) {
-            StorePage::Frame(frame) => print!(rt; " {frame}")?,
-            _ => print!(rt; " -")?,
-        }
+        print_frame(rt, frame_of(device, page))?;
     }
     println!(rt; "")
 }
@@ -104,21 +129,30 @@ fn device_for(alloc: Global, text: &[u8]) -> io::Result<Option<Device>> {
     }
 }
 
+/// Takes the turns of a case, and prints what it asks for.
+fn run_on(rt: &HostRuntime, alloc: Global, case: &Case, device: &mut Device) -> io::Result<()> {
+    take_steps(rt, device, case.steps.as_slice())?;
+    if case.to_the_end {
+        go_to_the_end(device)?;
+    }
+    if case.shows_aperture {
+        print_aperture(rt, device)?;
+    }
+    print_report(rt, alloc, device);
+    Ok(())
+}
+
 fn run(rt: &HostRuntime, alloc: Global, case: &Case) -> io::Result<()> {
     let name = case.name.as_str();
     println!(rt; "case {name}")?;
-    let Some(mut device) = device_for(alloc, case.text.as_slice())? else {
-        return println!(rt; "no script");
-    };
-    take_steps(rt, &mut device, case.steps.as_slice())?;
-    if case.to_the_end {
-        go_to_the_end(&mut device)?;
+    match device_for(alloc, case.text.as_slice())? {
+        Some(mut device) => {
+            let ran = run_on(rt, alloc, case, &mut device);
+            drop(device);
+            ran
+        }
+        None => println!(rt; "no script"),
     }
-    if case.shows_aperture {
-        print_aperture(rt, &device)?;
-    }
-    print_report(rt, alloc, &device);
-    Ok(())
 }
 
 fn main(rt: HostRuntime) -> io::Result<()> {
