@@ -61,8 +61,7 @@ pub taken_below : (f g : ℕ → Bool) (n : ℕ) (bs : List Span) → ((page : �
 taken_below f g n [] h a = tt
 taken_below f g n (b ∷ bs) h a =
     let c = a.0 in
-    let w = c.within in
-    (
+    let w = c.within in (
       record { some = c.some; within = c.within; free = λ page t. h page (let u = (has_parts page b t).1 in omega arith) (c.free page t) },
       taken_below (less f b) (less g b) n bs (λ page l. two (f page) (g page) (has_page page b) (h page l)) a.1,
     )

@@ -92,14 +92,7 @@ impl RangeManager {
     }
 
     /// The span that `insert` takes, of which nothing is taken here. It takes no memory.
-    pub fn choice(
-        &self,
-        pages: u32,
-        align: u32,
-        first: u32,
-        last: u32,
-        mode: Mode,
-    ) -> Option<Span>
+    pub fn choice(&self, pages: u32, align: u32, first: u32, last: u32, mode: Mode) -> Option<Span>
         requires { 1 ≤ align }
         ensures { result ≡ range_choice mode (holes (is_free_beside self.now.held) self.now.size) pages align (record { start = first; end = last }) }
     {

@@ -66,7 +66,13 @@ fn chosen(
         Ok(()) => {
             assert!(rt; manager.lengths() == lengths);
             manager.hold(&out);
-            assert!(rt; manager.lengths() == (lengths.0.saturating_sub(pages), lengths.1.saturating_add(pages)));
+            assert!(rt;
+                manager.lengths()
+                    == (
+                        lengths.0.saturating_sub(pages),
+                        lengths.1.saturating_add(pages)
+                    )
+            );
             let held = manager.are_held(&out);
             assert!(rt; held);
             manager.release(&out);
