@@ -1,5 +1,11 @@
 pub mod TotalLaws
+pub mod OwnerLaws
 pub mod HoldingLaws
+pub mod PlaceLaws
+pub mod TableLaws
 pub mod TieLaws
 pub mod CountLaws
 pub mod RangeLaws
+pub mod HoldLaws
+pub mod OwnedLaws
+pub mod VramLaws

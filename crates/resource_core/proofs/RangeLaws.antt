@@ -23,7 +23,7 @@ same_rest n b (x ∷ hs) a h =
     let other : same_span b x ≡ false = and_left (nat_eq b.start x.start) (nat_eq b.end x.end) (ne_eqb b.start x.start (λ e. omega (arith, e, l, h))) in
     ap (λ t. if t then without b hs else x ∷ without b hs) other ∙ ap (λ r. x ∷ r) (same_rest n b hs a.1 h)
 
-from_held : (n : ℕ) (b : Span) (hs : List Span) → AllFrom n hs → is_held b hs ≡ true → n ≤ b.start
+pub from_held : (n : ℕ) (b : Span) (hs : List Span) → AllFrom n hs → is_held b hs ≡ true → n ≤ b.start
 from_held n b [] a h = absurd cc
 from_held n b (x ∷ hs) a h = by (same_span b x) refl (from_held n b hs a.1) where
   by : (t : Bool) → same_span b x ≡ t → (is_held b hs ≡ true → n ≤ b.start) → n ≤ b.start

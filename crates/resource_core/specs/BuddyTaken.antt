@@ -1,5 +1,5 @@
 -- What the buddy choice takes is free.
-use Rattle.std.proofs.Common.{◌≡◌, ℕ, zero, suc, ◌+◌, ◌-◌, ◌*◌, ◌/◌, ◌^◌, ◌<◌, ◌≤◌, ◌&&◌, inl, inr, Bool, true, false, List, [], ◌∷◌, Option, Some, None, filter_map, option_map, refl, ap, sym, ◌∙◌, subst, arith, nat_le, if◌then◌else◌}
+use Rattle.std.proofs.Common.{◌≡◌, ℕ, zero, suc, ◌+◌, ◌-◌, ◌*◌, ◌/◌, ◌^◌, ◌<◌, ◌≤◌, ◌&&◌, inl, inr, Bool, true, false, List, [], ◌∷◌, Option, Some, None, filter_map, option_map, length, refl, ap, sym, ◌∙◌, subst, arith, nat_le, if◌then◌else◌}
 use Rattle.std.specs.List.{list_all, cons_option}
 use Rattle.std.proofs.lemmas.Bool.{and_parts, cases_lt, cases_eq, leb-true, lt-ltb, le-ltb}
 use Rattle.ttm_base.specs.declared.Span.{Span}
@@ -143,6 +143,32 @@ contiguous_taken f size range topdown pages out some h = by (candidate f size ra
 pub buddy_takes_free : (f : ℕ → Bool) (size : ℕ) (range : Span) (topdown contig : Bool) (pages : ℕ) (out : List Span) → 1 ≤ pages → buddy_choice f size range topdown contig pages ≡ Some out → AreTaken f size out
 buddy_takes_free f size range topdown true pages out some h = contiguous_taken f size range topdown pages out some h
 buddy_takes_free f size range topdown false pages out some h = scattered_taken pages f size range topdown pages out h
+
+scattered_some : (fuel : ℕ) (f : ℕ → Bool) (size : ℕ) (range : Span) (topdown : Bool) (left : ℕ) (out : List Span) → 1 ≤ left → scattered fuel f size range topdown left ≡ Some out → 1 ≤ length out
+scattered_some fuel f size range topdown zero out some h = absurd (omega arith)
+scattered_some zero f size range topdown (suc left) out some h = absurd cc
+scattered_some (suc fuel) f size range topdown (suc left) out some h = by (first_candidate (candidate f size range topdown) (log2 (suc left) + 1)) refl where
+  by : (o : Option Candidate) → first_candidate (candidate f size range topdown) (log2 (suc left) + 1) ≡ o → 1 ≤ length out
+  by None e = absurd (let z : step fuel f size range topdown left None ≡ Some out = sym (ap (step fuel f size range topdown left) e) ∙ h in cc)
+  by (Some c) e =
+      let z : step fuel f size range topdown left (Some c) ≡ Some out = sym (ap (step fuel f size range topdown left) e) ∙ h in
+      let b = behind_parts (behind fuel f size range topdown left c) c.block out z in
+      let l = ap length b.same in
+      omega (arith, l)
+
+contiguous_some : (f : ℕ → Bool) (size : ℕ) (range : Span) (topdown : Bool) (pages : ℕ) (out : List Span) → contiguous f size range topdown pages ≡ Some out → 1 ≤ length out
+contiguous_some f size range topdown pages out h = by (candidate f size range topdown (order_of pages)) refl where
+  by : (o : Option Candidate) → candidate f size range topdown (order_of pages) ≡ o → 1 ≤ length out
+  by None e = absurd (let z = sym (ap (option_map (cut pages)) e) ∙ h in cc)
+  by (Some c) e =
+      let z = sym (ap (option_map (cut pages)) e) ∙ h in
+      let s : cut pages c ≡ out = cc in
+      let l = ap length s in
+      omega (arith, l)
+
+pub buddy_takes_some : (f : ℕ → Bool) (size : ℕ) (range : Span) (topdown contig : Bool) (pages : ℕ) (out : List Span) → 1 ≤ pages → buddy_choice f size range topdown contig pages ≡ Some out → 1 ≤ length out
+buddy_takes_some f size range topdown true pages out some h = contiguous_some f size range topdown pages out h
+buddy_takes_some f size range topdown false pages out some h = scattered_some pages f size range topdown pages out some h
 
 pub buddy_most_fits : 2147483647 < 2 ^ 32
 buddy_most_fits = omega arith

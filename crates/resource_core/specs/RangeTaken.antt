@@ -1,5 +1,5 @@
 -- What the range choice takes is free.
-use Rattle.std.proofs.Common.{◌≡◌, ℕ, zero, suc, ◌+◌, ◌^◌, ◌<◌, ◌≤◌, ◌&&◌, inl, inr, Bool, true, false, List, [], ◌∷◌, Option, Some, None, filter_map, option_map, slice_get, refl, ap, sym, ◌∙◌, subst, arith, nat_eq, nat_lt, nat_le, if◌then◌else◌}
+use Rattle.std.proofs.Common.{◌≡◌, ℕ, zero, suc, ◌+◌, ◌^◌, ◌<◌, ◌≤◌, ◌&&◌, inl, inr, Bool, true, false, List, [], ◌∷◌, Option, Some, None, filter_map, option_map, slice_get, length, refl, ap, sym, ◌∙◌, subst, arith, nat_eq, nat_lt, nat_le, if◌then◌else◌}
 use Rattle.std.specs.List.{cons_option}
 use Rattle.std.proofs.lemmas.Bool.{and_parts, cases_lt, leb-true, ltb-true, lt-ltb, le-ltb, eqb-true}
 use Rattle.ttm_base.specs.declared.Span.{Span}
@@ -165,6 +165,16 @@ range_takes_free f n pages align place out h = by (range_choice (mode_for place.
       let z = sym (ap (option_map one_span) e) ∙ h in
       let s : span ∷ [] ≡ out = cc in
       subst (AreTaken f n) s (range_takes f n (mode_for place.topdown) pages align (reach place n) span e, tt)
+
+pub range_takes_some : (f : ℕ → Bool) (n pages align : ℕ) (place : Place) (out : List Span) → range_spans f n pages align place ≡ Some out → 1 ≤ length out
+range_takes_some f n pages align place out h = by (range_choice (mode_for place.topdown) (holes f n) pages align (reach place n)) refl where
+  by : (o : Option Span) → range_choice (mode_for place.topdown) (holes f n) pages align (reach place n) ≡ o → 1 ≤ length out
+  by None e = absurd (let z = sym (ap (option_map one_span) e) ∙ h in cc)
+  by (Some span) e =
+      let z = sym (ap (option_map one_span) e) ∙ h in
+      let s : span ∷ [] ≡ out = cc in
+      let l = ap length s in
+      omega (arith, l)
 
 pub range_most_fits : 4294967295 < 2 ^ 32
 range_most_fits = omega arith

@@ -1,17 +1,18 @@
 -- Who holds which pages of a memory type (ttm_resource_manager).
-use Rattle.std.specs.Prelude.{◌≡◌, ℕ, zero, suc, ◌+◌, ◌==◌, Bool, true, false, List, [], ◌∷◌, Option, not, filter, map, sum_by, if◌then◌else◌}
+use Rattle.std.specs.Prelude.{◌≡◌, ℕ, zero, suc, ◌+◌, ◌≤◌, ◌==◌, Bool, true, false, List, [], ◌∷◌, Option, Some, None, All, length, map, sum_by, unwrap_or, if◌then◌else◌}
 use Rattle.std.specs.List.{list_any, flat_map}
 use Rattle.ttm_base.specs.declared.Span.{Span}
 use Rattle.ttm_base.specs.declared.JobId.{JobId}
 use Rattle.ttm_base.specs.declared.Owner.{Owner}
 use Rattle.ttm_base.specs.declared.Owner.TheVariants.{Live, Target, Ghost}
 use Rattle.ttm_base.specs.Holes.{is_free_beside}
+use Rattle.ttm_base.specs.ListWords.{last_or}
 use Rattle.buddy_manager.specs.Held.{pages_of}
 use Rattle.resource_core.specs.declared.holding.Holding.{Holding}
 use Rattle.resource_core.specs.declared.holding.OwnerKind.{OwnerKind}
 use Rattle.resource_core.specs.declared.holding.OwnerKind.TheVariants.{Live as OfLive, Target as OfTarget, Ghost as OfGhost}
 
--- what a manager is seen as: its number of pages, the owners with their spans in the order of taking, and its move job
+-- what a manager is seen as: its number of pages, the owners with their spans, and its move job; a holding that is given back leaves its place to the last one
 pub record Resources : Type 0 where
   pub size : ℕ
   pub held : List Holding
@@ -48,9 +49,40 @@ passed from to h = if same_owner from h.owner then record { owner = to; spans = 
 abbrev pub renamed : Owner → Owner → List Holding → List Holding
 renamed from to held = map (passed from to) held
 
+-- the holdings before the last
+abbrev pub before_last : Holding → List Holding → List Holding
+before_last h [] = []
+before_last h (x ∷ xs) = h ∷ before_last x xs
+
+-- the last holding in front of the others, where it fills the place of one that is gone
+abbrev pub last_first : List Holding → List Holding
+last_first [] = []
+last_first (h ∷ hs) = last_or h hs ∷ before_last h hs
+
 -- the owner holds nothing
 abbrev pub without_owner : Owner → List Holding → List Holding
-without_owner owner held = filter (λ h. not (same_owner owner h.owner)) held
+without_owner owner [] = []
+without_owner owner (h ∷ hs) = if same_owner owner h.owner then last_first hs else h ∷ without_owner owner hs
+
+-- ---- by owner
+
+-- the spans that an owner keeps, if it has a holding
+abbrev pub kept_by : Owner → List Holding → Option (List Span)
+kept_by owner [] = None
+kept_by owner (h ∷ hs) = if same_owner owner h.owner then Some h.spans else kept_by owner hs
+
+-- the spans that an owner has: none where it has no holding
+abbrev pub spans_at : Owner → List Holding → List Span
+spans_at owner held = unwrap_or (kept_by owner held) []
+
+-- none, where there is no span
+abbrev pub some_spans : List Span → Option (List Span)
+some_spans [] = None
+some_spans (s ∷ ss) = Some (s ∷ ss)
+
+-- each holding has a span
+abbrev pub HaveSpans : List Holding → Type 0
+HaveSpans held = All (λ h. 1 ≤ length h.spans) held
 
 -- ---- how many pages
 

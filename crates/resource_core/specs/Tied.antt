@@ -4,7 +4,7 @@ use Rattle.ttm_base.specs.declared.Span.{Span}
 use Rattle.ttm_base.specs.Holes.{has_page}
 use Rattle.buddy_manager.specs.Held.{same_span, AllBy, IsApart}
 use Rattle.resource_core.specs.declared.holding.Holding.{Holding}
-use Rattle.resource_core.specs.Resources.{all_spans, AreDistinct}
+use Rattle.resource_core.specs.Resources.{all_spans, AreDistinct, HaveSpans}
 
 -- the sum of the weights of spans
 abbrev pub total : (Span → ℕ) → List Span → ℕ
@@ -30,3 +30,4 @@ pub record IsTied (size most : ℕ) (spans : List Span) (held : List Holding) : 
   pub within : AllBy size spans
   pub same : HaveSame spans (all_spans held)
   pub owners : AreDistinct held
+  pub some : HaveSpans held

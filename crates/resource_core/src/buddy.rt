@@ -12,7 +12,7 @@ pub type BuddyRoom = Room<BuddyManager>;
 
 impl SpanManager for BuddyManager {
     ghost use Rattle.resource_core.specs.Choices.{buddy_spans};
-    ghost use Rattle.resource_core.specs.BuddyTaken.{buddy_takes_free, buddy_most_fits};
+    ghost use Rattle.resource_core.specs.BuddyTaken.{buddy_takes_free, buddy_takes_some, buddy_most_fits};
 
     ghost size = { λ manager. manager.size };
 
@@ -46,6 +46,31 @@ impl SpanManager for BuddyManager {
         }
     }
 
+    fn choose(
+        &mut self,
+        pages: u32,
+        _align: u32,
+        place: &Place,
+        out: &mut Spans,
+    ) -> Result<(), TakeFault> {
+        let (free, used) = self.lengths();
+        let (first, last) = reach(place, free + used);
+        let flags = BuddyFlags {
+            topdown: place.topdown,
+            contig: place.contig,
+        };
+        match self.choice(pages, first, last, flags, out) {
+            Ok(()) => Ok(()),
+            Err(AllocFault::NoBlocks) => Err(TakeFault::NoRoom),
+            Err(AllocFault::NoMemory) => Err(TakeFault::NoMemory),
+        }
+    }
+
+    fn hold(&mut self, spans: &Spans) -> Result<(), NoMemory> {
+        BuddyManager::hold(self, spans);
+        Ok(())
+    }
+
     fn put_back(&mut self, spans: &Spans) {
         self.release(spans);
     }
@@ -55,6 +80,8 @@ impl SpanManager for BuddyManager {
     }
 
     ghost takes_free = { λ free size pages align place out small some aligned is. buddy_takes_free free size _ place.topdown place.contig pages out some is };
+
+    ghost takes_some = { λ free size pages align place out some is. buddy_takes_some free size _ place.topdown place.contig pages out some is };
 
     ghost most_fits = { buddy_most_fits };
 }

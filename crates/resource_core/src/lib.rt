@@ -3,12 +3,15 @@
 
 mod buddy;
 mod holding;
+mod holdings;
 mod manager;
 mod range;
 mod room;
+mod vram;
 
 pub use buddy::BuddyRoom;
 pub use holding::{Holding, OwnerKind};
 pub use manager::{Lengths, Manager, TakeFault};
 pub use range::RangeRoom;
 pub use room::{Room, SpanManager};
+pub use vram::{PagesKind, VramRoom};

@@ -1,13 +1,14 @@
-ghost use Rattle.std.specs.Prelude.{◌≡◌, ℕ, ◌+◌, ◌<◌, ◌≤◌, ◌∷◌, ◌++◌, Bool, true, false, List, [], Option, Some, None, IfOk, OnErr, All, count_by, find, option_map};
+ghost use Rattle.std.specs.Prelude.{◌≡◌, ℕ, ◌+◌, ◌<◌, ◌≤◌, ◌∷◌, ◌++◌, Bool, true, false, List, [], Option, Some, None, IfOk, OnOk, OnErr, All, count_by, length};
 ghost use Rattle.std.specs.Option.{option_copied};
 ghost use Rattle.ttm_base.specs.Holes.{has_page};
 ghost use Rattle.ttm_base.specs.declared.Place.{Place};
 ghost use Rattle.ttm_base.specs.declared.Span.{Span};
-ghost use Rattle.resource_core.specs.Resources.{Resources, holds, is_free, same_owner, renamed, without_owner, all_spans, count_free, pages_by, AreDistinct};
+ghost use Rattle.buddy_manager.specs.Taking.{AreTaken};
+ghost use Rattle.resource_core.specs.Resources.{Resources, holds, is_free, kept_by, renamed, without_owner, all_spans, count_free, pages_by, AreDistinct, HaveSpans};
 
 use crate::holding::OwnerKind;
 use std::alloc::Global;
-use ttm_base::{JobId, Owner, Place, Spans};
+use ttm_base::{JobId, NoMemory, Owner, Place, Spans};
 
 /// Why a request got no pages.
 #[derive(Clone, Copy, Debug, PartialEq, Eq)]
@@ -31,8 +32,9 @@ pub trait Manager {
     /// What the manager is seen as.
     ghost resources: { Self → Resources };
 
-    /// The spans that a request takes among the free pages of a size: so many pages, an alignment, and a place.
-    ghost choice: { (ℕ → Bool) → ℕ → ℕ → ℕ → Place → Option (List Span) };
+    /// The rule of the manager, which no call changes: the spans that a request takes among the free pages of a size, for so many
+    /// pages, an alignment, and a place.
+    ghost choice: { Self → (ℕ → Bool) → ℕ → ℕ → ℕ → Place → Option (List Span) };
 
     /// Gives an owner so many pages that a place reaches, by the manager's choice: from a multiple of `align` on, in pages, where
     /// the manager heeds it. The owner's holding comes last. After a refusal nothing is changed.
@@ -48,23 +50,53 @@ pub trait Manager {
         requires some { 1 ≤ pages }
         requires aligned { 1 ≤ align }
         requires most { align ≤ 4096 }
-        ensures ok { IfOk result (λ spans. choice (is_free (resources self.old).held) (resources self.old).size pages align place.now ≡ Some spans) }
+        ensures ok { IfOk result (λ spans. choice self.old (is_free (resources self.old).held) (resources self.old).size pages align place.now ≡ Some spans) }
         ensures held { IfOk result (λ spans. (resources self.new).held ≡ (resources self.old).held ++ record { owner = owner; spans = spans } ∷ []) }
-        ensures none { result ≡ Err TakeFault.NoRoom → choice (is_free (resources self.old).held) (resources self.old).size pages align place.now ≡ None }
+        ensures none { result ≡ Err TakeFault.NoRoom → choice self.old (is_free (resources self.old).held) (resources self.old).size pages align place.now ≡ None }
         ensures same { OnErr result ((resources self.new).held ≡ (resources self.old).held) }
         ensures size { (resources self.new).size ≡ (resources self.old).size }
-        ensures fence { (resources self.new).move_fence ≡ (resources self.old).move_fence };
+        ensures fence { (resources self.new).move_fence ≡ (resources self.old).move_fence }
+        ensures rule { choice self.new ≡ choice self.old };
+
+    /// Gives an owner spans of free pages, apart from each other. Its holding comes last. After a refusal nothing is changed.
+    fn hold(&mut self, owner: Owner, spans: &Spans) -> Result<(), NoMemory>
+        requires fresh { holds owner (resources self.old).held ≡ false }
+        requires some { 1 ≤ length spans.now }
+        requires free { AreTaken (is_free (resources self.old).held) (resources self.old).size spans.now }
+        ensures ok { OnOk result (resources self.new ≡ record (resources self.old) { held = (resources self.old).held ++ record { owner = owner; spans = spans.now } ∷ [] }) }
+        ensures err { OnErr result (resources self.new ≡ resources self.old) }
+        ensures rule { choice self.new ≡ choice self.old };
+
+    /// The spans that `take` gives, of which none is taken: `hold` may be given them. The manager stays as it was.
+    fn choose(
+        &mut self,
+        alloc: Global,
+        pages: u32,
+        align: u32,
+        place: &Place,
+    ) -> Result<Spans, TakeFault>
+        requires some { 1 ≤ pages }
+        requires aligned { 1 ≤ align }
+        requires most { align ≤ 4096 }
+        ensures ok { IfOk result (λ spans. choice self.old (is_free (resources self.old).held) (resources self.old).size pages align place.now ≡ Some spans) }
+        ensures some { IfOk result (λ spans. 1 ≤ length spans) }
+        ensures free { IfOk result (λ spans. AreTaken (is_free (resources self.old).held) (resources self.old).size spans) }
+        ensures none { result ≡ Err TakeFault.NoRoom → choice self.old (is_free (resources self.old).held) (resources self.old).size pages align place.now ≡ None }
+        ensures same { resources self.new ≡ resources self.old }
+        ensures rule { choice self.new ≡ choice self.old };
 
     /// Makes the pages of an owner those of another. It takes no memory.
     fn pass(&mut self, from: Owner, to: Owner)
         requires from { holds from (resources self.old).held ≡ true }
         requires to { holds to (resources self.old).held ≡ false }
-        ensures { resources self.new ≡ record (resources self.old) { held = renamed from to (resources self.old).held } };
+        ensures held { resources self.new ≡ record (resources self.old) { held = renamed from to (resources self.old).held } }
+        ensures rule { choice self.new ≡ choice self.old };
 
-    /// Frees the pages of an owner. It takes no memory.
+    /// Frees the pages of an owner, and leaves the place of its holding to the last one. It takes no memory.
     fn give(&mut self, owner: Owner)
         requires { holds owner (resources self.old).held ≡ true }
-        ensures { resources self.new ≡ record (resources self.old) { held = without_owner owner (resources self.old).held } };
+        ensures held { resources self.new ≡ record (resources self.old) { held = without_owner owner (resources self.old).held } }
+        ensures rule { choice self.new ≡ choice self.old };
 
     /// The owner holds pages.
     fn holds(&self, owner: Owner) -> bool
@@ -72,7 +104,7 @@ pub trait Manager {
 
     /// The spans that the owner holds.
     fn spans_of(&self, owner: Owner) -> Option<&Spans>
-        ensures { option_copied result ≡ option_map (λ h. h.spans) (find (λ h. same_owner owner h.owner) (resources self.now).held) };
+        ensures { option_copied result ≡ kept_by owner (resources self.now).held };
 
     /// How many pages are free, and how many the owners of each kind hold.
     fn lengths(&self) -> Lengths
@@ -82,13 +114,14 @@ pub trait Manager {
         ensures ghosts { result.ghosts ≡ pages_by OwnerKind.Ghost (resources self.now).held }
         ensures sum { result.free + result.live + result.targets + result.ghosts ≡ (resources self.now).size };
 
-    /// Tells what holds of every manager: no page is in two spans, every span has pages and ends within the size, and no owner
-    /// has two holdings. It does nothing.
+    /// Tells what holds of every manager: no page is in two spans, every span has pages and ends within the size, no owner has
+    /// two holdings, and each holding has a span. It does nothing.
     fn laws(&self)
         ensures once { (page : ℕ) → count_by (has_page page) (all_spans (resources self.now).held) ≤ 1 }
         ensures some { All (λ s. s.start < s.end) (all_spans (resources self.now).held) }
         ensures within { All (λ s. s.end ≤ (resources self.now).size) (all_spans (resources self.now).held) }
-        ensures owners { AreDistinct (resources self.now).held };
+        ensures owners { AreDistinct (resources self.now).held }
+        ensures spans { HaveSpans (resources self.now).held };
 
     /// The move job: the last one that was set.
     fn move_fence(&self) -> Option<JobId>
@@ -96,5 +129,6 @@ pub trait Manager {
 
     /// Keeps a job as the move job in place of the one before.
     fn set_move_fence(&mut self, job: JobId)
-        ensures { resources self.new ≡ record (resources self.old) { move_fence = Some job } };
+        ensures fence { resources self.new ≡ record (resources self.old) { move_fence = Some job } }
+        ensures rule { choice self.new ≡ choice self.old };
 }

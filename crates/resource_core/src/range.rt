@@ -1,4 +1,5 @@
 ghost use Rattle.std.specs.Prelude.{◌≡◌};
+ghost use Rattle.buddy_manager.specs.Held.{without_all, AreHeld, IsApart};
 ghost use Rattle.resource_core.specs.Choices as words;
 
 use crate::TakeFault;
@@ -18,9 +19,21 @@ fn mode_for(topdown: bool) -> Mode
     if topdown { Mode::High } else { Mode::Best }
 }
 
+/// Lets spans go that are held.
+fn let_go(manager: &mut RangeManager, spans: &[Span])
+    requires apart { IsApart manager.old.held }
+    requires held { AreHeld spans.now manager.old.held }
+    ensures size { manager.new.size ≡ manager.old.size }
+    ensures held { manager.new.held ≡ without_all spans.now manager.old.held }
+{
+    for span in spans {
+        manager.remove(span.start);
+    }
+}
+
 impl SpanManager for RangeManager {
     ghost use Rattle.resource_core.specs.Choices.{range_spans};
-    ghost use Rattle.resource_core.specs.RangeTaken.{range_takes_free, range_most_fits};
+    ghost use Rattle.resource_core.specs.RangeTaken.{range_takes_free, range_takes_some, range_most_fits};
 
     ghost size = { λ manager. manager.size };
 
@@ -60,11 +73,40 @@ impl SpanManager for RangeManager {
         }
     }
 
-    fn put_back(&mut self, spans: &Spans) {
-        let spans = spans.items();
-        for span in spans {
-            self.remove(span.start);
+    fn choose(
+        &mut self,
+        pages: u32,
+        align: u32,
+        place: &Place,
+        out: &mut Spans,
+    ) -> Result<(), TakeFault> {
+        let (free, used) = self.lengths();
+        let (first, last) = reach(place, free + used);
+        let Some(span) = self.choice(pages, align, first, last, mode_for(place.topdown)) else {
+            return Err(TakeFault::NoRoom);
+        };
+        match out.push(span) {
+            Ok(()) => Ok(()),
+            Err(NoMemory) => Err(TakeFault::NoMemory),
         }
+    }
+
+    fn hold(&mut self, spans: &Spans) -> Result<(), NoMemory> {
+        let spans = spans.items();
+        for (done, span) in spans.iter().enumerate() {
+            match self.reserve(*span) {
+                Ok(()) => {}
+                Err(_) => {
+                    let_go(self, &spans[..done]);
+                    return Err(NoMemory);
+                }
+            }
+        }
+        Ok(())
+    }
+
+    fn put_back(&mut self, spans: &Spans) {
+        let_go(self, spans.items());
     }
 
     fn free_pages(&self) -> u32 {
@@ -72,6 +114,8 @@ impl SpanManager for RangeManager {
     }
 
     ghost takes_free = { λ free size pages align place out small some aligned is. range_takes_free free size pages align place out is };
+
+    ghost takes_some = { λ free size pages align place out some is. range_takes_some free size pages align place out is };
 
     ghost most_fits = { range_most_fits };
 }

@@ -1,16 +1,18 @@
-ghost use Rattle.std.specs.Prelude.{◌≡◌, ℕ, ◌+◌, ◌^◌, ◌<◌, ◌≤◌, ◌∷◌, ◌++◌, Bool, true, false, List, [], Option, Some, None, IfOk, OnOk, OnErr};
+ghost use Rattle.std.specs.Prelude.{◌≡◌, ℕ, ◌+◌, ◌^◌, ◌<◌, ◌≤◌, ◌∷◌, ◌++◌, Bool, true, false, List, [], Option, Some, None, IfOk, OnOk, OnErr, length};
 ghost use Rattle.ttm_base.specs.declared.Place.{Place};
 ghost use Rattle.ttm_base.specs.declared.Span.{Span};
 ghost use Rattle.ttm_base.specs.Holes.{is_free_beside};
-ghost use Rattle.buddy_manager.specs.Held.{with_blocks, without_all, pages_of, AreHeld, IsApart};
+ghost use Rattle.buddy_manager.specs.Held.{with_blocks, without_all, pages_of, AllBy, AreHeld, IsApart};
 ghost use Rattle.buddy_manager.specs.Taking.{AreTaken};
+ghost use Rattle.resource_core.specs.Resources.{holds};
 
 use crate::TakeFault;
-use crate::holding::{Holding, OwnerKind, add, holds, pages_by, remove, rename, spans_of};
+use crate::holding::{OwnerKind, pages_by};
+use crate::holdings::Holdings;
 use crate::manager::{Lengths, Manager};
 use std::alloc::Global;
 use std::marker::Model;
-use ttm_base::{ItemList, JobId, NoMemory, Owner, Place, Spans};
+use ttm_base::{JobId, NoMemory, Owner, Place, Spans};
 
 /// Spans of pages that are held, with a rule by which a request takes more.
 pub trait SpanManager: Drop {
@@ -51,6 +53,33 @@ pub trait SpanManager: Drop {
         ensures none { result ≡ Err TakeFault.NoRoom → choice (is_free_beside (held self.old)) (size self.old) pages align place.now ≡ None }
         ensures same { OnErr result (held self.new ≡ held self.old) };
 
+    /// Gives the spans of the choice, of which none is taken.
+    fn choose(
+        &mut self,
+        pages: u32,
+        align: u32,
+        place: &Place,
+        out: &mut Spans,
+    ) -> Result<(), TakeFault>
+        requires empty { out.old ≡ [] }
+        requires small { size self.old ≤ most }
+        requires some { 1 ≤ pages }
+        requires aligned { 1 ≤ align }
+        requires most_aligned { align ≤ 4096 }
+        ensures size { size self.new ≡ size self.old }
+        ensures held { held self.new ≡ held self.old }
+        ensures ok { OnOk result (choice (is_free_beside (held self.old)) (size self.old) pages align place.now ≡ Some out.new) }
+        ensures none { result ≡ Err TakeFault.NoRoom → choice (is_free_beside (held self.old)) (size self.old) pages align place.now ≡ None };
+
+    /// Holds spans of free pages. After a refusal nothing is changed.
+    fn hold(&mut self, spans: &Spans) -> Result<(), NoMemory>
+        requires apart { IsApart (held self.old) }
+        requires within { AllBy (size self.old) (held self.old) }
+        requires free { AreTaken (is_free_beside (held self.old)) (size self.old) spans.now }
+        ensures size { size self.new ≡ size self.old }
+        ensures ok { OnOk result (held self.new ≡ with_blocks spans.now (held self.old)) }
+        ensures err { OnErr result (held self.new ≡ held self.old) };
+
     /// Gives spans back that are held. It takes no memory.
     fn put_back(&mut self, spans: &Spans)
         requires apart { IsApart (held self.old) }
@@ -64,6 +93,9 @@ pub trait SpanManager: Drop {
 
     ghost most_fits: { most < 2 ^ 32 };
 
+    /// A choice for some pages has a span.
+    ghost takes_some: { (free : ℕ → Bool) (size pages align : ℕ) (place : Place) (out : List Span) → 1 ≤ pages → choice free size pages align place ≡ Some out → 1 ≤ length out };
+
     /// A choice is of free pages, each of them once.
     ghost takes_free: { (free : ℕ → Bool) (size pages align : ℕ) (place : Place) (out : List Span) → size ≤ most → 1 ≤ pages → 1 ≤ align → choice free size pages align place ≡ Some out → AreTaken free size out };
 }
@@ -72,7 +104,7 @@ pub trait SpanManager: Drop {
 #[derive(Drop)]
 pub struct Room<M: SpanManager> {
     manager: M,
-    held: ItemList<Holding>,
+    held: Holdings,
     move_fence: Option<JobId>,
 }
 
@@ -89,6 +121,16 @@ impl<M: SpanManager> Model for Room<M> {
     ghost invariant = { λ r. IsTied (M.size r.manager) M.most (M.held r.manager) r.held };
 }
 
+/// Adds a holding with a copy of spans.
+fn add_copy(held: &mut Holdings, owner: Owner, spans: &Spans) -> Result<(), NoMemory>
+    requires { holds owner held.old ≡ false }
+    ensures ok { OnOk result (held.new ≡ held.old ++ record { owner = owner; spans = spans.now } ∷ []) }
+    ensures err { OnErr result (held.new ≡ held.old) }
+{
+    let spans = spans.copy()?;
+    held.add(owner, spans)
+}
+
 impl<M: SpanManager> Room<M> {
     /// Pages that no owner holds, without a move job.
     pub fn new(alloc: Global, pages: u32) -> Result<Room<M>, NoMemory>
@@ -97,7 +139,7 @@ impl<M: SpanManager> Room<M> {
         let manager = M::with_pages(alloc, pages)?;
         Ok(Room {
             manager,
-            held: ItemList::new(alloc),
+            held: Holdings::new(alloc),
             move_fence: None,
         })
     }
@@ -106,7 +148,7 @@ impl<M: SpanManager> Room<M> {
 impl<M: SpanManager> Manager for Room<M> {
     ghost resources = { λ room. room };
 
-    ghost choice = { M.choice };
+    ghost choice = { λ room. M.choice };
 
     fn take(
         &mut self,
@@ -118,7 +160,7 @@ impl<M: SpanManager> Manager for Room<M> {
     ) -> Result<Spans, TakeFault> {
         let mut spans = Spans::new(alloc);
         self.manager.take(pages, align, place, &mut spans)?;
-        match add(&mut self.held, owner, &spans) {
+        match add_copy(&mut self.held, owner, &spans) {
             Ok(()) => Ok(spans),
             Err(NoMemory) => {
                 self.manager.put_back(&spans);
@@ -127,21 +169,44 @@ impl<M: SpanManager> Manager for Room<M> {
         }
     }
 
+    fn hold(&mut self, owner: Owner, spans: &Spans) -> Result<(), NoMemory> {
+        self.manager.hold(spans)?;
+        match add_copy(&mut self.held, owner, spans) {
+            Ok(()) => Ok(()),
+            Err(NoMemory) => {
+                self.manager.put_back(spans);
+                Err(NoMemory)
+            }
+        }
+    }
+
+    fn choose(
+        &mut self,
+        alloc: Global,
+        pages: u32,
+        align: u32,
+        place: &Place,
+    ) -> Result<Spans, TakeFault> {
+        let mut spans = Spans::new(alloc);
+        self.manager.choose(pages, align, place, &mut spans)?;
+        Ok(spans)
+    }
+
     fn pass(&mut self, from: Owner, to: Owner) {
-        rename(&mut self.held, from, to);
+        self.held.rename(from, to);
     }
 
     fn give(&mut self, owner: Owner) {
-        let spans = remove(&mut self.held, owner);
+        let spans = self.held.remove(owner);
         self.manager.put_back(&spans);
     }
 
     fn holds(&self, owner: Owner) -> bool {
-        holds(self.held.items(), owner)
+        self.held.holds(owner)
     }
 
     fn spans_of(&self, owner: Owner) -> Option<&Spans> {
-        spans_of(self.held.items(), owner)
+        self.held.spans_of(owner)
     }
 
     fn lengths(&self) -> Lengths {

@@ -1,7 +1,7 @@
 use Rattle.std.proofs.Common.{◌<◌, ◌≤◌, All, count_by, subst}
 use Rattle.ttm_base.specs.declared.Span.{Span}
 use Rattle.ttm_base.specs.Holes.{has_page}
-use Rattle.resource_core.specs.Resources.{Resources, all_spans, AreDistinct}
+use Rattle.resource_core.specs.Resources.{Resources, all_spans, AreDistinct, HaveSpans}
 use Rattle.resource_core.proofs.CountLaws.{page_once, spans_some, spans_within}
 use Rattle.resource_core.proofs.room.RoomManager.laws.Goals as goal
 
@@ -16,3 +16,6 @@ returns-clause-within g c = subst (λ (r : Resources). All (λ (s : Span). s.end
 
 pub returns-clause-owners : goal.returns-clause-owners
 returns-clause-owners g c = subst (λ (r : Resources). AreDistinct r.held) c.self.view_is c.self.invariant.owners
+
+pub returns-clause-spans : goal.returns-clause-spans
+returns-clause-spans g c = subst (λ (r : Resources). HaveSpans r.held) c.self.view_is c.self.invariant.some

@@ -24,8 +24,10 @@ pub invariant_of-self-in-Ok : goal.invariant_of-self-in-Ok
 invariant_of-self-in-Ok g c =
     let taken = g.met.M.SpanManager.takes_free (is_free_beside (g.M.SpanManager.held c.self.inside.manager)) (g.M.SpanManager.size c.self.inside.manager) c.args.pages c.args.align c.args.place.now c.take.new.out
     c.self.invariant.small c.requires.some c.requires.aligned c.in_ok-take.ensures.ok in
+    let some = g.met.M.SpanManager.takes_some (is_free_beside (g.M.SpanManager.held c.self.inside.manager)) (g.M.SpanManager.size c.self.inside.manager) c.args.pages c.args.align c.args.place.now c.take.new.out
+    c.requires.some c.in_ok-take.ensures.ok in
     tied_is _ _ _ _ _ _ _ c.in_ok-take.ensures.size c.in_ok-take.ensures.held c.in-Ok.ensures.ok
-    (tied_taken _ _ _ _ c.self.invariant c.args.owner c.take.new.out taken (ap (λ (r : Resources). holds c.args.owner r.held) c.self.view_is ∙ c.requires.fresh))
+    (tied_taken _ _ _ _ c.self.invariant c.args.owner c.take.new.out taken some (ap (λ (r : Resources). holds c.args.owner r.held) c.self.view_is ∙ c.requires.fresh))
 
 pub put_back-requires : goal.put_back-requires
 put_back-requires g c =
