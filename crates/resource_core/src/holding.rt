@@ -12,7 +12,7 @@ pub struct Holding {
 }
 
 /// What an owner is: a live buffer, the target of a move that isn't done, or a ghost.
-#[derive(Clone, Copy, Debug, PartialEq, Eq, Hash)]
+#[derive(Clone, Copy, PartialEq, Eq, Hash)]
 pub enum OwnerKind {
     Live,
     Target,

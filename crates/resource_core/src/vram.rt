@@ -9,7 +9,7 @@ use std::marker::Model;
 use ttm_base::{JobId, NoMemory, Owner, Place, Spans};
 
 /// How pages are kept: in ranges (drm_mm), or in blocks (drm_buddy).
-#[derive(Clone, Copy, Debug, PartialEq, Eq)]
+#[derive(Clone, Copy, PartialEq, Eq)]
 pub enum PagesKind {
     Ranges,
     Blocks,
