@@ -103,6 +103,11 @@ past_end [] i h = refl
 past_end (x ∷ xs) zero h = absurd (omega (arith, h))
 past_end (x ∷ xs) (suc i) h = past_end xs i (omega (arith, h))
 
+some_at : {X : Type 0} (xs : List X) (i : ℕ) → i < length xs → IsSome (slice_get xs i)
+some_at [] i h = absurd (omega (arith, h))
+some_at (x ∷ xs) zero h = refl
+some_at (x ∷ xs) (suc i) h = some_at xs i (omega (arith, h))
+
 module _ (jobs : List Job) (last : List ℕ) (rings : List (List Pushed)) (h : AreRings jobs last rings) (e n : ℕ) (known : e < length last) (j : Job) (head : IsHead jobs e n j) where
   -- the ring is there
   pub ring_known : e < length rings
@@ -124,6 +129,10 @@ module _ (jobs : List Job) (last : List ℕ) (rings : List (List Pushed)) (h : A
   pub ring_next : next_of rings e ≡ slice_get j.packets j.ran
   ring_next =
       ap (option_and_then packet_of) ring_front.here ∙ ap (λ ps. slice_get ps ring_front.pushed.ran) ring_front.is.packets ∙ ap (slice_get j.packets) ring_front.is.ran
+
+  -- which is there where not all have run
+  pub ring_left : j.ran < length j.packets → IsSome (next_of rings e)
+  ring_left l = subst (λ o. IsSome o) (sym ring_next) (some_at j.packets j.ran l)
 
   -- none is left once all have run
   pub ring_over : length j.packets ≤ j.ran → next_of rings e ≡ None

@@ -3,7 +3,7 @@ pub mod Rows
 pub mod Changed
 pub mod Emitted
 pub mod First
-pub mod InLine
+pub mod LegalJobs
 pub mod Packets
 pub mod Tied
 pub mod Stays
