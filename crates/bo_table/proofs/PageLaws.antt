@@ -1,23 +1,16 @@
 -- The number of frames in a page table, and its first page without one, after a change.
-use Rattle.std.proofs.Common.{◌≡◌, true, false, cond, ℕ, zero, suc, ◌+◌, ◌<◌, ◌≤◌, ◌^◌, min, List, [], ◌∷◌, Bool, Some, None, refl, sym, ◌∙◌, ap, arith, add-one, length, drop, replicate}
+use Rattle.std.proofs.Common.{◌≡◌, true, false, cond, ℕ, zero, suc, ◌+◌, ◌<◌, ◌≤◌, ◌^◌, min, List, [], ◌∷◌, Bool, Some, None, refl, sym, ◌∙◌, ap, arith, add-one, length, drop, replicate, subst}
+use Rattle.std.proofs.lemmas.Bool.{cond_both, ltb-false}
+use Rattle.std.proofs.lemmas.Option.{cond_some}
 use Rattle.std.proofs.lemmas.List.{length-map, length-replicate}
-use Rattle.std.specs.Prelude.{map, not, slice_get, slice_set, ◌≢◌}
+use Rattle.std.specs.Prelude.{map, nat_lt, not, position, slice_get, slice_set, ◌≢◌}
 use Rattle.std.specs.List.{filter_map, position_or_len}
 use Rattle.ttm_base.specs.declared.Loc.{Loc}
 use Rattle.ttm_base.specs.declared.Loc.TheVariants.{Frame, Slot, Zero}
 use Rattle.journal_model.specs.Places.{frame_of, is_frame}
 use Rattle.journal_model.specs.ApplyPages.{without_frame}
+use Rattle.bo_table.proofs.Setting.{length_set}
 use Rattle.bo_table.specs.Pages.{frame_count, has_no_frame, first_unfilled, IsCounted}
-
-pub set_beyond : {X : Type 0} (xs : List X) (i : ℕ) (y : X) → length xs ≤ i → slice_set xs i y ≡ xs
-set_beyond [] i y h = refl
-set_beyond (x ∷ xs) zero y h = absurd (omega arith)
-set_beyond (x ∷ xs) (suc i) y h = ap (λ zs. x ∷ zs) (set_beyond xs i y (omega arith))
-
-pub length_set : {X : Type 0} (xs : List X) (i : ℕ) (y : X) → length (slice_set xs i y) ≡ length xs
-length_set [] i y = refl
-length_set (x ∷ xs) zero y = refl
-length_set (x ∷ xs) (suc i) y = ap suc (length_set xs i y)
 
 -- ---- the first item that passes, once one was set
 
@@ -51,7 +44,23 @@ filled p (x ∷ xs) (suc i) y t e h =
 
 -- to one that doesn't, where it was the first
 pub first_filled : {X : Type 0} (p : X → Bool) (xs : List X) (i : ℕ) (y : X) → p y ≡ false → i ≡ position_or_len p xs → i < length xs → position_or_len p (slice_set xs i y) ≡ i + 1 + position_or_len p (drop (i + 1) xs)
-first_filled p xs i y t e h = subst (λ (n : ℕ). position_or_len p (slice_set xs i y) ≡ n + position_or_len p (drop n xs)) (sym (add-one {n = i})) (filled p xs i y t e h)
+first_filled p xs i y t e h = subst (λ (n : ℕ). position_or_len p (slice_set xs i y) ≡ n + position_or_len p (drop n xs)) (sym (add-one i)) (filled p xs i y t e h)
+
+-- the first item that passes, or the end
+pub first_within : {X : Type 0} (p : X → Bool) (xs : List X) → position_or_len p xs ≤ length xs
+first_within p [] = omega arith
+first_within p (x ∷ xs) =
+    let more : position_or_len p xs ≤ length xs = first_within p xs in
+    elim (p x) as (λ b. cond (not b) (1 + position_or_len p xs) 0 ≤ suc (length xs)) [ true ↦ omega arith | false ↦ omega arith ]
+
+pub first_is_some : {X : Type 0} (p : X → Bool) (xs : List X) (i : ℕ) → Some i ≡ position p xs → i ≡ position_or_len p xs
+first_is_some p xs i e = sym (cond_some (nat_lt (position_or_len p xs) (length xs)) (position_or_len p xs) i (sym e)).1
+
+pub first_is_none : {X : Type 0} (p : X → Bool) (xs : List X) → None ≡ position p xs → length xs ≡ position_or_len p xs
+first_is_none p xs e =
+    let within = first_within p xs in
+    cond_both (nat_lt (position_or_len p xs) (length xs)) (Some (position_or_len p xs)) None (λ o. None ≡ o → length xs ≡ position_or_len p xs)
+      (λ t n. absurd cc) (λ f n. let past : length xs ≤ position_or_len p xs = ltb-false (position_or_len p xs) (length xs) f in omega arith) e
 
 -- ---- how many have frames
 
@@ -64,7 +73,8 @@ count_cons Zero places = omega arith
 pub count_set : (places : List Loc) (page : ℕ) (old new : Loc) → slice_get places page ≡ Some old → frame_count (slice_set places page new) + cond (is_frame old) 1 0 ≡ frame_count places + cond (is_frame new) 1 0
 count_set [] page old new h = cc
 count_set (l ∷ places) zero old new h =
-    let same : cond (is_frame l) 1 0 ≡ cond (is_frame old) 1 0 = ap (λ l. cond (is_frame l) 1 0) (let e : l ≡ old = cc in e) in
+    let e : l ≡ old = cc in
+    let same : cond {A = ℕ} (is_frame l) 1 0 ≡ cond {A = ℕ} (is_frame old) 1 0 = ap (λ (x : Loc). cond {A = ℕ} (is_frame x) 1 0) e in
     omega (arith, count_cons new places, count_cons l places)
 count_set (l ∷ places) (suc page) old new h =
     omega (arith, count_cons l (slice_set places page new), count_cons l places, count_set places page old new h)
@@ -75,6 +85,18 @@ count_within [] = omega arith
 count_within (Frame f ∷ places) = omega (arith, count_within places)
 count_within (Slot k ∷ places) = omega (arith, count_within places)
 count_within (Zero ∷ places) = omega (arith, count_within places)
+
+-- one that gives up its frame is counted
+pub frame_counts : (places : List Loc) (page : ℕ) (l : Loc) → slice_get places page ≡ Some l → is_frame l ≡ true → 1 ≤ frame_count places
+frame_counts places page l here t =
+    let one : cond {A = ℕ} (is_frame l) 1 0 ≡ 1 = rw t refl in
+    omega (arith, count_set places page l Zero here)
+
+-- one that gets a frame has room in the count
+pub frame_fits : (places : List Loc) (page : ℕ) (l : Loc) → slice_get places page ≡ Some l → is_frame l ≡ false → frame_count places + 1 ≤ length places
+frame_fits places page l here t =
+    let none : cond {A = ℕ} (is_frame l) 1 0 ≡ 0 = rw t refl in
+    omega (arith, count_set places page l (Frame 0) here, count_within (slice_set places page (Frame 0)), length_set places page (Frame 0))
 
 -- ---- whole tables without a frame
 

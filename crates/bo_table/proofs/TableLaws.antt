@@ -11,7 +11,7 @@ use Rattle.journal_model.specs.declared.state.Buffer.{Buffer}
 use Rattle.journal_model.specs.declared.state.Grip.{Grip}
 use Rattle.journal_model.specs.State.{changed, live_in, regripped, grip_in, no_grip, no_targets, new_buffer}
 use Rattle.ttm_base.proofs.ListLaws.{set_same}
-use Rattle.bo_table.proofs.PageLaws.{set_beyond}
+use Rattle.bo_table.proofs.Setting.{set_beyond}
 use Rattle.ttm_base.specs.declared.Loc.{Loc}
 use Rattle.ttm_base.specs.declared.Span.{Span}
 use Rattle.ttm_base.specs.declared.Mem.TheVariants.{System}

@@ -1,12 +1,12 @@
 #![tactic(auto)]
 
-ghost use Rattle.std.specs.Prelude.{◌≡◌, ◌+◌, ◌<◌, ◌≤◌, ◌^◌, IfOk, drop, length, map, not, position, replicate, slice_set};
-ghost use Rattle.std.specs.List.{filter_map, position_or_len};
+ghost use Rattle.std.specs.Prelude.{◌≡◌, ◌+◌, ◌<◌, ◌≤◌, ◌^◌, IfOk, length, map, not, position, replicate, slice_set};
+ghost use Rattle.std.specs.List.{filter_map};
 ghost use Rattle.ttm_base.specs.declared.Loc.TheVariants as loc;
 ghost use Rattle.journal_model.specs.ApplyPages.{without_frame};
 ghost use Rattle.journal_model.specs.Places.{frame_of};
 ghost use Rattle.journal_model.specs.Places as words;
-ghost use Rattle.bo_table.specs.Pages.{frame_count, has_no_frame, first_unfilled};
+ghost use Rattle.bo_table.specs.Pages.{frame_count, first_unfilled};
 
 use journal_model::Table;
 use std::alloc::Global;
@@ -75,23 +75,27 @@ fn frames_after(places: &Table, frames: u32, page: u32, place: Loc) -> u32
     }
 }
 
-/// The first page from this one on that has no frame; the end where each of them has one.
-fn unfilled_from(places: &Table, start: u32) -> u32
-    requires start { start ≤ length places.now }
-    requires short { length places.now < 2 ^ 32 }
-    ensures { result ≡ start + position_or_len has_no_frame (drop start places.now) }
+/// The position of the first page without a frame.
+fn first_empty(places: &[Loc]) -> Option<usize>
+    ensures { result ≡ position (λ l. not (words.is_frame l)) places.now }
 {
-    match places.items()[start as usize..]
-        .iter()
-        .position(|place| !is_frame(*place))
-    {
-        Some(more) => start + more as u32,
-        None => places.len() as u32,
+    places.iter().position(|place| !is_frame(*place))
+}
+
+/// How many pages at the front have frames.
+#[tactic(auto, using(crate::proofs::PageLaws::first_is_some, crate::proofs::PageLaws::first_is_none, crate::proofs::PageLaws::first_within))]
+fn filled_front(places: &[Loc]) -> usize
+    ensures value { result ≡ first_unfilled places.now }
+    ensures within { result ≤ length places.now }
+{
+    match first_empty(places) {
+        Some(first) => first,
+        None => places.len(),
     }
 }
 
-/// The first page without a frame once this page has this place. Only where the first one gets a frame it looks at others: up to the next one
-/// without.
+/// The first page without a frame once this page has this place. Only where the first one gets a frame it looks at others, up to the next
+/// one without.
 #[tactic(auto, using(crate::proofs::PageLaws::first_lower, crate::proofs::PageLaws::first_other, crate::proofs::PageLaws::first_filled))]
 fn first_after(places: &Table, first: u32, page: u32, place: Loc) -> u32
     requires first { first ≡ first_unfilled places.now }
@@ -102,7 +106,8 @@ fn first_after(places: &Table, first: u32, page: u32, place: Loc) -> u32
     if !is_frame(place) {
         first.min(page)
     } else if page == first {
-        unfilled_from(places, page + 1)
+        let next = page as usize + 1;
+        (next + filled_front(&places.items()[next..])) as u32
     } else {
         first
     }
@@ -169,7 +174,7 @@ impl PageTable {
     }
 
     /// Gives a page another place, if the page is there.
-    #[tactic(auto, using(crate::proofs::PageLaws::set_beyond, crate::proofs::PageLaws::length_set))]
+    #[tactic(auto, using(crate::proofs::Setting::set_beyond, crate::proofs::Setting::length_set))]
     pub(crate) fn set(&mut self, page: u32, place: Loc)
         ensures { self.new ≡ slice_set self.old page place }
     {

@@ -1,4 +1,4 @@
-use Rattle.std.proofs.Common.{◌≡◌, ap, sym}
+use Rattle.std.proofs.Common.{◌≡◌, ap, subst, sym}
 use Rattle.std.specs.Prelude.{◌<◌, length, slice_get}
 use Rattle.std.specs.Option.{ForSome}
 use Rattle.bo_table.specs.Seen.{Bos}
