@@ -1,3 +1,4 @@
-pub mod Setting
+pub mod FilledLaws
 pub mod PageLaws
+pub mod Setting
 pub mod TableLaws

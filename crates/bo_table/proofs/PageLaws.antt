@@ -1,16 +1,16 @@
 -- The number of frames in a page table, and its first page without one, after a change.
-use Rattle.std.proofs.Common.{◌≡◌, true, false, cond, ℕ, zero, suc, ◌+◌, ◌<◌, ◌≤◌, ◌^◌, min, List, [], ◌∷◌, Bool, Some, None, refl, sym, ◌∙◌, ap, arith, add-one, length, drop, replicate, subst}
+use Rattle.std.proofs.Common.{◌≡◌, true, false, cond, ℕ, zero, suc, ◌+◌, ◌<◌, ◌≤◌, ◌^◌, min, List, [], ◌∷◌, Bool, Some, None, refl, sym, ap, arith, add-one, length, drop, replicate, subst}
 use Rattle.std.proofs.lemmas.Bool.{cond_both, ltb-false}
 use Rattle.std.proofs.lemmas.Option.{cond_some}
 use Rattle.std.proofs.lemmas.List.{length-map, length-replicate}
 use Rattle.std.specs.Prelude.{map, nat_lt, not, position, slice_get, slice_set, ◌≢◌}
-use Rattle.std.specs.List.{filter_map, position_or_len}
+use Rattle.std.specs.List.{position_or_len}
 use Rattle.ttm_base.specs.declared.Loc.{Loc}
 use Rattle.ttm_base.specs.declared.Loc.TheVariants.{Frame, Slot, Zero}
-use Rattle.journal_model.specs.Places.{frame_of, is_frame}
+use Rattle.journal_model.specs.Places.{is_frame}
 use Rattle.journal_model.specs.ApplyPages.{without_frame}
 use Rattle.bo_table.proofs.Setting.{length_set}
-use Rattle.bo_table.specs.Pages.{frame_count, has_no_frame, first_unfilled, IsCounted}
+use Rattle.bo_table.specs.Pages.{frame_count, first_unfilled, IsCounted}
 
 -- ---- the first item that passes, once one was set
 
@@ -60,7 +60,7 @@ pub first_is_none : {X : Type 0} (p : X → Bool) (xs : List X) → None ≡ pos
 first_is_none p xs e =
     let within = first_within p xs in
     cond_both (nat_lt (position_or_len p xs) (length xs)) (Some (position_or_len p xs)) None (λ o. None ≡ o → length xs ≡ position_or_len p xs)
-      (λ t n. absurd cc) (λ f n. let past : length xs ≤ position_or_len p xs = ltb-false (position_or_len p xs) (length xs) f in omega arith) e
+    (λ t n. absurd cc) (λ f n. let past : length xs ≤ position_or_len p xs = ltb-false (position_or_len p xs) (length xs) f in omega arith) e
 
 -- ---- how many have frames
 

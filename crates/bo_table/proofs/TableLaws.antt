@@ -1,6 +1,6 @@
 -- A table after one of its buffers was changed.
 use Rattle.std.proofs.Common.{◌≡◌, true, ℕ, zero, suc, ◌<◌, ◌≤◌, List, [], ◌∷◌, ◌++◌, Option, Some, None, refl, sym, ◌∙◌, ap, arith, length}
-use Rattle.std.specs.Prelude.{map, option_map, option_and_then, slice_get, slice_set, slice_index_or, replicate, unwrap_or}
+use Rattle.std.specs.Prelude.{map, option_map, option_and_then, slice_get, slice_set, replicate, unwrap_or}
 use Rattle.std.specs.Option.{ForSome}
 use Rattle.ttm_base.specs.declared.BufId.{BufId}
 use Rattle.ttm_base.specs.declared.JobId.{JobId}

@@ -1,7 +1,7 @@
 #![tactic(auto)]
 
 ghost use Rattle.std.specs.Prelude.{◌≡◌, ◌+◌, ◌<◌, ◌≤◌, ◌^◌, IfOk, length, map, not, position, replicate, slice_set};
-ghost use Rattle.std.specs.List.{filter_map};
+ghost use Rattle.std.specs.List.{filter_map, list_all, list_any};
 ghost use Rattle.ttm_base.specs.declared.Loc.TheVariants as loc;
 ghost use Rattle.journal_model.specs.ApplyPages.{without_frame};
 ghost use Rattle.journal_model.specs.Places.{frame_of};
@@ -171,6 +171,21 @@ impl PageTable {
         } else {
             None
         }
+    }
+
+    /// Some page has a frame. In constant time.
+    #[tactic(auto, using(crate::proofs::FilledLaws::some_frame))]
+    pub fn has_frame(&self) -> bool
+        ensures { result ≡ list_any words.is_frame self.now }
+    {
+        0 < self.frames
+    }
+
+    /// Each page has a frame. In constant time.
+    pub fn has_all_frames(&self) -> bool
+        ensures { result ≡ list_all words.is_frame self.now }
+    {
+        self.first_unfilled().is_none()
     }
 
     /// Gives a page another place, if the page is there.

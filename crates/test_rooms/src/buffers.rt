@@ -3,7 +3,9 @@ use journal_model::{Decl, Name};
 use std::alloc::Global;
 use std::process::Abort;
 use std::test::Fail;
-use ttm_base::{BufId, FlaggedPlaces, JobId, Loc, Mem, NoMemory, Placement, Span, Spans, Stamp, Usage};
+use ttm_base::{
+    BufId, FlaggedPlaces, JobId, Loc, Mem, NoMemory, Placement, Span, Spans, Stamp, Usage,
+};
 
 /// A change of a buffer, as the table's calls are named.
 #[derive(Clone, Copy)]
@@ -26,7 +28,8 @@ enum Change {
 
 /// What is to be seen of a live buffer: its memory type, its first span there, how many pages have frames, the page to fill next, its pins and its
 /// holder.
-struct Seen {
+#[derive(Drop)]
+struct Look {
     mem: Mem,
     span: Option<Span>,
     frames: u32,
@@ -95,7 +98,7 @@ fn add_fence(rt: &impl Abort, table: &mut BoTable, b: BufId, num: u64) {
 }
 
 /// Changes the second buffer.
-fn change(
+fn take_change(
     rt: &impl Abort,
     alloc: Global,
     table: &mut BoTable,
@@ -123,14 +126,14 @@ fn change(
     Ok(())
 }
 
-fn assert_seen(rt: &impl Abort, bo: &Bo, seen: &Seen) {
+fn assert_seen(rt: &impl Abort, bo: &Bo, look: &Look) {
     assert!(rt; bo.alive);
-    assert!(rt; bo.mem == seen.mem);
-    assert!(rt; bo.spans.items().first().copied() == seen.span);
-    assert!(rt; bo.table.frames() == seen.frames);
-    assert!(rt; bo.table.first_unfilled() == seen.unfilled);
-    assert!(rt; bo.pins == seen.pins);
-    assert!(rt; bo.resv.holder() == seen.holder);
+    assert!(rt; bo.mem == look.mem);
+    assert!(rt; bo.spans.items().first().copied() == look.span);
+    assert!(rt; bo.table.frames() == look.frames);
+    assert!(rt; bo.table.first_unfilled() == look.unfilled);
+    assert!(rt; bo.pins == look.pins);
+    assert!(rt; bo.resv.holder() == look.holder);
 }
 
 fn seen(
@@ -140,8 +143,8 @@ fn seen(
     unfilled: Option<u32>,
     pins: u8,
     holder: Option<u64>,
-) -> Seen {
-    Seen {
+) -> Look {
+    Look {
         mem,
         span,
         frames,
@@ -162,32 +165,95 @@ fn life_of_a_buffer(rt: HostRuntime) -> Result<(), Fail> {
     let mut table = two_buffers(rt.alloc())?;
     for (what, wanted) in [
         (Change::Make, seen(Mem::System, None, 0, Some(0), 0, None)),
-        (Change::Page(1, Loc::Frame(7)), seen(Mem::System, None, 1, Some(0), 0, None)),
-        (Change::Page(0, Loc::Frame(5)), seen(Mem::System, None, 2, Some(2), 0, None)),
-        (Change::Page(2, Loc::Frame(6)), seen(Mem::System, None, 3, None, 0, None)),
-        (Change::Page(1, Loc::Slot(4)), seen(Mem::System, None, 2, Some(1), 0, None)),
-        (Change::Page(0, Loc::Slot(3)), seen(Mem::System, None, 1, Some(0), 0, None)),
-        (Change::Page(1, Loc::Frame(8)), seen(Mem::System, None, 2, Some(0), 0, None)),
-        (Change::Page(0, Loc::Frame(9)), seen(Mem::System, None, 3, None, 0, None)),
-        (Change::Page(3, Loc::Zero), seen(Mem::System, None, 3, None, 0, None)),
-        (Change::Reserve(2), seen(Mem::System, None, 3, None, 0, Some(2))),
-        (Change::Target(Mem::Tt, 4), seen(Mem::System, None, 3, None, 0, Some(2))),
+        (
+            Change::Page(1, Loc::Frame(7)),
+            seen(Mem::System, None, 1, Some(0), 0, None),
+        ),
+        (
+            Change::Page(0, Loc::Frame(5)),
+            seen(Mem::System, None, 2, Some(2), 0, None),
+        ),
+        (
+            Change::Page(2, Loc::Frame(6)),
+            seen(Mem::System, None, 3, None, 0, None),
+        ),
+        (
+            Change::Page(1, Loc::Slot(4)),
+            seen(Mem::System, None, 2, Some(1), 0, None),
+        ),
+        (
+            Change::Page(0, Loc::Slot(3)),
+            seen(Mem::System, None, 1, Some(0), 0, None),
+        ),
+        (
+            Change::Page(1, Loc::Frame(8)),
+            seen(Mem::System, None, 2, Some(0), 0, None),
+        ),
+        (
+            Change::Page(0, Loc::Frame(9)),
+            seen(Mem::System, None, 3, None, 0, None),
+        ),
+        (
+            Change::Page(3, Loc::Zero),
+            seen(Mem::System, None, 3, None, 0, None),
+        ),
+        (
+            Change::Reserve(2),
+            seen(Mem::System, None, 3, None, 0, Some(2)),
+        ),
+        (
+            Change::Target(Mem::Tt, 4),
+            seen(Mem::System, None, 3, None, 0, Some(2)),
+        ),
         (Change::Bind, seen(Mem::Tt, three(4), 3, None, 0, Some(2))),
-        (Change::LeaveTt, seen(Mem::Tt, three(4), 3, None, 0, Some(2))),
+        (
+            Change::LeaveTt,
+            seen(Mem::Tt, three(4), 3, None, 0, Some(2)),
+        ),
         (Change::Unbind, seen(Mem::System, None, 3, None, 0, Some(2))),
-        (Change::Target(Mem::Tt, 8), seen(Mem::System, None, 3, None, 0, Some(2))),
+        (
+            Change::Target(Mem::Tt, 8),
+            seen(Mem::System, None, 3, None, 0, Some(2)),
+        ),
         (Change::Bind, seen(Mem::Tt, three(8), 3, None, 0, Some(2))),
-        (Change::Target(Mem::Vram, 16), seen(Mem::Tt, three(8), 3, None, 0, Some(2))),
-        (Change::Carry(Mem::Vram), seen(Mem::Vram, three(16), 0, Some(0), 0, Some(2))),
-        (Change::Use(1), seen(Mem::Vram, three(16), 0, Some(0), 0, Some(2))),
-        (Change::Page(0, Loc::Frame(5)), seen(Mem::Vram, three(16), 1, Some(1), 0, Some(2))),
-        (Change::DropFrames, seen(Mem::Vram, three(16), 0, Some(0), 0, Some(2))),
-        (Change::Pin, seen(Mem::Vram, three(16), 0, Some(0), 1, Some(2))),
-        (Change::Pin, seen(Mem::Vram, three(16), 0, Some(0), 2, Some(2))),
-        (Change::Unpin, seen(Mem::Vram, three(16), 0, Some(0), 1, Some(2))),
-        (Change::Release, seen(Mem::Vram, three(16), 0, Some(0), 1, None)),
+        (
+            Change::Target(Mem::Vram, 16),
+            seen(Mem::Tt, three(8), 3, None, 0, Some(2)),
+        ),
+        (
+            Change::Carry(Mem::Vram),
+            seen(Mem::Vram, three(16), 0, Some(0), 0, Some(2)),
+        ),
+        (
+            Change::Use(1),
+            seen(Mem::Vram, three(16), 0, Some(0), 0, Some(2)),
+        ),
+        (
+            Change::Page(0, Loc::Frame(5)),
+            seen(Mem::Vram, three(16), 1, Some(1), 0, Some(2)),
+        ),
+        (
+            Change::DropFrames,
+            seen(Mem::Vram, three(16), 0, Some(0), 0, Some(2)),
+        ),
+        (
+            Change::Pin,
+            seen(Mem::Vram, three(16), 0, Some(0), 1, Some(2)),
+        ),
+        (
+            Change::Pin,
+            seen(Mem::Vram, three(16), 0, Some(0), 2, Some(2)),
+        ),
+        (
+            Change::Unpin,
+            seen(Mem::Vram, three(16), 0, Some(0), 1, Some(2)),
+        ),
+        (
+            Change::Release,
+            seen(Mem::Vram, three(16), 0, Some(0), 1, None),
+        ),
     ] {
-        change(&rt, rt.alloc(), &mut table, what)?;
+        take_change(&rt, rt.alloc(), &mut table, what)?;
         assert_seen(&rt, lent(&rt, &table, BufId(1)), &wanted);
     }
     table.kill(BufId(1));
