@@ -1,0 +1,4 @@
+pub mod FilledLaws
+pub mod PageLaws
+pub mod Setting
+pub mod TableLaws

@@ -1,0 +1,23 @@
+-- The pages of a buffer: how many have a frame, and the first one that has none.
+use Rattle.std.specs.Prelude.{◌≡◌, ℕ, ◌<◌, ◌^◌, Bool, not, List, length}
+use Rattle.std.specs.List.{filter_map, position_or_len}
+use Rattle.ttm_base.specs.declared.Loc.{Loc}
+use Rattle.journal_model.specs.Places.{frame_of, is_frame}
+
+-- a page that is to be filled
+abbrev pub has_no_frame : Loc → Bool
+has_no_frame l = not (is_frame l)
+
+-- how many pages have a frame
+abbrev pub frame_count : List Loc → ℕ
+frame_count places = length (filter_map frame_of places)
+
+-- the first page without a frame; as many as there are, where each has one
+abbrev pub first_unfilled : List Loc → ℕ
+first_unfilled places = position_or_len has_no_frame places
+
+-- the two numbers that are kept beside the places are theirs
+pub record IsCounted (places : List Loc) (frames first : ℕ) : Type 0 where
+  pub frames_are : frames ≡ frame_count places
+  pub first_is : first ≡ first_unfilled places
+  pub short : length places < 2 ^ 32

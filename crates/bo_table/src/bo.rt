@@ -1,0 +1,226 @@
+#![tactic(auto)]
+
+ghost use Rattle.std.specs.Prelude.{◌≡◌, ◌<◌, [], Some, None, IfOk, unwrap_or, length};
+ghost use Rattle.journal_model.specs.State as words;
+ghost use Rattle.journal_model.specs.State.{new_buffer, target_of, with_target};
+ghost use Rattle.journal_model.specs.ApplyCommands.{with_holder, pinned_more, pinned_less};
+ghost use Rattle.journal_model.specs.ApplyPages.{without_frames, with_loc, with_spans, bound, unbound};
+ghost use Rattle.journal_model.specs.ApplyVictims.{leaves_tt};
+ghost use Rattle.journal_model.specs.ApplyMoves.{table_left};
+ghost use Rattle.bo_table.specs.Seen.{carried, IsDead, IsChanged, IsRegripped, IsReset, IsUsed};
+
+use crate::page_table::PageTable;
+use journal_model::Targets;
+use resv_object::Resv;
+use std::alloc::Global;
+use ttm_base::{JobId, Loc, Mem, NoMemory, Spans, Stamp, Usage};
+
+/// Nothing waits for a buffer.
+fn no_targets() -> Targets
+    ensures { result ≡ words.no_targets }
+{
+    Targets {
+        system: None,
+        tt: None,
+        vram: None,
+    }
+}
+
+/// Puts another target, or none, in a memory type.
+fn set_target(targets: &mut Targets, mem: Mem, spans: Option<Spans>)
+    ensures { targets.new ≡ with_target mem spans targets.old }
+{
+    match mem {
+        Mem::System => targets.system = spans,
+        Mem::Tt => targets.tt = spans,
+        Mem::Vram => targets.vram = spans,
+    }
+}
+
+/// A target becomes the place where the buffer stands.
+fn settle(spans: &mut Spans, target: &mut Option<Spans>)
+    ensures place { spans.new ≡ unwrap_or target.old [] }
+    ensures target { target.new ≡ None }
+{
+    match target.take() {
+        Some(found) => *spans = found,
+        None => spans.clear(),
+    }
+}
+
+/// The target in a memory type becomes the place where the buffer stands.
+fn settle_in(spans: &mut Spans, targets: &mut Targets, mem: Mem)
+    ensures place { spans.new ≡ unwrap_or (target_of mem targets.old) [] }
+    ensures targets { targets.new ≡ with_target mem None targets.old }
+{
+    match mem {
+        Mem::System => settle(spans, &mut targets.system),
+        Mem::Tt => settle(spans, &mut targets.tt),
+        Mem::Vram => settle(spans, &mut targets.vram),
+    }
+}
+
+/// Leaves the frames of a buffer that was in this memory type: out of TT they stay behind.
+fn leave_frames(mem: Mem, table: &mut PageTable)
+    ensures { table.new ≡ table_left mem table.old }
+{
+    if let Mem::Tt = mem {
+        table.clear();
+    }
+}
+
+/// A buffer (ttm_buffer_object). Where it is dead, all that counts is how many pages and contexts it has.
+#[derive(Drop)]
+pub struct Bo {
+    pub alive: bool,
+    /// The memory type in which it stands.
+    pub mem: Mem,
+    /// Its pages there; none in SYSTEM.
+    pub spans: Spans,
+    /// A place for each of its pages.
+    pub table: PageTable,
+    /// The pages that were found for it and that it hasn't gone to yet.
+    pub targets: Targets,
+    /// How often it is pinned (pin_count).
+    pub pins: u8,
+    /// Its holder, and the jobs that use it (dma_resv).
+    pub resv: Resv,
+}
+
+impl Bo {
+    /// A dead buffer of so many pages.
+    pub(crate) fn new(alloc: Global, pages: u32, contexts: u32) -> Result<Bo, NoMemory>
+        ensures { IfOk result (λ bo. IsDead pages contexts bo) }
+    {
+        let table = PageTable::new(alloc, pages)?;
+        let resv = Resv::new(alloc, contexts)?;
+        Ok(Bo {
+            alive: false,
+            mem: Mem::System,
+            spans: Spans::new(alloc),
+            table,
+            targets: no_targets(),
+            pins: 0,
+            resv,
+        })
+    }
+
+    /// Makes it live in SYSTEM, with no page, pin, holder, target or job.
+    pub(crate) fn make(&mut self)
+        ensures { IsReset (Some (new_buffer (length self.old.table))) self.old self.new }
+    {
+        self.alive = true;
+        self.mem = Mem::System;
+        self.spans.clear();
+        self.table.clear();
+        self.targets = no_targets();
+        self.pins = 0;
+        self.resv.clear();
+    }
+
+    /// Makes it dead.
+    pub(crate) fn kill(&mut self)
+        ensures { IsReset None self.old self.new }
+    {
+        self.alive = false;
+        self.pins = 0;
+        self.resv.clear();
+    }
+
+    /// Gives a page another place.
+    pub(crate) fn set_page(&mut self, page: u32, place: Loc)
+        ensures { IsChanged (with_loc page place) self.old self.new }
+    {
+        self.table.set(page, place);
+    }
+
+    /// Gives all frames back.
+    pub(crate) fn drop_frames(&mut self)
+        ensures { IsChanged without_frames self.old self.new }
+    {
+        self.table.drop_frames();
+    }
+
+    /// Puts another target, or none, in a memory type.
+    pub(crate) fn set_target(&mut self, mem: Mem, spans: Option<Spans>)
+        ensures { IsChanged (with_spans mem spans) self.old self.new }
+    {
+        set_target(&mut self.targets, mem, spans);
+    }
+
+    /// Where it is in TT, it is to go to SYSTEM.
+    pub(crate) fn leave_tt(&mut self, alloc: Global)
+        ensures { IsChanged (λ x. leaves_tt x.mem x) self.old self.new }
+    {
+        if let Mem::Tt = self.mem {
+            self.targets.system = Some(Spans::new(alloc));
+        }
+    }
+
+    /// Goes from SYSTEM to TT.
+    pub(crate) fn bind(&mut self)
+        ensures { IsChanged bound self.old self.new }
+    {
+        self.mem = Mem::Tt;
+        settle(&mut self.spans, &mut self.targets.tt);
+    }
+
+    /// Goes from TT to SYSTEM.
+    pub(crate) fn unbind(&mut self)
+        ensures { IsChanged unbound self.old self.new }
+    {
+        self.mem = Mem::System;
+        self.spans.clear();
+        self.targets.system = None;
+    }
+
+    /// Goes to its target in a memory type.
+    pub(crate) fn carry(&mut self, mem: Mem)
+        ensures { IsChanged (carried mem) self.old self.new }
+    {
+        leave_frames(self.mem, &mut self.table);
+        settle_in(&mut self.spans, &mut self.targets, mem);
+        self.mem = mem;
+    }
+
+    /// Is held by a ticket.
+    pub(crate) fn reserve(&mut self, stamp: Stamp)
+        requires { self.old.resv.holder ≡ None }
+        ensures { IsRegripped (with_holder (Some stamp)) self.old self.new }
+    {
+        let _taken = self.resv.try_take(stamp);
+    }
+
+    /// Is held by nobody.
+    pub(crate) fn release(&mut self)
+        ensures { IsRegripped (with_holder None) self.old self.new }
+    {
+        if self.resv.holder().is_some() {
+            self.resv.release();
+        }
+    }
+
+    /// Is pinned once more.
+    pub(crate) fn pin(&mut self)
+        requires { self.old.pins < 255 }
+        ensures { IsRegripped pinned_more self.old self.new }
+    {
+        self.pins += 1;
+    }
+
+    /// Is pinned once less, if it is pinned.
+    pub(crate) fn unpin(&mut self)
+        ensures { IsRegripped pinned_less self.old self.new }
+    {
+        self.pins = self.pins.saturating_sub(1);
+    }
+
+    /// Is used by one job more.
+    pub(crate) fn add_fence(&mut self, job: JobId, usage: Usage)
+        requires known { job.ctx < length self.old.resv.fences }
+        requires num { 0 < job.num }
+        ensures { IsUsed job usage self.old self.new }
+    {
+        self.resv.add_fence(job, usage);
+    }
+}

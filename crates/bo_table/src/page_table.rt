@@ -1,0 +1,222 @@
+#![tactic(auto)]
+
+ghost use Rattle.std.specs.Prelude.{◌≡◌, ◌+◌, ◌<◌, ◌≤◌, ◌^◌, IfOk, length, map, not, position, replicate, slice_set};
+ghost use Rattle.std.specs.List.{filter_map, list_all, list_any};
+ghost use Rattle.ttm_base.specs.declared.Loc.TheVariants as loc;
+ghost use Rattle.journal_model.specs.ApplyPages.{without_frame};
+ghost use Rattle.journal_model.specs.Places.{frame_of};
+ghost use Rattle.journal_model.specs.Places as words;
+ghost use Rattle.bo_table.specs.Pages.{frame_count, first_unfilled};
+
+use journal_model::Table;
+use std::alloc::Global;
+use std::marker::Model;
+use ttm_base::{Loc, NoMemory};
+
+/// It is a frame.
+fn is_frame(place: Loc) -> bool
+    ensures { result ≡ words.is_frame place }
+{
+    matches!(place, Loc::Frame(_))
+}
+
+/// The place of a page once its frame was given back.
+fn without_its_frame(place: Loc) -> Loc
+    ensures { result ≡ without_frame place }
+{
+    match place {
+        Loc::Frame(_) | Loc::Zero => Loc::Zero,
+        Loc::Slot(slot) => Loc::Slot(slot),
+    }
+}
+
+/// So many pages that are Zero.
+fn zero_pages(alloc: Global, pages: u32) -> Result<Table, NoMemory>
+    ensures { IfOk result (λ places. places ≡ replicate pages loc.Zero) }
+{
+    let mut places = Table::new(alloc);
+    for _page in 0..pages {
+        places.push(Loc::Zero)?;
+    }
+    Ok(places)
+}
+
+/// Takes the frames out of a page table.
+fn drop_frames(places: &mut Table)
+    ensures { places.new ≡ map without_frame places.old }
+{
+    for i in 0..places.len() {
+        places.set(i, without_its_frame(places.at(i)));
+    }
+}
+
+/// Makes each page Zero.
+fn clear(places: &mut Table)
+    ensures { places.new ≡ map (λ l. loc.Zero) places.old }
+{
+    for i in 0..places.len() {
+        places.set(i, Loc::Zero);
+    }
+}
+
+/// How many pages have a frame once this page has this place.
+#[tactic(auto, using(crate::proofs::PageLaws::count_set))]
+fn frames_after(places: &Table, frames: u32, page: u32, place: Loc) -> u32
+    requires count { frames ≡ frame_count places.now }
+    requires page { page < length places.now }
+    requires short { length places.now < 2 ^ 32 }
+    ensures { result ≡ frame_count (slice_set places.now page place) }
+{
+    let had = is_frame(places.at(page as usize));
+    match (had, is_frame(place)) {
+        (true, false) => frames - 1,
+        (false, true) => frames + 1,
+        (true, true) | (false, false) => frames,
+    }
+}
+
+/// The position of the first page without a frame.
+fn first_empty(places: &[Loc]) -> Option<usize>
+    ensures { result ≡ position (λ l. not (words.is_frame l)) places.now }
+{
+    places.iter().position(|place| !is_frame(*place))
+}
+
+/// How many pages at the front have frames.
+#[tactic(auto, using(crate::proofs::PageLaws::first_is_some, crate::proofs::PageLaws::first_is_none, crate::proofs::PageLaws::first_within))]
+fn filled_front(places: &[Loc]) -> usize
+    ensures value { result ≡ first_unfilled places.now }
+    ensures within { result ≤ length places.now }
+{
+    match first_empty(places) {
+        Some(first) => first,
+        None => places.len(),
+    }
+}
+
+/// The first page without a frame once this page has this place. Only where the first one gets a frame it looks at others, up to the next
+/// one without.
+#[tactic(auto, using(crate::proofs::PageLaws::first_lower, crate::proofs::PageLaws::first_other, crate::proofs::PageLaws::first_filled))]
+fn first_after(places: &Table, first: u32, page: u32, place: Loc) -> u32
+    requires first { first ≡ first_unfilled places.now }
+    requires page { page < length places.now }
+    requires short { length places.now < 2 ^ 32 }
+    ensures { result ≡ first_unfilled (slice_set places.now page place) }
+{
+    if !is_frame(place) {
+        first.min(page)
+    } else if page == first {
+        let next = page as usize + 1;
+        (next + filled_front(&places.items()[next..])) as u32
+    } else {
+        first
+    }
+}
+
+/// Where the pages of a buffer stand, by number (ttm_tt). It keeps how many of them have a frame, and the first one that has none, so that to
+/// fill a buffer looks at each page once.
+#[derive(Drop)]
+pub struct PageTable {
+    places: Table,
+    frames: u32,
+    first: u32,
+}
+
+impl Model for PageTable {
+    ghost use Rattle.std.specs.Prelude.{List};
+    ghost use Rattle.ttm_base.specs.declared.Loc.{Loc as Place};
+    ghost use Rattle.bo_table.specs.Pages.{IsCounted};
+
+    ghost Value = { List Place };
+
+    ghost view = { λ t. t.places };
+
+    ghost invariant = { λ t. IsCounted t.places t.frames t.first };
+}
+
+impl PageTable {
+    /// So many pages that are Zero.
+    #[tactic(auto, using(crate::proofs::PageLaws::zeros_counted))]
+    pub(crate) fn new(alloc: Global, pages: u32) -> Result<PageTable, NoMemory>
+        ensures { IfOk result (λ t. t ≡ replicate pages loc.Zero) }
+    {
+        let places = zero_pages(alloc, pages)?;
+        Ok(PageTable {
+            places,
+            frames: 0,
+            first: 0,
+        })
+    }
+
+    /// The places of all pages.
+    pub fn places(&self) -> &[Loc]
+        ensures { result.now ≡ self.now }
+    {
+        self.places.items()
+    }
+
+    /// How many pages have a frame, in constant time.
+    pub fn frames(&self) -> u32
+        ensures { result ≡ length (filter_map frame_of self.now) }
+    {
+        self.frames
+    }
+
+    /// The page that is filled next: the first one without a frame, in constant time.
+    pub fn first_unfilled(&self) -> Option<u32>
+        ensures { result ≡ position (λ l. not (words.is_frame l)) self.now }
+    {
+        if (self.first as usize) < self.places.len() {
+            Some(self.first)
+        } else {
+            None
+        }
+    }
+
+    /// Some page has a frame. In constant time.
+    #[tactic(auto, using(crate::proofs::FilledLaws::some_frame))]
+    pub fn has_frame(&self) -> bool
+        ensures { result ≡ list_any words.is_frame self.now }
+    {
+        0 < self.frames
+    }
+
+    /// Each page has a frame. In constant time.
+    pub fn has_all_frames(&self) -> bool
+        ensures { result ≡ list_all words.is_frame self.now }
+    {
+        self.first_unfilled().is_none()
+    }
+
+    /// Gives a page another place, if the page is there.
+    #[tactic(auto, using(crate::proofs::Setting::set_beyond, crate::proofs::Setting::length_set))]
+    pub(crate) fn set(&mut self, page: u32, place: Loc)
+        ensures { self.new ≡ slice_set self.old page place }
+    {
+        if (page as usize) < self.places.len() {
+            self.frames = frames_after(&self.places, self.frames, page, place);
+            self.first = first_after(&self.places, self.first, page, place);
+            self.places.set(page as usize, place);
+        }
+    }
+
+    /// Gives all frames back.
+    #[tactic(auto, using(crate::proofs::PageLaws::dropped_counted))]
+    pub(crate) fn drop_frames(&mut self)
+        ensures { self.new ≡ map without_frame self.old }
+    {
+        drop_frames(&mut self.places);
+        self.frames = 0;
+        self.first = 0;
+    }
+
+    /// Makes each page Zero.
+    #[tactic(auto, using(crate::proofs::PageLaws::cleared_counted))]
+    pub(crate) fn clear(&mut self)
+        ensures { self.new ≡ map (λ l. loc.Zero) self.old }
+    {
+        clear(&mut self.places);
+        self.frames = 0;
+        self.first = 0;
+    }
+}

@@ -1,0 +1,5 @@
+//! Tests of the device's parts behind its journal: the table of buffers.
+#![tactic(auto)]
+
+#[cfg(test)]
+mod buffers;
