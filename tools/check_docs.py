@@ -1,0 +1,256 @@
+#!/usr/bin/env python3
+"""Checks that what documents name exists. Takes a second; needs Python alone, and no build.
+
+usage: tools/check_docs.py [DOCUMENT ...]      without documents: README.md, docs/*.md and crates/*/README.md
+       tools/check_docs.py --closure MODULE    the definition files that MODULE rests on, as rows of a table
+
+In backquotes, outside of blocks of code, are checked:
+
+  `crates/x/src/y.rt`, `docs/..`      a file or folder from the top; `*` stands for any part, and so does a part in
+                                      capitals (`crates/NAME/specs`)
+  `crate::name`, `crate::Type::name`  a crate of the repository (or a library in crates.txt, which isn't looked into) and in it
+                                      a function, type, variant, field, constant or re-export; modules may stand between
+  `Type::name`, `module::name`        the same in any crate; `Type.name` too
+  `crate/Module.name`, `Module.name`  a definition (abbrev, record, data, field, lemma) of crates/crate/specs/Module.antt or of
+                                      its proofs/, without a crate of any; `Module.antt` is the file alone
+  `name_of_it`, `NameOfIt`            a name of anything above, of a clause, a crate, an edit, an example, or a word in a source
+  `name()`, `struct name`             the kernel's, which isn't checked
+
+Links `[..](path)` are checked from the document's folder, with their `#heading`. In a row of a table that begins with a backquoted
+`crates/..` file and then a number, the number is the file's lines without imports, comments and blanks; in a row that begins with
+`sum`, it is the sum of such rows above in the same table.
+
+Each fault is a line `document:line: what`; the exit status is 1 if there is one.
+"""
+import collections
+import glob
+import pathlib
+import re
+import sys
+
+TOP = pathlib.Path(__file__).resolve().parent.parent
+FOLDERS = ("crates/", "docs/", "tools/", "examples/", ".ci/", "specs/", "proofs/", "must-fail/")
+KERNEL = ("ttm_", "drm_", "dma_", "ww_", "amdgpu_", "nouveau_", "radeon_")
+WORD = r"[A-Za-z_][A-Za-z0-9_]*"
+
+
+class Index:
+    """The names in crates: by crate those at the top of it, those inside of its types, and its modules of definitions."""
+
+    def __init__(self):
+        self.items = collections.defaultdict(set)
+        self.inner = collections.defaultdict(lambda: collections.defaultdict(set))
+        self.modules = collections.defaultdict(set)
+        self.specs = collections.defaultdict(lambda: collections.defaultdict(set))
+        self.words = set()
+        self.crates = {path.name for path in (TOP / "crates").iterdir() if path.is_dir()}
+        self.libraries = {"std"}
+        for line in (TOP / "crates.txt").read_text().splitlines():
+            if ":" in line and not line.startswith("#"):
+                self.libraries.update(line.split(":", 1)[1].split())
+        self.libraries -= self.crates
+        for crate in self.crates:
+            for path in sorted((TOP / "crates" / crate).glob("src/**/*.rt")):
+                self.read_source(crate, path)
+            for folder in ("specs", "proofs"):
+                for path in sorted((TOP / "crates" / crate).glob(f"{folder}/**/*.antt")):
+                    self.read_definitions(crate, path)
+            for path in (TOP / "crates" / crate).glob("must-fail/*"):
+                self.words.add(path.stem)
+        self.words |= self.crates | self.libraries | {path.stem for path in (TOP / "examples").iterdir()}
+
+    def read_source(self, crate, path):
+        if path.stem not in ("lib", "main"):
+            self.modules[crate].add(path.stem)
+        owner = None
+        for line in path.read_text().splitlines():
+            self.words.update(re.findall(WORD, line))
+            opened = re.match(r"(?:pub(?:\([a-z]+\))? )?(struct|enum|trait|union) (" + WORD + ")", line)
+            implemented = re.match(r"(?:unsafe )?impl(?:<.*?>)? (?:[^{]*? for )?&?(?:mut )?(" + WORD + ")", line)
+            named = re.match(r"(\s*)(?:pub(?:\([a-z]+\))? )?(?:unsafe )?(?:fn|type|const|static|mod|ghost) (" + WORD + ")", line)
+            if opened:
+                owner = opened[2]
+                self.items[crate].add(owner)
+            elif implemented:
+                owner = implemented[1]
+            elif line.startswith("}"):
+                owner = None
+            if named and named[1] and owner:
+                self.inner[crate][owner].add(named[2])
+            elif named:
+                self.items[crate].add(named[2])
+            elif owner:
+                inside = re.match(r" {4}(?:pub(?:\([a-z]+\))? )?(" + WORD + r")\s*[:,({]", line)
+                if inside:
+                    self.inner[crate][owner].add(inside[1])
+        for names in re.findall(r"^pub use ([^;]*);", path.read_text(), re.M):
+            self.items[crate].update(re.findall(WORD, names))
+
+    def read_definitions(self, crate, path):
+        names = self.specs[crate][path.stem]
+        for line in path.read_text().splitlines():
+            self.words.update(re.findall(WORD, line.split("--")[0]))
+            named = re.match(r"\s*(?:abbrev )?(?:pub )?(?:record |data |abbrev )?(" + WORD + r")\b.*:", line)
+            if named and not line.startswith("use "):
+                names.add(named[1])
+
+    def has_definition(self, crate, module, name):
+        return module in self.specs[crate] and (name is None or name in self.specs[crate][module])
+
+    def has_path(self, crate, parts):
+        """The parts behind the crate: modules, then an item, or a type and what is inside of it."""
+        parts = list(parts)
+        while len(parts) > 1 and parts[0] in self.modules[crate] | {"specs"}:
+            parts.pop(0)
+        if len(parts) == 1:
+            inside = any(parts[0] in names for names in self.inner[crate].values())
+            return parts[0] in self.items[crate] | self.modules[crate] or (inside and parts[0].islower())
+        return len(parts) == 2 and parts[1] in self.inner[crate][parts[0]]
+
+    def fault_of_definition(self, crate, module, name):
+        crates = [crate] if crate else sorted(self.crates)
+        if any(self.has_definition(c, module, name) for c in crates):
+            return None
+        if name and any(self.has_path(c, [module, name]) for c in crates):
+            return None
+        where = f"crates/{crate or '*'}/specs/{module}.antt"
+        return f"no {name} in {where}" if name else f"no {where}"
+
+    def fault_of_path(self, parts):
+        if parts[0] in self.libraries:
+            return None
+        if parts[0] in self.crates:
+            return None if self.has_path(parts[0], parts[1:]) else f"no {'::'.join(parts[1:])} in crates/{parts[0]}/src"
+        if any(self.has_path(crate, parts) for crate in sorted(self.crates)):
+            return None
+        return f"no crate, module or type {parts[0]} with {'::'.join(parts[1:])}"
+
+
+def code_lines(path):
+    """How many lines a file has without imports, comments and blanks."""
+    count, importing = 0, False
+    for line in path.read_text().splitlines():
+        text = line.strip()
+        if re.match(r"(ghost |pub )*use ", text):
+            importing = path.suffix == ".rt" and not text.endswith(";")
+        elif importing:
+            importing = not text.endswith(";")
+        elif text and not text.startswith(("--", "//")):
+            count += 1
+    return count
+
+
+def fault_of_file(text):
+    if text.startswith(("specs/", "proofs/", "must-fail/")):
+        text = "crates/*/" + text
+    pattern = "/".join("*" if part.isupper() and part.isalpha() else part for part in text.split("/"))
+    return None if glob.glob(str(TOP / pattern.rstrip("/"))) else f"no file {text}"
+
+
+def fault_of_word(index, text):
+    if text.endswith("()") or " " in text or not text:
+        return None
+    if text.startswith(FOLDERS):
+        return fault_of_file(text.split(":")[0])
+    if re.fullmatch(rf"{WORD}(::{WORD})+", text):
+        return index.fault_of_path(text.split("::"))
+    definition = re.fullmatch(rf"(?:([a-z_0-9]+)/)?({WORD})\.({WORD})", text)
+    if definition and (definition[1] or definition[2][0].isupper()):
+        crate, module, name = definition.groups()
+        if crate and crate not in index.crates:
+            return f"no crate {crate}"
+        return index.fault_of_definition(crate, module, None if name == "antt" else name)
+    if re.fullmatch(r"[a-z]+[a-z0-9]*(_[a-z0-9]+)+|[A-Z][a-z0-9]+([A-Z][a-z0-9]*)+", text):
+        if text not in index.words and not text.startswith(KERNEL):
+            return f"nothing has the name {text}"
+    return None
+
+
+def headings_of(path):
+    found = re.findall(r"^#+ (.*)$", path.read_text(), re.M)
+    return {re.sub(r"[^a-z0-9_ -]", "", head.lower()).replace(" ", "-") for head in found}
+
+
+def fault_of_link(document, target):
+    if re.match(r"[a-z]+:", target):
+        return None
+    path, _, heading = target.partition("#")
+    file = (document.parent / path).resolve() if path else document
+    if not file.exists():
+        return f"no file {target}"
+    if heading and file.suffix == ".md" and heading not in headings_of(file):
+        return f"no heading {heading} in {path or document.name}"
+    return None
+
+
+def faults_of(index, document):
+    fenced, total = False, 0
+    for number, line in enumerate(document.read_text().splitlines(), 1):
+        if line.startswith("```"):
+            fenced = not fenced
+        if fenced or line.startswith(("```", "    ")):
+            continue
+        for text in re.findall(r"`([^`]+)`", line):
+            yield number, fault_of_word(index, text)
+        for target in re.findall(r"\]\(([^)]+)\)", line):
+            yield number, fault_of_link(document, target)
+        sized = re.match(r"\| `(crates/[^`]+)` \| (\d+) \|", line)
+        summed = re.match(r"\| sum[^|]*\| (\d+) \|", line)
+        if not line.startswith("|"):
+            total = 0
+        elif sized and (TOP / sized[1]).is_file():
+            total += int(sized[2])
+            lines = code_lines(TOP / sized[1])
+            yield number, None if lines == int(sized[2]) else f"{sized[1]} has {lines} lines, not {sized[2]}"
+        elif summed:
+            yield number, None if total == int(summed[1]) else f"the rows above have {total} lines, not {summed[1]}"
+            total = 0
+
+
+def closure_of(name):
+    """The files of definitions, and of declared types, that a file imports, and those that they import; the deepest first."""
+    found = []
+
+    def visit(path):
+        if path in found or not path.is_file():
+            return
+        text = path.read_text()
+        mark = len(found)
+        found.append(None)
+        for crate, rest in re.findall(r"^(?:pub )?use Rattle\.([a-z_]+)\.specs\.([A-Za-z_.]+?)(?:\.\{| as |$)", text, re.M):
+            parts = rest.split(".")
+            if parts[0] == "declared":
+                folder = TOP / "crates" / crate / "src"
+                visit(folder.joinpath(*parts[1:-1]).with_suffix(".rt") if len(parts) > 2 else folder / "lib.rt")
+            else:
+                visit(TOP / "crates" / crate / "specs" / f"{parts[0]}.antt")
+        found.pop(mark)
+        found.append(path)
+
+    visit(TOP / "crates" / name if "/" in name else TOP / "crates" / "journal_model" / "specs" / f"{name}.antt")
+    return found
+
+
+def main():
+    words = sys.argv[1:]
+    if words and words[0] == "--closure":
+        paths = closure_of(words[1])
+        for path in paths:
+            print(f"| `{path.relative_to(TOP)}` | {code_lines(path)} | |")
+        print(f"| sum, {len(paths)} files | {sum(map(code_lines, paths))} | |")
+        return
+    documents = [pathlib.Path(word).resolve() for word in words] or [
+        TOP / "README.md", *sorted((TOP / "docs").glob("*.md")), *sorted((TOP / "crates").glob("*/README.md"))]
+    index = Index()
+    faults = 0
+    for document in documents:
+        for number, fault in faults_of(index, document):
+            if fault:
+                faults += 1
+                print(f"{document.relative_to(TOP)}:{number}: {fault}")
+    print(f"{len(documents)} documents, {faults} faults")
+    sys.exit(1 if faults else 0)
+
+
+if __name__ == "__main__":
+    main()
