@@ -1,7 +1,8 @@
 #!/usr/bin/env python3
 """Checks that what documents name exists. Takes a second; needs Python alone, and no build.
 
-usage: tools/check_docs.py [DOCUMENT ...]      without documents: README.md, docs/*.md and crates/*/README.md
+usage: tools/check_docs.py [DOCUMENT ...]      without documents: README.md, docs/*.md and crates/*/README.md, and that each
+                                               crate stands in crates.txt and in docs/ARCHITECTURE.md
        tools/check_docs.py --closure MODULE    the definition files that MODULE rests on, as rows of a table
 
 In backquotes, outside of blocks of code, are checked:
@@ -231,6 +232,16 @@ def closure_of(name):
     return found
 
 
+def missing_crates(index):
+    """Crates that the list of crates or the page about them doesn't have."""
+    listed = set(re.findall(rf"^({WORD})\b[^#\n]*:", (TOP / "crates.txt").read_text(), re.M))
+    told = set(re.findall(rf"`({WORD})`", (TOP / "docs" / "ARCHITECTURE.md").read_text()))
+    for crate in sorted(index.crates):
+        for name, names in (("crates.txt", listed), ("docs/ARCHITECTURE.md", told)):
+            if crate not in names:
+                yield f"{name}:1: it doesn't have the crate {crate}"
+
+
 def main():
     words = sys.argv[1:]
     if words and words[0] == "--closure":
@@ -243,6 +254,9 @@ def main():
         TOP / "README.md", *sorted((TOP / "docs").glob("*.md")), *sorted((TOP / "crates").glob("*/README.md"))]
     index = Index()
     faults = 0
+    for fault in [] if words else missing_crates(index):
+        faults += 1
+        print(fault)
     for document in documents:
         for number, fault in faults_of(index, document):
             if fault:
