@@ -15,6 +15,7 @@ In backquotes, outside of blocks of code, are checked:
   `crate/Module.name`, `Module.name`  a definition (abbrev, record, data, field, lemma) of crates/crate/specs/Module.antt or of
                                       its proofs/, without a crate of any; `Module.antt` is the file alone
   `name_of_it`, `NameOfIt`            a name of anything above, of a clause, a crate, an edit, an example, or a word in a source
+  `crate::f` (one, other)             a function with clauses of these names
   `name()`, `struct name`             the kernel's, which isn't checked
 
 Links `[..](path)` are checked from the document's folder, with their `#heading`. In a row of a table that begins with a backquoted
@@ -43,6 +44,7 @@ class Index:
         self.inner = collections.defaultdict(lambda: collections.defaultdict(set))
         self.modules = collections.defaultdict(set)
         self.specs = collections.defaultdict(lambda: collections.defaultdict(set))
+        self.clauses = collections.defaultdict(set)
         self.words = set()
         self.crates = {path.name for path in (TOP / "crates").iterdir() if path.is_dir()}
         self.libraries = {"std"}
@@ -63,8 +65,11 @@ class Index:
     def read_source(self, crate, path):
         if path.stem not in ("lib", "main"):
             self.modules[crate].add(path.stem)
-        owner = None
+        owner = function = None
         for line in path.read_text().splitlines():
+            clause = re.match(r"\s*(?:ensures|requires)\*? (" + WORD + r") \{", line)
+            if clause:
+                self.clauses[function].add(clause[1])
             self.words.update(re.findall(WORD, line))
             opened = re.match(r"(?:pub(?:\([a-z]+\))? )?(struct|enum|trait|union) (" + WORD + ")", line)
             implemented = re.match(r"(?:unsafe )?impl(?:<.*?>)? (?:[^{]*? for )?&?(?:mut )?(" + WORD + ")", line)
@@ -76,6 +81,8 @@ class Index:
                 owner = implemented[1]
             elif line.startswith("}"):
                 owner = None
+            if named and re.search(r"\bfn\b", line):
+                function = named[2]
             if named and named[1] and owner:
                 self.inner[crate][owner].add(named[2])
             elif named:
@@ -167,6 +174,13 @@ def fault_of_word(index, text):
     return None
 
 
+def faults_of_clauses(index, line):
+    for function, names in re.findall(rf"`(?:{WORD}::)+({WORD})` \(({WORD}(?:, {WORD})*)\)", line):
+        for name in names.split(", "):
+            if name not in index.clauses[function]:
+                yield f"{function} has no clause {name}"
+
+
 def headings_of(path):
     found = re.findall(r"^#+ (.*)$", path.read_text(), re.M)
     return {re.sub(r"[^a-z0-9_ -]", "", head.lower()).replace(" ", "-") for head in found}
@@ -193,6 +207,8 @@ def faults_of(index, document):
             continue
         for text in re.findall(r"`([^`]+)`", line):
             yield number, fault_of_word(index, text)
+        for fault in faults_of_clauses(index, line):
+            yield number, fault
         for target in re.findall(r"\]\(([^)]+)\)", line):
             yield number, fault_of_link(document, target)
         sized = re.match(r"\| `(crates/[^`]+)` \| (\d+) \|", line)
