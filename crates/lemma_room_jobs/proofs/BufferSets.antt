@@ -46,6 +46,7 @@ empty_set s = replicate (length s.last_jobs) nothing_kept
 abbrev pub move_id : ℕ → JobId
 move_id n = record { ctx = 0; num = n }
 
+-- the job, with all that the buffer waits for and a copy of each page
 abbrev pub move_job : State → BufId → Mem → ℕ → Job
 move_job s b mem n = record { id = move_id n; waits = unfinished s.core (jobs_before_write (buffer_in s.core b)); packets = move_packets (buffer_in s.core b) mem; ran = 0; finished = false }
 

@@ -32,6 +32,7 @@ ended j = record j { finished = true }
 abbrev pub job_id : ℕ → ℕ → JobId
 job_id e n = record { ctx = e; num = n }
 
+-- a job of the context that isn't done
 abbrev pub is_left_of : ℕ → Job → Bool
 is_left_of ctx j = (j.id.ctx == ctx) && not j.finished
 
@@ -40,10 +41,11 @@ pub record KeepsJobs (f : Job → Job) : Type 0 where
   pub names : (x : Job) → (f x).id ≡ x.id
   pub done : (x : Job) → x.finished ≡ true → (f x).finished ≡ true
 
--- so do both
+-- a packet does
 pub runs_keep : KeepsJobs after_run
 runs_keep = record { names = λ x. refl; done = λ x h. h }
 
+-- its end does
 pub ends_keep : KeepsJobs ended
 ends_keep = record { names = λ x. refl; done = λ x h. refl }
 
@@ -92,6 +94,7 @@ module _ (f : Job → Job) (keeps : KeepsJobs f) (e n : ℕ) where
   elsewhere : (ctx : ℕ) (x : Job) → (ctx ≡ e → ⊥) → same_job (job_id e n) x.id ≡ true → (x.id.ctx == ctx) ≡ false
   elsewhere ctx x o h = grind (arith, nat_tests)
 
+  -- the unfinished jobs of other contexts stay
   pub other_kept : (ctx : ℕ) → (ctx ≡ e → ⊥) → (jobs : List Job) → unfinished_of ctx (changed_job f (job_id e n) jobs) ≡ unfinished_of ctx jobs
   other_kept ctx o [] = refl
   other_kept ctx o (x ∷ jobs) = by (other_kept ctx o jobs) (same_job (job_id e n) x.id) refl (is_left_of ctx x) refl
@@ -176,6 +179,7 @@ module _ (f : Job → Job) (keeps : KeepsJobs f) (e n : ℕ) where
       let same = ap length (drawn_kept ctx jobs) in
       omega (arith, h, old, new, same)
 
+  -- in other contexts as many are done as before
   pub done_elsewhere : (ctx : ℕ) → (ctx ≡ e → ⊥) → (jobs : List Job) → done_of ctx (changed_job f (job_id e n) jobs) ≡ done_of ctx jobs
   done_elsewhere ctx o jobs =
       let same = ap (λ js. length (numbers_of js)) (other_kept ctx o jobs) in
@@ -193,6 +197,7 @@ module _ (jobs : List Job) (last : List ℕ) (rows : AreInLine last jobs) (e n :
   abbrev pub jobs_run : List Job
   jobs_run = changed_job after_run (job_id e n) jobs
 
+  -- the head has run one packet more, and the others stay
   pub left_run : unfinished_of e jobs_run ≡ after_run j ∷ drop 1 (unfinished_of e jobs)
   left_run = own_after after_run runs_keep e n jobs last rows j head ∙ ap (λ q. if q then after_run j ∷ drop 1 (unfinished_of e jobs) else drop 1 (unfinished_of e jobs)) head_left
 
@@ -248,6 +253,7 @@ module _ (jobs : List Job) (last : List ℕ) (rows : AreInLine last jobs) (e n :
   abbrev pub jobs_end : List Job
   jobs_end = changed_job ended (job_id e n) jobs
 
+  -- the head is gone, and the others stay
   pub left_end : unfinished_of e jobs_end ≡ drop 1 (unfinished_of e jobs)
   left_end = own_after ended ends_keep e n jobs last rows j head ∙ ap (λ q. if q then ended j ∷ drop 1 (unfinished_of e jobs) else drop 1 (unfinished_of e jobs)) (away (j.id.ctx == e))
 
@@ -287,6 +293,7 @@ module _ (jobs : List Job) (last : List ℕ) (rows : AreInLine last jobs) (e n :
   pub line_known : (line : List Progress) → IsTimeline jobs last line → e < length line
   line_known line h = rw h.contexts known
 
+  -- and the timeline has one that isn't done
   pub line_some : (line : List Progress) → IsTimeline jobs last line → (progress_of line e).done < (progress_of line e).emitted
   line_some line h =
       let fewer = without (unfinished_of e jobs) head.first in

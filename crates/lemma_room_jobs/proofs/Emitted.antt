@@ -25,6 +25,7 @@ use Rattle.lemma_room_sets.proofs.Later.{IsLater, waits_later, ring_later}
 same_parts : (i k : JobId) → i.ctx ≡ k.ctx → i.num ≡ k.num → i ≡ k
 same_parts i k x y = ap (λ c. record { ctx = c; num = i.num }) x ∙ ap (λ n. record { ctx = k.ctx; num = n }) y
 
+-- jobs of one name are one
 pub same_is : (i k : JobId) → same_job i k ≡ true → i ≡ k
 same_is i k h = same_parts i k (grind (arith, nat_tests)) (grind (arith, nat_tests))
 
@@ -60,10 +61,11 @@ length_more [] k = refl
 length_more (x ∷ xs) k = let r = length_more xs k in omega (arith, r)
 
 module _ (jobs : List Job) (last : List ℕ) (k : Job) (known : k.id.ctx < length last) (num : k.id.num ≡ last_number last k.id.ctx + 1) (at_work : k.finished ≡ false) where
-  -- the jobs behind it, and the last numbers
+  -- the jobs behind it
   abbrev pub jobs_more : List Job
   jobs_more = jobs ++ k ∷ []
 
+  -- the last numbers behind it
   abbrev pub last_more : List ℕ
   last_more = slice_set last k.id.ctx k.id.num
 

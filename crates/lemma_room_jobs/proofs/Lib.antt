@@ -6,6 +6,5 @@ pub mod First
 pub mod LegalJobs
 pub mod Packets
 pub mod Tied
-pub mod Stays
 pub mod Armed
 pub mod BufferSets

@@ -169,6 +169,7 @@ module _ (script : Script) (c : Core) (bytes : PageBytes) (s : Stores) (t : AreS
 
   -- ---- what it shows
 
+  -- over the stores it shows what it shows over the bytes of the journal
   pub shows_same : (q : Packet) → shown_by q s ≡ probe_piece (aperture c) bytes q
   shows_same q = ap (λ a. probe_piece a (bytes_of s) q) aperture_is ∙ probe_agree (aperture c) (bytes_of s) bytes stores_agree q
 

@@ -3,3 +3,4 @@ pub mod Later
 pub mod Needs
 pub mod Sets
 pub mod GhostSteps
+pub mod Stays

@@ -6,19 +6,23 @@ use Rattle.std.proofs.lemmas.Bool.{and_parts}
 
 -- ---- tests
 
+-- both hold
 pub both : (a b : Bool) → a ≡ true → b ≡ true → (a && b) ≡ true
 both a b p q = ap₂ (λ x y. x && y) p q
 
+-- one of two holds, whichever held before
 pub either : (a b c d : Bool) → (a || b) ≡ true → (a ≡ true → c ≡ true) → (b ≡ true → d ≡ true) → (c || d) ≡ true
 either true b c d h f g = ap (λ x. x || d) (f refl)
 either false b true d h f g = refl
 either false b false d h f g = g h
 
 module _ {X : Type 0} (p : X → Bool) where
+  -- all of two lists pass
   pub all_append : (xs ys : List X) → list_all p xs ≡ true → list_all p ys ≡ true → list_all p (xs ++ ys) ≡ true
   all_append [] ys h k = k
   all_append (x ∷ xs) ys h k = let r = and_parts (p x) (list_all p xs) h in both (p x) (list_all p (xs ++ ys)) r.0 (all_append xs ys r.1 k)
 
+  -- all that are left of those that pass do
   pub all_filter : (q : X → Bool) (xs : List X) → list_all p xs ≡ true → list_all p (filter q xs) ≡ true
   all_filter q [] h = h
   all_filter q (x ∷ xs) h = by (all_filter q xs (and_parts (p x) (list_all p xs) h).1) (and_parts (p x) (list_all p xs) h).0 (q x) refl
@@ -27,11 +31,13 @@ module _ {X : Type 0} (p : X → Bool) where
       by ih r true e = rw e (both (p x) (list_all p (filter q xs)) r ih)
       by ih r false e = rw e ih
 
+  -- each of those that pass does
   pub all_at : (xs : List X) (i : ℕ) (x : X) → list_all p xs ≡ true → slice_get xs i ≡ Some x → p x ≡ true
   all_at [] i x h e = cc
   all_at (y ∷ xs) zero x h e = let same : y ≡ x = cc in ap p (sym same) ∙ (and_parts (p y) (list_all p xs) h).0
   all_at (y ∷ xs) (suc i) x h e = all_at xs i x (and_parts (p y) (list_all p xs) h).1 e
 
+  -- all pass after one was set to one that passes
   pub all_set : (xs : List X) (i : ℕ) (y : X) → list_all p xs ≡ true → p y ≡ true → list_all p (slice_set xs i y) ≡ true
   all_set [] i y h e = h
   all_set (x ∷ xs) zero y h e = both (p y) (list_all p xs) e (and_parts (p x) (list_all p xs) h).1
@@ -39,6 +45,7 @@ module _ {X : Type 0} (p : X → Bool) where
 
   -- ---- filters
 
+  -- a filter of two lists is that of each
   pub filter_append : (xs ys : List X) → filter p (xs ++ ys) ≡ filter p xs ++ filter p ys
   filter_append [] ys = refl
   filter_append (x ∷ xs) ys = by (filter_append xs ys) (p x) refl
@@ -47,6 +54,7 @@ module _ {X : Type 0} (p : X → Bool) where
       by ih true e = rw e (ap (λ zs. x ∷ zs) ih)
       by ih false e = rw e ih
 
+  -- a filter twice is that once
   pub filter_again : (xs : List X) → filter p (filter p xs) ≡ filter p xs
   filter_again [] = refl
   filter_again (x ∷ xs) = by (filter_again xs) (p x) refl
@@ -69,6 +77,7 @@ module _ {X : Type 0} (p : X → Bool) where
   filter_all [] h = refl
   filter_all (x ∷ xs) h = let r = and_parts (p x) (list_all p xs) h in ap₂ (λ q ys. if q then x ∷ ys else ys) r.0 (filter_all xs r.1)
 
+  -- all but the first pass
   pub all_drop : (xs : List X) → list_all p xs ≡ true → list_all p (drop 1 xs) ≡ true
   all_drop [] h = h
   all_drop (x ∷ xs) h = (and_parts (p x) (list_all p xs) h).1
@@ -120,22 +129,26 @@ pub any_along : {X : Type 0} (g : X → X) (p q : X → Bool) → ((x : X) → p
 any_along g p q f [] h = h
 any_along g p q f (x ∷ xs) h = either (p (g x)) (list_any p (map g xs)) (q x) (list_any q xs) h (f x) (any_along g p q f xs)
 
+-- a map of two lists is that of each
 pub map_append : {X Y : Type 0} (f : X → Y) (xs ys : List X) → map f (xs ++ ys) ≡ map f xs ++ map f ys
 map_append f [] ys = refl
 map_append f (x ∷ xs) ys = ap (λ zs. f x ∷ zs) (map_append f xs ys)
 
 -- ---- one place that was set
 
+-- a map after one place was set
 pub map_set : {X Y : Type 0} (f : X → Y) (xs : List X) (i : ℕ) (y : X) → map f (slice_set xs i y) ≡ slice_set (map f xs) i (f y)
 map_set f [] i y = refl
 map_set f (x ∷ xs) zero y = refl
 map_set f (x ∷ xs) (suc i) y = ap (λ zs. f x ∷ zs) (map_set f xs i y)
 
+-- what a map has at a place
 pub get_map : {X Y : Type 0} (f : X → Y) (xs : List X) (i : ℕ) → slice_get (map f xs) i ≡ option_map f (slice_get xs i)
 get_map f [] i = refl
 get_map f (x ∷ xs) zero = refl
 get_map f (x ∷ xs) (suc i) = get_map f xs i
 
+-- as long as before
 pub length_set : {X : Type 0} (xs : List X) (i : ℕ) (y : X) → length (slice_set xs i y) ≡ length xs
 length_set [] i y = refl
 length_set (x ∷ xs) zero y = refl
@@ -161,6 +174,7 @@ at_other (x ∷ xs) (suc i) (suc k) v d h = at_other xs i k v d (λ f. h (ap suc
 abbrev pub there : {X : Type 0} → List (Option X) → ℕ → Option X
 there xs i = option_and_then (λ x. x) (slice_get xs i)
 
+-- what is there stands in the list
 pub is_there : {X : Type 0} (xs : List (Option X)) (i : ℕ) (x : X) → there xs i ≡ Some x → slice_get xs i ≡ Some (Some x)
 is_there [] i x h = cc
 is_there (o ∷ xs) zero x h = ap Some h

@@ -62,13 +62,15 @@ module _ (g : Buffer → Buffer) (keeps : KeepsPlaces g) where
   mapped_same (None ∷ xs) (suc i) = mapped_same xs i
   mapped_same (Some x ∷ xs) (suc i) = ap (λ ys. mapped_in x.mem x ++ ys) (mapped_same xs i)
 
-  -- the frames in tables, the slots in tables, and the mapped pages
+  -- the frames in tables
   pub frames_kept : (buffers : List (Option Buffer)) (b : BufId) → of_live frames_of 0 (changed g buffers b) ≡ of_live frames_of 0 buffers
   frames_kept buffers b = live_same frames_of g (λ x. ap (filter_map frame_of) (keeps.table x)) 0 buffers b.0
 
+  -- the slots in tables
   pub slots_kept : (buffers : List (Option Buffer)) (b : BufId) → of_live slots_of 0 (changed g buffers b) ≡ of_live slots_of 0 buffers
   slots_kept buffers b = live_same slots_of g (λ x. ap (filter_map slot_of) (keeps.table x)) 0 buffers b.0
 
+  -- the mapped pages
   pub maps_kept : (buffers : List (Option Buffer)) (b : BufId) → of_mapped (changed g buffers b) ≡ of_mapped buffers
   maps_kept buffers b = mapped_same buffers b.0
 
@@ -79,11 +81,14 @@ fold_same : {Y : Type 0} (see : List (Option Buffer) → Y) (job : JobId) (ops :
 fold_same see job ops h [] xs = refl
 fold_same see job ops h (b ∷ bs) xs = fold_same see job ops h bs (with_use job ops xs b) ∙ h xs b
 
+-- the frames in tables stay behind a job with operations
 pub frames_armed : (job : JobId) (ops : List Op) (bs : List BufId) (buffers : List (Option Buffer)) → of_live frames_of 0 (fold (with_use job ops) buffers bs) ≡ of_live frames_of 0 buffers
 frames_armed job ops bs buffers = fold_same (of_live frames_of 0) job ops (λ xs b. frames_kept (with_fence job (use_of ops b)) (fence_keeps job ops b) xs b) bs buffers
 
+-- the slots do
 pub slots_armed : (job : JobId) (ops : List Op) (bs : List BufId) (buffers : List (Option Buffer)) → of_live slots_of 0 (fold (with_use job ops) buffers bs) ≡ of_live slots_of 0 buffers
 slots_armed job ops bs buffers = fold_same (of_live slots_of 0) job ops (λ xs b. slots_kept (with_fence job (use_of ops b)) (fence_keeps job ops b) xs b) bs buffers
 
+-- the mapped pages do
 pub maps_armed : (job : JobId) (ops : List Op) (bs : List BufId) (buffers : List (Option Buffer)) → of_mapped (fold (with_use job ops) buffers bs) ≡ of_mapped buffers
 maps_armed job ops bs buffers = fold_same of_mapped job ops (λ xs b. maps_kept (with_fence job (use_of ops b)) (fence_keeps job ops b) xs b) bs buffers
