@@ -16,7 +16,7 @@ In backquotes, outside of blocks of code, are checked:
                                       its proofs/, without a crate of any; `Module.antt` is the file alone
   `name_of_it`, `NameOfIt`            a name of anything above, of a clause, a crate, an edit, an example, or a word in a source
   `crate::f` (one, other)             a function with clauses of these names
-  `name()`, `struct name`             the kernel's, which isn't checked
+  `name()`, `struct name`             the kernel's, which isn't checked; nor is a name that begins as one of KERNEL below
 
 Links `[..](path)` are checked from the document's folder, with their `#heading`. In a row of a table that begins with a backquoted
 `crates/..` file and then a number, the number is the file's lines without imports, comments and blanks; in a row that begins with
@@ -32,7 +32,8 @@ import sys
 
 TOP = pathlib.Path(__file__).resolve().parent.parent
 FOLDERS = ("crates/", "docs/", "tools/", "examples/", ".ci/", "specs/", "proofs/", "must-fail/")
-KERNEL = ("ttm_", "drm_", "dma_", "ww_", "amdgpu_", "nouveau_", "radeon_")
+KERNEL = ("ttm_", "drm_", "dma_", "ww_", "amdgpu_", "nouveau_", "radeon_", "reservation_ww_class", "swap_storage", "sg_table",
+          "evict_flags", "busy_placement", "no_wait_gpu", "force_space")
 WORD = r"[A-Za-z_][A-Za-z0-9_]*"
 
 
