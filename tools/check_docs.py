@@ -2,7 +2,8 @@
 """Checks that what documents name exists. Takes a second; needs Python alone, and no build.
 
 usage: tools/check_docs.py [DOCUMENT ...]      without documents: README.md, docs/*.md and crates/*/README.md, and that each
-                                               crate stands in crates.txt and in docs/ARCHITECTURE.md
+                                               crate stands in crates.txt and in docs/ARCHITECTURE.md, each law
+                                               (public function of crates/law_*) in docs/CLAIMS.md
        tools/check_docs.py --closure MODULE    the definition files that MODULE rests on, as rows of a table
 
 In backquotes, outside of blocks of code, are checked:
@@ -259,6 +260,16 @@ def missing_crates(index):
                 yield f"{name}:1: it doesn't have the crate {crate}"
 
 
+def missing_laws():
+    """Laws that the page of claims doesn't have."""
+    claims = (TOP / "docs" / "CLAIMS.md").read_text()
+    for path in sorted((TOP / "crates").glob("law_*/src/lib.rt")):
+        for name in re.findall(rf"^pub fn ({WORD})\(\)", path.read_text(), re.M):
+            law = f"{path.parts[-3]}::{name}"
+            if f"`{law}`" not in claims:
+                yield f"docs/CLAIMS.md:1: it doesn't have the law {law}"
+
+
 def main():
     words = sys.argv[1:]
     if words and words[0] == "--closure":
@@ -271,7 +282,7 @@ def main():
         TOP / "README.md", *sorted((TOP / "docs").glob("*.md")), *sorted((TOP / "crates").glob("*/README.md"))]
     index = Index()
     faults = 0
-    for fault in [] if words else missing_crates(index):
+    for fault in [] if words else [*missing_crates(index), *missing_laws()]:
         faults += 1
         print(fault)
     for document in documents:
