@@ -1,9 +1,12 @@
 #!/usr/bin/env python3
 """Checks that what documents name exists. Takes a second; needs Python alone, and no build.
 
-usage: tools/check_docs.py [DOCUMENT ...]      without documents: README.md, docs/*.md and crates/*/README.md, and that each
-                                               crate stands in crates.txt and in docs/ARCHITECTURE.md, each law
-                                               (public function of crates/law_*) in docs/CLAIMS.md
+usage: tools/check_docs.py [DOCUMENT ...]      without documents: README.md, docs/*.md and crates/*/README.md; that each
+                                               crate stands in crates.txt and in docs/ARCHITECTURE.md and has its
+                                               README.md, headed by its name, and each law (public function of
+                                               crates/law_*) stands in docs/CLAIMS.md; and that README.md has at most
+                                               7 KB and its table of sizes is right
+       tools/check_docs.py --sizes             that table's rows
        tools/check_docs.py --closure MODULE    the definition files that MODULE rests on, as rows of a table
 
 In backquotes, outside of blocks of code, are checked:
@@ -36,6 +39,9 @@ FOLDERS = ("crates/", "docs/", "tools/", "examples/", ".ci/", "specs/", "proofs/
 KERNEL = ("ttm_", "drm_", "dma_", "ww_", "amdgpu_", "nouveau_", "radeon_", "reservation_ww_class", "swap_storage", "sg_table",
           "evict_flags", "busy_placement", "no_wait_gpu", "force_space")
 WORD = r"[A-Za-z_][A-Za-z0-9_]*"
+README_BYTES = 7 * 1024
+PAGE_BYTES = 4 * 1024
+SLACK = 2  # percent by which a rounded number of README.md may be off, so that it needn't follow each change
 
 
 class Index:
@@ -250,6 +256,55 @@ def closure_of(name):
     return found
 
 
+def sizes():
+    """The table of README.md: how large the definitions are against code and proofs. The first row is exact, the others are rounded."""
+    needed = set(closure_of("Legal")) | set(closure_of("Transparent"))
+    code = set((TOP / "crates").glob("*/src/**/*.rt"))
+    tests = set((TOP / "crates").glob("test_*/src/**/*.rt"))
+    return [
+        ("definitions that *legal* and *transparent* need", needed, 1),
+        ("all definitions (`specs`)", set((TOP / "crates").glob("*/specs/**/*.antt")), 100),
+        ("code with its contracts (`src`), without tests", code - tests, 100),
+        ("tests", tests, 100),
+        ("proofs (`proofs`)", set((TOP / "crates").glob("*/proofs/**/*.antt")), 100),
+    ]
+
+
+def size_row(what, paths, unit):
+    return f"| {what} | {len(paths)} | {round(sum(map(code_lines, paths)) / unit) * unit} |"
+
+
+def faults_of_readme():
+    """README.md is short, and its table of sizes is that of the sources."""
+    readme = TOP / "README.md"
+    length = len(readme.read_bytes())
+    if length > README_BYTES:
+        yield f"README.md:1: it has {length} bytes, more than {README_BYTES}"
+    lines = readme.read_text().splitlines()
+    for what, paths, unit in sizes():
+        rows = [(number, line) for number, line in enumerate(lines, 1) if line.startswith(f"| {what} |")]
+        told = re.fullmatch(r"\|[^|]*\| (\d+) \| (\d+) \|", rows[0][1]) if len(rows) == 1 else None
+        if not told:
+            yield f"README.md:1: it doesn't have one row {size_row(what, paths, unit)}"
+            continue
+        slack = SLACK if unit > 1 else 0
+        for number, count in ((int(told[1]), len(paths)), (int(told[2]), sum(map(code_lines, paths)))):
+            if abs(number - count) * 100 > count * slack:
+                yield f"README.md:{rows[0][0]}: it has {number}, and should have the row {size_row(what, paths, unit)}"
+
+
+def faults_of_pages(index):
+    """Each crate has its page, headed by its name and short."""
+    for crate in sorted(index.crates):
+        page = TOP / "crates" / crate / "README.md"
+        if not page.is_file():
+            yield f"crates/{crate}/README.md:1: no such page"
+        elif page.read_text().splitlines()[:1] != [f"# `{crate}`"]:
+            yield f"crates/{crate}/README.md:1: its heading isn't the crate's name"
+        elif len(page.read_bytes()) > PAGE_BYTES:
+            yield f"crates/{crate}/README.md:1: it has {len(page.read_bytes())} bytes, more than {PAGE_BYTES}"
+
+
 def missing_crates(index):
     """Crates that the list of crates or the page about them doesn't have."""
     listed = set(re.findall(rf"^({WORD})\b[^#\n]*:", (TOP / "crates.txt").read_text(), re.M))
@@ -278,11 +333,15 @@ def main():
             print(f"| `{path.relative_to(TOP)}` | {code_lines(path)} | |")
         print(f"| sum, {len(paths)} files | {sum(map(code_lines, paths))} | |")
         return
+    if words == ["--sizes"]:
+        for row in sizes():
+            print(size_row(*row))
+        return
     documents = [pathlib.Path(word).resolve() for word in words] or [
         TOP / "README.md", *sorted((TOP / "docs").glob("*.md")), *sorted((TOP / "crates").glob("*/README.md"))]
     index = Index()
     faults = 0
-    for fault in [] if words else [*missing_crates(index), *missing_laws()]:
+    for fault in [] if words else [*missing_crates(index), *missing_laws(), *faults_of_pages(index), *faults_of_readme()]:
         faults += 1
         print(fault)
     for document in documents:
