@@ -32,8 +32,8 @@ done
 
 (cd "$top/crates/ttm" && rt try --cases "$cases" -- sim) >"$cases.log" 2>&1
 status=$?
-if [ "$status" -ne 0 ]; then
-  sed 's/^/examples: /' "$cases.log"
+if [ "$status" -ne 0 ] || ! grep -q "^cases=$count ended=$count fault=0 differs=0 no-answer=0 " "$cases.log"; then
+  sed '/output=expected/d; s/^/examples: /' "$cases.log"
   faults=1
 fi
 rm -f "$cases.log"
