@@ -11,3 +11,4 @@ pub mod First
 pub mod Legal
 pub mod Declared
 pub mod Taken
+pub mod Entries

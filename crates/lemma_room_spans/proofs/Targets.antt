@@ -70,7 +70,7 @@ module _ (size : ℕ) (mine mem : Mem) (s : State) (b : BufId) (r : Resources) (
   f = owned mine bs s.core.ghosts
 
   -- spans are taken for a target: in their memory type the buffer has none yet
-  pub take_spans : (t : ℕ) (spans : List Span) → live_in bs b ≡ Some (buffer s b) → (same_mem mem mine ≡ true → target_spans mine (buffer s b) ≡ []) → 1 ≤ length spans →
+  pub take_spans : (t : ℕ) (spans : List Span) → live_in bs b ≡ Some (buffer s b) → (same_mem mem mine ≡ true → target_spans mine (buffer s b) ≡ []) → (same_mem mem mine ≡ true → 1 ≤ length spans) →
       HoldsAsIn size mine (after_take s t b mem spans) (taken mine mem b spans r)
   take_spans t spans live none some = by (same_mem mem mine) refl
     where
@@ -89,7 +89,7 @@ module _ (size : ℕ) (mine mem : Mem) (s : State) (b : BufId) (r : Resources) (
       by : (q : Bool) → same_mem mem mine ≡ q → HoldsAsIn size mine (after_take s t b mem spans) (if q then held_by (owner.Target b) spans r else r)
       by true e =
           told_as size (with_owner f (owner.Target b) spans) (held_by (owner.Target b) spans r)
-          (held_tie size f r tie (owner.Target b) spans (ap (λ o. unwrap_or (option_map (target_spans mine) o) []) live ∙ none e) some)
+          (held_tie size f r tie (owner.Target b) spans (ap (λ o. unwrap_or (option_map (target_spans mine) o) []) live ∙ none e) (some e))
           (owned mine (changed g bs b) s.core.ghosts)
           (target_owned mine s.core.ghosts bs b (option_map g (live_in bs b)) spans (told_kept (spans_in mine) g bs b (λ x h. own x))
           (told_changed (target_spans mine) g bs b (buffer s b) live ∙ waits (buffer s b) ∙ target_here mine mem (Some spans) (buffer s b) e))

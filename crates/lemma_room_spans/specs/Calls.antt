@@ -1,12 +1,15 @@
 -- What the calls for an entry leave of a manager.
 use Rattle.std.specs.Prelude.{ℕ, ◌==◌, List, [], ◌∷◌, ◌++◌, if◌then◌else◌}
 use Rattle.ttm_base.specs.declared.Mem.{Mem}
+use Rattle.ttm_base.specs.declared.Mem.TheVariants.{Tt}
 use Rattle.ttm_base.specs.declared.Span.{Span}
 use Rattle.ttm_base.specs.declared.BufId.{BufId}
 use Rattle.ttm_base.specs.declared.Owner.{Owner}
 use Rattle.ttm_base.specs.declared.Owner.TheVariants as owner
 use Rattle.ttm_base.specs.Reach.{same_mem}
 use Rattle.resource_core.specs.Resources.{Resources, holds, renamed, without_owner}
+use Rattle.journal_model.specs.declared.entry.Kind.{Kind}
+use Rattle.journal_model.specs.declared.entry.Kind.TheVariants as kind
 use Rattle.journal_model.specs.declared.entry.Left.{Left}
 use Rattle.journal_model.specs.declared.entry.Left.TheVariants as left
 
@@ -50,3 +53,20 @@ carried mine mem b l r = arrived mine mem b (left_by b l r)
 -- a freed buffer leaves its spans free, or to a ghost, whose number isn't 0
 abbrev pub freed : BufId → ℕ → Resources → Resources
 freed b g r = if g == 0 then given (owner.Live b) r else passed_on (owner.Live b) (owner.Ghost g) r
+
+-- a buffer that goes to SYSTEM gives back what it has of TT
+abbrev pub unbound_in : Mem → BufId → Resources → Resources
+unbound_in mine b r = if same_mem Tt mine then given (owner.Live b) r else r
+
+-- ---- by kind of entry
+
+-- what the calls for an entry leave
+abbrev pub behind : Mem → Kind → Resources → Resources
+behind mine (kind.Take b mem spans) r = taken mine mem b spans r
+behind mine (kind.Untake b mem) r = untaken mine mem b r
+behind mine (kind.Bind b) r = arrived mine Tt b r
+behind mine (kind.Unbind b) r = unbound_in mine b r
+behind mine (kind.Move b mem n l) r = carried mine mem b l r
+behind mine (kind.Free b g) r = freed b g r
+behind mine (kind.Reap g) r = given (owner.Ghost g) r
+behind mine _ r = r
