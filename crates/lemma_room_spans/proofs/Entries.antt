@@ -9,7 +9,7 @@ use Rattle.ttm_base.specs.declared.Owner.TheVariants as owner
 use Rattle.ttm_base.specs.declared.Actor.{Actor}
 use Rattle.ttm_base.specs.declared.Actor.TheVariants as actor
 use Rattle.ttm_base.specs.Reach.{same_mem}
-use Rattle.resource_core.specs.Resources.{Resources}
+use Rattle.resource_core.specs.Resources.{Resources, holds}
 use Rattle.journal_model.specs.declared.script.Script.{Script}
 use Rattle.journal_model.specs.declared.entry.Entry.{Entry}
 use Rattle.journal_model.specs.declared.entry.Kind.{Kind}
@@ -29,11 +29,12 @@ use Rattle.journal_model.specs.Legal.{IsLegal, state_of}
 use Rattle.law_sound.proofs.Along.{OfWorker, packet, done, reap}
 use Rattle.lemma_bytes_told.specs.Told.{is_still, IsThere, Told, still, makes, frees, leaves, takes, untakes, populates, swaps_in, depopulates, binds, unbinds, moves_up, moves_across, moves_down, evicts, catches, swaps_out, arms, reads, writes, results}
 use Rattle.lemma_room_spans.specs.Owned.{FirstOfNumber, HoldsAsIn}
-use Rattle.lemma_room_spans.specs.Calls.{given, behind}
+use Rattle.lemma_room_spans.specs.Calls.{given, left_by, behind}
 use Rattle.lemma_room_spans.proofs.Still.{populate_spans, swap_in_spans, swap_out_spans, depopulate_spans, catch_spans, arm_spans, new_spans}
 use Rattle.lemma_room_spans.proofs.Targets.{take_spans, untake_spans}
-use Rattle.lemma_room_spans.proofs.Carried.{HasNew, reap_spans, bind_spans, unbind_spans, unbind_apart, move_spans, free_spans}
+use Rattle.lemma_room_spans.proofs.Carried.{HasNew, reap_spans, bind_spans, unbind_spans, unbind_apart, move_spans, left_free, free_spans}
 use Rattle.lemma_room_spans.proofs.Facts.{no_target, no_target_at_all, spans_elsewhere, new_number}
+use Rattle.lemma_room_spans.proofs.Holders.{live_fresh, ghost_fresh}
 use Rattle.lemma_room_spans.proofs.Legal.{take_sought, free_untargeted}
 use Rattle.lemma_room_spans.proofs.Taken.{take_may_hold}
 
@@ -120,6 +121,12 @@ module _ (script : Script) (journal : List Entry) (fits : IsTrue (is_script scri
     next_is_new : (g : ℕ) → g ≡ next_ghost s → find (λ h. h.num == g) gs ≡ None
     next_is_new g e = ap (λ n. find (λ (h : Ghost). h.num == n) gs) e ∙ new_number gs s.last_ghost below
 
+    left_new : (b : BufId) (there : IsThere s b) (l : Left) → IsNext s l → HasNew size mine out s r tie b there l
+    left_new b there left.Now x = tt
+    left_new b there (left.Ghost g) x = next_is_new g x
+
+    -- ---- behind the calls
+
     -- an entry of a thread, of which is known what it tells
     pub thread_spans : (t : ℕ) (k : Kind) → next script s (actor.Thread t) ≡ Ok k → Told script s t k → HoldsAsIn size mine (applied script s (actor.Thread t) k) (behind mine k r)
     thread_spans t k h told = by k h (tells_of script s t k told)
@@ -127,10 +134,6 @@ module _ (script : Script) (journal : List Entry) (fits : IsTrue (is_script scri
         unbound : (b : BufId) → IsThere s b → ((buffer s b).mem ≡ Vram → ⊥) → (q : Bool) → same_mem Tt mine ≡ q → HoldsAsIn size mine (after_unbind script s b) (if q then given (owner.Live b) r else r)
         unbound b there n true e = unbind_spans size mine out s r tie b there script
         unbound b there n false e = unbind_apart size mine out s r tie b there script (spans_elsewhere mine (buffer s b) (tt_alone mine (buffer s b).mem out n e))
-
-        left_new : (b : BufId) (there : IsThere s b) (l : Left) → IsNext s l → HasNew size mine out s r tie b there l
-        left_new b there left.Now x = tt
-        left_new b there (left.Ghost g) x = next_is_new g x
 
         untargeted : (b : BufId) (mem : Mem) (spans : List Span) → next script s (actor.Thread t) ≡ Ok (kind.Take b mem spans) → same_mem mem mine ≡ true → target_spans mine (buffer s b) ≡ []
         untargeted b mem spans h e =
@@ -165,3 +168,18 @@ module _ (script : Script) (journal : List Entry) (fits : IsTrue (is_script scri
     worker_spans who k packet = tie
     worker_spans who k done = tie
     worker_spans who k (reap {g}) = reap_spans size mine out s r tie g
+
+    -- ---- where a call asks for a fresh owner
+
+    -- the next ghost holds nothing yet
+    pub next_ghost_fresh : holds (owner.Ghost (next_ghost s)) r.held ≡ false
+    next_ghost_fresh = ghost_fresh size mine s r tie (next_ghost s) (next_is_new (next_ghost s) refl)
+
+    -- a buffer that is bound held nothing of VRAM or TT
+    pub bind_fresh : (t : ℕ) (b : BufId) → Told script s t (kind.Bind b) → holds (owner.Live b) r.held ≡ false
+    bind_fresh t b told =
+        let x = tells_of script s t (kind.Bind b) told in live_fresh size mine s r tie b x.0 (spans_elsewhere mine (buffer s b) (λ e. out (sym e ∙ x.1)))
+
+    -- a buffer that is moved holds nothing once it has left its spans
+    pub move_fresh : (t : ℕ) (b : BufId) (mem : Mem) (n : ℕ) (l : Left) → Told script s t (kind.Move b mem n l) → holds (owner.Live b) (left_by b l r).held ≡ false
+    move_fresh t b mem n l told = let x = tells_of script s t (kind.Move b mem n l) told in left_free size mine out s r tie b x.0 l (left_new b x.0 l x.1)

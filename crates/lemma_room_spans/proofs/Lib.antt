@@ -7,6 +7,7 @@ pub mod Free
 pub mod Chosen
 pub mod Holders
 pub mod Facts
+pub mod MoveFence
 pub mod First
 pub mod Legal
 pub mod Declared

@@ -1,9 +1,10 @@
 -- What the calls for an entry leave of a manager.
-use Rattle.std.specs.Prelude.{ℕ, ◌==◌, List, [], ◌∷◌, ◌++◌, if◌then◌else◌}
+use Rattle.std.specs.Prelude.{ℕ, ◌==◌, List, [], ◌∷◌, ◌++◌, Option, Some, if◌then◌else◌}
 use Rattle.ttm_base.specs.declared.Mem.{Mem}
 use Rattle.ttm_base.specs.declared.Mem.TheVariants.{Tt}
 use Rattle.ttm_base.specs.declared.Span.{Span}
 use Rattle.ttm_base.specs.declared.BufId.{BufId}
+use Rattle.ttm_base.specs.declared.JobId.{JobId}
 use Rattle.ttm_base.specs.declared.Owner.{Owner}
 use Rattle.ttm_base.specs.declared.Owner.TheVariants as owner
 use Rattle.ttm_base.specs.Reach.{same_mem}
@@ -70,3 +71,8 @@ behind mine (kind.Move b mem n l) r = carried mine mem b l r
 behind mine (kind.Free b g) r = freed b g r
 behind mine (kind.Reap g) r = given (owner.Ghost g) r
 behind mine _ r = r
+
+-- the move job behind an entry: that of the last move of a victim
+abbrev pub fence_behind : Kind → Option JobId → Option JobId
+fence_behind (kind.Move b mem n left.Now) old = Some (record { ctx = 0; num = n })
+fence_behind _ old = old
