@@ -1,0 +1,4 @@
+pub mod Marks
+pub mod Held
+pub mod Pools
+pub mod Lowest
