@@ -2,3 +2,4 @@ pub mod Marks
 pub mod Held
 pub mod Pools
 pub mod Lowest
+pub mod Walks

@@ -205,19 +205,24 @@ times_front [] i k e = cc
 times_front (m ∷ ks) zero k e = let same : m ≡ k = cc in let it = ap one (eq-eqb k m (sym same)) in omega (arith, it)
 times_front (m ∷ ks) (suc i) k e = let rest = times_front ks i k e in omega (arith, rest)
 
+-- behind some that were given back, one that is held besides is held still
+pub held_behind : (old front : List ℕ) (size k : ℕ) → AreOwned size old → times k front + 1 ≤ times k old → slice_get (given_back (marks old size) front) k ≡ Some true
+held_behind old front size k owned h =
+    let once = owned_once size old owned k in
+    let f : ℕ → Bool = λ n. has_number old n && not (has_number front n) in
+    let inside : k < size = owned_below size old owned k (omega (arith, h)) in
+    let was : has_number old k ≡ true = has_some old k (omega (arith, h)) in
+    let left : has_number front k ≡ false = has_none front k (omega (arith, h, once)) in
+    ap (λ pool. slice_get pool k) (marks_given_back (has_number old) size front) ∙ mark_at f size k inside
+    ∙ ap (λ b. Some b) (stays (has_number old k) (has_number front k) left ∙ was)
+
 -- a number that is to be given back is held still
 pub held_still : (old ks : List ℕ) (size i k : ℕ) → AreOwned size old → ((n : ℕ) → times n ks ≤ times n old) → slice_get ks i ≡ Some k
     → slice_get (given_back (marks old size) (take i ks)) k ≡ Some true
 held_still old ks size i k owned h e =
     let front = times_front ks i k e in
     let more = h k in
-    let once = owned_once size old owned k in
-    let f : ℕ → Bool = λ n. has_number old n && not (has_number (take i ks) n) in
-    let inside : k < size = owned_below size old owned k (omega (arith, front, more)) in
-    let was : has_number old k ≡ true = has_some old k (omega (arith, front, more)) in
-    let no : has_number (take i ks) k ≡ false = has_none (take i ks) k (omega (arith, front, more, once)) in
-    ap (λ pool. slice_get pool k) (marks_given_back (has_number old) size (take i ks)) ∙ mark_at f size k inside
-    ∙ ap (λ b. Some b) (stays (has_number old k) (has_number (take i ks) k) no ∙ was)
+    held_behind old (take i ks) size k owned (omega (arith, front, more))
 
 -- and then one number more was given back
 pub given_step : (pool : List Bool) (ks : List ℕ) (i k : ℕ) → slice_get ks i ≡ Some k → given (given_back pool (take i ks)) k ≡ given_back pool (take (suc i) ks)
