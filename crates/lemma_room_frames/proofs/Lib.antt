@@ -3,3 +3,5 @@ pub mod Held
 pub mod Pools
 pub mod Lowest
 pub mod Walks
+pub mod Slots
+pub mod SlotKinds

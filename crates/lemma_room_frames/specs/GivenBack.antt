@@ -1,5 +1,13 @@
--- A pool, or the slots of a swap store, after numbers were given back one by one.
-use Rattle.std.specs.Prelude.{ℕ, Bool, true, false, List, fold, slice_set}
+-- A pool, or the slots of a swap store, after numbers were taken or given back.
+use Rattle.std.specs.Prelude.{ℕ, Bool, true, false, List, [], fold, slice_set}
+use Rattle.ttm_base.specs.declared.Mem.{Mem}
+use Rattle.ttm_base.specs.declared.Mem.TheVariants.{System, Tt, Vram}
+use Rattle.journal_model.specs.declared.state.Buffer.{Buffer}
+use Rattle.journal_model.specs.Places.{slots_of}
+
+-- the number is held
+abbrev pub taken : List Bool → ℕ → List Bool
+taken pool k = slice_set pool k true
 
 -- the number is free
 abbrev pub given : List Bool → ℕ → List Bool
@@ -9,6 +17,8 @@ given pool k = slice_set pool k false
 abbrev pub given_back : List Bool → List ℕ → List Bool
 given_back pool ks = fold given pool ks
 
--- the number is held
-abbrev pub taken : List Bool → ℕ → List Bool
-taken pool k = slice_set pool k true
+-- the slots that a moved buffer leaves: out of TT its table is emptied
+abbrev pub slots_left : Mem → Buffer → List ℕ
+slots_left Tt x = slots_of x
+slots_left Vram x = []
+slots_left System x = []
