@@ -85,7 +85,7 @@ module _ (c : Core) (b : BufId) (x : Buffer) (live : live_in c.buffers b ≡ Som
 abbrev pub of_live : {Y : Type 0} → (Buffer → List Y) → ℕ → List (Option Buffer) → List Y
 of_live see k xs = flat_map (λ e. see e.1) (filter_map live_entry (enumerate_from k xs))
 
-live_same : {Y : Type 0} (see : Buffer → List Y) (g : Buffer → Buffer) → ((x : Buffer) → see (g x) ≡ see x) → (k : ℕ) (xs : List (Option Buffer)) (i : ℕ) →
+pub live_same : {Y : Type 0} (see : Buffer → List Y) (g : Buffer → Buffer) → ((x : Buffer) → see (g x) ≡ see x) → (k : ℕ) (xs : List (Option Buffer)) (i : ℕ) →
     of_live see k (slice_set xs i (option_map g (there xs i))) ≡ of_live see k xs
 live_same see g h k [] i = refl
 live_same see g h k (None ∷ xs) zero = refl
@@ -94,7 +94,7 @@ live_same see g h k (None ∷ xs) (suc i) = live_same see g h (k + 1) xs i
 live_same see g h k (Some x ∷ xs) (suc i) = ap (λ ys. see x ++ ys) (live_same see g h (k + 1) xs i)
 
 -- a new buffer has nothing in its table
-live_made : {Y : Type 0} (see : Buffer → List Y) (x : Buffer) → see x ≡ [] → (k : ℕ) (xs : List (Option Buffer)) (i : ℕ) → there xs i ≡ None →
+pub live_made : {Y : Type 0} (see : Buffer → List Y) (x : Buffer) → see x ≡ [] → (k : ℕ) (xs : List (Option Buffer)) (i : ℕ) → there xs i ≡ None →
     of_live see k (slice_set xs i (Some x)) ≡ of_live see k xs
 live_made see x h k [] i e = refl
 live_made see x h k (None ∷ xs) zero e = ap (λ ys. ys ++ of_live see (k + 1) xs) h

@@ -5,3 +5,4 @@ pub mod Lowest
 pub mod Walks
 pub mod Slots
 pub mod SlotKinds
+pub mod Others
