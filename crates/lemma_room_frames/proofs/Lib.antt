@@ -6,3 +6,5 @@ pub mod Walks
 pub mod Slots
 pub mod SlotKinds
 pub mod Others
+pub mod Telling
+pub mod Behind

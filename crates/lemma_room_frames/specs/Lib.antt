@@ -1,2 +1,3 @@
 pub mod GivenBack
 pub mod Tables
+pub mod After
