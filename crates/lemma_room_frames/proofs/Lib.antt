@@ -8,3 +8,4 @@ pub mod SlotKinds
 pub mod Others
 pub mod Telling
 pub mod Behind
+pub mod First

@@ -52,6 +52,16 @@ within_slot sizes after bytes k o there same =
     by true e = same (ltb-true o 4096 e) ∙ ap (λ q. if true && q then after (slot k) o else 0) (sym e)
     by false e = beyond bytes k o e ∙ ap (λ q. if true && q then after (slot k) o else 0) (sym e)
 
+-- a slot that is taken, also one that was given back, has the bytes of its new page
+pub new_page_in_slot : (bytes : List ℕ) (k : ℕ) (page : List ℕ) (o : ℕ) → length page ≡ 4096 → 4096 * k + 4096 ≤ length bytes → byte_at (overwritten bytes (4096 * k) page) k o ≡ byte_at page 0 o
+new_page_in_slot bytes k page o whole fits = by (nat_lt o 4096) refl
+  where
+    by : (q : Bool) → nat_lt o 4096 ≡ q → (if q then slice_index (overwritten bytes (4096 * k) page) (4096 * k + o) else 0) ≡ (if q then slice_index page (4096 * 0 + o) else 0)
+    by true e =
+        let l : o < length page = let b = ltb-true o 4096 e in omega (arith, b, whole) in
+        get_or-overwritten_inside bytes (4096 * k) page o 0 l (omega (arith, fits)) ∙ ap (slice_index page) (let z : o ≡ 4096 * 0 + o = omega arith in z)
+    by false e = refl
+
 -- ---- what is held now, and was held before
 
 module _ (script : Script) (old : List ℕ) (bytes : PageBytes) (swap : SwapSlots) (tie : AreSlots script.sizes.swap old bytes swap) where

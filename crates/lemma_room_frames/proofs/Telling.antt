@@ -1,13 +1,16 @@
--- What a thread's entry tells of the state before it, as far as frames and slots depend on it; and so of a ghost that is reaped.
-use Rattle.std.proofs.Common.{◌≡◌, ℕ, Bool, true, false, List, [], ◌∷◌, Option, Some, None, refl, sym, subst, ◌∙◌, ap}
-use Rattle.std.specs.Prelude.{◌&&◌, ◌||◌, not, slice_get, unwrap_or}
+-- What an actor's entry tells of the state before it, as far as frames and slots depend on it.
+use Rattle.std.proofs.Common.{◌≡◌, ℕ, Bool, true, false, List, [], ◌∷◌, length, Option, Some, None, Ok, Err, refl, sym, subst, ◌∙◌, ap}
+use Rattle.std.specs.Prelude.{◌&&◌, ◌||◌, not, nat_lt, slice_get, unwrap_or}
 use Rattle.std.proofs.lemmas.Bool.{and_parts}
+use Rattle.ttm_base.specs.declared.Actor.{Actor}
 use Rattle.ttm_base.specs.declared.Actor.TheVariants as actor
 use Rattle.ttm_base.specs.declared.BufId.{BufId}
+use Rattle.ttm_base.specs.declared.JobId.{JobId}
 use Rattle.ttm_base.specs.declared.Loc.{Loc}
 use Rattle.ttm_base.specs.declared.Loc.TheVariants as loc
 use Rattle.ttm_base.specs.declared.Mem.{Mem}
 use Rattle.ttm_base.specs.declared.Mem.TheVariants.{System, Tt, Vram}
+use Rattle.ttm_base.specs.declared.Need.TheVariants as need
 use Rattle.ttm_base.specs.Pages.{slot}
 use Rattle.ttm_base.specs.Reach.{same_mem}
 use Rattle.journal_model.specs.declared.entry.Kind.{Kind}
@@ -17,13 +20,18 @@ use Rattle.journal_model.specs.declared.script.Command.{Command}
 use Rattle.journal_model.specs.declared.script.Command.TheVariants as command
 use Rattle.journal_model.specs.declared.script.Script.{Script}
 use Rattle.journal_model.specs.declared.state.Buffer.{Buffer}
+use Rattle.journal_model.specs.declared.state.Ghost.{Ghost}
+use Rattle.journal_model.specs.declared.state.Job.{Job}
 use Rattle.journal_model.specs.declared.state.State.{State}
 use Rattle.journal_model.specs.State.{buffer}
 use Rattle.journal_model.specs.Commands.{command_at_work}
 use Rattle.journal_model.specs.Dry.{has_frame}
-use Rattle.journal_model.specs.PageSteps.{page_to_fill, first_frame_page}
+use Rattle.journal_model.specs.Next.{next, head_of, step_of_job}
+use Rattle.journal_model.specs.PageSteps.{page_to_fill, first_frame_page, unless_waiting}
 use Rattle.journal_model.specs.Places.{frame_of, is_frame, loc_of, page_in, page_in_table, page_in_vram, pages_of}
 use Rattle.journal_model.specs.Ready.{has_all_frames, is_in_place, is_filled, is_ready}
+use Rattle.journal_model.specs.Search.{Step}
+use Rattle.journal_model.specs.Waits.{waited_for}
 use Rattle.lemma_bytes_told.specs.Told.{is_still, is_write, IsThere, Told, still, makes, frees, leaves, takes, untakes, populates, swaps_in, depopulates, binds, unbinds, moves_up, moves_across, moves_down, evicts, catches, swaps_out, arms, reads, writes, results}
 use Rattle.lemma_bytes_told.proofs.Spots.{fill_spot, frame_spot}
 use Rattle.lemma_room_frames.specs.Tables.{IsOffSlots}
@@ -120,3 +128,32 @@ thread_tells script s t k full (results cmd at w r) = λ c o values e.
     let same : cmd ≡ command.Write c o values = cc in
     let yes : is_write cmd ≡ true = ap is_write same in
     cc
+
+-- ---- the other actors
+
+waited_tells : (script : Script) (s : State) (who : Actor) (o : Option JobId) (e k : Kind) → Tells script s who e → unless_waiting o e ≡ Ok k → Tells script s who k
+waited_tells script s who None e k told h = let same : e ≡ k = cc in subst (Tells script s who) same told
+waited_tells script s who (Some job) e k told h = cc
+
+-- an engine's entry tells nothing of frames and slots
+pub engine_tells : (script : Script) (s : State) (ctx : ℕ) (k : Kind) → next script s (actor.Engine ctx) ≡ Ok k → Tells script s (actor.Engine ctx) k
+engine_tells script s ctx k h = by (head_of s ctx) h
+  where
+    run : (j : Job) (q : Bool) → (elim q as (λ q. Step) [ true ↦ unless_waiting (waited_for s.core j.waits) (kind.Packet j.id.num j.ran []) | false ↦ Ok (kind.Done j.id.num) ]) ≡ Ok k → Tells script s (actor.Engine ctx) k
+    run j true e = waited_tells script s (actor.Engine ctx) (waited_for s.core j.waits) (kind.Packet j.id.num j.ran []) k tt e
+    run j false e = waited_tells script s (actor.Engine ctx) None (kind.Done j.id.num) k tt e
+
+    by : (o : Option Job) → (elim o as (λ o. Step) [ None ↦ Err need.NoJob | Some j ↦ step_of_job s j ]) ≡ Ok k → Tells script s (actor.Engine ctx) k
+    by None e = cc
+    by (Some j) e = run j (nat_lt j.ran (length j.packets)) e
+
+-- where ghosts have distinct numbers, the one that is reaped is the first
+pub reaper_tells : (script : Script) (s : State) (k : Kind) → ((i j : ℕ) (g h : Ghost) → slice_get s.core.ghosts i ≡ Some g → slice_get s.core.ghosts j ≡ Some h → g.num ≡ h.num → i ≡ j) →
+    next script s actor.Reaper ≡ Ok k → Tells script s actor.Reaper k
+reaper_tells script s k distinct h = by (slice_get s.core.ghosts 0) refl h
+  where
+    by : (o : Option Ghost) → slice_get s.core.ghosts 0 ≡ o → (elim o as (λ o. Step) [ None ↦ Err need.NoGhost | Some g ↦ unless_waiting (waited_for s.core g.jobs) (kind.Reap g.num) ]) ≡ Ok k → Tells script s actor.Reaper k
+    by None at e = cc
+    by (Some g) at e =
+        waited_tells script s actor.Reaper (waited_for s.core g.jobs) (kind.Reap g.num) k
+        (record { place = 0; ghost = g; at = at; number = refl; only = λ i f here q. distinct i 0 f g here at q }) e
