@@ -1,11 +1,9 @@
 -- The pool and the swap store behind an entry of any kind are those of the state and the bytes behind it.
-use Rattle.std.proofs.Common.{◌≡◌, ℕ, zero, suc, ◌*◌, Bool, true, false, List, [], ◌∷◌, arith, length, Option, Some, None, refl, sym, subst, ◌∙◌, ap}
+use Rattle.std.proofs.Common.{◌≡◌, ℕ, zero, suc, ◌*◌, Bool, true, false, List, [], ◌∷◌, arith, length, Some, refl, sym, subst, ◌∙◌, ap}
 use Rattle.std.specs.Prelude.{◌==◌, find, option_map, slice_get, unwrap_or, if◌then◌else◌}
 use Rattle.std.proofs.lemmas.Bool.{eqb-true, eq-eqb, ne_eqb}
 use Rattle.ttm_base.specs.declared.Actor.{Actor}
 use Rattle.ttm_base.specs.declared.BufId.{BufId}
-use Rattle.ttm_base.specs.declared.JobId.{JobId}
-use Rattle.ttm_base.specs.declared.Loc.TheVariants as loc
 use Rattle.ttm_base.specs.declared.Mem.{Mem}
 use Rattle.ttm_base.specs.declared.Mem.TheVariants.{System, Tt, Vram}
 use Rattle.ttm_base.specs.Pages.{PageBytes}

@@ -1,7 +1,6 @@
 -- At first no frame and no slot is held: a new pool and a new swap store are the first state's.
-use Rattle.std.proofs.Common.{◌≡◌, ℕ, zero, suc, ◌+◌, ◌*◌, Bool, true, false, List, [], ◌∷◌, ◌++◌, Option, Some, None, refl, sym, ◌∙◌, ap}
-use Rattle.std.specs.Prelude.{filter_map, flat_map, map, replicate, slice_get}
-use Rattle.std.specs.List.{enumerate_from}
+use Rattle.std.proofs.Common.{◌≡◌, ℕ, zero, suc, ◌+◌, true, false, List, [], ◌∷◌, ◌++◌, Some, None, refl, sym, ◌∙◌, ap}
+use Rattle.std.specs.Prelude.{map, replicate, slice_get}
 use Rattle.ttm_base.specs.ListWords.{count_from}
 use Rattle.journal_model.specs.declared.script.Script.{Script}
 use Rattle.journal_model.specs.declared.state.Buffer.{Buffer}
@@ -9,7 +8,6 @@ use Rattle.journal_model.specs.Holds.{has_number, held_frames, held_slots}
 use Rattle.journal_model.specs.Legal.{first_state}
 use Rattle.journal_model.specs.Places.{frames_of, slots_of}
 use Rattle.journal_model.specs.Stores.{zeros}
-use Rattle.swap_store.specs.Slots.{SwapSlots}
 use Rattle.room_ties.specs.Pages.{ArePooled, AreSlots, marks}
 use Rattle.lemma_room_frames.proofs.Held.{of_live}
 

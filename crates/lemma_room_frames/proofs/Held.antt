@@ -1,21 +1,18 @@
 -- How often frames and slots are held where one buffer changes, goes or is made, and what tables hold.
-use Rattle.std.proofs.Common.{◌≡◌, ℕ, zero, suc, ◌+◌, ◌≤◌, List, [], ◌∷◌, ◌++◌, Option, Some, None, refl, sym, ◌∙◌, ap, ap₂, arith}
-use Rattle.std.specs.Prelude.{nat_eq, filter_map, flat_map, fold, map, option_and_then, option_map, slice_get, slice_set, unwrap_or}
+use Rattle.std.proofs.Common.{◌≡◌, ℕ, zero, suc, ◌+◌, List, [], ◌∷◌, ◌++◌, Option, Some, None, refl, ◌∙◌, ap, arith}
+use Rattle.std.specs.Prelude.{filter_map, flat_map, map, option_and_then, option_map, slice_get, slice_set}
 use Rattle.std.specs.List.{cons_option, enumerate_from}
 use Rattle.ttm_base.specs.declared.BufId.{BufId}
-use Rattle.ttm_base.specs.declared.JobId.{JobId}
 use Rattle.ttm_base.specs.declared.Loc.{Loc}
 use Rattle.ttm_base.specs.declared.Loc.TheVariants as loc
-use Rattle.ttm_base.specs.declared.Op.{Op}
 use Rattle.journal_model.specs.declared.state.Buffer.{Buffer}
 use Rattle.journal_model.specs.declared.state.Core.{Core}
-use Rattle.journal_model.specs.State.{buffer_in, changed, live_in, new_buffer, with_buffers}
+use Rattle.journal_model.specs.State.{changed, live_in, with_buffers}
 use Rattle.journal_model.specs.Holds.{held_frames, held_slots, live_entry}
 use Rattle.journal_model.specs.Places.{frame_of, frames_of, slot_of, slots_of}
-use Rattle.journal_model.specs.ApplyPages.{without_frame, without_frames}
-use Rattle.journal_model.specs.ApplyJobs.{with_use}
-use Rattle.law_owners.proofs.Counts.{one, times, summed, weigh}
-use Rattle.law_owners.proofs.Weights.{Room, frames, slots, of_buffer, in_buffers, in_ghosts, weight, times-held}
+use Rattle.journal_model.specs.ApplyPages.{without_frame}
+use Rattle.law_owners.proofs.Counts.{times, summed, weigh}
+use Rattle.law_owners.proofs.Weights.{Room, frames, slots, of_buffer, weight, times-held}
 use Rattle.law_owners.proofs.Keeps.{in_loc, times-cons}
 
 -- what stands at a place of buffers, if it is live

@@ -1,7 +1,6 @@
 -- The lowest free frame and slot: the first free number of the pool and of the swap store is that of the state.
-use Rattle.std.proofs.Common.{◌≡◌, ℕ, zero, suc, ◌+◌, ◌<◌, Bool, true, false, not, List, [], ◌∷◌, length, Option, Some, None, refl, sym, subst, ◌∙◌, ap, arith}
-use Rattle.std.specs.Prelude.{find, map, nat_lt, position, slice_get, if◌then◌else◌}
-use Rattle.std.proofs.lemmas.Bool.{not-true, not-false}
+use Rattle.std.proofs.Common.{◌≡◌, ℕ, zero, suc, ◌+◌, ◌<◌, Bool, true, false, not, List, Some, None, refl, sym, subst, ◌∙◌, ap, arith}
+use Rattle.std.specs.Prelude.{find, position, slice_get, if◌then◌else◌}
 use Rattle.ttm_base.specs.ListWords.{count_from}
 use Rattle.ttm_base.specs.Pages.{PageBytes}
 use Rattle.free_map.proofs.FoundLaws.{lowest_found}

@@ -1,8 +1,8 @@
 -- Marks of held numbers, after one number more or less, or many less.
-use Rattle.std.proofs.Common.{◌≡◌, ℕ, zero, suc, ◌+◌, ◌<◌, ◌≤◌, Bool, true, false, not, List, [], ◌∷◌, ◌++◌, length, take, Some, refl, sym, ◌∙◌, ap, ap₂, arith, inl, inr, ⊎_elim}
+use Rattle.std.proofs.Common.{◌≡◌, ℕ, zero, suc, ◌+◌, ◌<◌, ◌≤◌, Bool, true, false, not, List, [], ◌∷◌, length, take, Some, refl, sym, ◌∙◌, ap, ap₂, arith}
 use Rattle.std.specs.Prelude.{nat_eq, nat_lt, ◌&&◌, ◌||◌, map, slice_get, slice_set}
 use Rattle.std.specs.List.{list_all}
-use Rattle.std.proofs.lemmas.Bool.{and_parts, cases_eq, ne_eqb, eq-eqb, lt-ltb, ltb-true}
+use Rattle.std.proofs.lemmas.Bool.{and_parts, ne_eqb, eq-eqb, lt-ltb, ltb-true}
 use Rattle.std.proofs.lemmas.Bool.Decides.{nat_tests}
 use Rattle.ttm_base.specs.ListWords.{count_from}
 use Rattle.journal_model.specs.Account.{are_distinct}
@@ -83,7 +83,7 @@ marks_given_back f size (k ∷ ks) =
     let less : ℕ → Bool = λ n. f n && not (nat_eq n k) in
     let here : less k ≡ false = gone (f k) (nat_eq k k) (eq-eqb k k refl) in
     let first : marks_by less size ≡ given (marks_by f size) k =
-        marks_set f less size k (λ m ne. stays (f m) (nat_eq m k) (ne_eqb m k ne)) ∙ ap (slice_set (marks_by f size) k) here in
+    marks_set f less size k (λ m ne. stays (f m) (nat_eq m k) (ne_eqb m k ne)) ∙ ap (slice_set (marks_by f size) k) here in
     ap (λ pool. given_back pool ks) (sym first)
     ∙ marks_given_back less size ks
     ∙ alike (λ n. f n && not (has_number (k ∷ ks) n)) (λ n. less n && not (has_number ks n)) (λ n. without_one (f n) (nat_eq n k) (has_number ks n)) (count_from 1 size 0)

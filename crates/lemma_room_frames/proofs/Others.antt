@@ -1,6 +1,6 @@
 -- Entries of all other kinds leave each frame and each slot where it is, and the bytes of slots.
-use Rattle.std.proofs.Common.{◌≡◌, ℕ, zero, suc, ◌+◌, ◌-◌, ◌/◌, ◌%◌, Bool, true, false, List, [], ◌∷◌, ◌++◌, Option, Some, None, refl, sym, subst, ◌∙◌, ap, arith}
-use Rattle.std.specs.Prelude.{◌&&◌, nat_le, nat_lt, bit_xor, filter_map, flat_map, fold, replicate, slice_get, unwrap_or, if◌then◌else◌}
+use Rattle.std.proofs.Common.{◌≡◌, ℕ, zero, suc, ◌+◌, ◌-◌, ◌/◌, ◌%◌, Bool, true, List, [], ◌∷◌, ◌++◌, Option, Some, None, refl, sym, subst, ◌∙◌, ap}
+use Rattle.std.specs.Prelude.{◌&&◌, nat_le, nat_lt, bit_xor, filter_map, fold, replicate, slice_get, unwrap_or, if◌then◌else◌}
 use Rattle.std.specs.List.{cons_option, list_all}
 use Rattle.std.proofs.lemmas.Bool.{and_parts, ne_eqb}
 use Rattle.ttm_base.specs.declared.Actor.{Actor}
@@ -34,7 +34,7 @@ use Rattle.journal_model.specs.ApplyPages.{bound, unbound, with_fence, with_kern
 use Rattle.journal_model.specs.ApplyVictims.{leaves_tt}
 use Rattle.journal_model.specs.Commands.{command_at_work, decl}
 use Rattle.journal_model.specs.Holds.{ghost_frames, held_frames, held_slots}
-use Rattle.journal_model.specs.Places.{aperture, frame_of, frames_of, loc_of, page_at, page_in, page_in_table, page_in_vram, pages_of, slot_of, slots_of, is_frame}
+use Rattle.journal_model.specs.Places.{aperture, frame_of, frames_of, page_at, page_in, page_in_table, page_in_vram, pages_of, slot_of, slots_of, is_frame}
 use Rattle.journal_model.specs.Ready.{has_all_frames}
 use Rattle.journal_model.specs.Stores.{job_packet, put_bytes, stores_after, within, written}
 use Rattle.journal_model.specs.Waits.{jobs_before_target, use_of}

@@ -1,18 +1,16 @@
 -- The pool after each kind of entry that gives a frame to a table, or takes one out of it.
-use Rattle.std.proofs.Common.{◌≡◌, ℕ, zero, suc, ◌+◌, ◌≤◌, Bool, true, false, List, [], ◌∷◌, ◌++◌, Option, Some, None, refl, sym, subst, ◌∙◌, ap, arith}
+use Rattle.std.proofs.Common.{◌≡◌, ℕ, zero, suc, ◌+◌, Bool, true, false, List, [], ◌∷◌, ◌++◌, Option, Some, None, refl, sym, subst, ◌∙◌, ap, arith}
 use Rattle.std.proofs.lemmas.Bool.{eq-eqb, ne_eqb}
-use Rattle.std.specs.Prelude.{◌==◌, nat_eq, not, filter, filter_map, flat_map, map, slice_get, slice_set, if◌then◌else◌}
+use Rattle.std.specs.Prelude.{◌==◌, nat_eq, not, filter, filter_map, slice_get, slice_set, if◌then◌else◌}
 use Rattle.ttm_base.specs.declared.BufId.{BufId}
 use Rattle.ttm_base.specs.declared.JobId.{JobId}
 use Rattle.ttm_base.specs.declared.Loc.{Loc}
 use Rattle.ttm_base.specs.declared.Loc.TheVariants as loc
 use Rattle.ttm_base.specs.declared.Mem.{Mem}
 use Rattle.ttm_base.specs.declared.Mem.TheVariants.{System, Tt, Vram}
-use Rattle.journal_model.specs.declared.entry.Left.{Left}
 use Rattle.journal_model.specs.declared.entry.Left.TheVariants as left
 use Rattle.journal_model.specs.declared.script.Script.{Script}
 use Rattle.journal_model.specs.declared.state.Buffer.{Buffer}
-use Rattle.journal_model.specs.declared.state.Core.{Core}
 use Rattle.journal_model.specs.declared.state.Ghost.{Ghost}
 use Rattle.journal_model.specs.declared.state.State.{State}
 use Rattle.journal_model.specs.State.{buffer, changed, with_buffers}
@@ -27,7 +25,7 @@ use Rattle.law_owners.proofs.Weights.{frames, of_ghost, times-held}
 use Rattle.law_owners.proofs.Keeps.{in_loc}
 use Rattle.law_owners.specs.OneOwner.{AreOwned}
 use Rattle.lemma_bytes_told.specs.Told.{IsThere}
-use Rattle.room_ties.specs.Pages.{ArePooled, marks}
+use Rattle.room_ties.specs.Pages.{ArePooled}
 use Rattle.lemma_room_frames.specs.GivenBack.{given, given_back, taken}
 use Rattle.lemma_room_frames.proofs.Marks.{marks_same, marks_more, marks_less, marks_without, owned_once}
 use Rattle.lemma_room_frames.proofs.Held.{frames_changed, frames_gone, table_set, emptied_frames, zeros_hold_none}

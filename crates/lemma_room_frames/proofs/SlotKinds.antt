@@ -1,14 +1,13 @@
 -- The swap store behind each entry that changes tables, on the state and the bytes that the entry leaves.
-use Rattle.std.proofs.Common.{◌≡◌, ℕ, ◌+◌, ◌*◌, ◌<◌, Bool, true, false, List, [], length, Some, None, refl, subst, sym, ◌∙◌, ap, arith}
-use Rattle.std.specs.Prelude.{nat_eq, filter_map, slice_get, slice_index, slice_set}
+use Rattle.std.proofs.Common.{◌≡◌, ℕ, ◌+◌, ◌*◌, ◌<◌, List, length, Some, refl, ap, arith}
+use Rattle.std.specs.Prelude.{filter_map, slice_get, slice_index}
 use Rattle.ttm_base.specs.declared.BufId.{BufId}
-use Rattle.ttm_base.specs.declared.JobId.{JobId}
 use Rattle.ttm_base.specs.declared.Actor.{Actor}
 use Rattle.ttm_base.specs.declared.Loc.{Loc}
 use Rattle.ttm_base.specs.declared.Loc.TheVariants as loc
 use Rattle.ttm_base.specs.declared.Mem.{Mem}
 use Rattle.ttm_base.specs.declared.Mem.TheVariants.{System, Tt, Vram}
-use Rattle.ttm_base.specs.Pages.{PageBytes, frame, slot}
+use Rattle.ttm_base.specs.Pages.{PageBytes}
 use Rattle.byte_store.specs.Parts.{overwritten}
 use Rattle.journal_model.specs.declared.entry.Kind.TheVariants as kind
 use Rattle.journal_model.specs.declared.entry.Left.{Left}
@@ -24,7 +23,7 @@ use Rattle.journal_model.specs.ApplyCommands.{after_free}
 use Rattle.journal_model.specs.ApplyJobs.{after_reap}
 use Rattle.journal_model.specs.Stores.{within, stores_after}
 use Rattle.swap_store.specs.Slots.{SwapSlots}
-use Rattle.law_owners.proofs.Counts.{one, times}
+use Rattle.law_owners.proofs.Counts.{times}
 use Rattle.law_owners.proofs.Keeps.{in_loc}
 use Rattle.law_owners.specs.OneOwner.{AreOwned}
 use Rattle.lemma_bytes_told.specs.Told.{IsThere}

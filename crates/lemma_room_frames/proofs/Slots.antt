@@ -1,10 +1,10 @@
 -- The swap store after each kind of entry that gives a slot to a table, or takes one out of it: what it holds, and the bytes of what it holds.
-use Rattle.std.proofs.Common.{◌≡◌, ℕ, zero, suc, ◌+◌, ◌-◌, ◌*◌, ◌<◌, ◌≤◌, Bool, true, false, List, [], ◌∷◌, length, take, drop, get_or, Option, Some, None, refl, sym, subst, ◌∙◌, ap, arith, ◌⊎◌, inl, inr, ⊎_elim}
-use Rattle.std.specs.Prelude.{◌==◌, ◌&&◌, nat_eq, nat_le, nat_lt, slice_get, slice_index, slice_set, if◌then◌else◌}
-use Rattle.std.proofs.lemmas.Bool.{cases_eq, cases_lt, eqb-true, eq-eqb, lt-ltb, ltb-true, ne_eqb}
+use Rattle.std.proofs.Common.{◌≡◌, ℕ, zero, suc, ◌+◌, ◌-◌, ◌*◌, ◌<◌, ◌≤◌, Bool, true, false, List, [], ◌∷◌, length, Some, refl, sym, subst, ◌∙◌, ap, arith, ◌⊎◌, inl, inr, ⊎_elim}
+use Rattle.std.specs.Prelude.{◌&&◌, nat_eq, nat_le, nat_lt, slice_get, slice_index, slice_set, if◌then◌else◌}
+use Rattle.std.proofs.lemmas.Bool.{cases_eq, cases_lt, eq-eqb, lt-ltb, ltb-true, ne_eqb}
 use Rattle.std.proofs.lemmas.Bool.Decides.{nat_tests}
 use Rattle.std.proofs.lemmas.Option.{slice_get_within}
-use Rattle.ttm_base.specs.Pages.{PageBytes, slot, with_bytes}
+use Rattle.ttm_base.specs.Pages.{PageBytes, slot}
 use Rattle.byte_store.specs.Parts.{overwritten, part}
 use Rattle.byte_store.proofs.PartLaws.{get_or-overwritten_below, get_or-overwritten_inside, get_or-overwritten_behind, get_or-part}
 use Rattle.copy_packet.specs.StoreBytes.{byte_at}
@@ -14,7 +14,7 @@ use Rattle.journal_model.specs.Stores.{within, with_page_bytes}
 use Rattle.swap_store.specs.Slots.{SwapSlots}
 use Rattle.law_owners.proofs.Counts.{one, times}
 use Rattle.law_owners.specs.OneOwner.{AreOwned}
-use Rattle.room_ties.specs.Pages.{AreSlots, marks}
+use Rattle.room_ties.specs.Pages.{AreSlots}
 use Rattle.lemma_room_frames.specs.GivenBack.{given, given_back, taken}
 use Rattle.lemma_room_frames.proofs.Marks.{length-marks, marks_same, marks_more, marks_less, marks_without, owned_once}
 

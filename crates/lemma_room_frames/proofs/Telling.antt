@@ -1,6 +1,6 @@
 -- What an actor's entry tells of the state before it, as far as frames and slots depend on it.
-use Rattle.std.proofs.Common.{◌≡◌, ℕ, Bool, true, false, List, [], ◌∷◌, length, Option, Some, None, Ok, Err, refl, sym, subst, ◌∙◌, ap}
-use Rattle.std.specs.Prelude.{◌&&◌, ◌||◌, not, nat_lt, slice_get, unwrap_or}
+use Rattle.std.proofs.Common.{◌≡◌, ℕ, Bool, true, false, List, [], length, Option, Some, None, Ok, Err, refl, sym, subst, ◌∙◌, ap}
+use Rattle.std.specs.Prelude.{◌||◌, not, nat_lt, slice_get, unwrap_or}
 use Rattle.std.proofs.lemmas.Bool.{and_parts}
 use Rattle.ttm_base.specs.declared.Actor.{Actor}
 use Rattle.ttm_base.specs.declared.Actor.TheVariants as actor
@@ -15,7 +15,6 @@ use Rattle.ttm_base.specs.Pages.{slot}
 use Rattle.ttm_base.specs.Reach.{same_mem}
 use Rattle.journal_model.specs.declared.entry.Kind.{Kind}
 use Rattle.journal_model.specs.declared.entry.Kind.TheVariants as kind
-use Rattle.journal_model.specs.declared.entry.Left.TheVariants as left
 use Rattle.journal_model.specs.declared.script.Command.{Command}
 use Rattle.journal_model.specs.declared.script.Command.TheVariants as command
 use Rattle.journal_model.specs.declared.script.Script.{Script}
@@ -24,7 +23,6 @@ use Rattle.journal_model.specs.declared.state.Ghost.{Ghost}
 use Rattle.journal_model.specs.declared.state.Job.{Job}
 use Rattle.journal_model.specs.declared.state.State.{State}
 use Rattle.journal_model.specs.State.{buffer}
-use Rattle.journal_model.specs.Commands.{command_at_work}
 use Rattle.journal_model.specs.Dry.{has_frame}
 use Rattle.journal_model.specs.Next.{next, head_of, step_of_job}
 use Rattle.journal_model.specs.PageSteps.{page_to_fill, first_frame_page, unless_waiting}
@@ -35,7 +33,7 @@ use Rattle.journal_model.specs.Waits.{waited_for}
 use Rattle.lemma_bytes_told.specs.Told.{is_still, is_write, IsThere, Told, still, makes, frees, leaves, takes, untakes, populates, swaps_in, depopulates, binds, unbinds, moves_up, moves_across, moves_down, evicts, catches, swaps_out, arms, reads, writes, results}
 use Rattle.lemma_bytes_told.proofs.Spots.{fill_spot, frame_spot}
 use Rattle.lemma_room_frames.specs.Tables.{IsOffSlots}
-use Rattle.lemma_room_frames.specs.After.{frame_at, HasLoc, HaveNoSlotsInTt, Tells}
+use Rattle.lemma_room_frames.specs.After.{frame_at, HaveNoSlotsInTt, Tells}
 use Rattle.lemma_room_frames.proofs.Others.{filled_off_slots}
 
 -- ---- the page that is filled, and the one that is emptied

@@ -1,5 +1,5 @@
 -- Loops that give frames or slots back, along a list of them or along a page table: each is held when its turn comes.
-use Rattle.std.proofs.Common.{◌≡◌, ℕ, zero, suc, ◌+◌, ◌≤◌, Bool, true, List, [], ◌∷◌, ◌++◌, length, take, Option, Some, None, refl, sym, subst, ◌∙◌, ap, arith}
+use Rattle.std.proofs.Common.{◌≡◌, ℕ, zero, suc, ◌+◌, ◌≤◌, Bool, true, List, [], ◌∷◌, ◌++◌, length, take, Option, Some, None, refl, sym, ◌∙◌, ap, arith}
 use Rattle.std.specs.Prelude.{nat_eq, filter_map, slice_get}
 use Rattle.std.specs.List.{cons_option}
 use Rattle.std.proofs.lemmas.Bool.{eq-eqb}
@@ -15,7 +15,7 @@ use Rattle.law_owners.proofs.Counts.{one, times, summed, weigh}
 use Rattle.law_owners.proofs.Weights.{frames, of_ghost, times-held}
 use Rattle.law_owners.proofs.Keeps.{in_loc, times-cons}
 use Rattle.law_owners.specs.OneOwner.{AreOwned}
-use Rattle.room_ties.specs.Pages.{ArePooled, marks}
+use Rattle.room_ties.specs.Pages.{marks}
 use Rattle.lemma_room_frames.specs.GivenBack.{given, given_back}
 use Rattle.lemma_room_frames.proofs.Marks.{held_behind, held_still}
 use Rattle.lemma_room_frames.proofs.Held.{frames_gone, slots_gone}

@@ -1,5 +1,5 @@
 -- What each kind of entry does to the pool and to the swap store, and what it is to tell of the state before it.
-use Rattle.std.specs.Prelude.{◌≡◌, ℕ, ◌*◌, ◌<◌, ◌==◌, Bool, List, [], Option, Some, None, find, length, option_map, slice_get, slice_index, unwrap_or, if◌then◌else◌}
+use Rattle.std.specs.Prelude.{◌≡◌, ℕ, ◌*◌, ◌<◌, ◌==◌, Bool, List, [], Some, None, find, length, option_map, slice_get, slice_index, unwrap_or, if◌then◌else◌}
 use Rattle.ttm_base.specs.declared.Actor.{Actor}
 use Rattle.ttm_base.specs.declared.BufId.{BufId}
 use Rattle.ttm_base.specs.declared.Loc.{Loc}
