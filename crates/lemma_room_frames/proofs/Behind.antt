@@ -44,6 +44,10 @@ found (h ∷ ghosts) num (suc i) g at is only =
     ap (λ q. if q then Some h else find (λ h. h.num == num) ghosts) (ne_eqb h.num num (λ e. (let no = only 0 h refl e in absurd (omega (arith, no)))))
     ∙ found ghosts num i g at is (λ k y e f. (let r = only (suc k) y e f in omega (arith, r)))
 
+-- what is behind the only ghost of its number are its frames
+pub frames_behind_is : (ghosts : List Ghost) (num : ℕ) (g : IsOnlyGhost ghosts num) → frames_behind num ghosts ≡ g.ghost.frames
+frames_behind_is ghosts num g = ap (λ o. unwrap_or (option_map (λ (h : Ghost). h.frames) o) []) (found ghosts num g.place g.ghost g.at g.number g.only)
+
 module _ (script : Script) (s : State) (who : Actor) (owned : HaveOneOwner script s.core) where
   freed_pool : (b : BufId) (g : ℕ) (pool : List Bool) → IsThere s b → ArePooled script.sizes.frames (held_frames s.core) pool →
       ArePooled script.sizes.frames (held_frames (after_free s (thread_of who) b g).core) (if g == 0 then given_back pool (frames_of (buffer s b)) else pool)
@@ -70,7 +74,7 @@ module _ (script : Script) (s : State) (who : Actor) (owned : HaveOneOwner scrip
   reaped_pool : (num : ℕ) (pool : List Bool) → IsOnlyGhost s.core.ghosts num → ArePooled script.sizes.frames (held_frames s.core) pool →
       ArePooled script.sizes.frames (held_frames (applied script s who (kind.Reap num)).core) (given_back pool (frames_behind num s.core.ghosts))
   reaped_pool num pool g tie =
-      let is : frames_behind num s.core.ghosts ≡ g.ghost.frames = ap (λ o. unwrap_or (option_map (λ (h : Ghost). h.frames) o) []) (found s.core.ghosts num g.place g.ghost g.at g.number g.only) in
+      let is = frames_behind_is s.core.ghosts num g in
       subst (λ fs. ArePooled script.sizes.frames (held_frames (applied script s who (kind.Reap num)).core) (given_back pool fs)) (sym is)
       (reap_pooled script s pool tie owned.frames num g.place g.ghost g.at g.number g.only)
 
