@@ -41,6 +41,7 @@ module _ (c : Core) (b : BufId) (x : Buffer) (live : live_in c.buffers b ≡ Som
       let new : weigh (of_buffer r n) (option_map g (live_in c.buffers b)) ≡ of_buffer r n (g x) = ap (λ o. weigh (of_buffer r n) (option_map g o)) live in
       omega (arith, sums, old, new)
 
+  -- the frames that its table had are held no more, and those that it has now are
   pub frames_changed : (g : Buffer → Buffer) (n : ℕ) → times n (held_frames (with_buffers (changed g c.buffers b) c)) + times n (frames_of x) ≡ times n (held_frames c) + times n (frames_of (g x))
   frames_changed g n =
       let all = changed_weight frames g n in
@@ -48,6 +49,7 @@ module _ (c : Core) (b : BufId) (x : Buffer) (live : live_in c.buffers b ≡ Som
       let old = times-held frames n c in
       omega (arith, all, new, old)
 
+  -- and so are the slots
   pub slots_changed : (g : Buffer → Buffer) (n : ℕ) → times n (held_slots (with_buffers (changed g c.buffers b) c)) + times n (slots_of x) ≡ times n (held_slots c) + times n (slots_of (g x))
   slots_changed g n =
       let all = changed_weight slots g n in
@@ -62,6 +64,7 @@ module _ (c : Core) (b : BufId) (x : Buffer) (live : live_in c.buffers b ≡ Som
       let old : weigh (of_buffer r n) (live_in c.buffers b) ≡ of_buffer r n x = ap (weigh (of_buffer r n)) live in
       omega (arith, sums, old)
 
+  -- the frames of a buffer that is gone are held no more
   pub frames_gone : (n : ℕ) → times n (held_frames (with_buffers (slice_set c.buffers b.0 None) c)) + times n (frames_of x) ≡ times n (held_frames c)
   frames_gone n =
       let all = light_weight frames None n refl in
@@ -69,6 +72,7 @@ module _ (c : Core) (b : BufId) (x : Buffer) (live : live_in c.buffers b ≡ Som
       let old = times-held frames n c in
       omega (arith, all, new, old)
 
+  -- nor are its slots
   pub slots_gone : (n : ℕ) → times n (held_slots (with_buffers (slice_set c.buffers b.0 None) c)) + times n (slots_of x) ≡ times n (held_slots c)
   slots_gone n =
       let all = light_weight slots None n refl in
@@ -82,6 +86,7 @@ module _ (c : Core) (b : BufId) (x : Buffer) (live : live_in c.buffers b ≡ Som
 abbrev pub of_live : {Y : Type 0} → (Buffer → List Y) → ℕ → List (Option Buffer) → List Y
 of_live see k xs = flat_map (λ e. see e.1) (filter_map live_entry (enumerate_from k xs))
 
+-- what is seen of buffers stays where the one that changes is seen as before
 pub live_same : {Y : Type 0} (see : Buffer → List Y) (g : Buffer → Buffer) → ((x : Buffer) → see (g x) ≡ see x) → (k : ℕ) (xs : List (Option Buffer)) (i : ℕ) →
     of_live see k (slice_set xs i (option_map g (there xs i))) ≡ of_live see k xs
 live_same see g h k [] i = refl
@@ -100,9 +105,11 @@ live_made see x h k (None ∷ xs) (suc i) e = live_made see x h (k + 1) xs i e
 live_made see x h k (Some y ∷ xs) (suc i) e = ap (λ ys. see y ++ ys) (live_made see x h (k + 1) xs i e)
 
 module _ (g : Buffer → Buffer) (keeps : (x : Buffer) → (g x).table ≡ x.table) where
+  -- the frames in tables and ghosts are the same
   pub frames_kept : (c : Core) (b : BufId) → held_frames (with_buffers (changed g c.buffers b) c) ≡ held_frames c
   frames_kept c b = ap (λ ns. ns ++ flat_map (λ g. g.frames) c.ghosts) (live_same frames_of g (λ x. ap (filter_map frame_of) (keeps x)) 0 c.buffers b.0)
 
+  -- and the slots are
   pub slots_kept : (c : Core) (b : BufId) → held_slots (with_buffers (changed g c.buffers b) c) ≡ held_slots c
   slots_kept c b = live_same slots_of g (λ x. ap (filter_map slot_of) (keeps x)) 0 c.buffers b.0
 
@@ -124,13 +131,14 @@ table_set f n (x ∷ table) (suc i) old l e =
     let was = times-cons f n x table in
     omega (arith, rest, new, was)
 
--- no frame is left in a table that gave its frames back, and each slot is
+-- no frame is left in a table that gave its frames back
 pub emptied_frames : (table : List Loc) → filter_map frame_of (map without_frame table) ≡ []
 emptied_frames [] = refl
 emptied_frames (loc.Frame f ∷ table) = emptied_frames table
 emptied_frames (loc.Slot k ∷ table) = emptied_frames table
 emptied_frames (loc.Zero ∷ table) = emptied_frames table
 
+-- each slot is
 pub emptied_slots : (table : List Loc) → filter_map slot_of (map without_frame table) ≡ filter_map slot_of table
 emptied_slots [] = refl
 emptied_slots (loc.Frame f ∷ table) = emptied_slots table

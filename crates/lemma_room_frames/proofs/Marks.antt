@@ -94,21 +94,23 @@ some_more : (q : Bool) (r : Bool) (t : ℕ) → r ≡ nat_lt 0 t → (q || r) �
 some_more true r t h = sym (lt-ltb 0 (1 + t) (omega arith))
 some_more false r t h = h ∙ ap (nat_lt 0) (let e : t ≡ 0 + t = omega arith in e)
 
--- a number that is held at least once is held
+-- a number is held where the list has it more than no times
 pub counted : (ns : List ℕ) (n : ℕ) → has_number ns n ≡ nat_lt 0 (times n ns)
 counted [] n = refl
 counted (m ∷ ns) n = some_more (nat_eq n m) (has_number ns n) (times n ns) (counted ns n)
 
+-- a number that stands in the list once or more is held
 pub has_some : (ns : List ℕ) (n : ℕ) → 1 ≤ times n ns → has_number ns n ≡ true
 has_some ns n h = counted ns n ∙ lt-ltb 0 (times n ns) (omega (arith, h))
 
+-- one that doesn't isn't
 pub has_none : (ns : List ℕ) (n : ℕ) → times n ns ≡ 0 → has_number ns n ≡ false
 has_none ns n h = counted ns n ∙ ap (nat_lt 0) h
 
+-- a number that is held stands in the list
 pub some_times : (ns : List ℕ) (n : ℕ) → has_number ns n ≡ true → 1 ≤ times n ns
 some_times ns n h = let l = ltb-true 0 (times n ns) (sym (counted ns n) ∙ h) in omega (arith, l)
 
--- numbers that are owned are held once, and below the size
 distinct_once : (ns : List ℕ) → are_distinct ns ≡ true → (n : ℕ) → times n ns ≤ 1
 distinct_once [] h n = omega arith
 distinct_once (m ∷ ns) h n =
@@ -133,6 +135,7 @@ distinct_once (m ∷ ns) h n =
             zero_so : (t : ℕ) → nat_lt 0 t ≡ false → t ≡ 0
             zero_so t h = grind (arith, nat_tests)
 
+-- numbers that are owned are held once at most
 pub owned_once : (size : ℕ) (ns : List ℕ) → AreOwned size ns → (n : ℕ) → times n ns ≤ 1
 owned_once size ns h n = distinct_once ns h.distinct n
 
@@ -146,6 +149,7 @@ below size (m ∷ ns) n h t =
     by true e t rest l = let same : n ≡ m = grind (arith, nat_tests) in omega (arith, same, l)
     by false e t rest l = rest (omega (arith, t))
 
+-- and are below the size
 pub owned_below : (size : ℕ) (ns : List ℕ) → AreOwned size ns → (n : ℕ) → 1 ≤ times n ns → n < size
 owned_below size ns h n t = below size ns n h.within t
 
