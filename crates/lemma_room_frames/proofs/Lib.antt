@@ -9,3 +9,4 @@ pub mod Others
 pub mod Telling
 pub mod Behind
 pub mod First
+pub mod Asks

@@ -105,6 +105,14 @@ module _ (see : Loc → Option ℕ) where
       ap (λ p. slice_get (given_back p (filter_map see (take i table))) k) is
       ∙ held_behind held (filter_map see (take i table)) size k owned (omega (arith, front, all))
 
+  -- what a page has is held
+  pub page_held : (size : ℕ) (held : List ℕ) (pool : List Bool) → pool ≡ marks held size → AreOwned size held → (table : List Loc) → ((n : ℕ) → times n (filter_map see table) ≤ times n held) →
+      (i : ℕ) (l : Loc) (k : ℕ) → slice_get table i ≡ Some l → see l ≡ Some k → slice_get pool k ≡ Some true
+  page_held size held pool is owned table within i l k at h =
+      let front = times_seen table i l k at h in
+      let all = within k in
+      ap (λ p. slice_get p k) is ∙ held_behind held [] size k owned (let one : 0 + 1 ≤ times k held = omega (arith, front, all) in one)
+
   -- at the end all of the table were given back
   pub table_done : (table : List Loc) (i : ℕ) → length table ≤ i → filter_map see (take i table) ≡ filter_map see table
   table_done [] zero h = refl
