@@ -1,5 +1,5 @@
 -- What the calls of the pool and of the swap store ask for, and what they give, where both hold what the state holds.
-use Rattle.std.proofs.Common.{◌≡◌, ℕ, Bool, true, not, List, take, Some, None, refl, sym, ◌∙◌, ap, ap₂}
+use Rattle.std.proofs.Common.{◌≡◌, ℕ, Bool, true, not, List, take, Some, refl, ◌∙◌, ap₂}
 use Rattle.std.specs.Prelude.{filter_map, position, slice_get}
 use Rattle.ttm_base.specs.declared.BufId.{BufId}
 use Rattle.ttm_base.specs.declared.Loc.TheVariants as loc
@@ -12,7 +12,6 @@ use Rattle.journal_model.specs.Holds.{free_frame, free_slot, held_frames, held_s
 use Rattle.journal_model.specs.Places.{frame_of, slot_of}
 use Rattle.swap_store.specs.Slots.{SwapSlots}
 use Rattle.law_owners.specs.OneOwner.{HaveOneOwner}
-use Rattle.lemma_bytes_told.specs.Told.{IsThere}
 use Rattle.room_ties.specs.Pages.{ArePooled, AreSlots}
 use Rattle.lemma_room_frames.specs.GivenBack.{given_back}
 use Rattle.lemma_room_frames.specs.After.{HasLoc}
