@@ -1,15 +1,16 @@
 -- What the calls of the pool and of the swap store ask for, and what they give, where both hold what the state holds.
-use Rattle.std.proofs.Common.{◌≡◌, ℕ, Bool, true, not, List, take, Some, refl, ◌∙◌, ap₂}
-use Rattle.std.specs.Prelude.{filter_map, position, slice_get}
+use Rattle.std.proofs.Common.{◌≡◌, ℕ, Bool, true, not, List, take, Some, refl, ◌∙◌, ap, ap₂}
+use Rattle.std.specs.Prelude.{filter_map, position, slice_get, unwrap_or}
 use Rattle.ttm_base.specs.declared.BufId.{BufId}
 use Rattle.ttm_base.specs.declared.Loc.TheVariants as loc
-use Rattle.ttm_base.specs.Pages.{PageBytes}
+use Rattle.ttm_base.specs.declared.Mem.TheVariants.{System}
+use Rattle.ttm_base.specs.Pages.{PageBytes, frame}
 use Rattle.journal_model.specs.declared.script.Script.{Script}
 use Rattle.journal_model.specs.declared.state.Ghost.{Ghost}
 use Rattle.journal_model.specs.declared.state.State.{State}
 use Rattle.journal_model.specs.State.{buffer}
 use Rattle.journal_model.specs.Holds.{free_frame, free_slot, held_frames, held_slots}
-use Rattle.journal_model.specs.Places.{frame_of, slot_of}
+use Rattle.journal_model.specs.Places.{frame_of, page_at, page_in, page_in_table, slot_of}
 use Rattle.swap_store.specs.Slots.{SwapSlots}
 use Rattle.law_owners.specs.OneOwner.{HaveOneOwner}
 use Rattle.room_ties.specs.Pages.{ArePooled, AreSlots}
@@ -21,6 +22,10 @@ use Rattle.lemma_room_frames.proofs.Walks.{frames_within, slots_within, ghost_wi
 -- a swap store from its two parts
 pub slots_from : (swap : SwapSlots) (held : List Bool) (bytes : List ℕ) → swap.held ≡ held → swap.bytes ≡ bytes → swap ≡ record { held = held; bytes = bytes }
 slots_from swap held bytes h b = ap₂ (λ x y. let s : SwapSlots = record { held = x; bytes = y } in s) h b
+
+-- a page of a buffer in SYSTEM stands in its frame
+pub in_its_frame : (s : State) (b : BufId) (page f : ℕ) → (buffer s b).mem ≡ System → HasLoc s b page (loc.Frame f) → page_at (buffer s b) page ≡ frame f
+in_its_frame s b page f m has = ap (λ l. page_in l (buffer s b) page) m ∙ ap (λ o. page_in_table (unwrap_or o loc.Zero)) has.at
 
 module _ (script : Script) (s : State) (owned : HaveOneOwner script s.core) where
   module _ (pool : List Bool) (tie : ArePooled script.sizes.frames (held_frames s.core) pool) where

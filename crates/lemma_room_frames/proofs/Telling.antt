@@ -114,7 +114,7 @@ thread_tells script s t k full (moves_across there m t') = (there, λ e. cc)
 thread_tells script s t k full (moves_down there m t' f) = (there, λ e. cc)
 thread_tells script s t k full (evicts there m t' f) = (there, λ e q. (let z : Vram ≡ Tt = sym m ∙ q in cc))
 thread_tells script s t k full catches = tt
-thread_tells script s t k full (swaps_out {b} {k = j} there m quiet f free) = (record { live = there; at = to_empty (buffer s b) f }, free)
+thread_tells script s t k full (swaps_out {b} {k = j} there m quiet f free) = (record { live = there; at = to_empty (buffer s b) f }, free, m)
 thread_tells script s t k full (arms ops at live ready) = tt
 thread_tells script s t k full (reads b off len at none) = λ c o values e. (let z : ◌≡◌ {A = Option Command} (Some (command.Read b off len)) (Some (command.Write c o values)) = sym at ∙ e in cc)
 thread_tells script s t k full (writes b off bytes at there ready quiet) = λ c o values e.

@@ -4,7 +4,7 @@ use Rattle.ttm_base.specs.declared.Actor.{Actor}
 use Rattle.ttm_base.specs.declared.BufId.{BufId}
 use Rattle.ttm_base.specs.declared.Loc.{Loc}
 use Rattle.ttm_base.specs.declared.Loc.TheVariants as loc
-use Rattle.ttm_base.specs.declared.Mem.TheVariants.{Tt}
+use Rattle.ttm_base.specs.declared.Mem.TheVariants.{System, Tt}
 use Rattle.ttm_base.specs.Pages.{PageBytes}
 use Rattle.byte_store.specs.Parts.{overwritten}
 use Rattle.swap_store.specs.Slots.{SwapSlots}
@@ -80,7 +80,7 @@ Tells script s who (kind.New b) = live_in s.core.buffers b ≡ None
 Tells script s who (kind.Free b g) = IsThere s b
 Tells script s who (kind.Populate b page f) = HasLoc s b page loc.Zero × (free_frame script s.core ≡ Some f)
 Tells script s who (kind.SwapIn b page k f) = HasLoc s b page (loc.Slot k) × (free_frame script s.core ≡ Some f)
-Tells script s who (kind.SwapOut b page k) = HasLoc s b page (loc.Frame (frame_at (buffer s b) page)) × (free_slot script s.core ≡ Some k)
+Tells script s who (kind.SwapOut b page k) = HasLoc s b page (loc.Frame (frame_at (buffer s b) page)) × (free_slot script s.core ≡ Some k) × ((buffer s b).mem ≡ System)
 Tells script s who (kind.Depopulate b) = IsThere s b
 Tells script s who (kind.Move b mem n l) = IsThere s b × (l ≡ left.Now → (buffer s b).mem ≡ Tt → ⊥)
 Tells script s who (kind.Reap g) = IsOnlyGhost s.core.ghosts g
