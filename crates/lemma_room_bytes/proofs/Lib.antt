@@ -1,0 +1,6 @@
+pub mod Bytes
+pub mod Writes
+pub mod Mappings
+pub mod Holders
+pub mod Apertures
+pub mod Fills
