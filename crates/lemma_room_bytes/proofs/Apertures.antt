@@ -69,16 +69,17 @@ some_same x y e = cc
 
 -- ---- ghosts that stay
 
-same_ghosts : (c d : Core) → d.ghosts ≡ c.ghosts → (p f : ℕ) → GhostMaps c p f → GhostMaps d p f
+-- the same ghosts map the same
+pub same_ghosts : (c d : Core) → d.ghosts ≡ c.ghosts → (p f : ℕ) → GhostMaps c p f → GhostMaps d p f
 same_ghosts c d gs p f m = record { place = m.place; ghost = m.ghost; is = ap (λ (l : List Ghost). slice_get l m.place) gs ∙ m.is; at = m.at; here = m.here; there = m.there }
 
--- one more
-more_ghosts : (c d : Core) (g : Ghost) → d.ghosts ≡ c.ghosts ++ g ∷ [] → (p f : ℕ) → GhostMaps c p f → GhostMaps d p f
+-- with one more they map what they mapped
+pub more_ghosts : (c d : Core) (g : Ghost) → d.ghosts ≡ c.ghosts ++ g ∷ [] → (p f : ℕ) → GhostMaps c p f → GhostMaps d p f
 more_ghosts c d g gs p f m =
     record { place = m.place; ghost = m.ghost; is = ap (λ (l : List Ghost). slice_get l m.place) gs ∙ front_is c.ghosts g m.ghost m.place m.is; at = m.at; here = m.here; there = m.there }
 
--- an old ghost, or the last
-either_ghost : (c d : Core) (g : Ghost) → d.ghosts ≡ c.ghosts ++ g ∷ [] → (p f : ℕ) (m : GhostMaps d p f) → GhostMaps c p f ⊎ (m.ghost ≡ g)
+-- a ghost that maps is an old one, or the last
+pub either_ghost : (c d : Core) (g : Ghost) → d.ghosts ≡ c.ghosts ++ g ∷ [] → (p f : ℕ) (m : GhostMaps d p f) → GhostMaps c p f ⊎ (m.ghost ≡ g)
 either_ghost c d g gs p f m =
     ⊎_elim
     (λ e. inl (record { place = m.place; ghost = m.ghost; is = e; at = m.at; here = m.here; there = m.there }))

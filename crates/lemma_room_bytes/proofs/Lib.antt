@@ -4,3 +4,4 @@ pub mod Mappings
 pub mod Holders
 pub mod Apertures
 pub mod Fills
+pub mod Carries
