@@ -5,3 +5,4 @@ pub mod Holders
 pub mod Apertures
 pub mod Fills
 pub mod Carries
+pub mod Shown
