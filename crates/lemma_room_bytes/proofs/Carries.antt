@@ -1,17 +1,16 @@
 -- The stores behind entries that carry a buffer into TT or out of it, free it, or reap a ghost.
-use Rattle.std.proofs.Common.{◌≡◌, ℕ, ◌+◌, ◌*◌, Bool, true, false, List, [], ◌∷◌, ◌++◌, Option, Some, None, refl, sym, ◌∙◌, ap, ap₂, subst, ⊎_elim, length}
-use Rattle.std.specs.Prelude.{slice_get, slice_set, filter, not, option_map, ◌==◌, if◌then◌else◌}
+use Rattle.std.proofs.Common.{◌≡◌, ℕ, false, List, [], ◌∷◌, ◌++◌, Option, Some, None, refl, sym, ◌∙◌, ap, subst, ⊎_elim, length}
+use Rattle.std.specs.Prelude.{slice_get, slice_set, option_map, ◌==◌, if◌then◌else◌}
 use Rattle.ttm_base.specs.declared.Actor.{Actor}
 use Rattle.ttm_base.specs.declared.Mem.{Mem}
 use Rattle.ttm_base.specs.declared.Mem.TheVariants.{System, Tt, Vram}
 use Rattle.ttm_base.specs.declared.BufId.{BufId}
 use Rattle.ttm_base.specs.declared.JobId.{JobId}
 use Rattle.ttm_base.specs.declared.Loc.{Loc}
-use Rattle.ttm_base.specs.Pages.{PageBytes, Aperture}
+use Rattle.ttm_base.specs.Pages.{PageBytes}
 use Rattle.aperture_table.specs.Translation.{frame_at}
 use Rattle.copy_packet.specs.declared.stores.Stores.{Stores}
 use Rattle.journal_model.specs.declared.script.Script.{Script}
-use Rattle.journal_model.specs.declared.entry.Kind.{Kind}
 use Rattle.journal_model.specs.declared.entry.Kind.TheVariants as kind
 use Rattle.journal_model.specs.declared.entry.Left.{Left}
 use Rattle.journal_model.specs.declared.entry.Left.TheVariants as left
@@ -20,7 +19,7 @@ use Rattle.journal_model.specs.declared.state.Core.{Core}
 use Rattle.journal_model.specs.declared.state.Ghost.{Ghost}
 use Rattle.journal_model.specs.declared.state.State.{State}
 use Rattle.journal_model.specs.State.{buffer, live_in, changed, target_spans}
-use Rattle.journal_model.specs.Places.{pages_of, frames_of, aperture}
+use Rattle.journal_model.specs.Places.{pages_of, aperture}
 use Rattle.journal_model.specs.Holds.{spans_in}
 use Rattle.journal_model.specs.Apply.{applied}
 use Rattle.journal_model.specs.ApplyCommands.{ghost_of_freed}

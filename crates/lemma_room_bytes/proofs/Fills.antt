@@ -1,21 +1,19 @@
 -- The stores behind entries on frames and slots, and behind those that leave bytes and aperture as they are.
-use Rattle.std.proofs.Common.{◌≡◌, ℕ, zero, suc, ◌+◌, ◌*◌, ◌<◌, ◌≤◌, Bool, true, List, [], ◌∷◌, ◌++◌, Option, Some, None, refl, sym, ◌∙◌, ap, subst, arith, length, get_or}
-use Rattle.std.specs.Prelude.{slice_get, slice_set, fold, find, zip, flat_map, filter_map, option_map, option_and_then, unwrap_or, ◌==◌}
+use Rattle.std.proofs.Common.{◌≡◌, ℕ, zero, suc, ◌+◌, ◌*◌, ◌<◌, true, List, [], ◌∷◌, ◌++◌, Option, Some, None, refl, sym, ◌∙◌, ap, arith, length, get_or}
+use Rattle.std.specs.Prelude.{slice_get, slice_set, fold, find, zip, flat_map, filter_map, option_map, option_and_then, ◌==◌}
 use Rattle.ttm_base.specs.declared.Actor.{Actor}
 use Rattle.ttm_base.specs.declared.Mem.{Mem}
 use Rattle.ttm_base.specs.declared.Mem.TheVariants.{System, Tt, Vram}
 use Rattle.ttm_base.specs.declared.BufId.{BufId}
 use Rattle.ttm_base.specs.declared.JobId.{JobId}
-use Rattle.ttm_base.specs.declared.Loc.{Loc}
 use Rattle.ttm_base.specs.declared.Loc.TheVariants as loc
 use Rattle.ttm_base.specs.declared.Op.{Op}
 use Rattle.ttm_base.specs.declared.Span.{Span}
 use Rattle.ttm_base.specs.declared.Usage.{Usage}
 use Rattle.ttm_base.specs.declared.Usage.TheVariants as usage
-use Rattle.ttm_base.specs.Pages.{frame, slot, PageBytes, Aperture, with_bytes}
+use Rattle.ttm_base.specs.Pages.{frame, slot, PageBytes, Aperture}
 use Rattle.byte_store.specs.Parts.{filled, overwritten, part}
 use Rattle.byte_store.proofs.PartLaws.{length-filled, length-part, get_or-filled}
-use Rattle.copy_packet.specs.Spots.{after_write, spot_at}
 use Rattle.copy_packet.specs.StoreBytes.{HasPage, byte_at}
 use Rattle.copy_packet.specs.declared.stores.Stores.{Stores}
 use Rattle.copy_packet.proofs.SpotLaws.{page_byte}
@@ -30,7 +28,7 @@ use Rattle.journal_model.specs.declared.state.State.{State}
 use Rattle.journal_model.specs.State.{buffer, live_in, changed, new_buffer}
 use Rattle.journal_model.specs.Commands.{decl, command_at_work}
 use Rattle.journal_model.specs.Places.{pages_of, page_at, mapped_in, aperture}
-use Rattle.journal_model.specs.Stores.{with_page_bytes, stores_after}
+use Rattle.journal_model.specs.Stores.{with_page_bytes}
 use Rattle.journal_model.specs.Waits.{jobs_before_target}
 use Rattle.journal_model.specs.Apply.{applied, thread_of}
 use Rattle.journal_model.specs.ApplyCommands.{named_in}

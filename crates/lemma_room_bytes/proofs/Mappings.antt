@@ -1,6 +1,6 @@
 -- An aperture as a list: what it says of a page after pages were mapped or cleared, and a step of each loop.
-use Rattle.std.proofs.Common.{◌≡◌, ℕ, zero, suc, ◌+◌, ◌<◌, ◌≤◌, List, [], ◌∷◌, Option, Some, None, refl, sym, ◌∙◌, ap, ap₂, subst, arith, ◌⊎◌, inl, inr, ⊎_elim, length, take}
-use Rattle.std.specs.Prelude.{slice_get, slice_set, unwrap_or, filter_map}
+use Rattle.std.proofs.Common.{◌≡◌, ℕ, zero, suc, ◌<◌, ◌≤◌, List, [], ◌∷◌, Option, Some, None, refl, ◌∙◌, ap, ap₂, arith, ◌⊎◌, inl, inr, ⊎_elim, length, take}
+use Rattle.std.specs.Prelude.{slice_get, slice_set, filter_map}
 use Rattle.std.proofs.lemmas.Bool.{cases_eq}
 use Rattle.std.proofs.lemmas.List.{length-set, take_all}
 use Rattle.ttm_base.specs.declared.Loc.{Loc}

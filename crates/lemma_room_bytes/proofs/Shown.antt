@@ -1,5 +1,5 @@
 -- The bytes that a read shows, and those that a page takes to its slot, are those that the parts have.
-use Rattle.std.proofs.Common.{◌≡◌, ℕ, zero, suc, ◌+◌, ◌*◌, ◌/◌, ◌%◌, ◌<◌, ◌≤◌, Bool, true, false, List, [], ◌∷◌, ◌++◌, Option, Some, None, refl, sym, ◌∙◌, ap, ap₂, arith, get_or, replicate}
+use Rattle.std.proofs.Common.{◌≡◌, ℕ, zero, suc, ◌+◌, ◌*◌, ◌/◌, ◌%◌, ◌<◌, ◌≤◌, true, List, [], ◌∷◌, ◌++◌, Option, Some, refl, sym, ◌∙◌, ap, ap₂, arith, get_or, replicate}
 use Rattle.std.specs.Prelude.{map, slice_get}
 use Rattle.ttm_base.specs.declared.Actor.{Actor}
 use Rattle.ttm_base.specs.declared.BufId.{BufId}
