@@ -6,3 +6,4 @@ pub mod Apertures
 pub mod Fills
 pub mod Carries
 pub mod Shown
+pub mod Places
