@@ -7,3 +7,4 @@ pub mod Fills
 pub mod Carries
 pub mod Shown
 pub mod Places
+pub mod SpanPages
