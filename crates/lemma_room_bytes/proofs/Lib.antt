@@ -7,4 +7,7 @@ pub mod Fills
 pub mod Carries
 pub mod Shown
 pub mod Places
+pub mod Legal
+pub mod Entries
+pub mod Reached
 pub mod SpanPages
