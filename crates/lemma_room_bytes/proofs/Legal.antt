@@ -1,5 +1,5 @@
 -- What a legal journal tells of its state and of the entry behind it, as far as the stores depend on it.
-use Rattle.std.proofs.Common.{◌≡◌, ℕ, ◌<◌, Bool, true, false, List, [], ◌∷◌, Option, Some, None, Ok, Err, IsTrue, refl, sym, ◌∙◌, ap, subst}
+use Rattle.std.proofs.Common.{◌≡◌, ℕ, true, false, List, Option, Some, None, Ok, Err, IsTrue, refl, sym, ◌∙◌, ap}
 use Rattle.std.specs.Prelude.{slice_get}
 use Rattle.ttm_base.specs.declared.Actor.{Actor}
 use Rattle.ttm_base.specs.declared.Actor.TheVariants as actor
@@ -17,7 +17,7 @@ use Rattle.journal_model.specs.declared.state.State.{State}
 use Rattle.journal_model.specs.State.{buffer, live_in}
 use Rattle.journal_model.specs.Holds.{held_frames}
 use Rattle.journal_model.specs.Next.{next}
-use Rattle.journal_model.specs.PageSteps.{unless_waiting, page_to_fill, first_frame_page}
+use Rattle.journal_model.specs.PageSteps.{unless_waiting}
 use Rattle.journal_model.specs.ScriptRules.{is_script}
 use Rattle.journal_model.specs.Search.{Step}
 use Rattle.journal_model.specs.Waits.{waited_for}
@@ -29,7 +29,7 @@ use Rattle.law_transparent.proofs.Carried.{clear_law, told_law}
 use Rattle.lemma_bytes_move.proofs.Tables.{full_is}
 use Rattle.lemma_bytes_told.specs.Told.{is_still, Told, still, makes, frees, leaves, takes, untakes, populates, swaps_in, depopulates, binds, unbinds, moves_up, moves_across, moves_down, evicts, catches, swaps_out, arms, reads, writes, results}
 use Rattle.lemma_room_bytes.specs.Mapped.{IsFull}
-use Rattle.lemma_room_bytes.specs.Telling.{IsOutside, GetsFrame, LeavesSlot, ComesIn, MoveTells, Tells}
+use Rattle.lemma_room_bytes.specs.Telling.{Tells}
 
 vram_out : (s : State) (b : BufId) → (buffer s b).mem ≡ Vram → (buffer s b).mem ≡ Tt → ⊥
 vram_out s b m e = let z : Vram ≡ Tt = sym m ∙ e in cc
