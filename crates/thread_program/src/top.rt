@@ -57,7 +57,9 @@ fn run_top<R: Threads + Wait + Sync, S: Source, K: Sink, G: Gate + Sync>(
     match outcome_of(rt, alloc, source, gate) {
         Ok(outcome) => {
             let status = outcome.status();
-            status_after(status, write_outcome(alloc, &outcome, sink))
+            let ended = status_after(status, write_outcome(alloc, &outcome, sink));
+            drop(outcome);
+            ended
         }
         Err(NoMemory) => Status::NoMemory,
     }
@@ -88,7 +90,11 @@ fn gen_top<R: Threads + Wait + Sync, K: Sink, G: Gate + Sync>(
         (record { before = K.written sink.old; after = K.written sink.new; faults_before = K.faults sink.old; faults_after = K.faults sink.new }) result }
 {
     match run_drawn(rt, alloc, number, gate) {
-        Ok(device) => status_after(Status::Done, write_counts(alloc, number, &device, sink)),
+        Ok(device) => {
+            let ended = status_after(Status::Done, write_counts(alloc, number, &device, sink));
+            drop(device);
+            ended
+        }
         Err(NoMemory) => Status::NoMemory,
     }
 }

@@ -1,0 +1,13 @@
+pub mod Bytes
+pub mod Writes
+pub mod Mappings
+pub mod Holders
+pub mod Apertures
+pub mod Fills
+pub mod Carries
+pub mod Shown
+pub mod Places
+pub mod Legal
+pub mod Entries
+pub mod Reached
+pub mod SpanPages
