@@ -1,0 +1,11 @@
+pub mod Marks
+pub mod Held
+pub mod Pools
+pub mod Lowest
+pub mod Walks
+pub mod Slots
+pub mod SlotKinds
+pub mod Others
+pub mod Telling
+pub mod Behind
+pub mod First

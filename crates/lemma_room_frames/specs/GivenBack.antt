@@ -1,0 +1,24 @@
+-- A pool, or the slots of a swap store, after numbers were taken or given back.
+use Rattle.std.specs.Prelude.{ℕ, Bool, true, false, List, [], fold, slice_set}
+use Rattle.ttm_base.specs.declared.Mem.{Mem}
+use Rattle.ttm_base.specs.declared.Mem.TheVariants.{System, Tt, Vram}
+use Rattle.journal_model.specs.declared.state.Buffer.{Buffer}
+use Rattle.journal_model.specs.Places.{slots_of}
+
+-- the number is held
+abbrev pub taken : List Bool → ℕ → List Bool
+taken pool k = slice_set pool k true
+
+-- the number is free
+abbrev pub given : List Bool → ℕ → List Bool
+given pool k = slice_set pool k false
+
+-- the numbers are free, given back in order
+abbrev pub given_back : List Bool → List ℕ → List Bool
+given_back pool ks = fold given pool ks
+
+-- the slots that a moved buffer leaves: out of TT its table is emptied
+abbrev pub slots_left : Mem → Buffer → List ℕ
+slots_left Tt x = slots_of x
+slots_left Vram x = []
+slots_left System x = []

@@ -1,0 +1,3 @@
+pub mod GivenBack
+pub mod Tables
+pub mod After
