@@ -1,0 +1,13 @@
+pub mod Held
+pub mod Changed
+pub mod Still
+pub mod Targets
+pub mod Carried
+pub mod Free
+pub mod Chosen
+pub mod Holders
+pub mod Facts
+pub mod First
+pub mod Legal
+pub mod Declared
+pub mod Taken
