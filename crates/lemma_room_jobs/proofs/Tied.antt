@@ -37,12 +37,16 @@ module _ (script : Script) (s : State) (bytes : PageBytes) (p : Parts) (t : Ties
   done_tied end =
       let known : e < length s.last_jobs = head_known s.last_jobs s.core.jobs rows e n end.job end.head in
       record {
+        bos = t.bos;
         line = timeline_end s.core.jobs s.last_jobs rows e n known end.job end.head p.line t.line;
         rings = rings_end s.core.jobs s.last_jobs rows e n known end.job end.head p.rings t.rings;
         ghosts = ghosts_later s.core.jobs s.last_jobs _ s.last_jobs (change_later ended ends_keep e n s.core.jobs s.last_jobs) s.core.ghosts p.ghosts t.ghosts;
+        vram = t.vram;
+        tt = t.tt;
         pool = t.pool;
         swap = t.swap;
         stores = t.stores;
+        lists = t.lists;
         courses = t.courses;
         stamp = t.stamp;
         ghost = t.ghost;
@@ -76,12 +80,16 @@ module _ (script : Script) (s : State) (bytes : PageBytes) (p : Parts) (t : Ties
     packet_tied new ran =
         subst (λ x. Ties script (after_packet_run s (job_id e n)) (within script.sizes (after_packet (aperture s.core) bytes x)) (record p { rings = with_ran p.rings e; stores = new })) (sym packet_is)
         (record {
+          bos = t.bos;
           line = timeline_run s.core.jobs s.last_jobs rows e n known run.job run.head p.line t.line;
           rings = rings_run s.core.jobs s.last_jobs rows e n known run.job run.head p.rings t.rings;
           ghosts = ghosts_later s.core.jobs s.last_jobs _ s.last_jobs (change_later after_run runs_keep e n s.core.jobs s.last_jobs) s.core.ghosts p.ghosts t.ghosts;
+          vram = t.vram;
+          tt = t.tt;
           pool = t.pool;
           swap = slots_run script s.core bytes p.stores t.stores t.no_more q new ran (held_slots s.core) p.swap t.swap;
           stores = stores_run script s.core bytes p.stores t.stores t.no_more q new ran;
+          lists = t.lists;
           courses = t.courses;
           stamp = t.stamp;
           ghost = t.ghost;

@@ -4,3 +4,4 @@ pub mod Needs
 pub mod Sets
 pub mod GhostSteps
 pub mod Stays
+pub mod Told

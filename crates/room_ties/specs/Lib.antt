@@ -4,4 +4,7 @@ pub mod RingJobs
 pub mod Ghosts
 pub mod MoveFences
 pub mod Pages
+pub mod Bos
+pub mod Managers
 pub mod Ties
+pub mod Held

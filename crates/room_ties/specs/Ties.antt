@@ -5,20 +5,27 @@ use Rattle.journal_model.specs.declared.script.Script.{Script}
 use Rattle.journal_model.specs.declared.state.State.{State}
 use Rattle.journal_model.specs.Holds.{held_frames, held_slots}
 use Rattle.journal_model.specs.Places.{aperture}
+use Rattle.lemma_room_lists.specs.Listed.{AreListed}
 use Rattle.room_ties.specs.declared.parts.Parts.{Parts}
+use Rattle.room_ties.specs.Bos.{AreBos}
 use Rattle.room_ties.specs.Lines.{IsTimeline}
 use Rattle.room_ties.specs.RingJobs.{AreRings}
 use Rattle.room_ties.specs.Ghosts.{AreGhosts}
+use Rattle.room_ties.specs.Managers.{IsVram, IsTt}
 use Rattle.room_ties.specs.Pages.{ArePooled, AreSlots, AreStores, HasNoMore}
 
 -- one relation a part; each takes what it needs of the state
 pub record Ties (script : Script) (s : State) (bytes : PageBytes) (p : Parts) : Type 0 where
+  pub bos : AreBos script s.core.buffers s.grips s.last_jobs p.bos
   pub line : IsTimeline s.core.jobs s.last_jobs p.line
   pub rings : AreRings s.core.jobs s.last_jobs p.rings
   pub ghosts : AreGhosts s.core.jobs s.last_jobs s.core.ghosts p.ghosts
+  pub vram : IsVram script.sizes s.last_jobs s.core.buffers s.core.ghosts s.core.move_fence p.vram
+  pub tt : IsTt script.sizes s.core.buffers s.core.ghosts p.tt
   pub pool : ArePooled script.sizes.frames (held_frames s.core) p.pool
   pub swap : AreSlots script.sizes.swap (held_slots s.core) bytes p.swap
   pub stores : AreStores script.sizes (aperture s.core) bytes p.stores
+  pub lists : AreListed script s.core.buffers s.grips s.lists p.lru
   pub courses : p.courses ≡ s.courses
   pub stamp : p.tickets ≡ s.last_stamp
   pub ghost : p.last_ghost ≡ s.last_ghost

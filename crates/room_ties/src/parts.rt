@@ -1,8 +1,11 @@
+use bo_table::BoTable;
 use copy_engine::Rings;
 use copy_packet::Stores;
 use fence_core::{FenceSet, Timeline};
 use journal_model::{Courses, Frames};
+use lru_bulk::Lru;
 use page_pool::PagePool;
+use resource_core::{RangeRoom, VramRoom};
 use swap_store::SwapStore;
 use ttm_base::{ItemList, Spans};
 use ww_ticket::Tickets;
@@ -24,21 +27,29 @@ pub struct Ghost {
 
 pub type Ghosts = ItemList<Ghost>;
 
-/// The parts beside buffers, their lists and the managers of pages.
+/// All parts of the device: the only copy of what they keep.
 #[derive(Drop)]
 pub struct Parts {
+    /// Buffers by declared number, how they are held, and the jobs that use them.
+    pub bos: BoTable,
     /// How far the jobs of each context are.
     pub line: Timeline,
     /// The jobs that aren't done.
     pub rings: Rings,
     /// In order of making.
     pub ghosts: Ghosts,
+    /// Who holds which pages of VRAM, and the move fence.
+    pub vram: VramRoom,
+    /// Who holds which pages of TT.
+    pub tt: RangeRoom,
     /// Which frames are held.
     pub pool: PagePool,
     /// Which slots are held, and their bytes.
     pub swap: SwapStore,
     /// The bytes of VRAM and frames, and the aperture.
     pub stores: Stores,
+    /// The twelve lists of buffers in eviction order.
+    pub lru: Lru,
     /// Where threads stand.
     pub courses: Courses,
     /// The stamps that were drawn.
