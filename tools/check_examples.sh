@@ -8,7 +8,7 @@ set -u
 top=$(cd "$(dirname "$0")/.." && pwd)
 examples=$(cd "${1:-$top/examples}" && pwd) || exit 1
 cases=$(mktemp -d)
-trap 'rm -rf "$cases"' EXIT
+trap 'rm -rf "$cases" "$cases.log"' EXIT
 
 faults=0
 count=0
@@ -36,7 +36,6 @@ if [ "$status" -ne 0 ] || ! grep -q "^cases=$count ended=$count fault=0 differs=
   sed '/output=expected/d; s/^/examples: /' "$cases.log"
   faults=1
 fi
-rm -f "$cases.log"
 if [ "$faults" -eq 0 ]; then
   echo "examples: each of $count is what the program writes"
 else
