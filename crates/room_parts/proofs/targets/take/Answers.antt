@@ -1,0 +1,22 @@
+use Rattle.std.proofs.Common.{◌∙◌, ap, Some}
+use Rattle.bo_table.specs.Seen.{with_changed}
+use Rattle.journal_model.specs.ApplyPages.{with_spans}
+use Rattle.room_parts.proofs.Taken.{take_refused, take_there, take_vram, take_tt, take_joins, take_held}
+use Rattle.room_parts.proofs.targets.take.Goals as goal
+
+pub hold_target-requires-clause-vram : goal.hold_target-requires-clause-vram
+hold_target-requires-clause-vram c = take_vram c.args.script.now c.args.before.now c.args.parts.now c.args.entry.now c.args.thread c.args.b c.args.mem c.args.spans.now c.requires.held c.requires.is c.requires.next
+
+pub hold_target-requires-clause-tt : goal.hold_target-requires-clause-tt
+hold_target-requires-clause-tt c = take_tt c.args.script.now c.args.before.now c.args.parts.now c.args.entry.now c.args.thread c.args.b c.args.mem c.args.spans.now c.requires.held c.requires.is c.requires.next
+
+pub add_move_fence-requires : goal.add_move_fence-requires
+add_move_fence-requires c = take_joins c.args.script.now c.args.before.now c.args.parts.now c.args.entry.now c.args.thread c.args.b c.args.mem c.args.spans.now c.requires.held c.requires.is c.requires.next c.hold_target.new.vram c.set_target.new.self _ c.in_ok-hold_target.ensures.vram (c.set_target.ensures ∙ ap (λ l. with_changed (with_spans c.args.mem (Some l)) c.args.parts.now.bos c.args.b) c.in_ok-target.ensures) c.move_fence-fence.ensures
+
+pub end_search-requires : goal.end_search-requires
+end_search-requires c = take_there c.args.script.now c.args.before.now c.args.parts.now c.args.entry.now c.args.thread c.args.b c.args.mem c.args.spans.now c.requires.held c.requires.is c.requires.next
+
+pub returns-clause-ok : goal.returns-clause-ok
+returns-clause-ok c =
+    take_held c.args.script.now c.args.before.now c.args.parts.now c.args.entry.now c.args.thread c.args.b c.args.mem c.args.spans.now c.requires.held c.requires.is c.requires.next c.hold_target.new.vram c.hold_target.new.tt c.set_target.new.self c.add_move_fence.new.bos _ c.end_search.new.courses c.in_ok-hold_target.ensures.vram c.in_ok-hold_target.ensures.rule c.in_ok-hold_target.ensures.tt
+    (c.set_target.ensures ∙ ap (λ l. with_changed (with_spans c.args.mem (Some l)) c.args.parts.now.bos c.args.b) c.in_ok-target.ensures) c.move_fence-fence.ensures c.add_move_fence.ensures c.end_search.ensures

@@ -1,0 +1,30 @@
+-- Courses by thread, and how entries change one.
+use Rattle.std.specs.Prelude.{ℕ, ◌-◌, ◌++◌, ◌==◌, List, [], ◌∷◌, Option, None, Some, slice_get, unwrap_or, if◌then◌else◌}
+use Rattle.ttm_base.specs.declared.BufId.{BufId}
+use Rattle.ttm_base.specs.declared.Stamp.{Stamp}
+use Rattle.journal_model.specs.declared.state.Course.{Course}
+use Rattle.journal_model.specs.State.{new_course, with_course}
+
+-- the thread's course, if the thread is there
+abbrev pub course_at : List Course → ℕ → Option Course
+course_at courses thread = if thread == 0 then None else slice_get courses (thread - 1)
+
+-- where it is known to be
+abbrev pub course_in : List Course → ℕ → Course
+course_in courses thread = unwrap_or (course_at courses thread) (new_course 0)
+
+-- the courses after one of them was changed
+abbrev pub with_course_by : (Course → Course) → List Course → ℕ → List Course
+with_course_by f courses thread = with_course courses thread (f (course_in courses thread))
+
+-- it has a ticket
+abbrev pub stamped : Stamp → Course → Course
+stamped stamp c = record c { stamp = Some stamp }
+
+-- one more buffer is held
+abbrev pub with_held : BufId → Course → Course
+with_held b c = record c { held = c.held ++ b ∷ [] }
+
+-- nothing is held, and the buffer comes first
+abbrev pub begun_anew : BufId → Course → Course
+begun_anew b c = record c { held = []; first = Some b }

@@ -1,0 +1,4 @@
+pub mod Courses
+pub mod Tables
+pub mod MoveSets
+pub mod Takes

@@ -1,0 +1,33 @@
+ghost use Rattle.std.specs.Prelude.{◌≡◌, ◌∷◌, ◌++◌, [], OnOk, OnErr};
+ghost use Rattle.ttm_base.specs.declared.Actor.TheVariants as actor;
+ghost use Rattle.journal_model.specs.declared.entry.Kind.TheVariants as kind;
+ghost use Rattle.journal_model.specs.Legal.{IsLegalNext, world_of};
+ghost use Rattle.room_ties.specs.Held.{AreHeld};
+
+use crate::courses::has_made;
+use journal_model::{Entry, Script};
+use room_ties::Parts;
+use ttm_base::{BufId, Mem, NoMemory};
+
+/// A buffer is made, in SYSTEM and without a frame.
+pub fn make(
+    parts: &mut Parts,
+    script: &Script,
+    before: &[Entry],
+    entry: &Entry,
+    thread: u32,
+    b: BufId,
+) -> Result<(), NoMemory>
+    requires held { AreHeld script.now before.now parts.old }
+    requires is { entry.now ≡ record { who = actor.Thread thread; kind = kind.New b } }
+    requires next { IsLegalNext script.now (world_of script.now before.now) entry.now }
+    ensures ok { OnOk result (AreHeld script.now (before.now ++ entry.now ∷ []) parts.new) }
+    ensures err { OnErr result (AreHeld script.now before.now parts.new) }
+{
+    parts.lru.members_stand_once();
+    let decl = script.buffers.get(b.0 as usize);
+    parts.lru.add(b, Mem::System, decl.prio, decl.group)?;
+    parts.bos.make(b);
+    has_made(&mut parts.courses, thread);
+    Ok(())
+}

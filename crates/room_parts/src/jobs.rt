@@ -1,0 +1,45 @@
+ghost use Rattle.std.specs.Prelude.{◌≡◌, ◌∷◌, ◌++◌, [], OnOk, OnErr};
+ghost use Rattle.ttm_base.specs.declared.Actor.TheVariants as actor;
+ghost use Rattle.journal_model.specs.declared.entry.Kind.TheVariants as kind;
+ghost use Rattle.journal_model.specs.Legal.{IsLegalNext, world_of};
+ghost use Rattle.room_ties.specs.Held.{AreHeld};
+
+use copy_packet::ProbeBytes;
+use journal_model::{Entry, Script};
+use room_ties::Parts;
+use std::alloc::Global;
+use ttm_base::NoMemory;
+
+/// A job is done: it leaves its ring, and the timeline counts it.
+pub fn done(parts: &mut Parts, script: &Script, before: &[Entry], entry: &Entry, ctx: u32, num: u64)
+    requires held { AreHeld script.now before.now parts.old }
+    requires is { entry.now ≡ record { who = actor.Engine ctx; kind = kind.Done num } }
+    requires next { IsLegalNext script.now (world_of script.now before.now) entry.now }
+    ensures { AreHeld script.now (before.now ++ entry.now ∷ []) parts.new }
+{
+    parts.rings.finish(ctx);
+    parts.line.done(ctx);
+}
+
+/// The head of a context runs its next packet. What a probe shows is in the entry already.
+pub fn packet(
+    parts: &mut Parts,
+    alloc: Global,
+    script: &Script,
+    before: &[Entry],
+    entry: &Entry,
+    ctx: u32,
+    num: u64,
+    k: u32,
+    piece: &[u8],
+) -> Result<(), NoMemory>
+    requires held { AreHeld script.now before.now parts.old }
+    requires is { entry.now ≡ record { who = actor.Engine ctx; kind = kind.Packet num k piece.now } }
+    requires next { IsLegalNext script.now (world_of script.now before.now) entry.now }
+    ensures ok { OnOk result (AreHeld script.now (before.now ++ entry.now ∷ []) parts.new) }
+    ensures err { OnErr result (AreHeld script.now before.now parts.new) }
+{
+    let mut out = ProbeBytes::new(alloc)?;
+    let _ = parts.rings.run_next(ctx, &mut parts.stores, &mut out);
+    Ok(())
+}

@@ -1,0 +1,21 @@
+//! What each kind of entry does to the parts of the device: one function a kind, which keeps the parts telling the state and the bytes that
+//! the journal leads to. Each takes all its memory before it changes what can be seen.
+#![tactic(auto)]
+
+mod buffers;
+mod courses;
+mod grips;
+mod jobs;
+mod lists;
+mod pages;
+mod targets;
+mod tickets;
+mod victims;
+
+pub use buffers::make;
+pub use jobs::{done, packet};
+pub use lists::bulk;
+pub use pages::{populate, swap_in};
+pub use targets::{take, untake};
+pub use tickets::{back_off, refuse, reserve, ticket};
+pub use victims::{catch, loose, no_pages, skip};

@@ -1,0 +1,58 @@
+ghost use Rattle.std.specs.Prelude.{◌≡◌, ◌∷◌, ◌++◌, []};
+ghost use Rattle.ttm_base.specs.declared.Actor.TheVariants as actor;
+ghost use Rattle.journal_model.specs.declared.entry.Kind.TheVariants as kind;
+ghost use Rattle.journal_model.specs.Legal.{IsLegalNext, world_of};
+ghost use Rattle.room_ties.specs.Held.{AreHeld};
+
+use byte_store::PAGE;
+use journal_model::{Entry, Script};
+use room_ties::Parts;
+use ttm_base::{BufId, Loc};
+
+/// A page that was never written gets a frame of zeros: the lowest that is free.
+pub fn populate(
+    parts: &mut Parts,
+    script: &Script,
+    before: &[Entry],
+    entry: &Entry,
+    thread: u32,
+    b: BufId,
+    page: u32,
+    frame: u32,
+)
+    requires held { AreHeld script.now before.now parts.old }
+    requires is { entry.now ≡ record { who = actor.Thread thread; kind = kind.Populate b page frame } }
+    requires next { IsLegalNext script.now (world_of script.now before.now) entry.now }
+    ensures { AreHeld script.now (before.now ++ entry.now ∷ []) parts.new }
+{
+    let _taken = parts.pool.take();
+    parts.stores.frames.zero_page(frame);
+    parts.bos.set_page(b, page, Loc::Frame(frame));
+}
+
+/// A page comes back from its swap slot into the lowest free frame, and the slot is free.
+pub fn swap_in(
+    parts: &mut Parts,
+    script: &Script,
+    before: &[Entry],
+    entry: &Entry,
+    thread: u32,
+    b: BufId,
+    page: u32,
+    slot: u32,
+    frame: u32,
+)
+    requires held { AreHeld script.now before.now parts.old }
+    requires is { entry.now ≡ record { who = actor.Thread thread; kind = kind.SwapIn b page slot frame } }
+    requires next { IsLegalNext script.now (world_of script.now before.now) entry.now }
+    ensures { AreHeld script.now (before.now ++ entry.now ∷ []) parts.new }
+{
+    let _taken = parts.pool.take();
+    let bytes = parts.swap.page(slot);
+    parts
+        .stores
+        .frames
+        .copy_page_part(PAGE * frame as u64, bytes);
+    parts.swap.drop_slot(slot);
+    parts.bos.set_page(b, page, Loc::Frame(frame));
+}

@@ -1,0 +1,124 @@
+ghost use Rattle.std.specs.Prelude.{◌≡◌, ◌∷◌, ◌++◌, [], Some, OnOk, OnErr};
+ghost use Rattle.ttm_base.specs.declared.Actor.TheVariants as actor;
+ghost use Rattle.ttm_base.specs.declared.Mem.TheVariants.{Tt as InTt, Vram as InVram};
+ghost use Rattle.ttm_base.specs.declared.JobId.{JobId as Id};
+ghost use Rattle.ttm_base.specs.declared.Owner.TheVariants as owner;
+ghost use Rattle.journal_model.specs.declared.entry.Kind.TheVariants as kind;
+ghost use Rattle.journal_model.specs.Legal.{IsLegalNext, world_of};
+ghost use Rattle.resource_core.specs.Vram.{spans_of_kind};
+ghost use Rattle.lemma_room_spans.specs.Calls.{taken, untaken};
+ghost use Rattle.room_parts.specs.Takes.{CanHold};
+ghost use Rattle.room_ties.specs.Held.{AreHeld};
+ghost use Rattle.room_parts.specs.MoveSets.{with_move_fence, CanJoin};
+
+use crate::courses::end_search;
+use bo_table::BoTable;
+use fence_core::Timeline;
+use journal_model::{Entry, Script};
+use resource_core::{Manager, RangeRoom, VramRoom};
+use room_ties::Parts;
+use ttm_base::{BufId, JobId, Mem, NoMemory, Owner, Spans, Usage};
+
+/// Gives the target of a buffer back to VRAM, if it is there.
+fn give_vram(room: &mut VramRoom, b: BufId, mem: Mem)
+    ensures held { room.new.resources ≡ untaken InVram mem b room.old.resources }
+    ensures rule { spans_of_kind room.new.kind ≡ spans_of_kind room.old.kind }
+{
+    let held = room.holds(Owner::Target(b));
+    if mem == Mem::Vram && held {
+        room.give(Owner::Target(b));
+    }
+}
+
+/// Gives the target of a buffer back to TT, if it is there.
+fn give_tt(room: &mut RangeRoom, b: BufId, mem: Mem)
+    ensures { room.new ≡ untaken InTt mem b room.old }
+{
+    let held = room.holds(Owner::Target(b));
+    if mem == Mem::Tt && held {
+        room.give(Owner::Target(b));
+    }
+}
+
+/// A buffer's target is given back, since its search failed further on.
+pub fn untake(
+    parts: &mut Parts,
+    script: &Script,
+    before: &[Entry],
+    entry: &Entry,
+    thread: u32,
+    b: BufId,
+    mem: Mem,
+)
+    requires held { AreHeld script.now before.now parts.old }
+    requires is { entry.now ≡ record { who = actor.Thread thread; kind = kind.Untake b mem } }
+    requires next { IsLegalNext script.now (world_of script.now before.now) entry.now }
+    ensures { AreHeld script.now (before.now ++ entry.now ∷ []) parts.new }
+{
+    give_vram(&mut parts.vram, b, mem);
+    give_tt(&mut parts.tt, b, mem);
+    parts.bos.set_target(b, mem, None);
+}
+
+/// The manager of a memory type holds these spans for the target of a buffer. SYSTEM has none.
+fn hold_target(
+    vram: &mut VramRoom,
+    tt: &mut RangeRoom,
+    b: BufId,
+    mem: Mem,
+    spans: &Spans,
+) -> Result<(), NoMemory>
+    requires vram { mem ≡ InVram → CanHold (owner.Target b) spans.now vram.old.resources }
+    requires tt { mem ≡ InTt → CanHold (owner.Target b) spans.now tt.old }
+    ensures vram { OnOk result (vram.new.resources ≡ taken InVram mem b spans.now vram.old.resources) }
+    ensures tt { OnOk result (tt.new ≡ taken InTt mem b spans.now tt.old) }
+    ensures rule { spans_of_kind vram.new.kind ≡ spans_of_kind vram.old.kind }
+    ensures same_vram { OnErr result (vram.new.resources ≡ vram.old.resources) }
+    ensures same_tt { OnErr result (tt.new ≡ tt.old) }
+{
+    match mem {
+        Mem::Vram => vram.hold(Owner::Target(b), spans),
+        Mem::Tt => tt.hold(Owner::Target(b), spans),
+        Mem::System => Ok(()),
+    }
+}
+
+/// A target in VRAM brings the move fence, if it isn't signalled.
+fn add_move_fence(bos: &mut BoTable, b: BufId, mem: Mem, line: &Timeline, fence: Option<JobId>)
+    requires { (i : Id) → fence ≡ Some i → CanJoin line.now bos.old.fences b i }
+    ensures { bos.new ≡ record bos.old { fences = with_move_fence mem line.now fence bos.old.fences b } }
+{
+    let Some(job) = fence else {
+        return;
+    };
+    let signalled = line.signalled(job);
+    if mem == Mem::Vram && !signalled {
+        bos.add_fence(b, job, Usage::Kernel);
+    }
+}
+
+/// Pages are found for a buffer, as its target in a memory type.
+pub fn take(
+    parts: &mut Parts,
+    script: &Script,
+    before: &[Entry],
+    entry: &Entry,
+    thread: u32,
+    b: BufId,
+    mem: Mem,
+    spans: &Spans,
+) -> Result<(), NoMemory>
+    requires held { AreHeld script.now before.now parts.old }
+    requires is { entry.now ≡ record { who = actor.Thread thread; kind = kind.Take b mem spans.now } }
+    requires next { IsLegalNext script.now (world_of script.now before.now) entry.now }
+    ensures ok { OnOk result (AreHeld script.now (before.now ++ entry.now ∷ []) parts.new) }
+    ensures err { OnErr result (AreHeld script.now before.now parts.new) }
+{
+    let target = spans.copy()?;
+    hold_target(&mut parts.vram, &mut parts.tt, b, mem, spans)?;
+    parts.bos.set_target(b, mem, Some(target));
+    let fence = parts.vram.move_fence();
+    add_move_fence(&mut parts.bos, b, mem, &parts.line, fence);
+    end_search(&mut parts.courses, thread, b);
+    Ok(())
+}

@@ -1,0 +1,91 @@
+ghost use Rattle.std.specs.Prelude.{◌≡◌, ◌∷◌, ◌++◌, [], OnOk, OnErr};
+ghost use Rattle.ttm_base.specs.declared.Actor.TheVariants as actor;
+ghost use Rattle.journal_model.specs.declared.entry.Kind.TheVariants as kind;
+ghost use Rattle.journal_model.specs.Legal.{IsLegalNext, world_of};
+ghost use Rattle.room_ties.specs.Held.{AreHeld};
+
+use crate::courses::{begin_anew, give_ticket, go_on, held_by, hold, stamp_of};
+use crate::grips::{hold_for, release_all};
+use journal_model::{Entry, Script};
+use room_ties::Parts;
+use std::alloc::Global;
+use ttm_base::{BufId, Deny, NoMemory, Stamp};
+
+/// A thread's command draws a ticket.
+pub fn ticket(
+    parts: &mut Parts,
+    script: &Script,
+    before: &[Entry],
+    entry: &Entry,
+    thread: u32,
+    stamp: Stamp,
+)
+    requires held { AreHeld script.now before.now parts.old }
+    requires is { entry.now ≡ record { who = actor.Thread thread; kind = kind.Ticket stamp } }
+    requires next { IsLegalNext script.now (world_of script.now before.now) entry.now }
+    ensures { AreHeld script.now (before.now ++ entry.now ∷ []) parts.new }
+{
+    let drawn = parts.tickets.draw();
+    give_ticket(&mut parts.courses, thread, drawn);
+}
+
+/// The thread's ticket holds a buffer.
+pub fn reserve(
+    parts: &mut Parts,
+    script: &Script,
+    before: &[Entry],
+    entry: &Entry,
+    thread: u32,
+    b: BufId,
+) -> Result<(), NoMemory>
+    requires held { AreHeld script.now before.now parts.old }
+    requires is { entry.now ≡ record { who = actor.Thread thread; kind = kind.Reserve b } }
+    requires next { IsLegalNext script.now (world_of script.now before.now) entry.now }
+    ensures ok { OnOk result (AreHeld script.now (before.now ++ entry.now ∷ []) parts.new) }
+    ensures err { OnErr result (AreHeld script.now before.now parts.new) }
+{
+    let stamp = stamp_of(&parts.courses, thread);
+    hold(&mut parts.courses, thread, b)?;
+    hold_for(&mut parts.bos, b, stamp);
+    Ok(())
+}
+
+/// A thread lets all that it holds go, since the holder of a buffer that it wants is older. Its ticket stays.
+pub fn back_off(
+    parts: &mut Parts,
+    script: &Script,
+    before: &[Entry],
+    entry: &Entry,
+    thread: u32,
+    b: BufId,
+    holder: Stamp,
+)
+    requires held { AreHeld script.now before.now parts.old }
+    requires is { entry.now ≡ record { who = actor.Thread thread; kind = kind.Backoff b holder } }
+    requires next { IsLegalNext script.now (world_of script.now before.now) entry.now }
+    ensures { AreHeld script.now (before.now ++ entry.now ∷ []) parts.new }
+{
+    let held = held_by(&parts.courses, thread);
+    release_all(&mut parts.bos, held);
+    begin_anew(&mut parts.courses, thread, b);
+}
+
+/// A thread's command is refused: it lets go of its buffers, which keep their places in the lists.
+pub fn refuse(
+    parts: &mut Parts,
+    alloc: Global,
+    script: &Script,
+    before: &[Entry],
+    entry: &Entry,
+    thread: u32,
+    deny: Deny,
+)
+    requires held { AreHeld script.now before.now parts.old }
+    requires is { entry.now ≡ record { who = actor.Thread thread; kind = kind.Refused deny } }
+    requires next { IsLegalNext script.now (world_of script.now before.now) entry.now }
+    ensures { AreHeld script.now (before.now ++ entry.now ∷ []) parts.new }
+{
+    let held = held_by(&parts.courses, thread);
+    release_all(&mut parts.bos, held);
+    go_on(&mut parts.courses, alloc, thread);
+}
