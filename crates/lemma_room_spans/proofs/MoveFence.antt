@@ -35,14 +35,14 @@ passed_fence from to r = by (holds from r.held)
     by true = refl
     by false = refl
 
-taken_fence : (mine mem : Mem) (b : BufId) (spans : List Span) (r : Resources) → (taken mine mem b spans r).move_fence ≡ r.move_fence
+pub taken_fence : (mine mem : Mem) (b : BufId) (spans : List Span) (r : Resources) → (taken mine mem b spans r).move_fence ≡ r.move_fence
 taken_fence mine mem b spans r = by (same_mem mem mine)
   where
     by : (q : Bool) → (if q then held_by (owner.Target b) spans r else r).move_fence ≡ r.move_fence
     by true = refl
     by false = refl
 
-untaken_fence : (mine mem : Mem) (b : BufId) (r : Resources) → (untaken mine mem b r).move_fence ≡ r.move_fence
+pub untaken_fence : (mine mem : Mem) (b : BufId) (r : Resources) → (untaken mine mem b r).move_fence ≡ r.move_fence
 untaken_fence mine mem b r = by (same_mem mem mine)
   where
     by : (q : Bool) → (if q then given (owner.Target b) r else r).move_fence ≡ r.move_fence

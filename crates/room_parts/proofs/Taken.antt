@@ -37,7 +37,8 @@ use Rattle.lemma_bytes_told.specs.Told as told
 use Rattle.lemma_bytes_told.specs.Told.{IsThere, Told}
 use Rattle.lemma_room_spans.specs.Calls.{taken}
 use Rattle.lemma_room_spans.specs.Owned.{HoldsAsIn}
-use Rattle.lemma_room_spans.proofs.Facts.{no_target, taken_fence}
+use Rattle.lemma_room_spans.proofs.Facts.{no_target}
+use Rattle.lemma_room_spans.proofs.MoveFence.{taken_fence}
 use Rattle.lemma_room_spans.proofs.Legal.{IsSought, take_sought}
 use Rattle.lemma_room_spans.proofs.Still.{kept_tie}
 use Rattle.lemma_room_spans.proofs.Taken.{take_may_hold}
@@ -199,10 +200,10 @@ module _ (script : Script) (journal : List Entry) (p : Parts) (entry : Entry) (t
   -- what the managers hold afterwards
   holds_then : (mine m : Mem) → (mine ≡ System → ⊥) → (size : ℕ) (r : Resources) → HoldsAsIn size mine s r → (m ≡ mine → (target_spans mine (buffer s b) ≡ []) × (1 ≤ length spans)) → HoldsAsIn size mine (after_take s t b m spans) (taken mine m b spans r)
   holds_then System m out size r tie h = absurd (out refl)
-  holds_then Vram Vram out size r tie h = take_spans size Vram Vram s b r tie t spans live (λ q. (h refl).0) (h refl).1
+  holds_then Vram Vram out size r tie h = take_spans size Vram Vram s b r tie t spans live (λ q. (h refl).0) (λ q. (h refl).1)
   holds_then Vram Tt out size r tie h = kept_tie size Vram s.core.ghosts r (taking Tt) s.core.buffers b (λ x e. refl) (λ x e. refl) tie
   holds_then Vram System out size r tie h = kept_tie size Vram s.core.ghosts r (taking System) s.core.buffers b (λ x e. refl) (λ x e. refl) tie
-  holds_then Tt Tt out size r tie h = take_spans size Tt Tt s b r tie t spans live (λ q. (h refl).0) (h refl).1
+  holds_then Tt Tt out size r tie h = take_spans size Tt Tt s b r tie t spans live (λ q. (h refl).0) (λ q. (h refl).1)
   holds_then Tt Vram out size r tie h =
       kept_tie size Tt s.core.ghosts r (taking Vram) s.core.buffers b
       (λ x e. ap₂ (λ m l. if same_mem m Tt then l else []) (kernel_mem (jobs_before_target s.core Vram) (with_spans Vram (Some spans) x)) (kernel_spans (jobs_before_target s.core Vram) (with_spans Vram (Some spans) x)))

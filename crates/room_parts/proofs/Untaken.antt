@@ -25,7 +25,7 @@ use Rattle.room_ties.specs.declared.parts.Parts.{Parts}
 use Rattle.room_ties.specs.Held.{AreHeld}
 use Rattle.room_ties.specs.Managers.{IsTt}
 use Rattle.lemma_room_spans.specs.Owned.{HoldsAsOwned}
-use Rattle.lemma_room_spans.proofs.Facts.{untaken_fence}
+use Rattle.lemma_room_spans.proofs.MoveFence.{untaken_fence}
 use Rattle.room_parts.proofs.Steps.{held_still, step_as}
 use Rattle.room_parts.proofs.Frames.{LeavesInPlace, changed_tied}
 
