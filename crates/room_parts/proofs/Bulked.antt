@@ -25,9 +25,9 @@ use Rattle.lemma_room_lists.specs.Listed.{AreListed}
 use Rattle.lemma_room_lists.proofs.KindLaws.{bulk_lists}
 use Rattle.room_ties.specs.declared.parts.Parts.{Parts}
 use Rattle.room_ties.specs.Held.{AreHeld}
-use Rattle.room_parts.specs.Courses.{course_at, with_course_by}
-use Rattle.room_parts.proofs.Steps.{held_still, thread_stepped, thread_there}
-use Rattle.room_parts.proofs.Frames.{eased_tied}
+use Rattle.room_steps.specs.Courses.{course_at, with_course_by}
+use Rattle.room_steps.proofs.Steps.{held_still, thread_stepped, thread_there}
+use Rattle.room_steps.proofs.Frames.{eased_tied}
 
 below_sixteen : (group : ℕ) → nat_le group 15 ≡ true → group < 16
 below_sixteen group h = grind (arith, nat_tests)

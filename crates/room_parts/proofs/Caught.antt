@@ -41,9 +41,9 @@ use Rattle.room_ties.specs.declared.parts.Parts.{Parts}
 use Rattle.room_ties.specs.Bos.{unfenced}
 use Rattle.room_ties.specs.Held.{AreHeld}
 use Rattle.room_ties.specs.Ties.{Ties}
-use Rattle.room_parts.specs.Courses.{course_at, course_in, with_course_by}
-use Rattle.room_parts.proofs.Steps.{held_still, thread_stepped, thread_there}
-use Rattle.room_parts.proofs.Frames.{LeavesInPlace, eased_tied, changed_tied}
+use Rattle.room_steps.specs.Courses.{course_at, course_in, with_course_by}
+use Rattle.room_steps.proofs.Steps.{held_still, thread_stepped, thread_there}
+use Rattle.room_steps.proofs.Frames.{LeavesInPlace, eased_tied, changed_tied}
 
 -- ---- no frame is to be had
 

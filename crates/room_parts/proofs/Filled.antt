@@ -31,8 +31,8 @@ use Rattle.lemma_room_frames.proofs.Pools.{populate_pooled}
 use Rattle.lemma_room_frames.proofs.SlotKinds.{populate_slots}
 use Rattle.lemma_room_frames.proofs.Telling.{to_fill}
 use Rattle.lemma_room_bytes.proofs.Fills.{populate_stores}
-use Rattle.room_parts.proofs.Steps.{held_after, step_as}
-use Rattle.room_parts.proofs.Frames.{changed_bos}
+use Rattle.room_steps.proofs.Steps.{held_after, step_as}
+use Rattle.room_steps.proofs.Frames.{changed_bos}
 
 -- a live buffer out of TT, whose page was never written, gets the lowest free frame
 record IsFresh (script : Script) (s : State) (b : BufId) (page f : ℕ) : Type 0 where

@@ -1,6 +1,3 @@
-pub mod Steps
-pub mod Frames
-pub mod Few
 pub mod Ticketed
 pub mod Caught
 pub mod Untaken
@@ -8,6 +5,5 @@ pub mod Bulked
 pub mod Ran
 pub mod Filled
 pub mod Made
-pub mod Emptied
 pub mod Taken
 pub mod SwappedIn

@@ -46,8 +46,8 @@ use Rattle.lemma_room_sets.proofs.Sets.{fences_cleared}
 use Rattle.lemma_room_jobs.proofs.Packets.{nothing_beyond}
 use Rattle.lemma_room_frames.proofs.Others.{new_same, pool_stays, new_slots}
 use Rattle.lemma_room_bytes.proofs.Fills.{new_stores}
-use Rattle.room_parts.specs.Courses.{course_at, with_course_by}
-use Rattle.room_parts.proofs.Steps.{held_after, step_as, thread_stepped, thread_there}
+use Rattle.room_steps.specs.Courses.{course_at, with_course_by}
+use Rattle.room_steps.proofs.Steps.{held_after, step_as, thread_stepped, thread_there}
 
 -- what is there at a number of the list
 some_below : {X : Type 0} (xs : List X) (i : ℕ) → i < length xs → (x : X) × (slice_get xs i ≡ Some x)

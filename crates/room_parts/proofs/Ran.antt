@@ -25,7 +25,7 @@ use Rattle.lemma_room_jobs.proofs.Heads.{IsEnd, IsRun, end_of, run_of}
 use Rattle.lemma_room_jobs.proofs.LegalJobs.{IsShown, in_line, packet_shown}
 use Rattle.lemma_room_jobs.proofs.Rows.{head_known}
 use Rattle.lemma_room_jobs.proofs.Tied.{done_tied, packet_runs, packet_tied}
-use Rattle.room_parts.proofs.Steps.{held_after, held_still, step_as}
+use Rattle.room_steps.proofs.Steps.{held_after, held_still, step_as}
 
 -- ---- a job is done
 

@@ -41,9 +41,9 @@ use Rattle.lemma_room_frames.proofs.SlotKinds.{swap_in_slots}
 use Rattle.lemma_room_frames.proofs.Telling.{to_fill}
 use Rattle.lemma_room_frames.proofs.Walks.{slots_within}
 use Rattle.lemma_room_bytes.proofs.Fills.{swap_in_stores}
-use Rattle.room_parts.proofs.Emptied.{is_below}
-use Rattle.room_parts.proofs.Frames.{changed_bos}
-use Rattle.room_parts.proofs.Steps.{held_after, step_as}
+use Rattle.room_steps.proofs.Lent.{is_below}
+use Rattle.room_steps.proofs.Frames.{changed_bos}
+use Rattle.room_steps.proofs.Steps.{held_after, step_as}
 
 -- a live buffer out of TT, whose page stands in the slot, gets the lowest free frame
 record IsBack (script : Script) (s : State) (b : BufId) (page k f : ℕ) : Type 0 where

@@ -54,12 +54,12 @@ use Rattle.lemma_room_sets.proofs.Stays.{KeepsPlaces}
 use Rattle.lemma_room_sets.proofs.Told.{unfenced_as}
 use Rattle.lemma_room_jobs.proofs.BufferSets.{taken_sets, taken_fences}
 use Rattle.lemma_room_jobs.proofs.LegalJobs.{in_line}
-use Rattle.room_parts.specs.Courses.{course_at, with_course_by}
+use Rattle.room_steps.specs.Courses.{course_at, with_course_by}
 use Rattle.room_parts.specs.MoveSets.{with_move_fence, CanJoin}
 use Rattle.room_parts.specs.Takes.{CanHold}
-use Rattle.room_parts.proofs.Emptied.{stands_at}
-use Rattle.room_parts.proofs.Frames.{eased_tied, placed_tied}
-use Rattle.room_parts.proofs.Steps.{held_still, step_as, thread_there}
+use Rattle.room_steps.proofs.Lent.{stands_at}
+use Rattle.room_steps.proofs.Frames.{eased_tied, placed_tied}
+use Rattle.room_steps.proofs.Steps.{held_still, step_as, thread_there}
 
 -- ---- fences that a target brings
 

@@ -22,10 +22,10 @@ use Rattle.law_counters.proofs.Law.{counters_law}
 use Rattle.lemma_room_lists.proofs.KindLaws.{regripped_unseen, released_unseen}
 use Rattle.room_ties.specs.declared.parts.Parts.{Parts}
 use Rattle.room_ties.specs.Held.{AreHeld}
-use Rattle.room_parts.specs.Courses.{course_at, course_in, with_course_by, stamped, with_held, begun_anew}
-use Rattle.room_parts.proofs.Steps.{held_still, thread_stepped, thread_there}
-use Rattle.room_parts.proofs.Few.{few_commands}
-use Rattle.room_parts.proofs.Frames.{eased_tied}
+use Rattle.room_steps.specs.Courses.{course_at, course_in, with_course_by, stamped, with_held, begun_anew}
+use Rattle.room_steps.proofs.Steps.{held_still, thread_stepped, thread_there}
+use Rattle.room_steps.proofs.Few.{few_commands}
+use Rattle.room_steps.proofs.Frames.{eased_tied}
 
 -- nothing was made
 pub courses_same : (script : Script) (journal : List Entry) (p : Parts) → AreHeld script journal p → (courses : List Course) → courses ≡ p.courses → AreHeld script journal (record p { courses = courses })

@@ -26,8 +26,8 @@ use Rattle.room_ties.specs.Held.{AreHeld}
 use Rattle.room_ties.specs.Managers.{IsTt}
 use Rattle.lemma_room_spans.specs.Owned.{HoldsAsOwned}
 use Rattle.lemma_room_spans.proofs.MoveFence.{untaken_fence}
-use Rattle.room_parts.proofs.Steps.{held_still, step_as}
-use Rattle.room_parts.proofs.Frames.{LeavesInPlace, changed_tied}
+use Rattle.room_steps.proofs.Steps.{held_still, step_as}
+use Rattle.room_steps.proofs.Frames.{LeavesInPlace, changed_tied}
 
 -- another target, or none, leaves a buffer in its place
 pub target_stays : (mem : Mem) (spans : Option (List Span)) → LeavesInPlace (with_spans mem spans)

@@ -1,4 +1,2 @@
-pub mod Courses
-pub mod Tables
 pub mod MoveSets
 pub mod Takes

@@ -3,8 +3,6 @@
 #![tactic(auto)]
 
 mod buffers;
-mod courses;
-mod grips;
 mod jobs;
 mod lists;
 mod pages;

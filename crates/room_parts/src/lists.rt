@@ -4,8 +4,8 @@ ghost use Rattle.journal_model.specs.declared.entry.Kind.TheVariants as kind;
 ghost use Rattle.journal_model.specs.Legal.{IsLegalNext, world_of};
 ghost use Rattle.room_ties.specs.Held.{AreHeld};
 
-use crate::courses::has_made;
 use journal_model::{Entry, Script};
+use room_steps::has_made;
 use room_ties::Parts;
 
 /// The buffers of a group count as just used.

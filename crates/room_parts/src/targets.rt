@@ -11,11 +11,11 @@ ghost use Rattle.room_parts.specs.Takes.{CanHold};
 ghost use Rattle.room_ties.specs.Held.{AreHeld};
 ghost use Rattle.room_parts.specs.MoveSets.{with_move_fence, CanJoin};
 
-use crate::courses::end_search;
 use bo_table::BoTable;
 use fence_core::Timeline;
 use journal_model::{Entry, Script};
 use resource_core::{Manager, RangeRoom, VramRoom};
+use room_steps::end_search;
 use room_ties::Parts;
 use ttm_base::{BufId, JobId, Mem, NoMemory, Owner, Spans, Usage};
 

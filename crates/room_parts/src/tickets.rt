@@ -4,9 +4,8 @@ ghost use Rattle.journal_model.specs.declared.entry.Kind.TheVariants as kind;
 ghost use Rattle.journal_model.specs.Legal.{IsLegalNext, world_of};
 ghost use Rattle.room_ties.specs.Held.{AreHeld};
 
-use crate::courses::{begin_anew, give_ticket, go_on, held_by, hold, stamp_of};
-use crate::grips::{hold_for, release_all};
 use journal_model::{Entry, Script};
+use room_steps::{begin_anew, give_ticket, go_on, held_by, hold, hold_for, release_all, stamp_of};
 use room_ties::Parts;
 use std::alloc::Global;
 use ttm_base::{BufId, Deny, NoMemory, Stamp};

@@ -5,10 +5,9 @@ ghost use Rattle.journal_model.specs.declared.entry.Kind.TheVariants as kind;
 ghost use Rattle.journal_model.specs.Legal.{IsLegalNext, world_of};
 ghost use Rattle.room_ties.specs.Held.{AreHeld};
 
-use crate::courses::{add_victim, fail_search, forget_victim, skip_victim, stamp_of};
-use crate::grips::hold_for;
 use journal_model::{Entry, Script, Why};
 use lru_bulk::Lru;
+use room_steps::{add_victim, fail_search, forget_victim, hold_for, skip_victim, stamp_of};
 use room_ties::Parts;
 use std::alloc::Global;
 use ttm_base::{BufId, Deny, NoMemory};

@@ -20,7 +20,7 @@ use Rattle.room_ties.specs.declared.parts.Parts.{Parts}
 use Rattle.room_ties.specs.Ties.{Ties}
 use Rattle.room_ties.specs.Held.{AreHeld}
 use Rattle.lemma_room_jobs.proofs.Packets.{within_same}
-use Rattle.room_parts.specs.Courses.{course_at}
+use Rattle.room_steps.specs.Courses.{course_at}
 
 -- held again behind an entry, where the parts tell where it leads
 pub held_after : (script : Script) (journal : List Entry) (p q : Parts) (e : Entry) → AreHeld script journal p → IsLegalNext script (world_of script journal) e →

@@ -7,7 +7,7 @@ use bo_table::BoTable;
 use ttm_base::{BufId, Stamp};
 
 /// A ticket holds a buffer that nobody holds; no ticket, no holder.
-pub(crate) fn hold_for(bos: &mut BoTable, b: BufId, stamp: Option<Stamp>)
+pub fn hold_for(bos: &mut BoTable, b: BufId, stamp: Option<Stamp>)
     requires { (grip_in bos.old.grips b).holder ≡ None }
     ensures { bos.new ≡ with_grip (with_holder stamp) bos.old b }
 {
@@ -18,7 +18,7 @@ pub(crate) fn hold_for(bos: &mut BoTable, b: BufId, stamp: Option<Stamp>)
 }
 
 /// Nobody holds these buffers.
-pub(crate) fn release_all(bos: &mut BoTable, bs: &[BufId])
+pub fn release_all(bos: &mut BoTable, bs: &[BufId])
     ensures { bos.new ≡ record bos.old { grips = released bos.old.grips bs.now } }
 {
     for b in bs {

@@ -2,7 +2,7 @@ ghost use Rattle.std.specs.Prelude.{◌≡◌, ◌+◌, ◌^◌, ◌<◌, IsSome
 ghost use Rattle.journal_model.specs.ApplyCommands as rows;
 ghost use Rattle.journal_model.specs.ApplyPages.{search_over};
 ghost use Rattle.journal_model.specs.ApplyVictims.{with_victim, with_skip, no_longer_caught, with_fail, gone_dry};
-ghost use Rattle.room_parts.specs.Courses.{course_at, course_in, with_course_by, stamped, with_held, begun_anew};
+ghost use Rattle.room_steps.specs.Courses.{course_at, course_in, with_course_by, stamped, with_held, begun_anew};
 
 use journal_model::{Courses, Why};
 use rules_parts::courses;
@@ -11,7 +11,7 @@ use std::alloc::Global;
 use ttm_base::{BufId, Deny, NoMemory, Stamp};
 
 /// The ticket of a thread.
-pub(crate) fn stamp_of(courses: &Courses, thread: u32) -> Option<Stamp>
+pub fn stamp_of(courses: &Courses, thread: u32) -> Option<Stamp>
     requires { IsSome (course_at courses.now thread) }
     ensures { result ≡ (course_in courses.now thread).stamp }
 {
@@ -19,7 +19,7 @@ pub(crate) fn stamp_of(courses: &Courses, thread: u32) -> Option<Stamp>
 }
 
 /// The named buffers that a thread holds.
-pub(crate) fn held_by(courses: &Courses, thread: u32) -> &[BufId]
+pub fn held_by(courses: &Courses, thread: u32) -> &[BufId]
     requires { IsSome (course_at courses.now thread) }
     ensures { result.now ≡ (course_in courses.now thread).held }
 {
@@ -27,7 +27,7 @@ pub(crate) fn held_by(courses: &Courses, thread: u32) -> &[BufId]
 }
 
 /// A thread has a ticket.
-pub(crate) fn give_ticket(courses: &mut Courses, thread: u32, stamp: Stamp)
+pub fn give_ticket(courses: &mut Courses, thread: u32, stamp: Stamp)
     requires { IsSome (course_at courses.old thread) }
     ensures { courses.new ≡ with_course_by (stamped stamp) courses.old thread }
 {
@@ -37,7 +37,7 @@ pub(crate) fn give_ticket(courses: &mut Courses, thread: u32, stamp: Stamp)
 
 /// A thread holds one more buffer.
 #[tactic(auto, using(ttm_base::proofs::ListLaws::set_same))]
-pub(crate) fn hold(courses: &mut Courses, thread: u32, b: BufId) -> Result<(), NoMemory>
+pub fn hold(courses: &mut Courses, thread: u32, b: BufId) -> Result<(), NoMemory>
     requires { IsSome (course_at courses.old thread) }
     ensures ok { OnOk result (courses.new ≡ with_course_by (with_held b) courses.old thread) }
     ensures err { OnErr result (courses.new ≡ courses.old) }
@@ -48,7 +48,7 @@ pub(crate) fn hold(courses: &mut Courses, thread: u32, b: BufId) -> Result<(), N
 }
 
 /// A thread holds nothing, and begins anew with a buffer.
-pub(crate) fn begin_anew(courses: &mut Courses, thread: u32, b: BufId)
+pub fn begin_anew(courses: &mut Courses, thread: u32, b: BufId)
     requires { IsSome (course_at courses.old thread) }
     ensures { courses.new ≡ with_course_by (begun_anew b) courses.old thread }
 {
@@ -58,7 +58,7 @@ pub(crate) fn begin_anew(courses: &mut Courses, thread: u32, b: BufId)
 }
 
 /// A thread has done what its command is for.
-pub(crate) fn has_made(courses: &mut Courses, thread: u32)
+pub fn has_made(courses: &mut Courses, thread: u32)
     requires { IsSome (course_at courses.old thread) }
     ensures { courses.new ≡ with_course_by rows.has_made courses.old thread }
 {
@@ -68,12 +68,7 @@ pub(crate) fn has_made(courses: &mut Courses, thread: u32)
 
 /// A thread has caught one more buffer.
 #[tactic(auto, using(ttm_base::proofs::ListLaws::set_same))]
-pub(crate) fn add_victim(
-    courses: &mut Courses,
-    thread: u32,
-    b: BufId,
-    why: Why,
-) -> Result<(), NoMemory>
+pub fn add_victim(courses: &mut Courses, thread: u32, b: BufId, why: Why) -> Result<(), NoMemory>
     requires { IsSome (course_at courses.old thread) }
     ensures ok { OnOk result (courses.new ≡ with_course_by (with_victim b why) courses.old thread) }
     ensures err { OnErr result (courses.new ≡ courses.old) }
@@ -83,7 +78,7 @@ pub(crate) fn add_victim(
 }
 
 /// A thread has let a victim go.
-pub(crate) fn forget_victim(courses: &mut Courses, thread: u32, b: BufId)
+pub fn forget_victim(courses: &mut Courses, thread: u32, b: BufId)
     requires { IsSome (course_at courses.old thread) }
     ensures { courses.new ≡ with_course_by (no_longer_caught b) courses.old thread }
 {
@@ -93,7 +88,7 @@ pub(crate) fn forget_victim(courses: &mut Courses, thread: u32, b: BufId)
 
 /// A thread has let a victim go, and passes over it.
 #[tactic(auto, using(ttm_base::proofs::ListLaws::set_same))]
-pub(crate) fn skip_victim(courses: &mut Courses, thread: u32, b: BufId) -> Result<(), NoMemory>
+pub fn skip_victim(courses: &mut Courses, thread: u32, b: BufId) -> Result<(), NoMemory>
     requires { IsSome (course_at courses.old thread) }
     ensures ok { OnOk result (courses.new ≡ with_course_by (λ c. with_skip b (no_longer_caught b c)) courses.old thread) }
     ensures err { OnErr result (courses.new ≡ courses.old) }
@@ -103,7 +98,7 @@ pub(crate) fn skip_victim(courses: &mut Courses, thread: u32, b: BufId) -> Resul
 }
 
 /// The search of a thread for a buffer has failed.
-pub(crate) fn fail_search(courses: &mut Courses, thread: u32, b: BufId, deny: Deny)
+pub fn fail_search(courses: &mut Courses, thread: u32, b: BufId, deny: Deny)
     requires { IsSome (course_at courses.old thread) }
     ensures { courses.new ≡ with_course_by (with_fail b deny) courses.old thread }
 {
@@ -112,7 +107,7 @@ pub(crate) fn fail_search(courses: &mut Courses, thread: u32, b: BufId, deny: De
 }
 
 /// The search of a thread for a named buffer begins anew.
-pub(crate) fn end_search(courses: &mut Courses, thread: u32, b: BufId)
+pub fn end_search(courses: &mut Courses, thread: u32, b: BufId)
     requires { IsSome (course_at courses.old thread) }
     ensures { courses.new ≡ with_course_by (search_over b) courses.old thread }
 {
@@ -121,7 +116,7 @@ pub(crate) fn end_search(courses: &mut Courses, thread: u32, b: BufId)
 }
 
 /// One more place of a search for a named buffer is dry.
-pub(crate) fn go_dry(courses: &mut Courses, thread: u32, k: u32, places: usize)
+pub fn go_dry(courses: &mut Courses, thread: u32, k: u32, places: usize)
     requires there { IsSome (course_at courses.old thread) }
     requires room { k + 1 < 2 ^ 32 }
     ensures { courses.new ≡ with_course_by (gone_dry k places) courses.old thread }
@@ -131,7 +126,7 @@ pub(crate) fn go_dry(courses: &mut Courses, thread: u32, k: u32, places: usize)
 }
 
 /// A thread goes on to its next command.
-pub(crate) fn go_on(courses: &mut Courses, alloc: Global, thread: u32)
+pub fn go_on(courses: &mut Courses, alloc: Global, thread: u32)
     requires there { IsSome (course_at courses.old thread) }
     requires room { (course_in courses.old thread).answered + 1 < 2 ^ 32 }
     ensures { courses.new ≡ with_course_by rows.on_to_next courses.old thread }

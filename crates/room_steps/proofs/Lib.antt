@@ -1,0 +1,4 @@
+pub mod Steps
+pub mod Frames
+pub mod Lent
+pub mod Few
