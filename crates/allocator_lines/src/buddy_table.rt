@@ -83,14 +83,16 @@ fn alloc_to(
     take(manager, range, flags, pages, blocks)
 }
 
-fn are_held(manager: &BuddyManager, blocks: &Spans) -> bool
-    ensures { result ≡ all_held blocks.now manager.now.held }
+fn are_held(manager: &mut BuddyManager, blocks: &Spans) -> bool
+    ensures value { result ≡ all_held blocks.now manager.old.held }
+    ensures same { manager.new ≡ manager.old }
 {
     manager.are_held(blocks)
 }
 
-fn can_free(manager: &BuddyManager, blocks: &Spans) -> bool
-    ensures { result ≡ can_free manager.now blocks.now }
+fn can_free(manager: &mut BuddyManager, blocks: &Spans) -> bool
+    ensures value { result ≡ can_free manager.old blocks.now }
+    ensures same { manager.new ≡ manager.old }
 {
     blocks.len() > 0 && are_held(manager, blocks)
 }

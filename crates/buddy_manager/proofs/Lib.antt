@@ -1,3 +1,4 @@
 pub mod HeldLaws
 pub mod TakingLaws
 pub mod ManagedLaws
+pub mod UndoneLaws

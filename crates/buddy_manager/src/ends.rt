@@ -1,7 +1,7 @@
 //! For each page where the block that begins there ends; a page where none begins has no end above it.
-ghost use Rattle.std.specs.Prelude.{◌≡◌, ◌+◌, ◌^◌, ◌<◌, ◌≤◌, true, length};
+ghost use Rattle.std.specs.Prelude.{◌≡◌, ◌+◌, ◌^◌, ◌<◌, ◌≤◌, true, length, nat_eq, take};
 ghost use Rattle.ttm_base.specs.Holes.{is_free_beside};
-ghost use Rattle.buddy_manager.specs.Held.{held_from, with_block, with_blocks, without, without_all, is_held, all_held, pages_of, AreHeld};
+ghost use Rattle.buddy_manager.specs.Held.{held_from, with_block, with_blocks, without, without_all, is_held, all_held, undone, pages_of, AreHeld};
 ghost use Rattle.buddy_manager.specs.Taking.{AreTaken};
 
 use ttm_base::Span;
@@ -47,23 +47,41 @@ pub fn is_held(ends: &[u32], block: Span) -> bool
     at < ends.len() && ends[at] == block.end && block.start < block.end
 }
 
-/// Blocks are distinct, and each is held.
-pub fn are_held(ends: &[u32], blocks: &[Span]) -> bool
-    ensures { result ≡ all_held blocks.now (held_from 0 ends.now) }
+/// Blocks are distinct, and each is held: they are let go one after the other, up to the first that isn't held, and put back.
+pub fn are_held(ends: &mut [u32], blocks: &[Span]) -> bool
+    ensures value { result ≡ all_held blocks.now (held_from 0 ends.old) }
+    ensures same { ends.new ≡ ends.old }
 {
-    for (i, block) in blocks.iter().enumerate() {
-        if !is_held(ends, *block) || has_block(&blocks[i + 1..], *block) {
-            return false;
-        }
-    }
-    true
+    let count = let_go_front(ends, blocks);
+    put_back(ends, &blocks[..count]);
+    count == blocks.len()
 }
 
-/// A block is among others.
-fn has_block(blocks: &[Span], block: Span) -> bool
-    ensures { result ≡ is_held block blocks.now }
+/// Holds blocks no more, up to the first that isn't held, and tells how many.
+fn let_go_front(ends: &mut [u32], blocks: &[Span]) -> usize
+    ensures most { result ≤ length blocks.now }
+    ensures all { nat_eq result (length blocks.now) ≡ all_held blocks.now (held_from 0 ends.old) }
+    ensures back { undone (take result blocks.now) ends.new ≡ ends.old }
 {
-    blocks.iter().any(|other| block.start == other.start && block.end == other.end)
+    for (i, block) in blocks.iter().enumerate() {
+        if !is_held(ends, *block) {
+            return i;
+        }
+        ends[block.start as usize] = 0;
+    }
+    blocks.len()
+}
+
+/// Enters blocks anew, the last first.
+fn put_back(ends: &mut [u32], blocks: &[Span])
+    ensures { ends.new ≡ undone blocks.now ends.old }
+{
+    for block in blocks.iter().rev() {
+        let at = block.start as usize;
+        if at < ends.len() {
+            ends[at] = block.end;
+        }
+    }
 }
 
 /// How many pages blocks have.

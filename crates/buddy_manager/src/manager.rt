@@ -136,11 +136,12 @@ impl BuddyManager {
         is_held(&self.ends, block)
     }
 
-    /// Blocks are distinct, and each is held. Each is compared with those behind it, since they stand in no order of pages.
-    pub fn are_held(&self, blocks: &Spans) -> bool
-        ensures { Decides result (AreHeld blocks.now self.now.held) }
+    /// Blocks are distinct, and each is held. It costs a step a block, since each is let go and put back.
+    pub fn are_held(&mut self, blocks: &Spans) -> bool
+        ensures value { Decides result (AreHeld blocks.now self.old.held) }
+        ensures same { self.new ≡ self.old }
     {
-        are_held(&self.ends, blocks.items())
+        are_held(&mut self.ends, blocks.items())
     }
 
     /// Gives blocks back that are held. It takes no memory.

@@ -160,7 +160,8 @@ fn trimmed_pages_are_free(rt: HostRuntime) -> Result<(), Fail> {
 fn buddy_splits_and_merges(rt: HostRuntime) -> Result<(), Fail> {
     let mut manager = BuddyManager::new(rt.alloc(), 12)?;
     let three = got(rt.alloc(), &mut manager, 3, ALL, PLAIN)?;
-    assert!(rt; manager.are_held(&three));
+    let held = manager.are_held(&three);
+    assert!(rt; held);
     manager.release(&three);
     let four = got(rt.alloc(), &mut manager, 4, ALL, CONTIG)?;
     assert!(rt; four.items() == [Span { start: 8, end: 12 }].as_slice());
@@ -194,6 +195,10 @@ fn named_pages_are_held(rt: HostRuntime) -> Result<(), Fail> {
         let blocks = got(alloc, &mut manager, want.0, ALL, PLAIN)?;
         assert!(rt; blocks.items() == [want.1].as_slice());
     }
+    let mut twice = named(alloc, Span { start: 5, end: 7 })?;
+    twice.push(Span { start: 5, end: 7 })?;
+    let held = manager.are_held(&twice);
+    assert!(rt; !held);
     let held = manager.are_held(&spans);
     assert!(rt; held);
     manager.release(&spans);
