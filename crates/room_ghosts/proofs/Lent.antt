@@ -1,0 +1,80 @@
+-- What a live buffer that the table lends has, and the ghost that it leaves.
+use Rattle.std.proofs.Common.{◌≡◌, ℕ, Bool, true, false, List, [], Some, length, refl, sym, ◌∙◌, ap, ap₂, None}
+use Rattle.std.specs.Prelude.{filter_map, option_map, replicate, slice_get, unwrap_or, if◌then◌else◌}
+use Rattle.ttm_base.specs.declared.BufId.{BufId}
+use Rattle.ttm_base.specs.declared.Mem.{Mem}
+use Rattle.ttm_base.specs.declared.Mem.TheVariants.{Tt, Vram}
+use Rattle.ttm_base.specs.declared.Usage.TheVariants.{Read}
+use Rattle.fence_core.specs.Fences.{nothing_kept, all_added}
+use Rattle.bo_table.specs.declared.bo.Bo.{Bo}
+use Rattle.bo_table.specs.Seen.{IsBo, body_of}
+use Rattle.bo_table.proofs.TableLaws.{get_map}
+use Rattle.journal_model.specs.declared.script.Script.{Script}
+use Rattle.journal_model.specs.declared.state.Buffer.{Buffer}
+use Rattle.journal_model.specs.declared.entry.Entry.{Entry}
+use Rattle.journal_model.specs.ApplyCommands.{ghost_of_freed}
+use Rattle.journal_model.specs.Holds.{spans_in}
+use Rattle.journal_model.specs.Legal.{state_of}
+use Rattle.journal_model.specs.Places.{frame_of}
+use Rattle.journal_model.specs.State.{buffer}
+use Rattle.lemma_bytes_told.specs.Told.{IsThere}
+use Rattle.lemma_room_sets.proofs.Needs.{set_is}
+use Rattle.lemma_room_sets.proofs.Sets.{set_length}
+use Rattle.lemma_room_jobs.proofs.BufferSets.{empty_set, freed_ghost}
+use Rattle.room_ties.specs.declared.parts.Parts.{Parts}
+use Rattle.room_ties.specs.Bos.{unfenced}
+use Rattle.room_ties.specs.Fences.{fences_of, set_at}
+use Rattle.room_ties.specs.Ghosts.{IsGhost}
+use Rattle.room_ties.specs.Held.{AreHeld}
+use Rattle.room_steps.proofs.Lent.{stands_at}
+use Rattle.room_ghosts.specs.Leaving.{all_jobs, ghost_of, spans_if}
+
+-- a lent buffer has what a buffer has
+pub record HasBody (bo : Bo) (x : Buffer) : Type 0 where
+  pub mem : bo.mem ≡ x.mem
+  pub spans : bo.spans ≡ x.spans
+  pub table : bo.table ≡ x.table
+
+body_parts : (bo : Bo) (x : Buffer) → body_of bo ≡ Some x → HasBody bo x
+body_parts bo x h = by bo.alive h
+  where
+    by : (q : Bool) → (if q then Some (record { mem = bo.mem; spans = bo.spans; table = bo.table; targets = bo.targets; fences = [] }) else None) ≡ Some x → HasBody bo x
+    by true e =
+        let it : record { mem = bo.mem; spans = bo.spans; table = bo.table; targets = bo.targets; fences = [] } ≡ x = cc in
+        record { mem = ap (λ (y : Buffer). y.mem) it; spans = ap (λ (y : Buffer). y.spans) it; table = ap (λ (y : Buffer). y.table) it }
+    by false e = cc
+
+module _ (script : Script) (journal : List Entry) (p : Parts) (held : AreHeld script journal p) (b : BufId) (live : IsThere (state_of script journal) b) (bo : Bo) (lent : IsBo p.bos b bo) where
+  abbrev x : Buffer
+  x = buffer (state_of script journal) b
+
+  -- it has what the state says
+  pub lent_body : HasBody bo x
+  lent_body =
+      let at : slice_get p.bos.buffers b.0 ≡ Some (Some (unfenced x)) =
+      ap (λ xs. slice_get xs b.0) held.ties.bos.buffers_are ∙ get_map (option_map unfenced) (state_of script journal).core.buffers b.0
+      ∙ ap (option_map (option_map unfenced)) (stands_at (state_of script journal).core.buffers b x live) in
+      let both : Some (body_of bo) ≡ Some (Some (unfenced x)) = sym lent.body ∙ at in
+      let body : body_of bo ≡ Some (unfenced x) = cc in
+      let parts = body_parts bo (unfenced x) body in
+      record { mem = parts.mem; spans = parts.spans; table = parts.table }
+
+  -- its spans in a memory type
+  pub lent_spans : (mine : Mem) → spans_if bo.mem mine bo.spans ≡ spans_in mine x
+  lent_spans mine = ap₂ (λ m ss. spans_if m mine ss) lent_body.mem lent_body.spans
+
+  set_now : bo.resv.fences ≡ set_at p.bos.fences b
+  set_now = ap (λ o. unwrap_or o []) (sym lent.fences)
+
+  contexts : length bo.resv.fences ≡ length (state_of script journal).last_jobs
+  contexts =
+      ap length (set_now ∙ set_is (state_of script journal).last_jobs (state_of script journal).core.buffers p.bos.fences held.ties.bos.fences_are b (Some x) (stands_at (state_of script journal).core.buffers b x live))
+      ∙ set_length (length (state_of script journal).last_jobs) (fences_of (Some x))
+
+  jobs_now : all_jobs bo.resv.fences ≡ all_added Read (empty_set (state_of script journal)) (set_at p.bos.fences b)
+  jobs_now = ap₂ (λ n set. all_added Read (replicate n nothing_kept) set) contexts set_now
+
+  -- its ghost is the state's
+  pub lent_ghost : (g : ℕ) → IsGhost (state_of script journal).core.jobs (state_of script journal).last_jobs (ghost_of_freed (state_of script journal).core x g) (ghost_of bo g)
+  lent_ghost g =
+      freed_ghost (state_of script journal) p.bos.fences held.ties.bos.fences_are b x live g (ghost_of bo g) refl (lent_spans Vram) (lent_spans Tt) (ap (filter_map frame_of) lent_body.table) jobs_now

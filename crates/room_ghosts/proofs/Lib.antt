@@ -1,0 +1,4 @@
+pub mod Loops
+pub mod Reaped
+pub mod Lent
+pub mod Freed

@@ -1,0 +1,50 @@
+-- What a buffer that is freed leaves, and where its thread stands then.
+use Rattle.std.specs.Prelude.{ℕ, List, [], Option, Some, None, filter_map, length, replicate, if◌then◌else◌}
+use Rattle.ttm_base.specs.declared.BufId.{BufId}
+use Rattle.ttm_base.specs.declared.Mem.{Mem}
+use Rattle.ttm_base.specs.declared.Mem.TheVariants.{Tt, Vram}
+use Rattle.ttm_base.specs.declared.Span.{Span}
+use Rattle.ttm_base.specs.declared.Usage.TheVariants.{Read}
+use Rattle.ttm_base.specs.Reach.{same_mem}
+use Rattle.fence_core.specs.declared.fence_set.Latest.{Latest}
+use Rattle.fence_core.specs.Fences.{nothing_kept, all_added}
+use Rattle.lru_bulk.specs.declared.nodes.Listing.{Listing}
+use Rattle.lru_bulk.specs.Lists.{Order, listing_of, removed}
+use Rattle.bo_table.specs.declared.bo.Bo.{Bo}
+use Rattle.journal_model.specs.declared.state.Course.{Course}
+use Rattle.journal_model.specs.ApplyCommands.{has_made}
+use Rattle.journal_model.specs.Places.{frame_of}
+use Rattle.journal_model.specs.State.{without_buffer}
+use Rattle.room_ties.specs.declared.parts.Ghost.{Ghost}
+
+-- spans of one memory type, as another sees them
+abbrev pub spans_if : Mem → Mem → List Span → List Span
+spans_if mem mine spans = if same_mem mem mine then spans else []
+
+-- all jobs of a set, in a new one
+abbrev pub all_jobs : List Latest → List Latest
+all_jobs set = all_added Read (replicate (length set) nothing_kept) set
+
+-- its spans, its frames and all its jobs, under a number
+abbrev pub ghost_of : Bo → ℕ → Ghost
+ghost_of bo g =
+    record {
+      num = g;
+      vram = spans_if bo.mem Vram bo.spans;
+      tt = spans_if bo.mem Tt bo.spans;
+      frames = filter_map frame_of bo.table;
+      jobs = all_jobs bo.resv.fences;
+    }
+
+-- a buffer that is listed so is taken off its list
+abbrev pub off_list_as : Order → BufId → Option Listing → Order
+off_list_as o b None = o
+off_list_as o b (Some x) = removed o b
+
+-- a buffer is taken off its list, if it is on one
+abbrev pub off_list : Order → BufId → Order
+off_list o b = off_list_as o b (listing_of o b)
+
+-- the thread has freed the buffer, and holds it no more
+abbrev pub freeing : BufId → Course → Course
+freeing b c = has_made (record c { held = without_buffer c.held b })

@@ -1,0 +1,76 @@
+ghost use Rattle.std.specs.Prelude.{◌≡◌, ◌<◌, IfOk, length, filter_map};
+ghost use Rattle.ttm_base.specs.declared.Mem.TheVariants.{Tt as InTt};
+ghost use Rattle.journal_model.specs.Places as words;
+ghost use Rattle.lemma_room_bytes.specs.Mapped.{cleared};
+ghost use Rattle.room_ghosts.specs.InTurn.{AreBelow};
+ghost use Rattle.room_ghosts.specs.Leaving.{spans_if, all_jobs, ghost_of as left_by};
+
+use crate::pages::clear_spans;
+use aperture_table::Aperture;
+use bo_table::Bo;
+use fence_core::FenceSet;
+use journal_model::Frames;
+use room_ties::Ghost;
+use rules_state::frame_of;
+use std::alloc::Global;
+use ttm_base::{Loc, Mem, NoMemory, Spans, Usage};
+
+/// The frames of a page table, page by page.
+fn frames_in(alloc: Global, places: &[Loc]) -> Result<Frames, NoMemory>
+    ensures { IfOk result (λ frames. frames ≡ filter_map words.frame_of places.now) }
+{
+    let mut frames = Frames::new(alloc);
+    for place in places {
+        if let Some(frame) = frame_of(*place) {
+            frames.push(frame)?;
+        }
+    }
+    Ok(frames)
+}
+
+/// A copy of spans in a memory type, none where it isn't the one that is asked for.
+fn spans_in(alloc: Global, mem: Mem, mine: Mem, spans: &Spans) -> Result<Spans, NoMemory>
+    ensures { IfOk result (λ copy. copy ≡ spans_if mem mine spans.now) }
+{
+    if mem == mine {
+        spans.copy()
+    } else {
+        Ok(Spans::new(alloc))
+    }
+}
+
+/// A set of all jobs of another one.
+fn jobs_in(alloc: Global, set: &FenceSet) -> Result<FenceSet, NoMemory>
+    ensures { IfOk result (λ jobs. jobs ≡ all_jobs set.now) }
+{
+    let mut jobs = FenceSet::new(alloc, set.contexts())?;
+    jobs.add_all(set, Usage::Read);
+    Ok(jobs)
+}
+
+/// What a freed buffer leaves until its jobs are done.
+pub fn ghost_of(alloc: Global, bo: &Bo, g: u64) -> Result<Ghost, NoMemory>
+    ensures { IfOk result (λ ghost. ghost ≡ left_by bo.now g) }
+{
+    let vram = spans_in(alloc, bo.mem, Mem::Vram, &bo.spans)?;
+    let tt = spans_in(alloc, bo.mem, Mem::Tt, &bo.spans)?;
+    let frames = frames_in(alloc, bo.table.places())?;
+    let jobs = jobs_in(alloc, bo.resv.fences())?;
+    Ok(Ghost {
+        num: g,
+        vram,
+        tt,
+        frames,
+        jobs,
+    })
+}
+
+/// The pages of spans in TT are mapped no more. Spans in other memory types are none of its pages.
+pub fn clear_tt(aper: &mut Aperture, mem: Mem, spans: &Spans)
+    requires { AreBelow (length aper.old) (spans_if mem InTt spans.now) }
+    ensures { aper.new ≡ cleared aper.old (words.pages_of (spans_if mem InTt spans.now)) }
+{
+    if let Mem::Tt = mem {
+        clear_spans(aper, spans.items());
+    }
+}

@@ -1,0 +1,12 @@
+//! The end of a buffer: it is freed, and where jobs still use it, it leaves a ghost, which is reaped once they are done.
+#![tactic(auto)]
+
+mod courses;
+mod frees;
+mod leaving;
+mod owners;
+mod pages;
+mod reaps;
+
+pub use frees::free;
+pub use reaps::reap;
