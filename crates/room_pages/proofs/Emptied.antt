@@ -1,6 +1,5 @@
 -- All parts behind a buffer that gives its frames back.
 use Rattle.std.proofs.Common.{◌≡◌, ℕ, ◌<◌, Bool, List, [], ◌∷◌, ◌++◌, Some, length, refl, sym, ◌∙◌, ap, subst}
-use Rattle.std.specs.Prelude.{map}
 use Rattle.std.specs.List.{filter_map}
 use Rattle.ttm_base.specs.declared.Actor.TheVariants as actor
 use Rattle.ttm_base.specs.declared.BufId.{BufId}
@@ -38,9 +37,8 @@ use Rattle.room_steps.proofs.Steps.{held_after, step_as}
 use Rattle.room_steps.proofs.Frames.{changed_bos}
 use Rattle.room_steps.proofs.Lent.{lent_below, lent_table}
 
--- ---- frames are given back
-
 module _ (script : Script) (journal : List Entry) (p : Parts) (entry : Entry) (t : ℕ) (b : BufId) (held : AreHeld script journal p) (is : entry ≡ record { who = actor.Thread t; kind = kind.Depopulate b }) (legal : IsLegalNext script (world_of script journal) entry) where
+  -- the buffer is live in VRAM
   emptied_in : Told script (state_of script journal) t (kind.Depopulate b) → IsThere (state_of script journal) b × ((buffer (state_of script journal) b).mem ≡ Vram)
   emptied_in (told.still h) = cc
   emptied_in (told.depopulates l m) = (l, m)
@@ -48,14 +46,17 @@ module _ (script : Script) (journal : List Entry) (p : Parts) (entry : Entry) (t
   emptied : IsThere (state_of script journal) b × ((buffer (state_of script journal) b).mem ≡ Vram)
   emptied = emptied_in (told_law script journal t (kind.Depopulate b) held.fits held.legal (step_as script journal entry (record { who = actor.Thread t; kind = kind.Depopulate b }) is legal refl))
 
+  -- the table has the buffer
   pub depopulate_below : b.0 < length p.bos.grips
   depopulate_below = lent_below script journal p held b emptied.0
 
+  -- each of its frames is held when its turn comes
   pub depopulate_turns : (bo : Bo) → IsBo p.bos b bo → AreHeldInTurn p.pool bo.table
   depopulate_turns bo at =
       subst (AreHeldInTurn p.pool) (sym (lent_table script journal p held b emptied.0 bo at))
       (table_held_still frame_of script.sizes.frames (held_frames (state_of script journal).core) p.pool held.ties.pool.held_are (owner_law script journal held.fits held.legal).frames (buffer (state_of script journal) b).table (frames_within (state_of script journal).core b (buffer (state_of script journal) b) emptied.0))
 
+  -- all parts behind the entry
   pub depopulate_held : (pool : List Bool) (bos : Bos) (bo : Bo) → IsBo p.bos b bo → pool ≡ given_back p.pool (filter_map frame_of bo.table) → bos ≡ with_changed without_frames p.bos b →
       AreHeld script (journal ++ entry ∷ []) (record p { pool = pool; bos = bos })
   depopulate_held pool bos bo at back e =

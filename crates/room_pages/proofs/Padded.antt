@@ -1,5 +1,5 @@
 -- Bytes that are written over: how long the list was is known only behind the write, but for zeros that the write covers.
-use Rattle.std.proofs.Common.{◌≡◌, ℕ, ◌+◌, ◌-◌, ◌*◌, ◌<◌, ◌≤◌, List, ◌++◌, length, get_or, arith, ◌⊎◌, inl, inr}
+use Rattle.std.proofs.Common.{◌≡◌, ℕ, ◌+◌, ◌-◌, ◌<◌, ◌≤◌, List, ◌++◌, length, get_or, arith, ◌⊎◌, inl, inr}
 use Rattle.std.specs.Prelude.{min, replicate}
 use Rattle.std.proofs.lemmas.Bool.{cases_lt}
 use Rattle.std.proofs.lemmas.Grind.{common_steps}
@@ -17,6 +17,7 @@ padded_over xs ys at m h k = grind (arith, common_steps)
 pub length-padded : (xs : List ℕ) (m : ℕ) → length (xs ++ replicate m 0) ≡ length xs + m
 length-padded xs m = grind (arith, common_steps)
 
+-- how long a list is behind any write
 length-over : (xs ys : List ℕ) (at : ℕ) → length (overwritten xs at ys) ≡ min at (length xs) + length ys + (length xs - (at + length ys))
 length-over xs ys at = grind (arith, common_steps)
 

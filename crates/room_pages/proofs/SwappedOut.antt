@@ -62,12 +62,14 @@ module _ (script : Script) (s : State) (who : Actor) (bytes : PageBytes) (swap :
     abbrev AreSlotsAfter : SwapSlots → Type 0
     AreSlotsAfter new = AreSlots script.sizes.swap (held_slots (after_swap_out s b page k).core) (within script.sizes (stores_after script s who (kind.SwapOut b page k) bytes)) new
 
+    -- the slot is there
     inside : k < length swap.held
     inside =
         let below = (lowest_is_unheld (held_slots s.core) script.sizes.swap k free).1 in
         let long : length swap.held ≡ script.sizes.swap = ap length tie.held_are ∙ length-marks (held_slots s.core) script.sizes.swap in
         omega (arith, below, long)
 
+    -- the page is put there, be all bytes of the slots there or not
     put_there : (length swap.bytes ≡ 4096 * length swap.held) ⊎ ((4096 * k ≤ length swap.bytes) × (length swap.bytes ≤ 4096 * length swap.held) × (4096 * k + length copy ≡ 4096 * length swap.held)) →
         AreSlotsAfter (record { held = taken swap.held k; bytes = overwritten swap.bytes (4096 * k) copy })
     put_there (inl long) = swap_out_slots script s who bytes swap tie b live page f k copy at free whole long same
@@ -116,9 +118,11 @@ module _ (script : Script) (journal : List Entry) (p : Parts) (entry : Entry) (t
   abbrev its_frame : ℕ
   its_frame = frame_at (buffer s b) page
 
+  -- the table has the buffer
   pub swap_out_below : b.0 < length p.bos.grips
   swap_out_below = lent_below script journal p held b gone.live
 
+  -- the page has its frame in the table that is lent
   frame_there : (bo : Bo) → IsBo p.bos b bo → frame_in bo.table page ≡ Some its_frame
   frame_there bo lent = ap (λ l. frame_in l page) (lent_table script journal p held b gone.live bo lent) ∙ ap (option_and_then frame_of) gone.at
 
@@ -126,6 +130,7 @@ module _ (script : Script) (journal : List Entry) (p : Parts) (entry : Entry) (t
   pub swap_out_frame : (bo : Bo) → IsBo p.bos b bo → IsSome (frame_in bo.table page)
   swap_out_frame bo lent = subst (λ o. IsSome o) (sym (frame_there bo lent)) refl
 
+  -- it is the one that is read there
   same_frame : (bo : Bo) (f : ℕ) → IsBo p.bos b bo → frame_in bo.table page ≡ Some f → its_frame ≡ f
   same_frame bo f lent e = let z : Some its_frame ≡ Some f = sym (frame_there bo lent) ∙ e in cc
 
@@ -157,6 +162,7 @@ module _ (script : Script) (journal : List Entry) (p : Parts) (entry : Entry) (t
       frame_read script.sizes (aperture s.core) (world_of script journal).stores p.stores held.ties.stores its_frame below o l
       ∙ sym (ap (λ q. (world_of script journal).stores q o) (ap (λ m. page_in m (buffer s b) page) gone.home ∙ ap (λ q. page_in_table (unwrap_or q loc.Zero)) gone.at))
 
+  -- all parts behind the entry
   pub swap_out_held : (pool : List Bool) (swap : SwapSlots) (bos : Bos) (bo : Bo) (f : ℕ) (o : Option ℕ) (copy : List ℕ) → IsBo p.bos b bo → frame_in bo.table page ≡ Some f →
       copy ≡ part p.stores.frames (4096 * f) 4096 → length copy ≡ 4096 → o ≡ position not p.swap.held → IfSome o (λ j. swap.held ≡ slice_set p.swap.held j true) →
       IfSome o (λ j. swap.bytes ≡ overwritten p.swap.bytes (4096 * j) copy) → length swap.bytes ≡ 4096 * length swap.held → pool ≡ slice_set p.pool f false →
