@@ -1,9 +1,9 @@
 -- What an owner that holds something, or nothing, leaves of a manager.
-use Rattle.std.proofs.Common.{◌≡◌, ℕ, Bool, true, false, List, [], Option, Some, None, length, refl, sym, ◌∙◌, ap, subst}
+use Rattle.std.proofs.Common.{◌≡◌, ℕ, true, false, List, [], ◌∷◌, Some, None, refl, sym, ◌∙◌, ap, subst}
 use Rattle.std.specs.Prelude.{is_some, unwrap_or, if◌then◌else◌}
 use Rattle.ttm_base.specs.declared.Owner.{Owner}
 use Rattle.ttm_base.specs.declared.Span.{Span}
-use Rattle.resource_core.specs.Resources.{Resources, holds, kept_by, renamed, spans_at, without_owner}
+use Rattle.resource_core.specs.Resources.{Resources, holds, kept_by, renamed, some_spans, spans_at, without_owner}
 use Rattle.resource_core.proofs.OwnedLaws.{kept_some}
 use Rattle.journal_model.specs.Places.{pages_of}
 use Rattle.lemma_room_spans.specs.Calls.{given, passed_on}
@@ -36,3 +36,11 @@ module _ (r : Resources) (o : Owner) where
   -- one without spans passes nothing on
   pub passed_none : (to : Owner) → None ≡ kept_by o r.held → passed_on o to r ≡ r
   passed_none to e = ap (λ q. if q then record r { held = renamed o to r.held } else r) (holds_none e)
+
+-- spans that are kept where there are some are all spans
+pub kept_spans : (r : Resources) (o : Owner) (spans : List Span) → kept_by o r.held ≡ some_spans spans → spans_at o r.held ≡ spans
+kept_spans r o spans e = ap (λ k. unwrap_or k []) e ∙ same spans
+  where
+    same : (ss : List Span) → unwrap_or (some_spans ss) [] ≡ ss
+    same [] = refl
+    same (s ∷ ss) = refl

@@ -1,6 +1,4 @@
 use Rattle.std.proofs.Common.{Some, sym, ◌∙◌, ap}
-use Rattle.ttm_base.specs.declared.Span.{Span}
-use Rattle.journal_model.specs.Places.{pages_of}
 use Rattle.room_binds.proofs.Holding.{is_holder, held_below, given_some, given_none}
 use Rattle.room_binds.proofs.apertures.give_mapped.Goals as goal
 
