@@ -51,15 +51,19 @@ module _ (script : Script) (journal : List Entry) (p : Parts) (entry : Entry) (t
   abbrev s : State
   s = state_of script journal
 
+  -- the entry, written out, is legal next
   next_is : IsLegalNext script (world_of script journal) (record { who = actor.Thread t; kind = kind.Bind b })
   next_is = subst (IsLegalNext script (world_of script journal)) is legal
 
+  -- it is its thread's step
   step : next script s (actor.Thread t) ≡ Ok (kind.Bind b)
   step = step_as script journal entry (record { who = actor.Thread t; kind = kind.Bind b }) is legal refl
 
+  -- what it tells of the state
   told : Told script s t (kind.Bind b)
   told = told_law script journal t (kind.Bind b) held.fits held.legal step
 
+  -- the buffer stands in SYSTEM with all its frames
   comes : ComesIn s b System
   comes = entry_tells script journal held.fits held.legal t (kind.Bind b) refl next_is
 
@@ -70,20 +74,23 @@ module _ (script : Script) (journal : List Entry) (p : Parts) (entry : Entry) (t
   target_is : spans_at (owner.Target b) p.tt.held ≡ target_spans Tt (buffer s b)
   target_is = kept_spans p.tt (owner.Target b) (target_spans Tt (buffer s b)) (target_kept script.sizes.tt Tt s p.tt held.ties.tt b live)
 
-  -- what the calls ask for
+  -- it can be lent
   pub bind_there : b.0 < length p.bos.grips
   bind_there = lent_below script journal p held b live
 
+  -- its target's pages are in the aperture
   pub bind_below : AreBelow (pages_of (spans_at (owner.Target b) p.tt.held)) (length p.stores.aper)
   bind_below k page h =
       subst (λ n. page < n) (sym held.ties.stores.aper_size)
       (target_inside script s.core (once_law script journal held.fits held.legal) page b (buffer s b) k live (ap (λ ss. slice_get (pages_of ss) k) (sym target_is) ∙ h))
 
+  -- the buffer has no page of TT yet
   pub bind_fresh : holds (owner.Live b) p.tt.held ≡ false
   bind_fresh =
       let ghosts = ghosts_law script journal held.fits held.legal in
       spans.bind_fresh script journal held.fits held.legal Tt (λ e. (let x : Tt ≡ System = e in cc)) ghosts.first (λ i g at. (ghosts.drawn i g at).1) p.tt held.ties.tt t b told
 
+  -- behind the calls all parts are tied
   pub bind_held : (bo : Bo) (table : List Loc) (aper : List (Option ℕ)) (u : Resources) (bos : Bos) (o : Order) → IsBo p.bos b bo → table ≡ bo.table → aper ≡ mapped_to p.stores.aper (pages_of (spans_at (owner.Target b) p.tt.held)) table →
       u ≡ passed_on (owner.Target b) (owner.Live b) p.tt → bos ≡ with_changed bound p.bos b → o ≡ relisted p.lru b Tt → AreMembersListed p.lru →
       AreHeld script (journal ++ entry ∷ []) (record p { stores = record p.stores { aper = aper }; tt = u; bos = bos; lru = o })

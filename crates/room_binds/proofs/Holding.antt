@@ -14,6 +14,7 @@ module _ (r : Resources) (o : Owner) where
   pub is_holder : (spans : List Span) → Some spans ≡ kept_by o r.held → holds o r.held ≡ true
   is_holder spans e = kept_some o r.held ∙ ap is_some (sym e)
 
+  -- one without spans holds nothing
   holds_none : None ≡ kept_by o r.held → holds o r.held ≡ false
   holds_none e = kept_some o r.held ∙ ap is_some (sym e)
 

@@ -48,12 +48,15 @@ module _ (script : Script) (journal : List Entry) (p : Parts) (entry : Entry) (t
   abbrev s : State
   s = state_of script journal
 
+  -- the entry, written out, is legal next
   next_is : IsLegalNext script (world_of script journal) (record { who = actor.Thread t; kind = kind.Unbind b })
   next_is = subst (IsLegalNext script (world_of script journal)) is legal
 
+  -- it is its thread's step
   step : next script s (actor.Thread t) ≡ Ok (kind.Unbind b)
   step = step_as script journal entry (record { who = actor.Thread t; kind = kind.Unbind b }) is legal refl
 
+  -- what it tells of the state
   told : Told script s t (kind.Unbind b)
   told = told_law script journal t (kind.Unbind b) held.fits held.legal step
 
@@ -64,7 +67,7 @@ module _ (script : Script) (journal : List Entry) (p : Parts) (entry : Entry) (t
   own_is : spans_at (owner.Live b) p.tt.held ≡ spans_in Tt (buffer s b)
   own_is = kept_spans p.tt (owner.Live b) (spans_in Tt (buffer s b)) (live_kept script.sizes.tt Tt s p.tt held.ties.tt b live)
 
-  -- what the call asks for
+  -- its pages are in the aperture
   pub unbind_below : AreBelow (pages_of (spans_at (owner.Live b) p.tt.held)) (length p.stores.aper)
   unbind_below k page h =
       let here : slice_get (pages_of (spans_in Tt (buffer s b))) k ≡ Some page = ap (λ ss. slice_get (pages_of ss) k) (sym own_is) ∙ h in
@@ -72,6 +75,7 @@ module _ (script : Script) (journal : List Entry) (p : Parts) (entry : Entry) (t
       subst (λ n. page < n) (sym held.ties.stores.aper_size)
       (buffer_inside script s.core (once_law script journal held.fits held.legal) page b (buffer s b) k live in_tt (ap (λ ss. slice_get (pages_of ss) k) (sym (own_spans (buffer s b) in_tt)) ∙ here))
 
+  -- behind the calls all parts are tied
   pub unbind_held : (aper : List (Option ℕ)) (u : Resources) (bos : Bos) (o : Order) → aper ≡ cleared p.stores.aper (pages_of (spans_at (owner.Live b) p.tt.held)) →
       u ≡ given (owner.Live b) p.tt → bos ≡ with_changed unbound p.bos b → o ≡ relisted p.lru b System → AreMembersListed p.lru →
       AreHeld script (journal ++ entry ∷ []) (record p { stores = record p.stores { aper = aper }; tt = u; bos = bos; lru = o })

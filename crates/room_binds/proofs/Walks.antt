@@ -26,10 +26,11 @@ module _ (left rest : List ℕ) (page : ℕ) (goes : left ≡ page ∷ rest) whe
   mapped_step aper next table i d within is =
       ap (λ a. mapped_to a rest (drop (i + 1) table)) is ∙ ap (λ ps. mapped_to aper ps (get_or table i d ∷ drop (i + 1) table)) (sym goes) ∙ ap (mapped_to aper left) (sym (drop_more table i d within))
 
--- no place is left
+-- where no place is left, nothing more is mapped
 mapped_none : (aper : List (Option ℕ)) (left : List ℕ) → mapped_to aper left [] ≡ aper
 mapped_none aper [] = refl
 mapped_none aper (p ∷ ps) = refl
 
+-- the end of the walk
 pub mapped_end : (aper : List (Option ℕ)) (left : List ℕ) (table : List Loc) (i : ℕ) → length table ≤ i → aper ≡ mapped_to aper left (drop i table)
 mapped_end aper left table i past = sym (ap (mapped_to aper left) (drop_all i table past) ∙ mapped_none aper left)
