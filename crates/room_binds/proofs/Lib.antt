@@ -1,0 +1,4 @@
+pub mod Walks
+pub mod Holding
+pub mod Bound
+pub mod Unbound
