@@ -12,7 +12,7 @@ use Rattle.journal_model.specs.Places.{name_in, packet_place}
 use Rattle.bo_table.specs.Seen.{Bos}
 use Rattle.bo_table.proofs.TableLaws.{get_map}
 use Rattle.room_ties.specs.Bos.{unfenced}
-use Rattle.room_jobs.specs.Standing.{standing_in, standing_names}
+use Rattle.room_jobs.specs.Standing.{standing_names}
 
 -- names don't depend on fences
 unfenced_place : (m : Mem) (x : Buffer) (i : ℕ) → name_in m (unfenced x) i ≡ name_in m x i
