@@ -71,22 +71,26 @@ pub record IsSubmit (script : Script) (s : State) (t engine : ℕ) : Type 0 wher
   pub at : command_at_work script s t ≡ Some (command.Submit engine ops)
   pub live : (b : BufId) → has_buffer (named (command.Submit engine ops)) b ≡ true → IsThere s b
 
+-- which a legal entry tells
 submit_of : (script : Script) (s : State) (t engine n : ℕ) → Told script s t (kind.Arm engine n) → IsSubmit script s t engine
 submit_of script s t engine n (told.still h) = cc
 submit_of script s t engine _ (told.arms ops at live ready) = record { ops = ops; at = at; live = live }
 
 -- ---- the buffers that it names
 
+-- one of two that holds
 or_more : (a b : Bool) → b ≡ true → (a || b) ≡ true
 or_more true b h = refl
 or_more false b h = h
 
+-- the first of a list is in it
 has_first : (b : BufId) (bs : List BufId) → has_buffer (b ∷ bs) b ≡ true
 has_first b bs = by (has_buffer bs b)
   where
     by : (q : Bool) → (same_buffer b b || q) ≡ true
     by q = grind (arith, nat_tests)
 
+-- so is what is in the rest
 has_later : (b d : BufId) (bs : List BufId) → has_buffer bs d ≡ true → has_buffer (b ∷ bs) d ≡ true
 has_later b d bs h = or_more (same_buffer d b) (has_buffer bs d) h
 
@@ -96,6 +100,7 @@ has_each [] k d l = absurd (omega (arith, l))
 has_each (b ∷ bs) zero d l = has_first b bs
 has_each (b ∷ bs) (suc k) d l = has_later b (slice_index_or bs k d) bs (has_each bs k d (omega (arith, l)))
 
+-- what is known to be there is there
 some_is : {X : Type 0} (o : Option X) (x : X) → o ≡ Some x → is_some o ≡ true
 some_is o x e = ap is_some e
 
@@ -121,36 +126,46 @@ module _ (script : Script) (journal : List Entry) (p : Parts) (entry : Entry) (t
   abbrev job : JobId
   job = record { ctx = engine; num = n }
 
+  -- the entry is the step of its thread
   step : next script s (actor.Thread t) ≡ Ok (kind.Arm engine n)
   step = step_as script journal entry (record { who = actor.Thread t; kind = kind.Arm engine n }) is legal refl
 
+  -- so it is of a job
   submit : IsSubmit script s t engine
   submit = submit_of script s t engine n (told_law script journal t (kind.Arm engine n) held.fits held.legal step)
 
+  -- of which the grammar tells
   rules : OfThread script t (command.Submit engine submit.ops)
   rules = at_work_rules script (rules_of script held.fits) s t (command.Submit engine submit.ops) submit.at
 
+  -- its engine is a context
   known : engine < length s.last_jobs
   known =
       let rooms = (good_law script held.fits journal held.legal).jobs.rooms in
       let within = submit_engine script engine submit.ops rules.command in
       omega (arith, rooms, within)
 
+  -- its number is the next one
   number : n ≡ last_number s.last_jobs engine + 1
   number = arm_number script s (actor.Thread t) engine n step
 
+  -- courses tell the command at work
   work_is : work_of script p.courses t ≡ cmd
   work_is = ap (λ cs. work_of script cs t) held.ties.courses
 
+  -- each buffer that it names is live
   named_there : (b : BufId) → has_buffer (named_in cmd) b ≡ true → IsThere s b
   named_there b h = submit.live b (ap (λ o. has_buffer (named_in o) b) (sym submit.at) ∙ h)
 
+  -- so all are
   named_live : list_all (λ b. is_some (live_in s.core.buffers b)) (named_in cmd) ≡ true
   named_live = all_live s.core.buffers (named_in cmd) (λ b h. some_is (live_in s.core.buffers b) (buffer s b) (named_there b h))
 
+  -- the sets of jobs are those of the buffers
   sets : AreFences s.last_jobs s.core.buffers p.bos.fences
   sets = held.ties.bos.fences_are
 
+  -- each for all contexts
   wide : AreWide (length s.last_jobs) p.bos.fences
   wide i set e = by (slice_get s.core.buffers i) (sym (get_map (λ o. set_of (length s.last_jobs) (fences_of o)) s.core.buffers i) ∙ sym (ap (λ l. slice_get l i) sets.sets_are) ∙ e)
     where
@@ -196,6 +211,7 @@ module _ (script : Script) (journal : List Entry) (p : Parts) (entry : Entry) (t
   names : standing_names p.bos ≡ (λ b. packet_place (buffer_in s.core b))
   names = names_same s.core p.bos held.ties.bos.buffers_are (ap length held.ties.bos.grips_are ∙ (sound_law script journal held.fits held.legal).owned.grips)
 
+  -- are those of the state
   packets_are : (o : Option Command) (ops : List Op) (packets : List Packet) → o ≡ work_of script p.courses t → ops ≡ ops_of o → packets ≡ packets_of (standing_names p.bos) ops →
       packets ≡ packets_of (λ b. packet_place (buffer_in s.core b)) (ops_of cmd)
   packets_are o ops packets w oe e = e ∙ ap₂ (λ names os. packets_of names os) names (oe ∙ ap ops_of (w ∙ work_is))
@@ -223,17 +239,21 @@ module _ (script : Script) (journal : List Entry) (p : Parts) (entry : Entry) (t
   abbrev more : Job
   more = armed_job s job (ops_of cmd) (named_in cmd)
 
+  -- what the parts tell of jobs stays true
   later : IsLater s.core.jobs s.last_jobs (s.core.jobs ++ more ∷ []) (slice_set s.last_jobs engine n)
   later = later_more s.core.jobs s.last_jobs more known number refl
 
+  -- the job is emitted from then on
   emitted : is_emitted (slice_set s.last_jobs engine n) job ≡ true
   emitted = emitted_now s.core.jobs s.last_jobs more known number refl
 
+  -- the sets with the job
   sets_then : AreFences (slice_set s.last_jobs engine n) (fold (with_use job (ops_of cmd)) s.core.buffers (named_in cmd)) (fold (λ l b. with_use_in job (use_of (ops_of cmd) b) l b) p.bos.fences (named_in cmd))
   sets_then =
       fences_armed (slice_set s.last_jobs engine n) job (ops_of cmd) emitted (named_in cmd) s.core.buffers named_live p.bos.fences
       (fences_later s.core.jobs s.last_jobs (s.core.jobs ++ more ∷ []) (slice_set s.last_jobs engine n) later s.core.buffers p.bos.fences sets)
 
+  -- all parts, by the words of the state
   tied : (set : List Latest) → WaitsFor s.core.jobs s.last_jobs (flat_map (jobs_before_use s.core (ops_of cmd)) (named_in cmd)) set → (bos : Bos) → bos ≡ with_uses job (ops_of cmd) p.bos (named_in cmd) →
       Ties script (after_submit s t job (ops_of cmd) (named_in cmd)) (stores_of script journal)
       (record p {
@@ -248,6 +268,7 @@ module _ (script : Script) (journal : List Entry) (p : Parts) (entry : Entry) (t
       armed_tied script s (stores_of script journal) p held.ties t job (ops_of cmd) (named_in cmd) known number set w bos (is ∙ ap (λ fs. record p.bos { fences = fs }) (sym fences))
       (subst (λ fs. AreFences (slice_set s.last_jobs engine n) (fold (with_use job (ops_of cmd)) s.core.buffers (named_in cmd)) fs) (sym fences) sets_then)
 
+  -- the parts tell the journal with the entry
   pub arm_held : (o : Option Command) (ops : List Op) (bs : List BufId) (contexts : ℕ) (set : List Latest) (packets : List Packet) (rings : List (List Pushed)) (line : List Progress) (bos : Bos) (courses : List Course) →
       o ≡ work_of script p.courses t → ops ≡ ops_of o → bs ≡ named_in o → contexts ≡ length p.line → set ≡ with_waits ops p.bos.fences (replicate contexts nothing_kept) bs → packets ≡ packets_of (standing_names p.bos) ops →
       rings ≡ with_pushed p.rings (record { job = job; waits = set; packets = packets; ran = 0 }) → line ≡ with_emitted p.line engine → bos ≡ with_uses job ops p.bos bs → courses ≡ with_course_by has_made p.courses t →

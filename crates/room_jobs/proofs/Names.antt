@@ -20,16 +20,19 @@ unfenced_place Vram x i = refl
 unfenced_place Tt x i = refl
 unfenced_place System x i = refl
 
+-- whatever stands at a number
 place_at : (o : Option (Option Buffer)) (i : ℕ) → packet_place (unwrap_or (option_and_then (λ y. y) (option_map (option_map unfenced) o)) (new_buffer 0)) i ≡ packet_place (unwrap_or (option_and_then (λ y. y) o) (new_buffer 0)) i
 place_at None i = refl
 place_at (Some None) i = refl
 place_at (Some (Some x)) i = unfenced_place x.mem x i
 
+-- behind its end a list has nothing
 nothing_past : {X : Type 0} (xs : List X) (i : ℕ) → length xs ≤ i → slice_get xs i ≡ None
 nothing_past [] i h = refl
 nothing_past (x ∷ xs) zero h = absurd (omega (arith, h))
 nothing_past (x ∷ xs) (suc i) h = nothing_past xs i (omega (arith, h))
 
+-- what is not below is at least that
 at_least : (i n : ℕ) → nat_lt i n ≡ false → n ≤ i
 at_least i n h = grind (arith, nat_tests)
 
