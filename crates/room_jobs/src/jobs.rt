@@ -1,0 +1,46 @@
+ghost use Rattle.std.specs.Prelude.{◌≡◌, ◌∷◌, ◌++◌, [], OnOk, OnErr};
+ghost use Rattle.ttm_base.specs.declared.Actor.TheVariants as actor;
+ghost use Rattle.journal_model.specs.declared.entry.Kind.TheVariants as kind;
+ghost use Rattle.journal_model.specs.Legal.{IsLegalNext, world_of};
+ghost use Rattle.room_ties.specs.Held.{AreHeld};
+
+use crate::packets::packets_of;
+use crate::uses::{add_uses, waits_at};
+use crate::work::{command_at_work, named_by, ops_of};
+use journal_model::{Entry, Script};
+use room_steps::has_made;
+use room_ties::Parts;
+use std::alloc::Global;
+use ttm_base::{JobId, NoMemory};
+
+/// The job of a thread's command is emitted on an engine: its packets name the pages of its buffers as they stand now, it waits for jobs that use
+/// these buffers, and it becomes one of them.
+pub fn arm(
+    parts: &mut Parts,
+    alloc: Global,
+    script: &Script,
+    before: &[Entry],
+    entry: &Entry,
+    thread: u32,
+    engine: u32,
+    num: u64,
+) -> Result<(), NoMemory>
+    requires held { AreHeld script.now before.now parts.old }
+    requires is { entry.now ≡ record { who = actor.Thread thread; kind = kind.Arm engine num } }
+    requires next { IsLegalNext script.now (world_of script.now before.now) entry.now }
+    ensures ok { OnOk result (AreHeld script.now (before.now ++ entry.now ∷ []) parts.new) }
+    ensures err { OnErr result (AreHeld script.now before.now parts.new) }
+{
+    let command = command_at_work(script, &parts.courses, thread);
+    let ops = ops_of(command);
+    let named = named_by(alloc, command)?;
+    let bs = named.items();
+    let waits = waits_at(alloc, &parts.bos, parts.line.contexts(), ops, bs)?;
+    let packets = packets_of(alloc, &parts.bos, ops)?;
+    let job = JobId { ctx: engine, num };
+    parts.rings.push(job, waits, packets)?;
+    let _emitted = parts.line.emit(engine);
+    add_uses(&mut parts.bos, job, ops, bs);
+    has_made(&mut parts.courses, thread);
+    Ok(())
+}

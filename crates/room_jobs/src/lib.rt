@@ -1,0 +1,10 @@
+//! What entries on jobs do to the parts of the device, one function a kind, which keeps the parts telling the state and the bytes that the journal
+//! leads to. Each takes all its memory before it changes what can be seen.
+#![tactic(auto)]
+
+mod jobs;
+mod packets;
+mod uses;
+mod work;
+
+pub use jobs::arm;
