@@ -3,10 +3,8 @@ use Rattle.std.proofs.Common.{◌≡◌, ◌≢◌, ℕ, zero, suc, ◌+◌, ◌
 use Rattle.std.specs.Prelude.{option_map, option_to_list, replicate, slice_get, slice_set, unwrap_or, if◌then◌else◌}
 use Rattle.std.specs.Option.{ForSome}
 use Rattle.std.proofs.lemmas.List.{append-nil}
-use Rattle.ttm_base.specs.declared.Actor.{Actor}
 use Rattle.ttm_base.specs.declared.Actor.TheVariants as actor
 use Rattle.ttm_base.specs.declared.BufId.{BufId}
-use Rattle.ttm_base.specs.declared.JobId.{JobId}
 use Rattle.ttm_base.specs.declared.Mem.{Mem}
 use Rattle.ttm_base.specs.declared.Mem.TheVariants.{System, Tt, Vram}
 use Rattle.ttm_base.specs.declared.Owner.TheVariants as owner
@@ -18,7 +16,6 @@ use Rattle.fence_core.specs.Fences.{all_added, nothing_kept}
 use Rattle.fence_core.specs.Histories.{set_of}
 use Rattle.fence_core.specs.Timelines.{progress_of, with_emitted}
 use Rattle.copy_engine.specs.Pushes.{Pushed, with_pushed}
-use Rattle.copy_packet.specs.declared.stores.Stores.{Stores}
 use Rattle.lru_bulk.specs.Lists.{Order, relisted}
 use Rattle.lru_bulk.specs.Members.{AreMembersListed}
 use Rattle.resource_core.specs.Resources.{Resources, holds}
@@ -40,10 +37,9 @@ use Rattle.journal_model.specs.ApplyMoves.{moved, move_packets, ghosts_left, las
 use Rattle.journal_model.specs.Holds.{held_slots, size_of}
 use Rattle.journal_model.specs.Legal.{IsLegalNext, state_of, stores_of, world_of}
 use Rattle.journal_model.specs.Next.{next}
-use Rattle.journal_model.specs.PageSteps.{next_ghost}
 use Rattle.journal_model.specs.Lists.{touched}
 use Rattle.journal_model.specs.Places.{aperture, pages_of}
-use Rattle.journal_model.specs.State.{buffer, changed, live_in, target_spans}
+use Rattle.journal_model.specs.State.{buffer, changed, target_spans}
 use Rattle.journal_model.specs.Stores.{within}
 use Rattle.law_counters.proofs.Law.{counters_law}
 use Rattle.law_owners.proofs.Law.{once_law, owner_law}
@@ -62,7 +58,7 @@ use Rattle.lemma_room_spans.proofs.MoveFence.{behind_fence}
 use Rattle.room_ties.specs.declared.parts.Ghost.{Ghost}
 use Rattle.room_ties.specs.declared.parts.Parts.{Parts}
 use Rattle.room_ties.specs.Bos.{AreBos, unfenced}
-use Rattle.room_ties.specs.Fences.{set_at, fences_of, WaitsFor}
+use Rattle.room_ties.specs.Fences.{set_at, fences_of}
 use Rattle.room_ties.specs.Ghosts.{AreGhosts}
 use Rattle.room_ties.specs.Held.{AreHeld}
 use Rattle.room_ties.specs.Lines.{IsTimeline}
@@ -70,13 +66,12 @@ use Rattle.room_ties.specs.Managers.{IsVram, IsTt}
 use Rattle.room_ties.specs.MoveFences.{IsMoveFence}
 use Rattle.room_ties.specs.Pages.{AreSlots, AreStores}
 use Rattle.room_ties.specs.RingJobs.{AreRings}
-use Rattle.room_ties.specs.Ties.{Ties}
 use Rattle.lemma_room_sets.proofs.GhostSteps.{ghosts_push}
 use Rattle.lemma_room_sets.proofs.Later.{IsLater, ghosts_later, move_later}
 use Rattle.lemma_room_sets.proofs.Sets.{set_length}
 use Rattle.lemma_room_sets.proofs.Told.{unfenced_as}
 use Rattle.lemma_room_jobs.proofs.BufferSets.{move_id, move_job, empty_set, before_write, moved_fences, moved_ghost}
-use Rattle.lemma_room_jobs.proofs.Emitted.{later_more, move_now, number_is, rings_more, timeline_more}
+use Rattle.lemma_room_jobs.proofs.Emitted.{later_more, move_now, rings_more, timeline_more}
 use Rattle.lemma_room_jobs.proofs.LegalJobs.{move_number}
 use Rattle.lemma_room_jobs.proofs.Packets.{within_same}
 use Rattle.lemma_room_frames.specs.GivenBack.{given_back, slots_left}

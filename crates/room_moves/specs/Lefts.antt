@@ -1,5 +1,5 @@
 -- What a moved buffer leaves behind, with its jobs as a set.
-use Rattle.std.specs.Prelude.{◌≡◌, ℕ, Option, Some, None, replicate}
+use Rattle.std.specs.Prelude.{ℕ, Option, Some, None, replicate}
 use Rattle.ttm_base.specs.declared.JobId.{JobId}
 use Rattle.ttm_base.specs.declared.Mem.TheVariants.{Tt, Vram}
 use Rattle.ttm_base.specs.declared.Usage.TheVariants.{Kernel}

@@ -1,4 +1,4 @@
-use Rattle.room_moves.proofs.Moved.{move_num, move_below, move_to, move_from, move_wide, move_known, move_waits, move_few, move_has, move_ring, move_line, move_emitted, move_vram, move_tt, move_joins, move_held, move_refused}
+use Rattle.room_moves.proofs.Moved.{move_num, move_below, move_to, move_from, move_wide, move_known, move_waits, move_few, move_has, move_ring, move_line, move_emitted, move_vram, move_tt, move_joins, move_held}
 use Rattle.room_moves.proofs.moves.move_buffer.Goals as goal
 
 pub get-bo-requires : goal.get-bo-requires
