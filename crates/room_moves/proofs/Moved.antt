@@ -1,8 +1,8 @@
 -- All parts behind a move.
-use Rattle.std.proofs.Common.{◌≡◌, ◌≢◌, ℕ, zero, suc, ◌+◌, ◌<◌, ◌≤◌, ◌^◌, Bool, true, false, List, [], ◌∷◌, ◌++◌, Option, Some, None, Ok, length, refl, sym, ◌∙◌, ap, ap₂, subst, arith}
+use Rattle.std.proofs.Common.{◌≡◌, ◌≢◌, ℕ, suc, ◌+◌, ◌<◌, ◌≤◌, ◌^◌, Bool, true, false, List, [], ◌∷◌, ◌++◌, Option, Some, None, Ok, length, refl, sym, ◌∙◌, ap, ap₂, subst, arith}
 use Rattle.std.specs.Prelude.{option_map, option_to_list, replicate, slice_get, slice_set, unwrap_or, if◌then◌else◌}
 use Rattle.std.specs.Option.{ForSome}
-use Rattle.std.proofs.lemmas.List.{append-nil}
+use Rattle.std.proofs.lemmas.List.{append-nil, length-replicate}
 use Rattle.ttm_base.specs.declared.Actor.TheVariants as actor
 use Rattle.ttm_base.specs.declared.BufId.{BufId}
 use Rattle.ttm_base.specs.declared.Mem.{Mem}
@@ -92,6 +92,7 @@ use Rattle.room_moves.proofs.Left.{IsMove, move_of, packets_are, packets_many, f
 
 -- ---- the buffer that is lent
 
+-- what is lent of a live buffer is its body
 standing_is : (bo : Bo) (x : Buffer) → body_of bo ≡ Some x → standing bo ≡ x
 standing_is bo x h = by bo.alive h
   where
@@ -101,24 +102,13 @@ standing_is bo x h = by bo.alive h
 
 -- ---- sets
 
+-- a set keeps its contexts
 length-all_added : (set others : List Latest) → length others ≡ length set → length (all_added Read set others) ≡ length set
 length-all_added [] others e = refl
 length-all_added (k ∷ set) [] e = absurd (omega (arith, e))
 length-all_added (k ∷ set) (o ∷ others) e = let f : length others ≡ length set = omega (arith, e) in ap suc (length-all_added set others f)
 
-length-replicated : (n : ℕ) → length (replicate n nothing_kept) ≡ n
-length-replicated zero = refl
-length-replicated (suc n) = ap suc (length-replicated n)
-
--- ---- nothing was started
-
--- rings and ghosts that are as they were are tied as before
-pub move_refused : (script : Script) (journal : List Entry) (p : Parts) → AreHeld script journal p → (rings : List (List Pushed)) (ghosts : List Ghost) → rings ≡ p.rings → ghosts ≡ p.ghosts →
-    AreHeld script journal (record p { rings = rings; ghosts = ghosts })
-move_refused script journal p held rings ghosts r g =
-    subst (λ k. AreHeld script journal (record p { rings = k; ghosts = ghosts })) (sym r) (subst (λ k. AreHeld script journal (record p { ghosts = k })) (sym g) held)
-
--- ---- a job was started
+-- ---- a job is started, and the buffer stands in its new place
 
 module _ (script : Script) (journal : List Entry) (p : Parts) (entry : Entry) (t : ℕ) (b : BufId) (mem : Mem) (n : ℕ) (l : Left) (held : AreHeld script journal p) (is : entry ≡ record { who = actor.Thread t; kind = kind.Move b mem n l }) (legal : IsLegalNext script (world_of script journal) entry) where
   abbrev s : State
@@ -127,32 +117,40 @@ module _ (script : Script) (journal : List Entry) (p : Parts) (entry : Entry) (t
   abbrev x : Buffer
   x = buffer s b
 
+  -- the thread's step
   step : next script s (actor.Thread t) ≡ Ok (kind.Move b mem n l)
   step = step_as script journal entry (record { who = actor.Thread t; kind = kind.Move b mem n l }) is legal refl
 
+  -- and what it tells
   told : Told script s t (kind.Move b mem n l)
   told = told_law script journal t (kind.Move b mem n l) held.fits held.legal step
 
+  -- as a move
   move : IsMove s b mem l
   move = move_of script s t b mem n l told
 
   -- ---- numbers
 
+  -- there is a context of the move engine
   known : 0 < length s.last_jobs
   known = let rooms = (good_law script held.fits journal held.legal).jobs.rooms in omega (arith, rooms)
 
+  -- the job has the next number
   num : n ≡ last_number s.last_jobs 0 + 1
   num = move_number script s (actor.Thread t) b mem n l step
 
+  -- which isn't 0
   pub move_num : 0 < n
   move_num = omega (arith, num)
 
   -- ---- the buffer that is lent
 
+  -- the buffer can be lent
   pub move_below : b.0 < length p.bos.grips
   move_below = lent_below script journal p held b move.live
 
   module _ (bo : Bo) (lent : IsBo p.bos b bo) where
+    -- it is that of the state, its fences apart
     lent_is : standing bo ≡ unfenced x
     lent_is =
         let at : slice_get p.bos.buffers b.0 ≡ Some (Some (unfenced x)) =
@@ -161,9 +159,11 @@ module _ (script : Script) (journal : List Entry) (p : Parts) (entry : Entry) (t
         let body : body_of bo ≡ Some (unfenced x) = cc in
         standing_is bo (unfenced x) body
 
+    -- with the set that the table keeps
     set_is : bo.resv.fences ≡ set_at p.bos.fences b
     set_is = sym (ap (λ o. unwrap_or o []) lent.fences)
 
+    -- which has all contexts
     set_wide : length bo.resv.fences ≡ length s.last_jobs
     set_wide =
         let at : slice_get p.bos.fences b.0 ≡ Some (set_of (length s.last_jobs) (fences_of (Some x))) =
@@ -173,61 +173,77 @@ module _ (script : Script) (journal : List Entry) (p : Parts) (entry : Entry) (t
         let same : bo.resv.fences ≡ set_of (length s.last_jobs) (fences_of (Some x)) = cc in
         ap length same ∙ set_length (length s.last_jobs) (fences_of (Some x))
 
+    -- the move goes to VRAM or TT
     pub move_to : mem ≢ System
     move_to = move.to
 
+    -- and comes from there
     pub move_from : bo.mem ≢ System
     move_from e = move.from (sym (ap (λ (y : Buffer). y.mem) lent_is) ∙ e)
 
     module _ (contexts : ℕ) (many : contexts ≡ length p.line) where
+      -- the timeline has the state's contexts
       contexts_are : contexts ≡ length s.last_jobs
       contexts_are = many ∙ held.ties.line.contexts
 
+      -- so has the buffer's set
       pub move_wide : length bo.resv.fences ≡ contexts
       move_wide = set_wide ∙ sym contexts_are
 
+      -- one of them is the move engine's
       pub move_known : 0 < contexts
       move_known = subst (λ m. 0 < m) (sym contexts_are) known
 
+      -- the job waits for what the state's buffer has
       waits_are : (waits : List Latest) → waits ≡ all_added Read (replicate contexts nothing_kept) bo.resv.fences → waits ≡ all_added Read (empty_set s) (set_at p.bos.fences b)
       waits_are waits e = e ∙ ap₂ (λ m set. all_added Read (replicate m nothing_kept) set) contexts_are set_is
 
+      -- what is left is what the state's buffer leaves
       ghost_is : (ghost : Option Ghost) → ghost ≡ left_by_move contexts (standing bo) (move_id n) l → ghost ≡ left_by_move (length s.last_jobs) (unfenced x) (move_id n) l
       ghost_is ghost e = e ∙ ap₂ (λ m y. left_by_move m y (move_id n) l) contexts_are lent_is
 
+      -- the job's set has all contexts
       pub move_waits : (waits : List Latest) → waits ≡ all_added Read (replicate contexts nothing_kept) bo.resv.fences → length waits ≡ length p.rings
       move_waits waits e =
-          let wide = length-all_added (replicate contexts nothing_kept) bo.resv.fences (move_wide ∙ sym (length-replicated contexts)) ∙ length-replicated contexts in
+          let wide = length-all_added (replicate contexts nothing_kept) bo.resv.fences (move_wide ∙ sym (length-replicate contexts nothing_kept)) ∙ length-replicate contexts nothing_kept in
           ap length e ∙ wide ∙ contexts_are ∙ sym held.ties.rings.contexts
 
+    -- its packets are those of the definition
     packets_same : (packets : List Packet) → packets ≡ copies (length bo.table) mem (target_spans mem (standing bo)) bo.mem bo.spans → packets ≡ move_packets x mem
     packets_same packets e = e ∙ ap (λ (y : Buffer). copies (length y.table) mem (target_spans mem y) y.mem y.spans) lent_is ∙ packets_are x mem move.from
 
+    -- they can be counted
     pub move_few : (packets : List Packet) → packets ≡ copies (length bo.table) mem (target_spans mem (standing bo)) bo.mem bo.spans → length packets < 2 ^ 32
     move_few packets e =
         let few = (table_pages script (rules_of script held.fits) s (good_law script held.fits journal held.legal) b x move.live).1 in
         let many = ap length (packets_same packets e) ∙ packets_many x mem in
         omega (arith, few, many)
 
+    -- the aperture has the pages of a target in TT
     pub move_has : mem ≡ Tt → HasPages p.stores.aper (pages_of (target_spans Tt (standing bo)))
     move_has e =
         subst (λ (y : Buffer). HasPages p.stores.aper (pages_of (target_spans Tt y))) (sym lent_is)
         (λ k page at. subst (λ m. page < m) (sym held.ties.stores.aper_size) (target_inside script s.core (once_law script journal held.fits held.legal) page b x k move.live at))
 
+  -- the move engine has a ring
   pub move_ring : 0 < length p.rings
   move_ring = subst (λ m. 0 < m) (sym held.ties.rings.contexts) known
 
+  -- and a place in the timeline
   pub move_line : 0 < length p.line
   move_line = subst (λ m. 0 < m) (sym held.ties.line.contexts) known
 
+  -- whose next number fits
   pub move_emitted : (progress_of p.line 0).emitted < 2 ^ 63
   move_emitted = subst (λ (q : Progress). q.emitted < 2 ^ 63) (sym (held.ties.line.each 0 known)) ((counters_law script journal held.fits held.legal).jobs 0)
 
   -- ---- managers
 
+  -- the numbers of ghosts were drawn
   below : (i : ℕ) (g : state.Ghost) → slice_get s.core.ghosts i ≡ Some g → g.num ≤ s.last_ghost
   below i g e = ((ghosts_law script journal held.fits held.legal).drawn i g e).1
 
+  -- a new ghost holds nothing yet
   fresh : (mine : Mem) → mine ≢ System → (r : Resources) → HoldsAsIn (size_of script mine) mine s r → CanLeave l r
   fresh mine out r tie = by l refl
     where
@@ -237,6 +253,7 @@ module _ (script : Script) (journal : List Entry) (p : Parts) (entry : Entry) (t
           ap (λ g. holds (owner.Ghost g) r.held) (move.next g e)
           ∙ next_ghost_fresh script journal held.fits held.legal mine out (ghosts_law script journal held.fits held.legal).first below r tie
 
+  -- the calls on a manager may be made
   can : (mine : Mem) → mine ≢ System → (r : Resources) → HoldsAsIn (size_of script mine) mine s r → CanCarry b l r
   can mine out r tie =
       record {
@@ -250,12 +267,15 @@ module _ (script : Script) (journal : List Entry) (p : Parts) (entry : Entry) (t
   tt_out : Tt ≢ System
   tt_out e = cc
 
+  -- on that of VRAM
   pub move_vram : CanCarry b l p.vram.resources
   move_vram = can Vram vram_out p.vram.resources held.ties.vram.held_as
 
+  -- and on that of TT
   pub move_tt : CanCarry b l p.tt
   move_tt = can Tt tt_out p.tt held.ties.tt
 
+  -- the job can join the buffer's
   pub move_joins : (mid : Bos) → mid ≡ with_changed (carried mem) p.bos b → (bo : Bo) → IsBo p.bos b bo → ForSome (slice_get mid.fences b.0) (λ set. 0 < length set)
   move_joins mid m bo lent = λ set e. joined set (sym lent.fences ∙ sym (ap (λ (y : Bos). slice_get y.fences b.0) m) ∙ e)
     where
@@ -275,9 +295,11 @@ module _ (script : Script) (journal : List Entry) (p : Parts) (entry : Entry) (t
   abbrev last_then : List ℕ
   last_then = slice_set s.last_jobs 0 n
 
+  -- what was told of jobs stays true
   later : IsLater s.core.jobs s.last_jobs jobs_then last_then
   later = later_more s.core.jobs s.last_jobs job known num refl
 
+  -- the job stands last in its ring
   rings_then : (rings : List (List Pushed)) (waits : List Latest) (packets : List Packet) → waits ≡ all_added Read (empty_set s) (set_at p.bos.fences b) → packets ≡ move_packets x mem →
       rings ≡ with_pushed p.rings (record { job = move_id n; waits = waits; packets = packets; ran = 0 }) → AreRings jobs_then last_then rings
   rings_then rings waits packets w k e =
@@ -285,6 +307,7 @@ module _ (script : Script) (journal : List Entry) (p : Parts) (entry : Entry) (t
       (sym (e ∙ ap₂ (λ a c. with_pushed p.rings (record { job = move_id n; waits = a; packets = c; ran = 0 })) w k))
       (rings_more s.core.jobs s.last_jobs job known num refl p.rings held.ties.rings (all_added Read (empty_set s) (set_at p.bos.fences b)) (before_write s p.bos.fences held.ties.bos.fences_are b x move.live))
 
+  -- what is left stands behind the other ghosts
   ghosts_then : (ghosts : List Ghost) (ghost : Option Ghost) → ghost ≡ left_by_move (length s.last_jobs) (unfenced x) (move_id n) l → ghosts ≡ p.ghosts ++ option_to_list ghost →
       AreGhosts jobs_then last_then (ghosts_left x (move_id n) l s.core.ghosts) ghosts
   ghosts_then ghosts ghost g e = subst (λ rs. AreGhosts jobs_then last_then (ghosts_left x (move_id n) l s.core.ghosts) rs) (sym (e ∙ ap (λ o. p.ghosts ++ option_to_list o) g)) (by l)
@@ -298,6 +321,7 @@ module _ (script : Script) (journal : List Entry) (p : Parts) (entry : Entry) (t
           ghosts_push jobs_then last_then s.core.ghosts p.ghosts before _ (ghost_of (length s.last_jobs) (unfenced x) (move_id n) g)
           (moved_ghost s p.bos.fences held.ties.bos.fences_are b x move.live mem n known num g (ghost_of (length s.last_jobs) (unfenced x) (move_id n) g) refl refl refl (frames_unfenced x.mem x) refl)
 
+  -- the buffer stands at its target, with the job
   bos_then : (mid bos : Bos) → mid ≡ with_changed (carried mem) p.bos b → bos ≡ with_use (move_id n) Kernel mid b → AreBos script (changed (moved mem (move_id n)) s.core.buffers b) s.grips last_then bos
   bos_then mid bos m e =
       subst (λ y. AreBos script (changed (moved mem (move_id n)) s.core.buffers b) s.grips last_then y) (sym (e ∙ ap (λ y. with_use (move_id n) Kernel y b) m))
@@ -308,9 +332,11 @@ module _ (script : Script) (journal : List Entry) (p : Parts) (entry : Entry) (t
         pages_are = held.ties.bos.pages_are;
       })
 
+  -- a manager holds what the state tells
   spans_then : (mine : Mem) → mine ≢ System → (r : Resources) → HoldsAsIn (size_of script mine) mine s r → HoldsAsIn (size_of script mine) mine (applied script s (actor.Thread t) (kind.Move b mem n l)) (calls.carried mine mem b l r)
   spans_then mine out r tie = thread_spans script journal held.fits held.legal mine out (ghosts_law script journal held.fits held.legal).first below r tie t (kind.Move b mem n l) step told
 
+  -- the move fence is the state's
   fence_then : (r : Resources) → r.move_fence ≡ p.vram.resources.move_fence → IsMoveFence last_then (move_fence_left (move_id n) l s.core.move_fence) (with_fence_left (move_id n) l r).move_fence
   fence_then r e = by l
     where
@@ -319,6 +345,7 @@ module _ (script : Script) (journal : List Entry) (p : Parts) (entry : Entry) (t
       by (left.Ghost g) =
           subst (λ k. IsMoveFence last_then s.core.move_fence k) (sym e) (move_later s.core.jobs s.last_jobs jobs_then last_then later s.core.move_fence p.vram.resources.move_fence held.ties.vram.fence)
 
+  -- to set it changes no holding
   fenced_tie : (r : Resources) → HoldsAsIn script.sizes.vram Vram (applied script s (actor.Thread t) (kind.Move b mem n l)) r → HoldsAsIn script.sizes.vram Vram (applied script s (actor.Thread t) (kind.Move b mem n l)) (with_fence_left (move_id n) l r)
   fenced_tie r tie = by l
     where
@@ -326,6 +353,7 @@ module _ (script : Script) (journal : List Entry) (p : Parts) (entry : Entry) (t
       by left.Now = record { size_is = tie.size_is; owners = tie.owners; each = tie.each }
       by (left.Ghost g) = tie
 
+  -- so the manager of VRAM is tied
   vram_then : (mid v : room.Vram) → mid.resources ≡ calls.carried Vram mem b l p.vram.resources → room.spans_of_kind mid.kind ≡ room.spans_of_kind p.vram.kind → v.resources ≡ with_fence_left (move_id n) l mid.resources →
       room.spans_of_kind v.kind ≡ room.spans_of_kind mid.kind → IsVram script.sizes last_then (applied script s (actor.Thread t) (kind.Move b mem n l)).core.buffers (applied script s (actor.Thread t) (kind.Move b mem n l)).core.ghosts (move_fence_left (move_id n) l s.core.move_fence) v
   vram_then mid v m rule e rule_then =
@@ -338,6 +366,7 @@ module _ (script : Script) (journal : List Entry) (p : Parts) (entry : Entry) (t
             (fence_then (calls.carried Vram mem b l p.vram.resources) (behind_fence Vram (kind.Move b mem n l) p.vram.resources));
       }
 
+  -- no slot is given back
   swap_then : AreSlots script.sizes.swap (held_slots (applied script s (actor.Thread t) (kind.Move b mem n l)).core) (within script.sizes (stores_of script journal)) p.swap
   swap_then =
       subst (λ js. AreSlots script.sizes.swap (held_slots (applied script s (actor.Thread t) (kind.Move b mem n l)).core) (within script.sizes (stores_of script journal)) (record { held = given_back p.swap.held js; bytes = p.swap.bytes })) (by x.mem refl)
@@ -348,9 +377,11 @@ module _ (script : Script) (journal : List Entry) (p : Parts) (entry : Entry) (t
       by Vram e = refl
       by System e = refl
 
+  -- the entry, written out
   legal_move : IsLegalNext script (world_of script journal) (record { who = actor.Thread t; kind = kind.Move b mem n l })
   legal_move = subst (λ y. IsLegalNext script (world_of script journal) y) is legal
 
+  -- the stores have the bytes and the aperture behind it
   stores_then : HasStoresAfter script s (stores_of script journal) (actor.Thread t) (kind.Move b mem n l) (record p.stores { aper = mapped_in mem p.stores.aper x })
   stores_then = by mem refl
     where
@@ -363,11 +394,13 @@ module _ (script : Script) (journal : List Entry) (p : Parts) (entry : Entry) (t
           (move_in_tie script journal held.fits held.legal p.stores held.ties.stores t n b l (mapped_in Tt p.stores.aper x) (subst (λ m. IsLegalNext script (world_of script journal) (record { who = actor.Thread t; kind = kind.Move b m n l })) e legal_move) refl)
       by System e = absurd (move.to e)
 
+  -- fences don't matter to the aperture
   mapped_unfenced : (m : Mem) → mapped_in m p.stores.aper (unfenced x) ≡ mapped_in m p.stores.aper x
   mapped_unfenced Vram = refl
   mapped_unfenced Tt = refl
   mapped_unfenced System = refl
 
+  -- all parts tell the state and the bytes behind the move
   pub move_held : (bo : Bo) → IsBo p.bos b bo → (contexts : ℕ) → contexts ≡ length p.line → (packets : List Packet) → packets ≡ copies (length bo.table) mem (target_spans mem (standing bo)) bo.mem bo.spans →
       (waits : List Latest) → waits ≡ all_added Read (replicate contexts nothing_kept) bo.resv.fences → (ghost : Option Ghost) → ghost ≡ left_by_move contexts (standing bo) (move_id n) l →
       (rings : List (List Pushed)) → rings ≡ with_pushed p.rings (record { job = move_id n; waits = waits; packets = packets; ran = 0 }) → (ghosts : List Ghost) → ghosts ≡ p.ghosts ++ option_to_list ghost →

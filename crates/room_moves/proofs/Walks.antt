@@ -1,5 +1,5 @@
 -- Walks over the pages of two places, side by side.
-use Rattle.std.proofs.Common.{◌≡◌, ℕ, ◌+◌, zero, suc, List, [], ◌∷◌, ◌++◌, drop, refl, sym, ◌∙◌, ap, arith}
+use Rattle.std.proofs.Common.{◌≡◌, ℕ, ◌+◌, zero, suc, List, [], ◌∷◌, ◌++◌, drop, refl, sym, ◌∙◌, ap, ap₂, arith}
 use Rattle.std.specs.Prelude.{Option, map, slice_get, unwrap_or}
 use Rattle.ttm_base.specs.declared.Mem.{Mem}
 use Rattle.ttm_base.specs.declared.Mem.TheVariants.{System, Tt, Vram}
@@ -32,6 +32,7 @@ next_named Vram spans i = ap (λ o. named Vram (unwrap_or o 0)) (left_first (pag
 next_named Tt spans i = ap (λ o. named Tt (unwrap_or o 0)) (left_first (pages_of spans) i)
 next_named System spans i = refl
 
+-- one more number
 map_more : (f : ℕ → Packet) (n start : ℕ) → map f (count_from 1 n start) ++ f (start + n) ∷ [] ≡ map f (count_from 1 (suc n) start)
 map_more f zero start = let e : start + 0 ≡ start = omega arith in ap (λ m. f m ∷ []) e
 map_more f (suc n) start =
@@ -39,7 +40,7 @@ map_more f (suc n) start =
     ap (λ l. f start ∷ l) (ap (λ m. map f (count_from 1 n (1 + start)) ++ f m ∷ []) e ∙ map_more f n (1 + start))
 
 -- one more page is copied
-pub copies_more : (n : ℕ) (to : Mem) (targets : List Span) (from : Mem) (sources : List Span) →
+copies_more : (n : ℕ) (to : Mem) (targets : List Span) (from : Mem) (sources : List Span) →
     copies n to targets from sources ++ copy_of_page (name_in_spans to targets n) (name_in_spans from sources n) ∷ [] ≡ copies (n + 1) to targets from sources
 copies_more n to targets from sources =
     let e : n + 1 ≡ suc n = omega arith in
@@ -47,6 +48,11 @@ copies_more n to targets from sources =
     ap (λ m. copies n to targets from sources ++ copy_of_page (name_in_spans to targets m) (name_in_spans from sources m) ∷ []) z
     ∙ map_more (λ i. copy_of_page (name_in_spans to targets i) (name_in_spans from sources i)) n 0
     ∙ sym (ap (λ m. copies m to targets from sources) e)
+
+-- so where its packet was pushed
+pub pushed_more : (n : ℕ) (to : Mem) (targets : List Span) (from : Mem) (sources : List Span) (packets pushed : List Packet) (packet : Packet) → packets ≡ copies n to targets from sources →
+    packet ≡ copy_of_page (name_in_spans to targets n) (name_in_spans from sources n) → pushed ≡ packets ++ packet ∷ [] → pushed ≡ copies (n + 1) to targets from sources
+pushed_more n to targets from sources packets pushed packet old is e = e ∙ ap₂ (λ l p. l ++ p ∷ []) old is ∙ copies_more n to targets from sources
 
 -- no page is mapped where no place is left
 pub no_places : (aper : List (Option ℕ)) (pages : List ℕ) → mapped_to aper pages [] ≡ aper
