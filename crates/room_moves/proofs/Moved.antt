@@ -1,0 +1,434 @@
+-- All parts behind a move.
+use Rattle.std.proofs.Common.{◌≡◌, ◌≢◌, ℕ, suc, ◌+◌, ◌<◌, ◌≤◌, ◌^◌, Bool, true, false, List, [], ◌∷◌, ◌++◌, Option, Some, None, Ok, length, refl, sym, ◌∙◌, ap, ap₂, subst, arith}
+use Rattle.std.specs.Prelude.{option_map, option_to_list, replicate, slice_get, slice_set, unwrap_or, if◌then◌else◌}
+use Rattle.std.specs.Option.{ForSome}
+use Rattle.std.proofs.lemmas.List.{append-nil, length-replicate}
+use Rattle.ttm_base.specs.declared.Actor.TheVariants as actor
+use Rattle.ttm_base.specs.declared.BufId.{BufId}
+use Rattle.ttm_base.specs.declared.Mem.{Mem}
+use Rattle.ttm_base.specs.declared.Mem.TheVariants.{System, Tt, Vram}
+use Rattle.ttm_base.specs.declared.Owner.TheVariants as owner
+use Rattle.ttm_base.specs.declared.Packet.{Packet}
+use Rattle.ttm_base.specs.declared.Usage.TheVariants.{Kernel, Read}
+use Rattle.fence_core.specs.declared.fence_set.Latest.{Latest}
+use Rattle.fence_core.specs.declared.timeline.Progress.{Progress}
+use Rattle.fence_core.specs.Fences.{all_added, nothing_kept}
+use Rattle.fence_core.specs.Histories.{set_of}
+use Rattle.fence_core.specs.Timelines.{progress_of, with_emitted}
+use Rattle.copy_engine.specs.Pushes.{Pushed, with_pushed}
+use Rattle.lru_bulk.specs.Lists.{Order, relisted}
+use Rattle.lru_bulk.specs.Members.{AreMembersListed}
+use Rattle.resource_core.specs.Resources.{Resources, holds}
+use Rattle.resource_core.specs.Vram as room
+use Rattle.bo_table.specs.declared.bo.Bo.{Bo}
+use Rattle.bo_table.specs.Seen.{Bos, IsBo, body_of, carried, with_changed, with_use}
+use Rattle.bo_table.proofs.TableLaws.{get_map}
+use Rattle.journal_model.specs.declared.script.Script.{Script}
+use Rattle.journal_model.specs.declared.state.State.{State}
+use Rattle.journal_model.specs.declared.state.Buffer.{Buffer}
+use Rattle.journal_model.specs.declared.state.Ghost as state
+use Rattle.journal_model.specs.declared.state.Job.{Job}
+use Rattle.journal_model.specs.declared.entry.Entry.{Entry}
+use Rattle.journal_model.specs.declared.entry.Kind.TheVariants as kind
+use Rattle.journal_model.specs.declared.entry.Left.{Left}
+use Rattle.journal_model.specs.declared.entry.Left.TheVariants as left
+use Rattle.journal_model.specs.Apply.{applied}
+use Rattle.journal_model.specs.ApplyMoves.{moved, move_packets, ghosts_left, last_ghost_left, move_fence_left}
+use Rattle.journal_model.specs.Holds.{held_slots, size_of}
+use Rattle.journal_model.specs.Legal.{IsLegalNext, state_of, stores_of, world_of}
+use Rattle.journal_model.specs.Next.{next}
+use Rattle.journal_model.specs.Lists.{touched}
+use Rattle.journal_model.specs.Places.{aperture, pages_of}
+use Rattle.journal_model.specs.State.{buffer, changed, target_spans}
+use Rattle.journal_model.specs.Stores.{within}
+use Rattle.law_counters.proofs.Law.{counters_law}
+use Rattle.law_owners.proofs.Law.{once_law, owner_law}
+use Rattle.law_pages.proofs.Law.{ghosts_law}
+use Rattle.law_state.proofs.GoodStates.{good_law, table_pages}
+use Rattle.law_state.proofs.Rules.{rules_of}
+use Rattle.law_state.specs.GoodState.{last_number}
+use Rattle.law_transparent.proofs.Carried.{told_law}
+use Rattle.lemma_bytes_told.specs.Told.{Told}
+use Rattle.lemma_room_lists.specs.Listed.{AreListed}
+use Rattle.lemma_room_lists.proofs.KindLaws.{move_lists}
+use Rattle.lemma_room_spans.specs.Calls as calls
+use Rattle.lemma_room_spans.specs.Owned.{HoldsAsIn}
+use Rattle.lemma_room_spans.proofs.Entries.{thread_spans, move_fresh, next_ghost_fresh}
+use Rattle.lemma_room_spans.proofs.MoveFence.{behind_fence}
+use Rattle.room_ties.specs.declared.parts.Ghost.{Ghost}
+use Rattle.room_ties.specs.declared.parts.Parts.{Parts}
+use Rattle.room_ties.specs.Bos.{AreBos, unfenced}
+use Rattle.room_ties.specs.Fences.{set_at, fences_of}
+use Rattle.room_ties.specs.Ghosts.{AreGhosts}
+use Rattle.room_ties.specs.Held.{AreHeld}
+use Rattle.room_ties.specs.Lines.{IsTimeline}
+use Rattle.room_ties.specs.Managers.{IsVram, IsTt}
+use Rattle.room_ties.specs.MoveFences.{IsMoveFence}
+use Rattle.room_ties.specs.Pages.{AreSlots, AreStores}
+use Rattle.room_ties.specs.RingJobs.{AreRings}
+use Rattle.lemma_room_sets.proofs.GhostSteps.{ghosts_push}
+use Rattle.lemma_room_sets.proofs.Later.{IsLater, ghosts_later, move_later}
+use Rattle.lemma_room_sets.proofs.Sets.{set_length}
+use Rattle.lemma_room_sets.proofs.Told.{unfenced_as}
+use Rattle.lemma_room_jobs.proofs.BufferSets.{move_id, move_job, empty_set, before_write, moved_fences, moved_ghost}
+use Rattle.lemma_room_jobs.proofs.Emitted.{later_more, move_now, rings_more, timeline_more}
+use Rattle.lemma_room_jobs.proofs.LegalJobs.{move_number}
+use Rattle.lemma_room_jobs.proofs.Packets.{within_same}
+use Rattle.lemma_room_frames.specs.GivenBack.{given_back, slots_left}
+use Rattle.lemma_room_frames.proofs.Behind.{pool_behind}
+use Rattle.lemma_room_frames.proofs.Held.{no_slots}
+use Rattle.lemma_room_frames.proofs.SlotKinds.{move_slots}
+use Rattle.lemma_room_legal.proofs.Entries.{next_tells, no_slots_in_tt}
+use Rattle.lemma_room_bytes.specs.Mapped.{HasStoresAfter}
+use Rattle.lemma_room_bytes.proofs.Entries.{move_in_tie, move_out_tie}
+use Rattle.lemma_room_bytes.proofs.Holders.{target_inside}
+use Rattle.room_steps.proofs.Lent.{lent_below, stands_at}
+use Rattle.room_steps.proofs.Steps.{held_still, step_as}
+use Rattle.room_moves.specs.Copies.{copies, standing}
+use Rattle.room_moves.specs.Lefts.{ghost_of, left_by_move}
+use Rattle.room_moves.specs.Mappings.{mapped_in, HasPages}
+use Rattle.room_moves.specs.Rooms.{CanCarry, CanLeave, with_fence_left}
+use Rattle.room_moves.proofs.Left.{IsMove, move_of, packets_are, packets_many, frames_unfenced}
+
+-- ---- the buffer that is lent
+
+-- what is lent of a live buffer is its body
+standing_is : (bo : Bo) (x : Buffer) → body_of bo ≡ Some x → standing bo ≡ x
+standing_is bo x h = by bo.alive h
+  where
+    by : (q : Bool) → (if q then Some (standing bo) else None) ≡ Some x → standing bo ≡ x
+    by true e = let it : standing bo ≡ x = cc in it
+    by false e = cc
+
+-- ---- sets
+
+-- a set keeps its contexts
+length-all_added : (set others : List Latest) → length others ≡ length set → length (all_added Read set others) ≡ length set
+length-all_added [] others e = refl
+length-all_added (k ∷ set) [] e = absurd (omega (arith, e))
+length-all_added (k ∷ set) (o ∷ others) e = let f : length others ≡ length set = omega (arith, e) in ap suc (length-all_added set others f)
+
+-- ---- a job is started, and the buffer stands in its new place
+
+module _ (script : Script) (journal : List Entry) (p : Parts) (entry : Entry) (t : ℕ) (b : BufId) (mem : Mem) (n : ℕ) (l : Left) (held : AreHeld script journal p) (is : entry ≡ record { who = actor.Thread t; kind = kind.Move b mem n l }) (legal : IsLegalNext script (world_of script journal) entry) where
+  abbrev s : State
+  s = state_of script journal
+
+  abbrev x : Buffer
+  x = buffer s b
+
+  -- the thread's step
+  step : next script s (actor.Thread t) ≡ Ok (kind.Move b mem n l)
+  step = step_as script journal entry (record { who = actor.Thread t; kind = kind.Move b mem n l }) is legal refl
+
+  -- and what it tells
+  told : Told script s t (kind.Move b mem n l)
+  told = told_law script journal t (kind.Move b mem n l) held.fits held.legal step
+
+  -- as a move
+  move : IsMove s b mem l
+  move = move_of script s t b mem n l told
+
+  -- ---- numbers
+
+  -- there is a context of the move engine
+  known : 0 < length s.last_jobs
+  known = let rooms = (good_law script held.fits journal held.legal).jobs.rooms in omega (arith, rooms)
+
+  -- the job has the next number
+  num : n ≡ last_number s.last_jobs 0 + 1
+  num = move_number script s (actor.Thread t) b mem n l step
+
+  -- which isn't 0
+  pub move_num : 0 < n
+  move_num = omega (arith, num)
+
+  -- ---- the buffer that is lent
+
+  -- the buffer can be lent
+  pub move_below : b.0 < length p.bos.grips
+  move_below = lent_below script journal p held b move.live
+
+  module _ (bo : Bo) (lent : IsBo p.bos b bo) where
+    -- it is that of the state, its fences apart
+    lent_is : standing bo ≡ unfenced x
+    lent_is =
+        let at : slice_get p.bos.buffers b.0 ≡ Some (Some (unfenced x)) =
+        ap (λ xs. slice_get xs b.0) held.ties.bos.buffers_are ∙ get_map (option_map unfenced) s.core.buffers b.0 ∙ ap (option_map (option_map unfenced)) (stands_at s.core.buffers b x move.live) in
+        let both : Some (body_of bo) ≡ Some (Some (unfenced x)) = sym lent.body ∙ at in
+        let body : body_of bo ≡ Some (unfenced x) = cc in
+        standing_is bo (unfenced x) body
+
+    -- with the set that the table keeps
+    set_is : bo.resv.fences ≡ set_at p.bos.fences b
+    set_is = sym (ap (λ o. unwrap_or o []) lent.fences)
+
+    -- which has all contexts
+    set_wide : length bo.resv.fences ≡ length s.last_jobs
+    set_wide =
+        let at : slice_get p.bos.fences b.0 ≡ Some (set_of (length s.last_jobs) (fences_of (Some x))) =
+        ap (λ xs. slice_get xs b.0) held.ties.bos.fences_are.sets_are ∙ get_map (λ o. set_of (length s.last_jobs) (fences_of o)) s.core.buffers b.0
+        ∙ ap (option_map (λ o. set_of (length s.last_jobs) (fences_of o))) (stands_at s.core.buffers b x move.live) in
+        let both : Some bo.resv.fences ≡ Some (set_of (length s.last_jobs) (fences_of (Some x))) = sym lent.fences ∙ at in
+        let same : bo.resv.fences ≡ set_of (length s.last_jobs) (fences_of (Some x)) = cc in
+        ap length same ∙ set_length (length s.last_jobs) (fences_of (Some x))
+
+    -- the move goes to VRAM or TT
+    pub move_to : mem ≢ System
+    move_to = move.to
+
+    -- and comes from there
+    pub move_from : bo.mem ≢ System
+    move_from e = move.from (sym (ap (λ (y : Buffer). y.mem) lent_is) ∙ e)
+
+    module _ (contexts : ℕ) (many : contexts ≡ length p.line) where
+      -- the timeline has the state's contexts
+      contexts_are : contexts ≡ length s.last_jobs
+      contexts_are = many ∙ held.ties.line.contexts
+
+      -- so has the buffer's set
+      pub move_wide : length bo.resv.fences ≡ contexts
+      move_wide = set_wide ∙ sym contexts_are
+
+      -- one of them is the move engine's
+      pub move_known : 0 < contexts
+      move_known = subst (λ m. 0 < m) (sym contexts_are) known
+
+      -- the job waits for what the state's buffer has
+      waits_are : (waits : List Latest) → waits ≡ all_added Read (replicate contexts nothing_kept) bo.resv.fences → waits ≡ all_added Read (empty_set s) (set_at p.bos.fences b)
+      waits_are waits e = e ∙ ap₂ (λ m set. all_added Read (replicate m nothing_kept) set) contexts_are set_is
+
+      -- what is left is what the state's buffer leaves
+      ghost_is : (ghost : Option Ghost) → ghost ≡ left_by_move contexts (standing bo) (move_id n) l → ghost ≡ left_by_move (length s.last_jobs) (unfenced x) (move_id n) l
+      ghost_is ghost e = e ∙ ap₂ (λ m y. left_by_move m y (move_id n) l) contexts_are lent_is
+
+      -- the job's set has all contexts
+      pub move_waits : (waits : List Latest) → waits ≡ all_added Read (replicate contexts nothing_kept) bo.resv.fences → length waits ≡ length p.rings
+      move_waits waits e =
+          let wide = length-all_added (replicate contexts nothing_kept) bo.resv.fences (move_wide ∙ sym (length-replicate contexts nothing_kept)) ∙ length-replicate contexts nothing_kept in
+          ap length e ∙ wide ∙ contexts_are ∙ sym held.ties.rings.contexts
+
+    -- its packets are those of the definition
+    packets_same : (packets : List Packet) → packets ≡ copies (length bo.table) mem (target_spans mem (standing bo)) bo.mem bo.spans → packets ≡ move_packets x mem
+    packets_same packets e = e ∙ ap (λ (y : Buffer). copies (length y.table) mem (target_spans mem y) y.mem y.spans) lent_is ∙ packets_are x mem move.from
+
+    -- they can be counted
+    pub move_few : (packets : List Packet) → packets ≡ copies (length bo.table) mem (target_spans mem (standing bo)) bo.mem bo.spans → length packets < 2 ^ 32
+    move_few packets e =
+        let few = (table_pages script (rules_of script held.fits) s (good_law script held.fits journal held.legal) b x move.live).1 in
+        let many = ap length (packets_same packets e) ∙ packets_many x mem in
+        omega (arith, few, many)
+
+    -- the aperture has the pages of a target in TT
+    pub move_has : mem ≡ Tt → HasPages p.stores.aper (pages_of (target_spans Tt (standing bo)))
+    move_has e =
+        subst (λ (y : Buffer). HasPages p.stores.aper (pages_of (target_spans Tt y))) (sym lent_is)
+        (λ k page at. subst (λ m. page < m) (sym held.ties.stores.aper_size) (target_inside script s.core (once_law script journal held.fits held.legal) page b x k move.live at))
+
+  -- the move engine has a ring
+  pub move_ring : 0 < length p.rings
+  move_ring = subst (λ m. 0 < m) (sym held.ties.rings.contexts) known
+
+  -- and a place in the timeline
+  pub move_line : 0 < length p.line
+  move_line = subst (λ m. 0 < m) (sym held.ties.line.contexts) known
+
+  -- whose next number fits
+  pub move_emitted : (progress_of p.line 0).emitted < 2 ^ 63
+  move_emitted = subst (λ (q : Progress). q.emitted < 2 ^ 63) (sym (held.ties.line.each 0 known)) ((counters_law script journal held.fits held.legal).jobs 0)
+
+  -- ---- managers
+
+  -- the numbers of ghosts were drawn
+  below : (i : ℕ) (g : state.Ghost) → slice_get s.core.ghosts i ≡ Some g → g.num ≤ s.last_ghost
+  below i g e = ((ghosts_law script journal held.fits held.legal).drawn i g e).1
+
+  -- a new ghost holds nothing yet
+  fresh : (mine : Mem) → mine ≢ System → (r : Resources) → HoldsAsIn (size_of script mine) mine s r → CanLeave l r
+  fresh mine out r tie = by l refl
+    where
+      by : (o : Left) → l ≡ o → CanLeave o r
+      by left.Now e = tt
+      by (left.Ghost g) e =
+          ap (λ g. holds (owner.Ghost g) r.held) (move.next g e)
+          ∙ next_ghost_fresh script journal held.fits held.legal mine out (ghosts_law script journal held.fits held.legal).first below r tie
+
+  -- the calls on a manager may be made
+  can : (mine : Mem) → mine ≢ System → (r : Resources) → HoldsAsIn (size_of script mine) mine s r → CanCarry b l r
+  can mine out r tie =
+      record {
+        leaves = fresh mine out r tie;
+        arrives = move_fresh script journal held.fits held.legal mine out (ghosts_law script journal held.fits held.legal).first below r tie t b mem n l told;
+      }
+
+  vram_out : Vram ≢ System
+  vram_out e = cc
+
+  tt_out : Tt ≢ System
+  tt_out e = cc
+
+  -- on that of VRAM
+  pub move_vram : CanCarry b l p.vram.resources
+  move_vram = can Vram vram_out p.vram.resources held.ties.vram.held_as
+
+  -- and on that of TT
+  pub move_tt : CanCarry b l p.tt
+  move_tt = can Tt tt_out p.tt held.ties.tt
+
+  -- the job can join the buffer's
+  pub move_joins : (mid : Bos) → mid ≡ with_changed (carried mem) p.bos b → (bo : Bo) → IsBo p.bos b bo → ForSome (slice_get mid.fences b.0) (λ set. 0 < length set)
+  move_joins mid m bo lent = λ set e. joined set (sym lent.fences ∙ sym (ap (λ (y : Bos). slice_get y.fences b.0) m) ∙ e)
+    where
+      joined : (set : List Latest) → Some bo.resv.fences ≡ Some set → 0 < length set
+      joined set h =
+          let same : bo.resv.fences ≡ set = cc in
+          subst (λ m. 0 < m) (sym (set_wide bo lent) ∙ ap length same) known
+
+  -- ---- the parts behind it
+
+  abbrev job : Job
+  job = move_job s b mem n
+
+  abbrev jobs_then : List Job
+  jobs_then = s.core.jobs ++ job ∷ []
+
+  abbrev last_then : List ℕ
+  last_then = slice_set s.last_jobs 0 n
+
+  -- what was told of jobs stays true
+  later : IsLater s.core.jobs s.last_jobs jobs_then last_then
+  later = later_more s.core.jobs s.last_jobs job known num refl
+
+  -- the job stands last in its ring
+  rings_then : (rings : List (List Pushed)) (waits : List Latest) (packets : List Packet) → waits ≡ all_added Read (empty_set s) (set_at p.bos.fences b) → packets ≡ move_packets x mem →
+      rings ≡ with_pushed p.rings (record { job = move_id n; waits = waits; packets = packets; ran = 0 }) → AreRings jobs_then last_then rings
+  rings_then rings waits packets w k e =
+      subst (λ r. AreRings jobs_then last_then r)
+      (sym (e ∙ ap₂ (λ a c. with_pushed p.rings (record { job = move_id n; waits = a; packets = c; ran = 0 })) w k))
+      (rings_more s.core.jobs s.last_jobs job known num refl p.rings held.ties.rings (all_added Read (empty_set s) (set_at p.bos.fences b)) (before_write s p.bos.fences held.ties.bos.fences_are b x move.live))
+
+  -- what is left stands behind the other ghosts
+  ghosts_then : (ghosts : List Ghost) (ghost : Option Ghost) → ghost ≡ left_by_move (length s.last_jobs) (unfenced x) (move_id n) l → ghosts ≡ p.ghosts ++ option_to_list ghost →
+      AreGhosts jobs_then last_then (ghosts_left x (move_id n) l s.core.ghosts) ghosts
+  ghosts_then ghosts ghost g e = subst (λ rs. AreGhosts jobs_then last_then (ghosts_left x (move_id n) l s.core.ghosts) rs) (sym (e ∙ ap (λ o. p.ghosts ++ option_to_list o) g)) (by l)
+    where
+      before : AreGhosts jobs_then last_then s.core.ghosts p.ghosts
+      before = ghosts_later s.core.jobs s.last_jobs jobs_then last_then later s.core.ghosts p.ghosts held.ties.ghosts
+
+      by : (o : Left) → AreGhosts jobs_then last_then (ghosts_left x (move_id n) o s.core.ghosts) (p.ghosts ++ option_to_list (left_by_move (length s.last_jobs) (unfenced x) (move_id n) o))
+      by left.Now = subst (λ rs. AreGhosts jobs_then last_then s.core.ghosts rs) (sym (append-nil p.ghosts)) before
+      by (left.Ghost g) =
+          ghosts_push jobs_then last_then s.core.ghosts p.ghosts before _ (ghost_of (length s.last_jobs) (unfenced x) (move_id n) g)
+          (moved_ghost s p.bos.fences held.ties.bos.fences_are b x move.live mem n known num g (ghost_of (length s.last_jobs) (unfenced x) (move_id n) g) refl refl refl (frames_unfenced x.mem x) refl)
+
+  -- the buffer stands at its target, with the job
+  bos_then : (mid bos : Bos) → mid ≡ with_changed (carried mem) p.bos b → bos ≡ with_use (move_id n) Kernel mid b → AreBos script (changed (moved mem (move_id n)) s.core.buffers b) s.grips last_then bos
+  bos_then mid bos m e =
+      subst (λ y. AreBos script (changed (moved mem (move_id n)) s.core.buffers b) s.grips last_then y) (sym (e ∙ ap (λ y. with_use (move_id n) Kernel y b) m))
+      (record {
+        buffers_are = ap (λ xs. changed (carried mem) xs b) held.ties.bos.buffers_are ∙ sym (unfenced_as (moved mem (move_id n)) (carried mem) (λ y. refl) s.core.buffers b);
+        grips_are = held.ties.bos.grips_are;
+        fences_are = moved_fences s p.bos.fences held.ties.bos.fences_are b x move.live mem n known num;
+        pages_are = held.ties.bos.pages_are;
+      })
+
+  -- a manager holds what the state tells
+  spans_then : (mine : Mem) → mine ≢ System → (r : Resources) → HoldsAsIn (size_of script mine) mine s r → HoldsAsIn (size_of script mine) mine (applied script s (actor.Thread t) (kind.Move b mem n l)) (calls.carried mine mem b l r)
+  spans_then mine out r tie = thread_spans script journal held.fits held.legal mine out (ghosts_law script journal held.fits held.legal).first below r tie t (kind.Move b mem n l) step told
+
+  -- the move fence is the state's
+  fence_then : (r : Resources) → r.move_fence ≡ p.vram.resources.move_fence → IsMoveFence last_then (move_fence_left (move_id n) l s.core.move_fence) (with_fence_left (move_id n) l r).move_fence
+  fence_then r e = by l
+    where
+      by : (o : Left) → IsMoveFence last_then (move_fence_left (move_id n) o s.core.move_fence) (with_fence_left (move_id n) o r).move_fence
+      by left.Now = move_now s.core.jobs s.last_jobs job known num refl
+      by (left.Ghost g) =
+          subst (λ k. IsMoveFence last_then s.core.move_fence k) (sym e) (move_later s.core.jobs s.last_jobs jobs_then last_then later s.core.move_fence p.vram.resources.move_fence held.ties.vram.fence)
+
+  -- to set it changes no holding
+  fenced_tie : (r : Resources) → HoldsAsIn script.sizes.vram Vram (applied script s (actor.Thread t) (kind.Move b mem n l)) r → HoldsAsIn script.sizes.vram Vram (applied script s (actor.Thread t) (kind.Move b mem n l)) (with_fence_left (move_id n) l r)
+  fenced_tie r tie = by l
+    where
+      by : (o : Left) → HoldsAsIn script.sizes.vram Vram (applied script s (actor.Thread t) (kind.Move b mem n l)) (with_fence_left (move_id n) o r)
+      by left.Now = record { size_is = tie.size_is; owners = tie.owners; each = tie.each }
+      by (left.Ghost g) = tie
+
+  -- so the manager of VRAM is tied
+  vram_then : (mid v : room.Vram) → mid.resources ≡ calls.carried Vram mem b l p.vram.resources → room.spans_of_kind mid.kind ≡ room.spans_of_kind p.vram.kind → v.resources ≡ with_fence_left (move_id n) l mid.resources →
+      room.spans_of_kind v.kind ≡ room.spans_of_kind mid.kind → IsVram script.sizes last_then (applied script s (actor.Thread t) (kind.Move b mem n l)).core.buffers (applied script s (actor.Thread t) (kind.Move b mem n l)).core.ghosts (move_fence_left (move_id n) l s.core.move_fence) v
+  vram_then mid v m rule e rule_then =
+      let now : v.resources ≡ with_fence_left (move_id n) l (calls.carried Vram mem b l p.vram.resources) = e ∙ ap (with_fence_left (move_id n) l) m in
+      record {
+        rule = rule_then ∙ rule ∙ held.ties.vram.rule;
+        held_as = subst (λ r. HoldsAsIn script.sizes.vram Vram (applied script s (actor.Thread t) (kind.Move b mem n l)) r) (sym now)
+            (fenced_tie (calls.carried Vram mem b l p.vram.resources) (spans_then Vram vram_out p.vram.resources held.ties.vram.held_as));
+        fence = subst (λ (r : Resources). IsMoveFence last_then (move_fence_left (move_id n) l s.core.move_fence) r.move_fence) (sym now)
+            (fence_then (calls.carried Vram mem b l p.vram.resources) (behind_fence Vram (kind.Move b mem n l) p.vram.resources));
+      }
+
+  -- no slot is given back
+  swap_then : AreSlots script.sizes.swap (held_slots (applied script s (actor.Thread t) (kind.Move b mem n l)).core) (within script.sizes (stores_of script journal)) p.swap
+  swap_then =
+      subst (λ js. AreSlots script.sizes.swap (held_slots (applied script s (actor.Thread t) (kind.Move b mem n l)).core) (within script.sizes (stores_of script journal)) (record { held = given_back p.swap.held js; bytes = p.swap.bytes })) (by x.mem refl)
+      (move_slots script s (actor.Thread t) (stores_of script journal) p.swap held.ties.swap b move.live mem n l (owner_law script journal held.fits held.legal).slots)
+    where
+      by : (m : Mem) → x.mem ≡ m → slots_left m x ≡ []
+      by Tt e = no_slots x.table (no_slots_in_tt script held.fits journal held.legal b x move.live e)
+      by Vram e = refl
+      by System e = refl
+
+  -- the entry, written out
+  legal_move : IsLegalNext script (world_of script journal) (record { who = actor.Thread t; kind = kind.Move b mem n l })
+  legal_move = subst (λ y. IsLegalNext script (world_of script journal) y) is legal
+
+  -- the stores have the bytes and the aperture behind it
+  stores_then : HasStoresAfter script s (stores_of script journal) (actor.Thread t) (kind.Move b mem n l) (record p.stores { aper = mapped_in mem p.stores.aper x })
+  stores_then = by mem refl
+    where
+      by : (m : Mem) → mem ≡ m → HasStoresAfter script s (stores_of script journal) (actor.Thread t) (kind.Move b mem n l) (record p.stores { aper = mapped_in m p.stores.aper x })
+      by Vram e =
+          subst (λ m. HasStoresAfter script s (stores_of script journal) (actor.Thread t) (kind.Move b m n l) p.stores) (sym e)
+          (move_out_tie script journal held.fits held.legal p.stores held.ties.stores t n b l (subst (λ m. IsLegalNext script (world_of script journal) (record { who = actor.Thread t; kind = kind.Move b m n l })) e legal_move))
+      by Tt e =
+          subst (λ m. HasStoresAfter script s (stores_of script journal) (actor.Thread t) (kind.Move b m n l) (record p.stores { aper = mapped_in Tt p.stores.aper x })) (sym e)
+          (move_in_tie script journal held.fits held.legal p.stores held.ties.stores t n b l (mapped_in Tt p.stores.aper x) (subst (λ m. IsLegalNext script (world_of script journal) (record { who = actor.Thread t; kind = kind.Move b m n l })) e legal_move) refl)
+      by System e = absurd (move.to e)
+
+  -- fences don't matter to the aperture
+  mapped_unfenced : (m : Mem) → mapped_in m p.stores.aper (unfenced x) ≡ mapped_in m p.stores.aper x
+  mapped_unfenced Vram = refl
+  mapped_unfenced Tt = refl
+  mapped_unfenced System = refl
+
+  -- all parts tell the state and the bytes behind the move
+  pub move_held : (bo : Bo) → IsBo p.bos b bo → (contexts : ℕ) → contexts ≡ length p.line → (packets : List Packet) → packets ≡ copies (length bo.table) mem (target_spans mem (standing bo)) bo.mem bo.spans →
+      (waits : List Latest) → waits ≡ all_added Read (replicate contexts nothing_kept) bo.resv.fences → (ghost : Option Ghost) → ghost ≡ left_by_move contexts (standing bo) (move_id n) l →
+      (rings : List (List Pushed)) → rings ≡ with_pushed p.rings (record { job = move_id n; waits = waits; packets = packets; ran = 0 }) → (ghosts : List Ghost) → ghosts ≡ p.ghosts ++ option_to_list ghost →
+      (aper : List (Option ℕ)) → aper ≡ mapped_in mem p.stores.aper (standing bo) → (line : List Progress) → line ≡ with_emitted p.line 0 →
+      (carry v : room.Vram) → carry.resources ≡ calls.carried Vram mem b l p.vram.resources → room.spans_of_kind carry.kind ≡ room.spans_of_kind p.vram.kind → v.resources ≡ with_fence_left (move_id n) l carry.resources →
+      room.spans_of_kind v.kind ≡ room.spans_of_kind carry.kind → (r : Resources) → r ≡ calls.carried Tt mem b l p.tt → (mid bos : Bos) → mid ≡ with_changed (carried mem) p.bos b → bos ≡ with_use (move_id n) Kernel mid b →
+      (o : Order) → o ≡ relisted p.lru b mem → AreMembersListed p.lru → (last : ℕ) → last ≡ last_ghost_left l p.last_ghost →
+      AreHeld script (journal ++ entry ∷ []) (record p { rings = rings; ghosts = ghosts; stores = record p.stores { aper = aper }; line = line; vram = v; tt = r; bos = bos; lru = o; last_ghost = last })
+  move_held bo lent contexts many packets pe waits we ghost ge rings re ghosts gse aper ae line le carry v ce rule ve rule_then r rne mid bos me be o oe members last lge =
+      let same = within_same script.sizes (stores_of script journal) held.ties.no_more in
+      let mapped : aper ≡ mapped_in mem p.stores.aper x = ae ∙ ap (mapped_in mem p.stores.aper) (lent_is bo lent) ∙ mapped_unfenced mem in
+      held_still script journal p (record p { rings = rings; ghosts = ghosts; stores = record p.stores { aper = aper }; line = line; vram = v; tt = r; bos = bos; lru = o; last_ghost = last }) entry
+      (record { who = actor.Thread t; kind = kind.Move b mem n l }) held is legal refl
+      (record {
+        bos = bos_then mid bos me be;
+        line = subst (λ k. IsTimeline jobs_then last_then k) (sym le) (timeline_more s.core.jobs s.last_jobs job known num refl p.line held.ties.line);
+        rings = rings_then rings waits packets (waits_are bo lent contexts many waits we) (packets_same bo lent packets pe) re;
+        ghosts = ghosts_then ghosts ghost (ghost_is bo lent contexts many ghost ge) gse;
+        vram = vram_then carry v ce rule ve rule_then;
+        tt = subst (λ k. IsTt script.sizes (applied script s (actor.Thread t) (kind.Move b mem n l)).core.buffers (applied script s (actor.Thread t) (kind.Move b mem n l)).core.ghosts k) (sym rne) (spans_then Tt tt_out p.tt held.ties.tt);
+        pool = pool_behind script s (actor.Thread t) (owner_law script journal held.fits held.legal) (kind.Move b mem n l) p.pool (next_tells script held.fits journal held.legal (actor.Thread t) (kind.Move b mem n l) step) held.ties.pool;
+        swap = subst (λ bytes. AreSlots script.sizes.swap (held_slots (applied script s (actor.Thread t) (kind.Move b mem n l)).core) bytes p.swap) same swap_then;
+        stores = subst (λ bytes. AreStores script.sizes (aperture (applied script s (actor.Thread t) (kind.Move b mem n l)).core) bytes (record p.stores { aper = aper })) same
+            (subst (λ k. HasStoresAfter script s (stores_of script journal) (actor.Thread t) (kind.Move b mem n l) (record p.stores { aper = k })) (sym mapped) stores_then);
+        lists = subst (λ k. AreListed script (changed (moved mem (move_id n)) s.core.buffers b) s.grips (touched script (changed (moved mem (move_id n)) s.core.buffers b) s.grips s.lists b) k) (sym oe)
+            (move_lists script s p.lru b held.ties.lists members mem (move_id n) l x move.live);
+        courses = held.ties.courses;
+        stamp = held.ties.stamp;
+        ghost = lge ∙ ap (last_ghost_left l) held.ties.ghost;
+        no_more = held.ties.no_more;
+      })

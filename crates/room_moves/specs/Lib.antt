@@ -1,0 +1,4 @@
+pub mod Copies
+pub mod Lefts
+pub mod Mappings
+pub mod Rooms

@@ -1,0 +1,75 @@
+ghost use Rattle.std.specs.Prelude.{◌≡◌, false};
+ghost use Rattle.ttm_base.specs.declared.Owner.TheVariants as owner;
+ghost use Rattle.resource_core.specs.Resources.{holds};
+ghost use Rattle.resource_core.specs.Vram.{spans_of_kind};
+ghost use Rattle.lemma_room_spans.specs.Calls.{arrived, carried, given, left_by, passed_on};
+ghost use Rattle.room_moves.specs.Rooms.{CanCarry, CanLeave, with_fence_left};
+
+use journal_model::Left;
+use resource_core::{Manager, VramRoom};
+use ttm_base::{BufId, JobId, Mem, Owner};
+
+/// Makes the spans of one owner those of another, if it holds some.
+fn pass_on<M: Manager>(room: &mut M, from: Owner, to: Owner)
+    requires { holds to (M.resources room.old).held ≡ false }
+    ensures held { M.resources room.new ≡ passed_on from to (M.resources room.old) }
+    ensures rule { M.choice room.new ≡ M.choice room.old }
+{
+    if room.holds(from) {
+        room.pass(from, to);
+    }
+}
+
+/// Frees the spans of an owner, if it holds some.
+fn give_back<M: Manager>(room: &mut M, owner: Owner)
+    ensures held { M.resources room.new ≡ given owner (M.resources room.old) }
+    ensures rule { M.choice room.new ≡ M.choice room.old }
+{
+    if room.holds(owner) {
+        room.give(owner);
+    }
+}
+
+/// The spans of a buffer are free, or a ghost's.
+fn leave<M: Manager>(room: &mut M, b: BufId, left: Left)
+    requires { CanLeave left (M.resources room.old) }
+    ensures held { M.resources room.new ≡ left_by b left (M.resources room.old) }
+    ensures rule { M.choice room.new ≡ M.choice room.old }
+{
+    match left {
+        Left::Now => give_back(room, Owner::Live(b)),
+        Left::Ghost(num) => pass_on(room, Owner::Live(b), Owner::Ghost(num)),
+    }
+}
+
+/// The target of a buffer in a memory type is its place, if this manager is that memory type's.
+fn arrive<M: Manager>(room: &mut M, mine: Mem, mem: Mem, b: BufId)
+    requires { holds (owner.Live b) (M.resources room.old).held ≡ false }
+    ensures held { M.resources room.new ≡ arrived mine mem b (M.resources room.old) }
+    ensures rule { M.choice room.new ≡ M.choice room.old }
+{
+    if mem == mine {
+        pass_on(room, Owner::Target(b), Owner::Live(b));
+    }
+}
+
+/// A buffer moves to its target in a memory type: what the manager of a memory type keeps of both places.
+pub fn carry_spans<M: Manager>(room: &mut M, mine: Mem, mem: Mem, b: BufId, left: Left)
+    requires { CanCarry b left (M.resources room.old) }
+    ensures held { M.resources room.new ≡ carried mine mem b left (M.resources room.old) }
+    ensures rule { M.choice room.new ≡ M.choice room.old }
+{
+    leave(room, b, left);
+    arrive(room, mine, mem, b);
+}
+
+/// Where pages of VRAM are free at once, the move's job becomes the move fence.
+pub fn keep_move_fence(room: &mut VramRoom, job: JobId, left: Left)
+    ensures held { room.new.resources ≡ with_fence_left job left room.old.resources }
+    ensures rule { spans_of_kind room.new.kind ≡ spans_of_kind room.old.kind }
+{
+    match left {
+        Left::Now => room.set_move_fence(job),
+        Left::Ghost(_) => {}
+    }
+}

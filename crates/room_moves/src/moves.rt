@@ -1,0 +1,87 @@
+ghost use Rattle.std.specs.Prelude.{◌≡◌, ◌∷◌, ◌++◌, [], OnOk, OnErr};
+ghost use Rattle.lru_bulk.specs.Lists.{relisted};
+ghost use Rattle.ttm_base.specs.declared.Actor.TheVariants as actor;
+ghost use Rattle.journal_model.specs.declared.entry.Kind.TheVariants as kind;
+ghost use Rattle.journal_model.specs.ApplyMoves.{last_ghost_left};
+ghost use Rattle.journal_model.specs.Legal.{IsLegalNext, world_of};
+ghost use Rattle.room_ties.specs.Held.{AreHeld};
+
+use crate::ghosts::ghost_left;
+use crate::managers::{carry_spans, keep_move_fence};
+use crate::mappings::map_target;
+use crate::packets::move_packets;
+use crate::starts::{start_job, waits_of};
+use journal_model::{Entry, Left, Script};
+use lru_bulk::Lru;
+use room_ties::Parts;
+use std::alloc::Global;
+use ttm_base::{BufId, JobId, Mem, NoMemory, Usage};
+
+/// The context of the move engine.
+const MOVES: u32 = 0;
+
+/// Places a buffer on the list of another memory type, if it is on one.
+fn relist(lru: &mut Lru, b: BufId, mem: Mem)
+    ensures { lru.new ≡ relisted lru.old b mem }
+{
+    if lru.is_listed(b) {
+        lru.relist(b, mem);
+    }
+}
+
+/// The last ghost's number.
+fn last_ghost(left: Left, before: u64) -> u64
+    ensures { result ≡ last_ghost_left left before }
+{
+    match left {
+        Left::Now => before,
+        Left::Ghost(num) => num,
+    }
+}
+
+/// A job of the move engine copies each page of a buffer to its target, and the buffer stands there at once. What it leaves is free behind
+/// the move fence, or a ghost's until the job is done.
+pub fn move_buffer(
+    parts: &mut Parts,
+    alloc: Global,
+    script: &Script,
+    before: &[Entry],
+    entry: &Entry,
+    thread: u32,
+    b: BufId,
+    mem: Mem,
+    num: u64,
+    left: Left,
+) -> Result<(), NoMemory>
+    requires held { AreHeld script.now before.now parts.old }
+    requires is { entry.now ≡ record { who = actor.Thread thread; kind = kind.Move b mem num left } }
+    requires next { IsLegalNext script.now (world_of script.now before.now) entry.now }
+    ensures ok { OnOk result (AreHeld script.now (before.now ++ entry.now ∷ []) parts.new) }
+    ensures err { OnErr result (AreHeld script.now before.now parts.new) }
+{
+    parts.lru.members_stand_once();
+    let job = JobId { ctx: MOVES, num };
+    let contexts = parts.line.contexts();
+    let bo = parts.bos.get(b);
+    let packets = move_packets(alloc, bo, mem)?;
+    let waits = waits_of(alloc, contexts, bo)?;
+    let ghost_object = ghost_left(alloc, contexts, bo, job, left)?;
+    start_job(
+        &mut parts.rings,
+        &mut parts.ghosts,
+        job,
+        waits,
+        packets,
+        ghost_object,
+    )?;
+    map_target(&mut parts.stores.aper, bo, mem);
+    let _emitted = parts.line.emit(MOVES);
+    carry_spans(&mut parts.vram, Mem::Vram, mem, b, left);
+    carry_spans(&mut parts.tt, Mem::Tt, mem, b, left);
+    keep_move_fence(&mut parts.vram, job, left);
+    parts.bos.carry(b, mem);
+    parts.bos.add_fence(b, job, Usage::Kernel);
+    relist(&mut parts.lru, b, mem);
+    parts.last_ghost = last_ghost(left, parts.last_ghost);
+    Ok(())
+}

@@ -1,0 +1,104 @@
+ghost use Rattle.std.specs.Prelude.{◌≡◌, ◌≢◌, IfOk, drop, length, slice_get, unwrap_or};
+ghost use Rattle.ttm_base.specs.declared.Mem.TheVariants.{System as InSystem};
+ghost use Rattle.journal_model.specs.ApplyMoves as words;
+ghost use Rattle.journal_model.specs.State as model;
+ghost use Rattle.room_moves.specs.Copies.{copies, named, standing};
+
+use bo_table::Bo;
+use place_list::PageCursor;
+use std::alloc::Global;
+use ttm_base::{Mem, NoMemory, Packet, PagePlace, Span};
+
+/// Bytes of a page.
+const PAGE: u32 = 4096;
+
+/// How packets name a page of VRAM or TT.
+fn name(mem: Mem, page: u32) -> PagePlace
+    requires { mem ≢ InSystem }
+    ensures { result ≡ named mem page }
+{
+    match mem {
+        Mem::Vram => PagePlace::Vram(page),
+        Mem::Tt => PagePlace::Aper(page),
+        Mem::System => unreachable!(),
+    }
+}
+
+/// How packets name the next page of a walk.
+fn next_name(mem: Mem, pages: &mut PageCursor) -> PagePlace
+    requires { mem ≢ InSystem }
+    ensures name { result ≡ named mem (unwrap_or (slice_get pages.old 0) 0) }
+    ensures left { pages.new ≡ drop 1 pages.old }
+{
+    let page = pages.next().unwrap_or(0);
+    name(mem, page)
+}
+
+/// Copies a page.
+fn copy_of_page(to: PagePlace, from: PagePlace) -> Packet
+    ensures { result ≡ words.copy_of_page to from }
+{
+    Packet::Copy {
+        to,
+        toff: 0,
+        from,
+        foff: 0,
+        len: PAGE,
+    }
+}
+
+/// Copies so many pages, one by one. It costs as many steps as there are pages and spans.
+fn copy_pages(
+    alloc: Global,
+    pages: usize,
+    to: Mem,
+    targets: &[Span],
+    from: Mem,
+    sources: &[Span],
+) -> Result<Vec<Packet>, NoMemory>
+    requires to { to ≢ InSystem }
+    requires from { from ≢ InSystem }
+    ensures { IfOk result (λ packets. packets.items ≡ copies pages to targets.now from sources.now) }
+{
+    let mut packets = Vec::new(alloc);
+    let mut ahead = PageCursor::new(targets);
+    let mut here = PageCursor::new(sources);
+    for _page in 0..pages {
+        let target = next_name(to, &mut ahead);
+        let source = next_name(from, &mut here);
+        packets.push(copy_of_page(target, source))?;
+    }
+    Ok(packets)
+}
+
+/// The spans of a buffer's target in a memory type.
+fn target_spans(bo: &Bo, mem: Mem) -> &[Span]
+    ensures { result.now ≡ model.target_spans mem (standing bo.now) }
+{
+    let target = match mem {
+        Mem::System => &bo.targets.system,
+        Mem::Tt => &bo.targets.tt,
+        Mem::Vram => &bo.targets.vram,
+    };
+    match target {
+        Some(spans) => spans.items(),
+        None => &[],
+    }
+}
+
+/// The packets of a move: each page goes from where it stands to the target's. Moves go between VRAM and TT alone.
+pub fn move_packets(alloc: Global, bo: &Bo, mem: Mem) -> Result<Vec<Packet>, NoMemory>
+    requires to { mem ≢ InSystem }
+    requires from { bo.now.mem ≢ InSystem }
+    ensures { IfOk result (λ packets. packets.items ≡ copies (length bo.now.table) mem (model.target_spans mem (standing bo.now)) bo.now.mem bo.now.spans) }
+{
+    let pages = bo.table.places().len();
+    copy_pages(
+        alloc,
+        pages,
+        mem,
+        target_spans(bo, mem),
+        bo.mem,
+        bo.spans.items(),
+    )
+}
