@@ -1,0 +1,4 @@
+pub mod Uses
+pub mod Heads
+pub mod Bytes
+pub mod Ends

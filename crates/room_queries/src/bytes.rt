@@ -1,0 +1,161 @@
+ghost use Rattle.std.specs.Prelude.{◌≡◌, ◌+◌, ◌<◌, ◌≤◌, ◌++◌, IfOk, OnOk, length, map};
+ghost use Rattle.ttm_base.specs.ListWords.{count_from};
+ghost use Rattle.copy_packet.specs.StoreBytes.{byte_at, HasPage};
+ghost use Rattle.journal_model.specs.State.{buffer};
+ghost use Rattle.journal_model.specs.Stores as words;
+ghost use Rattle.journal_model.specs.Legal.{state_of, stores_of, world_of};
+ghost use Rattle.lemma_bytes_told.specs.Told.{IsThere};
+ghost use Rattle.room_ties.specs.Held.{AreHeld};
+ghost use Rattle.room_queries.specs.Heads.{head_piece};
+ghost use Rattle.room_queries.specs.Bytes as seen;
+ghost use Rattle.room_queries.specs.Bytes.{bytes_in, standing, HasPart};
+
+use bo_table::Bo;
+use byte_store::{ByteStore, PAGE};
+use copy_packet::{ProbeBytes, show};
+use journal_model::{Bytes, Entry, Script};
+use room_ties::Parts;
+use rules_state::page_at;
+use std::alloc::Global;
+use swap_store::SwapStore;
+use ttm_base::{BufId, Loc, Mem, NoMemory};
+
+/// How many bytes a page has.
+const PAGE_LEN: u32 = 4096;
+
+/// Where a page of a buffer has its bytes. A page that is nowhere is zeros.
+enum Standing {
+    Nowhere,
+    Vram(u32),
+    Frame(u32),
+    Slot(u32),
+}
+
+/// Where a page of a live buffer stands: by its spans in VRAM, else by its table.
+fn standing_of(bo: &Bo, page: u32) -> Standing
+    ensures { seen.page_of result ≡ seen.page_of_bo bo.now page }
+{
+    if let Mem::Vram = bo.mem {
+        return match page_at(bo.spans.items(), page) {
+            Some(found) => Standing::Vram(found),
+            None => Standing::Nowhere,
+        };
+    }
+    match bo.table.places().get(page as usize) {
+        Some(Loc::Frame(frame)) => Standing::Frame(*frame),
+        Some(Loc::Slot(slot)) => Standing::Slot(*slot),
+        Some(Loc::Zero) | None => Standing::Nowhere,
+    }
+}
+
+/// Puts zeros behind others.
+#[tactic(auto, using(crate::proofs::Read::zeros_more))]
+fn push_zeros(out: &mut Bytes, len: u32) -> Result<(), NoMemory>
+    ensures { OnOk result (out.new ≡ out.old ++ seen.zeros len) }
+{
+    for _i in 0..len {
+        out.push(0)?;
+    }
+    Ok(())
+}
+
+/// Puts bytes of one page of a store behind others.
+fn push_stored(
+    out: &mut Bytes,
+    store: &ByteStore,
+    page: u32,
+    off: u32,
+    len: u32,
+) -> Result<(), NoMemory>
+    requires page { HasPage store.now page }
+    requires fits { off + len ≤ 4096 }
+    ensures { OnOk result (out.new ≡ out.old ++ map (byte_at store.now page) (count_from 1 len off)) }
+{
+    let bytes = store.part(PAGE * page as u64 + off as u64, len as u64);
+    out.extend(bytes)
+}
+
+/// Puts bytes of one slot behind others.
+fn push_slot(
+    out: &mut Bytes,
+    swap: &SwapStore,
+    slot: u32,
+    off: u32,
+    len: u32,
+) -> Result<(), NoMemory>
+    requires slot { slot < length swap.now.held }
+    requires fits { off + len ≤ 4096 }
+    ensures { OnOk result (out.new ≡ out.old ++ map (byte_at swap.now.bytes slot) (count_from 1 len off)) }
+{
+    let page = swap.page(slot);
+    let start = off as usize;
+    let end = start + len as usize;
+    out.extend(&page[start..end])
+}
+
+/// Puts bytes of one page of a buffer behind others, from the store where the page stands.
+fn push_part(
+    out: &mut Bytes,
+    parts: &Parts,
+    bo: &Bo,
+    page: u32,
+    off: u32,
+    len: u32,
+) -> Result<(), NoMemory>
+    requires there { HasPart parts.now (seen.page_of_bo bo.now page) }
+    requires fits { off + len ≤ 4096 }
+    ensures { OnOk result (out.new ≡ out.old ++ bytes_in parts.now (seen.page_of_bo bo.now page) off len) }
+{
+    match standing_of(bo, page) {
+        Standing::Nowhere => push_zeros(out, len),
+        Standing::Vram(page) => push_stored(out, &parts.stores.vram, page, off, len),
+        Standing::Frame(frame) => push_stored(out, &parts.stores.frames, frame, off, len),
+        Standing::Slot(slot) => push_slot(out, &parts.swap, slot, off, len),
+    }
+}
+
+/// The bytes of a live buffer, at most a page of them, from an offset on: those that the stores have at its places. They lie on two pages at
+/// most. Takes time by the bytes, and by the buffer's spans.
+///
+/// # Errors
+///
+/// Want of memory.
+pub fn shown(
+    parts: &Parts,
+    alloc: Global,
+    script: &Script,
+    before: &[Entry],
+    b: BufId,
+    off: u32,
+    len: u32,
+) -> Result<Bytes, NoMemory>
+    requires held { AreHeld script.now before.now parts.now }
+    requires live { IsThere (state_of script.now before.now) b }
+    requires short { len ≤ 4096 }
+    ensures { IfOk result (λ bytes. bytes ≡ words.bytes_of (stores_of script.now before.now) (buffer (state_of script.now before.now) b) off len) }
+{
+    let bo = parts.bos.get(b);
+    let page = off / PAGE_LEN;
+    let start = off % PAGE_LEN;
+    let first = len.min(PAGE_LEN - start);
+    let mut out = Bytes::new(alloc);
+    push_part(&mut out, parts, bo, page, start, first)?;
+    push_part(&mut out, parts, bo, page + 1, 0, len - first)?;
+    Ok(out)
+}
+
+/// The bytes that the head's next packet shows: none of one that isn't a probe. None where no packet is left, or no job. Takes time by the bytes.
+pub fn probe(parts: &Parts, script: &Script, before: &[Entry], ctx: u32, out: &mut ProbeBytes)
+    requires held { AreHeld script.now before.now parts.now }
+    requires known { ctx ≤ script.now.sizes.engines }
+    ensures { out.new ≡ head_piece (world_of script.now before.now) ctx }
+{
+    if parts.rings.head(ctx).is_none() {
+        out.set(&[]);
+        return;
+    }
+    match parts.rings.next_packet(ctx) {
+        Some(packet) => show(packet, &parts.stores, out),
+        None => out.set(&[]),
+    }
+}

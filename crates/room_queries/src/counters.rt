@@ -1,0 +1,50 @@
+ghost use Rattle.std.specs.Prelude.{◌≡◌, ◌+◌, ◌≤◌};
+ghost use Rattle.journal_model.specs.Holds as holds;
+ghost use Rattle.journal_model.specs.PageSteps as steps;
+ghost use Rattle.journal_model.specs.Legal.{state_of};
+ghost use Rattle.room_ties.specs.Held.{AreHeld};
+
+use journal_model::{Entry, Script};
+use room_ties::Parts;
+use ttm_base::Stamp;
+
+/// The lowest free frame.
+pub fn free_frame(parts: &Parts, script: &Script, before: &[Entry]) -> Option<u32>
+    requires { AreHeld script.now before.now parts.now }
+    ensures { result ≡ holds.free_frame script.now (state_of script.now before.now).core }
+{
+    parts.pool.first()
+}
+
+/// The lowest free slot.
+pub fn free_slot(parts: &Parts, script: &Script, before: &[Entry]) -> Option<u32>
+    requires { AreHeld script.now before.now parts.now }
+    ensures { result ≡ holds.free_slot script.now (state_of script.now before.now).core }
+{
+    parts.swap.first()
+}
+
+/// The stamp of the next ticket. Takes constant time.
+pub fn next_stamp(parts: &Parts, script: &Script, before: &[Entry]) -> Stamp
+    requires { AreHeld script.now before.now parts.now }
+    ensures { result.0 ≡ (state_of script.now before.now).last_stamp + 1 }
+{
+    parts.tickets.next()
+}
+
+/// The number of a context's next job. Takes constant time.
+pub fn next_job(parts: &Parts, script: &Script, before: &[Entry], ctx: u32) -> u64
+    requires held { AreHeld script.now before.now parts.now }
+    requires known { ctx ≤ script.now.sizes.engines }
+    ensures { result ≡ steps.next_job (state_of script.now before.now) ctx }
+{
+    parts.line.next(ctx)
+}
+
+/// The number of the next ghost. Takes constant time.
+pub fn next_ghost(parts: &Parts, script: &Script, before: &[Entry]) -> u64
+    requires { AreHeld script.now before.now parts.now }
+    ensures { result ≡ steps.next_ghost (state_of script.now before.now) }
+{
+    parts.last_ghost + 1
+}

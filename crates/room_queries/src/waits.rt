@@ -1,0 +1,73 @@
+ghost use Rattle.std.specs.Prelude.{◌≡◌, ◌<◌, ◌≤◌, length, option_and_then, option_map, slice_get};
+ghost use Rattle.journal_model.specs.State.{buffer};
+ghost use Rattle.journal_model.specs.Next.{head_of};
+ghost use Rattle.journal_model.specs.Waits.{waited_for};
+ghost use Rattle.journal_model.specs.Legal.{state_of};
+ghost use Rattle.room_ties.specs.Held.{AreHeld};
+ghost use Rattle.room_queries.specs.Uses as words;
+ghost use Rattle.room_queries.specs.Uses.{jobs_before};
+
+use journal_model::{Entry, Script};
+use room_ties::Parts;
+use ttm_base::{BufId, JobId, Usage};
+
+/// The jobs to be waited for before a use, by the usage that covers them: all before a write or a move, those that change the buffer before a read
+/// (dma_resv_usage_rw).
+fn covering(usage: Usage) -> Usage
+    ensures { result ≡ words.covering usage }
+{
+    match usage {
+        Usage::Read => Usage::Write,
+        Usage::Write | Usage::Kernel => Usage::Read,
+    }
+}
+
+/// The job to wait for before a declared buffer, live or dead, is used so. Takes time by contexts.
+pub fn need(
+    parts: &Parts,
+    script: &Script,
+    before: &[Entry],
+    b: BufId,
+    usage: Usage,
+) -> Option<JobId>
+    requires held { AreHeld script.now before.now parts.now }
+    requires declared { b.0 < length script.now.buffers }
+    ensures { result ≡ waited_for (state_of script.now before.now).core (jobs_before usage (buffer (state_of script.now before.now) b)) }
+{
+    parts.bos.get(b).resv.need(covering(usage), &parts.line)
+}
+
+/// The job that a ghost waits for, by its place in the order of making. Takes time by contexts.
+pub fn ghost_need(parts: &Parts, script: &Script, before: &[Entry], at: usize) -> Option<JobId>
+    requires { AreHeld script.now before.now parts.now }
+    ensures { result ≡ option_and_then (λ g. waited_for (state_of script.now before.now).core g.jobs) (slice_get (state_of script.now before.now).core.ghosts at) }
+{
+    if at < parts.ghosts.len() {
+        parts.ghosts.get(at).jobs.need(Usage::Read, &parts.line)
+    } else {
+        None
+    }
+}
+
+/// The number of the first ghost, which is reaped next. Takes constant time.
+pub fn first_ghost(parts: &Parts, script: &Script, before: &[Entry]) -> Option<u64>
+    requires { AreHeld script.now before.now parts.now }
+    ensures { result ≡ option_map (λ g. g.num) (slice_get (state_of script.now before.now).core.ghosts 0) }
+{
+    if parts.ghosts.len() == 0 {
+        return None;
+    }
+    Some(parts.ghosts.get(0).num)
+}
+
+/// The job that the head of a context waits for. Takes time by contexts.
+pub fn head_need(parts: &Parts, script: &Script, before: &[Entry], ctx: u32) -> Option<JobId>
+    requires held { AreHeld script.now before.now parts.now }
+    requires known { ctx ≤ script.now.sizes.engines }
+    ensures { result ≡ option_and_then (λ j. waited_for (state_of script.now before.now).core j.waits) (head_of (state_of script.now before.now) ctx) }
+{
+    if parts.rings.head(ctx).is_none() {
+        return None;
+    }
+    parts.rings.ready(ctx, &parts.line)
+}
