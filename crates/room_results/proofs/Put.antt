@@ -1,5 +1,5 @@
 -- The bytes of a write in the stores, and what stays beside them.
-use Rattle.std.proofs.Common.{◌≡◌, ℕ, zero, suc, ◌+◌, ◌-◌, ◌*◌, ◌/◌, ◌%◌, ◌^◌, ◌<◌, ◌≤◌, Bool, true, false, List, [], ◌∷◌, ◌++◌, Some, None, drop, length, take, refl, sym, ◌∙◌, ap, subst, arith}
+use Rattle.std.proofs.Common.{◌≡◌, ℕ, zero, suc, ◌+◌, ◌-◌, ◌*◌, ◌/◌, ◌%◌, ◌^◌, ◌<◌, ◌≤◌, true, List, [], ◌∷◌, ◌++◌, drop, length, take, refl, sym, ◌∙◌, ap, subst, arith}
 use Rattle.std.specs.Prelude.{◌&&◌, nat_lt, option_and_then, slice_range, if◌then◌else◌}
 use Rattle.ttm_base.specs.declared.BufId.{BufId}
 use Rattle.ttm_base.specs.declared.Mem.{Mem}
@@ -9,7 +9,7 @@ use Rattle.copy_packet.specs.declared.stores.Stores.{Stores}
 use Rattle.copy_packet.specs.Spots.{after_write, spot_at}
 use Rattle.copy_packet.specs.StoreBytes.{IsThere}
 use Rattle.bo_table.specs.declared.bo.Bo.{Bo}
-use Rattle.bo_table.specs.Seen.{Bos, IsBo, body_of}
+use Rattle.bo_table.specs.Seen.{Bos, IsBo}
 use Rattle.swap_store.specs.Slots.{SwapSlots}
 use Rattle.journal_model.specs.declared.script.Sizes.{Sizes}
 use Rattle.journal_model.specs.declared.script.Command.{Command}
@@ -22,6 +22,7 @@ use Rattle.room_ties.specs.Pages.{AreSlots, AreStores, HasNoMore}
 use Rattle.lemma_room_bytes.specs.Shown.{is_in_stores}
 use Rattle.lemma_room_jobs.proofs.Packets.{within_same}
 use Rattle.room_steps.specs.Lent.{as_buffer}
+use Rattle.room_steps.proofs.Lent.{body_is}
 use Rattle.lemma_room_bytes.proofs.Writes.{write_step}
 use Rattle.room_results.specs.Bodies.{body_at}
 use Rattle.room_results.specs.Writes.{CanWrite, HavePages, HasPut, HasWritten}
@@ -118,16 +119,9 @@ put_more x off bytes done len old mid new h inside fits there is sizes aper b t 
 
 -- ---- the buffer that is lent
 
-lent_as : (bo : Bo) (x : Buffer) → body_of bo ≡ Some x → as_buffer bo ≡ x
-lent_as bo x h = by bo.alive h
-  where
-    by : (q : Bool) → (if q then Some (as_buffer bo) else None) ≡ Some x → as_buffer bo ≡ x
-    by true e = cc
-    by false e = cc
-
 module _ (bos : Bos) (st : Stores) (b : BufId) (off : ℕ) (values : List ℕ) (can : CanWrite bos st b off values) (bo : Bo) (lent : IsBo bos b bo) where
   lent_body : as_buffer bo ≡ body_at bos b
-  lent_body = lent_as bo (body_at bos b) (sym (ap (option_and_then (λ x. x)) lent.body) ∙ can.live)
+  lent_body = body_is bo (body_at bos b) (sym (ap (option_and_then (λ x. x)) lent.body) ∙ can.live)
 
   pub lent_pages : (bytes : List ℕ) → bytes ≡ values → HavePages st (as_buffer bo) (off + length bytes)
   lent_pages bytes e = subst (λ l. HavePages st (as_buffer bo) (off + length l)) (sym e) (subst (λ x. HavePages st x (off + length values)) (sym lent_body) can.pages)

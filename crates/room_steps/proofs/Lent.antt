@@ -41,7 +41,8 @@ is_there s b h = by (live_in s.core.buffers b) h
     by None k = cc
     by (Some x) k = refl
 
-body_is : (bo : Bo) (x : Buffer) → body_of bo ≡ Some x → as_buffer bo ≡ x
+-- a live buffer that is lent is the one in the table
+pub body_is : (bo : Bo) (x : Buffer) → body_of bo ≡ Some x → as_buffer bo ≡ x
 body_is bo x h = by bo.alive h
   where
     by : (q : Bool) → (if q then Some (as_buffer bo) else None) ≡ Some x → as_buffer bo ≡ x
