@@ -7,3 +7,4 @@ pub mod Filled
 pub mod Made
 pub mod Taken
 pub mod SwappedIn
+pub mod Dried

@@ -1,2 +1,3 @@
 pub mod MoveSets
 pub mod Takes
+pub mod Dries

@@ -16,4 +16,4 @@ pub use lists::bulk;
 pub use pages::{populate, swap_in};
 pub use targets::{take, untake};
 pub use tickets::{back_off, refuse, reserve, ticket};
-pub use victims::{catch, loose, no_pages, skip};
+pub use victims::{catch, dry, loose, no_pages, skip};

@@ -1,14 +1,21 @@
-ghost use Rattle.std.specs.Prelude.{◌≡◌, ◌∷◌, ◌++◌, [], OnOk, OnErr};
-ghost use Rattle.lru_bulk.specs.Lists.{touched};
+ghost use Rattle.std.specs.Prelude.{◌≡◌, ◌+◌, ◌<◌, ◌^◌, ◌∷◌, ◌++◌, [], IsSome, OnOk, OnErr, length};
+ghost use Rattle.ttm_base.specs.Placement.{forced_places};
 ghost use Rattle.ttm_base.specs.declared.Actor.TheVariants as actor;
 ghost use Rattle.journal_model.specs.declared.entry.Kind.TheVariants as kind;
+ghost use Rattle.journal_model.specs.Commands.{decl};
 ghost use Rattle.journal_model.specs.Legal.{IsLegalNext, world_of};
 ghost use Rattle.room_ties.specs.Held.{AreHeld};
+ghost use Rattle.room_steps.specs.Courses.{course_at, with_course_by};
+ghost use Rattle.room_parts.specs.Dries.{dried, searched_places};
 
-use journal_model::{Entry, Script, Why};
-use lru_bulk::Lru;
-use room_steps::{add_victim, fail_search, forget_victim, hold_for, skip_victim, stamp_of};
+use journal_model::{Command, Courses, DryWhy, Entry, Script, Targets, Why};
+use place_list::forced_count;
+use room_steps::{
+    add_victim, command_of, fail_search, forget_victim, go_dry, hold_for, skip_victim, stamp_of,
+    touch,
+};
 use room_ties::Parts;
+use rules_state::is_caught;
 use std::alloc::Global;
 use ttm_base::{BufId, Deny, NoMemory};
 
@@ -34,15 +41,6 @@ pub fn catch(
     parts.bos.leave_tt(alloc, b);
     hold_for(&mut parts.bos, b, stamp);
     Ok(())
-}
-
-/// Places a buffer anew on its list, if it is on one.
-fn touch(lru: &mut Lru, b: BufId)
-    ensures { lru.new ≡ touched lru.old b }
-{
-    if lru.is_listed(b) {
-        lru.touch(b);
-    }
 }
 
 /// A thread lets a victim go, which counts as just used.
@@ -100,4 +98,54 @@ pub fn no_pages(
     ensures { AreHeld script.now (before.now ++ entry.now ∷ []) parts.new }
 {
     fail_search(&mut parts.courses, thread, b, Deny::NoPages);
+}
+
+/// How many places the search for a named buffer tries under pressure: TT alone where something waits for it.
+fn place_count(script: &Script, command: &Command, b: BufId, targets: &Targets) -> usize
+    requires declared { b.0 < length script.now.buffers }
+    requires short { length (decl script.now b).placement.list < 2 ^ 32 }
+    ensures { result ≡ length (forced_places (searched_places script.now command.now b targets.now)) }
+{
+    if targets.system.is_some() || targets.tt.is_some() || targets.vram.is_some() {
+        return 1;
+    }
+    match command {
+        Command::Move { .. } | Command::SwapOut { .. } => 1,
+        _ => forced_count(&script.buffers.get(b.0 as usize).placement) as usize,
+    }
+}
+
+/// The search for a victim has failed; that for a named buffer goes on behind place `k` of so many, or has failed with the last.
+fn note_dry(courses: &mut Courses, thread: u32, b: BufId, k: u32, places: usize)
+    requires there { IsSome (course_at courses.old thread) }
+    requires room { k + 1 < 2 ^ 32 }
+    ensures { courses.new ≡ with_course_by (dried b k places) courses.old thread }
+{
+    let caught = is_caught(courses.get(thread as usize - 1), b);
+    if caught {
+        fail_search(courses, thread, b, Deny::NoSpace);
+    } else {
+        go_dry(courses, thread, k, places);
+    }
+}
+
+/// A place of a search under pressure is dry: nothing in it is free, and nothing can be evicted.
+pub fn dry(
+    parts: &mut Parts,
+    script: &Script,
+    before: &[Entry],
+    entry: &Entry,
+    thread: u32,
+    b: BufId,
+    k: u32,
+    why: &DryWhy,
+)
+    requires held { AreHeld script.now before.now parts.old }
+    requires is { entry.now ≡ record { who = actor.Thread thread; kind = kind.Dry b k why.now } }
+    requires next { IsLegalNext script.now (world_of script.now before.now) entry.now }
+    ensures { AreHeld script.now (before.now ++ entry.now ∷ []) parts.new }
+{
+    let command = command_of(script, &parts.courses, thread);
+    let places = place_count(script, command, b, &parts.bos.get(b).targets);
+    note_dry(&mut parts.courses, thread, b, k, places);
 }

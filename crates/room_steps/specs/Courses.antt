@@ -2,8 +2,11 @@
 use Rattle.std.specs.Prelude.{ℕ, ◌-◌, ◌++◌, ◌==◌, List, [], ◌∷◌, Option, None, Some, slice_get, unwrap_or, if◌then◌else◌}
 use Rattle.ttm_base.specs.declared.BufId.{BufId}
 use Rattle.ttm_base.specs.declared.Stamp.{Stamp}
+use Rattle.journal_model.specs.declared.script.Script.{Script}
+use Rattle.journal_model.specs.declared.script.Command.{Command}
 use Rattle.journal_model.specs.declared.state.Course.{Course}
 use Rattle.journal_model.specs.State.{new_course, with_course}
+use Rattle.journal_model.specs.Commands.{commands_of}
 
 -- the thread's course, if the thread is there
 abbrev pub course_at : List Course → ℕ → Option Course
@@ -12,6 +15,10 @@ course_at courses thread = if thread == 0 then None else slice_get courses (thre
 -- where it is known to be
 abbrev pub course_in : List Course → ℕ → Course
 course_in courses thread = unwrap_or (course_at courses thread) (new_course 0)
+
+-- the command that it is at, if one is left
+abbrev pub command_in : Script → List Course → ℕ → Option Command
+command_in script courses thread = slice_get (commands_of script thread) (course_in courses thread).answered
 
 -- the courses after one of them was changed
 abbrev pub with_course_by : (Course → Course) → List Course → ℕ → List Course

@@ -2,11 +2,11 @@ ghost use Rattle.std.specs.Prelude.{◌≡◌, ◌+◌, ◌^◌, ◌<◌, IsSome
 ghost use Rattle.journal_model.specs.ApplyCommands as rows;
 ghost use Rattle.journal_model.specs.ApplyPages.{search_over};
 ghost use Rattle.journal_model.specs.ApplyVictims.{with_victim, with_skip, no_longer_caught, with_fail, gone_dry};
-ghost use Rattle.room_steps.specs.Courses.{course_at, course_in, with_course_by, stamped, with_held, begun_anew};
+ghost use Rattle.room_steps.specs.Courses.{command_in, course_at, course_in, with_course_by, stamped, with_held, begun_anew};
 
-use journal_model::{Courses, Why};
+use journal_model::{Command, Courses, Script, Why};
 use rules_parts::courses;
-use rules_state::new_course;
+use rules_state::{commands_of, new_course};
 use std::alloc::Global;
 use ttm_base::{BufId, Deny, NoMemory, Stamp};
 
@@ -16,6 +16,16 @@ pub fn stamp_of(courses: &Courses, thread: u32) -> Option<Stamp>
     ensures { result ≡ (course_in courses.now thread).stamp }
 {
     courses.get(thread as usize - 1).stamp
+}
+
+/// The command that a thread is at.
+pub fn command_of<'a>(script: &'a Script, courses: &Courses, thread: u32) -> &'a Command
+    requires there { IsSome (course_at courses.now thread) }
+    requires left { IsSome (command_in script.now courses.now thread) }
+    ensures { command_in script.now courses.now thread ≡ Some result.now }
+{
+    let course = courses.get(thread as usize - 1);
+    &commands_of(script, thread)[course.answered as usize]
 }
 
 /// The named buffers that a thread holds.

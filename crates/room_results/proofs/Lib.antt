@@ -1,0 +1,3 @@
+pub mod Relisted
+pub mod Put
+pub mod Answered

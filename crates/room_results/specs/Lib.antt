@@ -1,0 +1,3 @@
+pub mod Bodies
+pub mod Listings
+pub mod Writes

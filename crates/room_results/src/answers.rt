@@ -1,0 +1,50 @@
+ghost use Rattle.std.specs.Prelude.{◌≡◌, ◌∷◌, ◌++◌, [], OnOk, OnErr};
+ghost use Rattle.ttm_base.specs.declared.Actor.TheVariants as actor;
+ghost use Rattle.journal_model.specs.declared.entry.Kind.TheVariants as kind;
+ghost use Rattle.journal_model.specs.Legal.{IsLegalNext, world_of};
+ghost use Rattle.room_ties.specs.Held.{AreHeld};
+
+use crate::listings::relist;
+use crate::pins::change_pins;
+use crate::writes::write;
+use journal_model::{Entry, Script, Shown};
+use room_steps::{command_of, go_on, held_by, release_all};
+use room_ties::Parts;
+use rules_state::named;
+use std::alloc::Global;
+use ttm_base::NoMemory;
+
+/// A thread's command is answered. What a read or a find shows is in the entry already.
+pub fn answer(
+    parts: &mut Parts,
+    alloc: Global,
+    script: &Script,
+    before: &[Entry],
+    entry: &Entry,
+    thread: u32,
+    shown: &Shown,
+) -> Result<(), NoMemory>
+    requires held { AreHeld script.now before.now parts.old }
+    requires is { entry.now ≡ record { who = actor.Thread thread; kind = kind.Result shown.now } }
+    requires next { IsLegalNext script.now (world_of script.now before.now) entry.now }
+    ensures ok { OnOk result (AreHeld script.now (before.now ++ entry.now ∷ []) parts.new) }
+    ensures err { OnErr result (AreHeld script.now before.now parts.new) }
+{
+    parts.lru.members_stand_once();
+    let command = command_of(script, &parts.courses, thread);
+    let bs = named(alloc, command)?;
+    let held = held_by(&parts.courses, thread);
+    relist(
+        &mut parts.lru,
+        &parts.bos,
+        script,
+        command,
+        held,
+        bs.items(),
+    )?;
+    write(&mut parts.stores, &parts.bos, command);
+    release_all(&mut parts.bos, held);
+    change_pins(&mut parts.bos, command);
+    go_on(&mut parts.courses, alloc, thread);
+    Ok(())
+}
