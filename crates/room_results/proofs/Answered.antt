@@ -1,6 +1,6 @@
 -- All parts behind an answer.
 use Rattle.std.proofs.Common.{◌≡◌, ℕ, ◌+◌, ◌*◌, ◌^◌, ◌<◌, ◌≤◌, true, false, List, [], ◌∷◌, ◌++◌, inl, Option, Some, None, Ok, IsSome, length, refl, sym, ◌∙◌, ap, subst, arith}
-use Rattle.std.specs.Prelude.{◌==◌, fold, nat_lt, option_and_then, option_map, slice_get, unwrap_or, if◌then◌else◌}
+use Rattle.std.specs.Prelude.{◌==◌, fold, option_and_then, option_map, slice_get, unwrap_or, if◌then◌else◌}
 use Rattle.std.proofs.lemmas.Bool.Decides.{nat_tests}
 use Rattle.std.proofs.lemmas.List.{length-set}
 use Rattle.ttm_base.specs.declared.Actor.{Actor}
@@ -73,9 +73,6 @@ use Rattle.room_results.specs.Writes.{CanWrite, HasWritten}
 use Rattle.room_results.proofs.Put.{page_unfenced, put_unfenced, slots_kept, slots_put}
 use Rattle.room_results.proofs.Relisted.{IsHeldFor, answered_lists}
 
-less_is : (m n : ℕ) → nat_lt m n ≡ true → m < n
-less_is m n h = grind (arith, nat_tests)
-
 -- ---- what a result tells
 
 -- the step of a result shows a result, whatever bytes
@@ -95,6 +92,7 @@ record IsActing (s : State) (c : Course) (cmd : Command) : Type 0 where
   works : Works c cmd
   allowed : forbidden s cmd ≡ None
 
+-- so its thread's task tells
 acting_in : (script : Script) (s : State) (c : Course) (cmd : Command) (x : Task) (r : Shown) → (c.made ≡ true → makes cmd ≡ true) → makes cmd ≡ false → Turn script s c cmd x → Gives script s c cmd x (kind.Result r) → IsActing s c cmd
 acting_in script s c cmd _ r m n (answer made) answers = let z : true ≡ false = sym (m made) ∙ n in cc
 acting_in script s c cmd _ r m n (act on a f u) acts = record { works = on.works; allowed = a }
@@ -106,6 +104,7 @@ record IsRange (pages off len : ℕ) : Type 0 where
   short : off + len < 2 ^ 32
   inside : off + len ≤ 4096 * pages
 
+-- as the grammar says
 write_range : (script : Script) (b : BufId) (off : ℕ) (values : List ℕ) → is_command script (command.Write b off values) ≡ true → IsRange (decl script b).pages off (length values)
 write_range script b off values h = record { short = grind (arith, nat_tests); inside = grind (arith, nat_tests) }
 
