@@ -1,0 +1,4 @@
+pub mod Turns
+pub mod Padded
+pub mod Emptied
+pub mod SwappedOut

@@ -1,0 +1,20 @@
+use Rattle.std.proofs.Common.{sym, ◌∙◌, ap, subst}
+use Rattle.std.specs.List.{filter_map}
+use Rattle.journal_model.specs.Places.{frame_of}
+use Rattle.lemma_room_frames.specs.GivenBack.{given_back}
+use Rattle.room_pages.specs.Tables.{AreHeldInTurn}
+use Rattle.room_pages.proofs.Emptied.{depopulate_below, depopulate_turns, depopulate_held}
+use Rattle.room_pages.proofs.pages.depopulate.Goals as goal
+
+pub get-bo-requires : goal.get-bo-requires
+get-bo-requires c = depopulate_below c.args.script.now c.args.before.now c.args.parts.now c.args.entry.now c.args.thread c.args.b c.requires.held c.requires.is c.requires.next
+
+pub give_frames-requires : goal.give_frames-requires
+give_frames-requires c =
+    subst (AreHeldInTurn c.args.parts.now.pool) (sym c.places.ensures)
+    (depopulate_turns c.args.script.now c.args.before.now c.args.parts.now c.args.entry.now c.args.thread c.args.b c.requires.held c.requires.is c.requires.next _ c.get-bo.ensures)
+
+pub returns : goal.returns
+returns c =
+    depopulate_held c.args.script.now c.args.before.now c.args.parts.now c.args.entry.now c.args.thread c.args.b c.requires.held c.requires.is c.requires.next c.give_frames.new.pool c.drop_frames.new.self _ c.get-bo.ensures
+    (c.give_frames.ensures ∙ ap (λ l. given_back c.args.parts.now.pool (filter_map frame_of l)) c.places.ensures) c.drop_frames.ensures

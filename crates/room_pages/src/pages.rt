@@ -1,0 +1,54 @@
+ghost use Rattle.std.specs.Prelude.{◌≡◌, ◌∷◌, ◌++◌, []};
+ghost use Rattle.ttm_base.specs.declared.Actor.TheVariants as actor;
+ghost use Rattle.journal_model.specs.declared.entry.Kind.TheVariants as kind;
+ghost use Rattle.journal_model.specs.Legal.{IsLegalNext, world_of};
+ghost use Rattle.room_ties.specs.Held.{AreHeld};
+
+use crate::frames::{frame_of_page, give_frames};
+use byte_store::PAGE;
+use journal_model::{Entry, Script};
+use room_ties::Parts;
+use ttm_base::{BufId, Loc};
+
+/// A buffer in VRAM gives its frames back, since its bytes don't stand there.
+pub fn depopulate(
+    parts: &mut Parts,
+    script: &Script,
+    before: &[Entry],
+    entry: &Entry,
+    thread: u32,
+    b: BufId,
+)
+    requires held { AreHeld script.now before.now parts.old }
+    requires is { entry.now ≡ record { who = actor.Thread thread; kind = kind.Depopulate b } }
+    requires next { IsLegalNext script.now (world_of script.now before.now) entry.now }
+    ensures { AreHeld script.now (before.now ++ entry.now ∷ []) parts.new }
+{
+    let bo = parts.bos.get(b);
+    give_frames(&mut parts.pool, bo.table.places());
+    parts.bos.drop_frames(b);
+}
+
+/// A page goes from its frame to the lowest free slot, and the frame is free.
+pub fn swap_out(
+    parts: &mut Parts,
+    script: &Script,
+    before: &[Entry],
+    entry: &Entry,
+    thread: u32,
+    b: BufId,
+    page: u32,
+    slot: u32,
+)
+    requires held { AreHeld script.now before.now parts.old }
+    requires is { entry.now ≡ record { who = actor.Thread thread; kind = kind.SwapOut b page slot } }
+    requires next { IsLegalNext script.now (world_of script.now before.now) entry.now }
+    ensures { AreHeld script.now (before.now ++ entry.now ∷ []) parts.new }
+{
+    let bo = parts.bos.get(b);
+    let frame = frame_of_page(bo.table.places(), page);
+    let bytes = parts.stores.frames.part(PAGE * frame as u64, PAGE);
+    let _taken = parts.swap.put(bytes);
+    parts.pool.give(frame);
+    parts.bos.set_page(b, page, Loc::Slot(slot));
+}
