@@ -1,6 +1,6 @@
 -- All parts behind a buffer that is freed.
 use Rattle.std.proofs.Common.{◌≡◌, ℕ, ◌<◌, Bool, false, List, [], ◌∷◌, ◌++◌, ◌≤◌, Option, Some, None, Ok, IsSome, length, refl, sym, ◌∙◌, ap, subst, arith}
-use Rattle.std.specs.Prelude.{◌==◌, filter_map, option_map, slice_get, slice_set, if◌then◌else◌}
+use Rattle.std.specs.Prelude.{unwrap_or, ◌==◌, filter_map, option_map, slice_get, slice_set, if◌then◌else◌}
 use Rattle.std.proofs.lemmas.Bool.{ne_eqb}
 use Rattle.ttm_base.specs.declared.Actor.TheVariants as actor
 use Rattle.ttm_base.specs.declared.BufId.{BufId}
@@ -11,7 +11,7 @@ use Rattle.swap_store.specs.Slots.{SwapSlots}
 use Rattle.lru_bulk.specs.declared.nodes.Listing.{Listing}
 use Rattle.lru_bulk.specs.Lists.{Order, listing_of}
 use Rattle.lru_bulk.specs.Members.{AreMembersListed}
-use Rattle.resource_core.specs.Resources.{Resources, holds}
+use Rattle.resource_core.specs.Resources.{Resources, holds, spans_at}
 use Rattle.resource_core.specs.Vram as room
 use Rattle.bo_table.specs.declared.bo.Bo.{Bo}
 use Rattle.bo_table.specs.Seen.{Bos, IsBo, with_killed}
@@ -43,6 +43,7 @@ use Rattle.lemma_room_lists.proofs.KindLaws.{free_lists, free_unlisted}
 use Rattle.lemma_room_spans.specs.Calls.{given, passed_on, freed}
 use Rattle.lemma_room_spans.specs.Owned.{HoldsAsIn, HoldsAsOwned}
 use Rattle.lemma_room_spans.proofs.Entries.{thread_spans, next_ghost_fresh}
+use Rattle.lemma_room_spans.proofs.Holders.{live_kept}
 use Rattle.lemma_room_spans.proofs.MoveFence.{behind_fence}
 use Rattle.lemma_room_sets.proofs.GhostSteps.{ghosts_push}
 use Rattle.lemma_room_sets.proofs.Sets.{fences_cleared}
@@ -65,9 +66,11 @@ use Rattle.room_ties.specs.Ties.{Ties}
 use Rattle.room_steps.specs.Courses.{course_at, with_course_by}
 use Rattle.room_steps.proofs.Lent.{stands_at, lent_below, lent_table}
 use Rattle.room_steps.proofs.Steps.{held_after, step_as, thread_there}
-use Rattle.room_ghosts.specs.InTurn.{AreBelow, AreHeldAlong}
-use Rattle.room_ghosts.specs.Leaving.{freeing, ghost_of, off_list, off_list_as, spans_if}
-use Rattle.room_ghosts.proofs.Lent.{lent_ghost, lent_spans}
+use Rattle.room_pages.specs.Tables.{AreHeldInTurn}
+use Rattle.room_binds.specs.Apertures.{AreBelow}
+use Rattle.room_ghosts.specs.InTurn.{AreHeldAlong}
+use Rattle.room_ghosts.specs.Leaving.{freeing, ghost_of, off_list, off_list_as}
+use Rattle.room_ghosts.proofs.Lent.{kept_spans, lent_ghost}
 
 no_system_vram : Vram ≡ System → ⊥
 no_system_vram e = cc
@@ -132,11 +135,23 @@ module _ (script : Script) (journal : List Entry) (p : Parts) (entry : Entry) (t
   pub free_below : b.0 < length p.bos.grips
   free_below = lent_below script journal p held b live
 
+  -- what it has of TT
+  tt_is : spans_at (owner.Live b) p.tt.held ≡ spans_in Tt (buffer s b)
+  tt_is = ap (λ o. unwrap_or o []) (live_kept script.sizes.tt Tt s p.tt held.ties.tt b live) ∙ kept_spans (spans_in Tt (buffer s b))
+
+  -- these pages are within the aperture
+  pub free_pages : AreBelow (pages_of (spans_at (owner.Live b) p.tt.held)) (length p.stores.aper)
+  free_pages i k at =
+      let here : slice_get (pages_of (spans_in Tt (buffer s b))) i ≡ Some k = ap (λ ss. slice_get (pages_of ss) i) (sym tt_is) ∙ at in
+      let mem = is_in_tt (buffer s b) i k here in
+      subst (λ size. k < size) (sym held.ties.stores.aper_size)
+      (buffer_inside script s.core (once_law script journal held.fits held.legal) k b (buffer s b) i live mem (ap (λ ss. slice_get (pages_of ss) i) (sym (own_spans (buffer s b) mem)) ∙ here))
+
   module _ (bo : Bo) (lent : IsBo p.bos b bo) where
     -- its frames are held
-    pub free_frames : AreHeldAlong frame_of p.pool bo.table
+    pub free_frames : AreHeldInTurn p.pool bo.table
     free_frames =
-        subst (AreHeldAlong frame_of p.pool) (sym (lent_table script journal p held b live bo lent))
+        subst (AreHeldInTurn p.pool) (sym (lent_table script journal p held b live bo lent))
         (table_held_still frame_of script.sizes.frames (held_frames s.core) p.pool held.ties.pool.held_are owned.frames (buffer s b).table (frames_within s.core b (buffer s b) live))
 
     -- its slots are
@@ -144,14 +159,6 @@ module _ (script : Script) (journal : List Entry) (p : Parts) (entry : Entry) (t
     free_held_slots =
         subst (AreHeldAlong slot_of p.swap.held) (sym (lent_table script journal p held b live bo lent))
         (table_held_still slot_of script.sizes.swap (held_slots s.core) p.swap.held held.ties.swap.held_are owned.slots (buffer s b).table (slots_within s.core b (buffer s b) live))
-
-    -- its pages of TT are within the aperture
-    pub free_pages : AreBelow (length p.stores.aper) (spans_if bo.mem Tt bo.spans)
-    free_pages i k at =
-        let here : slice_get (pages_of (spans_in Tt (buffer s b))) i ≡ Some k = ap (λ ss. slice_get (pages_of ss) i) (sym (lent_spans script journal p held b live bo lent Tt)) ∙ at in
-        let mem = is_in_tt (buffer s b) i k here in
-        subst (λ size. k < size) (sym held.ties.stores.aper_size)
-        (buffer_inside script s.core (once_law script journal held.fits held.legal) k b (buffer s b) i live mem (ap (λ ss. slice_get (pages_of ss) i) (sym (own_spans (buffer s b) mem)) ∙ here))
 
   -- ---- what is tied again
 
@@ -188,7 +195,7 @@ module _ (script : Script) (journal : List Entry) (p : Parts) (entry : Entry) (t
 module _ (script : Script) (journal : List Entry) (p : Parts) (entry : Entry) (t : ℕ) (b : BufId) (held : AreHeld script journal p) (is : entry ≡ record { who = actor.Thread t; kind = kind.Free b 0 }) (legal : IsLegalNext script (world_of script journal) entry) where
   pub idle_held : (bo : Bo) → IsBo p.bos b bo → (v : room.Vram) (u : Resources) (aper : List (Option ℕ)) (pool : List Bool) (swap : SwapSlots) (bos : Bos) (o : Order) (courses : List Course) →
       v.resources ≡ given (owner.Live b) p.vram.resources → room.spans_of_kind v.kind ≡ room.spans_of_kind p.vram.kind → u ≡ given (owner.Live b) p.tt →
-      aper ≡ cleared p.stores.aper (pages_of (spans_if bo.mem Tt bo.spans)) → pool ≡ given_back p.pool (filter_map frame_of bo.table) →
+      aper ≡ cleared p.stores.aper (pages_of (spans_at (owner.Live b) p.tt.held)) → pool ≡ given_back p.pool (filter_map frame_of bo.table) →
       swap ≡ record { held = given_back p.swap.held (filter_map slot_of bo.table); bytes = p.swap.bytes } → bos ≡ with_killed p.bos b → o ≡ off_list p.lru b → AreMembersListed p.lru →
       courses ≡ with_course_by (freeing b) p.courses t →
       AreHeld script (journal ++ entry ∷ []) (record p { vram = v; tt = u; stores = record p.stores { aper = aper }; pool = pool; swap = swap; bos = bos; lru = o; courses = courses })
@@ -200,7 +207,7 @@ module _ (script : Script) (journal : List Entry) (p : Parts) (entry : Entry) (t
       let one_owner = owner_law script journal held.fits held.legal in
       let q : Parts = record p { vram = v; tt = u; stores = record p.stores { aper = aper }; pool = pool; swap = swap; bos = bos; lru = o; courses = courses } in
       let pool_is : pool ≡ given_back p.pool (frames_of (buffer s b)) = pe ∙ ap (λ places. given_back p.pool (filter_map frame_of places)) (lent_table script journal p held b there bo lent) in
-      let aper_is : aper ≡ cleared p.stores.aper (pages_of (spans_in Tt (buffer s b))) = ae ∙ ap (λ ss. cleared p.stores.aper (pages_of ss)) (lent_spans script journal p held b there bo lent Tt) in
+      let aper_is : aper ≡ cleared p.stores.aper (pages_of (spans_in Tt (buffer s b))) = ae ∙ ap (λ ss. cleared p.stores.aper (pages_of ss)) (tt_is script journal p entry t b 0 held is legal) in
       held_after script journal p q entry held legal
       (subst (λ (y : Entry). Ties script (world_after script w y).state (world_after script w y).stores q) (sym is)
       (record {

@@ -1,11 +1,13 @@
 -- What a live buffer that the table lends has, and the ghost that it leaves.
-use Rattle.std.proofs.Common.{◌≡◌, ℕ, Bool, true, false, List, [], Some, length, refl, sym, ◌∙◌, ap, ap₂, None}
+use Rattle.std.proofs.Common.{◌≡◌, ℕ, Bool, true, false, List, [], ◌∷◌, Some, length, refl, sym, ◌∙◌, ap, ap₂, None}
 use Rattle.std.specs.Prelude.{filter_map, option_map, replicate, slice_get, unwrap_or, if◌then◌else◌}
 use Rattle.ttm_base.specs.declared.BufId.{BufId}
 use Rattle.ttm_base.specs.declared.Mem.{Mem}
 use Rattle.ttm_base.specs.declared.Mem.TheVariants.{Tt, Vram}
+use Rattle.ttm_base.specs.declared.Span.{Span}
 use Rattle.ttm_base.specs.declared.Usage.TheVariants.{Read}
 use Rattle.fence_core.specs.Fences.{nothing_kept, all_added}
+use Rattle.resource_core.specs.Resources.{some_spans}
 use Rattle.bo_table.specs.declared.bo.Bo.{Bo}
 use Rattle.bo_table.specs.Seen.{IsBo, body_of}
 use Rattle.bo_table.proofs.TableLaws.{get_map}
@@ -28,6 +30,11 @@ use Rattle.room_ties.specs.Ghosts.{IsGhost}
 use Rattle.room_ties.specs.Held.{AreHeld}
 use Rattle.room_steps.proofs.Lent.{stands_at}
 use Rattle.room_ghosts.specs.Leaving.{all_jobs, ghost_of, spans_if}
+
+-- spans that a manager keeps where there are some
+pub kept_spans : (spans : List Span) → unwrap_or (some_spans spans) [] ≡ spans
+kept_spans [] = refl
+kept_spans (s ∷ spans) = refl
 
 -- a lent buffer has what a buffer has
 pub record HasBody (bo : Bo) (x : Buffer) : Type 0 where
