@@ -42,6 +42,7 @@ pub record HasBody (bo : Bo) (x : Buffer) : Type 0 where
   pub spans : bo.spans ≡ x.spans
   pub table : bo.table ≡ x.table
 
+-- so where it is seen as one
 body_parts : (bo : Bo) (x : Buffer) → body_of bo ≡ Some x → HasBody bo x
 body_parts bo x h = by bo.alive h
   where
@@ -70,14 +71,17 @@ module _ (script : Script) (journal : List Entry) (p : Parts) (held : AreHeld sc
   pub lent_spans : (mine : Mem) → spans_if bo.mem mine bo.spans ≡ spans_in mine x
   lent_spans mine = ap₂ (λ m ss. spans_if m mine ss) lent_body.mem lent_body.spans
 
+  -- its jobs are those of its place in the table
   set_now : bo.resv.fences ≡ set_at p.bos.fences b
   set_now = ap (λ o. unwrap_or o []) (sym lent.fences)
 
+  -- its set has all contexts
   contexts : length bo.resv.fences ≡ length (state_of script journal).last_jobs
   contexts =
       ap length (set_now ∙ set_is (state_of script journal).last_jobs (state_of script journal).core.buffers p.bos.fences held.ties.bos.fences_are b (Some x) (stands_at (state_of script journal).core.buffers b x live))
       ∙ set_length (length (state_of script journal).last_jobs) (fences_of (Some x))
 
+  -- the ghost's set has them all
   jobs_now : all_jobs bo.resv.fences ≡ all_added Read (empty_set (state_of script journal)) (set_at p.bos.fences b)
   jobs_now = ap₂ (λ n set. all_added Read (replicate n nothing_kept) set) contexts set_now
 

@@ -9,6 +9,7 @@ use Rattle.lemma_room_frames.specs.GivenBack.{given, given_back}
 use Rattle.lemma_room_frames.proofs.Walks.{passed, table_given}
 
 module _ (see : Loc → Option ℕ) (pool : List Bool) (places : List Loc) (i : ℕ) (l : Loc) (at : slice_get places i ≡ Some l) where
+  -- the next place
   next_is : i + 1 ≡ suc i
   next_is = omega arith
 

@@ -1,5 +1,5 @@
 -- All parts behind a ghost that is reaped.
-use Rattle.std.proofs.Common.{◌≡◌, ℕ, ◌<◌, Bool, true, List, [], ◌∷◌, ◌++◌, Option, Some, length, drop, take, refl, sym, ◌∙◌, ap, subst}
+use Rattle.std.proofs.Common.{◌≡◌, ℕ, ◌<◌, Bool, true, List, [], ◌∷◌, ◌++◌, Option, Some, length, take, refl, sym, ◌∙◌, ap, subst}
 use Rattle.std.specs.Prelude.{unwrap_or, remove, slice_get}
 use Rattle.ttm_base.specs.declared.Actor.TheVariants as actor
 use Rattle.ttm_base.specs.declared.Mem.TheVariants.{System, Tt, Vram}
@@ -45,29 +45,31 @@ use Rattle.room_steps.proofs.Steps.{held_after, step_as}
 use Rattle.room_ghosts.proofs.Lent.{kept_spans}
 use Rattle.room_ghosts.specs.InTurn.{AreHeldInTurn}
 
+-- VRAM isn't SYSTEM
 no_system_vram : Vram ≡ System → ⊥
 no_system_vram e = cc
 
+-- nor is TT
 no_system_tt : Tt ≡ System → ⊥
 no_system_tt e = cc
-
--- the first one goes
-first_gone : {X : Type 0} (xs : List X) → remove xs 0 ≡ drop 1 xs
-first_gone xs = refl
 
 module _ (script : Script) (journal : List Entry) (p : Parts) (entry : Entry) (n : ℕ) (held : AreHeld script journal p) (is : entry ≡ record { who = actor.Reaper; kind = kind.Reap n }) (legal : IsLegalNext script (world_of script journal) entry) where
   abbrev s : State
   s = state_of script journal
 
+  -- the ghost that goes
   reaped : IsReap s n
   reaped = reap_of script s n (step_as script journal entry (record { who = actor.Reaper; kind = kind.Reap n }) is legal refl)
 
+  -- ghosts have numbers of their own
   good : GoodGhosts s.last_ghost s.core.ghosts
   good = ghosts_law script journal held.fits held.legal
 
+  -- no other has its number
   only : (k : ℕ) (h : state.Ghost) → slice_get s.core.ghosts k ≡ Some h → h.num ≡ n → k ≡ 0
   only k h at e = good.distinct k 0 h reaped.ghost at reaped.first (e ∙ sym reaped.num)
 
+  -- the first of the parts' ghosts stands for it
   found : IsFound s.core.jobs s.last_jobs reaped.ghost p.ghosts 0
   found = ghost_found s.core.jobs s.last_jobs s.core.ghosts p.ghosts held.ties.ghosts 0 reaped.ghost reaped.first
 
@@ -88,9 +90,11 @@ module _ (script : Script) (journal : List Entry) (p : Parts) (entry : Entry) (n
       (ghost_inside script s.core (once_law script journal held.fits held.legal) k 0 i reaped.ghost reaped.first (ap (λ ss. slice_get (pages_of ss) i) (sym tt_is) ∙ at))
 
   module _ (ghost : Ghost) (first : slice_get p.ghosts 0 ≡ Some ghost) where
+    -- this is that one
     same : found.ghost ≡ ghost
     same = let both : Some found.ghost ≡ Some ghost = sym found.here ∙ first in cc
 
+    -- with its frames
     frames_are : ghost.frames ≡ reaped.ghost.frames
     frames_are = ap (λ (g : Ghost). g.frames) (sym same) ∙ found.is.frames
 
@@ -100,6 +104,7 @@ module _ (script : Script) (journal : List Entry) (p : Parts) (entry : Entry) (n
         subst (λ fs. slice_get (given_back p.pool (take i fs)) f ≡ Some true) (sym frames_are)
         (ghost_frame_may_go script s (owner_law script journal held.fits held.legal) p.pool held.ties.pool 0 reaped.ghost i f reaped.first (ap (λ fs. slice_get fs i) (sym frames_are) ∙ at))
 
+    -- the parts tell the journal with the entry
     pub reap_held : (ghosts : List Ghost) (v : room.Vram) (u : Resources) (pool : List Bool) (aper : List (Option ℕ)) → ghosts ≡ remove p.ghosts 0 → v.resources ≡ given (owner.Ghost n) p.vram.resources →
         room.spans_of_kind v.kind ≡ room.spans_of_kind p.vram.kind → u ≡ given (owner.Ghost n) p.tt → pool ≡ given_back p.pool ghost.frames → aper ≡ cleared p.stores.aper (pages_of (spans_at (owner.Ghost n) p.tt.held)) →
         AreHeld script (journal ++ entry ∷ []) (record p { ghosts = ghosts; vram = v; tt = u; pool = pool; stores = record p.stores { aper = aper } })
