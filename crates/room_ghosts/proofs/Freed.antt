@@ -1,6 +1,6 @@
 -- All parts behind a buffer that is freed.
 use Rattle.std.proofs.Common.{◌≡◌, ℕ, ◌<◌, Bool, false, List, [], ◌∷◌, ◌++◌, ◌≤◌, Option, Some, None, Ok, IsSome, length, refl, sym, ◌∙◌, ap, subst, arith}
-use Rattle.std.specs.Prelude.{◌==◌, filter_map, option_map, slice_get, slice_set, if◌then◌else◌}
+use Rattle.std.specs.Prelude.{unwrap_or, ◌==◌, filter_map, option_map, slice_get, slice_set, if◌then◌else◌}
 use Rattle.std.proofs.lemmas.Bool.{ne_eqb}
 use Rattle.ttm_base.specs.declared.Actor.TheVariants as actor
 use Rattle.ttm_base.specs.declared.BufId.{BufId}
@@ -11,7 +11,7 @@ use Rattle.swap_store.specs.Slots.{SwapSlots}
 use Rattle.lru_bulk.specs.declared.nodes.Listing.{Listing}
 use Rattle.lru_bulk.specs.Lists.{Order, listing_of}
 use Rattle.lru_bulk.specs.Members.{AreMembersListed}
-use Rattle.resource_core.specs.Resources.{Resources, holds}
+use Rattle.resource_core.specs.Resources.{Resources, holds, spans_at}
 use Rattle.resource_core.specs.Vram as room
 use Rattle.bo_table.specs.declared.bo.Bo.{Bo}
 use Rattle.bo_table.specs.Seen.{Bos, IsBo, with_killed}
@@ -43,6 +43,7 @@ use Rattle.lemma_room_lists.proofs.KindLaws.{free_lists, free_unlisted}
 use Rattle.lemma_room_spans.specs.Calls.{given, passed_on, freed}
 use Rattle.lemma_room_spans.specs.Owned.{HoldsAsIn, HoldsAsOwned}
 use Rattle.lemma_room_spans.proofs.Entries.{thread_spans, next_ghost_fresh}
+use Rattle.lemma_room_spans.proofs.Holders.{live_kept}
 use Rattle.lemma_room_spans.proofs.MoveFence.{behind_fence}
 use Rattle.lemma_room_sets.proofs.GhostSteps.{ghosts_push}
 use Rattle.lemma_room_sets.proofs.Sets.{fences_cleared}
@@ -65,13 +66,17 @@ use Rattle.room_ties.specs.Ties.{Ties}
 use Rattle.room_steps.specs.Courses.{course_at, with_course_by}
 use Rattle.room_steps.proofs.Lent.{stands_at, lent_below, lent_table}
 use Rattle.room_steps.proofs.Steps.{held_after, step_as, thread_there}
-use Rattle.room_ghosts.specs.InTurn.{AreBelow, AreHeldAlong}
-use Rattle.room_ghosts.specs.Leaving.{freeing, ghost_of, off_list, off_list_as, spans_if}
-use Rattle.room_ghosts.proofs.Lent.{lent_ghost, lent_spans}
+use Rattle.room_pages.specs.Tables.{AreHeldInTurn}
+use Rattle.room_binds.specs.Apertures.{AreBelow}
+use Rattle.room_ghosts.specs.InTurn.{AreHeldAlong}
+use Rattle.room_ghosts.specs.Leaving.{freeing, ghost_of, off_list, off_list_as}
+use Rattle.room_ghosts.proofs.Lent.{kept_spans, lent_ghost}
 
+-- VRAM isn't SYSTEM
 no_system_vram : Vram ≡ System → ⊥
 no_system_vram e = cc
 
+-- nor is TT
 no_system_tt : Tt ≡ System → ⊥
 no_system_tt e = cc
 
@@ -100,6 +105,7 @@ number_in script s t b g l (still h) = cc
 number_in script s t b _ l (frees there quiet) = absurd (omega (arith, l))
 number_in script s t b _ l (leaves there) = refl
 
+-- the buffer is live
 there_in : (script : Script) (s : State) (t : ℕ) (b : BufId) (g : ℕ) → Told script s t (kind.Free b g) → IsThere s b
 there_in script s t b g (still h) = cc
 there_in script s t b _ (frees there quiet) = there
@@ -109,34 +115,53 @@ module _ (script : Script) (journal : List Entry) (p : Parts) (entry : Entry) (t
   abbrev s : State
   s = state_of script journal
 
+  -- the entry is the thread's step
   step : next script s (actor.Thread t) ≡ Ok (kind.Free b g)
   step = step_as script journal entry (record { who = actor.Thread t; kind = kind.Free b g }) is legal refl
 
+  -- what it tells of the state
   told : Told script s t (kind.Free b g)
   told = told_law script journal t (kind.Free b g) held.fits held.legal step
 
+  -- the buffer is live
   live : IsThere s b
   live = there_in script s t b g told
 
+  -- ghosts have numbers of their own
   good : GoodGhosts s.last_ghost s.core.ghosts
   good = ghosts_law script journal held.fits held.legal
 
+  -- what is held has one owner
   owned : HaveOneOwner script s.core
   owned = owner_law script journal held.fits held.legal
 
   -- ---- what the calls ask for
 
+  -- the thread is there
   pub free_there : IsSome (course_at p.courses t)
   free_there = thread_there script journal p held t (kind.Free b g) entry is legal refl
 
+  -- the buffer can be lent
   pub free_below : b.0 < length p.bos.grips
   free_below = lent_below script journal p held b live
 
+  -- what it has of TT
+  tt_is : spans_at (owner.Live b) p.tt.held ≡ spans_in Tt (buffer s b)
+  tt_is = ap (λ o. unwrap_or o []) (live_kept script.sizes.tt Tt s p.tt held.ties.tt b live) ∙ kept_spans (spans_in Tt (buffer s b))
+
+  -- these pages are within the aperture
+  pub free_pages : AreBelow (pages_of (spans_at (owner.Live b) p.tt.held)) (length p.stores.aper)
+  free_pages i k at =
+      let here : slice_get (pages_of (spans_in Tt (buffer s b))) i ≡ Some k = ap (λ ss. slice_get (pages_of ss) i) (sym tt_is) ∙ at in
+      let mem = is_in_tt (buffer s b) i k here in
+      subst (λ size. k < size) (sym held.ties.stores.aper_size)
+      (buffer_inside script s.core (once_law script journal held.fits held.legal) k b (buffer s b) i live mem (ap (λ ss. slice_get (pages_of ss) i) (sym (own_spans (buffer s b) mem)) ∙ here))
+
   module _ (bo : Bo) (lent : IsBo p.bos b bo) where
     -- its frames are held
-    pub free_frames : AreHeldAlong frame_of p.pool bo.table
+    pub free_frames : AreHeldInTurn p.pool bo.table
     free_frames =
-        subst (AreHeldAlong frame_of p.pool) (sym (lent_table script journal p held b live bo lent))
+        subst (AreHeldInTurn p.pool) (sym (lent_table script journal p held b live bo lent))
         (table_held_still frame_of script.sizes.frames (held_frames s.core) p.pool held.ties.pool.held_are owned.frames (buffer s b).table (frames_within s.core b (buffer s b) live))
 
     -- its slots are
@@ -145,19 +170,13 @@ module _ (script : Script) (journal : List Entry) (p : Parts) (entry : Entry) (t
         subst (AreHeldAlong slot_of p.swap.held) (sym (lent_table script journal p held b live bo lent))
         (table_held_still slot_of script.sizes.swap (held_slots s.core) p.swap.held held.ties.swap.held_are owned.slots (buffer s b).table (slots_within s.core b (buffer s b) live))
 
-    -- its pages of TT are within the aperture
-    pub free_pages : AreBelow (length p.stores.aper) (spans_if bo.mem Tt bo.spans)
-    free_pages i k at =
-        let here : slice_get (pages_of (spans_in Tt (buffer s b))) i ≡ Some k = ap (λ ss. slice_get (pages_of ss) i) (sym (lent_spans script journal p held b live bo lent Tt)) ∙ at in
-        let mem = is_in_tt (buffer s b) i k here in
-        subst (λ size. k < size) (sym held.ties.stores.aper_size)
-        (buffer_inside script s.core (once_law script journal held.fits held.legal) k b (buffer s b) i live mem (ap (λ ss. slice_get (pages_of ss) i) (sym (own_spans (buffer s b) mem)) ∙ here))
-
   -- ---- what is tied again
 
+  -- a manager behind its call
   spans_now : (mine : Mem) → (mine ≡ System → ⊥) → (r : Resources) → HoldsAsIn (size_of script mine) mine s r → HoldsAsIn (size_of script mine) mine (after_free s t b g) (freed b g r)
   spans_now mine out r tie = thread_spans script journal held.fits held.legal mine out good.first (λ i h e. (good.drawn i h e).1) r tie t (kind.Free b g) step told
 
+  -- that of VRAM
   vram_now : (v : room.Vram) → v.resources ≡ freed b g p.vram.resources → room.spans_of_kind v.kind ≡ room.spans_of_kind p.vram.kind →
       IsVram script.sizes s.last_jobs (after_free s t b g).core.buffers (after_free s t b g).core.ghosts s.core.move_fence v
   vram_now v e rule =
@@ -167,17 +186,21 @@ module _ (script : Script) (journal : List Entry) (p : Parts) (entry : Entry) (t
         fence = record { kept_is = ap (λ (r : Resources). r.move_fence) e ∙ behind_fence Vram (kind.Free b g) p.vram.resources ∙ held.ties.vram.fence.kept_is; known = held.ties.vram.fence.known };
       }
 
+  -- that of TT
   tt_now : (u : Resources) → u ≡ freed b g p.tt → IsTt script.sizes (after_free s t b g).core.buffers (after_free s t b g).core.ghosts u
   tt_now u e = subst (λ r. HoldsAsOwned script.sizes.tt Tt (after_free s t b g).core.buffers (after_free s t b g).core.ghosts r) (sym e) (spans_now Tt no_system_tt p.tt held.ties.tt)
 
+  -- the table of buffers
   bos_now : (bos : Bos) → bos ≡ with_killed p.bos b → AreBos script (after_free s t b g).core.buffers (after_free s t b g).grips s.last_jobs bos
   bos_now bos e =
       subst (λ x. AreBos script (after_free s t b g).core.buffers (after_free s t b g).grips s.last_jobs x) (sym e)
       (killed_bos script s.core.buffers s.grips s.last_jobs p.bos held.ties.bos b (Some (buffer s b)) (stands_at s.core.buffers b (buffer s b) live))
 
+  -- the lists
   lists_now : (o : Order) → o ≡ off_list p.lru b → AreMembersListed p.lru → HasLists script (after_free s t b g) o
   lists_now o e members = subst (λ x. HasLists script (after_free s t b g) x) (sym e) (freed_lists script s p.lru t b g held.ties.lists members)
 
+  -- the slots of the lent table are the buffer's
   slots_now : (bo : Bo) → IsBo p.bos b bo → (swap : SwapSlots) → swap ≡ record { held = given_back p.swap.held (filter_map slot_of bo.table); bytes = p.swap.bytes } →
       swap ≡ record { held = given_back p.swap.held (slots_of (buffer s b)); bytes = p.swap.bytes }
   slots_now bo lent swap e =
@@ -186,9 +209,10 @@ module _ (script : Script) (journal : List Entry) (p : Parts) (entry : Entry) (t
 -- ---- no job uses it
 
 module _ (script : Script) (journal : List Entry) (p : Parts) (entry : Entry) (t : ℕ) (b : BufId) (held : AreHeld script journal p) (is : entry ≡ record { who = actor.Thread t; kind = kind.Free b 0 }) (legal : IsLegalNext script (world_of script journal) entry) where
+  -- the parts tell the journal with the entry
   pub idle_held : (bo : Bo) → IsBo p.bos b bo → (v : room.Vram) (u : Resources) (aper : List (Option ℕ)) (pool : List Bool) (swap : SwapSlots) (bos : Bos) (o : Order) (courses : List Course) →
       v.resources ≡ given (owner.Live b) p.vram.resources → room.spans_of_kind v.kind ≡ room.spans_of_kind p.vram.kind → u ≡ given (owner.Live b) p.tt →
-      aper ≡ cleared p.stores.aper (pages_of (spans_if bo.mem Tt bo.spans)) → pool ≡ given_back p.pool (filter_map frame_of bo.table) →
+      aper ≡ cleared p.stores.aper (pages_of (spans_at (owner.Live b) p.tt.held)) → pool ≡ given_back p.pool (filter_map frame_of bo.table) →
       swap ≡ record { held = given_back p.swap.held (filter_map slot_of bo.table); bytes = p.swap.bytes } → bos ≡ with_killed p.bos b → o ≡ off_list p.lru b → AreMembersListed p.lru →
       courses ≡ with_course_by (freeing b) p.courses t →
       AreHeld script (journal ++ entry ∷ []) (record p { vram = v; tt = u; stores = record p.stores { aper = aper }; pool = pool; swap = swap; bos = bos; lru = o; courses = courses })
@@ -200,7 +224,7 @@ module _ (script : Script) (journal : List Entry) (p : Parts) (entry : Entry) (t
       let one_owner = owner_law script journal held.fits held.legal in
       let q : Parts = record p { vram = v; tt = u; stores = record p.stores { aper = aper }; pool = pool; swap = swap; bos = bos; lru = o; courses = courses } in
       let pool_is : pool ≡ given_back p.pool (frames_of (buffer s b)) = pe ∙ ap (λ places. given_back p.pool (filter_map frame_of places)) (lent_table script journal p held b there bo lent) in
-      let aper_is : aper ≡ cleared p.stores.aper (pages_of (spans_in Tt (buffer s b))) = ae ∙ ap (λ ss. cleared p.stores.aper (pages_of ss)) (lent_spans script journal p held b there bo lent Tt) in
+      let aper_is : aper ≡ cleared p.stores.aper (pages_of (spans_in Tt (buffer s b))) = ae ∙ ap (λ ss. cleared p.stores.aper (pages_of ss)) (tt_is script journal p entry t b 0 held is legal) in
       held_after script journal p q entry held legal
       (subst (λ (y : Entry). Ties script (world_after script w y).state (world_after script w y).stores q) (sym is)
       (record {
@@ -225,32 +249,39 @@ module _ (script : Script) (journal : List Entry) (p : Parts) (entry : Entry) (t
 -- ---- jobs use it
 
 module _ (script : Script) (journal : List Entry) (p : Parts) (entry : Entry) (t : ℕ) (b : BufId) (g : ℕ) (held : AreHeld script journal p) (is : entry ≡ record { who = actor.Thread t; kind = kind.Free b g }) (legal : IsLegalNext script (world_of script journal) entry) (some : 0 < g) where
+  -- its number isn't 0
   is_some_number : (g == 0) ≡ false
   is_some_number = ne_eqb g 0 (λ e. absurd (omega (arith, e, some)))
 
+  -- but the next one
   number : g ≡ next_ghost (state_of script journal)
   number = number_in script (state_of script journal) t b g some (told script journal p entry t b g held is legal)
 
+  -- no ghost has it yet
   below : (i : ℕ) (h : state.Ghost) → slice_get (state_of script journal).core.ghosts i ≡ Some h → h.num ≤ (state_of script journal).last_ghost
   below i h e = ((good script journal p entry t b g held is legal).drawn i h e).1
 
-  -- the ghost has nothing yet
+  -- the ghost has nothing of VRAM yet
   pub busy_vram : holds (owner.Ghost g) p.vram.resources.held ≡ false
   busy_vram =
       ap (λ n. holds (owner.Ghost n) p.vram.resources.held) number
       ∙ next_ghost_fresh script journal held.fits held.legal Vram no_system_vram (good script journal p entry t b g held is legal).first below p.vram.resources held.ties.vram.held_as
 
+  -- nor of TT
   pub busy_tt : holds (owner.Ghost g) p.tt.held ≡ false
   busy_tt =
       ap (λ n. holds (owner.Ghost n) p.tt.held) number
       ∙ next_ghost_fresh script journal held.fits held.legal Tt no_system_tt (good script journal p entry t b g held is legal).first below p.tt held.ties.tt
 
+  -- what the buffer has is the ghost's
   to_ghost : (r : Resources) → freed b g r ≡ passed_on (owner.Live b) (owner.Ghost g) r
   to_ghost r = ap (λ q. if q then given (owner.Live b) r else passed_on (owner.Live b) (owner.Ghost g) r) is_some_number
 
+  -- it is the last of the ghosts
   ghosts_are : (s : State) → (after_free s t b g).core.ghosts ≡ s.core.ghosts ++ ghost_of_freed s.core (buffer s b) g ∷ []
   ghosts_are s = ap (λ q. if q then s.core.ghosts else s.core.ghosts ++ ghost_of_freed s.core (buffer s b) g ∷ []) is_some_number
 
+  -- the parts tell the journal with the entry
   pub busy_held : (bo : Bo) → IsBo p.bos b bo → (ghosts : List Ghost) (v : room.Vram) (u : Resources) (swap : SwapSlots) (bos : Bos) (o : Order) (courses : List Course) →
       ghosts ≡ p.ghosts ++ ghost_of bo g ∷ [] → v.resources ≡ passed_on (owner.Live b) (owner.Ghost g) p.vram.resources → room.spans_of_kind v.kind ≡ room.spans_of_kind p.vram.kind →
       u ≡ passed_on (owner.Live b) (owner.Ghost g) p.tt → swap ≡ record { held = given_back p.swap.held (filter_map slot_of bo.table); bytes = p.swap.bytes } → bos ≡ with_killed p.bos b →

@@ -1,11 +1,13 @@
 -- What a live buffer that the table lends has, and the ghost that it leaves.
-use Rattle.std.proofs.Common.{◌≡◌, ℕ, Bool, true, false, List, [], Some, length, refl, sym, ◌∙◌, ap, ap₂, None}
+use Rattle.std.proofs.Common.{◌≡◌, ℕ, Bool, true, false, List, [], ◌∷◌, Some, length, refl, sym, ◌∙◌, ap, ap₂, None}
 use Rattle.std.specs.Prelude.{filter_map, option_map, replicate, slice_get, unwrap_or, if◌then◌else◌}
 use Rattle.ttm_base.specs.declared.BufId.{BufId}
 use Rattle.ttm_base.specs.declared.Mem.{Mem}
 use Rattle.ttm_base.specs.declared.Mem.TheVariants.{Tt, Vram}
+use Rattle.ttm_base.specs.declared.Span.{Span}
 use Rattle.ttm_base.specs.declared.Usage.TheVariants.{Read}
 use Rattle.fence_core.specs.Fences.{nothing_kept, all_added}
+use Rattle.resource_core.specs.Resources.{some_spans}
 use Rattle.bo_table.specs.declared.bo.Bo.{Bo}
 use Rattle.bo_table.specs.Seen.{IsBo, body_of}
 use Rattle.bo_table.proofs.TableLaws.{get_map}
@@ -29,12 +31,18 @@ use Rattle.room_ties.specs.Held.{AreHeld}
 use Rattle.room_steps.proofs.Lent.{stands_at}
 use Rattle.room_ghosts.specs.Leaving.{all_jobs, ghost_of, spans_if}
 
+-- spans that a manager keeps where there are some
+pub kept_spans : (spans : List Span) → unwrap_or (some_spans spans) [] ≡ spans
+kept_spans [] = refl
+kept_spans (s ∷ spans) = refl
+
 -- a lent buffer has what a buffer has
 pub record HasBody (bo : Bo) (x : Buffer) : Type 0 where
   pub mem : bo.mem ≡ x.mem
   pub spans : bo.spans ≡ x.spans
   pub table : bo.table ≡ x.table
 
+-- so where it is seen as one
 body_parts : (bo : Bo) (x : Buffer) → body_of bo ≡ Some x → HasBody bo x
 body_parts bo x h = by bo.alive h
   where
@@ -63,14 +71,17 @@ module _ (script : Script) (journal : List Entry) (p : Parts) (held : AreHeld sc
   pub lent_spans : (mine : Mem) → spans_if bo.mem mine bo.spans ≡ spans_in mine x
   lent_spans mine = ap₂ (λ m ss. spans_if m mine ss) lent_body.mem lent_body.spans
 
+  -- its jobs are those of its place in the table
   set_now : bo.resv.fences ≡ set_at p.bos.fences b
   set_now = ap (λ o. unwrap_or o []) (sym lent.fences)
 
+  -- its set has all contexts
   contexts : length bo.resv.fences ≡ length (state_of script journal).last_jobs
   contexts =
       ap length (set_now ∙ set_is (state_of script journal).last_jobs (state_of script journal).core.buffers p.bos.fences held.ties.bos.fences_are b (Some x) (stands_at (state_of script journal).core.buffers b x live))
       ∙ set_length (length (state_of script journal).last_jobs) (fences_of (Some x))
 
+  -- the ghost's set has them all
   jobs_now : all_jobs bo.resv.fences ≡ all_added Read (empty_set (state_of script journal)) (set_at p.bos.fences b)
   jobs_now = ap₂ (λ n set. all_added Read (replicate n nothing_kept) set) contexts set_now
 

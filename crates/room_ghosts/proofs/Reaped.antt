@@ -1,10 +1,10 @@
 -- All parts behind a ghost that is reaped.
-use Rattle.std.proofs.Common.{◌≡◌, ℕ, ◌<◌, Bool, true, List, [], ◌∷◌, ◌++◌, Option, Some, length, drop, take, refl, sym, ◌∙◌, ap, subst}
-use Rattle.std.specs.Prelude.{remove, slice_get}
+use Rattle.std.proofs.Common.{◌≡◌, ℕ, ◌<◌, Bool, true, List, [], ◌∷◌, ◌++◌, Option, Some, length, take, refl, sym, ◌∙◌, ap, subst}
+use Rattle.std.specs.Prelude.{unwrap_or, remove, slice_get}
 use Rattle.ttm_base.specs.declared.Actor.TheVariants as actor
 use Rattle.ttm_base.specs.declared.Mem.TheVariants.{System, Tt, Vram}
 use Rattle.ttm_base.specs.declared.Owner.TheVariants as owner
-use Rattle.resource_core.specs.Resources.{Resources}
+use Rattle.resource_core.specs.Resources.{Resources, spans_at}
 use Rattle.resource_core.specs.Vram as room
 use Rattle.journal_model.specs.declared.script.Script.{Script}
 use Rattle.journal_model.specs.declared.state.State.{State}
@@ -22,6 +22,7 @@ use Rattle.law_pages.proofs.Law.{ghosts_law}
 use Rattle.lemma_room_spans.specs.Calls.{given}
 use Rattle.lemma_room_spans.specs.Owned.{HoldsAsOwned}
 use Rattle.lemma_room_spans.proofs.Carried.{reap_spans}
+use Rattle.lemma_room_spans.proofs.Holders.{ghost_kept}
 use Rattle.lemma_room_spans.proofs.MoveFence.{behind_fence}
 use Rattle.lemma_room_sets.proofs.GhostSteps.{IsFound, IsReap, ghost_found, ghosts_reaped, reap_of}
 use Rattle.lemma_room_jobs.proofs.Packets.{nothing_beyond}
@@ -38,33 +39,37 @@ use Rattle.room_ties.specs.Ghosts.{AreGhosts}
 use Rattle.room_ties.specs.Held.{AreHeld}
 use Rattle.room_ties.specs.Pages.{ArePooled}
 use Rattle.room_ties.specs.Ties.{Ties}
+use Rattle.room_binds.specs.Apertures.{AreBelow}
 use Rattle.room_steps.proofs.Lent.{is_below}
 use Rattle.room_steps.proofs.Steps.{held_after, step_as}
-use Rattle.room_ghosts.specs.InTurn.{AreHeldInTurn, AreBelow}
+use Rattle.room_ghosts.proofs.Lent.{kept_spans}
+use Rattle.room_ghosts.specs.InTurn.{AreHeldInTurn}
 
+-- VRAM isn't SYSTEM
 no_system_vram : Vram ≡ System → ⊥
 no_system_vram e = cc
 
+-- nor is TT
 no_system_tt : Tt ≡ System → ⊥
 no_system_tt e = cc
-
--- the first one goes
-first_gone : {X : Type 0} (xs : List X) → remove xs 0 ≡ drop 1 xs
-first_gone xs = refl
 
 module _ (script : Script) (journal : List Entry) (p : Parts) (entry : Entry) (n : ℕ) (held : AreHeld script journal p) (is : entry ≡ record { who = actor.Reaper; kind = kind.Reap n }) (legal : IsLegalNext script (world_of script journal) entry) where
   abbrev s : State
   s = state_of script journal
 
+  -- the ghost that goes
   reaped : IsReap s n
   reaped = reap_of script s n (step_as script journal entry (record { who = actor.Reaper; kind = kind.Reap n }) is legal refl)
 
+  -- ghosts have numbers of their own
   good : GoodGhosts s.last_ghost s.core.ghosts
   good = ghosts_law script journal held.fits held.legal
 
+  -- no other has its number
   only : (k : ℕ) (h : state.Ghost) → slice_get s.core.ghosts k ≡ Some h → h.num ≡ n → k ≡ 0
   only k h at e = good.distinct k 0 h reaped.ghost at reaped.first (e ∙ sym reaped.num)
 
+  -- the first of the parts' ghosts stands for it
   found : IsFound s.core.jobs s.last_jobs reaped.ghost p.ghosts 0
   found = ghost_found s.core.jobs s.last_jobs s.core.ghosts p.ghosts held.ties.ghosts 0 reaped.ghost reaped.first
 
@@ -72,15 +77,26 @@ module _ (script : Script) (journal : List Entry) (p : Parts) (entry : Entry) (n
   pub reap_some : 0 < length p.ghosts
   reap_some = is_below p.ghosts 0 found.ghost found.here
 
+  -- what it has of TT
+  tt_is : spans_at (owner.Ghost n) p.tt.held ≡ reaped.ghost.tt
+  tt_is =
+      ap (λ m. spans_at (owner.Ghost m) p.tt.held) (sym reaped.num)
+      ∙ ap (λ o. unwrap_or o []) (ghost_kept script.sizes.tt Tt s p.tt held.ties.tt good.first 0 reaped.ghost reaped.first) ∙ kept_spans reaped.ghost.tt
+
+  -- these pages are within the aperture
+  pub reap_pages : AreBelow (pages_of (spans_at (owner.Ghost n) p.tt.held)) (length p.stores.aper)
+  reap_pages i k at =
+      subst (λ size. k < size) (sym held.ties.stores.aper_size)
+      (ghost_inside script s.core (once_law script journal held.fits held.legal) k 0 i reaped.ghost reaped.first (ap (λ ss. slice_get (pages_of ss) i) (sym tt_is) ∙ at))
+
   module _ (ghost : Ghost) (first : slice_get p.ghosts 0 ≡ Some ghost) where
+    -- this is that one
     same : found.ghost ≡ ghost
     same = let both : Some found.ghost ≡ Some ghost = sym found.here ∙ first in cc
 
+    -- with its frames
     frames_are : ghost.frames ≡ reaped.ghost.frames
     frames_are = ap (λ (g : Ghost). g.frames) (sym same) ∙ found.is.frames
-
-    tt_is : ghost.tt ≡ reaped.ghost.tt
-    tt_is = ap (λ (g : Ghost). g.tt) (sym same) ∙ found.is.tt
 
     -- its frames are held
     pub reap_turns : AreHeldInTurn p.pool ghost.frames
@@ -88,14 +104,9 @@ module _ (script : Script) (journal : List Entry) (p : Parts) (entry : Entry) (n
         subst (λ fs. slice_get (given_back p.pool (take i fs)) f ≡ Some true) (sym frames_are)
         (ghost_frame_may_go script s (owner_law script journal held.fits held.legal) p.pool held.ties.pool 0 reaped.ghost i f reaped.first (ap (λ fs. slice_get fs i) (sym frames_are) ∙ at))
 
-    -- its pages of TT are within the aperture
-    pub reap_pages : AreBelow (length p.stores.aper) ghost.tt
-    reap_pages i k at =
-        subst (λ size. k < size) (sym held.ties.stores.aper_size)
-        (ghost_inside script s.core (once_law script journal held.fits held.legal) k 0 i reaped.ghost reaped.first (ap (λ ss. slice_get (pages_of ss) i) (sym tt_is) ∙ at))
-
+    -- the parts tell the journal with the entry
     pub reap_held : (ghosts : List Ghost) (v : room.Vram) (u : Resources) (pool : List Bool) (aper : List (Option ℕ)) → ghosts ≡ remove p.ghosts 0 → v.resources ≡ given (owner.Ghost n) p.vram.resources →
-        room.spans_of_kind v.kind ≡ room.spans_of_kind p.vram.kind → u ≡ given (owner.Ghost n) p.tt → pool ≡ given_back p.pool ghost.frames → aper ≡ cleared p.stores.aper (pages_of ghost.tt) →
+        room.spans_of_kind v.kind ≡ room.spans_of_kind p.vram.kind → u ≡ given (owner.Ghost n) p.tt → pool ≡ given_back p.pool ghost.frames → aper ≡ cleared p.stores.aper (pages_of (spans_at (owner.Ghost n) p.tt.held)) →
         AreHeld script (journal ++ entry ∷ []) (record p { ghosts = ghosts; vram = v; tt = u; pool = pool; stores = record p.stores { aper = aper } })
     reap_held ghosts v u pool aper ge ve rule ue pe ae =
         let w = world_of script journal in

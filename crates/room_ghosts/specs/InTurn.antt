@@ -1,8 +1,6 @@
--- Numbers that are given back one by one, and pages that are cleared.
-use Rattle.std.specs.Prelude.{◌≡◌, ℕ, ◌<◌, Bool, true, List, Option, Some, filter_map, slice_get, take}
+-- Numbers that are given back one by one.
+use Rattle.std.specs.Prelude.{◌≡◌, ℕ, Bool, true, List, Option, Some, filter_map, slice_get, take}
 use Rattle.ttm_base.specs.declared.Loc.{Loc}
-use Rattle.ttm_base.specs.declared.Span.{Span}
-use Rattle.journal_model.specs.Places.{pages_of}
 use Rattle.lemma_room_frames.specs.GivenBack.{given_back}
 
 -- each number is held when its turn comes, behind those before it
@@ -12,7 +10,3 @@ AreHeldInTurn pool ks = (i k : ℕ) → slice_get ks i ≡ Some k → slice_get 
 -- and so is what each page of a table has, its frame or its slot
 abbrev pub AreHeldAlong : (Loc → Option ℕ) → List Bool → List Loc → Type 0
 AreHeldAlong see pool places = (i : ℕ) (l : Loc) (k : ℕ) → slice_get places i ≡ Some l → see l ≡ Some k → slice_get (given_back pool (filter_map see (take i places))) k ≡ Some true
-
--- each page of the spans is below a size
-abbrev pub AreBelow : ℕ → List Span → Type 0
-AreBelow size spans = (i p : ℕ) → slice_get (pages_of spans) i ≡ Some p → p < size

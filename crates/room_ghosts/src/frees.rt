@@ -6,11 +6,13 @@ ghost use Rattle.room_ties.specs.Held.{AreHeld};
 ghost use Rattle.room_ghosts.specs.Leaving.{off_list};
 
 use crate::courses::has_freed;
-use crate::leaving::{clear_tt, ghost_of};
-use crate::owners::{give_tt, give_vram, pass_tt, pass_vram};
-use crate::pages::{drop_slots, give_table};
+use crate::leaving::ghost_of;
+use crate::owners::{give_vram, pass_tt, pass_vram};
+use crate::pages::drop_slots;
 use journal_model::{Entry, Script};
 use lru_bulk::Lru;
+use room_binds::give_mapped;
+use room_pages::give_frames;
 use room_ties::Parts;
 use std::alloc::Global;
 use ttm_base::{BufId, NoMemory, Owner};
@@ -41,9 +43,8 @@ fn free_idle(
     parts.lru.members_stand_once();
     let bo = parts.bos.get(b);
     give_vram(&mut parts.vram, Owner::Live(b));
-    give_tt(&mut parts.tt, Owner::Live(b));
-    clear_tt(&mut parts.stores.aper, bo.mem, &bo.spans);
-    give_table(&mut parts.pool, bo.table.places());
+    give_mapped(&mut parts.stores.aper, &mut parts.tt, Owner::Live(b));
+    give_frames(&mut parts.pool, bo.table.places());
     drop_slots(&mut parts.swap, bo.table.places());
     parts.bos.kill(b);
     take_off(&mut parts.lru, b);

@@ -1,12 +1,7 @@
-ghost use Rattle.std.specs.Prelude.{◌≡◌, ◌<◌, IfOk, length, filter_map};
-ghost use Rattle.ttm_base.specs.declared.Mem.TheVariants.{Tt as InTt};
+ghost use Rattle.std.specs.Prelude.{◌≡◌, IfOk, filter_map};
 ghost use Rattle.journal_model.specs.Places as words;
-ghost use Rattle.lemma_room_bytes.specs.Mapped.{cleared};
-ghost use Rattle.room_ghosts.specs.InTurn.{AreBelow};
 ghost use Rattle.room_ghosts.specs.Leaving.{spans_if, all_jobs, ghost_of as left_by};
 
-use crate::pages::clear_spans;
-use aperture_table::Aperture;
 use bo_table::Bo;
 use fence_core::FenceSet;
 use journal_model::Frames;
@@ -63,14 +58,4 @@ pub fn ghost_of(alloc: Global, bo: &Bo, g: u64) -> Result<Ghost, NoMemory>
         frames,
         jobs,
     })
-}
-
-/// The pages of spans in TT are mapped no more. Spans in other memory types are none of its pages.
-pub fn clear_tt(aper: &mut Aperture, mem: Mem, spans: &Spans)
-    requires { AreBelow (length aper.old) (spans_if mem InTt spans.now) }
-    ensures { aper.new ≡ cleared aper.old (words.pages_of (spans_if mem InTt spans.now)) }
-{
-    if let Mem::Tt = mem {
-        clear_spans(aper, spans.items());
-    }
 }

@@ -16,15 +16,6 @@ pub fn give_vram(room: &mut VramRoom, owner: Owner)
     }
 }
 
-/// What an owner has of TT is free, if it has something.
-pub fn give_tt(room: &mut RangeRoom, owner: Owner)
-    ensures { room.new ≡ given owner room.old }
-{
-    if room.holds(owner) {
-        room.give(owner);
-    }
-}
-
 /// What an owner has of VRAM, if it has something, is another's, that has nothing.
 pub fn pass_vram(room: &mut VramRoom, from: Owner, to: Owner)
     requires { are_held to room.old.resources.held ≡ false }

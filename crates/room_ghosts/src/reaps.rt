@@ -4,9 +4,10 @@ ghost use Rattle.journal_model.specs.declared.entry.Kind.TheVariants as kind;
 ghost use Rattle.journal_model.specs.Legal.{IsLegalNext, world_of};
 ghost use Rattle.room_ties.specs.Held.{AreHeld};
 
-use crate::owners::{give_tt, give_vram};
-use crate::pages::{clear_spans, give_frames};
+use crate::owners::give_vram;
+use crate::pages::give_all;
 use journal_model::{Entry, Script};
+use room_binds::give_mapped;
 use room_ties::Parts;
 use ttm_base::Owner;
 
@@ -19,7 +20,6 @@ pub fn reap(parts: &mut Parts, script: &Script, before: &[Entry], entry: &Entry,
 {
     let left = parts.ghosts.remove(0);
     give_vram(&mut parts.vram, Owner::Ghost(g));
-    give_tt(&mut parts.tt, Owner::Ghost(g));
-    give_frames(&mut parts.pool, left.frames.items());
-    clear_spans(&mut parts.stores.aper, left.tt.items());
+    give_mapped(&mut parts.stores.aper, &mut parts.tt, Owner::Ghost(g));
+    give_all(&mut parts.pool, left.frames.items());
 }

@@ -2,6 +2,7 @@ use Rattle.std.proofs.Common.{ap, subst, sym, ◌∙◌}
 use Rattle.std.specs.Prelude.{filter_map}
 use Rattle.journal_model.specs.Places.{frame_of, slot_of}
 use Rattle.lemma_room_frames.specs.GivenBack.{given_back}
+use Rattle.room_pages.specs.Tables.{AreHeldInTurn}
 use Rattle.room_ghosts.specs.InTurn.{AreHeldAlong}
 use Rattle.room_ghosts.proofs.Freed.{free_there, free_below, free_frames, free_held_slots, free_pages, idle_held}
 use Rattle.room_ghosts.proofs.Loops.{dropped}
@@ -10,11 +11,11 @@ use Rattle.room_ghosts.proofs.frees.free_idle.Goals as goal
 pub get-bo-requires : goal.get-bo-requires
 get-bo-requires c = free_below c.args.script.now c.args.before.now c.args.parts.now c.args.entry.now c.args.thread c.args.b 0 c.requires.held c.requires.is c.requires.next
 
-pub clear_tt-requires : goal.clear_tt-requires
-clear_tt-requires c = free_pages c.args.script.now c.args.before.now c.args.parts.now c.args.entry.now c.args.thread c.args.b 0 c.requires.held c.requires.is c.requires.next _ c.get-bo.ensures
+pub give_mapped-requires : goal.give_mapped-requires
+give_mapped-requires c = free_pages c.args.script.now c.args.before.now c.args.parts.now c.args.entry.now c.args.thread c.args.b 0 c.requires.held c.requires.is c.requires.next
 
-pub give_table-requires : goal.give_table-requires
-give_table-requires c = subst (AreHeldAlong frame_of c.args.parts.now.pool) (sym c.places.ensures) (free_frames c.args.script.now c.args.before.now c.args.parts.now c.args.entry.now c.args.thread c.args.b 0 c.requires.held c.requires.is c.requires.next _ c.get-bo.ensures)
+pub give_frames-requires : goal.give_frames-requires
+give_frames-requires c = subst (AreHeldInTurn c.args.parts.now.pool) (sym c.places.ensures) (free_frames c.args.script.now c.args.before.now c.args.parts.now c.args.entry.now c.args.thread c.args.b 0 c.requires.held c.requires.is c.requires.next _ c.get-bo.ensures)
 
 pub drop_slots-requires : goal.drop_slots-requires
 drop_slots-requires c = subst (AreHeldAlong slot_of c.args.parts.now.swap.held) (sym c.places-2.ensures) (free_held_slots c.args.script.now c.args.before.now c.args.parts.now c.args.entry.now c.args.thread c.args.b 0 c.requires.held c.requires.is c.requires.next _ c.get-bo.ensures)
@@ -24,6 +25,6 @@ has_freed-requires c = free_there c.args.script.now c.args.before.now c.args.par
 
 pub returns : goal.returns
 returns c =
-    idle_held c.args.script.now c.args.before.now c.args.parts.now c.args.entry.now c.args.thread c.args.b c.requires.held c.requires.is c.requires.next _ c.get-bo.ensures c.give_vram.new.room c.give_tt.new.room c.clear_tt.new.aper c.give_table.new.pool c.drop_slots.new.swap c.kill.new.self c.take_off.new.lru
-    c.has_freed.new.courses c.give_vram.ensures.held c.give_vram.ensures.rule c.give_tt.ensures c.clear_tt.ensures (c.give_table.ensures ∙ ap (λ places. given_back c.args.parts.now.pool (filter_map frame_of places)) c.places.ensures)
+    idle_held c.args.script.now c.args.before.now c.args.parts.now c.args.entry.now c.args.thread c.args.b c.requires.held c.requires.is c.requires.next _ c.get-bo.ensures c.give_vram.new.room c.give_mapped.new.tt c.give_mapped.new.aper c.give_frames.new.pool c.drop_slots.new.swap c.kill.new.self c.take_off.new.lru
+    c.has_freed.new.courses c.give_vram.ensures.held c.give_vram.ensures.rule c.give_mapped.ensures.tt c.give_mapped.ensures.aper (c.give_frames.ensures ∙ ap (λ places. given_back c.args.parts.now.pool (filter_map frame_of places)) c.places.ensures)
     (c.drop_slots.ensures ∙ ap (dropped c.args.parts.now.swap) c.places-2.ensures) c.kill.ensures c.take_off.ensures c.members_stand_once.ensures.listed c.has_freed.ensures

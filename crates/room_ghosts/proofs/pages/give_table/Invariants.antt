@@ -1,8 +1,0 @@
-use Rattle.std.proofs.Common.{◌≡◌, take}
-use Rattle.std.specs.Prelude.{filter_map}
-use Rattle.journal_model.specs.Places.{frame_of}
-use Rattle.lemma_room_frames.specs.GivenBack.{given_back}
-use Rattle.room_ghosts.proofs.pages.give_table.Given as goal
-
-abbrev pub invariant-loop-place : goal.invariant-loop-place
-invariant-loop-place l = l.pool ≡ given_back l.initial.pool (filter_map frame_of (take l.place-index l.places))
