@@ -3,7 +3,7 @@ use Rattle.std.specs.Prelude.{List, [], ◌∷◌, ◌++◌}
 use Rattle.journal_model.specs.declared.script.Script.{Script}
 use Rattle.journal_model.specs.declared.state.State.{State}
 use Rattle.journal_model.specs.declared.entry.Entry.{Entry}
-use Rattle.journal_model.specs.Legal.{IsLegalNext, state_of, world_of}
+use Rattle.journal_model.specs.Legal.{World, IsLegalNext, state_of, world_of}
 
 -- the script that is run, and the entries so far
 pub record Kept : Type 0 where
@@ -17,6 +17,10 @@ with_entry k e = record k { journal = k.journal ++ e ∷ [] }
 -- the state to which the entries lead
 abbrev pub state_behind : Kept → State
 state_behind k = state_of k.script k.journal
+
+-- the bytes with it
+abbrev pub world_behind : Kept → World
+world_behind k = world_of k.script k.journal
 
 -- the entry is legal next
 abbrev pub MayAppend : Kept → Entry → Type 0

@@ -1,27 +1,39 @@
-ghost use Rattle.std.specs.Prelude.{◌≡◌, [], IfOk, IsSome, IsTrue, OnOk, OnErr, length, option_copied, remove, ◌<◌};
-ghost use Rattle.journal_model.specs.State.{course_of, course};
+ghost use Rattle.std.specs.Prelude.{◌≡◌, ◌+◌, ◌<◌, ◌≤◌, [], IfOk, IsSome, IsTrue, OnOk, OnErr, length, option_and_then, option_copied, option_map, remove, slice_get};
+ghost use Rattle.journal_model.specs.State.{buffer, course_of, course};
+ghost use Rattle.journal_model.specs.Choice.{choice as choice_of};
+ghost use Rattle.journal_model.specs.Complete.{is_complete};
+ghost use Rattle.journal_model.specs.Holds.{free_frame as frame_of, free_slot as slot_of};
+ghost use Rattle.journal_model.specs.Next.{head_of};
+ghost use Rattle.journal_model.specs.PageSteps.{next_job as job_of, next_ghost as ghost_of};
+ghost use Rattle.journal_model.specs.Stores.{bytes_of};
+ghost use Rattle.journal_model.specs.Waits.{waited_for};
+ghost use Rattle.lemma_bytes_told.specs.Told.{IsThere};
+ghost use Rattle.room_queries.specs.Heads.{number_left, head_piece};
+ghost use Rattle.room_queries.specs.Uses.{jobs_before};
 ghost use Rattle.journal_model.specs.Commands.{command_at_work as command_of};
 ghost use Rattle.journal_model.specs.ScriptRules.{is_script};
 ghost use Rattle.journal_model.specs.Legal.{IsLegal};
 ghost use Rattle.lemma_room_lists.specs.Listed.{HasLists};
 ghost use Rattle.room_ties.specs.Bos.{AreBos};
 ghost use Rattle.room_ties.specs.Ghosts.{AreGhosts};
+ghost use Rattle.room_ties.specs.Held.{AreHeld};
 ghost use Rattle.room_ties.specs.Lines.{IsTimeline};
 ghost use Rattle.room_ties.specs.RingJobs.{AreRings};
-ghost use Rattle.room_state.specs.Kept.{with_entry, state_behind, MayAppend};
+ghost use Rattle.room_state.specs.Kept.{with_entry, state_behind, world_behind, MayAppend};
 
 use crate::make::make_parts;
 use bo_table::BoTable;
 use copy_engine::Rings;
+use copy_packet::ProbeBytes;
 use fence_core::Timeline;
-use journal_model::{Command, Course, Entry, Script};
+use journal_model::{Bytes, Command, Course, Entry, Script};
 use lru_bulk::Lru;
 use room_first::first_parts;
 use room_ties::{Ghost, Parts};
 use rules_state::commands_of;
 use std::alloc::Global;
 use std::marker::Model;
-use ttm_base::{ItemList, NoMemory};
+use ttm_base::{BufId, ItemList, JobId, NoMemory, Place, Spans, Stamp, Usage};
 
 /// The whole state on its parts, seen as a script and a journal.
 #[derive(Drop)]
@@ -137,6 +149,138 @@ impl Rooms {
         ensures { AreGhosts (state_behind self.now).core.jobs (state_behind self.now).last_jobs (state_behind self.now).core.ghosts result.now }
     {
         self.parts.ghosts.items()
+    }
+
+    /// All parts.
+    pub fn parts(&self) -> &Parts
+        ensures { AreHeld self.now.script self.now.journal result.now }
+    {
+        &self.parts
+    }
+
+    /// Every command is answered, every job is done and there is no ghost.
+    pub fn over(&self) -> bool
+        ensures { result ≡ is_complete self.now.script self.now.journal }
+    {
+        room_queries::is_over(&self.parts, &self.script, self.journal.items())
+    }
+
+    /// The lowest free frame.
+    pub fn free_frame(&self) -> Option<u32>
+        ensures { result ≡ frame_of self.now.script (state_behind self.now).core }
+    {
+        room_queries::free_frame(&self.parts, &self.script, self.journal.items())
+    }
+
+    /// The lowest free slot.
+    pub fn free_slot(&self) -> Option<u32>
+        ensures { result ≡ slot_of self.now.script (state_behind self.now).core }
+    {
+        room_queries::free_slot(&self.parts, &self.script, self.journal.items())
+    }
+
+    /// The stamp of the next ticket.
+    pub fn next_stamp(&self) -> Stamp
+        ensures { result.0 ≡ (state_behind self.now).last_stamp + 1 }
+    {
+        room_queries::next_stamp(&self.parts, &self.script, self.journal.items())
+    }
+
+    /// The number of a context's next job.
+    pub fn next_job(&self, ctx: u32) -> u64
+        requires { ctx ≤ self.now.script.sizes.engines }
+        ensures { result ≡ job_of (state_behind self.now) ctx }
+    {
+        room_queries::next_job(&self.parts, &self.script, self.journal.items(), ctx)
+    }
+
+    /// The number of the next ghost.
+    pub fn next_ghost(&self) -> u64
+        ensures { result ≡ ghost_of (state_behind self.now) }
+    {
+        room_queries::next_ghost(&self.parts, &self.script, self.journal.items())
+    }
+
+    /// The job to wait for before a declared buffer is used so.
+    pub fn need(&self, b: BufId, usage: Usage) -> Option<JobId>
+        requires { b.0 < length self.now.script.buffers }
+        ensures { result ≡ waited_for (state_behind self.now).core (jobs_before usage (buffer (state_behind self.now) b)) }
+    {
+        room_queries::need(&self.parts, &self.script, self.journal.items(), b, usage)
+    }
+
+    /// The number of the first ghost, which is reaped next.
+    pub fn first_ghost(&self) -> Option<u64>
+        ensures { result ≡ option_map (λ g. g.num) (slice_get (state_behind self.now).core.ghosts 0) }
+    {
+        room_queries::first_ghost(&self.parts, &self.script, self.journal.items())
+    }
+
+    /// The job that a ghost waits for, by its place in the order of making.
+    pub fn ghost_need(&self, at: usize) -> Option<JobId>
+        ensures { result ≡ option_and_then (λ g. waited_for (state_behind self.now).core g.jobs) (slice_get (state_behind self.now).core.ghosts at) }
+    {
+        room_queries::ghost_need(&self.parts, &self.script, self.journal.items(), at)
+    }
+
+    /// The job at the head of a context.
+    pub fn head(&self, ctx: u32) -> Option<JobId>
+        requires { ctx ≤ self.now.script.sizes.engines }
+        ensures { result ≡ option_map (λ j. j.id) (head_of (state_behind self.now) ctx) }
+    {
+        room_queries::head(&self.parts, &self.script, self.journal.items(), ctx)
+    }
+
+    /// The number of the head's next packet, if one is left.
+    pub fn head_packet(&self, ctx: u32) -> Option<u32>
+        requires { ctx ≤ self.now.script.sizes.engines }
+        ensures { result ≡ number_left (head_of (state_behind self.now) ctx) }
+    {
+        room_queries::head_packet(&self.parts, &self.script, self.journal.items(), ctx)
+    }
+
+    /// The job that the head of a context waits for.
+    pub fn head_need(&self, ctx: u32) -> Option<JobId>
+        requires { ctx ≤ self.now.script.sizes.engines }
+        ensures { result ≡ option_and_then (λ j. waited_for (state_behind self.now).core j.waits) (head_of (state_behind self.now) ctx) }
+    {
+        room_queries::head_need(&self.parts, &self.script, self.journal.items(), ctx)
+    }
+
+    /// The pages that a place has for a declared buffer, if it has some.
+    ///
+    /// # Errors
+    ///
+    /// Want of memory.
+    pub fn choice(&mut self, b: BufId, place: &Place) -> Result<Option<Spans>, NoMemory>
+        requires { b.0 < length self.old.script.buffers }
+        ensures choice { IfOk result (λ found. found ≡ choice_of self.old.script (state_behind self.old).core b place.now) }
+        ensures same { self.new ≡ self.old }
+    {
+        let entries = self.journal.items();
+        room_queries::choice(&mut self.parts, self.alloc, &self.script, entries, b, place)
+    }
+
+    /// The bytes of a live buffer, at most a page of them, from an offset on.
+    ///
+    /// # Errors
+    ///
+    /// Want of memory.
+    pub fn shown(&self, b: BufId, off: u32, len: u32) -> Result<Bytes, NoMemory>
+        requires live { IsThere (state_behind self.now) b }
+        requires short { len ≤ 4096 }
+        ensures { IfOk result (λ bytes. bytes ≡ bytes_of (world_behind self.now).stores (buffer (state_behind self.now) b) off len) }
+    {
+        let entries = self.journal.items();
+        room_queries::shown(&self.parts, self.alloc, &self.script, entries, b, off, len)
+    }
+
+    /// The bytes that the head's next packet shows: none of one that isn't a probe.
+    pub fn probe(&self, ctx: u32, out: &mut ProbeBytes)
+        requires { ctx ≤ self.now.script.sizes.engines }
+        ensures { out.new ≡ head_piece (world_behind self.now) ctx }
+    {
+        room_queries::probe(&self.parts, &self.script, self.journal.items(), ctx, out);
     }
 
     /// Makes an entry that is legal next.
