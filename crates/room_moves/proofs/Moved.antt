@@ -84,9 +84,10 @@ use Rattle.lemma_room_bytes.proofs.Entries.{move_in_tie, move_out_tie}
 use Rattle.lemma_room_bytes.proofs.Holders.{target_inside}
 use Rattle.room_steps.proofs.Lent.{lent_below, stands_at}
 use Rattle.room_steps.proofs.Steps.{held_still, step_as}
+use Rattle.room_binds.specs.Apertures.{AreBelow}
 use Rattle.room_moves.specs.Copies.{copies, standing}
 use Rattle.room_moves.specs.Lefts.{ghost_of, left_by_move}
-use Rattle.room_moves.specs.Mappings.{mapped_in, HasPages}
+use Rattle.room_moves.specs.Mappings.{mapped_in}
 use Rattle.room_moves.specs.Rooms.{CanCarry, CanLeave, with_fence_left}
 use Rattle.room_moves.proofs.Left.{IsMove, move_of, packets_are, packets_many, frames_unfenced}
 
@@ -220,9 +221,9 @@ module _ (script : Script) (journal : List Entry) (p : Parts) (entry : Entry) (t
         omega (arith, few, many)
 
     -- the aperture has the pages of a target in TT
-    pub move_has : mem ≡ Tt → HasPages p.stores.aper (pages_of (target_spans Tt (standing bo)))
+    pub move_has : mem ≡ Tt → AreBelow (pages_of (target_spans Tt (standing bo))) (length p.stores.aper)
     move_has e =
-        subst (λ (y : Buffer). HasPages p.stores.aper (pages_of (target_spans Tt y))) (sym lent_is)
+        subst (λ (y : Buffer). AreBelow (pages_of (target_spans Tt y)) (length p.stores.aper)) (sym lent_is)
         (λ k page at. subst (λ m. page < m) (sym held.ties.stores.aper_size) (target_inside script s.core (once_law script journal held.fits held.legal) page b x k move.live at))
 
   -- the move engine has a ring
