@@ -3,7 +3,7 @@ ghost use Rattle.ttm_base.specs.declared.Mem.TheVariants.{Tt as InTt};
 ghost use Rattle.journal_model.specs.State.{target_spans};
 ghost use Rattle.journal_model.specs.Places.{pages_of};
 ghost use Rattle.room_binds.specs.Apertures.{AreBelow};
-ghost use Rattle.room_moves.specs.Copies.{standing};
+ghost use Rattle.room_steps.specs.Lent.{as_buffer};
 ghost use Rattle.room_moves.specs.Mappings.{mapped_in};
 
 use aperture_table::Aperture;
@@ -13,8 +13,8 @@ use ttm_base::Mem;
 
 /// Maps the pages of a buffer's target, if that is in TT. The pages that it leaves stay mapped for its ghost.
 pub fn map_target(aper: &mut Aperture, bo: &Bo, mem: Mem)
-    requires { mem ≡ InTt → AreBelow (pages_of (target_spans InTt (standing bo.now))) (length aper.old) }
-    ensures { aper.new ≡ mapped_in mem aper.old (standing bo.now) }
+    requires { mem ≡ InTt → AreBelow (pages_of (target_spans InTt (as_buffer bo.now))) (length aper.old) }
+    ensures { aper.new ≡ mapped_in mem aper.old (as_buffer bo.now) }
 {
     let Mem::Tt = mem else {
         return;
