@@ -12,7 +12,7 @@ use room_ties::Parts;
 use ttm_base::{BufId, Mem, Owner};
 
 /// Places a buffer on the list of another memory type, if it is on one.
-fn relist(lru: &mut Lru, b: BufId, mem: Mem)
+pub fn relist(lru: &mut Lru, b: BufId, mem: Mem)
     ensures { lru.new ≡ relisted lru.old b mem }
 {
     if lru.is_listed(b) {

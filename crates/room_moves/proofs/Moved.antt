@@ -1,6 +1,6 @@
 -- All parts behind a move.
 use Rattle.std.proofs.Common.{◌≡◌, ◌≢◌, ℕ, suc, ◌+◌, ◌<◌, ◌≤◌, ◌^◌, Bool, true, false, List, [], ◌∷◌, ◌++◌, Option, Some, None, Ok, length, refl, sym, ◌∙◌, ap, ap₂, subst, arith}
-use Rattle.std.specs.Prelude.{option_map, option_to_list, replicate, slice_get, slice_set, unwrap_or, if◌then◌else◌}
+use Rattle.std.specs.Prelude.{option_map, option_to_list, replicate, slice_get, slice_set, unwrap_or}
 use Rattle.std.specs.Option.{ForSome}
 use Rattle.std.proofs.lemmas.List.{append-nil, length-replicate}
 use Rattle.ttm_base.specs.declared.Actor.TheVariants as actor
@@ -21,7 +21,7 @@ use Rattle.lru_bulk.specs.Members.{AreMembersListed}
 use Rattle.resource_core.specs.Resources.{Resources, holds}
 use Rattle.resource_core.specs.Vram as room
 use Rattle.bo_table.specs.declared.bo.Bo.{Bo}
-use Rattle.bo_table.specs.Seen.{Bos, IsBo, body_of, carried, with_changed, with_use}
+use Rattle.bo_table.specs.Seen.{Bos, IsBo, carried, with_changed, with_use}
 use Rattle.bo_table.proofs.TableLaws.{get_map}
 use Rattle.journal_model.specs.declared.script.Script.{Script}
 use Rattle.journal_model.specs.declared.state.State.{State}
@@ -82,23 +82,15 @@ use Rattle.lemma_room_legal.proofs.Entries.{next_tells, no_slots_in_tt}
 use Rattle.lemma_room_bytes.specs.Mapped.{HasStoresAfter}
 use Rattle.lemma_room_bytes.proofs.Entries.{move_in_tie, move_out_tie}
 use Rattle.lemma_room_bytes.proofs.Holders.{target_inside}
-use Rattle.room_steps.proofs.Lent.{lent_below, stands_at}
+use Rattle.room_steps.specs.Lent.{as_buffer}
+use Rattle.room_steps.proofs.Lent.{lent_below, lent_is, stands_at}
 use Rattle.room_steps.proofs.Steps.{held_still, step_as}
-use Rattle.room_moves.specs.Copies.{copies, standing}
+use Rattle.room_binds.specs.Apertures.{AreBelow}
+use Rattle.room_moves.specs.Copies.{copies}
 use Rattle.room_moves.specs.Lefts.{ghost_of, left_by_move}
-use Rattle.room_moves.specs.Mappings.{mapped_in, HasPages}
+use Rattle.room_moves.specs.Mappings.{mapped_in}
 use Rattle.room_moves.specs.Rooms.{CanCarry, CanLeave, with_fence_left}
 use Rattle.room_moves.proofs.Left.{IsMove, move_of, packets_are, packets_many, frames_unfenced}
-
--- ---- the buffer that is lent
-
--- what is lent of a live buffer is its body
-standing_is : (bo : Bo) (x : Buffer) → body_of bo ≡ Some x → standing bo ≡ x
-standing_is bo x h = by bo.alive h
-  where
-    by : (q : Bool) → (if q then Some (standing bo) else None) ≡ Some x → standing bo ≡ x
-    by true e = let it : standing bo ≡ x = cc in it
-    by false e = cc
 
 -- ---- sets
 
@@ -151,13 +143,8 @@ module _ (script : Script) (journal : List Entry) (p : Parts) (entry : Entry) (t
 
   module _ (bo : Bo) (lent : IsBo p.bos b bo) where
     -- it is that of the state, its fences apart
-    lent_is : standing bo ≡ unfenced x
-    lent_is =
-        let at : slice_get p.bos.buffers b.0 ≡ Some (Some (unfenced x)) =
-        ap (λ xs. slice_get xs b.0) held.ties.bos.buffers_are ∙ get_map (option_map unfenced) s.core.buffers b.0 ∙ ap (option_map (option_map unfenced)) (stands_at s.core.buffers b x move.live) in
-        let both : Some (body_of bo) ≡ Some (Some (unfenced x)) = sym lent.body ∙ at in
-        let body : body_of bo ≡ Some (unfenced x) = cc in
-        standing_is bo (unfenced x) body
+    lent_here : as_buffer bo ≡ unfenced x
+    lent_here = lent_is script journal p held b move.live bo lent
 
     -- with the set that the table keeps
     set_is : bo.resv.fences ≡ set_at p.bos.fences b
@@ -179,7 +166,7 @@ module _ (script : Script) (journal : List Entry) (p : Parts) (entry : Entry) (t
 
     -- and comes from there
     pub move_from : bo.mem ≢ System
-    move_from e = move.from (sym (ap (λ (y : Buffer). y.mem) lent_is) ∙ e)
+    move_from e = move.from (sym (ap (λ (y : Buffer). y.mem) lent_here) ∙ e)
 
     module _ (contexts : ℕ) (many : contexts ≡ length p.line) where
       -- the timeline has the state's contexts
@@ -199,8 +186,8 @@ module _ (script : Script) (journal : List Entry) (p : Parts) (entry : Entry) (t
       waits_are waits e = e ∙ ap₂ (λ m set. all_added Read (replicate m nothing_kept) set) contexts_are set_is
 
       -- what is left is what the state's buffer leaves
-      ghost_is : (ghost : Option Ghost) → ghost ≡ left_by_move contexts (standing bo) (move_id n) l → ghost ≡ left_by_move (length s.last_jobs) (unfenced x) (move_id n) l
-      ghost_is ghost e = e ∙ ap₂ (λ m y. left_by_move m y (move_id n) l) contexts_are lent_is
+      ghost_is : (ghost : Option Ghost) → ghost ≡ left_by_move contexts (as_buffer bo) (move_id n) l → ghost ≡ left_by_move (length s.last_jobs) (unfenced x) (move_id n) l
+      ghost_is ghost e = e ∙ ap₂ (λ m y. left_by_move m y (move_id n) l) contexts_are lent_here
 
       -- the job's set has all contexts
       pub move_waits : (waits : List Latest) → waits ≡ all_added Read (replicate contexts nothing_kept) bo.resv.fences → length waits ≡ length p.rings
@@ -209,20 +196,20 @@ module _ (script : Script) (journal : List Entry) (p : Parts) (entry : Entry) (t
           ap length e ∙ wide ∙ contexts_are ∙ sym held.ties.rings.contexts
 
     -- its packets are those of the definition
-    packets_same : (packets : List Packet) → packets ≡ copies (length bo.table) mem (target_spans mem (standing bo)) bo.mem bo.spans → packets ≡ move_packets x mem
-    packets_same packets e = e ∙ ap (λ (y : Buffer). copies (length y.table) mem (target_spans mem y) y.mem y.spans) lent_is ∙ packets_are x mem move.from
+    packets_same : (packets : List Packet) → packets ≡ copies (length bo.table) mem (target_spans mem (as_buffer bo)) bo.mem bo.spans → packets ≡ move_packets x mem
+    packets_same packets e = e ∙ ap (λ (y : Buffer). copies (length y.table) mem (target_spans mem y) y.mem y.spans) lent_here ∙ packets_are x mem move.from
 
     -- they can be counted
-    pub move_few : (packets : List Packet) → packets ≡ copies (length bo.table) mem (target_spans mem (standing bo)) bo.mem bo.spans → length packets < 2 ^ 32
+    pub move_few : (packets : List Packet) → packets ≡ copies (length bo.table) mem (target_spans mem (as_buffer bo)) bo.mem bo.spans → length packets < 2 ^ 32
     move_few packets e =
         let few = (table_pages script (rules_of script held.fits) s (good_law script held.fits journal held.legal) b x move.live).1 in
         let many = ap length (packets_same packets e) ∙ packets_many x mem in
         omega (arith, few, many)
 
     -- the aperture has the pages of a target in TT
-    pub move_has : mem ≡ Tt → HasPages p.stores.aper (pages_of (target_spans Tt (standing bo)))
+    pub move_has : mem ≡ Tt → AreBelow (pages_of (target_spans Tt (as_buffer bo))) (length p.stores.aper)
     move_has e =
-        subst (λ (y : Buffer). HasPages p.stores.aper (pages_of (target_spans Tt y))) (sym lent_is)
+        subst (λ (y : Buffer). AreBelow (pages_of (target_spans Tt y)) (length p.stores.aper)) (sym lent_here)
         (λ k page at. subst (λ m. page < m) (sym held.ties.stores.aper_size) (target_inside script s.core (once_law script journal held.fits held.legal) page b x k move.live at))
 
   -- the move engine has a ring
@@ -401,17 +388,17 @@ module _ (script : Script) (journal : List Entry) (p : Parts) (entry : Entry) (t
   mapped_unfenced System = refl
 
   -- all parts tell the state and the bytes behind the move
-  pub move_held : (bo : Bo) → IsBo p.bos b bo → (contexts : ℕ) → contexts ≡ length p.line → (packets : List Packet) → packets ≡ copies (length bo.table) mem (target_spans mem (standing bo)) bo.mem bo.spans →
-      (waits : List Latest) → waits ≡ all_added Read (replicate contexts nothing_kept) bo.resv.fences → (ghost : Option Ghost) → ghost ≡ left_by_move contexts (standing bo) (move_id n) l →
+  pub move_held : (bo : Bo) → IsBo p.bos b bo → (contexts : ℕ) → contexts ≡ length p.line → (packets : List Packet) → packets ≡ copies (length bo.table) mem (target_spans mem (as_buffer bo)) bo.mem bo.spans →
+      (waits : List Latest) → waits ≡ all_added Read (replicate contexts nothing_kept) bo.resv.fences → (ghost : Option Ghost) → ghost ≡ left_by_move contexts (as_buffer bo) (move_id n) l →
       (rings : List (List Pushed)) → rings ≡ with_pushed p.rings (record { job = move_id n; waits = waits; packets = packets; ran = 0 }) → (ghosts : List Ghost) → ghosts ≡ p.ghosts ++ option_to_list ghost →
-      (aper : List (Option ℕ)) → aper ≡ mapped_in mem p.stores.aper (standing bo) → (line : List Progress) → line ≡ with_emitted p.line 0 →
+      (aper : List (Option ℕ)) → aper ≡ mapped_in mem p.stores.aper (as_buffer bo) → (line : List Progress) → line ≡ with_emitted p.line 0 →
       (carry v : room.Vram) → carry.resources ≡ calls.carried Vram mem b l p.vram.resources → room.spans_of_kind carry.kind ≡ room.spans_of_kind p.vram.kind → v.resources ≡ with_fence_left (move_id n) l carry.resources →
       room.spans_of_kind v.kind ≡ room.spans_of_kind carry.kind → (r : Resources) → r ≡ calls.carried Tt mem b l p.tt → (mid bos : Bos) → mid ≡ with_changed (carried mem) p.bos b → bos ≡ with_use (move_id n) Kernel mid b →
       (o : Order) → o ≡ relisted p.lru b mem → AreMembersListed p.lru → (last : ℕ) → last ≡ last_ghost_left l p.last_ghost →
       AreHeld script (journal ++ entry ∷ []) (record p { rings = rings; ghosts = ghosts; stores = record p.stores { aper = aper }; line = line; vram = v; tt = r; bos = bos; lru = o; last_ghost = last })
   move_held bo lent contexts many packets pe waits we ghost ge rings re ghosts gse aper ae line le carry v ce rule ve rule_then r rne mid bos me be o oe members last lge =
       let same = within_same script.sizes (stores_of script journal) held.ties.no_more in
-      let mapped : aper ≡ mapped_in mem p.stores.aper x = ae ∙ ap (mapped_in mem p.stores.aper) (lent_is bo lent) ∙ mapped_unfenced mem in
+      let mapped : aper ≡ mapped_in mem p.stores.aper x = ae ∙ ap (mapped_in mem p.stores.aper) (lent_here bo lent) ∙ mapped_unfenced mem in
       held_still script journal p (record p { rings = rings; ghosts = ghosts; stores = record p.stores { aper = aper }; line = line; vram = v; tt = r; bos = bos; lru = o; last_ghost = last }) entry
       (record { who = actor.Thread t; kind = kind.Move b mem n l }) held is legal refl
       (record {

@@ -1,6 +1,6 @@
 -- Walks over the pages of two places, side by side.
 use Rattle.std.proofs.Common.{◌≡◌, ℕ, ◌+◌, zero, suc, List, [], ◌∷◌, ◌++◌, drop, refl, sym, ◌∙◌, ap, ap₂, arith}
-use Rattle.std.specs.Prelude.{Option, map, slice_get, unwrap_or}
+use Rattle.std.specs.Prelude.{map, slice_get, unwrap_or}
 use Rattle.ttm_base.specs.declared.Mem.{Mem}
 use Rattle.ttm_base.specs.declared.Mem.TheVariants.{System, Tt, Vram}
 use Rattle.ttm_base.specs.declared.Span.{Span}
@@ -9,11 +9,10 @@ use Rattle.ttm_base.specs.ListWords.{count_from}
 use Rattle.place_list.specs.SpanPages.{pages_of}
 use Rattle.journal_model.specs.ApplyMoves.{copy_of_page}
 use Rattle.journal_model.specs.Places.{name_in_spans}
-use Rattle.lemma_room_bytes.specs.Mapped.{mapped_to}
 use Rattle.room_moves.specs.Copies.{copies, named}
 
 -- the first that is left is the next
-pub left_first : (xs : List ℕ) (i : ℕ) → slice_get (drop i xs) 0 ≡ slice_get xs i
+left_first : (xs : List ℕ) (i : ℕ) → slice_get (drop i xs) 0 ≡ slice_get xs i
 left_first [] zero = refl
 left_first [] (suc i) = refl
 left_first (x ∷ xs) zero = refl
@@ -53,8 +52,3 @@ copies_more n to targets from sources =
 pub pushed_more : (n : ℕ) (to : Mem) (targets : List Span) (from : Mem) (sources : List Span) (packets pushed : List Packet) (packet : Packet) → packets ≡ copies n to targets from sources →
     packet ≡ copy_of_page (name_in_spans to targets n) (name_in_spans from sources n) → pushed ≡ packets ++ packet ∷ [] → pushed ≡ copies (n + 1) to targets from sources
 pushed_more n to targets from sources packets pushed packet old is e = e ∙ ap₂ (λ l p. l ++ p ∷ []) old is ∙ copies_more n to targets from sources
-
--- no page is mapped where no place is left
-pub no_places : (aper : List (Option ℕ)) (pages : List ℕ) → mapped_to aper pages [] ≡ aper
-no_places aper [] = refl
-no_places aper (p ∷ pages) = refl

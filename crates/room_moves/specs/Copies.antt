@@ -1,5 +1,5 @@
 -- The packets of a move between VRAM and TT, as walks over spans.
-use Rattle.std.specs.Prelude.{ℕ, List, [], map}
+use Rattle.std.specs.Prelude.{ℕ, List, map}
 use Rattle.ttm_base.specs.declared.Mem.{Mem}
 use Rattle.ttm_base.specs.declared.Mem.TheVariants.{System, Tt, Vram}
 use Rattle.ttm_base.specs.declared.Packet.{Packet}
@@ -7,14 +7,8 @@ use Rattle.ttm_base.specs.declared.PagePlace.{PagePlace}
 use Rattle.ttm_base.specs.declared.PagePlace.TheVariants as place
 use Rattle.ttm_base.specs.declared.Span.{Span}
 use Rattle.ttm_base.specs.ListWords.{count_from}
-use Rattle.journal_model.specs.declared.state.Buffer.{Buffer}
 use Rattle.journal_model.specs.ApplyMoves.{copy_of_page}
 use Rattle.journal_model.specs.Places.{name_in_spans}
-use Rattle.bo_table.specs.declared.bo.Bo.{Bo}
-
--- the buffer that is lent, its fences apart
-abbrev pub standing : Bo → Buffer
-standing bo = record { mem = bo.mem; spans = bo.spans; table = bo.table; targets = bo.targets; fences = [] }
 
 -- how packets name a page of a memory type
 abbrev pub named : Mem → ℕ → PagePlace

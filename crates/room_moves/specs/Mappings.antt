@@ -1,15 +1,11 @@
 -- The aperture where a buffer moves into TT.
-use Rattle.std.specs.Prelude.{◌≡◌, ℕ, ◌<◌, List, Option, Some, length, slice_get}
+use Rattle.std.specs.Prelude.{ℕ, List, Option}
 use Rattle.ttm_base.specs.declared.Mem.{Mem}
 use Rattle.ttm_base.specs.declared.Mem.TheVariants.{System, Tt, Vram}
 use Rattle.journal_model.specs.declared.state.Buffer.{Buffer}
 use Rattle.journal_model.specs.State.{target_spans}
 use Rattle.journal_model.specs.Places.{pages_of}
 use Rattle.lemma_room_bytes.specs.Mapped.{mapped_to}
-
--- an aperture has these pages
-abbrev pub HasPages : List (Option ℕ) → List ℕ → Type 0
-HasPages aper pages = (k p : ℕ) → slice_get pages k ≡ Some p → p < length aper
 
 -- the pages of a target in TT are mapped to the buffer's frames
 abbrev pub mapped_in : Mem → List (Option ℕ) → Buffer → List (Option ℕ)

@@ -1,24 +1,22 @@
 ghost use Rattle.std.specs.Prelude.{◌≡◌, ◌<◌, IfOk, replicate};
-ghost use Rattle.std.specs.List.{filter_map};
 ghost use Rattle.ttm_base.specs.declared.Usage.TheVariants as usage;
 ghost use Rattle.fence_core.specs.Fences.{added, nothing_kept};
-ghost use Rattle.journal_model.specs.Places as places;
 ghost use Rattle.journal_model.specs.Holds as holds;
 ghost use Rattle.journal_model.specs.ApplyMoves as words;
-ghost use Rattle.room_moves.specs.Copies.{standing};
+ghost use Rattle.room_steps.specs.Lent.{as_buffer};
 ghost use Rattle.room_moves.specs.Lefts.{left_by_move};
 
 use bo_table::Bo;
 use fence_core::FenceSet;
 use journal_model::{Frames, Left};
+use room_binds::frames_in;
 use room_ties::Ghost;
-use rules_state::frame_of;
 use std::alloc::Global;
-use ttm_base::{JobId, Loc, Mem, NoMemory, Spans, Usage};
+use ttm_base::{JobId, Mem, NoMemory, Spans, Usage};
 
 /// The pages that a buffer has in a memory type, copied.
 fn spans_in(alloc: Global, bo: &Bo, mem: Mem) -> Result<Spans, NoMemory>
-    ensures { IfOk result (λ spans. spans ≡ holds.spans_in mem (standing bo.now)) }
+    ensures { IfOk result (λ spans. spans ≡ holds.spans_in mem (as_buffer bo.now)) }
 {
     if bo.mem == mem {
         bo.spans.copy()
@@ -27,22 +25,9 @@ fn spans_in(alloc: Global, bo: &Bo, mem: Mem) -> Result<Spans, NoMemory>
     }
 }
 
-/// The frames in places of pages, in order.
-fn frames_in(alloc: Global, table: &[Loc]) -> Result<Frames, NoMemory>
-    ensures { IfOk result (λ frames. frames ≡ filter_map places.frame_of table.now) }
-{
-    let mut frames = Frames::new(alloc);
-    for place in table {
-        if let Some(frame) = frame_of(*place) {
-            frames.push(frame)?;
-        }
-    }
-    Ok(frames)
-}
-
 /// The frames that a buffer leaves when it moves: its own, where it stands in TT.
 fn frames_left(alloc: Global, bo: &Bo) -> Result<Frames, NoMemory>
-    ensures { IfOk result (λ frames. frames ≡ words.frames_left bo.now.mem (standing bo.now)) }
+    ensures { IfOk result (λ frames. frames ≡ words.frames_left bo.now.mem (as_buffer bo.now)) }
 {
     match bo.mem {
         Mem::Tt => frames_in(alloc, bo.table.places()),
@@ -71,7 +56,7 @@ pub fn ghost_left(
 ) -> Result<Option<Ghost>, NoMemory>
     requires known { job.ctx < contexts }
     requires num { 0 < job.num }
-    ensures { IfOk result (λ object. object ≡ left_by_move contexts (standing bo.now) job left) }
+    ensures { IfOk result (λ object. object ≡ left_by_move contexts (as_buffer bo.now) job left) }
 {
     let num = match left {
         Left::Now => return Ok(None),

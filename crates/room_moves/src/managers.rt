@@ -2,33 +2,13 @@ ghost use Rattle.std.specs.Prelude.{◌≡◌, false};
 ghost use Rattle.ttm_base.specs.declared.Owner.TheVariants as owner;
 ghost use Rattle.resource_core.specs.Resources.{holds};
 ghost use Rattle.resource_core.specs.Vram.{spans_of_kind};
-ghost use Rattle.lemma_room_spans.specs.Calls.{arrived, carried, given, left_by, passed_on};
+ghost use Rattle.lemma_room_spans.specs.Calls.{arrived, carried, left_by};
 ghost use Rattle.room_moves.specs.Rooms.{CanCarry, CanLeave, with_fence_left};
 
 use journal_model::Left;
 use resource_core::{Manager, VramRoom};
+use room_binds::{give_back, pass_on};
 use ttm_base::{BufId, JobId, Mem, Owner};
-
-/// Makes the spans of one owner those of another, if it holds some.
-fn pass_on<M: Manager>(room: &mut M, from: Owner, to: Owner)
-    requires { holds to (M.resources room.old).held ≡ false }
-    ensures held { M.resources room.new ≡ passed_on from to (M.resources room.old) }
-    ensures rule { M.choice room.new ≡ M.choice room.old }
-{
-    if room.holds(from) {
-        room.pass(from, to);
-    }
-}
-
-/// Frees the spans of an owner, if it holds some.
-fn give_back<M: Manager>(room: &mut M, owner: Owner)
-    ensures held { M.resources room.new ≡ given owner (M.resources room.old) }
-    ensures rule { M.choice room.new ≡ M.choice room.old }
-{
-    if room.holds(owner) {
-        room.give(owner);
-    }
-}
 
 /// The spans of a buffer are free, or a ghost's.
 fn leave<M: Manager>(room: &mut M, b: BufId, left: Left)

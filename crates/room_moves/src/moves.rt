@@ -1,5 +1,4 @@
 ghost use Rattle.std.specs.Prelude.{◌≡◌, ◌∷◌, ◌++◌, [], OnOk, OnErr};
-ghost use Rattle.lru_bulk.specs.Lists.{relisted};
 ghost use Rattle.ttm_base.specs.declared.Actor.TheVariants as actor;
 ghost use Rattle.journal_model.specs.declared.entry.Kind.TheVariants as kind;
 ghost use Rattle.journal_model.specs.ApplyMoves.{last_ghost_left};
@@ -12,22 +11,13 @@ use crate::mappings::map_target;
 use crate::packets::move_packets;
 use crate::starts::{start_job, waits_of};
 use journal_model::{Entry, Left, Script};
-use lru_bulk::Lru;
+use room_binds::relist;
 use room_ties::Parts;
 use std::alloc::Global;
 use ttm_base::{BufId, JobId, Mem, NoMemory, Usage};
 
 /// The context of the move engine.
 const MOVES: u32 = 0;
-
-/// Places a buffer on the list of another memory type, if it is on one.
-fn relist(lru: &mut Lru, b: BufId, mem: Mem)
-    ensures { lru.new ≡ relisted lru.old b mem }
-{
-    if lru.is_listed(b) {
-        lru.relist(b, mem);
-    }
-}
 
 /// The last ghost's number.
 fn last_ghost(left: Left, before: u64) -> u64

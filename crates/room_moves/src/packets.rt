@@ -2,7 +2,8 @@ ghost use Rattle.std.specs.Prelude.{◌≡◌, ◌≢◌, IfOk, drop, length, sl
 ghost use Rattle.ttm_base.specs.declared.Mem.TheVariants.{System as InSystem};
 ghost use Rattle.journal_model.specs.ApplyMoves as words;
 ghost use Rattle.journal_model.specs.State as model;
-ghost use Rattle.room_moves.specs.Copies.{copies, named, standing};
+ghost use Rattle.room_steps.specs.Lent.{as_buffer};
+ghost use Rattle.room_moves.specs.Copies.{copies, named};
 
 use bo_table::Bo;
 use place_list::PageCursor;
@@ -73,7 +74,7 @@ fn copy_pages(
 
 /// The spans of a buffer's target in a memory type.
 fn target_spans(bo: &Bo, mem: Mem) -> &[Span]
-    ensures { result.now ≡ model.target_spans mem (standing bo.now) }
+    ensures { result.now ≡ model.target_spans mem (as_buffer bo.now) }
 {
     let target = match mem {
         Mem::System => &bo.targets.system,
@@ -90,7 +91,7 @@ fn target_spans(bo: &Bo, mem: Mem) -> &[Span]
 pub fn move_packets(alloc: Global, bo: &Bo, mem: Mem) -> Result<Vec<Packet>, NoMemory>
     requires to { mem ≢ InSystem }
     requires from { bo.now.mem ≢ InSystem }
-    ensures { IfOk result (λ packets. packets.items ≡ copies (length bo.now.table) mem (model.target_spans mem (standing bo.now)) bo.now.mem bo.now.spans) }
+    ensures { IfOk result (λ packets. packets.items ≡ copies (length bo.now.table) mem (model.target_spans mem (as_buffer bo.now)) bo.now.mem bo.now.spans) }
 {
     let pages = bo.table.places().len();
     copy_pages(
