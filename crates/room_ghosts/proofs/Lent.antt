@@ -1,6 +1,6 @@
 -- What a live buffer that the table lends has, and the ghost that it leaves.
-use Rattle.std.proofs.Common.{◌≡◌, ℕ, Bool, true, false, List, [], ◌∷◌, Some, length, refl, sym, ◌∙◌, ap, ap₂, None}
-use Rattle.std.specs.Prelude.{filter_map, option_map, replicate, slice_get, unwrap_or, if◌then◌else◌}
+use Rattle.std.proofs.Common.{◌≡◌, ℕ, List, [], ◌∷◌, Some, length, refl, sym, ◌∙◌, ap, ap₂}
+use Rattle.std.specs.Prelude.{filter_map, replicate, unwrap_or}
 use Rattle.ttm_base.specs.declared.BufId.{BufId}
 use Rattle.ttm_base.specs.declared.Mem.{Mem}
 use Rattle.ttm_base.specs.declared.Mem.TheVariants.{Tt, Vram}
@@ -9,8 +9,7 @@ use Rattle.ttm_base.specs.declared.Usage.TheVariants.{Read}
 use Rattle.fence_core.specs.Fences.{nothing_kept, all_added}
 use Rattle.resource_core.specs.Resources.{some_spans}
 use Rattle.bo_table.specs.declared.bo.Bo.{Bo}
-use Rattle.bo_table.specs.Seen.{IsBo, body_of}
-use Rattle.bo_table.proofs.TableLaws.{get_map}
+use Rattle.bo_table.specs.Seen.{IsBo}
 use Rattle.journal_model.specs.declared.script.Script.{Script}
 use Rattle.journal_model.specs.declared.state.Buffer.{Buffer}
 use Rattle.journal_model.specs.declared.entry.Entry.{Entry}
@@ -24,11 +23,10 @@ use Rattle.lemma_room_sets.proofs.Needs.{set_is}
 use Rattle.lemma_room_sets.proofs.Sets.{set_length}
 use Rattle.lemma_room_jobs.proofs.BufferSets.{empty_set, freed_ghost}
 use Rattle.room_ties.specs.declared.parts.Parts.{Parts}
-use Rattle.room_ties.specs.Bos.{unfenced}
 use Rattle.room_ties.specs.Fences.{fences_of, set_at}
 use Rattle.room_ties.specs.Ghosts.{IsGhost}
 use Rattle.room_ties.specs.Held.{AreHeld}
-use Rattle.room_steps.proofs.Lent.{stands_at}
+use Rattle.room_steps.proofs.Lent.{lent_is, lent_table, stands_at}
 use Rattle.room_ghosts.specs.Leaving.{all_jobs, ghost_of, spans_if}
 
 -- spans that a manager keeps where there are some
@@ -36,40 +34,13 @@ pub kept_spans : (spans : List Span) → unwrap_or (some_spans spans) [] ≡ spa
 kept_spans [] = refl
 kept_spans (s ∷ spans) = refl
 
--- a lent buffer has what a buffer has
-pub record HasBody (bo : Bo) (x : Buffer) : Type 0 where
-  pub mem : bo.mem ≡ x.mem
-  pub spans : bo.spans ≡ x.spans
-  pub table : bo.table ≡ x.table
-
--- so where it is seen as one
-body_parts : (bo : Bo) (x : Buffer) → body_of bo ≡ Some x → HasBody bo x
-body_parts bo x h = by bo.alive h
-  where
-    by : (q : Bool) → (if q then Some (record { mem = bo.mem; spans = bo.spans; table = bo.table; targets = bo.targets; fences = [] }) else None) ≡ Some x → HasBody bo x
-    by true e =
-        let it : record { mem = bo.mem; spans = bo.spans; table = bo.table; targets = bo.targets; fences = [] } ≡ x = cc in
-        record { mem = ap (λ (y : Buffer). y.mem) it; spans = ap (λ (y : Buffer). y.spans) it; table = ap (λ (y : Buffer). y.table) it }
-    by false e = cc
-
 module _ (script : Script) (journal : List Entry) (p : Parts) (held : AreHeld script journal p) (b : BufId) (live : IsThere (state_of script journal) b) (bo : Bo) (lent : IsBo p.bos b bo) where
   abbrev x : Buffer
   x = buffer (state_of script journal) b
 
-  -- it has what the state says
-  pub lent_body : HasBody bo x
-  lent_body =
-      let at : slice_get p.bos.buffers b.0 ≡ Some (Some (unfenced x)) =
-      ap (λ xs. slice_get xs b.0) held.ties.bos.buffers_are ∙ get_map (option_map unfenced) (state_of script journal).core.buffers b.0
-      ∙ ap (option_map (option_map unfenced)) (stands_at (state_of script journal).core.buffers b x live) in
-      let both : Some (body_of bo) ≡ Some (Some (unfenced x)) = sym lent.body ∙ at in
-      let body : body_of bo ≡ Some (unfenced x) = cc in
-      let parts = body_parts bo (unfenced x) body in
-      record { mem = parts.mem; spans = parts.spans; table = parts.table }
-
   -- its spans in a memory type
   pub lent_spans : (mine : Mem) → spans_if bo.mem mine bo.spans ≡ spans_in mine x
-  lent_spans mine = ap₂ (λ m ss. spans_if m mine ss) lent_body.mem lent_body.spans
+  lent_spans mine = ap (λ (y : Buffer). spans_if y.mem mine y.spans) (lent_is script journal p held b live bo lent)
 
   -- its jobs are those of its place in the table
   set_now : bo.resv.fences ≡ set_at p.bos.fences b
@@ -88,4 +59,4 @@ module _ (script : Script) (journal : List Entry) (p : Parts) (held : AreHeld sc
   -- its ghost is the state's
   pub lent_ghost : (g : ℕ) → IsGhost (state_of script journal).core.jobs (state_of script journal).last_jobs (ghost_of_freed (state_of script journal).core x g) (ghost_of bo g)
   lent_ghost g =
-      freed_ghost (state_of script journal) p.bos.fences held.ties.bos.fences_are b x live g (ghost_of bo g) refl (lent_spans Vram) (lent_spans Tt) (ap (filter_map frame_of) lent_body.table) jobs_now
+      freed_ghost (state_of script journal) p.bos.fences held.ties.bos.fences_are b x live g (ghost_of bo g) refl (lent_spans Vram) (lent_spans Tt) (ap (filter_map frame_of) (lent_table script journal p held b live bo lent)) jobs_now

@@ -7,11 +7,10 @@ ghost use Rattle.room_ghosts.specs.Leaving.{off_list};
 
 use crate::courses::has_freed;
 use crate::leaving::ghost_of;
-use crate::owners::{give_vram, pass_tt, pass_vram};
 use crate::pages::drop_slots;
 use journal_model::{Entry, Script};
 use lru_bulk::Lru;
-use room_binds::give_mapped;
+use room_binds::{give_back, give_mapped, pass_on};
 use room_pages::give_frames;
 use room_ties::Parts;
 use std::alloc::Global;
@@ -42,7 +41,7 @@ fn free_idle(
 {
     parts.lru.members_stand_once();
     let bo = parts.bos.get(b);
-    give_vram(&mut parts.vram, Owner::Live(b));
+    give_back(&mut parts.vram, Owner::Live(b));
     give_mapped(&mut parts.stores.aper, &mut parts.tt, Owner::Live(b));
     give_frames(&mut parts.pool, bo.table.places());
     drop_slots(&mut parts.swap, bo.table.places());
@@ -73,8 +72,8 @@ fn free_busy(
     let bo = parts.bos.get(b);
     let left = ghost_of(alloc, bo, g)?;
     parts.ghosts.push(left)?;
-    pass_vram(&mut parts.vram, Owner::Live(b), Owner::Ghost(g));
-    pass_tt(&mut parts.tt, Owner::Live(b), Owner::Ghost(g));
+    pass_on(&mut parts.vram, Owner::Live(b), Owner::Ghost(g));
+    pass_on(&mut parts.tt, Owner::Live(b), Owner::Ghost(g));
     drop_slots(&mut parts.swap, bo.table.places());
     parts.bos.kill(b);
     take_off(&mut parts.lru, b);

@@ -1,27 +1,12 @@
-ghost use Rattle.std.specs.Prelude.{◌≡◌, IfOk, filter_map};
-ghost use Rattle.journal_model.specs.Places as words;
+ghost use Rattle.std.specs.Prelude.{◌≡◌, IfOk};
 ghost use Rattle.room_ghosts.specs.Leaving.{spans_if, all_jobs, ghost_of as left_by};
 
 use bo_table::Bo;
 use fence_core::FenceSet;
-use journal_model::Frames;
+use room_binds::frames_in;
 use room_ties::Ghost;
-use rules_state::frame_of;
 use std::alloc::Global;
-use ttm_base::{Loc, Mem, NoMemory, Spans, Usage};
-
-/// The frames of a page table, page by page.
-fn frames_in(alloc: Global, places: &[Loc]) -> Result<Frames, NoMemory>
-    ensures { IfOk result (λ frames. frames ≡ filter_map words.frame_of places.now) }
-{
-    let mut frames = Frames::new(alloc);
-    for place in places {
-        if let Some(frame) = frame_of(*place) {
-            frames.push(frame)?;
-        }
-    }
-    Ok(frames)
-}
+use ttm_base::{Mem, NoMemory, Spans, Usage};
 
 /// A copy of spans in a memory type, none where it isn't the one that is asked for.
 fn spans_in(alloc: Global, mem: Mem, mine: Mem, spans: &Spans) -> Result<Spans, NoMemory>

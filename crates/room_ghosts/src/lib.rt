@@ -4,7 +4,6 @@
 mod courses;
 mod frees;
 mod leaving;
-mod owners;
 mod pages;
 mod reaps;
 

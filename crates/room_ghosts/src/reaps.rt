@@ -4,10 +4,9 @@ ghost use Rattle.journal_model.specs.declared.entry.Kind.TheVariants as kind;
 ghost use Rattle.journal_model.specs.Legal.{IsLegalNext, world_of};
 ghost use Rattle.room_ties.specs.Held.{AreHeld};
 
-use crate::owners::give_vram;
 use crate::pages::give_all;
 use journal_model::{Entry, Script};
-use room_binds::give_mapped;
+use room_binds::{give_back, give_mapped};
 use room_ties::Parts;
 use ttm_base::Owner;
 
@@ -19,7 +18,7 @@ pub fn reap(parts: &mut Parts, script: &Script, before: &[Entry], entry: &Entry,
     ensures { AreHeld script.now (before.now ++ entry.now ∷ []) parts.new }
 {
     let left = parts.ghosts.remove(0);
-    give_vram(&mut parts.vram, Owner::Ghost(g));
+    give_back(&mut parts.vram, Owner::Ghost(g));
     give_mapped(&mut parts.stores.aper, &mut parts.tt, Owner::Ghost(g));
     give_all(&mut parts.pool, left.frames.items());
 }

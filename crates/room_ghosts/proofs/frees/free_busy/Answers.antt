@@ -8,11 +8,11 @@ use Rattle.room_ghosts.proofs.frees.free_busy.Goals as goal
 pub get-bo-requires : goal.get-bo-requires
 get-bo-requires c = free_below c.args.script.now c.args.before.now c.args.parts.now c.args.entry.now c.args.thread c.args.b c.args.g c.requires.held c.requires.is c.requires.next
 
-pub pass_vram-requires : goal.pass_vram-requires
-pass_vram-requires c = busy_vram c.args.script.now c.args.before.now c.args.parts.now c.args.entry.now c.args.thread c.args.b c.args.g c.requires.held c.requires.is c.requires.next c.requires.some
+pub pass_on-requires : goal.pass_on-requires
+pass_on-requires c = busy_vram c.args.script.now c.args.before.now c.args.parts.now c.args.entry.now c.args.thread c.args.b c.args.g c.requires.held c.requires.is c.requires.next c.requires.some
 
-pub pass_tt-requires : goal.pass_tt-requires
-pass_tt-requires c = busy_tt c.args.script.now c.args.before.now c.args.parts.now c.args.entry.now c.args.thread c.args.b c.args.g c.requires.held c.requires.is c.requires.next c.requires.some
+pub pass_on-requires-2 : goal.pass_on-requires-2
+pass_on-requires-2 c = busy_tt c.args.script.now c.args.before.now c.args.parts.now c.args.entry.now c.args.thread c.args.b c.args.g c.requires.held c.requires.is c.requires.next c.requires.some
 
 pub drop_slots-requires : goal.drop_slots-requires
 drop_slots-requires c = subst (AreHeldAlong slot_of c.args.parts.now.swap.held) (sym c.places.ensures) (free_held_slots c.args.script.now c.args.before.now c.args.parts.now c.args.entry.now c.args.thread c.args.b c.args.g c.requires.held c.requires.is c.requires.next _ c.get-bo.ensures)
@@ -22,6 +22,6 @@ has_freed-requires c = free_there c.args.script.now c.args.before.now c.args.par
 
 pub returns-clause-ok : goal.returns-clause-ok
 returns-clause-ok c =
-    busy_held c.args.script.now c.args.before.now c.args.parts.now c.args.entry.now c.args.thread c.args.b c.args.g c.requires.held c.requires.is c.requires.next c.requires.some _ c.get-bo.ensures c.push.new.self c.pass_vram.new.room c.pass_tt.new.room c.drop_slots.new.swap c.kill.new.self c.take_off.new.lru c.has_freed.new.courses
-    (c.in_ok-push.ensures.ok ∙ ap (λ left. c.args.parts.now.ghosts ++ left ∷ []) c.in_ok-left.ensures) c.pass_vram.ensures.held c.pass_vram.ensures.rule c.pass_tt.ensures (c.drop_slots.ensures ∙ ap (dropped c.args.parts.now.swap) c.places.ensures)
+    busy_held c.args.script.now c.args.before.now c.args.parts.now c.args.entry.now c.args.thread c.args.b c.args.g c.requires.held c.requires.is c.requires.next c.requires.some _ c.get-bo.ensures c.push.new.self c.pass_on.new.room c.pass_on-2.new.room c.drop_slots.new.swap c.kill.new.self c.take_off.new.lru c.has_freed.new.courses
+    (c.in_ok-push.ensures.ok ∙ ap (λ left. c.args.parts.now.ghosts ++ left ∷ []) c.in_ok-left.ensures) c.pass_on.ensures.held c.pass_on.ensures.rule c.pass_on-2.ensures.held (c.drop_slots.ensures ∙ ap (dropped c.args.parts.now.swap) c.places.ensures)
     c.kill.ensures c.take_off.ensures c.members_stand_once.ensures.listed c.has_freed.ensures

@@ -25,6 +25,6 @@ has_freed-requires c = free_there c.args.script.now c.args.before.now c.args.par
 
 pub returns : goal.returns
 returns c =
-    idle_held c.args.script.now c.args.before.now c.args.parts.now c.args.entry.now c.args.thread c.args.b c.requires.held c.requires.is c.requires.next _ c.get-bo.ensures c.give_vram.new.room c.give_mapped.new.tt c.give_mapped.new.aper c.give_frames.new.pool c.drop_slots.new.swap c.kill.new.self c.take_off.new.lru
-    c.has_freed.new.courses c.give_vram.ensures.held c.give_vram.ensures.rule c.give_mapped.ensures.tt c.give_mapped.ensures.aper (c.give_frames.ensures ∙ ap (λ places. given_back c.args.parts.now.pool (filter_map frame_of places)) c.places.ensures)
+    idle_held c.args.script.now c.args.before.now c.args.parts.now c.args.entry.now c.args.thread c.args.b c.requires.held c.requires.is c.requires.next _ c.get-bo.ensures c.give_back.new.room c.give_mapped.new.tt c.give_mapped.new.aper c.give_frames.new.pool c.drop_slots.new.swap c.kill.new.self c.take_off.new.lru
+    c.has_freed.new.courses c.give_back.ensures.held c.give_back.ensures.rule c.give_mapped.ensures.tt c.give_mapped.ensures.aper (c.give_frames.ensures ∙ ap (λ places. given_back c.args.parts.now.pool (filter_map frame_of places)) c.places.ensures)
     (c.drop_slots.ensures ∙ ap (dropped c.args.parts.now.swap) c.places-2.ensures) c.kill.ensures c.take_off.ensures c.members_stand_once.ensures.listed c.has_freed.ensures

@@ -16,5 +16,5 @@ give_mapped-requires c = reap_pages c.args.script.now c.args.before.now c.args.p
 
 pub returns : goal.returns
 returns c =
-    reap_held c.args.script.now c.args.before.now c.args.parts.now c.args.entry.now c.args.g c.requires.held c.requires.is c.requires.next _ c.remove-left.ensures.value c.remove-left.new.self c.give_vram.new.room c.give_mapped.new.tt c.give_all.new.pool c.give_mapped.new.aper
-    c.remove-left.ensures.left c.give_vram.ensures.held c.give_vram.ensures.rule c.give_mapped.ensures.tt (c.give_all.ensures ∙ ap (given_back c.args.parts.now.pool) c.items.ensures) c.give_mapped.ensures.aper
+    reap_held c.args.script.now c.args.before.now c.args.parts.now c.args.entry.now c.args.g c.requires.held c.requires.is c.requires.next _ c.remove-left.ensures.value c.remove-left.new.self c.give_back.new.room c.give_mapped.new.tt c.give_all.new.pool c.give_mapped.new.aper
+    c.remove-left.ensures.left c.give_back.ensures.held c.give_back.ensures.rule c.give_mapped.ensures.tt (c.give_all.ensures ∙ ap (given_back c.args.parts.now.pool) c.items.ensures) c.give_mapped.ensures.aper
