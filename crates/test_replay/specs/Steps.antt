@@ -1,5 +1,5 @@
 -- A device and the parts that follow it.
-use Rattle.std.specs.Prelude.{◌≡◌}
+use Rattle.std.specs.Prelude.{◌≡◌, [], ◌∷◌, ◌++◌}
 use Rattle.journal_model.specs.declared.entry.Entry.{Entry}
 use Rattle.device_core.specs.Kept as device
 use Rattle.room_state.specs.Kept as rooms
@@ -13,5 +13,5 @@ pub record AreInStep (d : device.Kept) (r : rooms.Kept) : Type 0 where
 pub record IsOneAhead (d : device.Kept) (r : rooms.Kept) : Type 0 where
   pub entry : Entry
   pub same_script : d.script ≡ r.script
-  pub one_more : d ≡ device.with_entry (record { script = r.script; journal = r.journal }) entry
+  pub one_more : d.journal ≡ r.journal ++ entry ∷ []
   pub may : rooms.MayAppend r entry

@@ -1,3 +1,6 @@
+ghost use Rattle.std.specs.Prelude.{◌≤◌, length};
+
+use bo_table::BoTable;
 use journal_model::Script;
 use report_text::{Account, Accounts};
 use resource_core::{Lengths, Manager};
@@ -31,14 +34,24 @@ fn slots_in(places: &[Loc]) -> u64 {
     count
 }
 
+/// How many buffers a table has. None has more than 32 bits hold.
+fn count_of(bos: &BoTable) -> u32
+    ensures { result ≤ length bos.now.grips }
+{
+    match u32::try_from(bos.len()) {
+        Ok(count) => count,
+        Err(_) => 0,
+    }
+}
+
 /// What the tables of live buffers name.
 fn named(parts: &Parts) -> Named {
     let mut named = Named {
         frames: 0,
         slots: 0,
     };
-    for i in 0..parts.bos.len() {
-        let bo = parts.bos.get(BufId(i as u32));
+    for i in 0..count_of(&parts.bos) {
+        let bo = parts.bos.get(BufId(i));
         if bo.alive {
             named.frames = named.frames.saturating_add(bo.table.frames() as u64);
             named.slots = named.slots.saturating_add(slots_in(bo.table.places()));

@@ -1,6 +1,12 @@
+ghost use Rattle.std.specs.Prelude.{◌<◌, ◌≤◌, length};
+ghost use Rattle.lemma_bytes_told.specs.Told.{IsThere};
+ghost use Rattle.room_state.specs.Kept.{state_behind};
+ghost use Rattle.test_replay.specs.Steps.{AreInStep};
+
 use crate::accounts::{accounts_in, are_same_accounts};
 use crate::replay::Replay;
-use journal_model::State;
+use bo_table::BoTable;
+use journal_model::{Script, State};
 use page_accounts::accounts_of;
 use room_state::Rooms;
 use rules_holds::{free_frame, free_slot, waited_before_read, waited_before_write};
@@ -36,16 +42,18 @@ pub enum Difference {
     Job(u32),
     /// The job to wait for before a buffer is used.
     Need(BufId),
-    /// A list of buffers in eviction order, by its number.
-    List(u32),
-    /// How many commands a thread has answered.
-    Answered(u32),
+    /// A list of buffers in eviction order, by its memory type and priority.
+    List(Mem, u32),
+    /// How many commands a thread has answered, by its place among the threads.
+    Answered(usize),
     /// Whether all is done.
     Over,
 }
 
 /// The parts have the bytes of a page of a live buffer.
-fn is_same_page(replay: &Replay, b: BufId, page: u32, room: &mut [u8]) -> Result<bool, NoMemory> {
+fn is_same_page(replay: &Replay, b: BufId, page: u32, room: &mut [u8]) -> Result<bool, NoMemory>
+    requires { IsThere (state_behind replay.now.rooms) b }
+{
     let Some(off) = page.checked_mul(PAGE as u32) else {
         return Err(NoMemory);
     };
@@ -60,7 +68,9 @@ fn page_that_differs(
     replay: &Replay,
     b: BufId,
     room: &mut [u8],
-) -> Result<Option<Difference>, NoMemory> {
+) -> Result<Option<Difference>, NoMemory>
+    requires { IsThere (state_behind replay.now.rooms) b }
+{
     for page in 0..declared_pages(replay.device.script(), b) {
         if !is_same_page(replay, b, page, room)? {
             return Ok(Some(Difference::Bytes(b, page)));
@@ -70,7 +80,9 @@ fn page_that_differs(
 }
 
 /// The parts have the jobs to wait for before a live buffer is used.
-fn are_same_needs(replay: &Replay, b: BufId) -> bool {
+fn are_same_needs(replay: &Replay, b: BufId) -> bool
+    requires { b.0 < length replay.now.rooms.script.buffers }
+{
     let core = &replay.device.state().core;
     match live_in(core.buffers.items(), b) {
         Some(buffer) => {
@@ -81,15 +93,23 @@ fn are_same_needs(replay: &Replay, b: BufId) -> bool {
     }
 }
 
+/// The table has a live buffer of that number.
+fn is_alive(bos: &BoTable, b: BufId) -> bool {
+    (b.0 as usize) < bos.len() && bos.get(b).alive
+}
+
 /// What differs of a buffer.
 fn buffer_that_differs(
     replay: &Replay,
     b: BufId,
     room: &mut [u8],
-) -> Result<Option<Difference>, NoMemory> {
+) -> Result<Option<Difference>, NoMemory>
+    requires step { AreInStep replay.now.device replay.now.rooms }
+    requires declared { b.0 < length replay.now.rooms.script.buffers }
+{
     let core = &replay.device.state().core;
     let live = live_in(core.buffers.items(), b).is_some();
-    if replay.rooms.bos().get(b).alive != live {
+    if is_alive(replay.rooms.bos(), b) != live {
         return Ok(Some(Difference::Live(b)));
     }
     if !are_same_needs(replay, b) {
@@ -102,12 +122,23 @@ fn buffer_that_differs(
     }
 }
 
+/// How many buffers are declared. No script that has a spelling declares more than 32 bits hold.
+fn declared(script: &Script) -> u32
+    ensures { result ≤ length script.now.buffers }
+{
+    match u32::try_from(script.buffers.len()) {
+        Ok(count) => count,
+        Err(_) => 0,
+    }
+}
+
 /// What differs of buffers.
-fn buffers_that_differ(replay: &Replay, alloc: Global) -> Result<Option<Difference>, NoMemory> {
+fn buffers_that_differ(replay: &Replay, alloc: Global) -> Result<Option<Difference>, NoMemory>
+    requires { AreInStep replay.now.device replay.now.rooms }
+{
     let mut room = vec![in alloc; 0u8; PAGE]?;
-    for i in 0..replay.device.script().buffers.len() {
-        let b = BufId(i as u32);
-        let found = buffer_that_differs(replay, b, room.as_mut_slice())?;
+    for i in 0..declared(replay.rooms.script()) {
+        let found = buffer_that_differs(replay, BufId(i), room.as_mut_slice())?;
         if found.is_some() {
             return Ok(found);
         }
@@ -125,7 +156,7 @@ fn frame_at(replay: &Replay, page: u32) -> Option<u32> {
 
 /// The first page of TT that stands for another frame.
 fn aperture_that_differs(replay: &Replay) -> Option<Difference> {
-    for page in 0..replay.device.script().sizes.tt {
+    for page in 0..replay.rooms.script().sizes.tt {
         if replay.rooms.parts().stores.aper.get(page) != frame_at(replay, page) {
             return Some(Difference::Aperture(page));
         }
@@ -164,7 +195,7 @@ fn list_that_differs(replay: &Replay, mem: Mem) -> Option<Difference> {
             None => first.is_none(),
         };
         if !same {
-            return Some(Difference::List(at as u32));
+            return Some(Difference::List(mem, prio));
         }
     }
     None
@@ -192,7 +223,9 @@ fn head_of(state: &State, ctx: u32) -> Option<JobId> {
 }
 
 /// The parts have the same next and first job of a context.
-fn are_same_jobs(replay: &Replay, ctx: u32) -> bool {
+fn are_same_jobs(replay: &Replay, ctx: u32) -> bool
+    requires { ctx ≤ replay.now.rooms.script.sizes.engines }
+{
     let state = replay.device.state();
     let last = match state.last_jobs.items().get(ctx as usize) {
         Some(last) => *last,
@@ -204,7 +237,7 @@ fn are_same_jobs(replay: &Replay, ctx: u32) -> bool {
 
 /// The first context whose jobs differ.
 fn jobs_that_differ(replay: &Replay) -> Option<Difference> {
-    for ctx in 0..=replay.device.script().sizes.engines {
+    for ctx in 0..=replay.rooms.script().sizes.engines {
         if !are_same_jobs(replay, ctx) {
             return Some(Difference::Job(ctx));
         }
@@ -241,7 +274,7 @@ fn answered_that_differs(replay: &Replay) -> Option<Difference> {
     for (i, course) in wanted.iter().enumerate() {
         let answered = kept.get(i).map(|found| found.answered);
         if answered != Some(course.answered) {
-            return Some(Difference::Answered(i as u32));
+            return Some(Difference::Answered(i));
         }
     }
     None
@@ -269,7 +302,9 @@ fn held_that_differs(replay: &Replay, alloc: Global) -> Result<Option<Difference
 /// # Errors
 ///
 /// Want of memory.
-pub fn difference(replay: &Replay, alloc: Global) -> Result<Option<Difference>, NoMemory> {
+pub fn difference(replay: &Replay, alloc: Global) -> Result<Option<Difference>, NoMemory>
+    requires { AreInStep replay.now.device replay.now.rooms }
+{
     let found = numbers_that_differ(replay)
         .or(answered_that_differs(replay))
         .or(jobs_that_differ(replay))

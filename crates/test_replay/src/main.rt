@@ -21,7 +21,7 @@ use std::alloc::Global;
 use std::io;
 use std::io::{BufRead, BufReader};
 use test_cases::{Case, Table, no_memory};
-use ttm_base::{Actor, BufId};
+use ttm_base::{Actor, BufId, Mem};
 
 /// How many turns follow the steps of a case at most.
 const MOST_TURNS: u32 = 100_000;
@@ -84,6 +84,14 @@ fn take_all(replay: &mut Replay, alloc: Global, case: &Case) -> io::Result<Optio
     go_to_the_end(replay, alloc)
 }
 
+fn print_list(rt: &impl Print, mem: Mem, prio: u32) -> io::Result<()> {
+    match mem {
+        Mem::System => println!(rt; "another order of priority {prio} in SYSTEM"),
+        Mem::Tt => println!(rt; "another order of priority {prio} in TT"),
+        Mem::Vram => println!(rt; "another order of priority {prio} in VRAM"),
+    }
+}
+
 fn print_difference(rt: &impl Print, found: Difference) -> io::Result<()> {
     match found {
         Difference::Entries => println!(rt; "another number of entries"),
@@ -99,7 +107,7 @@ fn print_difference(rt: &impl Print, found: Difference) -> io::Result<()> {
         Difference::Ghost => println!(rt; "other ghosts"),
         Difference::Job(ctx) => println!(rt; "other jobs of context {ctx}"),
         Difference::Need(BufId(b)) => println!(rt; "another job before buffer {b}"),
-        Difference::List(at) => println!(rt; "another order on list {at}"),
+        Difference::List(mem, prio) => print_list(rt, mem, prio),
         Difference::Answered(at) => println!(rt; "another place of thread {at} from 0"),
         Difference::Over => println!(rt; "another end"),
     }
@@ -166,7 +174,11 @@ fn replay_for(alloc: Global, text: &[u8]) -> io::Result<Option<Replay>>
     let stores = PlainStores::new(alloc, script.sizes).map_err(no_memory)?;
     let device = Device::new(alloc, script).map_err(no_memory)?;
     let rooms = Rooms::new(alloc, again).map_err(no_memory)?;
-    Ok(Some(Replay::new(device, rooms, stores)))
+    Ok(Some(Replay {
+        device,
+        stores,
+        rooms,
+    }))
 }
 
 /// Replays a case, and prints what came of it.

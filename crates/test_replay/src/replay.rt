@@ -1,10 +1,9 @@
-ghost use Rattle.std.specs.Prelude.{◌≡◌, IfOk, OnOk, [], IsTrue};
-ghost use Rattle.journal_model.specs.ScriptRules.{is_script};
+ghost use Rattle.std.specs.Prelude.{◌≡◌, OnOk};
 ghost use Rattle.test_replay.specs.Steps.{AreInStep, IsOneAhead};
 
 use crate::copies::copy_of;
 use device_core::Device;
-use journal_model::{Entry, Kind};
+use journal_model::Entry;
 use room_state::Rooms;
 use rules_next::next;
 use rules_search::has_room;
@@ -49,32 +48,17 @@ fn store_next(replay: &mut Replay, alloc: Global, who: Actor) -> Result<(), NoMe
     Ok(())
 }
 
-/// Appends the entry that the device made last to the parts.
+/// Appends the entry that the device has made more than the parts have.
 fn follow(replay: &mut Replay) -> Result<(), NoMemory>
     requires { IsOneAhead replay.old.device replay.old.rooms }
     ensures { OnOk result (AreInStep replay.new.device replay.new.rooms) }
 {
-    let Some(entry) = replay.device.journal().last() else {
-        return Ok(());
-    };
-    let entry = copy_of(entry)?;
+    let at = replay.rooms.journal().len();
+    let entry = copy_of(&replay.device.journal()[at])?;
     replay.rooms.append(entry)
 }
 
 impl Replay {
-    /// A device that hasn't begun, and its parts.
-    ///
-    /// # Errors
-    ///
-    /// Want of memory.
-    pub fn new(device: Device, rooms: Rooms, stores: PlainStores) -> Replay {
-        Replay {
-            device,
-            stores,
-            rooms,
-        }
-    }
-
     /// A turn of an actor, which the parts follow.
     ///
     /// # Errors
