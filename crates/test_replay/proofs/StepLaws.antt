@@ -9,6 +9,7 @@ use Rattle.journal_model.specs.declared.script.Script.{Script}
 use Rattle.journal_model.specs.declared.entry.Kind.{Kind}
 use Rattle.journal_model.specs.Complete.{is_complete}
 use Rattle.journal_model.specs.Next.{next}
+use Rattle.journal_model.specs.Stores.{showing}
 use Rattle.journal_model.specs.Legal.{World, IsLegalNext, world_of, next_entry, shown_step}
 use Rattle.room_state.specs.Kept as rooms
 use Rattle.device_core.specs.Kept.{Kept, entry_of, with_entry, with_step, answer_of, turn_of, after_turn}
@@ -16,10 +17,10 @@ use Rattle.test_replay.specs.Steps.{AreInStep, IsOneAhead}
 
 -- an actor's next entry is legal next
 legal : (script : Script) (w : World) (who : Actor) (step : Result Kind Need) (e : Entry) → next script w.state who ≡ step → shown_step script w who step ≡ Ok e → IsLegalNext script w e
-legal script w who (Ok k) e h g = by e g
+legal script w who (Ok k) e h g = subst (λ x. next_entry script w x.who ≡ Ok x) (made g) (ap (shown_step script w who) h)
   where
-    by : (e : Entry) → shown_step script w who (Ok k) ≡ Ok e → IsLegalNext script w e
-    by e refl = ap (shown_step script w who) h
+    made : shown_step script w who (Ok k) ≡ Ok e → record { who = who; kind = showing script w.stores w.state who k } ≡ e
+    made g = cc
 legal script w who (Err need) e h g = cc
 
 -- what an actor makes next is legal next
@@ -35,12 +36,12 @@ one_ahead d r who n same made = by (is_complete d.script d.journal) (entry_of d 
     by true step o s h = cc
     by false (Err need) o s h = cc
     by false (Ok e) o s h = record {
-        entry = e;
-        same_script = same.same_script;
-        one_more = ap (λ j. j ++ e ∷ []) same.same_journal;
-        may = subst (λ j. IsLegalNext r.script (world_of r.script j) e) same.same_journal
-            (subst (λ x. IsLegalNext x (world_of x d.journal) e) same.same_script (next_legal d.script (world_of d.script d.journal) who e s));
-      }
+      entry = e;
+      same_script = same.same_script;
+      one_more = ap (λ j. j ++ e ∷ []) same.same_journal;
+      may = subst (λ j. IsLegalNext r.script (world_of r.script j) e) same.same_journal
+          (subst (λ x. IsLegalNext x (world_of x d.journal) e) same.same_script (next_legal d.script (world_of d.script d.journal) who e s));
+    }
 
 -- a turn that made none leaves both in step
 pub still : (d : Kept) (r : rooms.Kept) (who : Actor) → AreInStep d r → ((n : ℕ) → turn_of d who ≡ turn.Made n → ⊥) → AreInStep (after_turn d who) r

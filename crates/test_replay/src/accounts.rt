@@ -18,7 +18,7 @@ fn account_of(lengths: Lengths) -> Account {
 }
 
 /// How many frames and slots the tables of live buffers name.
-struct Named {
+struct InTables {
     frames: u64,
     slots: u64,
 }
@@ -45,19 +45,19 @@ fn count_of(bos: &BoTable) -> u32
 }
 
 /// What the tables of live buffers name.
-fn named(parts: &Parts) -> Named {
-    let mut named = Named {
+fn count_named(parts: &Parts) -> InTables {
+    let mut found = InTables {
         frames: 0,
         slots: 0,
     };
     for i in 0..count_of(&parts.bos) {
         let bo = parts.bos.get(BufId(i));
         if bo.alive {
-            named.frames = named.frames.saturating_add(bo.table.frames() as u64);
-            named.slots = named.slots.saturating_add(slots_in(bo.table.places()));
+            found.frames = found.frames.saturating_add(bo.table.frames() as u64);
+            found.slots = found.slots.saturating_add(slots_in(bo.table.places()));
         }
     }
-    named
+    found
 }
 
 /// How many frames the ghosts hold.
@@ -71,7 +71,7 @@ fn ghost_frames(parts: &Parts) -> u64 {
 
 /// The accounts as the parts keep them: of pages the managers', of frames the pool's free ones and the tables', of slots the tables'.
 pub fn accounts_in(parts: &Parts, script: &Script) -> Accounts {
-    let Named { frames, slots } = named(parts);
+    let InTables { frames, slots } = count_named(parts);
     Accounts {
         vram: account_of(parts.vram.lengths()),
         tt: account_of(parts.tt.lengths()),

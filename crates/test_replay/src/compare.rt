@@ -302,7 +302,7 @@ fn held_that_differs(replay: &Replay, alloc: Global) -> Result<Option<Difference
 /// # Errors
 ///
 /// Want of memory.
-pub fn difference(replay: &Replay, alloc: Global) -> Result<Option<Difference>, NoMemory>
+pub fn first_difference(replay: &Replay, alloc: Global) -> Result<Option<Difference>, NoMemory>
     requires { AreInStep replay.now.device replay.now.rooms }
 {
     let found = numbers_that_differ(replay)

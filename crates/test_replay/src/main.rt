@@ -10,7 +10,7 @@ mod copies;
 mod replay;
 
 use accounts::accounts_in;
-use compare::{Difference, difference};
+use compare::{Difference, first_difference};
 use device_core::Device;
 use replay::{Replay, Taken};
 use report_text::{Account, Accounts};
@@ -32,7 +32,7 @@ fn take_turn(replay: &mut Replay, alloc: Global, who: Actor) -> io::Result<Optio
     ensures { OnOk result (AreInStep replay.new.device replay.new.rooms) }
 {
     match replay.step(alloc, who).map_err(no_memory)? {
-        Taken::Appended => difference(replay, alloc).map_err(no_memory),
+        Taken::Appended => first_difference(replay, alloc).map_err(no_memory),
         Taken::Nothing => Ok(None),
     }
 }
@@ -73,7 +73,7 @@ fn take_all(replay: &mut Replay, alloc: Global, case: &Case) -> io::Result<Optio
     requires { AreInStep replay.old.device replay.old.rooms }
     ensures { OnOk result (AreInStep replay.new.device replay.new.rooms) }
 {
-    let found = difference(replay, alloc).map_err(no_memory)?;
+    let found = first_difference(replay, alloc).map_err(no_memory)?;
     if found.is_some() {
         return Ok(found);
     }
