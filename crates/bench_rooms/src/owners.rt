@@ -1,0 +1,160 @@
+//! A manager with many owners of a page each, and calls of it.
+use resource_core::{Manager, PagesKind, TakeFault, VramRoom};
+use std::alloc::Global;
+use ttm_base::{Mem, NoMemory, Owner, Place};
+
+/// What stands between the owners.
+#[derive(Clone, Copy, PartialEq, Eq)]
+pub enum Gaps {
+    /// Nothing; free pages stand behind the last.
+    Filled,
+    /// A free page behind each.
+    Holes,
+}
+
+/// What is called in each round.
+#[derive(Clone, Copy, PartialEq, Eq)]
+pub enum Calls {
+    Choose,
+    /// A new owner takes a page, and gives it back.
+    TakeGive,
+    /// A new owner holds a page that was chosen, and gives it back.
+    HoldGive,
+    /// The last owner gives its page; in the next round the one before it.
+    GiveLast,
+    /// An owner from the middle on gives its page.
+    GiveMiddle,
+    /// An owner becomes another, and is made itself again.
+    Pass,
+}
+
+/// How many pages are free behind the last owner.
+const SPARE: u32 = 1000;
+
+/// All pages.
+const WHOLE: Place = Place {
+    mem: Mem::Vram,
+    first: 0,
+    last: 0,
+    topdown: false,
+    contig: false,
+};
+
+/// A manager with owners that are ghosts, by rising numbers.
+#[derive(Drop)]
+pub struct Owned {
+    room: VramRoom,
+    owners: u32,
+}
+
+/// A call that wasn't made counts for nothing.
+fn count(found: Result<(), TakeFault>) -> Result<u32, NoMemory> {
+    match found {
+        Ok(()) => Ok(1),
+        Err(TakeFault::NoRoom) => Ok(0),
+        Err(TakeFault::NoMemory) => Err(NoMemory),
+    }
+}
+
+impl Owned {
+    /// So many owners.
+    pub fn new(alloc: Global, kind: PagesKind, owners: u32, gaps: Gaps) -> Result<Owned, NoMemory> {
+        let pages = match gaps {
+            Gaps::Filled => owners,
+            Gaps::Holes => owners.saturating_mul(2),
+        };
+        let room = VramRoom::new(alloc, pages.saturating_add(SPARE), kind)?;
+        let mut owned = Owned { room, owners };
+        for number in 0..pages {
+            owned.take(alloc, number)?;
+        }
+        if gaps == Gaps::Holes {
+            owned.make_holes();
+        }
+        Ok(owned)
+    }
+
+    /// Each second owner gives its page, and the others get the numbers from 0 on.
+    fn make_holes(&mut self) {
+        for number in 0..self.owners {
+            self.give(number.saturating_mul(2).saturating_add(1));
+        }
+        for number in 0..self.owners {
+            self.pass(number.saturating_mul(2), number);
+        }
+    }
+
+    fn take(&mut self, alloc: Global, number: u32) -> Result<u32, NoMemory> {
+        let owner = Owner::Ghost(number as u64);
+        if self.room.holds(owner) {
+            return Ok(0);
+        }
+        count(self.room.take(alloc, owner, 1, 1, &WHOLE).map(|_| ()))
+    }
+
+    fn choose(&mut self, alloc: Global) -> Result<u32, NoMemory> {
+        count(self.room.choose(alloc, 1, 1, &WHOLE).map(|_| ()))
+    }
+
+    fn hold(&mut self, alloc: Global, number: u32) -> Result<u32, NoMemory> {
+        let owner = Owner::Ghost(number as u64);
+        if self.room.holds(owner) {
+            return Ok(0);
+        }
+        match self.room.choose(alloc, 1, 1, &WHOLE) {
+            Ok(spans) => {
+                self.room.hold(owner, &spans)?;
+                Ok(1)
+            }
+            Err(TakeFault::NoRoom) => Ok(0),
+            Err(TakeFault::NoMemory) => Err(NoMemory),
+        }
+    }
+
+    fn give(&mut self, number: u32) -> u32 {
+        let owner = Owner::Ghost(number as u64);
+        if !self.room.holds(owner) {
+            return 0;
+        }
+        self.room.give(owner);
+        1
+    }
+
+    fn pass(&mut self, from: u32, to: u32) -> u32 {
+        let from = Owner::Ghost(from as u64);
+        let to = Owner::Ghost(to as u64);
+        if !self.room.holds(from) || self.room.holds(to) {
+            return 0;
+        }
+        self.room.pass(from, to);
+        1
+    }
+
+    /// One round of calls, and how many were made.
+    fn round(&mut self, alloc: Global, calls: Calls, round: u32) -> Result<u32, NoMemory> {
+        let new = self.owners;
+        let first = match calls {
+            Calls::Choose => self.choose(alloc)?,
+            Calls::TakeGive => self.take(alloc, new)?,
+            Calls::HoldGive => self.hold(alloc, new)?,
+            Calls::GiveLast => self.give(new.saturating_sub(round).saturating_sub(1)),
+            Calls::GiveMiddle => self.give((new / 2).saturating_add(round)),
+            Calls::Pass => self.pass(new / 2, new),
+        };
+        let second = match calls {
+            Calls::TakeGive | Calls::HoldGive => self.give(new),
+            Calls::Pass => self.pass(new, new / 2),
+            _ => 0,
+        };
+        Ok(first.saturating_add(second))
+    }
+
+    /// Makes so many rounds of calls, and tells how many calls were made.
+    pub fn make(&mut self, alloc: Global, calls: Calls, rounds: u32) -> Result<u32, NoMemory> {
+        let mut made: u32 = 0;
+        for round in 0..rounds {
+            made = made.saturating_add(self.round(alloc, calls, round)?);
+        }
+        Ok(made)
+    }
+}
