@@ -1,7 +1,7 @@
 //! Makes calls of a manager of pages with many owners, so that their instructions can be counted.
 //!
 //! Each word changes one thing: `ranges` or `blocks`, the number of owners (`100`), `filled` or `holes` between them, what is
-//! called, and the number of rounds (`r100`). What a call costs is told by two runs that differ in rounds alone, under a
+//! called, the pages of a call (`p1`), and the number of rounds (`r100`). What a call costs is told by two runs that differ in rounds alone, under a
 //! program that counts instructions. Nothing of the figures is proved.
 #![tactic(auto)]
 
@@ -28,6 +28,7 @@ struct Wanted {
     owners: u32,
     gaps: Gaps,
     calls: Calls,
+    pages: u32,
     rounds: u32,
 }
 
@@ -38,6 +39,7 @@ fn read_words(rt: &(impl Env + Alloc)) -> io::Result<Wanted> {
         owners: 100,
         gaps: Gaps::Filled,
         calls: Calls::TakeGive,
+        pages: 1,
         rounds: 100,
     };
     for word in env::args(rt)?.skip(1) {
@@ -54,6 +56,7 @@ fn read_words(rt: &(impl Env + Alloc)) -> io::Result<Wanted> {
             "pass" => wanted.calls = Calls::Pass,
             word => match amount_of(word) {
                 Amount::Rounds(rounds) => wanted.rounds = rounds,
+                Amount::Pages(pages) => wanted.pages = pages,
                 Amount::Owners(owners) => wanted.owners = owners,
             },
         }
@@ -64,7 +67,7 @@ fn read_words(rt: &(impl Env + Alloc)) -> io::Result<Wanted> {
 /// How many calls are made.
 fn made(alloc: Global, wanted: &Wanted) -> Result<u32, NoMemory> {
     let mut owned = Owned::new(alloc, wanted.kind, wanted.owners, wanted.gaps)?;
-    owned.make(alloc, wanted.calls, wanted.rounds)
+    owned.make(alloc, wanted.calls, wanted.pages.max(1), wanted.rounds)
 }
 
 fn main(rt: HostRuntime) -> io::Result<()> {

@@ -1,4 +1,6 @@
 //! A manager with many owners of a page each, and calls of it.
+ghost use Rattle.std.specs.Prelude.{◌≤◌};
+
 use resource_core::{Manager, PagesKind, TakeFault, VramRoom};
 use std::alloc::Global;
 use ttm_base::{Mem, NoMemory, Owner, Place};
@@ -66,7 +68,7 @@ impl Owned {
         let room = VramRoom::new(alloc, pages.saturating_add(SPARE), kind)?;
         let mut owned = Owned { room, owners };
         for number in 0..pages {
-            owned.take(alloc, number)?;
+            owned.take(alloc, number, 1)?;
         }
         if gaps == Gaps::Holes {
             owned.make_holes();
@@ -84,24 +86,30 @@ impl Owned {
         }
     }
 
-    fn take(&mut self, alloc: Global, number: u32) -> Result<u32, NoMemory> {
+    fn take(&mut self, alloc: Global, number: u32, pages: u32) -> Result<u32, NoMemory>
+        requires { 1 ≤ pages }
+    {
         let owner = Owner::Ghost(number as u64);
         if self.room.holds(owner) {
             return Ok(0);
         }
-        count(self.room.take(alloc, owner, 1, 1, &WHOLE).map(|_| ()))
+        count(self.room.take(alloc, owner, pages, 1, &WHOLE).map(|_| ()))
     }
 
-    fn choose(&mut self, alloc: Global) -> Result<u32, NoMemory> {
-        count(self.room.choose(alloc, 1, 1, &WHOLE).map(|_| ()))
+    fn choose(&mut self, alloc: Global, pages: u32) -> Result<u32, NoMemory>
+        requires { 1 ≤ pages }
+    {
+        count(self.room.choose(alloc, pages, 1, &WHOLE).map(|_| ()))
     }
 
-    fn hold(&mut self, alloc: Global, number: u32) -> Result<u32, NoMemory> {
+    fn hold(&mut self, alloc: Global, number: u32, pages: u32) -> Result<u32, NoMemory>
+        requires { 1 ≤ pages }
+    {
         let owner = Owner::Ghost(number as u64);
         if self.room.holds(owner) {
             return Ok(0);
         }
-        match self.room.choose(alloc, 1, 1, &WHOLE) {
+        match self.room.choose(alloc, pages, 1, &WHOLE) {
             Ok(spans) => {
                 self.room.hold(owner, &spans)?;
                 Ok(1)
@@ -131,12 +139,20 @@ impl Owned {
     }
 
     /// One round of calls, and how many were made.
-    fn round(&mut self, alloc: Global, calls: Calls, round: u32) -> Result<u32, NoMemory> {
+    fn round(
+        &mut self,
+        alloc: Global,
+        calls: Calls,
+        pages: u32,
+        round: u32,
+    ) -> Result<u32, NoMemory>
+        requires { 1 ≤ pages }
+    {
         let new = self.owners;
         let first = match calls {
-            Calls::Choose => self.choose(alloc)?,
-            Calls::TakeGive => self.take(alloc, new)?,
-            Calls::HoldGive => self.hold(alloc, new)?,
+            Calls::Choose => self.choose(alloc, pages)?,
+            Calls::TakeGive => self.take(alloc, new, pages)?,
+            Calls::HoldGive => self.hold(alloc, new, pages)?,
             Calls::GiveLast => self.give(new.saturating_sub(round).saturating_sub(1)),
             Calls::GiveMiddle => self.give((new / 2).saturating_add(round)),
             Calls::Pass => self.pass(new / 2, new),
@@ -150,10 +166,18 @@ impl Owned {
     }
 
     /// Makes so many rounds of calls, and tells how many calls were made.
-    pub fn make(&mut self, alloc: Global, calls: Calls, rounds: u32) -> Result<u32, NoMemory> {
+    pub fn make(
+        &mut self,
+        alloc: Global,
+        calls: Calls,
+        pages: u32,
+        rounds: u32,
+    ) -> Result<u32, NoMemory>
+        requires { 1 ≤ pages }
+    {
         let mut made: u32 = 0;
         for round in 0..rounds {
-            made = made.saturating_add(self.round(alloc, calls, round)?);
+            made = made.saturating_add(self.round(alloc, calls, pages, round)?);
         }
         Ok(made)
     }

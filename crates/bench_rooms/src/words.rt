@@ -1,9 +1,10 @@
 //! Numbers as words.
 
-/// What a word says: how many rounds are made (r20), or how many owners there are (100).
+/// What a word says: how many rounds are made (r20), how many pages each call asks for (p3), or how many owners there are (100).
 #[derive(Clone, Copy, PartialEq, Eq)]
 pub enum Amount {
     Rounds(u32),
+    Pages(u32),
     Owners(u32),
 }
 
@@ -24,6 +25,7 @@ pub fn amount_of(word: &str) -> Amount {
     let bytes = word.as_bytes();
     match bytes.first() {
         Some(b'r') => Amount::Rounds(number(bytes)),
+        Some(b'p') => Amount::Pages(number(bytes)),
         _ => Amount::Owners(number(bytes)),
     }
 }

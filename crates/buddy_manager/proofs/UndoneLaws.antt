@@ -1,10 +1,9 @@
 -- Blocks that are let go one after the other, and put back.
-use Rattle.std.proofs.Common.{◌≡◌, ℕ, zero, suc, ◌+◌, ◌<◌, ◌≤◌, ◌&&◌, Bool, true, false, List, [], ◌∷◌, ◌++◌, length, get_or, set, refl, ap, sym, ◌∙◌, subst, arith, not, nat_eq}
-use Rattle.std.specs.Prelude.{take, drop}
-use Rattle.std.proofs.lemmas.Bool.{false_from_ne_true, both_ways}
+use Rattle.std.proofs.Common.{◌≡◌, ℕ, zero, suc, ◌+◌, ◌<◌, ◌≤◌, ◌&&◌, Bool, true, false, List, [], ◌∷◌, ◌++◌, length, get_or, set, refl, ap, sym, ◌∙◌, arith, not, nat_eq}
+use Rattle.std.specs.Prelude.{take}
 use Rattle.std.proofs.lemmas.List.{set-get_or, set-set}
 use Rattle.ttm_base.specs.declared.Span.{Span}
-use Rattle.buddy_manager.specs.Held.{held_from, without, is_held, all_held, undone, AreHeld}
+use Rattle.buddy_manager.specs.Held.{held_from, without, is_held, all_held, undone}
 use Rattle.buddy_manager.proofs.HeldLaws.{are_held, held_all}
 use Rattle.buddy_manager.proofs.ManagedLaws.{held_at, let_go_one}
 

@@ -1,6 +1,4 @@
-use Rattle.std.proofs.Common.{List, [], length, sym, ap, ◌∙◌, arith}
-use Rattle.std.specs.List.{push}
-use Rattle.ttm_base.specs.declared.Span.{Span}
+use Rattle.std.proofs.Common.{sym, ap, ◌∙◌, arith}
 use Rattle.buddy_manager.specs.Held.{undone}
 use Rattle.buddy_manager.proofs.UndoneLaws.{undone_last, set_beyond, nothing_left}
 use Rattle.buddy_manager.proofs.ends.put_back.Goals as goal
