@@ -1,6 +1,6 @@
 -- All parts behind a ghost that is reaped.
-use Rattle.std.proofs.Common.{◌≡◌, ℕ, ◌<◌, Bool, true, List, [], ◌∷◌, ◌++◌, Option, Some, length, take, refl, sym, ◌∙◌, ap, subst}
-use Rattle.std.specs.Prelude.{unwrap_or, remove, slice_get}
+use Rattle.std.proofs.Common.{◌≡◌, ℕ, ◌<◌, Bool, true, List, [], ◌∷◌, ◌++◌, Option, Some, length, take, drop, refl, sym, ◌∙◌, ap, subst}
+use Rattle.std.specs.Prelude.{unwrap_or, slice_get}
 use Rattle.ttm_base.specs.declared.Actor.TheVariants as actor
 use Rattle.ttm_base.specs.declared.Mem.TheVariants.{System, Tt, Vram}
 use Rattle.ttm_base.specs.declared.Owner.TheVariants as owner
@@ -105,7 +105,7 @@ module _ (script : Script) (journal : List Entry) (p : Parts) (entry : Entry) (n
         (ghost_frame_may_go script s (owner_law script journal held.fits held.legal) p.pool held.ties.pool 0 reaped.ghost i f reaped.first (ap (λ fs. slice_get fs i) (sym frames_are) ∙ at))
 
     -- the parts tell the journal with the entry
-    pub reap_held : (ghosts : List Ghost) (v : room.Vram) (u : Resources) (pool : List Bool) (aper : List (Option ℕ)) → ghosts ≡ remove p.ghosts 0 → v.resources ≡ given (owner.Ghost n) p.vram.resources →
+    pub reap_held : (ghosts : List Ghost) (v : room.Vram) (u : Resources) (pool : List Bool) (aper : List (Option ℕ)) → ghosts ≡ drop 1 p.ghosts → v.resources ≡ given (owner.Ghost n) p.vram.resources →
         room.spans_of_kind v.kind ≡ room.spans_of_kind p.vram.kind → u ≡ given (owner.Ghost n) p.tt → pool ≡ given_back p.pool ghost.frames → aper ≡ cleared p.stores.aper (pages_of (spans_at (owner.Ghost n) p.tt.held)) →
         AreHeld script (journal ++ entry ∷ []) (record p { ghosts = ghosts; vram = v; tt = u; pool = pool; stores = record p.stores { aper = aper } })
     reap_held ghosts v u pool aper ge ve rule ue pe ae =

@@ -17,8 +17,8 @@ pub fn reap(parts: &mut Parts, script: &Script, before: &[Entry], entry: &Entry,
     requires next { IsLegalNext script.now (world_of script.now before.now) entry.now }
     ensures { AreHeld script.now (before.now ++ entry.now ∷ []) parts.new }
 {
-    let left = parts.ghosts.remove(0);
     give_back(&mut parts.vram, Owner::Ghost(g));
     give_mapped(&mut parts.stores.aper, &mut parts.tt, Owner::Ghost(g));
-    give_all(&mut parts.pool, left.frames.items());
+    give_all(&mut parts.pool, parts.ghosts.get(0).frames.items());
+    parts.ghosts.drop_first();
 }

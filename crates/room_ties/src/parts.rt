@@ -2,12 +2,13 @@ use bo_table::BoTable;
 use copy_engine::Rings;
 use copy_packet::Stores;
 use fence_core::{FenceSet, Timeline};
+use item_queue::ItemQueue;
 use journal_model::{Courses, Frames};
 use lru_bulk::Lru;
 use page_pool::PagePool;
 use resource_core::{RangeRoom, VramRoom};
 use swap_store::SwapStore;
-use ttm_base::{ItemList, Spans};
+use ttm_base::Spans;
 use ww_ticket::Tickets;
 
 /// What a moved or freed buffer left behind until its jobs are done (the ghost object of ttm_bo_move_accel_cleanup).
@@ -25,7 +26,8 @@ pub struct Ghost {
     pub jobs: FenceSet,
 }
 
-pub type Ghosts = ItemList<Ghost>;
+/// In order of making; the first is reaped next.
+pub type Ghosts = ItemQueue<Ghost>;
 
 /// All parts of the device: the only copy of what they keep.
 #[derive(Drop)]
