@@ -1,0 +1,33 @@
+//! What an actor's turn makes of the rooms: its next entry, or what it needs first.
+#![tactic(auto)]
+
+ghost use Rattle.std.specs.Prelude.{◌≡◌, Ok, IfOk, OnOk, OnErr};
+ghost use Rattle.room_turns.specs.Turns.{entry_of, step_of, after_step};
+
+use journal_model::{Entry, Kind};
+use room_state::Rooms;
+use ttm_base::{Actor, Need, NoMemory};
+
+/// What an errand answers.
+#[derive(Clone, Copy)]
+pub enum Step {
+    /// The actor's next entry was made.
+    Made,
+    /// The actor has no entry before this has come; nothing is changed.
+    Need(Need),
+}
+
+/// Makes the entry that is the actor's next.
+///
+/// # Errors
+///
+/// Want of memory; nothing is changed.
+pub fn make(rooms: &mut Rooms, who: Actor, kind: Kind) -> Result<Step, NoMemory>
+    requires { entry_of rooms.old who ≡ Ok (record { who = who; kind = kind }) }
+    ensures step { IfOk result (λ step. step ≡ step_of (entry_of rooms.old who)) }
+    ensures made { OnOk result (rooms.new ≡ after_step rooms.old (entry_of rooms.old who)) }
+    ensures err { OnErr result (rooms.new ≡ rooms.old) }
+{
+    rooms.append(Entry { who, kind })?;
+    Ok(Step::Made)
+}
