@@ -17,21 +17,21 @@ loop-span-preserved c =
     = λ page. any_more page c.args.spans.now c.loop-span.span-index none (omega arith) in
     elim c.match-joined.branch [
       | in-Some w ↦ record {
-          size = ap length w.free-is ∙ so_far.size;
-          within = subst (λ (r : Span). r.end ≤ length c.args.free.now) (sym w.run-is) (w.in-Some.ensures.end (length c.args.free.now) so_far.within by);
-          freed = λ page.
-              ap (λ xs. is_free xs page || has_page page c.match-joined.run) w.free-is
-              ∙ ap (λ r. is_free c.loop-span.free page || has_page page r) w.run-is
-              ∙ freed_joined (is_free c.loop-span.free page) (has_page page c.loop-span.run) (has_page page span) (has_page page w.in-Some.both) (is_free c.args.free.now page) (list_any (has_page page) (take c.loop-span.span-index c.args.spans.now)) (w.in-Some.ensures.pages page) (so_far.freed page)
-              ∙ ap (λ t. is_free c.args.free.now page || t) (sym (more page));
-        }
+        size = ap length w.free-is ∙ so_far.size;
+        within = subst (λ (r : Span). r.end ≤ length c.args.free.now) (sym w.run-is) (w.in-Some.ensures.end (length c.args.free.now) so_far.within by);
+        freed = λ page.
+            ap (λ xs. is_free xs page || has_page page c.match-joined.run) w.free-is
+            ∙ ap (λ r. is_free c.loop-span.free page || has_page page r) w.run-is
+            ∙ freed_joined (is_free c.loop-span.free page) (has_page page c.loop-span.run) (has_page page span) (has_page page w.in-Some.both) (is_free c.args.free.now page) (list_any (has_page page) (take c.loop-span.span-index c.args.spans.now)) (w.in-Some.ensures.pages page) (so_far.freed page)
+            ∙ ap (λ t. is_free c.args.free.now page || t) (sym (more page));
+      }
       | in-None w ↦ record {
-          size = ap length w.free-is ∙ w.mark.ensures.size ∙ so_far.size;
-          within = subst (λ (r : Span). r.end ≤ length c.args.free.now) (sym w.run-is) by;
-          freed = λ page.
-              ap (λ xs. is_free xs page || has_page page c.match-joined.run) w.free-is
-              ∙ ap (λ r. is_free w.mark.new.self page || has_page page r) w.run-is
-              ∙ freed_marked (is_free c.loop-span.free page) (has_page page c.loop-span.run) (has_page page span) (is_free w.mark.new.self page) (is_free c.args.free.now page) (list_any (has_page page) (take c.loop-span.span-index c.args.spans.now)) (w.mark.ensures.marked page ∙ marked_more c.loop-span.run (is_free c.loop-span.free page) page) (so_far.freed page)
-              ∙ ap (λ t. is_free c.args.free.now page || t) (sym (more page));
-        }
+        size = ap length w.free-is ∙ w.mark.ensures.size ∙ so_far.size;
+        within = subst (λ (r : Span). r.end ≤ length c.args.free.now) (sym w.run-is) by;
+        freed = λ page.
+            ap (λ xs. is_free xs page || has_page page c.match-joined.run) w.free-is
+            ∙ ap (λ r. is_free w.mark.new.self page || has_page page r) w.run-is
+            ∙ freed_marked (is_free c.loop-span.free page) (has_page page c.loop-span.run) (has_page page span) (is_free w.mark.new.self page) (is_free c.args.free.now page) (list_any (has_page page) (take c.loop-span.span-index c.args.spans.now)) (w.mark.ensures.marked page ∙ marked_more c.loop-span.run (is_free c.loop-span.free page) page) (so_far.freed page)
+            ∙ ap (λ t. is_free c.args.free.now page || t) (sym (more page));
+      }
     ]

@@ -13,8 +13,8 @@ at_test c test h =
     let tells = tells_beside test c.args.free.now c.loop-block.free c.loop-block.out h c.loop-block.invariant.taken in
     ap (λ n. option_map (λ c. c.block) (first_candidate (candidate (beside test c.loop-block.out) n c.args.range c.args.topdown) (log2 c.loop-block.left + 1))) (sym c.loop-block.invariant.taken.size)
     ∙ ap (option_map (λ c. c.block))
-        (sym (first_below (candidate (beside test c.loop-block.out) (length c.loop-block.free) c.args.range c.args.topdown) c.loop-block.left c.orders_below.result c.orders_below.ensures.value
-        (λ fits. c.last_block.ensures.none c.in_default.is fits (beside test c.loop-block.out) tells)))
+    (sym (first_below (candidate (beside test c.loop-block.out) (length c.loop-block.free) c.args.range c.args.topdown) c.loop-block.left c.orders_below.result c.orders_below.ensures.value
+    (λ fits. c.last_block.ensures.none c.in_default.is fits (beside test c.loop-block.out) tells)))
     ∙ c.take_block.ensures.choice (beside test c.loop-block.out) tells
 
 pub returns-in-Some-clause-ok : goal.returns-in-Some-clause-ok
@@ -23,7 +23,7 @@ returns-in-Some-clause-ok c = λ test h.
     let fuel : 0 < c.args.pages - c.loop-block._block = omega arith in
     let tells = tells_beside test c.args.free.now c.loop-block.free c.loop-block.out h c.loop-block.invariant.taken in
     let is = ap (λ n. option_map (λ c. c.block) (first_candidate (candidate (beside test c.loop-block.out) n c.args.range c.args.topdown) (log2 c.loop-block.left + 1))) (sym c.loop-block.invariant.taken.size)
-        ∙ c.in-Some.ensures.choice (beside test c.loop-block.out) tells in
+    ∙ c.in-Some.ensures.choice (beside test c.loop-block.out) tells in
     sym (c.loop-block.invariant.same test h)
     ∙ scattered_last (c.args.pages - c.loop-block._block) (beside test c.loop-block.out) (length c.args.free.now) c.args.range c.args.topdown c.loop-block.left c.loop-block.out c.in-Some.last fuel (omega (arith, some)) is c.in-Some.ensures.all
 
