@@ -1,0 +1,128 @@
+ghost use Rattle.std.specs.Prelude.{◌≡◌, Ok, true, false, None, Some, IfOk, OnOk, OnErr, is_some};
+ghost use Rattle.ttm_base.specs.declared.Actor.TheVariants as actor;
+ghost use Rattle.journal_model.specs.declared.entry.Kind.TheVariants as kind_words;
+ghost use Rattle.journal_model.specs.declared.state.Task.TheVariants as task;
+ghost use Rattle.journal_model.specs.Tasks.{task_of};
+ghost use Rattle.journal_model.specs.Search as words;
+ghost use Rattle.room_state.specs.Kept.{state_behind};
+ghost use Rattle.room_turns.specs.declared.Step.TheVariants as step_words;
+ghost use Rattle.room_turns.specs.Searching.{finds_choice, hunt_of, victim_of};
+ghost use Rattle.room_turns.specs.Turns.{after_step, entry_of, step_of};
+ghost use Rattle.room_searches.specs.Hunts.{seen};
+ghost use Rattle.evict_core.specs.Tasks.{lets_go};
+
+use crate::dry::{causes, ghost_in};
+use crate::victims::{is_long_enough, victim};
+use journal_model::{DryWhy, Kind, Why};
+use room_searches::{Hunt, place_at_work};
+use room_state::Rooms;
+use room_turns::{Step, make};
+use std::alloc::Global;
+use ttm_base::{Actor, BufId, Mem, Need, NoMemory};
+
+/// For what a victim of a place is caught.
+fn why_of(mem: Mem) -> Why
+    ensures { result ≡ words.why_of mem }
+{
+    match mem {
+        Mem::Vram => Why::Vram,
+        Mem::Tt => Why::Tt,
+        Mem::System => Why::Swap,
+    }
+}
+
+/// The buffer that is evicted for a search.
+pub fn victim_for(rooms: &Rooms, thread: u32, hunt: Hunt) -> Option<BufId>
+    requires { hunt_of rooms.now.script (state_behind rooms.now) thread ≡ Some (seen rooms.now.script hunt) }
+    ensures { result ≡ victim_of rooms.now.script (state_behind rooms.now) thread }
+{
+    let place = place_at_work(rooms.script(), hunt);
+    if !is_long_enough(rooms.script(), hunt.b, place) {
+        return None;
+    }
+    victim(rooms, rooms.course(thread).skips.items(), place)
+}
+
+/// Catches the buffer that is evicted for a search which has no choice.
+pub fn catch_for(rooms: &mut Rooms, thread: u32, hunt: Hunt) -> Result<bool, NoMemory>
+    requires at { hunt_of rooms.old.script (state_behind rooms.old) thread ≡ Some (seen rooms.old.script hunt) }
+    requires none { finds_choice rooms.old.script (state_behind rooms.old) thread ≡ false }
+    ensures caught { IfOk result (λ caught. caught ≡ is_some (victim_of rooms.old.script (state_behind rooms.old) thread)) }
+    ensures made { result ≡ Ok true → rooms.new ≡ after_step rooms.old (entry_of rooms.old (actor.Thread thread)) }
+    ensures step { result ≡ Ok true → step_of (entry_of rooms.old (actor.Thread thread)) ≡ step_words.Made }
+    ensures none { result ≡ Ok false → rooms.new ≡ rooms.old }
+    ensures err { OnErr result (rooms.new ≡ rooms.old) }
+{
+    let Some(v) = victim_for(rooms, thread, hunt) else {
+        return Ok(false);
+    };
+    let why = why_of(place_at_work(rooms.script(), hunt).mem);
+    make(rooms, Actor::Thread(thread), Kind::Catch { b: v, why })?;
+    Ok(true)
+}
+
+/// Makes the entry that the forced place at work of a search is dry.
+fn make_dry(
+    rooms: &mut Rooms,
+    thread: u32,
+    hunt: Hunt,
+    why: DryWhy,
+) -> Result<Step, NoMemory>
+    requires { entry_of rooms.old (actor.Thread thread) ≡ Ok (record { who = actor.Thread thread; kind = kind_words.Dry hunt.b hunt.dry why }) }
+    ensures step { IfOk result (λ step. step ≡ step_of (entry_of rooms.old (actor.Thread thread))) }
+    ensures made { OnOk result (rooms.new ≡ after_step rooms.old (entry_of rooms.old (actor.Thread thread))) }
+    ensures err { OnErr result (rooms.new ≡ rooms.old) }
+{
+    let kind = Kind::Dry {
+        b: hunt.b,
+        k: hunt.dry,
+        why,
+    };
+    make(rooms, Actor::Thread(thread), kind)
+}
+
+/// The forced place at work of a search is dry, or a ghost will give pages of it back.
+pub fn dry_for(
+    alloc: Global,
+    rooms: &mut Rooms,
+    thread: u32,
+    hunt: Hunt,
+) -> Result<Step, NoMemory>
+    requires at { hunt_of rooms.old.script (state_behind rooms.old) thread ≡ Some (seen rooms.old.script hunt) }
+    requires none { finds_choice rooms.old.script (state_behind rooms.old) thread ≡ false }
+    requires nobody { victim_of rooms.old.script (state_behind rooms.old) thread ≡ None }
+    ensures step { IfOk result (λ step. step ≡ step_of (entry_of rooms.old (actor.Thread thread))) }
+    ensures made { OnOk result (rooms.new ≡ after_step rooms.old (entry_of rooms.old (actor.Thread thread))) }
+    ensures err { OnErr result (rooms.new ≡ rooms.old) }
+{
+    let place = place_at_work(rooms.script(), hunt);
+    if !is_long_enough(rooms.script(), hunt.b, place) {
+        return make_dry(rooms, thread, hunt, DryWhy::Short);
+    }
+    if let Some(g) = ghost_in(rooms, place) {
+        return Ok(Step::Need(Need::Ghost(g)));
+    }
+    let rows = causes(alloc, rooms, place)?;
+    make_dry(rooms, thread, hunt, DryWhy::Of(rows))
+}
+
+/// Passes over a victim that found no room.
+pub fn skip_for(rooms: &mut Rooms, thread: u32, b: BufId) -> Result<Step, NoMemory>
+    requires { task_of rooms.old.script (state_behind rooms.old) thread ≡ task.Skip b }
+    ensures step { IfOk result (λ step. step ≡ step_of (entry_of rooms.old (actor.Thread thread))) }
+    ensures made { OnOk result (rooms.new ≡ after_step rooms.old (entry_of rooms.old (actor.Thread thread))) }
+    ensures err { OnErr result (rooms.new ≡ rooms.old) }
+{
+    make(rooms, Actor::Thread(thread), Kind::Skip { b })
+}
+
+/// Lets a victim go with which nothing is left to do.
+pub fn loose_for(rooms: &mut Rooms, thread: u32, b: BufId) -> Result<Step, NoMemory>
+    requires task { task_of rooms.old.script (state_behind rooms.old) thread ≡ task.Empty b }
+    requires goes { lets_go (entry_of rooms.old (actor.Thread thread)) ≡ true }
+    ensures step { IfOk result (λ step. step ≡ step_of (entry_of rooms.old (actor.Thread thread))) }
+    ensures made { OnOk result (rooms.new ≡ after_step rooms.old (entry_of rooms.old (actor.Thread thread))) }
+    ensures err { OnErr result (rooms.new ≡ rooms.old) }
+{
+    make(rooms, Actor::Thread(thread), Kind::Loose { b })
+}
