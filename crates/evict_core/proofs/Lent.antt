@@ -56,7 +56,7 @@ module _ (script : Script) (s : State) (skips : List BufId) (place : Place) (b :
           rw dead (and_false (same_mem System place.mem) (is_loose (grip s b)) (not (has_buffer skips b)) ∙ sym (gone bo.alive refl none))
         where
           gone : (a : Bool) → bo.alive ≡ a → body_of bo ≡ None → ((stands_in bo place.mem (reach_of script place) && is_loose (grip_of bo)) && not (has_buffer skips b)) ≡ false
-          gone true p n = let g : Some (record { mem = bo.mem; spans = bo.spans; table = bo.table; targets = bo.targets; fences = [] }) ≡ None = rw p at n in cc
+          gone true p n = let g : ◌≡◌ {A = Option Buffer} (Some (record { mem = bo.mem; spans = bo.spans; table = bo.table; targets = bo.targets; fences = [] })) None = rw p at n in cc
           gone false p n = rw p refl
       by (Some (Some x)) e =
           let some : body_of bo ≡ Some (unfenced x) = (let g : Some (Some (unfenced x)) ≡ Some (body_of bo) = sym (ap (option_map (option_map unfenced)) e) ∙ lent in cc) in

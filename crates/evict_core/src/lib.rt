@@ -2,8 +2,8 @@
 //! (ttm_mem_evict_first, ttm_lru_walk_for_evict). Each call makes the one entry that the thread makes next, or says what it needs first.
 #![tactic(auto)]
 
-mod dry;
+mod keepers;
 mod turns;
 mod victims;
 
-pub use turns::{catch_for, dry_for, loose_for, skip_for, victim_for};
+pub use turns::{catch, dry, loose, next_victim, skip};

@@ -4,4 +4,4 @@
 
 mod search;
 
-pub use search::take_for;
+pub use search::take_target;

@@ -1,16 +1,18 @@
 ghost use Rattle.std.specs.Prelude.{◌≡◌, ◌<◌, Ok, true, false, Some, IfOk, OnErr, length};
 ghost use Rattle.ttm_base.specs.Placement.{first_places};
 ghost use Rattle.ttm_base.specs.declared.Actor.TheVariants as actor;
+ghost use Rattle.journal_model.specs.declared.state.Stage.TheVariants as stage;
 ghost use Rattle.journal_model.specs.Search.{first_choice};
+ghost use Rattle.journal_model.specs.Tasks.{stage_of, task_of};
 ghost use Rattle.room_state.specs.Kept.{state_behind};
 ghost use Rattle.room_turns.specs.declared.Step.TheVariants as step_words;
-ghost use Rattle.room_turns.specs.Searching.{finds_choice, hunt_of};
+ghost use Rattle.room_turns.specs.Searching.{finds_choice};
 ghost use Rattle.room_turns.specs.Turns.{after_step, entry_of, step_of};
 ghost use Rattle.room_searches.specs.Hunts.{list_of, seen};
 ghost use Rattle.move_pipeline.specs.Finds as words;
 
 use journal_model::Kind;
-use room_searches::{Hunt, place_at, place_at_work, place_count};
+use room_searches::{Hunt, hunt_at_work, place_at, place_at_work, place_count};
 use room_state::Rooms;
 use room_turns::make;
 use ttm_base::{Actor, BufId, FlaggedPlace, Mem, NoMemory, Place, Spans};
@@ -77,16 +79,20 @@ fn find(rooms: &mut Rooms, hunt: Hunt) -> Result<Option<(Mem, Spans)>, NoMemory>
     found_at(rooms, hunt.b, place)
 }
 
-/// Takes the pages that a search finds, as the buffer's target.
-pub fn take_for(rooms: &mut Rooms, thread: u32, hunt: Hunt) -> Result<bool, NoMemory>
-    requires at { hunt_of rooms.old.script (state_behind rooms.old) thread ≡ Some (seen rooms.old.script hunt) }
-    requires declared { hunt.b.0 < length rooms.old.script.buffers }
+/// Takes the pages that a thread's search finds, as the buffer's target; false where no place to try now has a choice.
+///
+/// # Errors
+///
+/// Want of memory; nothing is changed.
+pub fn take_target(rooms: &mut Rooms, thread: u32) -> Result<bool, NoMemory>
+    requires { stage_of (task_of rooms.old.script (state_behind rooms.old) thread) ≡ stage.Search }
     ensures found { IfOk result (λ taken. taken ≡ finds_choice rooms.old.script (state_behind rooms.old) thread) }
     ensures made { result ≡ Ok true → rooms.new ≡ after_step rooms.old (entry_of rooms.old (actor.Thread thread)) }
     ensures step { result ≡ Ok true → step_of (entry_of rooms.old (actor.Thread thread)) ≡ step_words.Made }
     ensures none { result ≡ Ok false → rooms.new ≡ rooms.old }
     ensures err { OnErr result (rooms.new ≡ rooms.old) }
 {
+    let hunt = hunt_at_work(rooms, thread);
     let Some((mem, spans)) = find(rooms, hunt)? else {
         return Ok(false);
     };

@@ -1,20 +1,19 @@
 -- What a search comes to where its places have no choice.
-use Rattle.std.proofs.Common.{◌≡◌, ℕ, Bool, true, false, List, Option, Some, None, Ok, Err, refl, sym, ◌∙◌, ap}
-use Rattle.std.specs.Prelude.{◌&&◌, ◌||◌, not, is_some, unwrap_or, slice_get}
+use Rattle.std.proofs.Common.{◌≡◌, ℕ, Bool, true, false, List, Option, Some, None, Ok, refl, sym, ◌∙◌, ap}
+use Rattle.std.specs.Prelude.{◌&&◌, ◌||◌, not, is_some}
 use Rattle.ttm_base.specs.declared.Actor.TheVariants as actor
-use Rattle.ttm_base.specs.declared.BufId.{BufId}
 use Rattle.ttm_base.specs.declared.Mem.{Mem}
 use Rattle.ttm_base.specs.declared.Span.{Span}
-use Rattle.ttm_base.specs.Placement.{first_places, forced_places}
+use Rattle.ttm_base.specs.Placement.{first_places}
 use Rattle.journal_model.specs.declared.script.Script.{Script}
 use Rattle.journal_model.specs.declared.state.Course.{Course}
 use Rattle.journal_model.specs.declared.state.State.{State}
 use Rattle.journal_model.specs.declared.entry.Kind.TheVariants as kind
 use Rattle.journal_model.specs.State.{course}
 use Rattle.journal_model.specs.Choice.{choice}
-use Rattle.journal_model.specs.Search.{Quest, Step, first_choice, step_of_crowded, step_of_forced, step_of_quest}
+use Rattle.journal_model.specs.Search.{Step, first_choice, step_of_crowded, step_of_quest}
 use Rattle.journal_model.specs.Next.{next}
-use Rattle.room_turns.specs.Searching.{Hunt, finds_choice, has_choice, hunt_of, place_at_work, victim_for, victim_of}
+use Rattle.room_turns.specs.Searching.{Hunt, finds_choice, has_choice, hunt_of, place_at_work}
 use Rattle.room_searches.proofs.Hunted.{hunter_next}
 
 module _ (script : Script) (s : State) (c : Course) (h : Hunt) where

@@ -1,30 +1,28 @@
 -- The search at which a thread is.
-use Rattle.std.proofs.Common.{◌≡◌, ℕ, zero, suc, ◌<◌, ◌≤◌, Bool, true, false, List, [], ◌∷◌, ◌⊎◌, inl, inr, Option, Some, None, Ok, Err, IsTrue, IsSome, length, refl, sym, ◌∙◌, ap, subst, arith}
-use Rattle.std.specs.Prelude.{◌&&◌, ◌||◌, not, is_some, map, option_and_then, option_map, slice_get, unwrap_or, if◌then◌else◌}
+use Rattle.std.proofs.Common.{◌≡◌, ℕ, zero, suc, ◌<◌, Bool, true, false, List, [], ◌∷◌, ◌⊎◌, inl, inr, Option, Some, None, IsTrue, length, refl, sym, ◌∙◌, ap, subst, arith}
+use Rattle.std.specs.Prelude.{not, is_some, map, option_and_then, option_map, slice_get}
 use Rattle.std.proofs.lemmas.Option.{slice_get-map}
 use Rattle.ttm_base.specs.declared.Actor.TheVariants as actor
 use Rattle.ttm_base.specs.declared.BufId.{BufId}
-use Rattle.ttm_base.specs.declared.Place.{Place}
 use Rattle.ttm_base.specs.declared.FlaggedPlace.{FlaggedPlace}
 use Rattle.journal_model.specs.declared.script.Script.{Script}
 use Rattle.journal_model.specs.declared.script.Command.{Command}
 use Rattle.journal_model.specs.declared.script.Command.TheVariants as command
 use Rattle.journal_model.specs.declared.state.Aim.{Aim}
 use Rattle.journal_model.specs.declared.state.Aim.TheVariants.{Asked, Hop}
-use Rattle.journal_model.specs.declared.state.Buffer.{Buffer}
 use Rattle.journal_model.specs.declared.state.Course.{Course}
 use Rattle.journal_model.specs.declared.state.State.{State}
 use Rattle.journal_model.specs.declared.state.Stage.TheVariants as stage
 use Rattle.journal_model.specs.declared.state.Task.{Task}
 use Rattle.journal_model.specs.declared.state.Task.TheVariants as task
 use Rattle.journal_model.specs.declared.entry.Entry.{Entry}
-use Rattle.journal_model.specs.State.{course, has_buffer, is_live, live_in}
+use Rattle.journal_model.specs.State.{course, has_buffer}
 use Rattle.journal_model.specs.Commands.{asked_places, command_at_work}
 use Rattle.journal_model.specs.Ready.{is_ready}
 use Rattle.journal_model.specs.ScriptRules.{is_script}
-use Rattle.journal_model.specs.Search.{Quest, is_caught, quest, step_of_quest}
+use Rattle.journal_model.specs.Search.{is_caught, quest, step_of_quest}
 use Rattle.journal_model.specs.Next.{next}
-use Rattle.journal_model.specs.Tasks.{task_of, task_of_command, stage_of}
+use Rattle.journal_model.specs.Tasks.{task_of, stage_of}
 use Rattle.journal_model.specs.Legal.{IsLegal, state_of}
 use Rattle.law_state.proofs.GoodStates.{good_law}
 use Rattle.law_sound.proofs.Along.{sound_law}
@@ -34,8 +32,7 @@ use Rattle.journal_model.specs.Commands.{named}
 use Rattle.room_turns.specs.Searching.{hunt_in, hunt_of}
 use Rattle.room_turns.specs.Searching as searching
 use Rattle.room_turns.proofs.Threads.{command_at, next_at, task_at}
-use Rattle.room_searches.specs.declared.Hunt.{Hunt}
-use Rattle.room_searches.specs.Hunts.{hop_by, hunt_by, list_of, quest_of, seen, sought_by}
+use Rattle.room_searches.specs.Hunts.{hop_by, hunt_by, list_of, seen, sought_by}
 
 -- ---- where it looks
 

@@ -5,7 +5,8 @@ ghost use Rattle.std.specs.Prelude.{◌≡◌, ◌<◌, Some, length, slice_get,
 ghost use Rattle.ttm_base.specs.Placement.{forced_places};
 ghost use Rattle.ttm_base.specs.declared.Mem.TheVariants.{System};
 ghost use Rattle.journal_model.specs.Commands.{whole as all_of};
-ghost use Rattle.journal_model.specs.Tasks.{task_of};
+ghost use Rattle.journal_model.specs.Tasks.{stage_of, task_of};
+ghost use Rattle.journal_model.specs.declared.state.Stage.TheVariants as stage;
 ghost use Rattle.journal_model.specs.declared.state.Task.TheVariants as task;
 ghost use Rattle.room_state.specs.Kept.{state_behind};
 ghost use Rattle.room_turns.specs.Searching as words;
@@ -13,7 +14,7 @@ ghost use Rattle.room_turns.specs.Searching.{hunt_of};
 ghost use Rattle.room_searches.specs.Hunts as seen_as;
 ghost use Rattle.room_searches.specs.Hunts.{list_of, quest_of, seen};
 
-use journal_model::{Aim, Command, Course, Script};
+use journal_model::{Aim, Command, Course, Script, Task};
 use room_state::Rooms;
 use rules_state::{as_fallback, declared_places, is_caught, unflagged, whole};
 use ttm_base::{BufId, FlaggedPlace, Mem, Place};
@@ -88,8 +89,15 @@ fn hunt_by(command: &Command, course: &Course, b: BufId, aim: Aim) -> Hunt
     }
 }
 
-/// The search at which a thread is, whose task it is to find pages for a buffer.
-pub fn hunt_for(rooms: &Rooms, thread: u32, b: BufId, aim: Aim) -> Hunt
+/// What a thread has to do next.
+pub fn task_at_work(rooms: &Rooms, thread: u32) -> Task
+    ensures { result ≡ task_of rooms.now.script (state_behind rooms.now) thread }
+{
+    room_tasks::task_of(rooms.parts(), rooms.script(), rooms.journal(), thread)
+}
+
+/// The search of a buffer, whose pages it is a thread's task to find.
+fn hunt_for(rooms: &Rooms, thread: u32, b: BufId, aim: Aim) -> Hunt
     requires { task_of rooms.now.script (state_behind rooms.now) thread ≡ task.Search b aim }
     ensures at { hunt_of rooms.now.script (state_behind rooms.now) thread ≡ Some (seen rooms.now.script result) }
     ensures declared { result.b.0 < length rooms.now.script.buffers }
@@ -99,6 +107,18 @@ pub fn hunt_for(rooms: &Rooms, thread: u32, b: BufId, aim: Aim) -> Hunt
         unreachable!()
     };
     hunt_by(command, rooms.course(thread), b, aim)
+}
+
+/// The search at which a thread is.
+pub fn hunt_at_work(rooms: &Rooms, thread: u32) -> Hunt
+    requires { stage_of (task_of rooms.now.script (state_behind rooms.now) thread) ≡ stage.Search }
+    ensures at { hunt_of rooms.now.script (state_behind rooms.now) thread ≡ Some (seen rooms.now.script result) }
+    ensures declared { result.b.0 < length rooms.now.script.buffers }
+{
+    match task_at_work(rooms, thread) {
+        Task::Search { b, aim } => hunt_for(rooms, thread, b, aim),
+        _ => unreachable!(),
+    }
 }
 
 /// How many places a search tries.

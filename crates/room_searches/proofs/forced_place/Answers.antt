@@ -1,4 +1,4 @@
-use Rattle.std.proofs.Common.{rules, tests, not, sym, ◌∙◌, ap, slice_get, unwrap_or}
+use Rattle.std.proofs.Common.{rules, tests, not, sym, ◌∙◌, ap, unwrap_or}
 use Rattle.std.specs.Option.{option_map}
 use Rattle.std.proofs.lemmas.Iterator.{YieldsList-from_slice}
 use Rattle.std.proofs.lemmas.Iterator.Consumers.{YieldsList-at, YieldsList-from_filter, nth_from_yields_List}

@@ -1,7 +1,7 @@
 use Rattle.std.proofs.Common.{◌≡◌}
 use Rattle.room_state.specs.Kept.{state_behind}
 use Rattle.evict_core.proofs.Rows.{rows_up_to}
-use Rattle.evict_core.proofs.dry.causes.Given as goal
+use Rattle.evict_core.proofs.keepers.causes.Given as goal
 
 -- the rows of the buffers before
 abbrev pub invariant-loop-i : goal.invariant-loop-i

@@ -44,11 +44,7 @@ fn number_in(ghosts: &[Ghost], mem: Mem, within: Span) -> Option<u64>
 pub(crate) fn ghost_in(rooms: &Rooms, place: Place) -> Option<u64>
     ensures { result ≡ option_map (λ g. g.num) (words.ghost_in rooms.now.script (state_behind rooms.now) place) }
 {
-    number_in(
-        rooms.ghosts(),
-        place.mem,
-        reach_of(rooms.script(), place),
-    )
+    number_in(rooms.ghosts(), place.mem, reach_of(rooms.script(), place))
 }
 
 /// Why a buffer can't be evicted: the first cause that holds.

@@ -9,7 +9,7 @@ use Rattle.law_sound.proofs.Along.{sound_law}
 use Rattle.room_state.specs.Kept.{state_behind}
 use Rattle.evict_core.specs.Rows.{row_in}
 use Rattle.evict_core.proofs.Rows.{few_buffers, row_more, row_same, rows_all}
-use Rattle.evict_core.proofs.dry.causes.Goals as goal
+use Rattle.evict_core.proofs.keepers.causes.Goals as goal
 
 pub overflow_cast-b : goal.overflow_cast-b
 overflow_cast-b c =

@@ -6,7 +6,7 @@ use Rattle.room_state.specs.Kept.{state_behind}
 use Rattle.room_ties.specs.declared.parts.Ghost.{Ghost}
 use Rattle.evict_core.specs.Rows.{ghost_in}
 use Rattle.evict_core.proofs.Rows.{ghost_same}
-use Rattle.evict_core.proofs.dry.ghost_in.Goals as goal
+use Rattle.evict_core.proofs.keepers.ghost_in.Goals as goal
 
 pub returns : goal.returns
 returns c =

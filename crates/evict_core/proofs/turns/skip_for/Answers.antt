@@ -1,5 +1,0 @@
-use Rattle.evict_core.proofs.Entries.{entry_skips}
-use Rattle.evict_core.proofs.turns.skip_for.Goals as goal
-
-pub make-requires : goal.make-requires
-make-requires c = entry_skips c.args.rooms.now c.args.thread c.args.b c.requires
