@@ -1,10 +1,9 @@
 -- A thread's next entry where its search has no choice, and where a victim is passed over or let go.
-use Rattle.std.proofs.Common.{◌≡◌, ℕ, Bool, true, false, List, Option, Some, None, Result, Ok, Err, ◌⊎◌, inl, inr, refl, sym, ◌∙◌, ap, subst}
-use Rattle.std.specs.Prelude.{option_and_then, option_map, find}
+use Rattle.std.proofs.Common.{◌≡◌, ℕ, Bool, true, false, List, Option, Some, None, Ok, Err, refl, sym, ◌∙◌, ap}
+use Rattle.std.specs.Prelude.{option_and_then, option_map}
 use Rattle.ttm_base.specs.declared.Actor.TheVariants as actor
 use Rattle.ttm_base.specs.declared.BufId.{BufId}
 use Rattle.ttm_base.specs.declared.JobId.{JobId}
-use Rattle.ttm_base.specs.declared.Need.{Need}
 use Rattle.ttm_base.specs.declared.Need.TheVariants as need
 use Rattle.ttm_base.specs.declared.Place.{Place}
 use Rattle.journal_model.specs.declared.script.Script.{Script}
@@ -15,7 +14,6 @@ use Rattle.journal_model.specs.declared.state.Stage.TheVariants as stage
 use Rattle.journal_model.specs.declared.state.Task.TheVariants as task
 use Rattle.journal_model.specs.declared.entry.CauseRow.{CauseRow}
 use Rattle.journal_model.specs.declared.entry.DryWhy.TheVariants as dry
-use Rattle.journal_model.specs.declared.entry.Kind.{Kind}
 use Rattle.journal_model.specs.declared.entry.Kind.TheVariants as kind
 use Rattle.journal_model.specs.declared.entry.Why.{Why}
 use Rattle.journal_model.specs.declared.entry.Why.TheVariants as why

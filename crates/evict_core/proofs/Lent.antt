@@ -1,11 +1,9 @@
 -- A buffer that the table lends is the one of the state.
-use Rattle.std.proofs.Common.{◌≡◌, ℕ, zero, suc, ◌≤◌, Bool, true, false, List, [], ◌∷◌, Option, Some, None, IsTrue, refl, sym, ◌∙◌, ap, subst, arith, length}
-use Rattle.std.specs.Prelude.{◌&&◌, not, map, option_map, option_and_then, slice_get, unwrap_or, if◌then◌else◌}
+use Rattle.std.proofs.Common.{◌≡◌, ℕ, zero, suc, ◌≤◌, Bool, true, false, List, [], ◌∷◌, Option, Some, None, refl, sym, ◌∙◌, ap, arith, length}
+use Rattle.std.specs.Prelude.{◌&&◌, not, option_map, option_and_then, slice_get, unwrap_or}
 use Rattle.ttm_base.specs.declared.BufId.{BufId}
 use Rattle.ttm_base.specs.declared.Place.{Place}
-use Rattle.ttm_base.specs.declared.Mem.{Mem}
 use Rattle.ttm_base.specs.declared.Mem.TheVariants.{System}
-use Rattle.ttm_base.specs.declared.Span.{Span}
 use Rattle.ttm_base.specs.Reach.{same_mem, intersects}
 use Rattle.bo_table.specs.declared.bo.Bo.{Bo}
 use Rattle.bo_table.specs.Seen.{Bos, IsBo, body_of, grip_of}
@@ -13,8 +11,7 @@ use Rattle.bo_table.proofs.TableLaws.{get_map}
 use Rattle.journal_model.specs.declared.script.Script.{Script}
 use Rattle.journal_model.specs.declared.state.State.{State}
 use Rattle.journal_model.specs.declared.state.Buffer.{Buffer}
-use Rattle.journal_model.specs.declared.state.Grip.{Grip}
-use Rattle.journal_model.specs.State.{buffer, grip, live_in, grip_in, has_buffer, new_buffer, no_grip}
+use Rattle.journal_model.specs.State.{grip, live_in, grip_in, has_buffer, no_grip}
 use Rattle.journal_model.specs.Choice.{reach_of}
 use Rattle.journal_model.specs.Dry.{is_evictable, is_loose}
 use Rattle.room_ties.specs.Bos.{AreBos, unfenced}

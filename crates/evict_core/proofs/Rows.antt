@@ -1,6 +1,6 @@
 -- Who keeps pages of a place, as the parts and the state tell it.
-use Rattle.std.proofs.Common.{◌≡◌, ℕ, zero, suc, ◌+◌, ◌<◌, ◌≤◌, ◌^◌, Bool, true, false, List, [], ◌∷◌, ◌++◌, Option, Some, None, IsTrue, length, take, refl, sym, ◌∙◌, ap, subst, arith}
-use Rattle.std.specs.Prelude.{◌&&◌, ◌||◌, is_some, find, filter_map, map, option_to_list, option_and_then, option_map, slice_get, unwrap_or, if◌then◌else◌}
+use Rattle.std.proofs.Common.{◌≡◌, ℕ, zero, suc, ◌+◌, ◌<◌, ◌≤◌, Bool, true, false, List, [], ◌∷◌, ◌++◌, Option, Some, None, IsTrue, length, take, refl, sym, ◌∙◌, ap, arith}
+use Rattle.std.specs.Prelude.{◌&&◌, ◌||◌, is_some, find, filter_map, option_to_list, option_and_then, option_map, slice_get, unwrap_or, if◌then◌else◌}
 use Rattle.std.specs.List.{enumerate_from, cons_option}
 use Rattle.std.proofs.lemmas.Grind.{common_steps}
 use Rattle.std.proofs.lemmas.Bool.Decides.{nat_tests}
@@ -30,7 +30,7 @@ use Rattle.journal_model.specs.Dry.{cause_of, cause_row, causes}
 use Rattle.room_ties.specs.declared.parts.Ghost.{Ghost}
 use Rattle.room_ties.specs.Bos.{AreBos, unfenced}
 use Rattle.room_ties.specs.Ghosts.{AreGhosts, IsGhost}
-use Rattle.evict_core.specs.Rows.{buffer_of, ghost_spans, holds_in, ghost_in, is_kept_in, row_in}
+use Rattle.evict_core.specs.Rows.{buffer_of, ghost_spans, ghost_in, row_in}
 
 -- ---- ghosts
 

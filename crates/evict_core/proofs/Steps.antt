@@ -1,5 +1,5 @@
 -- Steps of a walk over a list of the LRU.
-use Rattle.std.proofs.Common.{◌≡◌, ℕ, zero, suc, ◌+◌, ◌*◌, ◌<◌, ◌≤◌, Bool, true, false, List, [], ◌∷◌, Option, Some, None, IsSome, IsTrue, refl, sym, ◌∙◌, ap, subst, arith, length}
+use Rattle.std.proofs.Common.{◌≡◌, ℕ, zero, suc, ◌+◌, ◌*◌, ◌<◌, ◌≤◌, Bool, true, false, List, [], ◌∷◌, Option, Some, None, IsSome, refl, sym, ◌∙◌, ap, arith, length}
 use Rattle.std.specs.Prelude.{is_some, find, slice_get, slice_index_or}
 use Rattle.ttm_base.specs.declared.BufId.{BufId}
 use Rattle.ttm_base.specs.declared.Mem.{Mem}
@@ -10,13 +10,13 @@ use Rattle.lru_bulk.specs.declared.nodes.Listing.{Listing}
 use Rattle.lru_bulk.specs.Lists.{Order, list_at, list_number, list_as, list_of, listing_of, behind}
 use Rattle.journal_model.specs.declared.script.Script.{Script}
 use Rattle.journal_model.specs.declared.state.State.{State}
-use Rattle.journal_model.specs.State.{has_buffer, live_in, grip, grip_in}
+use Rattle.journal_model.specs.State.{has_buffer, grip_in}
 use Rattle.journal_model.specs.Commands.{decl}
 use Rattle.journal_model.specs.Dry.{is_evictable, victim}
-use Rattle.law_lists.specs.GoodLists.{GoodLists, BelongsOn, stand_once}
+use Rattle.law_lists.specs.GoodLists.{GoodLists, stand_once}
 use Rattle.lemma_room_lists.specs.Listed.{AreListed, listing_as}
 use Rattle.evict_core.specs.Walks.{from_on, left_from}
-use Rattle.evict_core.proofs.Walks.{from_first, behind_is, Walked, walked, find_four, or_next}
+use Rattle.evict_core.proofs.Walks.{behind_is, walked, find_four, or_next}
 
 index_get : (xs : List (List BufId)) (i : ℕ) → i < length xs → slice_get xs i ≡ Some (slice_index_or xs i [])
 index_get [] i h = absurd (omega (arith, h))

@@ -1,5 +1,5 @@
 -- Who keeps pages of a place, as the table of buffers and the ghosts tell it.
-use Rattle.std.specs.Prelude.{ℕ, Bool, List, [], Option, Some, None, ◌&&◌, ◌||◌, if◌then◌else◌, is_some, find}
+use Rattle.std.specs.Prelude.{Bool, List, [], Option, Some, None, ◌&&◌, ◌||◌, if◌then◌else◌, is_some, find}
 use Rattle.ttm_base.specs.declared.BufId.{BufId}
 use Rattle.ttm_base.specs.declared.Mem.{Mem}
 use Rattle.ttm_base.specs.declared.Mem.TheVariants.{System, Tt, Vram}

@@ -1,11 +1,10 @@
 -- What a search finds is what it takes.
-use Rattle.std.proofs.Common.{◌≡◌, ℕ, zero, suc, ◌+◌, ◌<◌, Bool, true, false, List, [], ◌∷◌, Option, Some, None, Ok, Err, drop, length, refl, sym, ◌∙◌, ap, subst, arith}
+use Rattle.std.proofs.Common.{◌≡◌, ℕ, zero, suc, ◌+◌, Bool, true, false, List, [], ◌∷◌, Option, Some, None, Ok, drop, refl, sym, ◌∙◌, ap, arith}
 use Rattle.std.specs.Prelude.{◌&&◌, ◌||◌, not, is_some, option_map, slice_get}
 use Rattle.ttm_base.specs.declared.Actor.TheVariants as actor
 use Rattle.ttm_base.specs.declared.BufId.{BufId}
 use Rattle.ttm_base.specs.declared.Mem.{Mem}
 use Rattle.ttm_base.specs.declared.Span.{Span}
-use Rattle.ttm_base.specs.declared.Place.{Place}
 use Rattle.ttm_base.specs.declared.FlaggedPlace.{FlaggedPlace}
 use Rattle.ttm_base.specs.Placement.{first_places}
 use Rattle.journal_model.specs.declared.script.Script.{Script}
@@ -15,7 +14,6 @@ use Rattle.journal_model.specs.declared.entry.Kind.TheVariants as kind
 use Rattle.journal_model.specs.State.{course}
 use Rattle.journal_model.specs.Choice.{choice}
 use Rattle.journal_model.specs.Search.{first_choice, step_of_quest}
-use Rattle.journal_model.specs.Next.{next}
 use Rattle.room_state.specs.Kept.{Kept, state_behind}
 use Rattle.room_turns.specs.Searching.{Hunt, finds_choice, has_choice, hunt_of, place_at_work}
 use Rattle.room_turns.specs.Turns.{entry_of}

@@ -1,5 +1,5 @@
 -- What a search finds.
-use Rattle.std.specs.Prelude.{true, false, List, Option, Some, None, option_map, if◌then◌else◌}
+use Rattle.std.specs.Prelude.{true, false, List, Option, Some, None, option_map}
 use Rattle.ttm_base.specs.declared.BufId.{BufId}
 use Rattle.ttm_base.specs.declared.FlaggedPlace.{FlaggedPlace}
 use Rattle.ttm_base.specs.declared.Mem.{Mem}

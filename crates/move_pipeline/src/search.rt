@@ -18,11 +18,7 @@ use room_turns::make;
 use ttm_base::{Actor, BufId, FlaggedPlace, Mem, NoMemory, Place, Spans};
 
 /// The pages that a place has, with its memory type.
-fn found_at(
-    rooms: &mut Rooms,
-    b: BufId,
-    place: Place,
-) -> Result<Option<(Mem, Spans)>, NoMemory>
+fn found_at(rooms: &mut Rooms, b: BufId, place: Place) -> Result<Option<(Mem, Spans)>, NoMemory>
     requires { b.0 < length rooms.old.script.buffers }
     ensures found { IfOk result (λ found. found ≡ words.found_at rooms.old.script (state_behind rooms.old) b place) }
     ensures same { rooms.new ≡ rooms.old }

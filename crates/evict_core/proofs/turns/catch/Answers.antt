@@ -1,4 +1,4 @@
-use Rattle.std.proofs.Common.{◌≡◌, ◌∙◌, ap}
+use Rattle.std.proofs.Common.{◌∙◌, ap}
 use Rattle.journal_model.specs.declared.script.Script.{Script}
 use Rattle.room_turns.specs.Searching.{place_at_work}
 use Rattle.room_turns.specs.Turns.{step_of}

@@ -1,12 +1,10 @@
-use Rattle.std.proofs.Common.{◌≡◌, ◌<◌, true, false, Some, Option, sym, ◌∙◌, ap, refl, subst, length}
+use Rattle.std.proofs.Common.{◌≡◌, ◌<◌, sym, ◌∙◌, ap, subst, length}
 use Rattle.std.specs.Prelude.{find}
-use Rattle.ttm_base.specs.declared.BufId.{BufId}
 use Rattle.lru_bulk.specs.Lists.{list_at, list_number}
-use Rattle.journal_model.specs.State.{has_buffer}
 use Rattle.journal_model.specs.Dry.{is_evictable}
 use Rattle.law_lists.proofs.Law.{lists_law}
 use Rattle.room_state.specs.Kept.{state_behind}
-use Rattle.evict_core.specs.Walks.{from_on, left_from}
+use Rattle.evict_core.specs.Walks.{left_from}
 use Rattle.evict_core.proofs.Walks.{from_first, first_in}
 use Rattle.evict_core.proofs.Steps.{first_is, next_asks, stepped, shorter, still_in, found_here}
 use Rattle.evict_core.proofs.victims.first_on.Goals as goal

@@ -1,4 +1,4 @@
-use Rattle.std.proofs.Common.{◌≡◌, sym, ◌∙◌}
+use Rattle.std.proofs.Common.{sym, ◌∙◌}
 use Rattle.law_lists.proofs.Law.{lists_law}
 use Rattle.room_state.specs.Kept.{state_behind}
 use Rattle.evict_core.proofs.Steps.{in_first, in_second, in_third, in_fourth}
