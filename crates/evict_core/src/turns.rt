@@ -14,7 +14,7 @@ ghost use Rattle.evict_core.specs.Tasks.{is_skip, lets_go};
 use crate::keepers::{causes, ghost_in};
 use crate::victims::{is_long_enough, victim};
 use journal_model::{DryWhy, Kind, Task, Why};
-use room_searches::{Hunt, hunt_at_work, place_at_work, task_at_work};
+use room_searches::{Hunt, hunt_at_work, place_at_work};
 use room_state::Rooms;
 use room_turns::{Step, make};
 use std::alloc::Global;
@@ -128,7 +128,7 @@ pub fn skip(rooms: &mut Rooms, thread: u32) -> Result<Step, NoMemory>
     ensures made { OnOk result (rooms.new ≡ after_step rooms.old (entry_of rooms.old (actor.Thread thread))) }
     ensures err { OnErr result (rooms.new ≡ rooms.old) }
 {
-    match task_at_work(rooms, thread) {
+    match rooms.task(thread) {
         Task::Skip(b) => make(rooms, Actor::Thread(thread), Kind::Skip { b }),
         _ => unreachable!(),
     }
@@ -146,7 +146,7 @@ pub fn loose(rooms: &mut Rooms, thread: u32) -> Result<Step, NoMemory>
     ensures made { OnOk result (rooms.new ≡ after_step rooms.old (entry_of rooms.old (actor.Thread thread))) }
     ensures err { OnErr result (rooms.new ≡ rooms.old) }
 {
-    match task_at_work(rooms, thread) {
+    match rooms.task(thread) {
         Task::Empty(b) => make(rooms, Actor::Thread(thread), Kind::Loose { b }),
         _ => unreachable!(),
     }

@@ -89,13 +89,6 @@ fn hunt_by(command: &Command, course: &Course, b: BufId, aim: Aim) -> Hunt
     }
 }
 
-/// What a thread has to do next.
-pub fn task_at_work(rooms: &Rooms, thread: u32) -> Task
-    ensures { result ≡ task_of rooms.now.script (state_behind rooms.now) thread }
-{
-    room_tasks::task_of(rooms.parts(), rooms.script(), rooms.journal(), thread)
-}
-
 /// The search of a buffer, whose pages it is a thread's task to find.
 fn hunt_for(rooms: &Rooms, thread: u32, b: BufId, aim: Aim) -> Hunt
     requires { task_of rooms.now.script (state_behind rooms.now) thread ≡ task.Search b aim }
@@ -115,7 +108,7 @@ pub fn hunt_at_work(rooms: &Rooms, thread: u32) -> Hunt
     ensures at { hunt_of rooms.now.script (state_behind rooms.now) thread ≡ Some (seen rooms.now.script result) }
     ensures declared { result.b.0 < length rooms.now.script.buffers }
 {
-    match task_at_work(rooms, thread) {
+    match rooms.task(thread) {
         Task::Search { b, aim } => hunt_for(rooms, thread, b, aim),
         _ => unreachable!(),
     }
