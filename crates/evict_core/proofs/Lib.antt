@@ -1,0 +1,5 @@
+pub mod Walks
+pub mod Lent
+pub mod Steps
+pub mod Rows
+pub mod Entries

@@ -1,0 +1,34 @@
+-- What a search finds.
+use Rattle.std.specs.Prelude.{true, false, List, Option, Some, None, option_map}
+use Rattle.ttm_base.specs.declared.BufId.{BufId}
+use Rattle.ttm_base.specs.declared.FlaggedPlace.{FlaggedPlace}
+use Rattle.ttm_base.specs.declared.Mem.{Mem}
+use Rattle.ttm_base.specs.declared.Place.{Place}
+use Rattle.ttm_base.specs.declared.Span.{Span}
+use Rattle.ttm_base.specs.Placement.{first_places}
+use Rattle.journal_model.specs.declared.script.Script.{Script}
+use Rattle.journal_model.specs.declared.state.State.{State}
+use Rattle.journal_model.specs.Choice.{choice}
+use Rattle.journal_model.specs.Search.{first_choice}
+use Rattle.room_turns.specs.Searching.{Hunt, place_at_work}
+
+-- a place with a choice: its memory type, and the pages
+abbrev pub found_at : Script → State → BufId → Place → Option (Mem × List Span)
+found_at script s b place = option_map (λ spans. (place.mem, spans)) (choice script s.core b place)
+
+-- not one that is tried under pressure alone
+abbrev pub tried_at : Script → State → BufId → FlaggedPlace → Option (Mem × List Span)
+tried_at script s b p = elim p.fallback [ true ↦ None | false ↦ found_at script s b p.place ]
+
+-- the first of two that is there
+abbrev pub or_else : Option (Mem × List Span) → Option (Mem × List Span) → Option (Mem × List Span)
+or_else (Some f) o = Some f
+or_else None o = o
+
+-- not yet under pressure, the first place with a choice among those tried first
+abbrev pub found_first : Script → State → Hunt → Option (Mem × List Span)
+found_first script s h = elim h.quest.forced [ true ↦ None | false ↦ first_choice script s h.b (first_places h.quest.list) ]
+
+-- else the forced place at work
+abbrev pub found : Script → State → Hunt → Option (Mem × List Span)
+found script s h = or_else (found_first script s h) (found_at script s h.b (place_at_work h.quest))
