@@ -3,5 +3,3 @@
 #![tactic(auto)]
 
 mod carry;
-
-pub use carry::{carry, untake};
