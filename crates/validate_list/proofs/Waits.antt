@@ -1,6 +1,7 @@
 -- For what a thread waits that locks or acts.
-use Rattle.std.proofs.Common.{◌≡◌, ℕ, Bool, true, false, Option, Some, None, Ok, Err, refl, sym, ◌∙◌, ap}
-use Rattle.std.specs.Prelude.{◌&&◌, is_some, option_map, if◌then◌else◌}
+use Rattle.std.proofs.Common.{◌≡◌, ℕ, ◌<◌, Bool, true, false, ◌⊎◌, ⊎_elim, Option, Some, None, Ok, Err, IsTrue, length, refl, sym, ◌∙◌, ap, arith}
+use Rattle.std.specs.Prelude.{◌&&◌, nat_lt, option_map, if◌then◌else◌}
+use Rattle.std.proofs.lemmas.Bool.Decides.{nat_tests}
 use Rattle.ttm_base.specs.declared.Actor.TheVariants as actor
 use Rattle.ttm_base.specs.declared.BufId.{BufId}
 use Rattle.ttm_base.specs.declared.JobId.{JobId}
@@ -21,6 +22,8 @@ use Rattle.journal_model.specs.declared.entry.Shown.TheVariants as shown
 use Rattle.journal_model.specs.State.{buffer, course, grip, is_live}
 use Rattle.journal_model.specs.Commands.{command_at_work}
 use Rattle.journal_model.specs.Dry.{has_frame}
+use Rattle.journal_model.specs.Legal.{IsLegal}
+use Rattle.journal_model.specs.ScriptRules.{is_script}
 use Rattle.journal_model.specs.Next.{backs_off, plain, step_of_holder, step_of_lock, step_of_task}
 use Rattle.journal_model.specs.PageSteps.{unless_waiting}
 use Rattle.journal_model.specs.Search.{Step}
@@ -31,15 +34,37 @@ use Rattle.room_state.specs.Kept.{Kept, state_behind, world_behind}
 use Rattle.room_turns.specs.declared.Step as answers
 use Rattle.room_turns.specs.Acting.{command_due, command_in, entry_by, holder_awaited, holder_before, holder_in, job_awaited, job_before, made_unless, swap_due, swaps}
 use Rattle.room_turns.specs.Turns.{entry_of, step_of}
+use Rattle.room_turns.proofs.Threads.{command_at}
+use Rattle.room_turns.proofs.Works.{lock_other}
 use Rattle.validate_list.specs.Acts.{act_of}
 use Rattle.validate_list.proofs.Acting.{due_is}
 use Rattle.validate_list.proofs.Shown.{act_entry, bare_entry, is_bare_step, swap_over}
+
+-- a holder is backed off from, by the ticket and what is held
+abbrev backs_by : Option Stamp → Stamp → ℕ → Bool
+backs_by o holder count = elim o [ None ↦ false | Some mine ↦ nat_lt holder.0 mine.0 && nat_lt 0 count ]
 
 -- what is answered to a step
 abbrev pub answer_to : ℕ → Step → answers.Step
 answer_to t x = step_of (entry_by t x)
 
 -- ---- locking
+
+module _ (c : Course) (mine : Stamp) (count : ℕ) (b : BufId) (o : Option Stamp) (h : Stamp) (stamp : c.stamp ≡ Some mine) (many : count ≡ length c.held) (is : o ≡ Some h) where
+  decided : (q : Bool) → (nat_lt h.0 mine.0 && nat_lt 0 count) ≡ q → step_of_holder c b o ≡ (if q then Ok (kind.Backoff b h) else Err (need.Holder h))
+  decided q e =
+      let back : backs_off c h ≡ q = ap (λ x. backs_by x h (length c.held)) stamp ∙ ap (λ n. nat_lt h.0 mine.0 && nat_lt 0 n) (sym many) ∙ e in
+      ap (step_of_holder c b) is ∙ ap (λ (q : Bool). if q then Ok (kind.Backoff b h) else Err (need.Holder h)) back
+
+  -- an older holder is backed off from
+  pub backs : h.0 < mine.0 → IsTrue (nat_lt 0 count) → Ok (kind.Backoff b h) ≡ step_of_holder c b o
+  backs older holds = let e : (nat_lt h.0 mine.0 && nat_lt 0 count) ≡ true = grind (arith, nat_tests) in sym (decided true e)
+
+  -- any other is waited for
+  pub stays : (mine.0 < h.0) ⊎ (nat_lt 0 count ≡ false) → Err (need.Holder h) ≡ step_of_holder c b o
+  stays younger =
+      let e : (nat_lt h.0 mine.0 && nat_lt 0 count) ≡ false = ⊎_elim (λ (y : mine.0 < h.0). grind (arith, nat_tests)) (λ (n : nat_lt 0 count ≡ false). grind (arith, nat_tests)) younger in
+      sym (decided false e)
 
 module _ (s : State) (c : Course) (t : ℕ) (b : BufId) where
   holder_waits : (o : Option Stamp) → answer_to t (step_of_holder c b o) ≡ made_unless (option_map need.Holder (holder_before c o))
@@ -77,15 +102,21 @@ module _ (k : Kept) (t : ℕ) where
   abbrev s : State
   s = state_behind k
 
-  -- the entry of a lock
-  pub lock_entry : (cmd : Command) (b : BufId) → command_at_work k.script s t ≡ Some cmd → task_of k.script s t ≡ task.Lock b → entry_of k (actor.Thread t) ≡ entry_by t (step_of_lock s (course s t) b)
-  lock_entry cmd b at is = bare_entry k t cmd (task.Lock b) at is (lock_bare s (course s t) t b)
+  -- who locks is at a command
+  locker : (b : BufId) → task_of k.script s t ≡ task.Lock b → (cmd : Command) × (command_at_work k.script s t ≡ Some cmd)
+  locker b is = command_at k.script s t stage.Lock (ap stage_of is) (λ e. cc)
 
-  -- and for whom it waits
-  pub lock_awaits : (b : BufId) → task_of k.script s t ≡ task.Lock b → entry_of k (actor.Thread t) ≡ entry_by t (step_of_lock s (course s t) b) →
-      step_of (entry_of k (actor.Thread t)) ≡ made_unless (option_map need.Holder (holder_awaited k.script s t))
-  lock_awaits b is entry =
-      ap step_of entry ∙ lock_waits s (course s t) t b ∙ ap (λ x. made_unless (option_map need.Holder (holder_in s (course s t) x))) (sym is)
+  -- for whom a thread waits that locks
+  pub lock_awaits : (b : BufId) → task_of k.script s t ≡ task.Lock b → step_of (entry_of k (actor.Thread t)) ≡ made_unless (option_map need.Holder (holder_awaited k.script s t))
+  lock_awaits b is =
+      let work = locker b is in
+      ap step_of (bare_entry k t work.0 (task.Lock b) work.1 is (lock_bare s (course s t) t b))
+      ∙ lock_waits s (course s t) t b
+      ∙ ap (λ x. made_unless (option_map need.Holder (holder_in s (course s t) x))) (sym is)
+
+  -- never for itself
+  pub locks_other : (b : BufId) → task_of k.script s t ≡ task.Lock b → IsTrue (is_script k.script) → IsLegal k.script k.journal → (mine : Stamp) → (course s t).stamp ≡ Some mine → (grip s b).holder ≡ Some mine → ⊥
+  locks_other b is fits legal mine stamp holder = let work = locker b is in lock_other k.script k.journal fits legal t work.0 work.1 b is mine stamp holder
 
   -- ---- acting
 
@@ -122,8 +153,12 @@ module _ (k : Kept) (t : ℕ) where
         let none : command_due k.script s t ≡ None = ap (command_in (command_at_work k.script s t)) is ∙ ap (λ o. command_in o x) at ∙ out in
         ap step_of (bare_entry k t cmd x at is bares) ∙ ap (answer_to t) step ∙ ap (λ o. made_unless (option_map need.Fence (job_before s o))) (sym none)
 
-    pub task_waits : (cmd : Command) (x : Task) → command_at_work k.script s t ≡ Some cmd → task_of k.script s t ≡ x → stage_of x ≡ stage.Act → step_of (entry_of k (actor.Thread t)) ≡ made_unless (option_map need.Fence (job_awaited k.script s t))
+    task_waits : (cmd : Command) (x : Task) → command_at_work k.script s t ≡ Some cmd → task_of k.script s t ≡ x → stage_of x ≡ stage.Act → step_of (entry_of k (actor.Thread t)) ≡ made_unless (option_map need.Fence (job_awaited k.script s t))
     task_waits cmd task.Act at is h = own_waits cmd at is
     task_waits cmd task.Answer at is h = plain_waits cmd task.Answer (kind.Result shown.Plain) at is refl refl refl
     task_waits cmd (task.Refuse d) at is h = plain_waits cmd (task.Refuse d) (kind.Refused d) at is refl refl refl
     task_waits cmd x at is h = cc
+
+    -- for which job a thread waits that acts
+    pub task_awaits : (x : Task) → task_of k.script s t ≡ x → stage_of x ≡ stage.Act → step_of (entry_of k (actor.Thread t)) ≡ made_unless (option_map need.Fence (job_awaited k.script s t))
+    task_awaits x is h = let work = command_at k.script s t stage.Act (ap stage_of is ∙ h) (λ e. cc) in task_waits work.0 x work.1 is h

@@ -107,6 +107,7 @@ fn next_of_act(rooms: &Rooms, thread: u32) -> Result<Next, NoMemory>
     requires no_swap { swap_due rooms.now.script (state_behind rooms.now) thread ≡ false }
     ensures { IfOk result (λ next. entry_of rooms.now (actor.Thread thread) ≡ entry_by thread next) }
 {
+    let _legal = rooms.journal();
     let Some(command) = rooms.command(thread) else {
         unreachable!()
     };

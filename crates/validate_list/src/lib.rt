@@ -3,12 +3,11 @@
 #![tactic(auto)]
 
 mod acts;
+mod buffers;
 mod enact;
 mod locks;
 mod refuse;
 mod starts;
 
-pub use acts::act;
-pub use locks::{lock, wait_die};
-pub use refuse::refuse;
+pub use locks::wait_die;
 pub use starts::start;

@@ -36,6 +36,7 @@ fn next_of_lock(rooms: &Rooms, thread: u32, b: BufId) -> Next
     requires { task_of rooms.now.script (state_behind rooms.now) thread ≡ task.Lock b }
     ensures { result ≡ words.step_of_lock (state_behind rooms.now) (course (state_behind rooms.now) thread) b }
 {
+    let _legal = rooms.journal();
     if !is_live(rooms, b) {
         return Ok(Kind::Refused {
             deny: Deny::NoBuffer,
