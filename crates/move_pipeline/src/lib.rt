@@ -2,4 +2,6 @@
 //! Each call makes the one entry that the thread makes next, or says what it needs first.
 #![tactic(auto)]
 
-mod carry;
+mod carries;
+
+pub use carries::{carry, untake};

@@ -1,11 +1,8 @@
 -- A command that is at work fits the script, and its buffers are live.
-use Rattle.std.proofs.Common.{◌≡◌, ℕ, ◌<◌, true, false, Some, None, Option, IsTrue, length, refl, sym, ◌∙◌, ap, subst}
-use Rattle.ttm_base.specs.declared.BufId.{BufId}
-use Rattle.journal_model.specs.declared.script.Script.{Script}
+use Rattle.std.proofs.Common.{◌≡◌, ℕ, false, Some, IsTrue, sym, ◌∙◌, ap}
 use Rattle.journal_model.specs.declared.script.Command.{Command}
 use Rattle.journal_model.specs.declared.state.Task.TheVariants as task
-use Rattle.journal_model.specs.State.{has_buffer}
-use Rattle.journal_model.specs.Commands.{command_at_work, named}
+use Rattle.journal_model.specs.Commands.{command_at_work}
 use Rattle.journal_model.specs.Legal.{IsLegal}
 use Rattle.journal_model.specs.ScriptRules.{is_script}
 use Rattle.journal_model.specs.Tasks.{task_of}

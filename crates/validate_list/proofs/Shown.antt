@@ -23,7 +23,7 @@ use Rattle.journal_model.specs.Dry.{has_frame}
 use Rattle.journal_model.specs.Holds.{free_slot}
 use Rattle.journal_model.specs.Search.{Step}
 use Rattle.journal_model.specs.PageSteps.{first_frame_page, once_idle, unless_waiting}
-use Rattle.journal_model.specs.Next.{next, plain, step_of_act, step_of_task}
+use Rattle.journal_model.specs.Next.{plain, step_of_act, step_of_task}
 use Rattle.journal_model.specs.Legal.{World, shown_step}
 use Rattle.journal_model.specs.Stores.{bytes_of, shown_by_read}
 use Rattle.journal_model.specs.Tasks.{task_of}

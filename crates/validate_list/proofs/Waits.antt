@@ -8,7 +8,6 @@ use Rattle.ttm_base.specs.declared.JobId.{JobId}
 use Rattle.ttm_base.specs.declared.Stamp.{Stamp}
 use Rattle.ttm_base.specs.declared.Deny.TheVariants as deny
 use Rattle.ttm_base.specs.declared.Need.TheVariants as need
-use Rattle.journal_model.specs.declared.script.Script.{Script}
 use Rattle.journal_model.specs.declared.script.Command.{Command}
 use Rattle.journal_model.specs.declared.script.Command.TheVariants as command
 use Rattle.journal_model.specs.declared.state.Course.{Course}
@@ -160,5 +159,5 @@ module _ (k : Kept) (t : ℕ) where
     task_waits cmd x at is h = cc
 
     -- for which job a thread waits that acts
-    pub task_awaits : (x : Task) → task_of k.script s t ≡ x → stage_of x ≡ stage.Act → step_of (entry_of k (actor.Thread t)) ≡ made_unless (option_map need.Fence (job_awaited k.script s t))
-    task_awaits x is h = let work = command_at k.script s t stage.Act (ap stage_of is ∙ h) (λ e. cc) in task_waits work.0 x work.1 is h
+    pub task_awaits : stage_of (task_of k.script s t) ≡ stage.Act → step_of (entry_of k (actor.Thread t)) ≡ made_unless (option_map need.Fence (job_awaited k.script s t))
+    task_awaits h = let work = command_at k.script s t stage.Act h (λ e. cc) in task_waits work.0 (task_of k.script s t) work.1 refl h

@@ -1,4 +1,4 @@
-ghost use Rattle.std.specs.Prelude.{◌≡◌, ◌+◌, ◌≤◌, ◌<◌, Some, false, IfOk, IsTrue, OnOk, OnErr, length, option_map};
+ghost use Rattle.std.specs.Prelude.{◌≡◌, ◌≤◌, ◌<◌, Ok, Some, false, IfOk, OnOk, OnErr, length, option_map};
 ghost use Rattle.ttm_base.specs.declared.Actor.TheVariants as actor;
 ghost use Rattle.ttm_base.specs.declared.Need.TheVariants as need;
 ghost use Rattle.journal_model.specs.declared.script.Command.TheVariants as command;
@@ -7,12 +7,9 @@ ghost use Rattle.journal_model.specs.declared.entry.Shown.TheVariants as shown;
 ghost use Rattle.journal_model.specs.declared.state.Stage.TheVariants as stage;
 ghost use Rattle.journal_model.specs.declared.state.Task.TheVariants as task;
 ghost use Rattle.journal_model.specs.PageSteps as steps;
-ghost use Rattle.journal_model.specs.State as state;
-ghost use Rattle.journal_model.specs.Stores.{bytes_of};
 ghost use Rattle.journal_model.specs.Tasks.{task_of, stage_of};
-ghost use Rattle.journal_model.specs.Waits.{waited_for, jobs_before_read};
 ghost use Rattle.lemma_bytes_told.specs.Told.{IsThere};
-ghost use Rattle.room_state.specs.Kept.{state_behind, world_behind};
+ghost use Rattle.room_state.specs.Kept.{state_behind};
 ghost use Rattle.room_turns.specs.Acting.{entry_by, free_due, job_awaited, made_unless, swap_due, swaps};
 ghost use Rattle.room_turns.specs.Turns.{after_step, entry_of, step_of};
 ghost use Rattle.validate_list.specs.Acts.{act_of, IsActing};
@@ -48,7 +45,7 @@ fn next_of_read(rooms: &Rooms, b: BufId, off: u32, len: u32) -> Result<Next, NoM
     requires live { IsThere (state_behind rooms.now) b }
     requires declared { b.0 < length rooms.now.script.buffers }
     requires short { len ≤ 4096 }
-    ensures { IfOk result (λ next. next ≡ steps.unless_waiting (waited_for (state_behind rooms.now).core (jobs_before_read (state.buffer (state_behind rooms.now) b))) (kind.Result (shown.Read (bytes_of (world_behind rooms.now).stores (state.buffer (state_behind rooms.now) b) off len)))) }
+    ensures { IfOk result (λ next. next ≡ act_of rooms.now (command.Read b off len)) }
 {
     if let Some(job) = rooms.need(b, Usage::Read) {
         return Ok(Err(Need::Fence(job)));
@@ -60,7 +57,7 @@ fn next_of_read(rooms: &Rooms, b: BufId, off: u32, len: u32) -> Result<Next, NoM
 /// Where a buffer stands is shown.
 fn kind_of_find(rooms: &Rooms, b: BufId) -> Result<Kind, NoMemory>
     requires { IsThere (state_behind rooms.now) b }
-    ensures { IfOk result (λ shows. shows ≡ kind.Result (shown.Find (state.buffer (state_behind rooms.now) b).mem (state.buffer (state_behind rooms.now) b).spans)) }
+    ensures { IfOk result (λ shows. act_of rooms.now (command.Find b) ≡ Ok shows) }
 {
     let bo = lent(rooms, b);
     let spans = bo.spans.copy()?;
@@ -115,14 +112,13 @@ fn next_of_act(rooms: &Rooms, thread: u32) -> Result<Next, NoMemory>
 }
 
 /// The next step of a thread that answers, refuses or does what its command is for.
-fn next_of_task(rooms: &Rooms, thread: u32, task: Task) -> Result<Next, NoMemory>
-    requires is { task_of rooms.now.script (state_behind rooms.now) thread ≡ task }
-    requires act { stage_of task ≡ stage.Act }
+fn next_of_task(rooms: &Rooms, thread: u32) -> Result<Next, NoMemory>
+    requires act { stage_of (task_of rooms.now.script (state_behind rooms.now) thread) ≡ stage.Act }
     requires no_free { free_due rooms.now.script (state_behind rooms.now) thread ≡ false }
     requires no_swap { swap_due rooms.now.script (state_behind rooms.now) thread ≡ false }
     ensures { IfOk result (λ next. entry_of rooms.now (actor.Thread thread) ≡ entry_by thread next) }
 {
-    match task {
+    match rooms.task(thread) {
         Task::Answer => Ok(Ok(plain())),
         Task::Refuse(deny) => Ok(Ok(Kind::Refused { deny })),
         Task::Act => next_of_act(rooms, thread),
@@ -130,10 +126,14 @@ fn next_of_task(rooms: &Rooms, thread: u32, task: Task) -> Result<Next, NoMemory
     }
 }
 
-/// The same as `act`, for the thread's task.
-fn act_by(rooms: &mut Rooms, thread: u32, task: Task) -> Result<Step, NoMemory>
-    requires is { task_of rooms.old.script (state_behind rooms.old) thread ≡ task }
-    requires act { stage_of task ≡ stage.Act }
+/// A command does what it is for, in the stage Act, once all its buffers are held, in place and filled; then it is answered. One that may not be
+/// asked of its buffer is refused. Neither a Free nor a SwapOut of a page is due: those are made by others.
+///
+/// # Errors
+///
+/// Want of memory; nothing is changed.
+pub fn act(rooms: &mut Rooms, thread: u32) -> Result<Step, NoMemory>
+    requires act { stage_of (task_of rooms.old.script (state_behind rooms.old) thread) ≡ stage.Act }
     requires no_free { free_due rooms.old.script (state_behind rooms.old) thread ≡ false }
     requires no_swap { swap_due rooms.old.script (state_behind rooms.old) thread ≡ false }
     ensures step { IfOk result (λ step. step ≡ step_of (entry_of rooms.old (actor.Thread thread))) }
@@ -141,6 +141,6 @@ fn act_by(rooms: &mut Rooms, thread: u32, task: Task) -> Result<Step, NoMemory>
     ensures made { OnOk result (rooms.new ≡ after_step rooms.old (entry_of rooms.old (actor.Thread thread))) }
     ensures err { OnErr result (rooms.new ≡ rooms.old) }
 {
-    let next = next_of_task(rooms, thread, task)?;
+    let next = next_of_task(rooms, thread)?;
     enact(rooms, thread, next)
 }

@@ -6,8 +6,10 @@ mod acts;
 mod buffers;
 mod enact;
 mod locks;
-mod refuse;
+mod refusals;
 mod starts;
 
-pub use locks::wait_die;
+pub use acts::act;
+pub use locks::{lock, wait_die};
+pub use refusals::refuse;
 pub use starts::start;

@@ -1,17 +1,18 @@
 ghost use Rattle.std.specs.Prelude.{◌≡◌, ◌≢◌, Some, IfOk, IsSome, OnOk, OnErr, option_map};
 ghost use Rattle.ttm_base.specs.declared.Actor.TheVariants as actor;
 ghost use Rattle.ttm_base.specs.declared.Need.TheVariants as need;
+ghost use Rattle.journal_model.specs.declared.state.Stage.TheVariants as stage;
 ghost use Rattle.journal_model.specs.declared.state.Task.TheVariants as task;
 ghost use Rattle.journal_model.specs.State.{course};
 ghost use Rattle.journal_model.specs.Next as words;
-ghost use Rattle.journal_model.specs.Tasks.{task_of};
+ghost use Rattle.journal_model.specs.Tasks.{task_of, stage_of};
 ghost use Rattle.room_state.specs.Kept.{state_behind};
 ghost use Rattle.room_turns.specs.Acting.{holder_awaited, made_unless};
 ghost use Rattle.room_turns.specs.Turns.{after_step, entry_of, step_of};
 
 use crate::buffers::{holder_of, is_live};
 use crate::enact::{Next, enact};
-use journal_model::{Course, Kind};
+use journal_model::{Course, Kind, Task};
 use room_state::Rooms;
 use room_turns::Step;
 use ttm_base::{BufId, Deny, Need, NoMemory, Stamp};
@@ -49,14 +50,22 @@ fn next_of_lock(rooms: &Rooms, thread: u32, b: BufId) -> Next
     wait_die(course, mine, b, holder_of(rooms, b))
 }
 
-/// The same as `lock`, for the buffer that the thread wants to hold.
-fn lock_buffer(rooms: &mut Rooms, thread: u32, b: BufId) -> Result<Step, NoMemory>
-    requires { task_of rooms.old.script (state_behind rooms.old) thread ≡ task.Lock b }
+/// A thread reserves the next buffer that its command names, in the stage Lock, backs off from an older holder, or waits for the holder
+/// (`wait_die`). Where there is no such buffer the command is refused.
+///
+/// # Errors
+///
+/// Want of memory; nothing is changed.
+pub fn lock(rooms: &mut Rooms, thread: u32) -> Result<Step, NoMemory>
+    requires { stage_of (task_of rooms.old.script (state_behind rooms.old) thread) ≡ stage.Lock }
     ensures step { IfOk result (λ step. step ≡ step_of (entry_of rooms.old (actor.Thread thread))) }
     ensures waits { IfOk result (λ step. step ≡ made_unless (option_map need.Holder (holder_awaited rooms.old.script (state_behind rooms.old) thread))) }
     ensures made { OnOk result (rooms.new ≡ after_step rooms.old (entry_of rooms.old (actor.Thread thread))) }
     ensures err { OnErr result (rooms.new ≡ rooms.old) }
 {
+    let Task::Lock(b) = rooms.task(thread) else {
+        unreachable!()
+    };
     let next = next_of_lock(rooms, thread, b);
     enact(rooms, thread, next)
 }

@@ -21,7 +21,9 @@ fn kind_of_start(rooms: &Rooms, command: &Command) -> Kind
         Command::New { b } if is_live(rooms, *b) => Kind::Refused { deny: Deny::Exists },
         Command::New { b } => Kind::New { b: *b },
         Command::Touch { group } => Kind::Bulk { group: *group },
-        _ => Kind::Ticket { s: rooms.next_stamp() },
+        _ => Kind::Ticket {
+            s: rooms.next_stamp(),
+        },
     }
 }
 

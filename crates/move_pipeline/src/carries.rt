@@ -53,16 +53,20 @@ fn kind_of_move(rooms: &Rooms, thread: u32, b: BufId, mem: Mem) -> Kind
     }
 }
 
-/// The same as `carry`, for the thread's task.
-fn carry_by(rooms: &mut Rooms, thread: u32, task: Task) -> Result<Step, NoMemory>
-    requires is { task_of rooms.old.script (state_behind rooms.old) thread ≡ task }
-    requires carry { stage_of task ≡ stage.Carry }
+/// A buffer goes to what was found for it, in the stage Carry: from SYSTEM to TT, back, or by a job of the move engine. It isn't unbound while
+/// a job uses it.
+///
+/// # Errors
+///
+/// Want of memory; nothing is changed.
+pub fn carry(rooms: &mut Rooms, thread: u32) -> Result<Step, NoMemory>
+    requires { stage_of (task_of rooms.old.script (state_behind rooms.old) thread) ≡ stage.Carry }
     ensures step { IfOk result (λ step. step ≡ step_of (entry_of rooms.old (actor.Thread thread))) }
     ensures waits { IfOk result (λ step. step ≡ made_unless (option_map need.Fence (job_before_unbind (state_behind rooms.old) (task_of rooms.old.script (state_behind rooms.old) thread)))) }
     ensures made { OnOk result (rooms.new ≡ after_step rooms.old (entry_of rooms.old (actor.Thread thread))) }
     ensures err { OnErr result (rooms.new ≡ rooms.old) }
 {
-    match task {
+    match rooms.task(thread) {
         Task::Bind(b) => make(rooms, Actor::Thread(thread), Kind::Bind { b }),
         Task::Unbind(b) => unbind(rooms, thread, b),
         Task::Move { b, mem } => {
@@ -94,16 +98,22 @@ fn target_to_untake(bo: &Bo) -> Mem
     }
 }
 
-/// The same as `untake`, for the buffer that gives back.
-fn untake_of(rooms: &mut Rooms, thread: u32, b: BufId) -> Result<Step, NoMemory>
-    requires is { task_of rooms.old.script (state_behind rooms.old) thread ≡ task.GiveBack b }
-    requires due { is_untake (state_behind rooms.old) (task.GiveBack b) ≡ true }
+/// A target that a failed search took is given back, in the stage Fail, where there is one and no Depopulate is due.
+///
+/// # Errors
+///
+/// Want of memory; nothing is changed.
+pub fn untake(rooms: &mut Rooms, thread: u32) -> Result<Step, NoMemory>
+    requires { is_untake (state_behind rooms.old) (task_of rooms.old.script (state_behind rooms.old) thread) ≡ true }
     ensures step { IfOk result (λ step. step ≡ step_of (entry_of rooms.old (actor.Thread thread))) }
     ensures always { IfOk result (λ step. step ≡ answer.Made) }
     ensures made { OnOk result (rooms.new ≡ after_step rooms.old (entry_of rooms.old (actor.Thread thread))) }
     ensures err { OnErr result (rooms.new ≡ rooms.old) }
 {
     let _legal = rooms.journal();
+    let Task::GiveBack(b) = rooms.task(thread) else {
+        unreachable!()
+    };
     let mem = target_to_untake(lent(rooms, b));
     make(rooms, Actor::Thread(thread), Kind::Untake { b, mem })
 }

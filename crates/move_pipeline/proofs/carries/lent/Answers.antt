@@ -1,5 +1,5 @@
 use Rattle.room_steps.proofs.Lent.{lent_below, lent_is}
-use Rattle.move_pipeline.proofs.carry.lent.Goals as goal
+use Rattle.move_pipeline.proofs.carries.lent.Goals as goal
 
 pub get-requires : goal.get-requires
 get-requires c = lent_below c.args.rooms.now.script c.args.rooms.now.journal c.parts.result.now c.parts.ensures c.args.b c.requires
