@@ -1,0 +1,4 @@
+pub mod Lent
+pub mod Shown
+pub mod Acting
+pub mod Waits
