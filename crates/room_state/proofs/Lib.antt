@@ -1,1 +1,2 @@
 pub mod WhoLaws
+pub mod ThemeLaws

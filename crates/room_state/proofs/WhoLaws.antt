@@ -1,5 +1,5 @@
 -- Which actor makes an entry of which kind.
-use Rattle.std.proofs.Common.{◌≡◌, ℕ, true, false, List, Ok, refl, sym, ◌∙◌, ap, subst, arith}
+use Rattle.std.proofs.Common.{◌≡◌, ℕ, true, false, List, Ok, refl, ◌∙◌, ap, subst, arith}
 use Rattle.ttm_base.specs.declared.Actor.{Actor}
 use Rattle.ttm_base.specs.declared.Actor.TheVariants as actor
 use Rattle.journal_model.specs.declared.script.Script.{Script}
@@ -14,6 +14,8 @@ use Rattle.journal_model.specs.State.{course}
 use Rattle.journal_model.specs.Next.{next}
 use Rattle.journal_model.specs.Stores.{Stores, showing}
 use Rattle.journal_model.specs.Legal.{World, IsLegalNext}
+use Rattle.room_state.specs.Themes.{theme_of}
+use Rattle.room_state.specs.declared.themes.Theme.TheVariants as theme
 use Rattle.law_journal.proofs.Courses.{is_of_engine, is_of_reaper, of_engine, of_reaper}
 use Rattle.law_journal.proofs.Shown.{LegalStep, legal_step}
 use Rattle.law_state.proofs.Moves.{is_of_worker, is_made_by, made_by_task, thread_step}
@@ -82,6 +84,9 @@ pub reaper_has : (k : Kind) → is_of_reaper k ≡ true → ((g : ℕ) → k ≡
 reaper_has (kind.Reap g) h reap = reap g refl
 reaper_has k h reap = cc
 
--- a thread makes no kind of an engine or of the reaper
-pub thread_lacks : (k l : Kind) → is_of_worker k ≡ false → k ≡ l → is_of_worker l ≡ true → ⊥
-thread_lacks k l none is one = let both : true ≡ false = sym one ∙ sym (ap is_of_worker is) ∙ none in cc
+-- what no engine and no reaper makes isn't about what they do
+pub thread_works : (k : Kind) → is_of_worker k ≡ false → theme_of k ≡ theme.Worker → ⊥
+thread_works (kind.Packet n i piece) h e = cc
+thread_works (kind.Done n) h e = cc
+thread_works (kind.Reap g) h e = cc
+thread_works k h e = cc

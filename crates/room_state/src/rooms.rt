@@ -6,6 +6,7 @@ ghost use Rattle.journal_model.specs.Holds.{free_frame as frame_of, free_slot as
 ghost use Rattle.journal_model.specs.Next.{head_of};
 ghost use Rattle.journal_model.specs.PageSteps.{next_job as job_of, next_ghost as ghost_of};
 ghost use Rattle.journal_model.specs.Stores.{bytes_of};
+ghost use Rattle.journal_model.specs.Tasks.{stage_of, task_of};
 ghost use Rattle.journal_model.specs.Waits.{waited_for};
 ghost use Rattle.lemma_bytes_told.specs.Told.{IsThere};
 ghost use Rattle.room_queries.specs.Heads.{number_left, head_piece};
@@ -26,7 +27,7 @@ use bo_table::BoTable;
 use copy_engine::Rings;
 use copy_packet::ProbeBytes;
 use fence_core::Timeline;
-use journal_model::{Bytes, Command, Course, Entry, Script};
+use journal_model::{Bytes, Command, Course, Entry, Script, Stage, Task};
 use lru_bulk::Lru;
 use room_first::first_parts;
 use room_ties::{Ghost, Parts};
@@ -245,6 +246,20 @@ impl Rooms {
         ensures { result ≡ option_and_then (λ j. waited_for (state_behind self.now).core j.waits) (head_of (state_behind self.now) ctx) }
     {
         room_queries::head_need(&self.parts, &self.script, self.journal.items(), ctx)
+    }
+
+    /// What a thread has to do next: nothing, where there is no such thread.
+    pub fn task(&self, thread: u32) -> Task
+        ensures { result ≡ task_of self.now.script (state_behind self.now) thread }
+    {
+        room_tasks::task_of(&self.parts, &self.script, self.journal.items(), thread)
+    }
+
+    /// The group of rules that gives a thread's next entry.
+    pub fn stage(&self, thread: u32) -> Stage
+        ensures { result ≡ stage_of (task_of self.now.script (state_behind self.now) thread) }
+    {
+        room_tasks::stage_of(self.task(thread))
     }
 
     /// The pages that a place has for a declared buffer, if it has some.

@@ -1,0 +1,5 @@
+use Rattle.room_state.proofs.ThemeLaws.{carry_has}
+use Rattle.room_state.proofs.threads.make_carry.Goals as goal
+
+pub unreachable-requires : goal.unreachable-requires
+unreachable-requires c = carry_has c.args.entry.now.kind c.requires.theme c.in_default.not-Bind c.in_default.not-Unbind c.in_default.not-Move

@@ -1,0 +1,5 @@
+use Rattle.room_state.proofs.ThemeLaws.{empty_has}
+use Rattle.room_state.proofs.threads.make_empty.Goals as goal
+
+pub unreachable-requires : goal.unreachable-requires
+unreachable-requires c = empty_has c.args.entry.now.kind c.requires.theme c.in_default.not-Depopulate c.in_default.not-SwapOut c.in_default.not-Loose c.in_default.not-Skip

@@ -1,0 +1,242 @@
+ghost use Rattle.std.specs.Prelude.{◌≡◌, ◌∷◌, ◌++◌, [], OnOk, OnErr};
+ghost use Rattle.ttm_base.specs.declared.Actor.TheVariants as actor;
+ghost use Rattle.journal_model.specs.Legal.{IsLegalNext, world_of};
+ghost use Rattle.room_ties.specs.Held.{AreHeld};
+ghost use Rattle.room_state.specs.Themes as words;
+ghost use Rattle.room_state.specs.declared.themes.Theme.TheVariants as theme;
+
+use crate::themes::{Theme, theme_of};
+use journal_model::{Entry, Kind, Script};
+use room_binds::{bind, unbind};
+use room_ghosts::free;
+use room_jobs::arm;
+use room_moves::move_buffer;
+use room_pages::{depopulate, swap_out};
+use room_parts::{
+    back_off, bulk, catch, dry, loose, make, no_pages, populate, refuse, reserve, skip, swap_in,
+    take, ticket, untake,
+};
+use room_results::answer;
+use room_ties::Parts;
+use std::alloc::Global;
+use ttm_base::NoMemory;
+
+/// Makes the parts those behind an entry of a thread on its ticket and its holds.
+fn make_lock(
+    parts: &mut Parts,
+    script: &Script,
+    before: &[Entry],
+    entry: &Entry,
+    thread: u32,
+) -> Result<(), NoMemory>
+    requires held { AreHeld script.now before.now parts.old }
+    requires who { entry.now.who ≡ actor.Thread thread }
+    requires theme { words.theme_of entry.now.kind ≡ theme.Lock }
+    requires next { IsLegalNext script.now (world_of script.now before.now) entry.now }
+    ensures ok { OnOk result (AreHeld script.now (before.now ++ entry.now ∷ []) parts.new) }
+    ensures err { OnErr result (AreHeld script.now before.now parts.new) }
+{
+    match &entry.kind {
+        Kind::Ticket { s } => {
+            ticket(parts, script, before, entry, thread, *s);
+            Ok(())
+        }
+        Kind::Reserve { b } => reserve(parts, script, before, entry, thread, *b),
+        Kind::Backoff { b, s } => {
+            back_off(parts, script, before, entry, thread, *b, *s);
+            Ok(())
+        }
+        _ => unreachable!(),
+    }
+}
+
+/// Makes the parts those behind an entry of a thread on pages that it looks for.
+fn make_search(
+    parts: &mut Parts,
+    alloc: Global,
+    script: &Script,
+    before: &[Entry],
+    entry: &Entry,
+    thread: u32,
+) -> Result<(), NoMemory>
+    requires held { AreHeld script.now before.now parts.old }
+    requires who { entry.now.who ≡ actor.Thread thread }
+    requires theme { words.theme_of entry.now.kind ≡ theme.Search }
+    requires next { IsLegalNext script.now (world_of script.now before.now) entry.now }
+    ensures ok { OnOk result (AreHeld script.now (before.now ++ entry.now ∷ []) parts.new) }
+    ensures err { OnErr result (AreHeld script.now before.now parts.new) }
+{
+    match &entry.kind {
+        Kind::Take { b, mem, spans } => {
+            take(parts, script, before, entry, thread, *b, *mem, spans)
+        }
+        Kind::Untake { b, mem } => {
+            untake(parts, script, before, entry, thread, *b, *mem);
+            Ok(())
+        }
+        Kind::Catch { b, why } => { catch(parts, alloc, script, before, entry, thread, *b, *why) }
+        Kind::Dry { b, k, why } => {
+            dry(parts, script, before, entry, thread, *b, *k, why);
+            Ok(())
+        }
+        _ => unreachable!(),
+    }
+}
+
+/// Makes the parts those behind an entry of a thread on a buffer that goes to its target.
+fn make_carry(
+    parts: &mut Parts,
+    alloc: Global,
+    script: &Script,
+    before: &[Entry],
+    entry: &Entry,
+    thread: u32,
+) -> Result<(), NoMemory>
+    requires held { AreHeld script.now before.now parts.old }
+    requires who { entry.now.who ≡ actor.Thread thread }
+    requires theme { words.theme_of entry.now.kind ≡ theme.Carry }
+    requires next { IsLegalNext script.now (world_of script.now before.now) entry.now }
+    ensures ok { OnOk result (AreHeld script.now (before.now ++ entry.now ∷ []) parts.new) }
+    ensures err { OnErr result (AreHeld script.now before.now parts.new) }
+{
+    match &entry.kind {
+        Kind::Bind { b } => {
+            bind(parts, script, before, entry, thread, *b);
+            Ok(())
+        }
+        Kind::Unbind { b } => {
+            unbind(parts, script, before, entry, thread, *b);
+            Ok(())
+        }
+        Kind::Move { b, mem, num, left } => {
+            move_buffer(
+                parts, alloc, script, before, entry, thread, *b, *mem, *num, *left,
+            )
+        }
+        _ => unreachable!(),
+    }
+}
+
+/// Makes the parts those behind an entry of a thread on frames for a buffer.
+fn make_fill(parts: &mut Parts, script: &Script, before: &[Entry], entry: &Entry, thread: u32)
+    requires held { AreHeld script.now before.now parts.old }
+    requires who { entry.now.who ≡ actor.Thread thread }
+    requires theme { words.theme_of entry.now.kind ≡ theme.Fill }
+    requires next { IsLegalNext script.now (world_of script.now before.now) entry.now }
+    ensures { AreHeld script.now (before.now ++ entry.now ∷ []) parts.new }
+{
+    match &entry.kind {
+        Kind::Populate { b, page, frame } => {
+            populate(parts, script, before, entry, thread, *b, *page, *frame);
+        }
+        Kind::SwapIn {
+            b,
+            page,
+            slot,
+            frame,
+        } => {
+            swap_in(
+                parts, script, before, entry, thread, *b, *page, *slot, *frame,
+            );
+        }
+        Kind::NoPages { b } => no_pages(parts, script, before, entry, thread, *b),
+        _ => unreachable!(),
+    }
+}
+
+/// Makes the parts those behind an entry of a thread on frames that are given away, or on a victim that is let go.
+fn make_empty(
+    parts: &mut Parts,
+    script: &Script,
+    before: &[Entry],
+    entry: &Entry,
+    thread: u32,
+) -> Result<(), NoMemory>
+    requires held { AreHeld script.now before.now parts.old }
+    requires who { entry.now.who ≡ actor.Thread thread }
+    requires theme { words.theme_of entry.now.kind ≡ theme.Empty }
+    requires next { IsLegalNext script.now (world_of script.now before.now) entry.now }
+    ensures ok { OnOk result (AreHeld script.now (before.now ++ entry.now ∷ []) parts.new) }
+    ensures err { OnErr result (AreHeld script.now before.now parts.new) }
+{
+    match &entry.kind {
+        Kind::Depopulate { b } => {
+            depopulate(parts, script, before, entry, thread, *b);
+            Ok(())
+        }
+        Kind::SwapOut { b, page, slot } => {
+            swap_out(parts, script, before, entry, thread, *b, *page, *slot);
+            Ok(())
+        }
+        Kind::Loose { b } => {
+            loose(parts, script, before, entry, thread, *b);
+            Ok(())
+        }
+        Kind::Skip { b } => skip(parts, script, before, entry, thread, *b),
+        _ => unreachable!(),
+    }
+}
+
+/// Makes the parts those behind an entry of a thread that does what its command is for, or answers it.
+fn make_act(
+    parts: &mut Parts,
+    alloc: Global,
+    script: &Script,
+    before: &[Entry],
+    entry: &Entry,
+    thread: u32,
+) -> Result<(), NoMemory>
+    requires held { AreHeld script.now before.now parts.old }
+    requires who { entry.now.who ≡ actor.Thread thread }
+    requires theme { words.theme_of entry.now.kind ≡ theme.Act }
+    requires next { IsLegalNext script.now (world_of script.now before.now) entry.now }
+    ensures ok { OnOk result (AreHeld script.now (before.now ++ entry.now ∷ []) parts.new) }
+    ensures err { OnErr result (AreHeld script.now before.now parts.new) }
+{
+    match &entry.kind {
+        Kind::New { b } => make(parts, script, before, entry, thread, *b),
+        Kind::Free { b, g } => free(parts, alloc, script, before, entry, thread, *b, *g),
+        Kind::Arm { engine, num } => {
+            arm(parts, alloc, script, before, entry, thread, *engine, *num)
+        }
+        Kind::Bulk { group } => {
+            bulk(parts, script, before, entry, thread, *group);
+            Ok(())
+        }
+        Kind::Result { shown } => { answer(parts, alloc, script, before, entry, thread, shown) }
+        Kind::Refused { deny } => {
+            refuse(parts, alloc, script, before, entry, thread, *deny);
+            Ok(())
+        }
+        _ => unreachable!(),
+    }
+}
+
+/// Makes the parts those behind an entry of a thread.
+pub(crate) fn make_of_thread(
+    parts: &mut Parts,
+    alloc: Global,
+    script: &Script,
+    before: &[Entry],
+    entry: &Entry,
+    thread: u32,
+) -> Result<(), NoMemory>
+    requires held { AreHeld script.now before.now parts.old }
+    requires who { entry.now.who ≡ actor.Thread thread }
+    requires next { IsLegalNext script.now (world_of script.now before.now) entry.now }
+    ensures ok { OnOk result (AreHeld script.now (before.now ++ entry.now ∷ []) parts.new) }
+    ensures err { OnErr result (AreHeld script.now before.now parts.new) }
+{
+    match theme_of(&entry.kind) {
+        Theme::Lock => make_lock(parts, script, before, entry, thread),
+        Theme::Search => make_search(parts, alloc, script, before, entry, thread),
+        Theme::Carry => make_carry(parts, alloc, script, before, entry, thread),
+        Theme::Fill => {
+            make_fill(parts, script, before, entry, thread);
+            Ok(())
+        }
+        Theme::Empty => make_empty(parts, script, before, entry, thread),
+        Theme::Act => make_act(parts, alloc, script, before, entry, thread),
+        Theme::Worker => unreachable!(),
+    }
+}

@@ -1,0 +1,4 @@
+pub mod LastLaws
+pub mod Firsts
+pub mod Unfenced
+pub mod Told
