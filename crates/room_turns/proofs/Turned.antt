@@ -1,11 +1,11 @@
 -- A step that shows no bytes is the entry.
-use Rattle.std.proofs.Common.{◌≡◌, Bool, true, false, Ok, Err, refl, ◌∙◌, ap}
+use Rattle.std.proofs.Common.{◌≡◌, Bool, true, Ok, Err, refl, ◌∙◌, ap}
 use Rattle.ttm_base.specs.declared.Actor.{Actor}
 use Rattle.journal_model.specs.declared.entry.Kind.{Kind}
 use Rattle.journal_model.specs.declared.entry.Kind.TheVariants as kind
 use Rattle.journal_model.specs.Search.{Step}
 use Rattle.journal_model.specs.Next.{next}
-use Rattle.journal_model.specs.Legal.{World, shown_step}
+use Rattle.journal_model.specs.Legal.{shown_step}
 use Rattle.room_state.specs.Kept.{Kept, state_behind, world_behind}
 use Rattle.room_turns.specs.Turns.{entry_by, entry_of}
 use Rattle.room_turns.proofs.Threads.{is_quiet}

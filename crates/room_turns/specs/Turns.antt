@@ -23,6 +23,11 @@ abbrev pub step_of : Result Entry Need → Step
 step_of (Ok e) = step.Made
 step_of (Err need) = step.Need need
 
+-- the same, where only its kind is told
+abbrev pub step_by : Result Kind Need → Step
+step_by (Ok k) = step.Made
+step_by (Err need) = step.Need need
+
 -- the rooms with the entry, if there is one
 abbrev pub after_step : Kept → Result Entry Need → Kept
 after_step k (Ok e) = with_entry k e
