@@ -1,2 +1,3 @@
 pub mod Threads
+pub mod Turned
 pub mod Works

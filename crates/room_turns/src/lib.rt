@@ -2,7 +2,7 @@
 #![tactic(auto)]
 
 ghost use Rattle.std.specs.Prelude.{◌≡◌, Ok, IfOk, OnOk, OnErr};
-ghost use Rattle.room_turns.specs.Turns.{entry_of, step_of, after_step};
+ghost use Rattle.room_turns.specs.Turns.{entry_by, entry_of, step_by, step_of, after_step};
 
 use journal_model::{Entry, Kind};
 use room_state::Rooms;
@@ -30,4 +30,22 @@ pub fn make(rooms: &mut Rooms, who: Actor, kind: Kind) -> Result<Step, NoMemory>
 {
     rooms.append(Entry { who, kind })?;
     Ok(Step::Made)
+}
+
+/// Makes the entry of this kind, which is the actor's next; where the actor needs something first, it answers so.
+///
+/// # Errors
+///
+/// Want of memory; nothing is changed.
+pub fn turn(rooms: &mut Rooms, who: Actor, next: Result<Kind, Need>) -> Result<Step, NoMemory>
+    requires { entry_of rooms.old who ≡ entry_by who next }
+    ensures step { IfOk result (λ step. step ≡ step_of (entry_of rooms.old who)) }
+    ensures told { IfOk result (λ step. step ≡ step_by next) }
+    ensures made { OnOk result (rooms.new ≡ after_step rooms.old (entry_of rooms.old who)) }
+    ensures err { OnErr result (rooms.new ≡ rooms.old) }
+{
+    match next {
+        Ok(kind) => make(rooms, who, kind),
+        Err(need) => Ok(Step::Need(need)),
+    }
 }

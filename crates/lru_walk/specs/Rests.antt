@@ -1,0 +1,38 @@
+-- What is left of a walk over the lists of a memory type, priority 0 first.
+use Rattle.std.specs.Prelude.{◌≡◌, ℕ, ◌+◌, ◌-◌, ◌*◌, ◌<◌, ◌==◌, List, [], ◌∷◌, ◌++◌, Option, Some, None, drop, flat_map, take, if◌then◌else◌}
+use Rattle.ttm_base.specs.declared.BufId.{BufId}
+use Rattle.ttm_base.specs.declared.Mem.{Mem}
+use Rattle.ttm_base.specs.Reach.{mem_number}
+use Rattle.lru_bulk.specs.Lists.{Order, list_at, list_number}
+use Rattle.lru_bulk.specs.Members.{IsListedFor}
+
+-- so many lists behind each other, from one on
+abbrev pub joined : ℕ → ℕ → List (List BufId) → List BufId
+joined count first lists = flat_map (λ l. l) (take count (drop first lists))
+
+-- the buffers of a memory type in the order in which victims are looked for
+abbrev pub in_order : Mem → List (List BufId) → List BufId
+in_order mem lists = joined 4 (4 * mem_number mem) lists
+
+-- a list from a buffer on
+abbrev pub from_on : BufId → List BufId → List BufId
+from_on b [] = []
+from_on b (c ∷ cs) = if b.0 == c.0 then c ∷ cs else from_on b cs
+
+-- nothing, behind the end
+abbrev pub left_from : Option BufId → List BufId → List BufId
+left_from None l = []
+left_from (Some b) l = from_on b l
+
+-- the buffers of lower priorities
+abbrev pub behind_prio : Mem → ℕ → List (List BufId) → List BufId
+behind_prio mem prio lists = joined (3 - prio) (list_number mem prio + 1) lists
+
+-- from the buffer at hand on
+abbrev pub rest_of : Order → Mem → ℕ → Option BufId → List BufId
+rest_of o mem prio at = left_from at (list_at o.lists (list_number mem prio)) ++ behind_prio mem prio o.lists
+
+-- the buffer at hand stands on the list of that priority
+pub record IsWalk (o : Order) (mem : Mem) (prio : ℕ) (at : Option BufId) : Type 0 where
+  pub low : prio < 4
+  pub listed : (b : BufId) → at ≡ Some b → IsListedFor o (list_number mem prio) b

@@ -1,0 +1,4 @@
+pub mod LiveLaws
+pub mod VictimLaws
+pub mod FillLaws
+pub mod SwapLaws

@@ -1,0 +1,64 @@
+ghost use Rattle.std.specs.Prelude.{◌≡◌, ◌&&◌, find, option_copied};
+ghost use Rattle.bo_table.specs.Seen.{grip_of};
+ghost use Rattle.journal_model.specs.State.{buffer, grip};
+ghost use Rattle.journal_model.specs.Dry as words;
+ghost use Rattle.room_state.specs.Kept.{state_behind};
+ghost use Rattle.swap_core.specs.Lent.{IsLent};
+
+use bo_table::Bo;
+use lru_walk::Walk;
+use room_state::Rooms;
+use ttm_base::{BufId, Mem};
+
+/// A buffer, if it is live.
+pub(crate) fn live(rooms: &Rooms, b: BufId) -> Option<&Bo>
+    ensures { IsLent (state_behind rooms.now) b (option_copied result) }
+{
+    let bos = &rooms.parts().bos;
+    if b.0 as usize >= bos.len() {
+        return None;
+    }
+    let bo = bos.get(b);
+    if bo.alive { Some(bo) } else { None }
+}
+
+/// A buffer is neither pinned nor reserved.
+fn is_loose(bo: &Bo) -> bool
+    ensures { result ≡ words.is_loose (grip_of bo.now) }
+{
+    bo.pins == 0 && bo.resv.holder().is_none()
+}
+
+/// A buffer may give its frames to swap.
+fn is_swappable(rooms: &Rooms, b: BufId) -> bool
+    ensures { result ≡ (words.is_loose (grip (state_behind rooms.now) b) && words.has_frame (buffer (state_behind rooms.now) b)) }
+{
+    match live(rooms, b) {
+        Some(bo) => is_loose(bo) && bo.table.has_frame(),
+        None => false,
+    }
+}
+
+/// The first buffer of a walk that may give its frames to swap.
+fn first_swappable(rooms: &Rooms, walk: Walk) -> Option<BufId>
+    ensures { result ≡ find (λ b. words.is_loose (grip (state_behind rooms.now) b) && words.has_frame (buffer (state_behind rooms.now) b)) walk.entry }
+{
+    for b in walk {
+        if is_swappable(rooms, b) {
+            return Some(b);
+        }
+    }
+    None
+}
+
+/// The first buffer that may give its frames to swap: in SYSTEM by priority, then in TT (ttm_device_swapout).
+pub(crate) fn swap_victim(rooms: &Rooms) -> Option<BufId>
+    ensures { result ≡ words.swap_victim (state_behind rooms.now) }
+{
+    let lru = rooms.lru();
+    let first = first_swappable(rooms, Walk::new(lru, Mem::System));
+    if first.is_some() {
+        return first;
+    }
+    first_swappable(rooms, Walk::new(lru, Mem::Tt))
+}

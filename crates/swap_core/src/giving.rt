@@ -1,0 +1,29 @@
+ghost use Rattle.std.specs.Prelude.{◌≡◌, true, IfOk, OnOk, OnErr};
+ghost use Rattle.ttm_base.specs.declared.Actor.TheVariants as actor;
+ghost use Rattle.room_state.specs.Kept.{state_behind};
+ghost use Rattle.room_turns.specs.declared.Step.TheVariants as answer;
+ghost use Rattle.room_turns.specs.Turns.{after_step, entry_of, step_of};
+ghost use Rattle.swap_core.specs.Due.{depopulate_due};
+
+use journal_model::{Kind, Task};
+use room_state::Rooms;
+use room_turns::{Step, make};
+use ttm_base::{Actor, NoMemory};
+
+/// A buffer in VRAM whose move failed gives its frames back, once its Depopulate is due (ttm_tt_unpopulate).
+///
+/// # Errors
+///
+/// Want of memory; nothing is changed.
+pub fn depopulate(rooms: &mut Rooms, thread: u32) -> Result<Step, NoMemory>
+    requires { depopulate_due rooms.old.script (state_behind rooms.old) thread ≡ true }
+    ensures step { IfOk result (λ step. step ≡ step_of (entry_of rooms.old (actor.Thread thread))) }
+    ensures always { IfOk result (λ step. step ≡ answer.Made) }
+    ensures made { OnOk result (rooms.new ≡ after_step rooms.old (entry_of rooms.old (actor.Thread thread))) }
+    ensures err { OnErr result (rooms.new ≡ rooms.old) }
+{
+    let Task::GiveBack(b) = rooms.task(thread) else {
+        unreachable!()
+    };
+    make(rooms, Actor::Thread(thread), Kind::Depopulate { b })
+}
