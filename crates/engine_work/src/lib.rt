@@ -5,15 +5,14 @@
 ghost use Rattle.std.specs.Prelude.{◌≡◌, ◌≤◌, IfOk, OnOk, OnErr};
 ghost use Rattle.ttm_base.specs.declared.Actor.TheVariants as actor;
 ghost use Rattle.room_queries.specs.Heads.{head_piece};
-ghost use Rattle.room_state.specs.Kept.{state_behind, world_behind};
+ghost use Rattle.room_turns.specs.Turns.{state_behind, world_behind};
 ghost use Rattle.room_turns.specs.Acting.{made_unless};
 ghost use Rattle.room_turns.specs.Turns.{after_step, entry_by, entry_of, step_of};
 ghost use Rattle.engine_work.specs.Needs.{engine_needs};
 
 use copy_packet::ProbeBytes;
 use journal_model::{Bytes, Kind};
-use room_state::Rooms;
-use room_turns::{Step, turn};
+use room_turns::{Rooms, Step, turn};
 use std::alloc::Global;
 use ttm_base::{Actor, Need, NoMemory};
 

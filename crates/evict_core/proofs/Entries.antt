@@ -26,11 +26,11 @@ use Rattle.journal_model.specs.Search.{Step, step_of_crowded, why_of}
 use Rattle.journal_model.specs.Next.{next}
 use Rattle.journal_model.specs.Tasks.{stage_of, task_of}
 use Rattle.journal_model.specs.Legal.{World, shown_step}
-use Rattle.room_state.specs.Kept.{Kept, state_behind, world_behind}
+use Rattle.room_turns.specs.Turns.{Kept, state_behind, world_behind}
 use Rattle.room_turns.specs.Searching.{Hunt, finds_choice, hunt_of, place_at_work, victim_for, victim_of}
 use Rattle.room_turns.specs.Turns.{entry_of}
 use Rattle.room_turns.proofs.Threads.{command_at, entry_is, need_is, next_at}
-use Rattle.room_searches.proofs.Finds.{crowded_next}
+use Rattle.room_turns.proofs.Finds.{crowded_next}
 use Rattle.evict_core.specs.Tasks.{lets_go}
 
 -- ---- searches

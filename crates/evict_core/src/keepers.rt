@@ -1,13 +1,13 @@
 ghost use Rattle.std.specs.Prelude.{◌≡◌, IfOk, option_map};
 ghost use Rattle.journal_model.specs.Dry as words;
 ghost use Rattle.bo_table.specs.Seen.{grip_of};
-ghost use Rattle.room_state.specs.Kept.{state_behind};
+ghost use Rattle.room_turns.specs.Turns.{state_behind};
 ghost use Rattle.evict_core.specs.Rows as rows_of;
 
 use bo_table::Bo;
 use journal_model::{Cause, CauseRow, Causes, Script};
-use room_state::Rooms;
 use room_ties::Ghost;
+use room_turns::Rooms;
 use rules_state::{intersects, reach_of, same_mem, target_of};
 use std::alloc::Global;
 use ttm_base::{BufId, Mem, NoMemory, Place, Span};

@@ -4,19 +4,17 @@ ghost use Rattle.journal_model.specs.declared.entry.Kind.TheVariants as kind_wor
 ghost use Rattle.journal_model.specs.declared.state.Stage.TheVariants as stage;
 ghost use Rattle.journal_model.specs.Tasks.{stage_of, task_of};
 ghost use Rattle.journal_model.specs.Search as words;
-ghost use Rattle.room_state.specs.Kept.{state_behind};
+ghost use Rattle.room_turns.specs.Turns.{state_behind};
 ghost use Rattle.room_turns.specs.declared.Step.TheVariants as step_words;
 ghost use Rattle.room_turns.specs.Searching.{finds_choice, hunt_of, victim_of};
 ghost use Rattle.room_turns.specs.Turns.{after_step, entry_of, step_of};
-ghost use Rattle.room_searches.specs.Hunts.{seen};
+ghost use Rattle.room_turns.specs.Hunts.{seen};
 ghost use Rattle.evict_core.specs.Tasks.{is_skip, lets_go};
 
 use crate::keepers::{causes, ghost_in};
 use crate::victims::{is_long_enough, victim};
 use journal_model::{DryWhy, Kind, Task, Why};
-use room_searches::{Hunt, hunt_at_work, place_at_work};
-use room_state::Rooms;
-use room_turns::{Step, make};
+use room_turns::{Hunt, Rooms, Step, hunt_at_work, make, place_at_work};
 use std::alloc::Global;
 use ttm_base::{Actor, BufId, Mem, Need, NoMemory};
 

@@ -3,12 +3,12 @@ ghost use Rattle.journal_model.specs.Choice.{reach_of as reached};
 ghost use Rattle.journal_model.specs.Dry as words;
 ghost use Rattle.lru_bulk.specs.Lists.{list_at, list_number};
 ghost use Rattle.bo_table.specs.Seen.{grip_of};
-ghost use Rattle.room_state.specs.Kept.{state_behind};
+ghost use Rattle.room_turns.specs.Turns.{state_behind};
 ghost use Rattle.evict_core.specs.Walks as walks;
 
 use bo_table::Bo;
 use journal_model::Script;
-use room_state::Rooms;
+use room_turns::Rooms;
 use rules_state::{declared_pages, has_buffer, intersects, length_of, reach_of, same_mem};
 use ttm_base::{BufId, Mem, Place, Span};
 

@@ -2,14 +2,13 @@ ghost use Rattle.std.specs.Prelude.{◌≡◌, ◌<◌, Ok, true, IfOk, OnOk, On
 ghost use Rattle.ttm_base.specs.declared.Actor.TheVariants as actor;
 ghost use Rattle.journal_model.specs.declared.script.Command.TheVariants as command;
 ghost use Rattle.journal_model.specs.Next.{step_of_act};
-ghost use Rattle.room_state.specs.Kept.{state_behind};
+ghost use Rattle.room_turns.specs.Turns.{state_behind};
 ghost use Rattle.room_turns.specs.declared.Step.TheVariants as answer;
 ghost use Rattle.room_turns.specs.Acting.{free_due};
 ghost use Rattle.room_turns.specs.Turns.{after_step, entry_of, step_of};
 
 use journal_model::{Command, Kind};
-use room_state::Rooms;
-use room_turns::{Step, make};
+use room_turns::{Rooms, Step, make};
 use ttm_base::{Actor, BufId, NoMemory, Usage};
 
 /// A buffer goes: one whose jobs aren't done leaves a ghost.

@@ -18,7 +18,7 @@ use Rattle.journal_model.specs.ScriptRules.{is_script}
 use Rattle.journal_model.specs.Search.{Step}
 use Rattle.journal_model.specs.Tasks.{task_of, stage_of}
 use Rattle.lemma_bytes_told.specs.Told.{IsThere}
-use Rattle.room_state.specs.Kept.{Kept, state_behind}
+use Rattle.room_turns.specs.Turns.{Kept, state_behind}
 use Rattle.room_turns.specs.Acting.{is_untake}
 use Rattle.room_turns.specs.Turns.{entry_of}
 use Rattle.room_turns.proofs.Threads.{command_at, entry_is, next_at}

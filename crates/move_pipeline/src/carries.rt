@@ -7,7 +7,7 @@ ghost use Rattle.journal_model.specs.PageSteps as words;
 ghost use Rattle.journal_model.specs.State as state;
 ghost use Rattle.journal_model.specs.Tasks.{task_of, stage_of};
 ghost use Rattle.lemma_bytes_told.specs.Told.{IsThere};
-ghost use Rattle.room_state.specs.Kept.{state_behind};
+ghost use Rattle.room_turns.specs.Turns.{state_behind};
 ghost use Rattle.room_steps.specs.Lent.{as_buffer};
 ghost use Rattle.room_ties.specs.Bos.{unfenced};
 ghost use Rattle.room_turns.specs.declared.Step.TheVariants as answer;
@@ -16,8 +16,7 @@ ghost use Rattle.room_turns.specs.Turns.{after_step, entry_of, step_of};
 
 use bo_table::Bo;
 use journal_model::{Kind, Left, Task};
-use room_state::Rooms;
-use room_turns::{Step, make};
+use room_turns::{Rooms, Step, make};
 use rules_state::{is_caught, target_of};
 use ttm_base::{Actor, BufId, Mem, Need, NoMemory, Usage};
 

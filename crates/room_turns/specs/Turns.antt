@@ -5,7 +5,7 @@ use Rattle.ttm_base.specs.declared.Need.{Need}
 use Rattle.journal_model.specs.declared.entry.Entry.{Entry}
 use Rattle.journal_model.specs.declared.entry.Kind.{Kind}
 use Rattle.journal_model.specs.Legal.{next_entry}
-use Rattle.room_state.specs.Kept.{Kept, with_entry, world_behind}
+pub use Rattle.room_state.specs.Kept.{Kept, state_behind, with_entry, world_behind}
 use Rattle.room_turns.specs.declared.Step.{Step}
 use Rattle.room_turns.specs.declared.Step.TheVariants as step
 

@@ -1,11 +1,14 @@
 //! What an actor's turn makes of the rooms: its next entry, or what it needs first.
 #![tactic(auto)]
 
+mod hunts;
+
 ghost use Rattle.std.specs.Prelude.{◌≡◌, Ok, IfOk, OnOk, OnErr};
 ghost use Rattle.room_turns.specs.Turns.{entry_by, entry_of, step_by, step_of, after_step};
 
+pub use hunts::{Hunt, Sought, hunt_at_work, place_at, place_at_work, place_count};
 use journal_model::{Entry, Kind};
-use room_state::Rooms;
+pub use room_state::Rooms;
 use ttm_base::{Actor, Need, NoMemory};
 
 /// What an errand answers.

@@ -33,7 +33,7 @@ use Rattle.journal_model.specs.Waits.{waited_for, jobs_before_write}
 use Rattle.law_sound.proofs.Grips.{live_within}
 use Rattle.law_state.proofs.GoodStates.{good_law, table_pages}
 use Rattle.law_state.proofs.Rules.{rules_of}
-use Rattle.room_state.specs.Kept.{Kept, state_behind}
+use Rattle.room_turns.specs.Turns.{Kept, state_behind}
 use Rattle.room_turns.specs.Acting.{made_unless}
 use Rattle.room_turns.specs.Turns.{entry_by, entry_of, step_by}
 use Rattle.room_turns.proofs.Threads.{command_at, next_at}

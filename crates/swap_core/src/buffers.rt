@@ -2,12 +2,12 @@ ghost use Rattle.std.specs.Prelude.{◌≡◌, ◌&&◌, find, option_copied};
 ghost use Rattle.bo_table.specs.Seen.{grip_of};
 ghost use Rattle.journal_model.specs.State.{buffer, grip};
 ghost use Rattle.journal_model.specs.Dry as words;
-ghost use Rattle.room_state.specs.Kept.{state_behind};
+ghost use Rattle.room_turns.specs.Turns.{state_behind};
 ghost use Rattle.swap_core.specs.Lent.{IsLent};
 
 use bo_table::Bo;
 use lru_walk::Walk;
-use room_state::Rooms;
+use room_turns::Rooms;
 use ttm_base::{BufId, Mem};
 
 /// A buffer, if it is live.

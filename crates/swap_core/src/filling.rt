@@ -7,16 +7,15 @@ ghost use Rattle.journal_model.specs.Dry as dry;
 ghost use Rattle.journal_model.specs.PageSteps as words;
 ghost use Rattle.journal_model.specs.Places.{loc_of};
 ghost use Rattle.journal_model.specs.Tasks.{stage_of, task_of};
-ghost use Rattle.room_state.specs.Kept.{state_behind};
+ghost use Rattle.room_turns.specs.Turns.{state_behind};
 ghost use Rattle.room_turns.specs.Acting.{made_unless};
 ghost use Rattle.room_turns.specs.Turns.{after_step, entry_of, step_of};
 ghost use Rattle.swap_core.specs.Due.{ghost_before_frame};
 
 use crate::buffers::{live, swap_victim};
 use journal_model::{Kind, Task, Why};
-use room_state::Rooms;
 use room_ties::Ghost;
-use room_turns::{Step, turn};
+use room_turns::{Rooms, Step, turn};
 use ttm_base::{Actor, BufId, Loc, Need, NoMemory};
 
 /// Where a page stands.

@@ -1,13 +1,12 @@
 ghost use Rattle.std.specs.Prelude.{◌≡◌, true, IfOk, OnOk, OnErr};
 ghost use Rattle.ttm_base.specs.declared.Actor.TheVariants as actor;
-ghost use Rattle.room_state.specs.Kept.{state_behind};
+ghost use Rattle.room_turns.specs.Turns.{state_behind};
 ghost use Rattle.room_turns.specs.declared.Step.TheVariants as answer;
 ghost use Rattle.room_turns.specs.Turns.{after_step, entry_of, step_of};
 ghost use Rattle.swap_core.specs.Due.{depopulate_due};
 
 use journal_model::{Kind, Task};
-use room_state::Rooms;
-use room_turns::{Step, make};
+use room_turns::{Rooms, Step, make};
 use ttm_base::{Actor, NoMemory};
 
 /// A buffer in VRAM whose move failed gives its frames back, once its Depopulate is due (ttm_tt_unpopulate).

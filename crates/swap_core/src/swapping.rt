@@ -6,7 +6,7 @@ ghost use Rattle.journal_model.specs.State as states;
 ghost use Rattle.journal_model.specs.State.{buffer};
 ghost use Rattle.journal_model.specs.PageSteps as words;
 ghost use Rattle.journal_model.specs.Places as places;
-ghost use Rattle.room_state.specs.Kept.{state_behind};
+ghost use Rattle.room_turns.specs.Turns.{state_behind};
 ghost use Rattle.room_turns.specs.Acting.{made_unless};
 ghost use Rattle.room_turns.specs.Turns.{after_step, entry_of, step_of};
 ghost use Rattle.swap_core.specs.Due as due;
@@ -14,8 +14,7 @@ ghost use Rattle.swap_core.specs.Due.{job_before_swap, swapped, swap_out_due};
 
 use crate::buffers::live;
 use journal_model::{Command, Course, Kind, Task, Victim, Why};
-use room_state::Rooms;
-use room_turns::{Step, turn};
+use room_turns::{Rooms, Step, turn};
 use rules_state::{is_frame, same_buffer};
 use ttm_base::{Actor, BufId, Loc, Need, NoMemory, Usage};
 

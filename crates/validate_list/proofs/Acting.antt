@@ -7,7 +7,7 @@ use Rattle.journal_model.specs.Legal.{IsLegal}
 use Rattle.journal_model.specs.ScriptRules.{is_script}
 use Rattle.journal_model.specs.Tasks.{task_of}
 use Rattle.law_state.proofs.Rules.{at_work_rules, rules_of}
-use Rattle.room_state.specs.Kept.{Kept, state_behind}
+use Rattle.room_turns.specs.Turns.{Kept, state_behind}
 use Rattle.room_turns.specs.Acting.{command_due, command_in, free_due, frees, swap_due, swaps}
 use Rattle.room_turns.proofs.Works.{acted_has, has_declared, has_live}
 use Rattle.validate_list.specs.Acts.{IsActing}

@@ -28,7 +28,7 @@ use Rattle.journal_model.specs.Legal.{World, shown_step}
 use Rattle.journal_model.specs.Stores.{bytes_of, shown_by_read}
 use Rattle.journal_model.specs.Tasks.{task_of}
 use Rattle.journal_model.specs.Waits.{waited_for, jobs_before_read, jobs_before_write}
-use Rattle.room_state.specs.Kept.{Kept, state_behind, world_behind}
+use Rattle.room_turns.specs.Turns.{Kept, state_behind, world_behind}
 use Rattle.room_turns.specs.Acting.{entry_by, swaps}
 use Rattle.room_turns.specs.Turns.{entry_of}
 use Rattle.room_turns.proofs.Threads.{next_at}

@@ -29,7 +29,7 @@ use Rattle.journal_model.specs.Search.{Step}
 use Rattle.journal_model.specs.Stores.{bytes_of}
 use Rattle.journal_model.specs.Tasks.{task_of, stage_of}
 use Rattle.journal_model.specs.Waits.{waited_for, jobs_before_read, jobs_before_write}
-use Rattle.room_state.specs.Kept.{Kept, state_behind, world_behind}
+use Rattle.room_turns.specs.Turns.{Kept, state_behind, world_behind}
 use Rattle.room_turns.specs.declared.Step as answers
 use Rattle.room_turns.specs.Acting.{command_due, command_in, entry_by, holder_awaited, holder_before, holder_in, job_awaited, job_before, made_unless, swap_due, swaps}
 use Rattle.room_turns.specs.Turns.{entry_of, step_of}

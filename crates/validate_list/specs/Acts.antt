@@ -15,7 +15,7 @@ use Rattle.journal_model.specs.PageSteps.{unless_waiting}
 use Rattle.journal_model.specs.Stores.{bytes_of}
 use Rattle.journal_model.specs.Waits.{waited_for, jobs_before_read}
 use Rattle.lemma_bytes_told.specs.Told.{IsThere}
-use Rattle.room_state.specs.Kept.{Kept, state_behind, world_behind}
+use Rattle.room_turns.specs.Turns.{Kept, state_behind, world_behind}
 use Rattle.room_turns.specs.Acting.{frees, swaps}
 
 -- it shows bytes of a buffer

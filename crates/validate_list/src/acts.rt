@@ -9,7 +9,7 @@ ghost use Rattle.journal_model.specs.declared.state.Task.TheVariants as task;
 ghost use Rattle.journal_model.specs.PageSteps as steps;
 ghost use Rattle.journal_model.specs.Tasks.{task_of, stage_of};
 ghost use Rattle.lemma_bytes_told.specs.Told.{IsThere};
-ghost use Rattle.room_state.specs.Kept.{state_behind};
+ghost use Rattle.room_turns.specs.Turns.{state_behind};
 ghost use Rattle.room_turns.specs.Acting.{entry_by, free_due, job_awaited, made_unless, swap_due, swaps};
 ghost use Rattle.room_turns.specs.Turns.{after_step, entry_of, step_of};
 ghost use Rattle.validate_list.specs.Acts.{act_of, IsActing};
@@ -17,8 +17,7 @@ ghost use Rattle.validate_list.specs.Acts.{act_of, IsActing};
 use crate::buffers::lent;
 use crate::enact::{Next, enact};
 use journal_model::{Command, Kind, Shown, Task};
-use room_state::Rooms;
-use room_turns::Step;
+use room_turns::{Rooms, Step};
 use ttm_base::{BufId, Deny, JobId, Need, NoMemory, Usage};
 
 /// An answer that shows nothing.

@@ -1,12 +1,12 @@
 ghost use Rattle.std.specs.Prelude.{◌≡◌};
 ghost use Rattle.journal_model.specs.State as state;
 ghost use Rattle.lemma_bytes_told.specs.Told.{IsThere};
-ghost use Rattle.room_state.specs.Kept.{state_behind};
+ghost use Rattle.room_turns.specs.Turns.{state_behind};
 ghost use Rattle.room_steps.specs.Lent.{as_buffer};
 ghost use Rattle.room_ties.specs.Bos.{unfenced};
 
 use bo_table::Bo;
-use room_state::Rooms;
+use room_turns::Rooms;
 use ttm_base::{BufId, Stamp};
 
 /// A buffer is live.

@@ -4,8 +4,7 @@ ghost use Rattle.room_turns.specs.Acting.{entry_by};
 ghost use Rattle.room_turns.specs.Turns.{after_step, entry_of, step_of};
 
 use journal_model::Kind;
-use room_state::Rooms;
-use room_turns::{Step, make};
+use room_turns::{Rooms, Step, make};
 use ttm_base::{Actor, Need, NoMemory};
 
 /// What a thread makes next, or needs first.

@@ -6,15 +6,14 @@ ghost use Rattle.journal_model.specs.declared.state.Task.TheVariants as task;
 ghost use Rattle.journal_model.specs.State.{course};
 ghost use Rattle.journal_model.specs.Next as words;
 ghost use Rattle.journal_model.specs.Tasks.{task_of, stage_of};
-ghost use Rattle.room_state.specs.Kept.{state_behind};
+ghost use Rattle.room_turns.specs.Turns.{state_behind};
 ghost use Rattle.room_turns.specs.Acting.{holder_awaited, made_unless};
 ghost use Rattle.room_turns.specs.Turns.{after_step, entry_of, step_of};
 
 use crate::buffers::{holder_of, is_live};
 use crate::enact::{Next, enact};
 use journal_model::{Course, Kind, Task};
-use room_state::Rooms;
-use room_turns::Step;
+use room_turns::{Rooms, Step};
 use ttm_base::{BufId, Deny, Need, NoMemory, Stamp};
 use ww_ticket::{Decision, decide};
 

@@ -1,14 +1,13 @@
 ghost use Rattle.std.specs.Prelude.{◌≡◌, true, IfOk, OnOk, OnErr};
 ghost use Rattle.ttm_base.specs.declared.Actor.TheVariants as actor;
 ghost use Rattle.journal_model.specs.Tasks.{task_of};
-ghost use Rattle.room_state.specs.Kept.{state_behind};
+ghost use Rattle.room_turns.specs.Turns.{state_behind};
 ghost use Rattle.room_turns.specs.declared.Step.TheVariants as answer;
 ghost use Rattle.room_turns.specs.Acting.{gives_up};
 ghost use Rattle.room_turns.specs.Turns.{after_step, entry_of, step_of};
 
 use journal_model::{Kind, Task};
-use room_state::Rooms;
-use room_turns::{Step, make};
+use room_turns::{Rooms, Step, make};
 use ttm_base::{Actor, NoMemory};
 
 /// A command is refused, in the stage Fail, whose search found no pages. Its buffer has no frame to give back and no target.

@@ -3,14 +3,13 @@ ghost use Rattle.ttm_base.specs.declared.Actor.TheVariants as actor;
 ghost use Rattle.journal_model.specs.declared.state.Stage.TheVariants as stage;
 ghost use Rattle.journal_model.specs.Next as words;
 ghost use Rattle.journal_model.specs.Tasks.{task_of, stage_of};
-ghost use Rattle.room_state.specs.Kept.{state_behind};
+ghost use Rattle.room_turns.specs.Turns.{state_behind};
 ghost use Rattle.room_turns.specs.declared.Step.TheVariants as answer;
 ghost use Rattle.room_turns.specs.Turns.{after_step, entry_of, step_of};
 
 use crate::buffers::is_live;
 use journal_model::{Command, Kind};
-use room_state::Rooms;
-use room_turns::{Step, make};
+use room_turns::{Rooms, Step, make};
 use ttm_base::{Actor, Deny, NoMemory};
 
 /// The first step of a command.

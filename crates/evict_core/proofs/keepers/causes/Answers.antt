@@ -6,7 +6,7 @@ use Rattle.journal_model.specs.declared.script.Script.{Script}
 use Rattle.journal_model.specs.Dry.{cause_row}
 use Rattle.law_state.proofs.GoodStates.{good_law}
 use Rattle.law_sound.proofs.Along.{sound_law}
-use Rattle.room_state.specs.Kept.{state_behind}
+use Rattle.room_turns.specs.Turns.{state_behind}
 use Rattle.evict_core.specs.Rows.{row_in}
 use Rattle.evict_core.proofs.Rows.{few_buffers, row_more, row_same, rows_all}
 use Rattle.evict_core.proofs.keepers.causes.Goals as goal

@@ -2,7 +2,7 @@ use Rattle.std.proofs.Common.{◌∙◌, ap}
 use Rattle.journal_model.specs.declared.script.Script.{Script}
 use Rattle.room_turns.specs.Searching.{place_at_work}
 use Rattle.room_turns.specs.Turns.{step_of}
-use Rattle.room_searches.specs.Hunts.{quest_of, seen}
+use Rattle.room_turns.specs.Hunts.{quest_of, seen}
 use Rattle.evict_core.proofs.Entries.{entry_catches}
 use Rattle.evict_core.proofs.turns.catch.Goals as goal
 

@@ -3,7 +3,7 @@ use Rattle.journal_model.specs.declared.script.Script.{Script}
 use Rattle.journal_model.specs.Dry.{is_long_enough}
 use Rattle.room_turns.specs.Searching.{place_at_work}
 use Rattle.room_turns.specs.Turns.{after_step, step_of}
-use Rattle.room_searches.specs.Hunts.{quest_of, seen}
+use Rattle.room_turns.specs.Hunts.{quest_of, seen}
 use Rattle.evict_core.proofs.Entries.{entry_dry, entry_short, entry_waits}
 use Rattle.evict_core.proofs.turns.dry.Goals as goal
 

@@ -3,7 +3,7 @@ use Rattle.std.specs.Prelude.{find}
 use Rattle.lru_bulk.specs.Lists.{list_at, list_number}
 use Rattle.journal_model.specs.Dry.{is_evictable}
 use Rattle.law_lists.proofs.Law.{lists_law}
-use Rattle.room_state.specs.Kept.{state_behind}
+use Rattle.room_turns.specs.Turns.{state_behind}
 use Rattle.evict_core.specs.Walks.{left_from}
 use Rattle.evict_core.proofs.Walks.{from_first, first_in}
 use Rattle.evict_core.proofs.Steps.{first_is, next_asks, stepped, shorter, still_in, found_here}

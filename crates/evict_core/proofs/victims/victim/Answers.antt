@@ -1,6 +1,6 @@
 use Rattle.std.proofs.Common.{sym, ◌∙◌}
 use Rattle.law_lists.proofs.Law.{lists_law}
-use Rattle.room_state.specs.Kept.{state_behind}
+use Rattle.room_turns.specs.Turns.{state_behind}
 use Rattle.evict_core.proofs.Steps.{in_first, in_second, in_third, in_fourth}
 use Rattle.evict_core.proofs.victims.victim.Goals as goal
 

@@ -1,6 +1,6 @@
 use Rattle.std.proofs.Common.{◌∙◌, sym, ap}
 use Rattle.journal_model.specs.PageSteps.{target_to_untake}
-use Rattle.room_state.specs.Kept.{state_behind}
+use Rattle.room_turns.specs.Turns.{state_behind}
 use Rattle.room_turns.specs.Acting.{is_untake}
 use Rattle.move_pipeline.proofs.Carried.{given_there, untake_entry}
 use Rattle.move_pipeline.proofs.carries.untake.Goals as goal

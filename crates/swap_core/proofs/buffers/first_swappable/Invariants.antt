@@ -2,7 +2,7 @@ use Rattle.std.proofs.Common.{◌≡◌}
 use Rattle.std.specs.Prelude.{◌&&◌, find}
 use Rattle.journal_model.specs.State.{buffer, grip}
 use Rattle.journal_model.specs.Dry.{has_frame, is_loose}
-use Rattle.room_state.specs.Kept.{state_behind}
+use Rattle.room_turns.specs.Turns.{state_behind}
 use Rattle.swap_core.proofs.buffers.first_swappable.Given as goal
 
 -- the first of what is left is the first of all

@@ -1,5 +1,5 @@
 use Rattle.std.proofs.Common.{◌≡◌, IfOk, ◌∙◌, ap, subst}
-use Rattle.room_state.specs.Kept.{state_behind}
+use Rattle.room_turns.specs.Turns.{state_behind}
 use Rattle.room_turns.specs.Turns.{step_by}
 use Rattle.swap_core.proofs.FillLaws.{fill_needs}
 use Rattle.swap_core.proofs.filling.fill.Goals as goal

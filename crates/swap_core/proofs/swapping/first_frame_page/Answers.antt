@@ -1,7 +1,7 @@
 use Rattle.std.proofs.Common.{◌≡◌, length, ◌∙◌, ap, arith}
 use Rattle.journal_model.specs.declared.state.Buffer.{Buffer}
 use Rattle.journal_model.specs.State.{buffer}
-use Rattle.room_state.specs.Kept.{state_behind}
+use Rattle.room_turns.specs.Turns.{state_behind}
 use Rattle.swap_core.proofs.SwapLaws.{few_pages}
 use Rattle.swap_core.proofs.swapping.first_frame_page.Goals as goal
 

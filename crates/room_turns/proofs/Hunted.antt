@@ -32,7 +32,7 @@ use Rattle.journal_model.specs.Commands.{named}
 use Rattle.room_turns.specs.Searching.{hunt_in, hunt_of}
 use Rattle.room_turns.specs.Searching as searching
 use Rattle.room_turns.proofs.Threads.{command_at, next_at, task_at}
-use Rattle.room_searches.specs.Hunts.{hop_by, hunt_by, list_of, seen, sought_by}
+use Rattle.room_turns.specs.Hunts.{hop_by, hunt_by, list_of, seen, sought_by}
 
 -- ---- where it looks
 

@@ -1,8 +1,8 @@
 use Rattle.std.proofs.Common.{ap, sym, ◌∙◌, subst, ◌<◌, length}
 use Rattle.ttm_base.specs.declared.BufId.{BufId}
-use Rattle.room_searches.specs.declared.Hunt.{Hunt}
-use Rattle.room_searches.proofs.Hunted.{hunt_buffer, searched_declared}
-use Rattle.room_searches.proofs.hunt_for.Goals as goal
+use Rattle.room_turns.specs.declared.hunts.Hunt.{Hunt}
+use Rattle.room_turns.proofs.Hunted.{hunt_buffer, searched_declared}
+use Rattle.room_turns.proofs.hunts.hunt_for.Goals as goal
 
 pub returns-clause-declared : goal.returns-clause-declared
 returns-clause-declared c =

@@ -12,9 +12,9 @@ use Rattle.journal_model.specs.declared.state.Aim.TheVariants.{Asked, Hop}
 use Rattle.journal_model.specs.Commands.{as_fallback, decl, unflagged, whole}
 use Rattle.journal_model.specs.Search.{Quest, is_caught}
 use Rattle.room_turns.specs.Searching as searching
-use Rattle.room_searches.specs.declared.Sought.{Sought}
-use Rattle.room_searches.specs.declared.Sought.TheVariants.{One, Declared}
-use Rattle.room_searches.specs.declared.Hunt.{Hunt}
+use Rattle.room_turns.specs.declared.hunts.Sought.{Sought}
+use Rattle.room_turns.specs.declared.hunts.Sought.TheVariants.{One, Declared}
+use Rattle.room_turns.specs.declared.hunts.Hunt.{Hunt}
 
 -- the places that are tried
 abbrev pub list_of : Script → BufId → Sought → List FlaggedPlace

@@ -14,7 +14,7 @@ use Rattle.journal_model.specs.Choice.{choice}
 use Rattle.journal_model.specs.Search.{Step, first_choice, step_of_crowded, step_of_quest}
 use Rattle.journal_model.specs.Next.{next}
 use Rattle.room_turns.specs.Searching.{Hunt, finds_choice, has_choice, hunt_of, place_at_work}
-use Rattle.room_searches.proofs.Hunted.{hunter_next}
+use Rattle.room_turns.proofs.Hunted.{hunter_next}
 
 module _ (script : Script) (s : State) (c : Course) (h : Hunt) where
   abbrev first : Option (Mem × List Span)

@@ -1,5 +1,4 @@
 //! Where a thread's search for pages stands, read from the rooms: for which buffer, at which places. No call takes memory.
-#![tactic(auto)]
 
 ghost use Rattle.std.specs.Prelude.{◌≡◌, ◌<◌, Some, length, slice_get, unwrap_or};
 ghost use Rattle.ttm_base.specs.Placement.{forced_places};
@@ -11,8 +10,8 @@ ghost use Rattle.journal_model.specs.declared.state.Task.TheVariants as task;
 ghost use Rattle.room_state.specs.Kept.{state_behind};
 ghost use Rattle.room_turns.specs.Searching as words;
 ghost use Rattle.room_turns.specs.Searching.{hunt_of};
-ghost use Rattle.room_searches.specs.Hunts as seen_as;
-ghost use Rattle.room_searches.specs.Hunts.{list_of, quest_of, seen};
+ghost use Rattle.room_turns.specs.Hunts as seen_as;
+ghost use Rattle.room_turns.specs.Hunts.{list_of, quest_of, seen};
 
 use journal_model::{Aim, Command, Course, Script, Task};
 use room_state::Rooms;

@@ -4,8 +4,8 @@ use Rattle.std.proofs.lemmas.Iterator.{YieldsList-from_slice}
 use Rattle.std.proofs.lemmas.Iterator.Consumers.{YieldsList-at, YieldsList-from_filter, nth_from_yields_List}
 use Rattle.ttm_base.specs.declared.Mem.TheVariants.{System}
 use Rattle.journal_model.specs.Commands.{whole}
-use Rattle.room_searches.proofs.Hunted.{place_there, place_lacking}
-use Rattle.room_searches.proofs.forced_place.Goals as goal
+use Rattle.room_turns.proofs.Hunted.{place_there, place_lacking}
+use Rattle.room_turns.proofs.hunts.forced_place.Goals as goal
 
 pub returns-in-Some : goal.returns-in-Some
 returns-in-Some c =

@@ -1,2 +1,0 @@
-pub mod Hunted
-pub mod Finds
