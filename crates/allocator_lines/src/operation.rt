@@ -9,14 +9,14 @@ use std::alloc::Global;
 use ttm_base::{ItemList, Mode, NoMemory};
 
 /// What a list is for: a buddy manager or a range manager, of so many pages.
-#[derive(Clone, Copy, PartialEq, Eq)]
+#[derive(Clone, Copy)]
 pub enum Head {
     Buddy(u32),
     Ranges(u32),
 }
 
 /// One operation, for an ID below 65,536. Sizes and places are in pages.
-#[derive(Clone, Copy, PartialEq, Eq)]
+#[derive(Clone, Copy)]
 pub enum Operation {
     Alloc {
         id: u32,

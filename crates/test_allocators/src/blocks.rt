@@ -1,10 +1,9 @@
-ghost use Rattle.std.specs.Prelude.{◌≡◌, [], ◌∷◌, IfOk};
+ghost use Rattle.std.specs.Prelude.{◌≡◌, [], ◌∷◌};
 
 use buddy_manager::{AllocFault, BuddyFlags, BuddyManager};
 use std::alloc::Global;
 use std::process::Abort;
-use std::test::Fail;
-use ttm_base::{NoMemory, Span, Spans};
+use ttm_base::{Span, Spans};
 
 const PLAIN: BuddyFlags = BuddyFlags {
     topdown: false,
@@ -35,173 +34,217 @@ struct Case {
 
 /// The blocks that a request gets, none where there are none.
 fn got(
+    rt: &impl Abort,
     alloc: Global,
     manager: &mut BuddyManager,
     pages: u32,
     range: Span,
     flags: BuddyFlags,
-) -> Result<Spans, NoMemory> {
+) -> Spans {
     let mut out = Spans::new(alloc);
     match manager.alloc(pages.max(1), range.start, range.end, flags, &mut out) {
-        Ok(()) | Err(AllocFault::NoBlocks) => Ok(out),
-        Err(AllocFault::NoMemory) => Err(NoMemory),
+        Ok(()) | Err(AllocFault::NoBlocks) => out,
+        Err(AllocFault::NoMemory) => panic!(rt; "no memory"),
     }
+}
+
+/// A request for pages anywhere gets these blocks.
+fn gets(
+    rt: &impl Abort,
+    alloc: Global,
+    manager: &mut BuddyManager,
+    pages: u32,
+    flags: BuddyFlags,
+    want: &[Span],
+) {
+    let blocks = got(rt, alloc, manager, pages, ALL, flags);
+    assert!(rt; blocks.items() == want);
 }
 
 /// The answer to each case is the one that is wanted.
-fn answers(rt: &impl Abort, alloc: Global, cases: &[Case]) -> Result<(), NoMemory> {
+fn answers(rt: &impl Abort, alloc: Global, cases: &[Case]) {
     for case in cases {
-        let mut manager = BuddyManager::new(alloc, 12)?;
-        let blocks = got(alloc, &mut manager, case.pages, case.range, case.flags)?;
+        let mut manager = BuddyManager::new(alloc, 12).expect(rt, "a manager");
+        let blocks = got(rt, alloc, &mut manager, case.pages, case.range, case.flags);
         assert!(rt; blocks.items() == case.want);
         assert!(rt; manager.lengths() == case.lengths);
+        drop(manager);
     }
-    Ok(())
+}
+
+/// Requests in all pages.
+const ANYWHERE: [Case; 4] = [
+    Case {
+        pages: 3,
+        range: ALL,
+        flags: PLAIN,
+        want: &[Span { start: 8, end: 10 }, Span { start: 10, end: 11 }],
+        lengths: (9, 3),
+    },
+    Case {
+        pages: 3,
+        range: ALL,
+        flags: CONTIG,
+        want: &[Span { start: 8, end: 11 }],
+        lengths: (9, 3),
+    },
+    Case {
+        pages: 1,
+        range: ALL,
+        flags: TOPDOWN,
+        want: &[Span { start: 11, end: 12 }],
+        lengths: (11, 1),
+    },
+    Case {
+        pages: 9,
+        range: ALL,
+        flags: CONTIG,
+        want: &[],
+        lengths: (12, 0),
+    },
+];
+
+#[test]
+fn buddy_manager_answers(rt: HostRuntime) {
+    answers(&rt, rt.alloc(), &ANYWHERE);
+}
+
+/// Requests in a range.
+const IN_RANGES: [Case; 5] = [
+    Case {
+        pages: 2,
+        range: Span { start: 0, end: 7 },
+        flags: TOPDOWN,
+        want: &[Span { start: 4, end: 6 }],
+        lengths: (10, 2),
+    },
+    Case {
+        pages: 1,
+        range: Span { start: 5, end: 12 },
+        flags: PLAIN,
+        want: &[Span { start: 8, end: 9 }],
+        lengths: (11, 1),
+    },
+    Case {
+        pages: 8,
+        range: Span { start: 1, end: 12 },
+        flags: PLAIN,
+        want: &[Span { start: 8, end: 12 }, Span { start: 4, end: 8 }],
+        lengths: (4, 8),
+    },
+    Case {
+        pages: 12,
+        range: Span { start: 0, end: 99 },
+        flags: PLAIN,
+        want: &[Span { start: 0, end: 8 }, Span { start: 8, end: 12 }],
+        lengths: (0, 12),
+    },
+    Case {
+        pages: 2,
+        range: Span { start: 11, end: 99 },
+        flags: TOPDOWN,
+        want: &[],
+        lengths: (12, 0),
+    },
+];
+
+#[test]
+fn buddy_manager_answers_in_ranges(rt: HostRuntime) {
+    answers(&rt, rt.alloc(), &IN_RANGES);
 }
 
 #[test]
-fn buddy_manager_answers(rt: HostRuntime) -> Result<(), Fail> {
-    answers(
-        &rt,
-        rt.alloc(),
-        &[
-            Case {
-                pages: 3,
-                range: ALL,
-                flags: PLAIN,
-                want: &[Span { start: 8, end: 10 }, Span { start: 10, end: 11 }],
-                lengths: (9, 3),
-            },
-            Case {
-                pages: 3,
-                range: ALL,
-                flags: CONTIG,
-                want: &[Span { start: 8, end: 11 }],
-                lengths: (9, 3),
-            },
-            Case {
-                pages: 1,
-                range: ALL,
-                flags: TOPDOWN,
-                want: &[Span { start: 11, end: 12 }],
-                lengths: (11, 1),
-            },
-            Case {
-                pages: 9,
-                range: ALL,
-                flags: CONTIG,
-                want: &[],
-                lengths: (12, 0),
-            },
-        ],
-    )?;
-    Ok(())
-}
-
-#[test]
-fn buddy_manager_answers_in_ranges(rt: HostRuntime) -> Result<(), Fail> {
-    answers(
-        &rt,
-        rt.alloc(),
-        &[
-            Case {
-                pages: 2,
-                range: Span { start: 0, end: 7 },
-                flags: TOPDOWN,
-                want: &[Span { start: 4, end: 6 }],
-                lengths: (10, 2),
-            },
-            Case {
-                pages: 1,
-                range: Span { start: 5, end: 12 },
-                flags: PLAIN,
-                want: &[Span { start: 8, end: 9 }],
-                lengths: (11, 1),
-            },
-            Case {
-                pages: 8,
-                range: Span { start: 1, end: 12 },
-                flags: PLAIN,
-                want: &[Span { start: 8, end: 12 }, Span { start: 4, end: 8 }],
-                lengths: (4, 8),
-            },
-            Case {
-                pages: 12,
-                range: Span { start: 0, end: 99 },
-                flags: PLAIN,
-                want: &[Span { start: 0, end: 8 }, Span { start: 8, end: 12 }],
-                lengths: (0, 12),
-            },
-            Case {
-                pages: 2,
-                range: Span { start: 11, end: 99 },
-                flags: TOPDOWN,
-                want: &[],
-                lengths: (12, 0),
-            },
-        ],
-    )?;
-    Ok(())
-}
-
-#[test]
-fn trimmed_pages_are_free(rt: HostRuntime) -> Result<(), Fail> {
-    let mut manager = BuddyManager::new(rt.alloc(), 12)?;
+fn trimmed_pages_are_free(rt: HostRuntime) {
+    let alloc = rt.alloc();
+    let mut manager = BuddyManager::new(alloc, 12).expect(&rt, "a manager");
     let block = Span { start: 8, end: 12 };
-    let _four = got(rt.alloc(), &mut manager, 4, ALL, PLAIN)?;
+    gets(&rt, alloc, &mut manager, 4, PLAIN, &[block]);
     assert!(rt; manager.is_held(block));
     manager.trim(block, 1);
-    let two = got(rt.alloc(), &mut manager, 2, ALL, PLAIN)?;
-    assert!(rt; two.items() == [Span { start: 10, end: 12 }].as_slice());
-    Ok(())
+    gets(
+        &rt,
+        alloc,
+        &mut manager,
+        2,
+        PLAIN,
+        &[Span { start: 10, end: 12 }],
+    );
+    drop(manager);
 }
 
 #[test]
-fn buddy_splits_and_merges(rt: HostRuntime) -> Result<(), Fail> {
-    let mut manager = BuddyManager::new(rt.alloc(), 12)?;
-    let three = got(rt.alloc(), &mut manager, 3, ALL, PLAIN)?;
+fn buddy_splits_and_merges(rt: HostRuntime) {
+    let alloc = rt.alloc();
+    let mut manager = BuddyManager::new(alloc, 12).expect(&rt, "a manager");
+    let three = got(&rt, alloc, &mut manager, 3, ALL, PLAIN);
     let held = manager.are_held(&three);
     assert!(rt; held);
     manager.release(&three);
-    let four = got(rt.alloc(), &mut manager, 4, ALL, CONTIG)?;
-    assert!(rt; four.items() == [Span { start: 8, end: 12 }].as_slice());
-    let eight = got(rt.alloc(), &mut manager, 8, ALL, CONTIG)?;
-    assert!(rt; eight.items() == [Span { start: 0, end: 8 }].as_slice());
-    Ok(())
+    gets(
+        &rt,
+        alloc,
+        &mut manager,
+        4,
+        CONTIG,
+        &[Span { start: 8, end: 12 }],
+    );
+    gets(
+        &rt,
+        alloc,
+        &mut manager,
+        8,
+        CONTIG,
+        &[Span { start: 0, end: 8 }],
+    );
+    drop(manager);
 }
 
 /// One span.
-fn named(alloc: Global, span: Span) -> Result<Spans, NoMemory>
-    ensures { IfOk result (λ spans. spans ≡ span ∷ []) }
+fn named(rt: &impl Abort, alloc: Global, span: Span) -> Spans
+    ensures { result ≡ span ∷ [] }
 {
-    let mut spans = Spans::new(alloc);
-    spans.push(span)?;
-    Ok(spans)
+    Spans::from_slice(alloc, &[span]).expect(rt, "a span")
+}
+
+/// The blocks beside the pages that are named, by the number of pages for which each is asked.
+const BESIDE: [(u32, Span); 4] = [
+    (4, Span { start: 0, end: 4 }),
+    (4, Span { start: 8, end: 12 }),
+    (1, Span { start: 4, end: 5 }),
+    (1, Span { start: 7, end: 8 }),
+];
+
+/// All other pages are given out.
+fn takes_the_rest(rt: &impl Abort, alloc: Global, manager: &mut BuddyManager) {
+    for (pages, block) in &BESIDE {
+        gets(rt, alloc, manager, *pages, PLAIN, &[*block]);
+    }
+}
+
+/// Whether blocks are held that are named twice.
+fn are_held_twice(rt: &impl Abort, manager: &mut BuddyManager, spans: &Spans) -> bool {
+    let mut twice = spans.copy().expect(rt, "spans");
+    twice.extend(spans.items()).expect(rt, "spans");
+    manager.are_held(&twice)
+}
+
+/// The blocks are held, but not twice, and are given back.
+fn gives_back_once(rt: &impl Abort, manager: &mut BuddyManager, spans: &Spans) {
+    assert!(rt; !are_held_twice(rt, manager, spans));
+    let held = manager.are_held(spans);
+    assert!(rt; held);
+    manager.release(spans);
 }
 
 #[test]
-fn named_pages_are_held(rt: HostRuntime) -> Result<(), Fail> {
+fn named_pages_are_held(rt: HostRuntime) {
     let alloc = rt.alloc();
-    let mut manager = BuddyManager::new(alloc, 12)?;
-    let spans = named(alloc, Span { start: 5, end: 7 })?;
+    let mut manager = BuddyManager::new(alloc, 12).expect(&rt, "a manager");
+    let spans = named(&rt, alloc, Span { start: 5, end: 7 });
     manager.hold(&spans);
     assert!(rt; manager.lengths() == (10, 2));
-    for want in [
-        (4, Span { start: 0, end: 4 }),
-        (4, Span { start: 8, end: 12 }),
-        (1, Span { start: 4, end: 5 }),
-        (1, Span { start: 7, end: 8 }),
-    ] {
-        let blocks = got(alloc, &mut manager, want.0, ALL, PLAIN)?;
-        assert!(rt; blocks.items() == [want.1].as_slice());
-    }
-    let mut twice = named(alloc, Span { start: 5, end: 7 })?;
-    twice.push(Span { start: 5, end: 7 })?;
-    let held = manager.are_held(&twice);
-    assert!(rt; !held);
-    let held = manager.are_held(&spans);
-    assert!(rt; held);
-    manager.release(&spans);
+    takes_the_rest(&rt, alloc, &mut manager);
+    gives_back_once(&rt, &mut manager, &spans);
     assert!(rt; manager.lengths() == (2, 10));
-    Ok(())
+    drop(manager);
 }

@@ -1,6 +1,5 @@
 use hole_tree::Holes;
 use std::process::Abort;
-use std::test::Fail;
 use ttm_base::{Mode, Span};
 
 const SHORT: Span = Span { start: 20, end: 22 };
@@ -9,8 +8,11 @@ const LONG: Span = Span { start: 4, end: 10 };
 
 const HIGH: Span = Span { start: 40, end: 42 };
 
-/// The hole for each request of so many pages within a first and a last page.
-fn assert_holes(rt: &impl Abort, holes: &Holes, rows: &[(Mode, u32, u32, u32, Option<Span>)]) {
+/// A request for so many pages within a first and a last page, and the hole for it.
+type Row = (Mode, u32, u32, u32, Option<Span>);
+
+/// The hole for each request.
+fn assert_holes(rt: &impl Abort, holes: &Holes, rows: &[Row]) {
     for (mode, pages, first, last, want) in rows {
         let hole = match mode {
             Mode::Best => holes.best(*pages, 1, *first, *last),
@@ -21,95 +23,105 @@ fn assert_holes(rt: &impl Abort, holes: &Holes, rows: &[(Mode, u32, u32, u32, Op
     }
 }
 
-/// The hole that has each page.
-fn assert_around(rt: &impl Abort, holes: &Holes, rows: &[(u32, Option<Span>)]) {
-    for (page, want) in rows {
-        assert!(rt; holes.around(*page) == *want);
-    }
+/// The hole that has a page.
+fn assert_around(rt: &impl Abort, holes: &Holes, page: u32, want: Option<Span>) {
+    assert!(rt; holes.around(page) == want);
 }
 
+const BY_LENGTH_AND_PLACE: [Row; 7] = [
+    (Mode::Best, 2, 0, 64, Some(SHORT)),
+    (Mode::Best, 2, 21, 64, Some(HIGH)),
+    (Mode::Best, 3, 0, 64, Some(LONG)),
+    (Mode::Low, 2, 0, 64, Some(LONG)),
+    (Mode::High, 2, 0, 64, Some(HIGH)),
+    (Mode::High, 2, 0, 21, Some(LONG)),
+    (Mode::Best, 7, 0, 64, None),
+];
+
 #[test]
-fn holes_by_length_and_by_place(rt: HostRuntime) -> Result<(), Fail> {
+fn holes_by_length_and_by_place(rt: HostRuntime) {
     let mut holes = Holes::new(rt.alloc());
-    holes.ready(3)?;
+    holes.ready(3).expect(&rt, "nodes");
     holes.add(HIGH);
     holes.add(SHORT);
     holes.add(LONG);
-    let rows = [
-        (Mode::Best, 2, 0, 64, Some(SHORT)),
-        (Mode::Best, 2, 21, 64, Some(HIGH)),
-        (Mode::Best, 3, 0, 64, Some(LONG)),
-        (Mode::Low, 2, 0, 64, Some(LONG)),
-        (Mode::High, 2, 0, 64, Some(HIGH)),
-        (Mode::High, 2, 0, 21, Some(LONG)),
-        (Mode::Best, 7, 0, 64, None),
-    ];
-    assert_holes(&rt, &holes, &rows);
-    Ok(())
+    assert_holes(&rt, &holes, &BY_LENGTH_AND_PLACE);
+    drop(holes);
 }
 
+const NO_HOLE: [Row; 1] = [(Mode::Best, 1, 0, 64, None)];
+
+const ONE_HOLE: [Row; 2] = [
+    (Mode::Best, 1, 0, 64, Some(SHORT)),
+    (Mode::Low, 1, 0, 64, Some(SHORT)),
+];
+
 #[test]
-fn taken_hole_leaves_its_nodes(rt: HostRuntime) -> Result<(), Fail> {
+fn taken_hole_leaves_its_nodes(rt: HostRuntime) {
     let mut holes = Holes::new(rt.alloc());
-    holes.ready(1)?;
+    holes.ready(1).expect(&rt, "nodes");
     holes.add(LONG);
     assert!(rt; holes.remove(4) == LONG);
-    assert_holes(&rt, &holes, &[(Mode::Best, 1, 0, 64, None)]);
+    assert_holes(&rt, &holes, &NO_HOLE);
     holes.add(SHORT);
-    let rows = [
-        (Mode::Best, 1, 0, 64, Some(SHORT)),
-        (Mode::Low, 1, 0, 64, Some(SHORT)),
-    ];
-    assert_holes(&rt, &holes, &rows);
-    Ok(())
+    assert_holes(&rt, &holes, &ONE_HOLE);
+    drop(holes);
 }
 
+const WIDE: Span = Span { start: 18, end: 30 };
+
+const WIDENED: [Row; 2] = [
+    (Mode::Best, 7, 0, 64, Some(WIDE)),
+    (Mode::Low, 7, 0, 64, Some(WIDE)),
+];
+
+const LAST: Span = Span { start: 29, end: 30 };
+
+const NARROWED: [Row; 3] = [
+    (Mode::Best, 1, 0, 64, Some(LAST)),
+    (Mode::Best, 7, 0, 64, None),
+    (Mode::High, 1, 0, 40, Some(LAST)),
+];
+
 #[test]
-fn ends_of_a_hole_move(rt: HostRuntime) -> Result<(), Fail> {
+fn ends_of_a_hole_move(rt: HostRuntime) {
     let mut holes = Holes::new(rt.alloc());
-    holes.ready(3)?;
+    holes.ready(3).expect(&rt, "nodes");
     holes.add(LONG);
     holes.add(SHORT);
     holes.add(HIGH);
-    let wide = Span { start: 18, end: 30 };
-    holes.resize(SHORT, wide);
-    let rows = [
-        (Mode::Best, 7, 0, 64, Some(wide)),
-        (Mode::Low, 7, 0, 64, Some(wide)),
-    ];
-    assert_holes(&rt, &holes, &rows);
-    assert_around(&rt, &holes, &[(29, Some(wide)), (30, None)]);
-    let last = Span { start: 29, end: 30 };
-    holes.resize(wide, last);
-    assert_around(&rt, &holes, &[(28, None)]);
-    let rows = [
-        (Mode::Best, 1, 0, 64, Some(last)),
-        (Mode::Best, 7, 0, 64, None),
-        (Mode::High, 1, 0, 40, Some(last)),
-    ];
-    assert_holes(&rt, &holes, &rows);
-    Ok(())
+    holes.resize(SHORT, WIDE);
+    assert_holes(&rt, &holes, &WIDENED);
+    assert_around(&rt, &holes, 29, Some(WIDE));
+    assert_around(&rt, &holes, 30, None);
+    holes.resize(WIDE, LAST);
+    assert_around(&rt, &holes, 28, None);
+    assert_holes(&rt, &holes, &NARROWED);
+    drop(holes);
 }
 
+const FOURTH: Span = Span { start: 50, end: 55 };
+
+const FIFTH: Span = Span { start: 60, end: 61 };
+
+const RISEN: [Row; 3] = [
+    (Mode::Best, 1, 0, 64, Some(FIFTH)),
+    (Mode::Low, 3, 0, 64, Some(FOURTH)),
+    (Mode::High, 2, 0, 64, Some(FOURTH)),
+];
+
 #[test]
-fn rising_holes_are_balanced(rt: HostRuntime) -> Result<(), Fail> {
+fn rising_holes_are_balanced(rt: HostRuntime) {
     let mut holes = Holes::new(rt.alloc());
-    holes.ready(5)?;
+    holes.ready(5).expect(&rt, "nodes");
     holes.add(LONG);
     holes.add(SHORT);
     holes.add(HIGH);
-    let fourth = Span { start: 50, end: 55 };
-    holes.add(fourth);
-    let fifth = Span { start: 60, end: 61 };
-    holes.add(fifth);
+    holes.add(FOURTH);
+    holes.add(FIFTH);
     assert!(rt; holes.remove(20) == SHORT);
     assert!(rt; holes.remove(4) == LONG);
-    assert_around(&rt, &holes, &[(41, Some(HIGH))]);
-    let rows = [
-        (Mode::Best, 1, 0, 64, Some(fifth)),
-        (Mode::Low, 3, 0, 64, Some(fourth)),
-        (Mode::High, 2, 0, 64, Some(fourth)),
-    ];
-    assert_holes(&rt, &holes, &rows);
-    Ok(())
+    assert_around(&rt, &holes, 41, Some(HIGH));
+    assert_holes(&rt, &holes, &RISEN);
+    drop(holes);
 }

@@ -1,37 +1,63 @@
+ghost use Rattle.std.specs.Prelude.{◌≡◌, slice_set, true};
+
 use free_map::FreeMap;
 use page_pool::PagePool;
-use std::test::Fail;
+use std::process::Abort;
 
-#[test]
-fn lowest_free_of_three(rt: HostRuntime) -> Result<(), Fail> {
-    let mut map = FreeMap::new(rt.alloc(), 3)?;
-    assert!(rt; map.free() == 3);
-    assert!(rt; map.take() == Some(0));
-    assert!(rt; map.take() == Some(1));
-    assert!(rt; map.first() == Some(2));
-    assert!(rt; map.take() == Some(2));
-    assert!(rt; map.take() == None);
-    assert!(rt; map.free() == 0);
-    map.give(1);
-    assert!(rt; map.free() == 1);
-    assert!(rt; map.take() == Some(1));
-    Ok(())
+/// The number is the lowest free one, and is taken.
+fn takes(rt: &impl Abort, map: &mut FreeMap, number: u32)
+    ensures { map.new ≡ slice_set map.old number true }
+{
+    assert!(rt; map.take() == Some(number));
+}
+
+/// So many numbers are free, and this is the lowest of them.
+fn assert_free(rt: &impl Abort, map: &FreeMap, count: u32, lowest: Option<u32>) {
+    assert!(rt; map.free() == count);
+    assert!(rt; map.first() == lowest);
 }
 
 #[test]
-fn pool_of_three_frames(rt: HostRuntime) -> Result<(), Fail> {
-    let mut pool = PagePool::new(rt.alloc(), 3)?;
-    assert!(rt; pool.free() == 3);
-    assert!(rt; pool.take() == Some(0));
-    assert!(rt; pool.take() == Some(1));
-    assert!(rt; pool.free() == 1);
-    assert!(rt; pool.take() == Some(2));
+fn lowest_free_of_three(rt: HostRuntime) {
+    let mut map = FreeMap::new(rt.alloc(), 3).expect(&rt, "a map");
+    assert_free(&rt, &map, 3, Some(0));
+    takes(&rt, &mut map, 0);
+    takes(&rt, &mut map, 1);
+    assert_free(&rt, &map, 1, Some(2));
+    takes(&rt, &mut map, 2);
+    assert!(rt; map.take() == None);
+    assert_free(&rt, &map, 0, None);
+    map.give(1);
+    assert_free(&rt, &map, 1, Some(1));
+    takes(&rt, &mut map, 1);
+    drop(map);
+}
+
+/// The frame is the lowest free one, and is taken.
+fn takes_frame(rt: &impl Abort, pool: &mut PagePool, frame: u32)
+    ensures { pool.new ≡ slice_set pool.old frame true }
+{
+    assert!(rt; pool.take() == Some(frame));
+}
+
+/// So many frames are free, and this is the lowest of them.
+fn assert_free_frames(rt: &impl Abort, pool: &PagePool, count: u32, lowest: Option<u32>) {
+    assert!(rt; pool.free() == count);
+    assert!(rt; pool.first() == lowest);
+}
+
+#[test]
+fn pool_of_three_frames(rt: HostRuntime) {
+    let mut pool = PagePool::new(rt.alloc(), 3).expect(&rt, "a pool");
+    assert_free_frames(&rt, &pool, 3, Some(0));
+    takes_frame(&rt, &mut pool, 0);
+    takes_frame(&rt, &mut pool, 1);
+    assert_free_frames(&rt, &pool, 1, Some(2));
+    takes_frame(&rt, &mut pool, 2);
     assert!(rt; pool.take() == None);
-    assert!(rt; pool.first() == None);
-    assert!(rt; pool.free() == 0);
+    assert_free_frames(&rt, &pool, 0, None);
     pool.give(1);
-    assert!(rt; pool.free() == 1);
-    assert!(rt; pool.first() == Some(1));
-    assert!(rt; pool.take() == Some(1));
-    Ok(())
+    assert_free_frames(&rt, &pool, 1, Some(1));
+    takes_frame(&rt, &mut pool, 1);
+    drop(pool);
 }

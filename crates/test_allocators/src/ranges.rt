@@ -1,8 +1,7 @@
 use range_manager::{InsertFault, RangeManager};
 use std::alloc::Global;
 use std::process::Abort;
-use std::test::Fail;
-use ttm_base::{Mode, NoMemory, Span};
+use ttm_base::{Mode, Span};
 
 const FIVE: [Span; 5] = [
     Span { start: 0, end: 4 },
@@ -23,6 +22,18 @@ struct Case {
     want: Result<Span, InsertFault>,
 }
 
+/// Sixteen free pages.
+fn sixteen_pages(rt: &impl Abort, alloc: Global) -> RangeManager {
+    RangeManager::new(alloc, 16).expect(rt, "a manager")
+}
+
+/// Holds spans of free pages.
+fn hold(rt: &impl Abort, manager: &mut RangeManager, spans: &[Span]) {
+    for span in spans {
+        assert!(rt; manager.reserve(*span).is_ok());
+    }
+}
+
 /// Lets spans go, of which each is held.
 fn let_go(rt: &impl Abort, manager: &mut RangeManager, starts: &[u32]) {
     for start in starts {
@@ -32,213 +43,218 @@ fn let_go(rt: &impl Abort, manager: &mut RangeManager, starts: &[u32]) {
     }
 }
 
-/// The answer to each case is the one that is wanted, and the choice before it.
-fn answers(rt: &impl Abort, alloc: Global, cases: &[Case]) -> Result<(), NoMemory> {
+/// The answer is the one that is wanted, and the choice before it.
+fn answer(rt: &impl Abort, manager: &mut RangeManager, case: &Case) {
+    let (first, last) = case.range;
+    let align = case.align.max(1);
+    let choice = manager.choice(case.pages, align, first, last, case.mode);
+    let got = manager.insert(case.pages, align, first, last, case.mode);
+    assert!(rt; got == case.want);
+    assert!(rt; choice == got.ok());
+}
+
+/// Each case is answered as is wanted.
+fn answers(rt: &impl Abort, alloc: Global, cases: &[Case]) {
     for case in cases {
-        let mut manager = RangeManager::new(alloc, 16)?;
-        for span in case.held {
-            assert!(rt; manager.reserve(*span) == Ok(()));
-        }
+        let mut manager = sixteen_pages(rt, alloc);
+        hold(rt, &mut manager, case.held);
         let_go(rt, &mut manager, case.gone);
-        let (first, last) = case.range;
-        let align = case.align.max(1);
-        let choice = manager.choice(case.pages, align, first, last, case.mode);
-        let got = manager.insert(case.pages, align, first, last, case.mode);
-        assert!(rt; got == case.want);
-        assert!(rt; choice == got.ok());
+        answer(rt, &mut manager, case);
+        drop(manager);
     }
-    Ok(())
 }
 
+/// Requests in each mode.
+const BY_MODE: [Case; 4] = [
+    Case {
+        held: &FIVE,
+        gone: &[4, 10],
+        pages: 1,
+        align: 1,
+        range: (0, 16),
+        mode: Mode::Low,
+        want: Ok(Span { start: 4, end: 5 }),
+    },
+    Case {
+        held: &[Span { start: 0, end: 3 }],
+        gone: &[],
+        pages: 4,
+        align: 4,
+        range: (0, 16),
+        mode: Mode::Best,
+        want: Ok(Span { start: 4, end: 8 }),
+    },
+    Case {
+        held: &[],
+        gone: &[],
+        pages: 4,
+        align: 8,
+        range: (0, 16),
+        mode: Mode::High,
+        want: Ok(Span { start: 8, end: 12 }),
+    },
+    Case {
+        held: &[],
+        gone: &[],
+        pages: 4,
+        align: 1,
+        range: (2, 5),
+        mode: Mode::Best,
+        want: Err(InsertFault::NoHole),
+    },
+];
+
 #[test]
-fn range_manager_answers(rt: HostRuntime) -> Result<(), Fail> {
-    answers(
-        &rt,
-        rt.alloc(),
-        &[
-            Case {
-                held: &FIVE,
-                gone: &[4, 10],
-                pages: 1,
-                align: 1,
-                range: (0, 16),
-                mode: Mode::Low,
-                want: Ok(Span { start: 4, end: 5 }),
-            },
-            Case {
-                held: &[Span { start: 0, end: 3 }],
-                gone: &[],
-                pages: 4,
-                align: 4,
-                range: (0, 16),
-                mode: Mode::Best,
-                want: Ok(Span { start: 4, end: 8 }),
-            },
-            Case {
-                held: &[],
-                gone: &[],
-                pages: 4,
-                align: 8,
-                range: (0, 16),
-                mode: Mode::High,
-                want: Ok(Span { start: 8, end: 12 }),
-            },
-            Case {
-                held: &[],
-                gone: &[],
-                pages: 4,
-                align: 1,
-                range: (2, 5),
-                mode: Mode::Best,
-                want: Err(InsertFault::NoHole),
-            },
+fn range_manager_answers(rt: HostRuntime) {
+    answers(&rt, rt.alloc(), &BY_MODE);
+}
+
+/// Requests for a part of a hole.
+const RESTS: [Case; 4] = [
+    Case {
+        held: &[Span { start: 5, end: 7 }],
+        gone: &[],
+        pages: 5,
+        align: 1,
+        range: (0, 16),
+        mode: Mode::Best,
+        want: Ok(Span { start: 0, end: 5 }),
+    },
+    Case {
+        held: &[Span { start: 5, end: 7 }],
+        gone: &[],
+        pages: 6,
+        align: 1,
+        range: (0, 16),
+        mode: Mode::Low,
+        want: Ok(Span { start: 7, end: 13 }),
+    },
+    Case {
+        held: &[Span { start: 12, end: 16 }],
+        gone: &[],
+        pages: 3,
+        align: 1,
+        range: (0, 16),
+        mode: Mode::High,
+        want: Ok(Span { start: 9, end: 12 }),
+    },
+    Case {
+        held: &[
+            Span { start: 0, end: 4 },
+            Span { start: 8, end: 16 },
+            Span { start: 4, end: 8 },
         ],
-    )?;
-    Ok(())
+        gone: &[],
+        pages: 1,
+        align: 1,
+        range: (0, 16),
+        mode: Mode::Low,
+        want: Err(InsertFault::NoHole),
+    },
+];
+
+#[test]
+fn rest_of_a_hole_is_free(rt: HostRuntime) {
+    answers(&rt, rt.alloc(), &RESTS);
+}
+
+/// Requests for holes of several spans.
+const JOINED: [Case; 5] = [
+    Case {
+        held: &FIVE,
+        gone: &[4],
+        pages: 2,
+        align: 1,
+        range: (0, 16),
+        mode: Mode::Best,
+        want: Ok(Span { start: 4, end: 6 }),
+    },
+    Case {
+        held: &FIVE,
+        gone: &[4, 10],
+        pages: 3,
+        align: 1,
+        range: (0, 16),
+        mode: Mode::Best,
+        want: Err(InsertFault::NoHole),
+    },
+    Case {
+        held: &FIVE,
+        gone: &[4, 6],
+        pages: 6,
+        align: 1,
+        range: (0, 16),
+        mode: Mode::Best,
+        want: Ok(Span { start: 4, end: 10 }),
+    },
+    Case {
+        held: &FIVE,
+        gone: &[6, 4],
+        pages: 6,
+        align: 1,
+        range: (0, 16),
+        mode: Mode::Best,
+        want: Ok(Span { start: 4, end: 10 }),
+    },
+    Case {
+        held: &FIVE,
+        gone: &[0, 6, 4],
+        pages: 10,
+        align: 1,
+        range: (0, 16),
+        mode: Mode::Best,
+        want: Ok(Span { start: 0, end: 10 }),
+    },
+];
+
+#[test]
+fn holes_that_touch_are_joined(rt: HostRuntime) {
+    answers(&rt, rt.alloc(), &JOINED);
+}
+
+/// A request for pages anywhere gets a span.
+fn gets(rt: &impl Abort, manager: &mut RangeManager, pages: u32, mode: Mode, want: Span) {
+    assert!(rt; manager.insert(pages, 1, 0, 16, mode) == Ok(want));
 }
 
 #[test]
-fn rest_of_a_hole_is_free(rt: HostRuntime) -> Result<(), Fail> {
-    answers(
-        &rt,
-        rt.alloc(),
-        &[
-            Case {
-                held: &[Span { start: 5, end: 7 }],
-                gone: &[],
-                pages: 5,
-                align: 1,
-                range: (0, 16),
-                mode: Mode::Best,
-                want: Ok(Span { start: 0, end: 5 }),
-            },
-            Case {
-                held: &[Span { start: 5, end: 7 }],
-                gone: &[],
-                pages: 6,
-                align: 1,
-                range: (0, 16),
-                mode: Mode::Low,
-                want: Ok(Span { start: 7, end: 13 }),
-            },
-            Case {
-                held: &[Span { start: 12, end: 16 }],
-                gone: &[],
-                pages: 3,
-                align: 1,
-                range: (0, 16),
-                mode: Mode::High,
-                want: Ok(Span { start: 9, end: 12 }),
-            },
-            Case {
-                held: &[
-                    Span { start: 0, end: 4 },
-                    Span { start: 8, end: 16 },
-                    Span { start: 4, end: 8 },
-                ],
-                gone: &[],
-                pages: 1,
-                align: 1,
-                range: (0, 16),
-                mode: Mode::Low,
-                want: Err(InsertFault::NoHole),
-            },
-        ],
-    )?;
-    Ok(())
-}
-
-#[test]
-fn holes_that_touch_are_joined(rt: HostRuntime) -> Result<(), Fail> {
-    answers(
-        &rt,
-        rt.alloc(),
-        &[
-            Case {
-                held: &FIVE,
-                gone: &[4],
-                pages: 2,
-                align: 1,
-                range: (0, 16),
-                mode: Mode::Best,
-                want: Ok(Span { start: 4, end: 6 }),
-            },
-            Case {
-                held: &FIVE,
-                gone: &[4, 10],
-                pages: 3,
-                align: 1,
-                range: (0, 16),
-                mode: Mode::Best,
-                want: Err(InsertFault::NoHole),
-            },
-            Case {
-                held: &FIVE,
-                gone: &[4, 6],
-                pages: 6,
-                align: 1,
-                range: (0, 16),
-                mode: Mode::Best,
-                want: Ok(Span { start: 4, end: 10 }),
-            },
-            Case {
-                held: &FIVE,
-                gone: &[6, 4],
-                pages: 6,
-                align: 1,
-                range: (0, 16),
-                mode: Mode::Best,
-                want: Ok(Span { start: 4, end: 10 }),
-            },
-            Case {
-                held: &FIVE,
-                gone: &[0, 6, 4],
-                pages: 10,
-                align: 1,
-                range: (0, 16),
-                mode: Mode::Best,
-                want: Ok(Span { start: 0, end: 10 }),
-            },
-        ],
-    )?;
-    Ok(())
-}
-
-#[test]
-fn best_and_high_fit(rt: HostRuntime) -> Result<(), Fail> {
-    let mut manager = RangeManager::new(rt.alloc(), 16)?;
+fn best_and_high_fit(rt: HostRuntime) {
+    let mut manager = sixteen_pages(&rt, rt.alloc());
     for span in &FIVE {
         let pages = span.end.saturating_sub(span.start);
-        assert!(rt; manager.insert(pages, 1, 0, 16, Mode::Best) == Ok(*span));
+        gets(&rt, &mut manager, pages, Mode::Best, *span);
     }
     assert!(rt; manager.lengths() == (0, 16));
     let_go(&rt, &mut manager, &[4, 10]);
     assert!(rt; manager.lengths() == (3, 13));
-    let best = Span { start: 10, end: 11 };
-    assert!(rt; manager.insert(1, 1, 0, 16, Mode::Best) == Ok(best));
-    let top = Span { start: 5, end: 6 };
-    assert!(rt; manager.insert(1, 1, 0, 16, Mode::High) == Ok(top));
-    Ok(())
+    gets(
+        &rt,
+        &mut manager,
+        1,
+        Mode::Best,
+        Span { start: 10, end: 11 },
+    );
+    gets(&rt, &mut manager, 1, Mode::High, Span { start: 5, end: 6 });
+    drop(manager);
 }
 
 #[test]
-fn reserve_twice(rt: HostRuntime) -> Result<(), Fail> {
-    let mut manager = RangeManager::new(rt.alloc(), 16)?;
+fn reserve_twice(rt: HostRuntime) {
+    let mut manager = sixteen_pages(&rt, rt.alloc());
     let span = Span { start: 4, end: 8 };
-    assert!(rt; manager.reserve(span) == Ok(()));
+    hold(&rt, &mut manager, &[span]);
     assert!(rt; manager.reserve(span) == Err(InsertFault::NoHole));
-    Ok(())
+    drop(manager);
 }
 
 #[test]
-fn chosen_span_is_reserved(rt: HostRuntime) -> Result<(), Fail> {
-    let mut manager = RangeManager::new(rt.alloc(), 16)?;
+fn chosen_span_is_reserved(rt: HostRuntime) {
+    let mut manager = sixteen_pages(&rt, rt.alloc());
     let first = Span { start: 0, end: 4 };
     assert!(rt; manager.choice(4, 1, 0, 16, Mode::Low) == Some(first));
     assert!(rt; manager.lengths() == (16, 0));
-    assert!(rt; manager.reserve(first) == Ok(()));
-    let next = Span { start: 4, end: 8 };
-    assert!(rt; manager.insert(4, 1, 0, 16, Mode::Low) == Ok(next));
+    hold(&rt, &mut manager, &[first]);
+    gets(&rt, &mut manager, 4, Mode::Low, Span { start: 4, end: 8 });
     assert!(rt; manager.choice(4, 1, 0, 8, Mode::Low) == None);
-    Ok(())
+    drop(manager);
 }

@@ -1,8 +1,7 @@
 use resource_core::{BuddyRoom, Lengths, Manager, PagesKind, RangeRoom, TakeFault, VramRoom};
 use std::alloc::Global;
 use std::process::Abort;
-use std::test::Fail;
-use ttm_base::{BufId, JobId, Mem, NoMemory, Owner, Place, Span, Spans};
+use ttm_base::{BufId, JobId, Mem, Owner, Place, Span, Spans};
 
 const PLAIN: Place = Place {
     mem: Mem::Vram,
@@ -37,7 +36,6 @@ const UP_TO_EIGHT: Place = Place {
 };
 
 /// A call, and the spans that it is to get: none where there is no room.
-#[derive(Drop)]
 enum Step {
     Take(Owner, u32, Place, &'static [Span]),
     /// What a request would get, which nobody takes.
@@ -48,60 +46,57 @@ enum Step {
     Give(Owner),
 }
 
-fn live(buffer: u32) -> Owner {
-    Owner::Live(BufId(buffer))
+/// What a request gets: no spans where there is no room.
+fn answered(rt: &impl Abort, alloc: Global, answer: Result<Spans, TakeFault>) -> Spans {
+    match answer {
+        Ok(spans) => spans,
+        Err(TakeFault::NoRoom) => Spans::new(alloc),
+        Err(TakeFault::NoMemory) => panic!(rt; "no memory"),
+    }
 }
 
 /// The spans that an owner gets.
 fn taken<M: Manager>(
+    rt: &impl Abort,
     alloc: Global,
     room: &mut M,
     owner: Owner,
     pages: u32,
     place: &Place,
-) -> Result<Spans, NoMemory> {
-    if room.holds(owner) {
-        return Ok(Spans::new(alloc));
-    }
-    match room.take(alloc, owner, pages.max(1), 1, place) {
-        Ok(spans) => Ok(spans),
-        Err(TakeFault::NoRoom) => Ok(Spans::new(alloc)),
-        Err(TakeFault::NoMemory) => Err(NoMemory),
-    }
+) -> Spans {
+    assert!(rt; !room.holds(owner));
+    let answer = room.take(alloc, owner, pages.max(1), 1, place);
+    answered(rt, alloc, answer)
 }
 
 /// The spans that a request would get.
 fn chosen<M: Manager>(
+    rt: &impl Abort,
     alloc: Global,
     room: &mut M,
     pages: u32,
     place: &Place,
-) -> Result<Spans, NoMemory> {
-    match room.choose(alloc, pages.max(1), 1, place) {
-        Ok(spans) => Ok(spans),
-        Err(TakeFault::NoRoom) => Ok(Spans::new(alloc)),
-        Err(TakeFault::NoMemory) => Err(NoMemory),
-    }
+) -> Spans {
+    let answer = room.choose(alloc, pages.max(1), 1, place);
+    answered(rt, alloc, answer)
 }
 
 /// The spans that an owner is given to hold.
 fn held<M: Manager>(
+    rt: &impl Abort,
     alloc: Global,
     room: &mut M,
     owner: Owner,
     pages: u32,
     place: &Place,
-) -> Result<Spans, NoMemory> {
-    if room.holds(owner) {
-        return Ok(Spans::new(alloc));
-    }
+) -> Spans {
+    assert!(rt; !room.holds(owner));
     match room.choose(alloc, pages.max(1), 1, place) {
         Ok(spans) => {
-            room.hold(owner, &spans)?;
-            Ok(spans)
+            room.hold(owner, &spans).expect(rt, "a holding");
+            spans
         }
-        Err(TakeFault::NoRoom) => Ok(Spans::new(alloc)),
-        Err(TakeFault::NoMemory) => Err(NoMemory),
+        Err(fault) => answered(rt, alloc, Err(fault)),
     }
 }
 
@@ -113,178 +108,263 @@ fn keeps<M: Manager>(room: &M, owner: Owner, want: &[Span]) -> bool {
     }
 }
 
-/// Each step gets what it is to get.
-fn runs<M: Manager>(
-    rt: &impl Abort,
-    alloc: Global,
-    room: &mut M,
-    steps: &[Step],
-) -> Result<(), NoMemory> {
-    for step in steps {
-        match step {
-            Step::Take(owner, pages, place, want) => {
-                let spans = taken(alloc, room, *owner, *pages, place)?;
-                assert!(rt; spans.items() == *want);
-                assert!(rt; keeps(room, *owner, want));
-            }
-            Step::Choose(pages, place, want) => {
-                let spans = chosen(alloc, room, *pages, place)?;
-                assert!(rt; spans.items() == *want);
-            }
-            Step::Hold(owner, pages, place, want) => {
-                let spans = held(alloc, room, *owner, *pages, place)?;
-                assert!(rt; spans.items() == *want);
-                assert!(rt; keeps(room, *owner, want));
-            }
-            Step::Pass(from, to) => {
-                assert!(rt; room.holds(*from) && !room.holds(*to));
-                room.pass(*from, *to);
-            }
-            Step::Give(owner) => {
-                assert!(rt; room.holds(*owner));
-                room.give(*owner);
-                assert!(rt; !room.holds(*owner));
-            }
-        }
-    }
-    Ok(())
+/// The owner got the spans that it was to get, and keeps them.
+fn got<M: Manager>(rt: &impl Abort, room: &M, owner: Owner, spans: Spans, want: &[Span]) {
+    assert!(rt; spans.items() == want);
+    assert!(rt; keeps(room, owner, want));
 }
 
+/// The owner's pages become those of another.
+fn pass<M: Manager>(rt: &impl Abort, room: &mut M, from: Owner, to: Owner) {
+    assert!(rt; room.holds(from) && !room.holds(to));
+    room.pass(from, to);
+}
+
+/// The owner gives its pages back.
+fn give<M: Manager>(rt: &impl Abort, room: &mut M, owner: Owner) {
+    assert!(rt; room.holds(owner));
+    room.give(owner);
+    assert!(rt; !room.holds(owner));
+}
+
+/// The step gets what it is to get.
+fn run<M: Manager>(rt: &impl Abort, alloc: Global, room: &mut M, step: &Step) {
+    match step {
+        Step::Take(owner, pages, place, want) => {
+            let spans = taken(rt, alloc, room, *owner, *pages, place);
+            got(rt, room, *owner, spans, want);
+        }
+        Step::Choose(pages, place, want) => {
+            let spans = chosen(rt, alloc, room, *pages, place);
+            assert!(rt; spans.items() == *want);
+        }
+        Step::Hold(owner, pages, place, want) => {
+            let spans = held(rt, alloc, room, *owner, *pages, place);
+            got(rt, room, *owner, spans, want);
+        }
+        Step::Pass(from, to) => pass(rt, room, *from, *to),
+        Step::Give(owner) => give(rt, room, *owner),
+    }
+}
+
+/// Each step gets what it is to get, and behind the last one so many pages are free or held.
+fn ends_with<M: Manager + Drop>(
+    rt: &impl Abort,
+    alloc: Global,
+    mut room: M,
+    steps: &[Step],
+    want: Lengths,
+) {
+    for step in steps {
+        run(rt, alloc, &mut room, step);
+    }
+    assert!(rt; room.lengths() == want);
+}
+
+/// Calls on 12 pages of blocks.
+const BLOCKS: [Step; 12] = [
+    Step::Choose(
+        3,
+        PLAIN,
+        &[Span { start: 8, end: 10 }, Span { start: 10, end: 11 }],
+    ),
+    Step::Take(
+        Owner::Live(BufId(0)),
+        3,
+        PLAIN,
+        &[Span { start: 8, end: 10 }, Span { start: 10, end: 11 }],
+    ),
+    Step::Give(Owner::Live(BufId(0))),
+    Step::Take(
+        Owner::Live(BufId(1)),
+        4,
+        CONTIG,
+        &[Span { start: 8, end: 12 }],
+    ),
+    Step::Hold(
+        Owner::Live(BufId(2)),
+        8,
+        CONTIG,
+        &[Span { start: 0, end: 8 }],
+    ),
+    Step::Choose(1, PLAIN, &[]),
+    Step::Take(Owner::Live(BufId(3)), 1, PLAIN, &[]),
+    Step::Pass(Owner::Live(BufId(1)), Owner::Ghost(7)),
+    Step::Take(Owner::Live(BufId(3)), 1, PLAIN, &[]),
+    Step::Give(Owner::Ghost(7)),
+    Step::Take(Owner::Target(BufId(4)), 4, UP_TO_EIGHT, &[]),
+    Step::Take(
+        Owner::Target(BufId(4)),
+        3,
+        CONTIG,
+        &[Span { start: 8, end: 11 }],
+    ),
+];
+
 #[test]
-fn buddy_room_answers(rt: HostRuntime) -> Result<(), Fail> {
-    let mut room = BuddyRoom::new(rt.alloc(), 12)?;
-    runs(
-        &rt,
-        rt.alloc(),
-        &mut room,
-        &[
-            Step::Choose(
-                3,
-                PLAIN,
-                &[Span { start: 8, end: 10 }, Span { start: 10, end: 11 }],
-            ),
-            Step::Take(
-                live(0),
-                3,
-                PLAIN,
-                &[Span { start: 8, end: 10 }, Span { start: 10, end: 11 }],
-            ),
-            Step::Give(live(0)),
-            Step::Take(live(1), 4, CONTIG, &[Span { start: 8, end: 12 }]),
-            Step::Hold(live(2), 8, CONTIG, &[Span { start: 0, end: 8 }]),
-            Step::Choose(1, PLAIN, &[]),
-            Step::Take(live(3), 1, PLAIN, &[]),
-            Step::Pass(live(1), Owner::Ghost(7)),
-            Step::Take(live(3), 1, PLAIN, &[]),
-            Step::Give(Owner::Ghost(7)),
-            Step::Take(Owner::Target(BufId(4)), 4, UP_TO_EIGHT, &[]),
-            Step::Take(
-                Owner::Target(BufId(4)),
-                3,
-                CONTIG,
-                &[Span { start: 8, end: 11 }],
-            ),
-        ],
-    )?;
+fn buddy_room_answers(rt: HostRuntime) {
     let want = Lengths {
         free: 1,
         live: 8,
         targets: 3,
         ghosts: 0,
     };
-    assert!(rt; room.lengths() == want);
-    Ok(())
-}
-
-#[test]
-fn range_room_answers(rt: HostRuntime) -> Result<(), Fail> {
-    let mut room = RangeRoom::new(rt.alloc(), 16)?;
-    runs(
+    ends_with(
         &rt,
         rt.alloc(),
-        &mut room,
-        &[
-            Step::Take(live(0), 4, PLAIN, &[Span { start: 0, end: 4 }]),
-            Step::Take(live(1), 2, PLAIN, &[Span { start: 4, end: 6 }]),
-            Step::Take(live(2), 4, PLAIN, &[Span { start: 6, end: 10 }]),
-            Step::Take(live(3), 1, PLAIN, &[Span { start: 10, end: 11 }]),
-            Step::Take(live(4), 5, PLAIN, &[Span { start: 11, end: 16 }]),
-            Step::Take(live(5), 1, PLAIN, &[]),
-            Step::Give(live(1)),
-            Step::Pass(live(3), Owner::Ghost(1)),
-            Step::Pass(live(0), Owner::Ghost(2)),
-            Step::Choose(2, PLAIN, &[Span { start: 4, end: 6 }]),
-            Step::Give(Owner::Ghost(1)),
-            Step::Pass(Owner::Ghost(2), live(0)),
-            Step::Hold(live(5), 1, PLAIN, &[Span { start: 10, end: 11 }]),
-            Step::Take(live(6), 1, TOPDOWN, &[Span { start: 5, end: 6 }]),
-        ],
-    )?;
+        BuddyRoom::new(rt.alloc(), 12).expect(&rt, "a room"),
+        &BLOCKS,
+        want,
+    );
+}
+
+/// Calls on 16 pages of ranges.
+const RANGES: [Step; 14] = [
+    Step::Take(
+        Owner::Live(BufId(0)),
+        4,
+        PLAIN,
+        &[Span { start: 0, end: 4 }],
+    ),
+    Step::Take(
+        Owner::Live(BufId(1)),
+        2,
+        PLAIN,
+        &[Span { start: 4, end: 6 }],
+    ),
+    Step::Take(
+        Owner::Live(BufId(2)),
+        4,
+        PLAIN,
+        &[Span { start: 6, end: 10 }],
+    ),
+    Step::Take(
+        Owner::Live(BufId(3)),
+        1,
+        PLAIN,
+        &[Span { start: 10, end: 11 }],
+    ),
+    Step::Take(
+        Owner::Live(BufId(4)),
+        5,
+        PLAIN,
+        &[Span { start: 11, end: 16 }],
+    ),
+    Step::Take(Owner::Live(BufId(5)), 1, PLAIN, &[]),
+    Step::Give(Owner::Live(BufId(1))),
+    Step::Pass(Owner::Live(BufId(3)), Owner::Ghost(1)),
+    Step::Pass(Owner::Live(BufId(0)), Owner::Ghost(2)),
+    Step::Choose(2, PLAIN, &[Span { start: 4, end: 6 }]),
+    Step::Give(Owner::Ghost(1)),
+    Step::Pass(Owner::Ghost(2), Owner::Live(BufId(0))),
+    Step::Hold(
+        Owner::Live(BufId(5)),
+        1,
+        PLAIN,
+        &[Span { start: 10, end: 11 }],
+    ),
+    Step::Take(
+        Owner::Live(BufId(6)),
+        1,
+        TOPDOWN,
+        &[Span { start: 5, end: 6 }],
+    ),
+];
+
+#[test]
+fn range_room_answers(rt: HostRuntime) {
     let want = Lengths {
         free: 1,
         live: 15,
         targets: 0,
         ghosts: 0,
     };
-    assert!(rt; room.lengths() == want);
-    Ok(())
+    ends_with(
+        &rt,
+        rt.alloc(),
+        RangeRoom::new(rt.alloc(), 16).expect(&rt, "a room"),
+        &RANGES,
+        want,
+    );
+}
+
+/// Calls on 12 pages of VRAM in ranges.
+const VRAM_RANGES: [Step; 4] = [
+    Step::Take(
+        Owner::Live(BufId(0)),
+        3,
+        PLAIN,
+        &[Span { start: 0, end: 3 }],
+    ),
+    Step::Hold(
+        Owner::Target(BufId(0)),
+        3,
+        PLAIN,
+        &[Span { start: 3, end: 6 }],
+    ),
+    Step::Give(Owner::Live(BufId(0))),
+    Step::Pass(Owner::Target(BufId(0)), Owner::Live(BufId(0))),
+];
+
+/// Calls on 12 pages of VRAM in blocks.
+const VRAM_BLOCKS: [Step; 3] = [
+    Step::Take(
+        Owner::Live(BufId(0)),
+        3,
+        PLAIN,
+        &[Span { start: 8, end: 10 }, Span { start: 10, end: 11 }],
+    ),
+    Step::Hold(
+        Owner::Live(BufId(1)),
+        1,
+        PLAIN,
+        &[Span { start: 11, end: 12 }],
+    ),
+    Step::Give(Owner::Live(BufId(0))),
+];
+
+/// Twelve pages of VRAM of this kind.
+fn vram_room(rt: &impl Abort, alloc: Global, kind: PagesKind) -> VramRoom {
+    let room = VramRoom::new(alloc, 12, kind).expect(rt, "a room");
+    assert!(rt; room.kind() == kind);
+    room
 }
 
 #[test]
-fn vram_room_answers(rt: HostRuntime) -> Result<(), Fail> {
-    let mut room = VramRoom::new(rt.alloc(), 12, PagesKind::Ranges)?;
-    assert!(rt; room.kind() == PagesKind::Ranges);
-    runs(
-        &rt,
-        rt.alloc(),
-        &mut room,
-        &[
-            Step::Take(live(0), 3, PLAIN, &[Span { start: 0, end: 3 }]),
-            Step::Hold(
-                Owner::Target(BufId(0)),
-                3,
-                PLAIN,
-                &[Span { start: 3, end: 6 }],
-            ),
-            Step::Give(live(0)),
-            Step::Pass(Owner::Target(BufId(0)), live(0)),
-        ],
-    )?;
-    let mut room = VramRoom::new(rt.alloc(), 12, PagesKind::Blocks)?;
-    assert!(rt; room.kind() == PagesKind::Blocks);
-    runs(
-        &rt,
-        rt.alloc(),
-        &mut room,
-        &[
-            Step::Take(
-                live(0),
-                3,
-                PLAIN,
-                &[Span { start: 8, end: 10 }, Span { start: 10, end: 11 }],
-            ),
-            Step::Hold(live(1), 1, PLAIN, &[Span { start: 11, end: 12 }]),
-            Step::Give(live(0)),
-        ],
-    )?;
+fn ranges_of_vram_answer(rt: HostRuntime) {
+    let want = Lengths {
+        free: 9,
+        live: 3,
+        targets: 0,
+        ghosts: 0,
+    };
+    let room = vram_room(&rt, rt.alloc(), PagesKind::Ranges);
+    ends_with(&rt, rt.alloc(), room, &VRAM_RANGES, want);
+}
+
+#[test]
+fn blocks_of_vram_answer(rt: HostRuntime) {
     let want = Lengths {
         free: 11,
         live: 1,
         targets: 0,
         ghosts: 0,
     };
-    assert!(rt; room.lengths() == want);
-    Ok(())
+    let room = vram_room(&rt, rt.alloc(), PagesKind::Blocks);
+    ends_with(&rt, rt.alloc(), room, &VRAM_BLOCKS, want);
 }
 
-#[test]
-fn move_fence_is_the_last(rt: HostRuntime) -> Result<(), Fail> {
-    let mut room = BuddyRoom::new(rt.alloc(), 12)?;
+/// The room tells the last of two move fences.
+fn tells_the_last<M: Manager + Drop>(rt: &impl Abort, mut room: M) {
     assert!(rt; room.move_fence().is_none());
     for num in [1, 2] {
         room.set_move_fence(JobId { ctx: 0, num });
     }
-    let want = Some(JobId { ctx: 0, num: 2 });
-    assert!(rt; room.move_fence() == want);
-    Ok(())
+    assert!(rt; room.move_fence() == Some(JobId { ctx: 0, num: 2 }));
+}
+
+#[test]
+fn move_fence_is_the_last(rt: HostRuntime) {
+    let room = BuddyRoom::new(rt.alloc(), 12).expect(&rt, "a room");
+    tells_the_last(&rt, room);
 }

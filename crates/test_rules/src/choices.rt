@@ -1,31 +1,23 @@
-use crate::making::{core_of, decl_of, ghost_of, script_of, sizes_of, spans_of};
-use journal_model::{Core, Script, Sizes};
+use crate::making::{core_of, decl_of, ghost_in_vram, list, one, script_of, sizes_of};
+use journal_model::{Buffers, CommandLists, Core, Jobs, Script};
 use rules_choice::choice;
 use std::alloc::Global;
 use std::process::Abort;
-use std::test::Fail;
-use ttm_base::{BufId, Mem, NoMemory, Place, Span, Spans};
+use ttm_base::{BufId, Mem, NoMemory, Place, Span};
 
 /// A script with the buffer of a case.
-fn script_for(alloc: Global, case: &Case) -> Result<Script, NoMemory> {
-    let sizes = Sizes {
-        buddy: case.buddy,
-        ..sizes_of(case.size, 0, 0)
-    };
-    let mut script = script_of(alloc, sizes);
+fn script_for(rt: &impl Abort, alloc: Global, case: &Case) -> Script {
     let mut decl = decl_of(alloc, case.pages);
     decl.align = case.align;
-    script.buffers.push(decl)?;
-    Ok(script)
+    let mut sizes = sizes_of(case.size, 0, 0);
+    sizes.buddy = case.buddy;
+    script_of(alloc, sizes, one(rt, alloc, decl), CommandLists::new(alloc))
 }
 
 /// A core in which a ghost holds pages of VRAM.
-fn core_with(alloc: Global, held: &[(u32, u32)]) -> Result<Core, NoMemory> {
-    let mut left = ghost_of(alloc, 1);
-    left.vram = spans_of(alloc, held)?;
-    let mut core = core_of(alloc);
-    core.ghosts.push(left)?;
-    Ok(core)
+fn core_with(rt: &impl Abort, alloc: Global, held: &[Span]) -> Core {
+    let left = ghost_in_vram(alloc, 1, list(rt, alloc, held));
+    core_of(Buffers::new(alloc), Jobs::new(alloc), one(rt, alloc, left))
 }
 
 /// A request for pages of VRAM, what of it is held, and the pages that are to be found.
@@ -35,7 +27,7 @@ struct Case {
     size: u32,
     pages: u32,
     align: u32,
-    held: &'static [(u32, u32)],
+    held: &'static [Span],
     place: Place,
     want: &'static [Span],
 }
@@ -49,129 +41,138 @@ const ANYWHERE: Place = Place {
     contig: false,
 };
 
-/// The pages that a place has for a case, none where it has no choice.
-fn found(alloc: Global, case: &Case) -> Result<Spans, NoMemory> {
-    let script = script_for(alloc, case)?;
-    let core = core_with(alloc, case.held)?;
-    let pages = choice(alloc, &script, &core, BufId(0), case.place)?;
-    Ok(pages.unwrap_or(Spans::new(alloc)))
+const TOPDOWN: Place = Place {
+    topdown: true,
+    ..ANYWHERE
+};
+
+const CONTIG: Place = Place {
+    contig: true,
+    ..ANYWHERE
+};
+
+/// The place has the pages for a case that are wanted: none where it has no choice.
+fn has_choice(alloc: Global, script: &Script, core: &Core, case: &Case) -> bool {
+    match choice(alloc, script, core, BufId(0), case.place) {
+        Ok(Some(pages)) => pages.items() == case.want,
+        Ok(None) => case.want.is_empty(),
+        Err(NoMemory) => false,
+    }
 }
 
 /// The answer to each case is the one that is wanted.
-fn answers(rt: &impl Abort, alloc: Global, cases: &[Case]) -> Result<(), NoMemory> {
+fn answers(rt: &impl Abort, alloc: Global, cases: &[Case]) {
     for (i, case) in cases.iter().enumerate() {
-        let pages = found(alloc, case)?;
-        assert!(rt; pages.items() == case.want, "case {i}");
+        let script = script_for(rt, alloc, case);
+        let core = core_with(rt, alloc, case.held);
+        assert!(rt; has_choice(alloc, &script, &core, case), "case {i}");
+        drop(script);
+        drop(core);
     }
-    Ok(())
 }
 
-#[test]
-fn range_manager_answers(rt: HostRuntime) -> Result<(), Fail> {
-    let whole = Case {
-        buddy: false,
-        size: 16,
-        pages: 4,
-        align: 1,
-        held: &[],
-        place: ANYWHERE,
-        want: &[],
-    };
-    let topdown = Place {
-        topdown: true,
-        ..ANYWHERE
-    };
-    answers(
-        &rt,
-        rt.alloc(),
-        &[
-            Case {
-                pages: 1,
-                held: &[(0, 4), (6, 10), (11, 16)],
-                want: &[Span { start: 10, end: 11 }],
-                ..whole
-            },
-            Case {
-                pages: 1,
-                held: &[(0, 4), (6, 10), (10, 11), (11, 16)],
-                place: topdown,
-                want: &[Span { start: 5, end: 6 }],
-                ..whole
-            },
-            Case {
-                align: 4,
-                held: &[(0, 3)],
-                want: &[Span { start: 4, end: 8 }],
-                ..whole
-            },
-            Case {
-                align: 8,
-                place: topdown,
-                want: &[Span { start: 8, end: 12 }],
-                ..whole
-            },
-            Case {
-                place: Place {
-                    first: 2,
-                    last: 5,
-                    ..ANYWHERE
-                },
-                ..whole
-            },
+/// Four of 16 free pages.
+const RANGE: Case = Case {
+    buddy: false,
+    size: 16,
+    pages: 4,
+    align: 1,
+    held: &[],
+    place: ANYWHERE,
+    want: &[],
+};
+
+const RANGES: [Case; 5] = [
+    Case {
+        pages: 1,
+        held: &[
+            Span { start: 0, end: 4 },
+            Span { start: 6, end: 10 },
+            Span { start: 11, end: 16 },
         ],
-    )?;
-    Ok(())
-}
+        want: &[Span { start: 10, end: 11 }],
+        ..RANGE
+    },
+    Case {
+        pages: 1,
+        held: &[
+            Span { start: 0, end: 4 },
+            Span { start: 6, end: 10 },
+            Span { start: 10, end: 11 },
+            Span { start: 11, end: 16 },
+        ],
+        place: TOPDOWN,
+        want: &[Span { start: 5, end: 6 }],
+        ..RANGE
+    },
+    Case {
+        align: 4,
+        held: &[Span { start: 0, end: 3 }],
+        want: &[Span { start: 4, end: 8 }],
+        ..RANGE
+    },
+    Case {
+        align: 8,
+        place: TOPDOWN,
+        want: &[Span { start: 8, end: 12 }],
+        ..RANGE
+    },
+    Case {
+        place: Place {
+            first: 2,
+            last: 5,
+            ..ANYWHERE
+        },
+        ..RANGE
+    },
+];
 
 #[test]
-fn buddy_manager_answers(rt: HostRuntime) -> Result<(), Fail> {
-    let whole = Case {
-        buddy: true,
-        size: 12,
-        pages: 3,
-        align: 1,
-        held: &[],
-        place: ANYWHERE,
-        want: &[],
-    };
-    let contig = Place {
-        contig: true,
-        ..ANYWHERE
-    };
-    answers(
-        &rt,
-        rt.alloc(),
-        &[
-            Case {
-                want: &[Span { start: 8, end: 10 }, Span { start: 10, end: 11 }],
-                ..whole
-            },
-            Case {
-                place: contig,
-                want: &[Span { start: 8, end: 11 }],
-                ..whole
-            },
-            Case {
-                pages: 1,
-                place: Place {
-                    topdown: true,
-                    ..ANYWHERE
-                },
-                want: &[Span { start: 11, end: 12 }],
-                ..whole
-            },
-            Case {
-                pages: 9,
-                place: contig,
-                ..whole
-            },
-            Case {
-                pages: 2,
-                held: &[(8, 9)],
-                want: &[Span { start: 10, end: 12 }],
-                ..whole
-            },
-        ],
-    )?;
-    Ok(())
+fn range_manager_answers(rt: HostRuntime) {
+    answers(&rt, rt.alloc(), &RANGES);
+}
+
+/// Three of 12 free pages, which are a block of 8 and one of 4.
+const BLOCK: Case = Case {
+    buddy: true,
+    size: 12,
+    pages: 3,
+    align: 1,
+    held: &[],
+    place: ANYWHERE,
+    want: &[],
+};
+
+const BLOCKS: [Case; 5] = [
+    Case {
+        want: &[Span { start: 8, end: 10 }, Span { start: 10, end: 11 }],
+        ..BLOCK
+    },
+    Case {
+        place: CONTIG,
+        want: &[Span { start: 8, end: 11 }],
+        ..BLOCK
+    },
+    Case {
+        pages: 1,
+        place: TOPDOWN,
+        want: &[Span { start: 11, end: 12 }],
+        ..BLOCK
+    },
+    Case {
+        pages: 9,
+        place: CONTIG,
+        ..BLOCK
+    },
+    Case {
+        pages: 2,
+        held: &[Span { start: 8, end: 9 }],
+        want: &[Span { start: 10, end: 12 }],
+        ..BLOCK
+    },
+];
+
+#[test]
+fn buddy_manager_answers(rt: HostRuntime) {
+    answers(&rt, rt.alloc(), &BLOCKS);
 }

@@ -1,18 +1,30 @@
-use crate::making::{decl_of, one, script_of, sizes_of, spans_of};
+use crate::making::{decl_of, list, one, script_of, sizes_of};
 use journal_model::{
-    Bytes, Command, Commands, Decl, DryWhy, Entry, Kind, Left, Ops, Script, Shown, State, Why,
+    Bytes, Command, Decl, Decls, DryWhy, Entry, Kind, Left, Script, Shown, State, Why,
 };
 use rules_apply::{apply, first_state, is_ready};
 use std::alloc::Global;
 use std::process::Abort;
-use std::test::Fail;
-use ttm_base::{Actor, BufId, Deny, Mem, NoMemory, Op, Spans, Stamp};
+use ttm_base::{Actor, BufId, Deny, Mem, Op, Span, Stamp};
 
 const FIRST: BufId = BufId(0);
 
 const SECOND: BufId = BufId(1);
 
 const THREAD: Actor = Actor::Thread(1);
+
+const ENGINE: Actor = Actor::Engine(1);
+
+/// The engine that moves buffers.
+const MOVER: Actor = Actor::Engine(0);
+
+/// A fill over a page border.
+const FILL: Op = Op::Fill {
+    dst: FIRST,
+    off: 4000,
+    len: 200,
+    byte: 7,
+};
 
 /// Two pages of priority 1, with mates.
 fn declared(alloc: Global) -> Decl {
@@ -23,169 +35,173 @@ fn declared(alloc: Global) -> Decl {
 }
 
 /// Two buffers of two pages, and a thread that fills the first by a job.
-fn filling_script(alloc: Global) -> Result<Script, NoMemory> {
-    let ops: Ops = one(
-        alloc,
-        Op::Fill {
-            dst: FIRST,
-            off: 4000,
-            len: 200,
-            byte: 7,
-        },
-    )?;
-    let commands: Commands = one(alloc, Command::Submit { engine: 1, ops })?;
-    let mut script = script_of(alloc, sizes_of(4, 4, 4));
-    script.threads.push(commands)?;
-    script.buffers.push(declared(alloc))?;
-    script.buffers.push(declared(alloc))?;
-    Ok(script)
+fn filling_script(rt: &impl Abort, alloc: Global) -> Script {
+    let mut buffers = Decls::new(alloc);
+    for _buffer in 0..2u32 {
+        buffers.push(declared(alloc)).expect(rt, "a buffer");
+    }
+    let submit = Command::Submit {
+        engine: 1,
+        ops: list(rt, alloc, &[FILL]),
+    };
+    let threads = one(rt, alloc, one(rt, alloc, submit));
+    script_of(alloc, sizes_of(4, 4, 4), buffers, threads)
 }
 
-fn two_pages(alloc: Global) -> Result<Spans, NoMemory> {
-    spans_of(alloc, &[(1, 3)])
+/// A script, and where entries have led.
+#[derive(Drop)]
+struct Scene {
+    script: Script,
+    state: State,
 }
 
-fn step(
-    rt: &impl Abort,
-    alloc: Global,
-    script: &Script,
-    state: &mut State,
-    who: Actor,
-    kind: Kind,
-) -> Result<(), Fail> {
-    let entry = Entry { who, kind };
-    assert!(rt; is_ready(script, state, &entry));
-    apply(state, alloc, script, &entry)?;
-    Ok(())
+impl Scene {
+    /// The script that fills, and its first state.
+    fn new(rt: &impl Abort, alloc: Global) -> Scene {
+        let script = filling_script(rt, alloc);
+        let state = first_state(alloc, &script).expect(rt, "a state");
+        Scene { script, state }
+    }
+
+    /// The actor makes an entry, which is ready.
+    fn make(&mut self, rt: &impl Abort, alloc: Global, who: Actor, kind: Kind) {
+        let entry = Entry { who, kind };
+        assert!(rt; is_ready(&self.script, &self.state, &entry));
+        assert!(rt; apply(&mut self.state, alloc, &self.script, &entry).is_ok());
+        drop(entry);
+    }
+
+    /// The thread makes an entry, which is ready.
+    fn act(&mut self, rt: &impl Abort, alloc: Global, kind: Kind) {
+        self.make(rt, alloc, THREAD, kind);
+    }
+
+    /// The thread takes two pages of a memory type for the first buffer.
+    fn take(&mut self, rt: &impl Abort, alloc: Global, mem: Mem) {
+        let spans = list(rt, alloc, &[Span { start: 1, end: 3 }]);
+        self.act(
+            rt,
+            alloc,
+            Kind::Take {
+                b: FIRST,
+                mem,
+                spans,
+            },
+        );
+    }
+
+    /// The first buffer stands in a memory type, and has so many fences.
+    fn stands(&self, mem: Mem, fences: usize) -> bool {
+        match self.state.core.buffers.items().first() {
+            Some(Some(buffer)) => buffer.mem == mem && buffer.fences.len() == fences,
+            _ => false,
+        }
+    }
+
+    /// The first ghost holds these frames.
+    fn keeps(&self, frames: &[u32]) -> bool {
+        match self.state.core.ghosts.items().first() {
+            Some(left) => left.frames.items() == frames,
+            None => false,
+        }
+    }
+
+    /// The first job has so many packets.
+    fn emits(&self, packets: usize) -> bool {
+        match self.state.core.jobs.items().first() {
+            Some(job) => job.packets.len() == packets,
+            None => false,
+        }
+    }
+
+    /// The thread has answered so many commands.
+    fn answers(&self, count: u32) -> bool {
+        match self.state.courses.items().first() {
+            Some(course) => course.answered == count,
+            None => false,
+        }
+    }
+}
+
+/// The first buffer gets two pages of TT, and frames for both.
+fn fill_the_buffer(rt: &impl Abort, alloc: Global, scene: &mut Scene) {
+    scene.act(rt, alloc, Kind::New { b: FIRST });
+    scene.act(rt, alloc, Kind::Ticket { s: Stamp(1) });
+    scene.act(rt, alloc, Kind::Reserve { b: FIRST });
+    scene.take(rt, alloc, Mem::Tt);
+    for (page, frame) in [(0, 2), (1, 0)] {
+        let filled = Kind::Populate {
+            b: FIRST,
+            page,
+            frame,
+        };
+        scene.act(rt, alloc, filled);
+    }
+    scene.act(rt, alloc, Kind::Bind { b: FIRST });
+}
+
+/// The job is armed, and the buffer moves to VRAM and leaves a ghost.
+fn move_the_buffer(rt: &impl Abort, alloc: Global, scene: &mut Scene) {
+    scene.act(rt, alloc, Kind::Arm { engine: 1, num: 1 });
+    scene.take(rt, alloc, Mem::Vram);
+    let moved = Kind::Move {
+        b: FIRST,
+        mem: Mem::Vram,
+        num: 1,
+        left: Left::Ghost(1),
+    };
+    scene.act(rt, alloc, moved);
+}
+
+/// Both jobs end, and the ghost is reaped.
+fn end_both_jobs(rt: &impl Abort, alloc: Global, scene: &mut Scene) {
+    let ran = Kind::Packet {
+        num: 1,
+        k: 0,
+        piece: Bytes::new(alloc),
+    };
+    scene.make(rt, alloc, ENGINE, ran);
+    scene.make(rt, alloc, ENGINE, Kind::Done { num: 1 });
+    scene.make(rt, alloc, MOVER, Kind::Done { num: 1 });
+    scene.make(rt, alloc, Actor::Reaper, Kind::Reap { g: 1 });
+}
+
+/// The second buffer is made, and is a victim twice that is let go.
+fn let_a_victim_go(rt: &impl Abort, alloc: Global, scene: &mut Scene) {
+    let (b, vram, swap) = (SECOND, Why::Vram, Why::Swap);
+    scene.act(rt, alloc, Kind::New { b });
+    scene.act(rt, alloc, Kind::Catch { b, why: vram });
+    scene.act(rt, alloc, Kind::Skip { b });
+    scene.act(rt, alloc, Kind::Catch { b, why: swap });
+    scene.act(rt, alloc, Kind::Loose { b });
+    let (k, why) = (0, DryWhy::Short);
+    scene.act(rt, alloc, Kind::Dry { b, k, why });
+}
+
+/// The first buffer is freed, and two commands are answered.
+fn answer_twice(rt: &impl Abort, alloc: Global, scene: &mut Scene) {
+    let (shown, deny) = (Shown::Plain, Deny::NoBuffer);
+    scene.act(rt, alloc, Kind::Bulk { group: 3 });
+    scene.act(rt, alloc, Kind::Unbind { b: FIRST });
+    scene.act(rt, alloc, Kind::Free { b: FIRST, g: 0 });
+    scene.act(rt, alloc, Kind::Result { shown });
+    scene.act(rt, alloc, Kind::Refused { deny });
 }
 
 #[test]
-fn buffer_moves_and_leaves_a_ghost(rt: HostRuntime) -> Result<(), Fail> {
+fn buffer_moves_and_leaves_a_ghost(rt: HostRuntime) {
     let alloc = rt.alloc();
-    let script = filling_script(alloc)?;
-    let mut state = first_state(alloc, &script)?;
-    let to_tt = Kind::Take {
-        b: FIRST,
-        mem: Mem::Tt,
-        spans: two_pages(alloc)?,
-    };
-    let to_vram = Kind::Take {
-        b: FIRST,
-        mem: Mem::Vram,
-        spans: two_pages(alloc)?,
-    };
-    let entries = [
-        Kind::New { b: FIRST },
-        Kind::Ticket { s: Stamp(1) },
-        Kind::Reserve { b: FIRST },
-        to_tt,
-        Kind::Populate {
-            b: FIRST,
-            page: 0,
-            frame: 2,
-        },
-        Kind::Populate {
-            b: FIRST,
-            page: 1,
-            frame: 0,
-        },
-        Kind::Bind { b: FIRST },
-        Kind::Arm { engine: 1, num: 1 },
-        to_vram,
-        Kind::Move {
-            b: FIRST,
-            mem: Mem::Vram,
-            num: 1,
-            left: Left::Ghost(1),
-        },
-    ];
-    for kind in entries {
-        step(&rt, alloc, &script, &mut state, THREAD, kind)?;
-    }
-    let Some(Some(buffer)) = state.core.buffers.items().get(0) else {
-        panic!(rt; "the buffer is dead");
-    };
-    assert!(rt; buffer.mem == Mem::Vram);
-    assert!(rt; buffer.fences.len() == 2);
-    let Some(left) = state.core.ghosts.items().get(0) else {
-        panic!(rt; "there is no ghost");
-    };
-    assert!(rt; left.frames.items() == [2, 0].as_slice());
+    let mut scene = Scene::new(&rt, alloc);
+    fill_the_buffer(&rt, alloc, &mut scene);
+    move_the_buffer(&rt, alloc, &mut scene);
+    assert!(rt; scene.stands(Mem::Vram, 2));
+    assert!(rt; scene.keeps(&[2, 0]));
     // The job fills up to a page border, and from there on.
-    let Some(job) = state.core.jobs.items().get(0) else {
-        panic!(rt; "there is no job");
-    };
-    assert!(rt; job.packets.len() == 2);
-    end_of_both_jobs(&rt, alloc, &script, &mut state)?;
-    assert!(rt; state.core.ghosts.len() == 0);
-    let Some(course) = state.courses.items().get(0) else {
-        panic!(rt; "there is no thread");
-    };
-    assert!(rt; course.answered == 2);
-    Ok(())
-}
-
-fn end_of_both_jobs(
-    rt: &impl Abort,
-    alloc: Global,
-    script: &Script,
-    state: &mut State,
-) -> Result<(), Fail> {
-    let entries = [
-        (
-            Actor::Engine(1),
-            Kind::Packet {
-                num: 1,
-                k: 0,
-                piece: Bytes::new(alloc),
-            },
-        ),
-        (Actor::Engine(1), Kind::Done { num: 1 }),
-        (Actor::Engine(0), Kind::Done { num: 1 }),
-        (Actor::Reaper, Kind::Reap { g: 1 }),
-        (THREAD, Kind::New { b: SECOND }),
-        (
-            THREAD,
-            Kind::Catch {
-                b: SECOND,
-                why: Why::Vram,
-            },
-        ),
-        (THREAD, Kind::Skip { b: SECOND }),
-        (
-            THREAD,
-            Kind::Catch {
-                b: SECOND,
-                why: Why::Swap,
-            },
-        ),
-        (THREAD, Kind::Loose { b: SECOND }),
-        (
-            THREAD,
-            Kind::Dry {
-                b: SECOND,
-                k: 0,
-                why: DryWhy::Short,
-            },
-        ),
-        (THREAD, Kind::Bulk { group: 3 }),
-        (THREAD, Kind::Unbind { b: FIRST }),
-        (THREAD, Kind::Free { b: FIRST, g: 0 }),
-        (
-            THREAD,
-            Kind::Result {
-                shown: Shown::Plain,
-            },
-        ),
-        (
-            THREAD,
-            Kind::Refused {
-                deny: Deny::NoBuffer,
-            },
-        ),
-    ];
-    for (who, kind) in entries {
-        step(rt, alloc, script, state, who, kind)?;
-    }
-    Ok(())
+    assert!(rt; scene.emits(2));
+    end_both_jobs(&rt, alloc, &mut scene);
+    let_a_victim_go(&rt, alloc, &mut scene);
+    answer_twice(&rt, alloc, &mut scene);
+    assert!(rt; scene.state.core.ghosts.len() == 0);
+    assert!(rt; scene.answers(2));
+    drop(scene);
 }

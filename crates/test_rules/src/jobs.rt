@@ -1,31 +1,42 @@
-use crate::making::job_of;
+use crate::making::empty_job;
 use journal_model::Jobs;
 use std::alloc::Global;
-use std::test::Fail;
-use ttm_base::{JobId, NoMemory};
+use std::process::Abort;
+use ttm_base::JobId;
+
+fn job(ctx: u32, num: u64) -> JobId {
+    JobId { ctx, num }
+}
 
 /// Two jobs of engine 1, and one of engine 2 between them.
-fn three_jobs(alloc: Global) -> Result<Jobs, NoMemory> {
+fn three_jobs(rt: &impl Abort, alloc: Global) -> Jobs {
     let mut jobs = Jobs::new(alloc);
-    jobs.push(job_of(alloc, 1, 1))?;
-    jobs.push(job_of(alloc, 2, 1))?;
-    jobs.push(job_of(alloc, 1, 2))?;
-    Ok(jobs)
+    for (ctx, num) in [(1, 1), (2, 1), (1, 2)] {
+        jobs.push(empty_job(alloc, job(ctx, num)))
+            .expect(rt, "a job");
+    }
+    jobs
+}
+
+/// There are so many jobs, and so many behind those at the front that are done.
+fn has_jobs(jobs: &Jobs, all: usize, pending: usize) -> bool {
+    jobs.items().len() == all && jobs.pending().len() == pending
+}
+
+/// Engine 2 has a job of this number.
+fn has_named(jobs: &Jobs, num: u64) -> bool {
+    jobs.named(job(2, num)).is_some()
 }
 
 #[test]
-fn jobs_at_the_front_are_closed_once_done(rt: HostRuntime) -> Result<(), Fail> {
-    let alloc = rt.alloc();
-    let mut jobs = three_jobs(alloc)?;
-    jobs.finish(JobId { ctx: 2, num: 1 });
-    assert!(rt; jobs.pending().len() == 3);
-    jobs.finish(JobId { ctx: 1, num: 1 });
-    assert!(rt; jobs.pending().len() == 1);
-    assert!(rt; jobs.items().len() == 3);
-    assert!(rt; jobs.named(JobId { ctx: 2, num: 1 }).is_some());
-    assert!(rt; jobs.named(JobId { ctx: 2, num: 2 }).is_none());
+fn jobs_at_the_front_are_closed_once_done(rt: HostRuntime) {
+    let mut jobs = three_jobs(&rt, rt.alloc());
+    jobs.finish(job(2, 1));
+    assert!(rt; has_jobs(&jobs, 3, 3));
+    jobs.finish(job(1, 1));
+    assert!(rt; has_jobs(&jobs, 3, 1));
+    assert!(rt; has_named(&jobs, 1) && !has_named(&jobs, 2));
     jobs.drop_last();
-    assert!(rt; jobs.items().len() == 2);
-    assert!(rt; jobs.pending().len() == 0);
-    Ok(())
+    assert!(rt; has_jobs(&jobs, 2, 0));
+    drop(jobs);
 }

@@ -5,25 +5,19 @@ use journal_model::{
     Jobs, Lists, Marks, Name, Numbers, Packets, Script, Sizes, State, TurnLines,
 };
 use std::alloc::Global;
-use ttm_base::{FlaggedPlaces, ItemList, JobId, NoMemory, Placement, Span, Spans};
+use std::process::Abort;
+use ttm_base::{FlaggedPlaces, ItemList, JobId, Placement, Spans};
 
 /// A list of one item.
-pub fn one<T: Drop>(alloc: Global, item: T) -> Result<ItemList<T>, NoMemory> {
+pub fn one<T: Drop>(rt: &impl Abort, alloc: Global, item: T) -> ItemList<T> {
     let mut items = ItemList::new(alloc);
-    items.push(item)?;
-    Ok(items)
+    items.push(item).expect(rt, "an item");
+    items
 }
 
-/// Spans by their first page and the page behind their last.
-pub fn spans_of(alloc: Global, pages: &[(u32, u32)]) -> Result<Spans, NoMemory> {
-    let mut spans = Spans::new(alloc);
-    for (start, end) in pages {
-        spans.push(Span {
-            start: *start,
-            end: *end,
-        })?;
-    }
-    Ok(spans)
+/// A list of copies of these items.
+pub fn list<T: Copy>(rt: &impl Abort, alloc: Global, items: &[T]) -> ItemList<T> {
+    ItemList::from_slice(alloc, items).expect(rt, "items")
 }
 
 /// Ranges in VRAM and TT of so many pages, so many frames and slots, and one engine.
@@ -38,16 +32,21 @@ pub fn sizes_of(pages: u32, frames: u32, swap: u32) -> Sizes {
     }
 }
 
-/// A script without buffers and threads.
-pub fn script_of(alloc: Global, sizes: Sizes) -> Script {
+/// A script of these buffers and threads.
+pub fn script_of(alloc: Global, sizes: Sizes, buffers: Decls, threads: CommandLists) -> Script {
     Script {
         version: 1,
         sizes,
-        buffers: Decls::new(alloc),
-        threads: CommandLists::new(alloc),
+        buffers,
+        threads,
         turns: TurnLines::new(alloc),
         marks: Marks::new(alloc),
     }
+}
+
+/// A script without buffers and threads.
+pub fn empty_script(alloc: Global, sizes: Sizes) -> Script {
+    script_of(alloc, sizes, Decls::new(alloc), CommandLists::new(alloc))
 }
 
 /// A buffer of so many pages, with no place.
@@ -64,34 +63,39 @@ pub fn decl_of(alloc: Global, pages: u32) -> Decl {
     }
 }
 
-/// A job without packets, which waits for no other and isn't done.
-pub fn job_of(alloc: Global, ctx: u32, num: u64) -> Job {
+/// A job of these packets that waits for these, and isn't done.
+pub fn job_of(id: JobId, waits: JobIds, packets: Packets) -> Job {
     Job {
-        id: JobId { ctx, num },
-        waits: JobIds::new(alloc),
-        packets: Packets::new(alloc),
+        id,
+        waits,
+        packets,
         ran: 0,
         finished: false,
     }
 }
 
-/// A ghost that holds nothing.
-pub fn ghost_of(alloc: Global, num: u64) -> Ghost {
+/// A job without packets, which waits for no other and isn't done.
+pub fn empty_job(alloc: Global, id: JobId) -> Job {
+    job_of(id, JobIds::new(alloc), Packets::new(alloc))
+}
+
+/// A ghost that holds pages of VRAM.
+pub fn ghost_in_vram(alloc: Global, num: u64, vram: Spans) -> Ghost {
     Ghost {
         num,
-        vram: Spans::new(alloc),
+        vram,
         tt: Spans::new(alloc),
         frames: Frames::new(alloc),
         jobs: JobIds::new(alloc),
     }
 }
 
-/// Neither buffers nor jobs nor ghosts.
-pub fn core_of(alloc: Global) -> Core {
+/// These buffers, jobs and ghosts, and no move fence.
+pub fn core_of(buffers: Buffers, jobs: Jobs, ghosts: Ghosts) -> Core {
     Core {
-        buffers: Buffers::new(alloc),
-        jobs: Jobs::new(alloc),
-        ghosts: Ghosts::new(alloc),
+        buffers,
+        jobs,
+        ghosts,
         move_fence: None,
     }
 }

@@ -1,80 +1,102 @@
-use crate::making::{core_of, decl_of, ghost_of, job_of, one, script_of, sizes_of, state_of};
-use journal_model::{Command, Commands, Core, Course, Decl, Job, Kind, Script, State};
+use crate::making::{core_of, decl_of, job_of, list, one, script_of, sizes_of, state_of};
+use journal_model::{
+    BufIds, Command, CommandLists, Core, Course, Decls, Frames, Ghost, Job, Jobs, Kind, Script,
+    State,
+};
 use rules_next::next;
 use rules_search::has_room;
 use rules_state::{new_buffer, new_course, no_grip, unflagged, whole};
 use std::alloc::Global;
-use std::test::Fail;
-use ttm_base::{Actor, BufId, JobId, Mem, Need, NoMemory, Packet, PagePlace, Span, Stamp};
+use std::process::Abort;
+use ttm_base::{Actor, BufId, JobId, Mem, Need, NoMemory, Packet, PagePlace, Span, Spans, Stamp};
+
+const A: BufId = BufId(0);
 
 /// The one buffer: a page, in VRAM.
-fn page_in_vram(alloc: Global) -> Result<Decl, NoMemory> {
+fn page_in_vram(rt: &impl Abort, alloc: Global) -> Decls {
     let mut decl = decl_of(alloc, 1);
-    decl.placement.list = one(alloc, unflagged(whole(Mem::Vram)))?;
-    Ok(decl)
+    let places = list(rt, alloc, &[unflagged(whole(Mem::Vram))]);
+    decl.placement.list = places;
+    one(rt, alloc, decl)
 }
 
 /// One thread, which looks for the buffer.
-fn finding_script(alloc: Global) -> Result<Script, NoMemory> {
-    let commands: Commands = one(alloc, Command::Find { b: BufId(0) })?;
-    let mut script = script_of(alloc, sizes_of(4, 2, 1));
-    script.buffers.push(page_in_vram(alloc)?)?;
-    script.threads.push(commands)?;
-    Ok(script)
+fn finding_thread(rt: &impl Abort, alloc: Global) -> CommandLists {
+    one(rt, alloc, one(rt, alloc, Command::Find { b: A }))
+}
+
+/// The buffer and the thread.
+fn finding_script(rt: &impl Abort, alloc: Global) -> Script {
+    let buffers = page_in_vram(rt, alloc);
+    let threads = finding_thread(rt, alloc);
+    script_of(alloc, sizes_of(4, 2, 1), buffers, threads)
 }
 
 /// The first job of the manager's own context.
 const FIRST: JobId = JobId { ctx: 0, num: 1 };
 
-/// The first job of a context, with one packet.
-fn filling_job(alloc: Global, ctx: u32) -> Result<Job, NoMemory> {
-    let packet = Packet::Fill {
-        to: PagePlace::Frame(0),
-        off: 0,
-        len: 1,
-        byte: 7,
-    };
-    let mut job = job_of(alloc, ctx, 1);
-    job.packets = one(alloc, packet)?;
-    Ok(job)
+const FILL: Packet = Packet::Fill {
+    to: PagePlace::Frame(0),
+    off: 0,
+    len: 1,
+    byte: 7,
+};
+
+/// The first job of a context, with one packet, which waits for these jobs.
+fn filling_job(rt: &impl Abort, alloc: Global, ctx: u32, waits: &[JobId]) -> Job {
+    let id = JobId { ctx, num: 1 };
+    job_of(id, list(rt, alloc, waits), list(rt, alloc, &[FILL]))
 }
 
-/// The buffer is live in SYSTEM, a job of engine 1 waits for the first job, and so does a ghost.
-fn waiting_core(alloc: Global) -> Result<Core, NoMemory> {
-    let mut later = filling_job(alloc, 1)?;
-    later.waits = one(alloc, FIRST)?;
-    let mut left = ghost_of(alloc, 5);
-    left.jobs = one(alloc, FIRST)?;
-    let mut core = core_of(alloc);
-    core.buffers.push(Some(new_buffer(alloc, 1)?))?;
-    core.jobs.push(filling_job(alloc, 0)?)?;
-    core.jobs.push(later)?;
-    core.ghosts.push(left)?;
-    Ok(core)
+/// A job of engine 1 waits for the first job.
+fn waiting_jobs(rt: &impl Abort, alloc: Global) -> Jobs {
+    let mut jobs = Jobs::new(alloc);
+    jobs.push(filling_job(rt, alloc, 0, &[]))
+        .expect(rt, "a job");
+    jobs.push(filling_job(rt, alloc, 1, &[FIRST]))
+        .expect(rt, "a job");
+    jobs
 }
 
-/// A thread with such a stamp, which holds the buffer or not.
-fn course_with(alloc: Global, stamp: Option<Stamp>, holds: bool) -> Result<Course, NoMemory> {
+/// A ghost, which waits for the first job.
+fn waiting_ghost(rt: &impl Abort, alloc: Global) -> Ghost {
+    Ghost {
+        num: 5,
+        vram: Spans::new(alloc),
+        tt: Spans::new(alloc),
+        frames: Frames::new(alloc),
+        jobs: list(rt, alloc, &[FIRST]),
+    }
+}
+
+/// The buffer is live in SYSTEM, beside the jobs and the ghost.
+fn waiting_core(rt: &impl Abort, alloc: Global) -> Core {
+    let buffer = new_buffer(alloc, 1).expect(rt, "a buffer");
+    let buffers = one(rt, alloc, Some(buffer));
+    let ghosts = one(rt, alloc, waiting_ghost(rt, alloc));
+    core_of(buffers, waiting_jobs(rt, alloc), ghosts)
+}
+
+/// A thread with such a stamp, which holds these buffers.
+fn course_with(alloc: Global, stamp: Option<Stamp>, held: BufIds) -> Course {
     let mut course = new_course(alloc, 0);
     course.stamp = stamp;
-    if holds {
-        course.held.push(BufId(0))?;
-    }
-    Ok(course)
+    course.held = held;
+    course
 }
 
 /// A state with this thread.
-fn state_with(alloc: Global, course: Course) -> Result<State, NoMemory> {
-    let mut state = state_of(alloc, waiting_core(alloc)?);
-    state.grips.push(no_grip())?;
+fn state_with(rt: &impl Abort, alloc: Global, course: Course) -> State {
+    let mut state = state_of(alloc, waiting_core(rt, alloc));
+    state.grips.push(no_grip()).expect(rt, "a grip");
     state.last_ghost = 5;
-    state.last_jobs.push(1)?;
-    state.courses.push(course)?;
-    Ok(state)
+    state.last_jobs.push(1).expect(rt, "a number");
+    state.courses.push(course).expect(rt, "a course");
+    state
 }
 
 /// What a row tells of a step.
-#[derive(Clone, Copy, PartialEq, Eq)]
+#[derive(Clone, Copy)]
 enum Seen {
     Ticket(Stamp),
     Reserve(BufId),
@@ -82,70 +104,88 @@ enum Seen {
     Take(BufId, Mem, Span),
     /// A packet of no pieces shown, by its job's number and its place there.
     Packet(u64, u32),
-    Waits(Need),
-    Other,
+    /// It waits for a job.
+    Waits(JobId),
 }
 
-/// The entry, as far as a row tells it.
-fn as_a_row(kind: &Kind) -> Seen {
-    match kind {
-        Kind::Ticket { s } => Seen::Ticket(*s),
-        Kind::Reserve { b } => Seen::Reserve(*b),
-        Kind::Take { b, mem, spans } => match spans.items() {
-            [span] => Seen::Take(*b, *mem, *span),
-            _ => Seen::Other,
-        },
-        Kind::Packet { num, k, piece } if piece.len() == 0 => Seen::Packet(*num, *k),
-        _ => Seen::Other,
+/// The entry is the one of a row.
+fn is_seen(kind: &Kind, want: Seen) -> bool {
+    match (kind, want) {
+        (Kind::Ticket { s }, Seen::Ticket(stamp)) => *s == stamp,
+        (Kind::Reserve { b }, Seen::Reserve(buffer)) => *b == buffer,
+        (Kind::Take { b, mem, spans }, Seen::Take(buffer, place, span)) => {
+            *b == buffer && *mem == place && spans.items() == [span].as_slice()
+        }
+        (Kind::Packet { num, k, piece }, Seen::Packet(job, at)) => {
+            *num == job && *k == at && piece.len() == 0
+        }
+        _ => false,
     }
 }
 
-/// The next step of an actor.
-fn step_seen(alloc: Global, script: &Script, state: &State, who: Actor) -> Result<Seen, NoMemory> {
+/// What an actor waits for is what a row tells.
+fn is_awaited(need: Need, want: Seen) -> bool {
+    match (need, want) {
+        (Need::Fence(job), Seen::Waits(wanted)) => job == wanted,
+        _ => false,
+    }
+}
+
+/// The next step of an actor is the one of a row.
+fn comes(alloc: Global, script: &Script, state: &State, who: Actor, want: Seen) -> bool {
     if !has_room(script, state) {
-        return Ok(Seen::Other);
+        return false;
     }
-    let step = next(alloc, script, state, who)?;
-    Ok(match &step {
-        Ok(kind) => as_a_row(kind),
-        Err(need) => Seen::Waits(*need),
-    })
+    match next(alloc, script, state, who) {
+        Ok(Ok(kind)) => {
+            let seen = is_seen(&kind, want);
+            drop(kind);
+            seen
+        }
+        Ok(Err(need)) => is_awaited(need, want),
+        Err(NoMemory) => false,
+    }
 }
 
-#[test]
-fn steps_of_a_thread(rt: HostRuntime) -> Result<(), Fail> {
-    let alloc = rt.alloc();
-    let script = finding_script(alloc)?;
-    let rows = [
-        (None, false, Seen::Ticket(Stamp(1))),
-        (Some(Stamp(1)), false, Seen::Reserve(BufId(0))),
-        (
-            Some(Stamp(1)),
-            true,
-            Seen::Take(BufId(0), Mem::Vram, Span { start: 0, end: 1 }),
-        ),
-    ];
-    for (stamp, holds, want) in rows.iter() {
-        let state = state_with(alloc, course_with(alloc, *stamp, *holds)?)?;
-        let step = step_seen(alloc, &script, &state, Actor::Thread(1))?;
-        assert!(rt; step == *want);
-    }
-    Ok(())
-}
+/// The thread's stamp, the buffers that it holds, and its next step.
+const STEPS: [(Option<Stamp>, &[BufId], Seen); 3] = [
+    (None, &[], Seen::Ticket(Stamp(1))),
+    (Some(Stamp(1)), &[], Seen::Reserve(A)),
+    (
+        Some(Stamp(1)),
+        &[A],
+        Seen::Take(A, Mem::Vram, Span { start: 0, end: 1 }),
+    ),
+];
 
 #[test]
-fn engines_and_reaper_wait(rt: HostRuntime) -> Result<(), Fail> {
+fn steps_of_a_thread(rt: HostRuntime) {
     let alloc = rt.alloc();
-    let script = finding_script(alloc)?;
-    let state = state_with(alloc, new_course(alloc, 0))?;
-    let rows = [
-        (Actor::Engine(0), Seen::Packet(1, 0)),
-        (Actor::Engine(1), Seen::Waits(Need::Fence(FIRST))),
-        (Actor::Reaper, Seen::Waits(Need::Fence(FIRST))),
-    ];
-    for (who, want) in rows.iter() {
-        let step = step_seen(alloc, &script, &state, *who)?;
-        assert!(rt; step == *want);
+    let script = finding_script(&rt, alloc);
+    for (stamp, held, want) in &STEPS {
+        let course = course_with(alloc, *stamp, list(&rt, alloc, held));
+        let state = state_with(&rt, alloc, course);
+        assert!(rt; comes(alloc, &script, &state, Actor::Thread(1), *want));
+        drop(state);
     }
-    Ok(())
+    drop(script);
+}
+
+/// The actors that work on jobs, and the next step of each.
+const ACTORS: [(Actor, Seen); 3] = [
+    (Actor::Engine(0), Seen::Packet(1, 0)),
+    (Actor::Engine(1), Seen::Waits(FIRST)),
+    (Actor::Reaper, Seen::Waits(FIRST)),
+];
+
+#[test]
+fn engines_and_reaper_wait(rt: HostRuntime) {
+    let alloc = rt.alloc();
+    let script = finding_script(&rt, alloc);
+    let state = state_with(&rt, alloc, new_course(alloc, 0));
+    for (who, want) in &ACTORS {
+        assert!(rt; comes(alloc, &script, &state, *who, *want));
+    }
+    drop(state);
+    drop(script);
 }

@@ -1,55 +1,96 @@
-use crate::making::{core_of, job_of, script_of, sizes_of, state_of};
-use journal_model::{Commands, Script, State};
+use crate::making::{core_of, empty_job, script_of, sizes_of, state_of};
+use journal_model::{
+    Buffers, CommandLists, Commands, Course, Courses, Decls, Ghosts, Jobs, Script, State,
+};
 use rules_schedule::{is_over, next_actor, own_order};
 use rules_search::has_room;
 use rules_state::new_course;
 use std::alloc::Global;
-use std::test::Fail;
+use std::process::Abort;
 use ttm_base::{Actor, JobId, NoMemory, Stamp};
 
+const JOB: JobId = JobId { ctx: 1, num: 1 };
+
 /// Three threads without commands, and one engine.
-fn idle_script(alloc: Global) -> Result<Script, NoMemory> {
-    let mut script = script_of(alloc, sizes_of(4, 2, 1));
+fn idle_script(rt: &impl Abort, alloc: Global) -> Script {
+    let mut threads = CommandLists::new(alloc);
     for _thread in 0..3u32 {
-        script.threads.push(Commands::new(alloc))?;
+        threads.push(Commands::new(alloc)).expect(rt, "a thread");
     }
-    Ok(script)
+    script_of(alloc, sizes_of(4, 2, 1), Decls::new(alloc), threads)
 }
 
-/// A job of engine 1 has run. The first thread has no ticket, the third an older one than the second.
-fn state_with_tickets(alloc: Global) -> Result<State, NoMemory> {
-    let mut state = state_of(alloc, core_of(alloc));
-    state.core.jobs.push(job_of(alloc, 1, 1))?;
+/// A thread with a ticket, or with none.
+fn course_of(alloc: Global, stamp: Option<Stamp>) -> Course {
+    let mut course = new_course(alloc, 0);
+    course.stamp = stamp;
+    course
+}
+
+/// The first thread has no ticket, the third an older one than the second.
+fn three_courses(rt: &impl Abort, alloc: Global) -> Courses {
+    let mut courses = Courses::new(alloc);
     for stamp in [None, Some(Stamp(7)), Some(Stamp(3))] {
-        let mut course = new_course(alloc, 0);
-        course.stamp = stamp;
-        state.courses.push(course)?;
+        courses.push(course_of(alloc, stamp)).expect(rt, "a thread");
     }
+    courses
+}
+
+/// A job of engine 1 has run.
+fn state_with_tickets(rt: &impl Abort, alloc: Global) -> State {
+    let mut jobs = Jobs::new(alloc);
+    jobs.push(empty_job(alloc, JOB)).expect(rt, "a job");
+    let core = core_of(Buffers::new(alloc), jobs, Ghosts::new(alloc));
+    let mut state = state_of(alloc, core);
+    let courses = three_courses(rt, alloc);
+    state.courses = courses;
     state.last_stamp = 7;
-    state.last_jobs.push(0)?;
-    state.last_jobs.push(1)?;
-    Ok(state)
+    state.last_jobs.extend(&[0, 1]).expect(rt, "numbers");
+    state
+}
+
+const ORDER: [Actor; 6] = [
+    Actor::Reaper,
+    Actor::Engine(0),
+    Actor::Engine(1),
+    Actor::Thread(3),
+    Actor::Thread(2),
+    Actor::Thread(1),
+];
+
+/// The order of the actors is this one.
+fn has_order(alloc: Global, script: &Script, state: &State, want: &[Actor]) -> bool {
+    if !has_room(script, state) {
+        return false;
+    }
+    match own_order(alloc, script, state) {
+        Ok(order) => order.items() == want,
+        Err(NoMemory) => false,
+    }
+}
+
+/// The actor is the first that has an entry.
+fn goes_next(alloc: Global, script: &Script, state: &State, who: Actor) -> bool {
+    if !has_room(script, state) {
+        return false;
+    }
+    match next_actor(alloc, script, state) {
+        Ok(Some(next)) => next == who,
+        _ => false,
+    }
 }
 
 #[test]
-fn engines_go_before_threads_and_elders_before_others(rt: HostRuntime) -> Result<(), Fail> {
+fn engines_go_before_threads_and_elders_before_others(rt: HostRuntime) {
     let alloc = rt.alloc();
-    let script = idle_script(alloc)?;
-    let mut state = state_with_tickets(alloc)?;
+    let script = idle_script(&rt, alloc);
+    let mut state = state_with_tickets(&rt, alloc);
     assert!(rt; has_room(&script, &state));
-    let order = own_order(alloc, &script, &state)?;
-    let want = [
-        Actor::Reaper,
-        Actor::Engine(0),
-        Actor::Engine(1),
-        Actor::Thread(3),
-        Actor::Thread(2),
-        Actor::Thread(1),
-    ];
-    assert!(rt; order.items() == want.as_slice());
-    assert!(rt; next_actor(alloc, &script, &state)? == Some(Actor::Engine(1)));
+    assert!(rt; has_order(alloc, &script, &state, &ORDER));
+    assert!(rt; goes_next(alloc, &script, &state, Actor::Engine(1)));
     assert!(rt; !is_over(&script, &state));
-    state.core.jobs.finish(JobId { ctx: 1, num: 1 });
+    state.core.jobs.finish(JOB);
     assert!(rt; is_over(&script, &state));
-    Ok(())
+    drop(state);
+    drop(script);
 }
