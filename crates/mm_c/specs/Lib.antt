@@ -1,0 +1,4 @@
+pub mod BlockOwned
+pub mod Calls
+pub mod Kept
+pub mod RangeOwned

@@ -1,0 +1,47 @@
+//! A buddy manager as C has it.
+ghost use Rattle.std.specs.Prelude.{◌≡◌, Bool, true, false};
+ghost use Rattle.buddy_manager.specs.Held.{Managed};
+ghost use Rattle.std.specs.Global.{Global};
+ghost use Rattle.mm_c.specs.BlockOwned.{handle_owns};
+
+use crate::parts::Parts;
+use crate::blocks::Blocks;
+use std::alloc::Global;
+use std::marker::Model;
+
+/// A pointer to a buddy manager, if it is live. The struct is C's, and what it points to is the library's.
+#[repr(C)]
+#[derive(Drop)]
+pub struct BlockHandle {
+    ptr: *mut u8,
+    ghost heap: { Global },
+    pub ghost live: { Bool },
+    pub ghost value: { Managed },
+}
+
+impl Model for BlockHandle {
+    ghost also_owns = { λ h. handle_owns h.live h.heap h.ptr h.value };
+}
+
+impl BlockHandle {
+    /// The manager; the handle has none then.
+    pub fn take(&mut self, alloc: Global) -> Parts<Blocks, Global>
+        requires { self.old.live ≡ true }
+        ensures value { result.value ≡ self.old.value }
+        ensures closed { self.new.live ≡ false }
+    {
+        Parts {
+            ptr: self.ptr as *mut Blocks,
+            alloc,
+        }
+    }
+
+    /// Points to a manager.
+    pub fn put(&mut self, parts: Parts<Blocks, Global>)
+        ensures value { self.new.value ≡ parts.value }
+        ensures live { self.new.live ≡ true }
+    {
+        let Parts { ptr, alloc: _ } = parts;
+        self.ptr = ptr as *mut u8;
+    }
+}

@@ -1,0 +1,13 @@
+//! The range manager and the buddy manager for C, behind handles.
+#![tactic(auto)]
+
+mod block_calls;
+mod block_handle;
+mod blocks;
+mod ends;
+mod page_span;
+mod parts;
+mod range_calls;
+mod range_handle;
+mod ranges;
+mod status;

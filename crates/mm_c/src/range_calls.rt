@@ -1,0 +1,170 @@
+//! The calls of C on a range manager. Each takes the manager out of its handle and puts it back.
+ghost use Rattle.std.specs.Prelude.{◌≡◌, ◌≢◌, ◌↔◌, ℕ, ◌+◌, ◌<◌, ◌≤◌, true, false, [], ◌∷◌, Some, None, Contains};
+ghost use Rattle.std.specs.List.{find};
+ghost use Rattle.ttm_base.specs.Holes.{has_page};
+ghost use Rattle.hole_tree.specs.HoleSet.{starts_at, without};
+ghost use Rattle.range_manager.specs.Held.{with_span, pages_of, is_open, HasTakenPage};
+ghost use Rattle.manager_walk.specs.Walk.{IsNextHeld, IsNextHole, NoneFrom, NoneOpen};
+ghost use Rattle.mm_c.specs.Calls.{span_of, mode_of, range_for};
+ghost use Rattle.mm_c.specs.declared.status.TheConstants.{DONE, NO_ROOM, NO_MEMORY, INVALID, NOT_HELD, NO_MORE};
+
+use crate::page_span::PageSpan;
+use crate::parts::Parts;
+use crate::range_handle::RangeHandle;
+use crate::ranges::{RangeRequest, Ranges};
+use crate::status::{DONE, NO_MEMORY};
+use std::alloc::Global;
+
+/// Makes a manager of so many pages, of which none is held (drm_mm_init).
+#[unsafe(no_mangle)]
+pub extern "C" fn pearoar_ranges_create(alloc: Global, ranges: &mut RangeHandle, pages: u32) -> u32
+    requires closed { ranges.old.live ≡ false }
+    ensures live { result ≡ DONE → ranges.new.live ≡ true }
+    ensures size { result ≡ DONE → ranges.new.value.size ≡ pages }
+    ensures held { result ≡ DONE → ranges.new.value.held ≡ [] }
+    ensures none { result ≢ DONE → ranges.new.live ≡ false }
+    ensures status { Contains (DONE ∷ NO_MEMORY ∷ []) result }
+{
+    match Ranges::new(alloc, pages) {
+        Ok(made) => {
+            ranges.put(Parts::of(made));
+            DONE
+        }
+        Err(_) => NO_MEMORY,
+    }
+}
+
+/// Frees a manager, with whatever it holds (drm_mm_takedown).
+#[unsafe(no_mangle)]
+pub extern "C" fn pearoar_ranges_destroy(alloc: Global, ranges: &mut RangeHandle)
+    requires live { ranges.old.live ≡ true }
+    ensures closed { ranges.new.live ≡ false }
+{
+    drop(ranges.take(alloc).into_box());
+}
+
+/// Takes so many pages at a multiple of `align`, from `first` up to `last` (drm_mm_insert_node_in_range).
+#[unsafe(no_mangle)]
+pub extern "C" fn pearoar_ranges_insert(
+    alloc: Global,
+    ranges: &mut RangeHandle,
+    request: &RangeRequest,
+    span: &mut PageSpan,
+) -> u32
+    requires live { ranges.old.live ≡ true }
+    ensures live { ranges.new.live ≡ true }
+    ensures size { ranges.new.value.size ≡ ranges.old.value.size }
+    ensures done { result ≡ DONE → range_for ranges.old.value request.now.mode request.now.pages request.now.align (record { start = request.now.first; end = request.now.last }) ≡ Some (span_of span.new) }
+    ensures held { result ≡ DONE → ranges.new.value.held ≡ with_span (span_of span.new) ranges.old.value.held }
+    ensures no_room { result ≡ NO_ROOM → range_for ranges.old.value request.now.mode request.now.pages request.now.align (record { start = request.now.first; end = request.now.last }) ≡ None }
+    ensures invalid { (result ≡ INVALID) ↔ (mode_of request.now.mode ≡ None) }
+    ensures same { result ≢ DONE → ranges.new.value ≡ ranges.old.value }
+    ensures status { Contains (DONE ∷ NO_ROOM ∷ NO_MEMORY ∷ INVALID ∷ []) result }
+{
+    let mut manager = ranges.take(alloc).into_box();
+    let status = manager.insert(*request, span);
+    ranges.put(Parts::of(manager));
+    status
+}
+
+/// Takes the pages from `first` up to `last` (drm_mm_reserve_node).
+#[unsafe(no_mangle)]
+pub extern "C" fn pearoar_ranges_reserve(
+    alloc: Global,
+    ranges: &mut RangeHandle,
+    first: u32,
+    last: u32,
+) -> u32
+    requires live { ranges.old.live ≡ true }
+    ensures live { ranges.new.live ≡ true }
+    ensures size { ranges.new.value.size ≡ ranges.old.value.size }
+    ensures free { result ≡ DONE → (page : ℕ) → has_page page (record { start = first; end = last }) ≡ true → is_open ranges.old.value page ≡ true }
+    ensures held { result ≡ DONE → ranges.new.value.held ≡ with_span (record { start = first; end = last }) ranges.old.value.held }
+    ensures empty { last ≤ first → result ≡ NO_ROOM }
+    ensures no_room { result ≡ NO_ROOM → first < last → HasTakenPage ranges.old.value (record { start = first; end = last }) }
+    ensures same { result ≢ DONE → ranges.new.value ≡ ranges.old.value }
+    ensures status { Contains (DONE ∷ NO_ROOM ∷ NO_MEMORY ∷ []) result }
+{
+    let mut manager = ranges.take(alloc).into_box();
+    let status = manager.reserve(first, last);
+    ranges.put(Parts::of(manager));
+    status
+}
+
+/// Lets the span go that begins at a page (drm_mm_remove_node). It takes no memory.
+#[unsafe(no_mangle)]
+pub extern "C" fn pearoar_ranges_remove(alloc: Global, ranges: &mut RangeHandle, start: u32) -> u32
+    requires live { ranges.old.live ≡ true }
+    ensures live { ranges.new.live ≡ true }
+    ensures size { ranges.new.value.size ≡ ranges.old.value.size }
+    ensures held { result ≡ DONE → ranges.new.value.held ≡ without start ranges.old.value.held }
+    ensures not_held { (result ≡ NOT_HELD) ↔ (find (starts_at start) ranges.old.value.held ≡ None) }
+    ensures same { result ≢ DONE → ranges.new.value ≡ ranges.old.value }
+    ensures status { Contains (DONE ∷ NOT_HELD ∷ []) result }
+{
+    let mut manager = ranges.take(alloc).into_box();
+    let status = manager.remove(start);
+    ranges.put(Parts::of(manager));
+    status
+}
+
+/// How many pages are free, and how many are held. It takes no memory.
+#[unsafe(no_mangle)]
+pub extern "C" fn pearoar_ranges_lengths(
+    alloc: Global,
+    ranges: &mut RangeHandle,
+    free: &mut u32,
+    used: &mut u32,
+)
+    requires live { ranges.old.live ≡ true }
+    ensures live { ranges.new.live ≡ true }
+    ensures same { ranges.new.value ≡ ranges.old.value }
+    ensures used { used.new ≡ pages_of ranges.old.value.held }
+    ensures sum { free.new + used.new ≡ ranges.old.value.size }
+{
+    let manager = ranges.take(alloc).into_box();
+    (*free, *used) = manager.lengths();
+    ranges.put(Parts::of(manager));
+}
+
+/// The first span that is held from a page on, or from a later one. It takes no memory, and costs a step a page.
+#[unsafe(no_mangle)]
+pub extern "C" fn pearoar_ranges_next_held(
+    alloc: Global,
+    ranges: &mut RangeHandle,
+    from: u32,
+    span: &mut PageSpan,
+) -> u32
+    requires live { ranges.old.live ≡ true }
+    ensures live { ranges.new.live ≡ true }
+    ensures same { ranges.new.value ≡ ranges.old.value }
+    ensures some { result ≡ DONE → IsNextHeld ranges.old.value.held from (span_of span.new) }
+    ensures none { result ≡ NO_MORE → NoneFrom ranges.old.value.held from ranges.old.value.size }
+    ensures status { Contains (DONE ∷ NO_MORE ∷ []) result }
+{
+    let manager = ranges.take(alloc).into_box();
+    let status = manager.next_held(from, span);
+    ranges.put(Parts::of(manager));
+    status
+}
+
+/// The first free pages at a page or above it (drm_mm_for_each_hole). It takes no memory.
+#[unsafe(no_mangle)]
+pub extern "C" fn pearoar_ranges_next_hole(
+    alloc: Global,
+    ranges: &mut RangeHandle,
+    from: u32,
+    span: &mut PageSpan,
+) -> u32
+    requires live { ranges.old.live ≡ true }
+    ensures live { ranges.new.live ≡ true }
+    ensures same { ranges.new.value ≡ ranges.old.value }
+    ensures some { result ≡ DONE → IsNextHole ranges.old.value.held ranges.old.value.size from (span_of span.new) }
+    ensures none { result ≡ NO_MORE → NoneOpen ranges.old.value.held ranges.old.value.size from ranges.old.value.size }
+    ensures status { Contains (DONE ∷ NO_MORE ∷ []) result }
+{
+    let manager = ranges.take(alloc).into_box();
+    let status = manager.next_hole(from, span);
+    ranges.put(Parts::of(manager));
+    status
+}
