@@ -1,5 +1,5 @@
 -- A thread's next entry on the rooms, by its task.
-use Rattle.std.proofs.Common.{◌≡◌, ℕ, Bool, true, false, Option, Some, None, Ok, Err, IsSome, refl, sym, ◌∙◌, ap, subst}
+use Rattle.std.proofs.Common.{◌≡◌, ℕ, Bool, true, false, Option, Some, None, Ok, Err, IsSome, refl, sym, ◌∙◌, ap}
 use Rattle.std.specs.Prelude.{option_and_then, slice_get}
 use Rattle.ttm_base.specs.declared.Actor.TheVariants as actor
 use Rattle.ttm_base.specs.declared.Need.{Need}
@@ -16,7 +16,6 @@ use Rattle.journal_model.specs.declared.entry.Kind.{Kind}
 use Rattle.journal_model.specs.declared.entry.Kind.TheVariants as kind
 use Rattle.journal_model.specs.State.{course, course_of}
 use Rattle.journal_model.specs.Commands.{command_at_work, commands_of}
-use Rattle.journal_model.specs.Search.{Step}
 use Rattle.journal_model.specs.Next.{next, step_of_task}
 use Rattle.journal_model.specs.Tasks.{task_of, task_of_command, stage_of}
 use Rattle.journal_model.specs.Legal.{World, shown_step}

@@ -1,11 +1,10 @@
 -- The buffers at which a thread works are live and declared.
-use Rattle.std.proofs.Common.{◌≡◌, ℕ, ◌<◌, List, true, false, inl, inr, ⊎_elim, Option, Some, None, IsTrue, IsSome, length, refl, sym, ◌∙◌, subst, arith}
-use Rattle.std.specs.Prelude.{is_none, not, option_and_then, slice_get, unwrap_or}
+use Rattle.std.proofs.Common.{◌≡◌, ℕ, ◌<◌, List, true, inl, inr, ⊎_elim, Option, Some, None, IsTrue, length, sym, ◌∙◌, subst, arith}
+use Rattle.std.specs.Prelude.{not, option_and_then, slice_get, unwrap_or}
 use Rattle.ttm_base.specs.declared.BufId.{BufId}
 use Rattle.ttm_base.specs.declared.Stamp.{Stamp}
 use Rattle.journal_model.specs.declared.script.Script.{Script}
 use Rattle.journal_model.specs.declared.script.Command.{Command}
-use Rattle.journal_model.specs.declared.script.Command.TheVariants as command
 use Rattle.journal_model.specs.declared.state.Course.{Course}
 use Rattle.journal_model.specs.declared.state.State.{State}
 use Rattle.journal_model.specs.declared.state.Task.{Task}
@@ -16,7 +15,7 @@ use Rattle.journal_model.specs.Commands.{command_at_work, commands_of, named}
 use Rattle.journal_model.specs.Legal.{IsLegal, state_of}
 use Rattle.journal_model.specs.Ready.{is_ready}
 use Rattle.journal_model.specs.ScriptRules.{is_script}
-use Rattle.journal_model.specs.Tasks.{starts, task_of}
+use Rattle.journal_model.specs.Tasks.{task_of}
 use Rattle.law_state.proofs.GoodStates.{good_law}
 use Rattle.law_progress.specs.Sound.{Has, Owned, command_of}
 use Rattle.law_sound.proofs.Along.{sound_law}
@@ -35,16 +34,6 @@ command_there script s t cmd h = by (course_of s t) h
     by : (o : Option Course) → option_and_then (λ (c : Course). slice_get (commands_of script t) c.answered) o ≡ Some cmd → command_of script t (unwrap_or o (new_course 0)) ≡ Some cmd
     by None e = cc
     by (Some c) e = e
-
--- a command that locks has its ticket
-begun_ticket : (c : Course) (cmd : Command) → starts c cmd ≡ false → IsSome c.stamp
-begun_ticket c (command.New b) h = cc
-begun_ticket c (command.Touch group) h = cc
-begun_ticket c cmd h = by c.stamp h
-  where
-    by : (o : Option Stamp) → is_none o ≡ false → IsSome o
-    by None e = cc
-    by (Some st) e = refl
 
 -- what a task tells
 pub turn_at : (script : Script) (s : State) (t : ℕ) (cmd : Command) (x : Task) → command_at_work script s t ≡ Some cmd → task_of script s t ≡ x → Turn script s (course s t) cmd x
@@ -107,13 +96,6 @@ module _ (script : Script) (journal : List Entry) (fits : IsTrue (is_script scri
   module _ (t : ℕ) (cmd : Command) (at : command_at_work script s t ≡ Some cmd) (b : BufId) (is : task_of script s t ≡ task.Lock b) where
     locks : Turn script s (course s t) cmd (task.Lock b)
     locks = turn_at script s t cmd (task.Lock b) at is
-
-    -- it has a ticket
-    pub lock_ticket : IsSome (course s t).stamp
-    lock_ticket = by locks
-      where
-        by : Turn script s (course s t) cmd (task.Lock b) → IsSome (course s t).stamp
-        by (lock m n f) = begun_ticket (course s t) cmd n
 
     -- another one is the holder
     pub lock_other : (mine : Stamp) → (course s t).stamp ≡ Some mine → (grip s b).holder ≡ Some mine → ⊥

@@ -1,5 +1,5 @@
 -- What a thread is at beside a search: which of its entries is due, and what it waits for.
-use Rattle.std.specs.Prelude.{ℕ, Bool, true, false, Option, Some, None, Result, Ok, Err, ◌&&◌, is_some, not, option_and_then, if◌then◌else◌}
+use Rattle.std.specs.Prelude.{ℕ, Bool, true, false, Option, Some, None, Result, Ok, Err, ◌&&◌, is_some, not, if◌then◌else◌}
 use Rattle.ttm_base.specs.declared.JobId.{JobId}
 use Rattle.ttm_base.specs.declared.Stamp.{Stamp}
 use Rattle.ttm_base.specs.declared.Mem.TheVariants.{Vram}
