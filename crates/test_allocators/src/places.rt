@@ -139,7 +139,7 @@ const FLAGGED: [FlaggedPlace; 3] = [
 ];
 
 #[test]
-fn first_places_by_their_flags(rt: HostRuntime) {
+fn places_by_their_flags(rt: HostRuntime) {
     let placement = placement(&rt, rt.alloc(), &FLAGGED);
     assert!(rt; first_count(&placement) == 2);
     assert!(rt; first_at(&placement, 0).mem == Mem::Vram);

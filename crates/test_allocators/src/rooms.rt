@@ -323,6 +323,20 @@ const VRAM_BLOCKS: [Step; 3] = [
     Step::Give(Owner::Live(BufId(0))),
 ];
 
+const VRAM_RANGES_HELD: Lengths = Lengths {
+    free: 9,
+    live: 3,
+    targets: 0,
+    ghosts: 0,
+};
+
+const VRAM_BLOCKS_HELD: Lengths = Lengths {
+    free: 11,
+    live: 1,
+    targets: 0,
+    ghosts: 0,
+};
+
 /// Twelve pages of VRAM of this kind.
 fn vram_room(rt: &impl Abort, alloc: Global, kind: PagesKind) -> VramRoom {
     let room = VramRoom::new(alloc, 12, kind).expect(rt, "a room");
@@ -331,27 +345,12 @@ fn vram_room(rt: &impl Abort, alloc: Global, kind: PagesKind) -> VramRoom {
 }
 
 #[test]
-fn ranges_of_vram_answer(rt: HostRuntime) {
-    let want = Lengths {
-        free: 9,
-        live: 3,
-        targets: 0,
-        ghosts: 0,
-    };
-    let room = vram_room(&rt, rt.alloc(), PagesKind::Ranges);
-    ends_with(&rt, rt.alloc(), room, &VRAM_RANGES, want);
-}
-
-#[test]
-fn blocks_of_vram_answer(rt: HostRuntime) {
-    let want = Lengths {
-        free: 11,
-        live: 1,
-        targets: 0,
-        ghosts: 0,
-    };
-    let room = vram_room(&rt, rt.alloc(), PagesKind::Blocks);
-    ends_with(&rt, rt.alloc(), room, &VRAM_BLOCKS, want);
+fn vram_room_answers(rt: HostRuntime) {
+    let alloc = rt.alloc();
+    let room = vram_room(&rt, alloc, PagesKind::Ranges);
+    ends_with(&rt, alloc, room, &VRAM_RANGES, VRAM_RANGES_HELD);
+    let room = vram_room(&rt, alloc, PagesKind::Blocks);
+    ends_with(&rt, alloc, room, &VRAM_BLOCKS, VRAM_BLOCKS_HELD);
 }
 
 /// The room tells the last of two move fences.

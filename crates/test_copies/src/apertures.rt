@@ -1,23 +1,27 @@
+ghost use Rattle.std.specs.Prelude.{◌≡◌, length};
+
 use aperture_table::Aperture;
-use std::test::Fail;
+use std::process::Abort;
+
+/// The pages are mapped to these frames.
+fn assert_frames(rt: &impl Abort, aper: &Aperture, want: &[Option<u32>; 4])
+    requires { length aper.now ≡ 4 }
+{
+    for page in 0..4 {
+        assert!(rt; aper.get(page) == want[page as usize]);
+    }
+}
 
 /// Pages are mapped and cleared one at a time.
 #[test]
-fn pages_are_mapped_apart(rt: HostRuntime) -> Result<(), Fail> {
-    let mut aper = Aperture::new(rt.alloc(), 4)?;
-    for page in 0..4 {
-        assert!(rt; aper.get(page) == None);
-    }
+fn pages_are_mapped_apart(rt: HostRuntime) {
+    let mut aper = Aperture::new(rt.alloc(), 4).expect(&rt, "pages");
+    assert_frames(&rt, &aper, &[None; 4]);
     aper.set(3, 5);
     aper.set(0, 7);
-    assert!(rt; aper.get(3) == Some(5));
+    assert_frames(&rt, &aper, &[Some(7), None, None, Some(5)]);
     aper.set(3, 6);
-    assert!(rt; aper.get(0) == Some(7));
-    assert!(rt; aper.get(1) == None);
-    assert!(rt; aper.get(2) == None);
-    assert!(rt; aper.get(3) == Some(6));
+    assert_frames(&rt, &aper, &[Some(7), None, None, Some(6)]);
     aper.clear(0);
-    assert!(rt; aper.get(0) == None);
-    assert!(rt; aper.get(3) == Some(6));
-    Ok(())
+    assert_frames(&rt, &aper, &[None, None, None, Some(6)]);
 }

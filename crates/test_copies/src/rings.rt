@@ -6,25 +6,14 @@ use copy_engine::Rings;
 use copy_packet::{ProbeBytes, Stores};
 use fence_core::{FenceSet, Timeline};
 use std::alloc::Global;
-use std::test::Fail;
-use ttm_base::{JobId, NoMemory, Packet, PagePlace, Usage};
+use std::process::Abort;
+use ttm_base::{JobId, Packet, PagePlace, Usage};
 
-const PLACE: PagePlace = PagePlace::Frame(0);
-
-/// Pushes a job where it may be pushed.
-fn pushed(
-    rings: &mut Rings,
-    job: JobId,
-    waits: FenceSet,
-    packets: Vec<Packet>,
-) -> Result<bool, NoMemory> {
-    if job.ctx < rings.contexts() && 0 < job.num && waits.contexts() == rings.contexts() {
-        if packets.len() < 9 {
-            rings.push(job, waits, packets)?;
-            return Ok(true);
-        }
-    }
-    Ok(false)
+/// Pushes a job, where it may be pushed.
+fn push(rt: &impl Abort, rings: &mut Rings, job: JobId, waits: FenceSet, packets: Vec<Packet>) {
+    assert!(rt; job.ctx < rings.contexts() && 0 < job.num);
+    assert!(rt; waits.contexts() == rings.contexts() && packets.len() < 9);
+    rings.push(job, waits, packets).expect(rt, "a place");
 }
 
 /// Whether it is a packet on the first 200 bytes of frame 0.
@@ -76,66 +65,89 @@ fn head(rings: &Rings) -> Option<JobId> {
     None
 }
 
+const ONE: JobId = JobId { ctx: 0, num: 1 };
+
+const TWO: JobId = JobId { ctx: 0, num: 2 };
+
+const FILL: Packet = Packet::Fill {
+    to: PagePlace::Frame(0),
+    off: 0,
+    len: 2,
+    byte: 7,
+};
+
+const PROBE: Packet = Packet::Probe {
+    from: PagePlace::Frame(0),
+    off: 1,
+    len: 2,
+};
+
+/// Pushes a job that waits for none.
+fn push_free(rt: &impl Abort, alloc: Global, rings: &mut Rings, job: JobId, packets: &[Packet]) {
+    let waits = FenceSet::new(alloc, 1).expect(rt, "a context");
+    let packets = Vec::from_slice(alloc, packets).expect(rt, "packets");
+    push(rt, rings, job, waits, packets);
+}
+
+/// The head before each step, the number of the packet that is run, if one is, and how many bytes were shown last.
+const STEPS: [(JobId, Option<u32>, usize); 6] = [
+    (ONE, Some(0), 0),
+    (ONE, Some(1), 2),
+    (ONE, None, 2),
+    (TWO, Some(0), 2),
+    (TWO, Some(1), 0),
+    (TWO, None, 0),
+];
+
+/// Takes the steps, and compares each.
+fn assert_steps(rt: &impl Abort, rings: &mut Rings, stores: &mut Stores, out: &mut ProbeBytes)
+    requires { length stores.old.frames ≡ 4096 }
+{
+    for (job, number, shown) in &STEPS {
+        assert!(rt; head(rings) == Some(*job));
+        assert!(rt; step(rings, stores, out) == *number);
+        assert!(rt; out.bytes().len() == *shown);
+    }
+}
+
 #[test]
-fn jobs_and_packets_in_order(rt: HostRuntime) -> Result<(), Fail> {
-    let mut stores = stores(rt.alloc(), 0, 1, 0)?;
-    let mut out = ProbeBytes::new(rt.alloc())?;
-    let mut rings = Rings::new(rt.alloc(), 1)?;
+fn jobs_and_packets_in_order(rt: HostRuntime) {
+    let mut stores = stores(&rt, rt.alloc(), 0, 1, 0);
+    let mut out = ProbeBytes::new(rt.alloc()).expect(&rt, "bytes");
+    let mut rings = Rings::new(rt.alloc(), 1).expect(&rt, "a ring");
     assert!(&rt; head(&rings) == None);
-    let one = JobId { ctx: 0, num: 1 };
-    let two = JobId { ctx: 0, num: 2 };
-    let fill = Packet::Fill {
-        to: PLACE,
-        off: 0,
-        len: 2,
-        byte: 7,
-    };
-    let probe = Packet::Probe {
-        from: PLACE,
-        off: 1,
-        len: 2,
-    };
-    for (job, packets) in [(one, [fill, probe]), (two, [probe, fill])] {
-        let waits = FenceSet::new(rt.alloc(), 1)?;
-        let packets = Vec::from_slice(rt.alloc(), &packets)?;
-        let made = pushed(&mut rings, job, waits, packets)?;
-        assert!(&rt; made);
-    }
-    for (job, number, shown) in [
-        (one, Some(0), 0),
-        (one, Some(1), 2),
-        (one, None, 2),
-        (two, Some(0), 2),
-        (two, Some(1), 0),
-        (two, None, 0),
-    ] {
-        assert!(&rt; head(&rings) == Some(job));
-        let ran = step(&mut rings, &mut stores, &mut out);
-        assert!(&rt; ran == number);
-        assert!(&rt; out.bytes().len() == shown);
-    }
+    push_free(&rt, rt.alloc(), &mut rings, ONE, &[FILL, PROBE]);
+    push_free(&rt, rt.alloc(), &mut rings, TWO, &[PROBE, FILL]);
+    assert_steps(&rt, &mut rings, &mut stores, &mut out);
     assert!(&rt; head(&rings) == None);
-    Ok(())
+    drop(rings);
+    drop(stores);
+}
+
+/// The set has a reader of the first job.
+fn with_reader(rt: &impl Abort, alloc: Global) -> FenceSet {
+    let mut waits = FenceSet::new(alloc, 1).expect(rt, "a context");
+    if 0 < waits.contexts() {
+        waits.add(ONE, Usage::Read);
+    }
+    waits
+}
+
+/// The head has run no packet, and waits for the first job.
+fn assert_waits(rt: &impl Abort, rings: &Rings, line: &Timeline) {
+    assert!(rt; line.contexts() == rings.contexts() && 0 < rings.contexts());
+    assert!(rt; rings.head(0).is_some());
+    assert!(rt; rings.ready(0, line) == Some(ONE));
+    assert!(rt; rings.ran(0) == 0);
 }
 
 /// A job waits for readers too.
 #[test]
-fn head_waits_for_all_usages(rt: HostRuntime) -> Result<(), Fail> {
-    let mut line = Timeline::new(rt.alloc(), 1)?;
-    let mut rings = Rings::new(rt.alloc(), 1)?;
-    let mut waits = FenceSet::new(rt.alloc(), 1)?;
-    let reader = JobId { ctx: 0, num: 1 };
-    if 0 < waits.contexts() {
-        waits.add(reader, Usage::Read);
-    }
-    let job = JobId { ctx: 0, num: 2 };
-    let made = pushed(&mut rings, job, waits, Vec::new(rt.alloc()))?;
-    assert!(&rt; made);
-    if line.contexts() == rings.contexts() && 0 < rings.contexts() {
-        if rings.head(0).is_some() {
-            assert!(&rt; rings.ready(0, &line) == Some(reader));
-            assert!(&rt; rings.ran(0) == 0);
-        }
-    }
-    Ok(())
+fn head_waits_for_all_usages(rt: HostRuntime) {
+    let line = Timeline::new(rt.alloc(), 1).expect(&rt, "a context");
+    let mut rings = Rings::new(rt.alloc(), 1).expect(&rt, "a ring");
+    let waits = with_reader(&rt, rt.alloc());
+    push(&rt, &mut rings, TWO, waits, Vec::new(rt.alloc()));
+    assert_waits(&rt, &rings, &line);
+    drop(rings);
 }

@@ -1,33 +1,51 @@
-use std::test::Fail;
+ghost use Rattle.std.specs.Prelude.{◌≡◌, ◌<◌, Some, false, true, length, slice_get, slice_set};
+
+use std::process::Abort;
 use swap_store::SwapStore;
 
-#[test]
-fn two_slots(rt: HostRuntime) -> Result<(), Fail> {
-    let zeros = [0; 4096];
-    let a = [1; 4096];
-    let b = [2; 4096];
-    let c = [3; 4096];
+/// A page of one byte goes to the slot, which is the lowest free one.
+fn puts(rt: &impl Abort, store: &mut SwapStore, byte: u8, slot: u32)
+    ensures { store.new.held ≡ slice_set store.old.held slot true }
+{
+    assert!(rt; store.put(&[byte; 4096]) == Some(slot));
+}
+
+/// A page of one byte comes back from the slot.
+fn takes(rt: &impl Abort, store: &mut SwapStore, slot: u32, byte: u8)
+    requires { slice_get store.old.held slot ≡ Some true }
+    ensures { store.new.held ≡ slice_set store.old.held slot false }
+{
     let mut into = [0; 4096];
-    let mut store = SwapStore::new(rt.alloc(), 2)?;
-    assert!(rt; store.page(1) == zeros.as_slice());
-    assert!(rt; store.put(&a) == Some(0));
-    assert!(rt; store.put(&b) == Some(1));
-    assert!(rt; store.put(&c) == None);
+    store.take(slot, &mut into);
+    assert!(rt; into.as_slice() == [byte; 4096].as_slice());
+}
+
+/// The slot has a page of one byte.
+fn assert_page(rt: &impl Abort, store: &SwapStore, slot: u32, byte: u8)
+    requires { slot < length store.now.held }
+{
+    assert!(rt; store.page(slot) == [byte; 4096].as_slice());
+}
+
+#[test]
+fn two_slots(rt: HostRuntime) {
+    let mut store = SwapStore::new(rt.alloc(), 2).expect(&rt, "slots");
+    assert_page(&rt, &store, 1, 0);
+    puts(&rt, &mut store, 1, 0);
+    puts(&rt, &mut store, 2, 1);
+    assert!(rt; store.put(&[3; 4096]) == None);
     assert!(rt; store.first() == None);
-    assert!(rt; store.page(0) == a.as_slice());
-    assert!(rt; store.page(1) == b.as_slice());
-    store.take(0, &mut into);
-    assert!(rt; into.as_slice() == a.as_slice());
-    assert!(rt; store.page(0) == a.as_slice());
+    assert_page(&rt, &store, 0, 1);
+    takes(&rt, &mut store, 0, 1);
+    assert_page(&rt, &store, 0, 1);
     assert!(rt; store.first() == Some(0));
-    assert!(rt; store.put(&c) == Some(0));
-    store.take(0, &mut into);
-    assert!(rt; into.as_slice() == c.as_slice());
+    puts(&rt, &mut store, 3, 0);
+    takes(&rt, &mut store, 0, 3);
     store.drop_slot(1);
-    assert!(rt; store.page(1) == b.as_slice());
-    assert!(rt; store.put(&a) == Some(0));
-    assert!(rt; store.page(0) == a.as_slice());
-    assert!(rt; store.put(&a) == Some(1));
-    assert!(rt; store.page(1) == a.as_slice());
-    Ok(())
+    assert_page(&rt, &store, 1, 2);
+    puts(&rt, &mut store, 1, 0);
+    assert_page(&rt, &store, 0, 1);
+    puts(&rt, &mut store, 1, 1);
+    assert_page(&rt, &store, 1, 1);
+    drop(store);
 }

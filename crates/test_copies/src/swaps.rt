@@ -1,8 +1,9 @@
 ghost use Rattle.std.specs.Prelude.{◌≡◌, ◌+◌, ◌*◌, ◌≤◌, false, true, not, Some, IfSome, IfNone, length, position, slice_get, slice_set};
 ghost use Rattle.byte_store.specs.Parts.{overwritten, part};
 
+use crate::bytes::assert_bytes;
 use byte_store::{ByteStore, PAGE};
-use std::test::Fail;
+use std::process::Abort;
 use swap_store::SwapStore;
 
 /// Copies the page of a frame into the lowest free slot.
@@ -28,17 +29,26 @@ fn swap_in(frames: &mut ByteStore, frame: u32, swap: &mut SwapStore, slot: u32)
     swap.drop_slot(slot);
 }
 
+/// Frame 1 goes to slot 0, which is the only one.
+fn goes_out(rt: &impl Abort, swap: &mut SwapStore, frames: &ByteStore)
+    requires { 2 * PAGE ≤ length frames.now }
+    ensures { swap.new.held ≡ slice_set swap.old.held 0 true }
+{
+    assert!(rt; swap_out(swap, frames, 1) == Some(0));
+    assert!(rt; swap_out(swap, frames, 0) == None);
+}
+
 /// Frame 1 goes to slot 0, and comes back into frame 0.
 #[test]
-fn page_goes_out_and_comes_back(rt: HostRuntime) -> Result<(), Fail> {
-    let mut frames = ByteStore::new(rt.alloc(), 2)?;
-    let mut swap = SwapStore::new(rt.alloc(), 1)?;
+fn page_goes_out_and_comes_back(rt: HostRuntime) {
+    let mut frames = ByteStore::new(rt.alloc(), 2).expect(&rt, "frames");
+    let mut swap = SwapStore::new(rt.alloc(), 1).expect(&rt, "a slot");
     frames.fill(PAGE + 4094, 2, 7);
-    assert!(rt; swap_out(&mut swap, &frames, 1) == Some(0));
-    assert!(rt; swap_out(&mut swap, &frames, 0) == None);
+    goes_out(&rt, &mut swap, &frames);
     frames.zero_page(1);
     swap_in(&mut frames, 0, &mut swap, 0);
-    assert!(rt; frames.part(4093, 4) == [0, 7, 7, 0].as_slice());
+    assert_bytes(&rt, &frames, 4093, &[0, 7, 7, 0]);
     assert!(rt; swap.first() == Some(0));
-    Ok(())
+    drop(swap);
+    drop(frames);
 }

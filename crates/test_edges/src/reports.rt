@@ -2,16 +2,15 @@ ghost use Rattle.std.specs.Prelude.{◌≡◌, [], None};
 
 use io_edge::MemSink;
 use journal_model::{
-    Bytes, Cause, CauseRow, Causes, Decl, Decls, DryWhy, Entry, Kind, Left, Script, Shown, Sizes,
+    Bytes, Cause, CauseRow, CommandLists, Decl, Decls, DryWhy, Entry, Kind, Left, Script, Shown,
+    Sizes,
 };
 use report_text::report::{write_journal, write_outcome};
 use report_text::{Account, Accounts, WriteFault, write_report};
 use std::alloc::Global;
-use std::test::Fail;
+use std::process::Abort;
 use text_line::Line;
-use ttm_base::{
-    Actor, BufId, Deny, FlaggedPlaces, ItemList, Mem, NoMemory, Placement, Span, Spans, Stamp,
-};
+use ttm_base::{Actor, BufId, Deny, FlaggedPlaces, ItemList, Mem, Placement, Span, Stamp};
 
 const SIZES: Sizes = Sizes {
     buddy: false,
@@ -58,6 +57,12 @@ swap size 2 free 2 live 0 target 0 ghost 0
 end
 ";
 
+/// A sink of 1,000 bytes, which takes so many at a time, and whose listed writes fail.
+fn sink(rt: &impl Abort, alloc: Global, chunk: usize, fails: &[u64]) -> MemSink {
+    let fails = Vec::from_slice(alloc, fails).expect(rt, "numbers");
+    MemSink::new(alloc, 1000, chunk.max(1), fails).expect(rt, "a sink")
+}
+
 /// Writes the report of an empty script.
 fn write_empty(alloc: Global, sink: &mut MemSink) -> Result<(), WriteFault> {
     let accounts = Accounts {
@@ -66,55 +71,51 @@ fn write_empty(alloc: Global, sink: &mut MemSink) -> Result<(), WriteFault> {
         frames: free(4),
         swap: free(2),
     };
-    write_report(alloc, &empty_script(alloc), &[], &accounts, sink)
+    let script = empty_script(alloc);
+    let written = write_report(alloc, &script, &[], &accounts, sink);
+    drop(script);
+    written
 }
 
 #[test]
-fn report_of_an_empty_script(rt: HostRuntime) -> Result<(), Fail> {
+fn report_of_an_empty_script(rt: HostRuntime) {
     for chunk in [1, 7, 1000] {
-        let mut sink = MemSink::new(rt.alloc(), 1000, chunk, Vec::new(rt.alloc()))?;
-        write_empty(rt.alloc(), &mut sink)?;
+        let mut sink = sink(&rt, rt.alloc(), chunk, &[]);
+        assert!(rt; write_empty(rt.alloc(), &mut sink).is_ok());
         assert!(rt; sink.bytes() == EMPTY_REPORT);
     }
-    Ok(())
+}
+
+/// How many lines end in a text.
+fn lines_in(text: &[u8]) -> u64 {
+    let mut count = 0u64;
+    for byte in text {
+        if *byte == b'\n' {
+            count = count.saturating_add(1);
+        }
+    }
+    count
 }
 
 /// A sink that takes whole pieces and fails at write k gets the first k - 1 lines.
 #[test]
-fn failing_writes(rt: HostRuntime) -> Result<(), Fail> {
+fn failing_writes(rt: HostRuntime) {
     for k in 1..=9 {
-        let fails = Vec::from_slice(rt.alloc(), &[k])?;
-        let mut sink = MemSink::new(rt.alloc(), 1000, 1000, fails)?;
+        let mut sink = sink(&rt, rt.alloc(), 1000, &[k]);
         assert!(rt; write_empty(rt.alloc(), &mut sink) == Err(WriteFault::Failed));
-        let lines = sink.bytes().iter().filter(|byte| **byte == b'\n').count();
-        assert!(rt; lines as u64 + 1 == k);
+        assert!(rt; lines_in(sink.bytes()) == k - 1);
         assert!(rt; EMPTY_REPORT.starts_with(sink.bytes()));
     }
-    Ok(())
 }
 
-fn bytes(alloc: Global, of: &[u8]) -> Result<Bytes, NoMemory> {
-    let mut list = Bytes::new(alloc);
-    for byte in of {
-        list.push(*byte)?;
-    }
-    Ok(list)
+/// A list of copies of these items.
+fn list<T: Copy>(rt: &impl Abort, alloc: Global, items: &[T]) -> ItemList<T> {
+    ItemList::from_slice(alloc, items).expect(rt, "items")
 }
 
-fn spans(alloc: Global, of: &[(u32, u32)]) -> Result<Spans, NoMemory> {
-    let mut list = Spans::new(alloc);
-    for (start, end) in of {
-        list.push(Span {
-            start: *start,
-            end: *end,
-        })?;
-    }
-    Ok(list)
-}
-
-fn decl(alloc: Global, name: &[u8]) -> Result<Decl, NoMemory> {
-    Ok(Decl {
-        name: bytes(alloc, name)?,
+fn decl(rt: &impl Abort, alloc: Global, name: &[u8]) -> Decl {
+    Decl {
+        name: list(rt, alloc, name),
         pages: 4,
         prio: 0,
         group: None,
@@ -122,34 +123,48 @@ fn decl(alloc: Global, name: &[u8]) -> Result<Decl, NoMemory> {
         placement: Placement {
             list: FlaggedPlaces::new(alloc),
         },
-    })
+    }
 }
 
-/// A script with the buffers `a` and `buf10`, and two threads.
-fn script(alloc: Global) -> Result<Script, NoMemory> {
-    let mut script = empty_script(alloc);
-    script.buffers.push(decl(alloc, b"a")?)?;
-    script.buffers.push(decl(alloc, b"buf10")?)?;
-    script.threads.push(ItemList::new(alloc))?;
-    script.threads.push(ItemList::new(alloc))?;
-    Ok(script)
+/// The buffers `a` and `buf10`.
+fn two_buffers(rt: &impl Abort, alloc: Global) -> Decls {
+    let mut buffers = Decls::new(alloc);
+    buffers.push(decl(rt, alloc, b"a")).expect(rt, "a buffer");
+    buffers
+        .push(decl(rt, alloc, b"buf10"))
+        .expect(rt, "a buffer");
+    buffers
+}
+
+/// Two threads without commands.
+fn two_threads(rt: &impl Abort, alloc: Global) -> CommandLists {
+    let mut threads = CommandLists::new(alloc);
+    threads.push(ItemList::new(alloc)).expect(rt, "a thread");
+    threads.push(ItemList::new(alloc)).expect(rt, "a thread");
+    threads
+}
+
+/// A script with both buffers and threads.
+fn script(rt: &impl Abort, alloc: Global) -> Script {
+    Script {
+        version: 1,
+        sizes: SIZES,
+        buffers: two_buffers(rt, alloc),
+        threads: two_threads(rt, alloc),
+        turns: ItemList::new(alloc),
+        marks: ItemList::new(alloc),
+    }
 }
 
 const A: BufId = BufId(0);
 
 const B: BufId = BufId(1);
 
-fn entry(who: Actor, kind: Kind) -> Entry {
-    Entry { who, kind }
-}
+const FIRST: Actor = Actor::Thread(1);
 
-fn account(free: u64, live: u64, target: u64, ghosts: u64) -> Account {
-    Account {
-        free,
-        live,
-        target,
-        ghosts,
-    }
+/// Puts an entry at the end of a journal.
+fn put(rt: &impl Abort, journal: &mut Vec<Entry>, who: Actor, kind: Kind) {
+    journal.push(Entry { who, kind }).expect(rt, "an entry");
 }
 
 const OUTCOME: &[u8] = b"results
@@ -163,31 +178,63 @@ frames size 4 free 1 live 1 target 0 ghost 2
 swap size 2 free 0 live 2 target 0 ghost 0
 ";
 
+const ACCOUNTS: Accounts = Accounts {
+    vram: Account {
+        free: 8,
+        live: 0,
+        target: 0,
+        ghosts: 0,
+    },
+    tt: Account {
+        free: 1,
+        live: 0,
+        target: 2,
+        ghosts: 1,
+    },
+    frames: Account {
+        free: 1,
+        live: 1,
+        target: 0,
+        ghosts: 2,
+    },
+    swap: Account {
+        free: 0,
+        live: 2,
+        target: 0,
+        ghosts: 0,
+    },
+};
+
+/// Three results of two threads, between other entries.
+fn three_results(rt: &impl Abort, alloc: Global) -> Vec<Entry> {
+    let mut journal = Vec::new(alloc);
+    let (plain, deny) = (Shown::Plain, Deny::NoBuffer);
+    let read = Shown::Read(list(rt, alloc, &[7]));
+    put(
+        rt,
+        &mut journal,
+        Actor::Thread(2),
+        Kind::Result { shown: plain },
+    );
+    put(rt, &mut journal, FIRST, Kind::New { b: A });
+    put(rt, &mut journal, FIRST, Kind::Result { shown: read });
+    put(rt, &mut journal, Actor::Engine(1), Kind::Done { num: 1 });
+    put(rt, &mut journal, FIRST, Kind::Refused { deny });
+    journal
+}
+
 /// Results stand by thread, numbered in each.
 #[test]
-fn results_and_accounts(rt: HostRuntime) -> Result<(), Fail> {
-    let a = rt.alloc();
-    let plain = Shown::Plain;
-    let shown = Shown::Read(bytes(a, &[7])?);
-    let deny = Deny::NoBuffer;
-    let journal = [
-        entry(Actor::Thread(2), Kind::Result { shown: plain }),
-        entry(Actor::Thread(1), Kind::New { b: A }),
-        entry(Actor::Thread(1), Kind::Result { shown }),
-        entry(Actor::Engine(1), Kind::Done { num: 1 }),
-        entry(Actor::Thread(1), Kind::Refused { deny }),
-    ];
-    let accounts = Accounts {
-        vram: free(8),
-        tt: account(1, 0, 2, 1),
-        frames: account(1, 1, 0, 2),
-        swap: account(0, 2, 0, 0),
-    };
-    let mut line = Line::new(a);
-    let mut sink = MemSink::new(a, 1000, 1000, Vec::new(a))?;
-    write_outcome(&mut line, &script(a)?, &journal, &accounts, &mut sink)?;
+fn results_and_accounts(rt: HostRuntime) {
+    let alloc = rt.alloc();
+    let (script, journal) = (script(&rt, alloc), three_results(&rt, alloc));
+    let mut line = Line::new(alloc);
+    let mut sink = sink(&rt, alloc, 1000, &[]);
+    let written = write_outcome(&mut line, &script, &journal, &ACCOUNTS, &mut sink);
+    assert!(rt; written.is_ok());
     assert!(rt; sink.bytes() == OUTCOME);
-    Ok(())
+    drop(journal);
+    drop(script);
 }
 
 const ENTRIES: &[u8] = b"report 1
@@ -202,82 +249,91 @@ journal 8
 8 t1 dry a 1 a:pinned,buf10:reserved:5,a:outside
 ";
 
-#[test]
-fn lines_of_entries(rt: HostRuntime) -> Result<(), Fail> {
-    let a = rt.alloc();
-    let spans = spans(a, &[(0, 8), (10, 11)])?;
-    let (none, some) = (Bytes::new(a), bytes(a, &[0, 0xff, 0x1a])?);
-    let (short, of) = (DryWhy::Short, DryWhy::Of(causes(a)?));
-    let (vram, system, tt, left) = (Mem::Vram, Mem::System, Mem::Tt, Left::Now);
-    let journal = [
-        entry(
-            Actor::Thread(12),
-            Kind::Take {
-                b: A,
-                mem: vram,
-                spans,
-            },
-        ),
-        entry(Actor::Thread(1), Kind::Untake { b: B, mem: system }),
-        entry(
-            Actor::Thread(1),
-            Kind::Move {
-                b: A,
-                mem: tt,
-                num: 2,
-                left,
-            },
-        ),
-        entry(
-            Actor::Engine(0),
-            Kind::Packet {
-                num: 1,
-                k: 0,
-                piece: none,
-            },
-        ),
-        entry(
-            Actor::Engine(2),
-            Kind::Packet {
-                num: 1,
-                k: 2,
-                piece: some,
-            },
-        ),
-        entry(Actor::Reaper, Kind::Reap { g: u64::MAX }),
-        entry(
-            Actor::Thread(1),
-            Kind::Dry {
-                b: A,
-                k: 0,
-                why: short,
-            },
-        ),
-        entry(
-            Actor::Thread(1),
-            Kind::Dry {
-                b: A,
-                k: 1,
-                why: of,
-            },
-        ),
-    ];
-    let mut line = Line::new(a);
-    let mut sink = MemSink::new(a, 1000, 1000, Vec::new(a))?;
-    write_journal(&mut line, &script(a)?, &journal, &mut sink)?;
-    assert!(rt; sink.bytes() == ENTRIES);
-    Ok(())
+const SPANS: [Span; 2] = [Span { start: 0, end: 8 }, Span { start: 10, end: 11 }];
+
+/// Targets are taken and given back, and a buffer is moved.
+fn put_moves(rt: &impl Abort, alloc: Global, journal: &mut Vec<Entry>) {
+    let take = Kind::Take {
+        b: A,
+        mem: Mem::Vram,
+        spans: list(rt, alloc, &SPANS),
+    };
+    put(rt, journal, Actor::Thread(12), take);
+    let untake = Kind::Untake {
+        b: B,
+        mem: Mem::System,
+    };
+    put(rt, journal, FIRST, untake);
+    let moved = Kind::Move {
+        b: A,
+        mem: Mem::Tt,
+        num: 2,
+        left: Left::Now,
+    };
+    put(rt, journal, FIRST, moved);
 }
 
-fn causes(alloc: Global) -> Result<Causes, NoMemory> {
-    let rows = [
-        (A, Cause::Pinned),
-        (B, Cause::Reserved(Stamp(5))),
-        (A, Cause::Outside),
-    ];
-    let mut causes = Causes::new(alloc);
-    for (b, cause) in rows {
-        causes.push(CauseRow { b, cause })?;
-    }
-    Ok(causes)
+/// Packets run, of which one shows bytes, and a ghost is reaped.
+fn put_packets(rt: &impl Abort, alloc: Global, journal: &mut Vec<Entry>) {
+    let nothing = Kind::Packet {
+        num: 1,
+        k: 0,
+        piece: Bytes::new(alloc),
+    };
+    put(rt, journal, Actor::Engine(0), nothing);
+    let shown = Kind::Packet {
+        num: 1,
+        k: 2,
+        piece: list(rt, alloc, &[0, 0xff, 0x1a]),
+    };
+    put(rt, journal, Actor::Engine(2), shown);
+    put(rt, journal, Actor::Reaper, Kind::Reap { g: u64::MAX });
+}
+
+const CAUSES: [CauseRow; 3] = [
+    CauseRow {
+        b: A,
+        cause: Cause::Pinned,
+    },
+    CauseRow {
+        b: B,
+        cause: Cause::Reserved(Stamp(5)),
+    },
+    CauseRow {
+        b: A,
+        cause: Cause::Outside,
+    },
+];
+
+/// Two places are dry.
+fn put_dry_places(rt: &impl Abort, alloc: Global, journal: &mut Vec<Entry>) {
+    let short = Kind::Dry {
+        b: A,
+        k: 0,
+        why: DryWhy::Short,
+    };
+    put(rt, journal, FIRST, short);
+    let of = Kind::Dry {
+        b: A,
+        k: 1,
+        why: DryWhy::Of(list(rt, alloc, &CAUSES)),
+    };
+    put(rt, journal, FIRST, of);
+}
+
+#[test]
+fn lines_of_entries(rt: HostRuntime) {
+    let alloc = rt.alloc();
+    let mut journal = Vec::new(alloc);
+    put_moves(&rt, alloc, &mut journal);
+    put_packets(&rt, alloc, &mut journal);
+    put_dry_places(&rt, alloc, &mut journal);
+    let script = script(&rt, alloc);
+    let mut line = Line::new(alloc);
+    let mut sink = sink(&rt, alloc, 1000, &[]);
+    let written = write_journal(&mut line, &script, &journal, &mut sink);
+    assert!(rt; written.is_ok());
+    assert!(rt; sink.bytes() == ENTRIES);
+    drop(journal);
+    drop(script);
 }

@@ -1,8 +1,7 @@
-use journal_model::Command;
+use journal_model::{Command, Script};
 use script_text::{ScriptFault, read_script};
 use std::alloc::{AllocError, Global};
 use std::process::Abort;
-use std::test::Fail;
 
 /// A read over a page border.
 const LINES: [&str; 12] = [
@@ -24,66 +23,106 @@ const JOBS: &str =
     "ttm 1\nvram range 0\ntt 0\nframes 2\nswap 0\nengines 1\nbuffer a 1 prio 1 group - align 1 want sys busy sys\nbuffer b 1 prio 1 group - align 1 want sys busy sys\nthread\nnew a\nnew b\n";
 
 /// A text in place of the lines behind the first `front` up to the first `back`.
-fn edited(alloc: Global, front: usize, text: &str, back: usize) -> Result<String, AllocError> {
+fn edited(rt: &impl Abort, alloc: Global, front: usize, text: &str, back: usize) -> String {
     let mut script = String::new(alloc);
     for line in LINES.iter().take(front) {
-        script.push_str(line)?;
+        script.push_str(line).expect(rt, "a line");
     }
-    script.push_str(text)?;
+    script.push_str(text).expect(rt, "a text");
     for line in LINES.iter().skip(back) {
-        script.push_str(line)?;
+        script.push_str(line).expect(rt, "a line");
     }
-    Ok(script)
+    script
+}
+
+/// The text is no script: of its first broken line, this is the rule.
+fn breaks(alloc: Global, text: &[u8], line: u32, rule: u32) -> bool {
+    match read_script(alloc, text) {
+        Ok(script) => {
+            drop(script);
+            false
+        }
+        Err(fault) => fault == ScriptFault::Bad { line, rule },
+    }
 }
 
 fn assert_fault(rt: &impl Abort, alloc: Global, text: &[u8], line: u32, rule: u32, what: &str) {
-    match read_script(alloc, text) {
-        Ok(_) => assert!(rt; false, "read: {what}"),
-        Err(fault) => assert!(rt; fault == ScriptFault::Bad { line, rule }, "{what}"),
-    }
+    assert!(rt; breaks(alloc, text, line, rule), "{what}");
 }
 
-#[test]
-fn reads_each_command(rt: HostRuntime) -> Result<(), Fail> {
-    let alloc = rt.alloc();
-    let text = edited(alloc, 0, "", 0)?;
-    let script = read_script(alloc, text.as_bytes())?;
-    assert!(rt; script.sizes.frames == 2);
-    assert!(rt; script.buffers.len() == 1);
-    assert!(rt; script.buffers.get(0).name.items() == b"a".as_slice());
-    assert!(rt; script.threads.len() == 1);
-    let commands = script.threads.get(0);
-    assert!(rt; commands.len() == 3);
-    match commands.get(1) {
+/// The command writes two bytes at a page's end.
+fn is_write(command: &Command) -> bool {
+    match command {
         Command::Write { b, off, bytes } => {
-            assert!(rt; b.0 == 0);
-            assert!(rt; *off == 4094);
-            assert!(rt; bytes.items() == [1, 2].as_slice());
+            b.0 == 0 && *off == 4094 && bytes.items() == [1, 2].as_slice()
         }
-        _ => assert!(rt; false, "no write"),
+        _ => false,
     }
-    Ok(())
+}
+
+/// The only thread has three commands, of which the second is the write.
+fn has_commands(script: &Script) -> bool {
+    match script.threads.items() {
+        [thread] => match thread.items() {
+            [_, command, _] => is_write(command),
+            _ => false,
+        },
+        _ => false,
+    }
+}
+
+/// The only buffer has this name.
+fn has_buffer(script: &Script, name: &[u8]) -> bool {
+    match script.buffers.items() {
+        [decl] => decl.name.items() == name,
+        _ => false,
+    }
 }
 
 #[test]
-fn first_broken_line(rt: HostRuntime) -> Result<(), Fail> {
+fn reads_each_command(rt: HostRuntime) {
     let alloc = rt.alloc();
-    let text = edited(alloc, 11, "", 12)?;
+    let text = edited(&rt, alloc, 0, "", 0);
+    let script = read_script(alloc, text.as_bytes()).expect(&rt, "a script");
+    assert!(rt; script.sizes.frames == 2);
+    assert!(rt; has_buffer(&script, b"a"));
+    assert!(rt; has_commands(&script));
+    drop(script);
+}
+
+#[test]
+fn first_broken_line(rt: HostRuntime) {
+    let alloc = rt.alloc();
+    let text = edited(&rt, alloc, 11, "", 12);
     assert_fault(&rt, alloc, text.as_bytes(), 12, 3, "no last line");
-    let text = edited(alloc, 10, "read a 8190 4\n", 11)?;
+    let text = edited(&rt, alloc, 10, "read a 8190 4\n", 11);
     assert_fault(&rt, alloc, text.as_bytes(), 11, 8, "a read behind the end");
-    let text = format!(in alloc; "{JOBS}submit 1 copy a 0 a 8 4\nend\n")?;
+}
+
+#[test]
+fn copy_within_a_buffer(rt: HostRuntime) {
+    let text = format!(in rt.alloc(); "{JOBS}submit 1 copy a 0 a 8 4\nend\n").expect(&rt, "text");
     assert_fault(
         &rt,
-        alloc,
+        rt.alloc(),
         text.as_bytes(),
         12,
         10,
         "a copy from a buffer to itself",
     );
-    let long = vec![in alloc; b'a'; 1_048_577]?;
-    assert_fault(&rt, alloc, long.as_slice(), 0, 1, "a line that is too long");
-    Ok(())
+}
+
+#[test]
+fn line_that_is_too_long(rt: HostRuntime) {
+    let long = vec![in rt.alloc(); b'a'; 1_048_577].expect(&rt, "letters");
+    assert_fault(
+        &rt,
+        rt.alloc(),
+        long.as_slice(),
+        0,
+        1,
+        "a line that is too long",
+    );
 }
 
 /// Texts in place of lines of the script: how many lines stay in front, the text, where the lines go on, and the fault.
@@ -141,55 +180,70 @@ const EDITS: [(usize, &str, usize, u32, u32); 20] = [
 ];
 
 #[test]
-fn broken_lines(rt: HostRuntime) -> Result<(), Fail> {
+fn broken_lines(rt: HostRuntime) {
     let alloc = rt.alloc();
-    for (front, text, back, line, rule) in EDITS {
-        let script = edited(alloc, front, text, back)?;
-        assert_fault(&rt, alloc, script.as_bytes(), line, rule, text);
+    for (front, text, back, line, rule) in &EDITS {
+        let script = edited(&rt, alloc, *front, text, *back);
+        assert_fault(&rt, alloc, script.as_bytes(), *line, *rule, text);
     }
-    for front in 1..12 {
-        let whole = edited(alloc, front, "", 12)?;
-        assert_fault(
-            &rt,
-            alloc,
-            whole.as_bytes(),
-            front as u32 + 1,
-            3,
-            "the front of a script",
-        );
-        let cut = whole.as_bytes();
-        let cut = &cut[..cut.len().saturating_sub(2)];
-        assert_fault(&rt, alloc, cut, front as u32, 2, "a line without its end");
-    }
-    let last = edited(alloc, 11, "end", 12)?;
+    let last = edited(&rt, alloc, 11, "end", 12);
     assert_fault(&rt, alloc, last.as_bytes(), 12, 2, "no last line feed");
-    Ok(())
+}
+
+/// The text without its last two bytes.
+fn without_two(text: &[u8]) -> &[u8] {
+    &text[..text.len().saturating_sub(2)]
 }
 
 #[test]
-fn limits_of_a_script(rt: HostRuntime) -> Result<(), Fail> {
+fn fronts_of_a_script(rt: HostRuntime) {
     let alloc = rt.alloc();
-    let mut buffers = edited(alloc, 6, "", 12)?;
-    for i in 0..257 {
-        let line = format!(in alloc; "buffer b{i} 1 prio 0 group - align 1 want sys busy sys\n")?;
-        buffers.push_str(line.as_str())?;
+    for front in 1..12u32 {
+        let whole = edited(&rt, alloc, front as usize, "", 12);
+        let whole = whole.as_bytes();
+        assert_fault(&rt, alloc, whole, front + 1, 3, "the front of a script");
+        assert_fault(
+            &rt,
+            alloc,
+            without_two(whole),
+            front,
+            2,
+            "a line without its end",
+        );
     }
-    assert_fault(&rt, alloc, buffers.as_bytes(), 263, 12, "a buffer too many");
-    let mut jobs = edited(
-        alloc,
-        5,
-        "engines 1\nbuffer a 4096 prio 0 group - align 1 want sys busy sys\nthread\n",
-        12,
-    )?;
-    let fill = "fill a 0 16777216 00";
-    let line = format!(in alloc; "submit 1 {fill} ; {fill} ; {fill} ; {fill}\n")?;
-    jobs.push_str(line.as_str())?;
-    let full = format!(in alloc; "{jobs}end\n")?;
-    assert!(rt;
-        read_script(alloc, full.as_bytes()).is_ok(),
-        "as many bytes as may be"
-    );
-    jobs.push_str("submit 1 fill a 0 1 00\n")?;
-    assert_fault(&rt, alloc, jobs.as_bytes(), 10, 13, "a byte too many");
-    Ok(())
+}
+
+/// Declares a buffer of this number.
+fn put_buffer(text: &mut String, alloc: Global, i: u32) -> Result<(), AllocError> {
+    let line = format!(in alloc; "buffer b{i} 1 prio 0 group - align 1 want sys busy sys\n")?;
+    text.push_str(line.as_str())
+}
+
+#[test]
+fn buffer_too_many(rt: HostRuntime) {
+    let alloc = rt.alloc();
+    let mut text = edited(&rt, alloc, 6, "", 12);
+    for i in 0..257 {
+        put_buffer(&mut text, alloc, i).expect(&rt, "a line");
+    }
+    assert_fault(&rt, alloc, text.as_bytes(), 263, 12, "a buffer too many");
+}
+
+/// A thread whose only job fills as many bytes as may be.
+const MOST_BYTES: &str = "engines 1
+buffer a 4096 prio 0 group - align 1 want sys busy sys
+thread
+submit 1 fill a 0 16777216 00 ; fill a 0 16777216 00 ; fill a 0 16777216 00 ; fill a 0 16777216 00
+";
+
+#[test]
+fn byte_too_many(rt: HostRuntime) {
+    let alloc = rt.alloc();
+    let text = edited(&rt, alloc, 5, MOST_BYTES, 11);
+    let script = read_script(alloc, text.as_bytes()).expect(&rt, "as many bytes as may be");
+    drop(script);
+    let mut text = edited(&rt, alloc, 5, MOST_BYTES, 12);
+    text.push_str("submit 1 fill a 0 1 00\n")
+        .expect(&rt, "a line");
+    assert_fault(&rt, alloc, text.as_bytes(), 10, 13, "a byte too many");
 }

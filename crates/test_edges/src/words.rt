@@ -1,15 +1,14 @@
 use command_words::{Form, Words, read_words};
 use std::alloc::Global;
-use std::test::Fail;
-use ttm_base::NoMemory;
+use std::process::Abort;
 
-/// What these words ask for.
-fn form_of(alloc: Global, words: &[&str]) -> Result<Option<Form>, NoMemory> {
+/// The words ask for this form, or for none.
+fn asks(rt: &impl Abort, alloc: Global, words: &[&str], want: Option<Form>) -> bool {
     let mut list = Words::new(alloc);
     for word in words {
-        list.push(word.as_bytes())?;
+        list.push(word.as_bytes()).expect(rt, "a word");
     }
-    Ok(read_words(&list))
+    read_words(&list) == want
 }
 
 /// Words, and what they ask for.
@@ -30,9 +29,8 @@ const ROWS: [(&[&str], Option<Form>); 10] = [
 ];
 
 #[test]
-fn words_ask_for_a_form_or_none(rt: HostRuntime) -> Result<(), Fail> {
-    for (words, want) in ROWS {
-        assert!(rt; form_of(rt.alloc(), words)? == want, "{words:?}");
+fn words_ask_for_a_form_or_none(rt: HostRuntime) {
+    for (i, (words, want)) in ROWS.iter().enumerate() {
+        assert!(rt; asks(&rt, rt.alloc(), words, *want), "row {i}");
     }
-    Ok(())
 }

@@ -1,85 +1,115 @@
-ghost use Rattle.std.specs.Prelude.{◌≤◌};
-
 use io_edge::{
     Failed, MemSink, MemSource, ReadFault, Sink, Source, StdSink, StdSource, read_all, write_all,
 };
-use std::alloc::{AllocError, Global};
+use std::alloc::Global;
 use std::io::{Error, ErrorKind, Read, Write};
-use std::test::Fail;
+use std::process::Abort;
 
 const TEXT: &[u8] = b"ttm 1\nend\n";
 
-fn source(alloc: Global, chunk: usize, fails: &[u64]) -> Result<MemSource, AllocError>
-    requires { 1 ≤ chunk }
-{
-    let bytes = Vec::from_slice(alloc, TEXT)?;
-    Ok(MemSource::new(bytes, chunk, Vec::from_slice(alloc, fails)?))
+/// A source of the text, whose listed reads fail.
+fn source(rt: &impl Abort, alloc: Global, chunk: usize, fails: &[u64]) -> MemSource {
+    let bytes = Vec::from_slice(alloc, TEXT).expect(rt, "bytes");
+    let fails = Vec::from_slice(alloc, fails).expect(rt, "numbers");
+    MemSource::new(bytes, chunk.max(1), fails)
+}
+
+/// A sink of so many bytes, whose listed writes fail.
+fn sink(rt: &impl Abort, alloc: Global, room: usize, chunk: usize, fails: &[u64]) -> MemSink {
+    let fails = Vec::from_slice(alloc, fails).expect(rt, "numbers");
+    MemSink::new(alloc, room, chunk.max(1), fails).expect(rt, "a sink")
+}
+
+/// The source has these bytes left, and no more than the limit.
+fn gives<S: Source>(alloc: Global, source: &mut S, limit: u32, want: &[u8]) -> bool {
+    match read_all(alloc, source, limit as usize) {
+        Ok(bytes) => bytes.as_slice() == want,
+        Err(_) => false,
+    }
+}
+
+/// The source can't be read whole.
+fn faults<S: Source>(alloc: Global, source: &mut S, limit: u32, want: ReadFault) -> bool {
+    match read_all(alloc, source, limit as usize) {
+        Ok(_) => false,
+        Err(fault) => fault == want,
+    }
 }
 
 /// Ten bytes, four at a time, take three reads, and a fourth finds the end.
 #[test]
-fn reads_fail_where_listed(rt: HostRuntime) -> Result<(), Fail> {
-    for k in 1..=5 {
-        let mut source = source(rt.alloc(), 4, &[k])?;
-        let read = read_all(rt.alloc(), &mut source, TEXT.len());
-        if k == 5 {
-            assert!(rt; read?.as_slice() == TEXT);
-        } else {
-            assert!(rt; read.err() == Some(ReadFault::Failed), "at read {k}");
-        }
+fn reads_fail_where_listed(rt: HostRuntime) {
+    let alloc = rt.alloc();
+    for k in 1..=4 {
+        let mut source = source(&rt, alloc, 4, &[k]);
+        assert!(rt;
+            faults(alloc, &mut source, 10, ReadFault::Failed),
+            "at read {k}"
+        );
     }
-    Ok(())
+    let mut source = source(&rt, alloc, 4, &[5]);
+    assert!(rt; gives(alloc, &mut source, 10, TEXT));
+}
+
+/// How many bytes a read or a write moves at most.
+const CHUNKS: [usize; 4] = [1, 3, 10, 5000];
+
+#[test]
+fn quiet_source_never_faults(rt: HostRuntime) {
+    let alloc = rt.alloc();
+    for chunk in &CHUNKS {
+        let mut source = source(&rt, alloc, *chunk, &[]);
+        assert!(rt; gives(alloc, &mut source, 5000, TEXT));
+        assert!(rt; source.read(&mut [0]) == Ok(0));
+    }
 }
 
 #[test]
-fn quiet_edges_never_fault(rt: HostRuntime) -> Result<(), Fail> {
-    for chunk in [1, 3, 10, 5000] {
-        let mut source = source(rt.alloc(), chunk, &[])?;
-        let bytes = read_all(rt.alloc(), &mut source, 5000)?;
-        assert!(rt; bytes.as_slice() == TEXT);
-        assert!(rt; source.read(&mut [0]) == Ok(0));
-
-        let mut sink = MemSink::new(rt.alloc(), 2 * TEXT.len(), chunk, Vec::new(rt.alloc()))?;
-        write_all(&mut sink, &bytes)?;
-        write_all(&mut sink, &bytes)?;
+fn quiet_sink_never_faults(rt: HostRuntime) {
+    for chunk in &CHUNKS {
+        let mut sink = sink(&rt, rt.alloc(), 2 * TEXT.len(), *chunk, &[]);
+        assert!(rt; write_all(&mut sink, TEXT).is_ok());
+        assert!(rt; write_all(&mut sink, TEXT).is_ok());
         assert!(rt; sink.bytes() == b"ttm 1\nend\nttm 1\nend\n".as_slice());
     }
-    Ok(())
 }
 
+/// Limits, and the bytes that are left behind a text that is longer.
+const TOO_LOW: [(u32, &[u8]); 2] = [(9, b""), (0, b"tm 1\nend\n")];
+
 #[test]
-fn one_byte_more_than_the_limit(rt: HostRuntime) -> Result<(), Fail> {
-    for (limit, want) in [
-        (9, Some(ReadFault::TooLong)),
-        (10, None),
-        (0, Some(ReadFault::TooLong)),
-    ] {
-        let mut source = source(rt.alloc(), 1, &[])?;
-        let read = read_all(rt.alloc(), &mut source, limit);
-        assert!(rt; read.err() == want, "limit {limit}");
-        let left = read_all(rt.alloc(), &mut source, 10)?;
-        assert!(rt; left.as_slice() == &TEXT[10.min(limit + 1)..]);
+fn one_byte_more_than_the_limit(rt: HostRuntime) {
+    let alloc = rt.alloc();
+    for (limit, left) in &TOO_LOW {
+        let mut source = source(&rt, alloc, 1, &[]);
+        assert!(rt;
+            faults(alloc, &mut source, *limit, ReadFault::TooLong),
+            "limit {limit}"
+        );
+        assert!(rt; gives(alloc, &mut source, 10, left));
     }
-    Ok(())
+    let mut source = source(&rt, alloc, 1, &[]);
+    assert!(rt; gives(alloc, &mut source, 10, TEXT));
+    assert!(rt; gives(alloc, &mut source, 10, b""));
 }
 
-/// What goes out before a write fails: at a listed call, or for want of room.
+/// The room of a sink, how many bytes a write moves, the write that fails, and what goes out before: at a listed call, or for
+/// want of room.
+const FAILING: [(usize, usize, u64, &[u8]); 5] = [
+    (10, 1, 1, b""),
+    (10, 1, 4, b"ttm"),
+    (10, 4, 3, b"ttm 1\nen"),
+    (7, 4, 9, b"ttm 1\ne"),
+    (0, 4, 9, b""),
+];
+
 #[test]
-fn writes_fail_where_listed(rt: HostRuntime) -> Result<(), Fail> {
-    let cases: [(usize, usize, u64, &[u8]); 5] = [
-        (10, 1, 1, b""),
-        (10, 1, 4, b"ttm"),
-        (10, 4, 3, b"ttm 1\nen"),
-        (7, 4, 9, b"ttm 1\ne"),
-        (0, 4, 9, b""),
-    ];
-    for (room, chunk, fail, want) in cases {
-        let fails = Vec::from_slice(rt.alloc(), &[fail])?;
-        let mut sink = MemSink::new(rt.alloc(), room, chunk, fails)?;
+fn writes_fail_where_listed(rt: HostRuntime) {
+    for (room, chunk, fail, want) in &FAILING {
+        let mut sink = sink(&rt, rt.alloc(), *room, *chunk, &[*fail]);
         assert!(rt; write_all(&mut sink, TEXT) == Err(Failed));
-        assert!(rt; sink.bytes() == want);
+        assert!(rt; sink.bytes() == *want);
     }
-    Ok(())
 }
 
 /// A reader and writer whose calls from a number on fail, and that takes nothing at all where it is `full`.
@@ -125,28 +155,32 @@ impl Write for Flaky {
 }
 
 #[test]
-fn faults_of_a_reader_and_a_writer(rt: HostRuntime) -> Result<(), Fail> {
+fn faults_of_a_reader(rt: HostRuntime) {
     let mut input = StdSource::new(Flaky {
         calls: 0,
         good: 3,
         full: false,
     });
-    assert!(rt; read_all(rt.alloc(), &mut input, 9).err() == Some(ReadFault::Failed));
-    assert!(rt; read_all(rt.alloc(), &mut StdSource::new(TEXT), 10)?.as_slice() == TEXT);
+    assert!(rt; faults(rt.alloc(), &mut input, 9, ReadFault::Failed));
+    assert!(rt; gives(rt.alloc(), &mut StdSource::new(TEXT), 10, TEXT));
+}
 
-    // Each piece is written and flushed: two calls.
-    for (good, full, want) in [
-        (2, false, Ok(4)),
-        (1, false, Err(Failed)),
-        (0, false, Err(Failed)),
-        (2, true, Err(Failed)),
-    ] {
+/// How many calls go well, whether nothing is taken, and what comes of a write. Each piece is written and flushed: two calls.
+const WRITES: [(u32, bool, Result<usize, Failed>); 4] = [
+    (2, false, Ok(4)),
+    (1, false, Err(Failed)),
+    (0, false, Err(Failed)),
+    (2, true, Err(Failed)),
+];
+
+#[test]
+fn faults_of_a_writer(rt: HostRuntime) {
+    for (good, full, want) in &WRITES {
         let mut output = StdSink::new(Flaky {
             calls: 0,
-            good,
-            full,
+            good: *good,
+            full: *full,
         });
-        assert!(rt; output.write(b"text") == want);
+        assert!(rt; output.write(b"text") == *want);
     }
-    Ok(())
 }

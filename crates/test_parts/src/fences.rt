@@ -1,8 +1,7 @@
 use fence_core::{FenceSet, Timeline};
 use std::alloc::Global;
 use std::process::Abort;
-use std::test::Fail;
-use ttm_base::{JobId, NoMemory, Usage};
+use ttm_base::{JobId, Usage};
 
 /// The next job of a context.
 pub fn emitted(line: &mut Timeline, ctx: u32) -> Option<JobId> {
@@ -48,58 +47,83 @@ fn assert_need(rt: &impl Abort, set: &FenceSet, line: &Timeline, rows: &[(Usage,
     }
 }
 
-fn two_contexts(alloc: Global) -> Result<Timeline, NoMemory> {
-    let mut line = Timeline::new(alloc, 2)?;
+/// The jobs 1 and 2 of context 0, of which the first is done, and job 1 of context 1.
+fn two_contexts(rt: &impl Abort, alloc: Global) -> Timeline {
+    let mut line = Timeline::new(alloc, 2).expect(rt, "contexts");
     for ctx in [0, 0, 1] {
         emitted(&mut line, ctx);
     }
     finished(&mut line, 0);
-    Ok(line)
+    line
 }
 
+/// Jobs in the order in which they are emitted, and whether each is done at the end.
+const JOBS: [(JobId, bool); 3] = [
+    (JobId { ctx: 0, num: 1 }, true),
+    (JobId { ctx: 0, num: 2 }, false),
+    (JobId { ctx: 1, num: 1 }, false),
+];
+
 #[test]
-fn jobs_are_done_in_order(rt: HostRuntime) -> Result<(), Fail> {
-    let mut line = Timeline::new(rt.alloc(), 2)?;
-    for (ctx, num) in [(0, 1), (0, 2), (1, 1)] {
-        let job = emitted(&mut line, ctx);
-        assert!(&rt; job == Some(JobId { ctx, num }));
+fn jobs_are_done_in_order(rt: HostRuntime) {
+    let mut line = Timeline::new(rt.alloc(), 2).expect(&rt, "contexts");
+    for (job, _done) in &JOBS {
+        assert!(&rt; emitted(&mut line, job.ctx) == Some(*job));
     }
     let marked = finished(&mut line, 0);
     assert!(&rt; marked);
-    for (ctx, num, done) in [(0, 1, true), (0, 2, false), (1, 1, false)] {
-        assert!(&rt; is_done(&line, JobId { ctx, num }) == done);
+    for (job, done) in &JOBS {
+        assert!(&rt; is_done(&line, *job) == *done);
     }
-    Ok(())
+}
+
+const WRITE: JobId = JobId { ctx: 0, num: 2 };
+
+const KERNEL: JobId = JobId { ctx: 1, num: 1 };
+
+/// No job is waited for.
+const NONE: [(Usage, Option<JobId>); 1] = [(Usage::Read, None)];
+
+/// The write is waited for, but not before the kernel's own use.
+const WRITTEN: [(Usage, Option<JobId>); 3] = [
+    (Usage::Kernel, Some(KERNEL)),
+    (Usage::Write, Some(WRITE)),
+    (Usage::Read, Some(WRITE)),
+];
+
+const READ_BEHIND_WRITE: [(Usage, Option<JobId>); 1] = [(Usage::Read, Some(WRITE))];
+
+const READ_BEHIND_KERNEL: [(Usage, Option<JobId>); 1] = [(Usage::Read, Some(KERNEL))];
+
+/// A write, and a use by the kernel.
+fn two_fences(rt: &impl Abort, alloc: Global) -> FenceSet {
+    let mut set = FenceSet::new(alloc, 2).expect(rt, "contexts");
+    add(&mut set, WRITE, Usage::Write);
+    add(&mut set, KERNEL, Usage::Kernel);
+    set
+}
+
+/// The uses of another set, as by the kernel.
+fn copied(rt: &impl Abort, alloc: Global, set: &FenceSet) -> FenceSet {
+    let mut other = FenceSet::new(alloc, 2).expect(rt, "contexts");
+    if other.contexts() == set.contexts() {
+        other.add_all(set, Usage::Kernel);
+    }
+    other
 }
 
 #[test]
-fn usages_and_what_they_wait_for(rt: HostRuntime) -> Result<(), Fail> {
-    let mut line = two_contexts(rt.alloc())?;
-    let mut set = FenceSet::new(rt.alloc(), 2)?;
-    let write = JobId { ctx: 0, num: 2 };
-    let kernel = JobId { ctx: 1, num: 1 };
-    assert_need(&rt, &set, &line, &[(Usage::Read, None)]);
-    add(&mut set, write, Usage::Write);
-    add(&mut set, kernel, Usage::Kernel);
-    assert_need(
-        &rt,
-        &set,
-        &line,
-        &[
-            (Usage::Kernel, Some(kernel)),
-            (Usage::Write, Some(write)),
-            (Usage::Read, Some(write)),
-        ],
-    );
-    let mut other = FenceSet::new(rt.alloc(), 2)?;
-    if other.contexts() == set.contexts() {
-        other.add_all(&set, Usage::Kernel);
-    }
-    assert_need(&rt, &other, &line, &[(Usage::Read, Some(kernel))]);
+fn usages_and_what_they_wait_for(rt: HostRuntime) {
+    let mut line = two_contexts(&rt, rt.alloc());
+    let empty = FenceSet::new(rt.alloc(), 2).expect(&rt, "contexts");
+    assert_need(&rt, &empty, &line, &NONE);
+    let mut set = two_fences(&rt, rt.alloc());
+    assert_need(&rt, &set, &line, &WRITTEN);
+    let other = copied(&rt, rt.alloc(), &set);
+    assert_need(&rt, &other, &line, &READ_BEHIND_KERNEL);
     finished(&mut line, 1);
-    assert_need(&rt, &other, &line, &[(Usage::Read, None)]);
-    assert_need(&rt, &set, &line, &[(Usage::Read, Some(write))]);
+    assert_need(&rt, &other, &line, &NONE);
+    assert_need(&rt, &set, &line, &READ_BEHIND_WRITE);
     set.clear();
-    assert_need(&rt, &set, &line, &[(Usage::Read, None)]);
-    Ok(())
+    assert_need(&rt, &set, &line, &NONE);
 }

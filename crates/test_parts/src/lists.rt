@@ -5,32 +5,21 @@ use std::alloc::Global;
 use std::marker::Brand;
 use std::process::Abort;
 use std::sync::ledger::{Blank, Ledger};
-use std::test::Fail;
-use ttm_base::{BufId, Mem, NoMemory};
+use ttm_base::{BufId, Mem};
 
-/// Lists a buffer where it may be.
-fn list(lru: &mut Lru, b: u32, prio: u32, group: Option<u32>) -> Result<bool, NoMemory> {
-    if prio < 4 {
-        if lru.can_add(BufId(b), group) {
-            lru.add(BufId(b), Mem::Vram, prio, group)?;
-            return Ok(true);
-        }
-    }
-    Ok(false)
+/// Lists a buffer, which may be listed.
+fn list(rt: &impl Abort, lru: &mut Lru, b: u32, prio: u32, group: Option<u32>) {
+    assert!(rt; prio < 4);
+    assert!(rt; lru.can_add(BufId(b), group));
+    lru.add(BufId(b), Mem::Vram, prio, group)
+        .expect(rt, "a place");
 }
 
 /// Lists each buffer of the rows, with its group.
-fn list_all(
-    rt: &impl Abort,
-    lru: &mut Lru,
-    prio: u32,
-    rows: &[(u32, Option<u32>)],
-) -> Result<(), NoMemory> {
+fn list_all(rt: &impl Abort, lru: &mut Lru, prio: u32, rows: &[(u32, Option<u32>)]) {
     for (b, group) in rows {
-        let listed = list(lru, *b, prio, *group)?;
-        assert!(rt; listed);
+        list(rt, lru, *b, prio, *group);
     }
-    Ok(())
 }
 
 /// The first buffer of the lists of VRAM, priority 0 first, taken off its list.
@@ -46,33 +35,20 @@ fn evict(lru: &mut Lru) -> Option<BufId> {
     None
 }
 
-/// The buffers of a list of VRAM, so many at most.
-fn walk(alloc: Global, lru: &Lru, prio: u32, most: u32) -> Result<Vec<u32>, NoMemory>
-    requires { prio < 4 }
-{
-    let mut seen = Vec::new(alloc);
-    let mut at = lru.first(Mem::Vram, prio);
-    for _step in 0..most {
-        let Some(b) = at else { break };
-        seen.push(b.0)?;
-        at = if lru.is_listed(b) { lru.next(b) } else { None };
-    }
-    Ok(seen)
+/// The buffer behind another in its list, if it is on one.
+fn behind(lru: &Lru, b: BufId) -> Option<BufId> {
+    if lru.is_listed(b) { lru.next(b) } else { None }
 }
 
 /// The buffers of a list of VRAM are these.
-fn assert_order(
-    rt: &impl Abort,
-    alloc: Global,
-    lru: &Lru,
-    prio: u32,
-    want: &[u32],
-) -> Result<(), NoMemory>
-    requires { prio < 4 }
-{
-    let seen = walk(alloc, lru, prio, 201)?;
-    assert!(rt; seen.as_slice() == want);
-    Ok(())
+fn assert_order(rt: &impl Abort, lru: &Lru, prio: u32, want: &[u32]) {
+    assert!(rt; prio < 4);
+    let mut at = lru.first(Mem::Vram, prio);
+    for b in want {
+        assert!(rt; at == Some(BufId(*b)));
+        at = behind(lru, BufId(*b));
+    }
+    assert!(rt; at == None);
 }
 
 /// Touches a buffer, which is listed.
@@ -88,14 +64,17 @@ fn relist(rt: &impl Abort, lru: &mut Lru, b: BufId, mem: Mem) {
 }
 
 /// The odd numbers below 200, and the even ones behind them.
-fn odd_before_even(alloc: Global) -> Result<Vec<u32>, NoMemory> {
+fn odd_before_even(rt: &impl Abort, alloc: Global) -> Vec<u32> {
     let mut numbers = Vec::new(alloc);
-    for first in [1, 0] {
-        for step in 0..100 {
-            numbers.push(2 * step + first)?;
-        }
+    for place in 0..200u32 {
+        let number = if place < 100 {
+            2 * place + 1
+        } else {
+            2 * place - 200
+        };
+        numbers.push(number).expect(rt, "a number");
     }
-    Ok(numbers)
+    numbers
 }
 
 /// Moves group 0, and counts.
@@ -109,48 +88,55 @@ fn moved<L: Ledger>(lru: &mut Lru, blank: Blank)
     lru.bulk_tail_counted(0, &mut steps);
 }
 
+const THREE: [(u32, Option<u32>); 3] = [(0, Some(0)), (1, None), (2, Some(0))];
+
+/// The victims in order, and the buffer that is listed behind each, with its priority.
+const VICTIMS: [(u32, u32, u32); 5] = [(1, 3, 1), (0, 4, 1), (2, 5, 1), (3, 6, 0), (6, 7, 1)];
+
 #[test]
-fn victims_in_priority_and_bulk_order(rt: HostRuntime) -> Result<(), Fail> {
-    let mut lru = Lru::new(rt.alloc(), 8, 1)?;
-    list_all(&rt, &mut lru, 1, &[(0, Some(0)), (1, None), (2, Some(0))])?;
+fn victims_in_priority_and_bulk_order(rt: HostRuntime) {
+    let mut lru = Lru::new(rt.alloc(), 8, 1).expect(&rt, "lists");
+    list_all(&rt, &mut lru, 1, &THREE);
     assert!(&rt; lru.can_add(BufId(7), Some(0)));
     lru.bulk_tail(0);
-    for (victim, next, prio) in [(1, 3, 1), (0, 4, 1), (2, 5, 1), (3, 6, 0), (6, 7, 1)] {
+    for (victim, next, prio) in &VICTIMS {
         let evicted = evict(&mut lru);
-        assert!(&rt; evicted == Some(BufId(victim)));
-        list_all(&rt, &mut lru, prio, &[(next, None)])?;
+        assert!(&rt; evicted == Some(BufId(*victim)));
+        list(&rt, &mut lru, *next, *prio, None);
     }
-    Ok(())
+    drop(lru);
 }
 
-#[test]
-fn bulk_of_two_hundred(rt: HostRuntime) -> Result<(), Fail> {
-    let mut lru = Lru::new(rt.alloc(), 201, 1)?;
+/// Two hundred buffers, of which each other one is of group 0.
+fn list_two_hundred(rt: &impl Abort, lru: &mut Lru) {
     for b in 0..200 {
         let group = if b % 2 == 0 { Some(0) } else { None };
-        list_all(&rt, &mut lru, 0, &[(b, group)])?;
+        list(rt, lru, b, 0, group);
     }
-    assert!(&rt; lru.can_add(BufId(200), Some(0)));
-    moved::<Brand>(&mut lru, Blank::new(1));
-    let wanted = odd_before_even(rt.alloc())?;
-    assert_order(&rt, rt.alloc(), &lru, 0, wanted.as_slice())?;
-    Ok(())
 }
 
 #[test]
-fn touched_and_relisted(rt: HostRuntime) -> Result<(), Fail> {
-    let mut lru = Lru::new(rt.alloc(), 4, 1)?;
-    list_all(
-        &rt,
-        &mut lru,
-        2,
-        &[(0, Some(0)), (1, None), (2, Some(0)), (3, None)],
-    )?;
+fn bulk_of_two_hundred(rt: HostRuntime) {
+    let mut lru = Lru::new(rt.alloc(), 201, 1).expect(&rt, "lists");
+    list_two_hundred(&rt, &mut lru);
+    assert!(&rt; lru.can_add(BufId(200), Some(0)));
+    moved::<Brand>(&mut lru, Blank::new(1));
+    let wanted = odd_before_even(&rt, rt.alloc());
+    assert_order(&rt, &lru, 0, wanted.as_slice());
+    drop(lru);
+}
+
+const FOUR: [(u32, Option<u32>); 4] = [(0, Some(0)), (1, None), (2, Some(0)), (3, None)];
+
+#[test]
+fn touched_and_relisted(rt: HostRuntime) {
+    let mut lru = Lru::new(rt.alloc(), 4, 1).expect(&rt, "lists");
+    list_all(&rt, &mut lru, 2, &FOUR);
     touch(&rt, &mut lru, BufId(0));
-    assert_order(&rt, rt.alloc(), &lru, 2, &[2, 0, 1, 3])?;
+    assert_order(&rt, &lru, 2, &[2, 0, 1, 3]);
     relist(&rt, &mut lru, BufId(2), Mem::Tt);
     assert!(&rt; lru.first(Mem::Tt, 2) == Some(BufId(2)));
     touch(&rt, &mut lru, BufId(0));
-    assert_order(&rt, rt.alloc(), &lru, 2, &[1, 3, 0])?;
-    Ok(())
+    assert_order(&rt, &lru, 2, &[1, 3, 0]);
+    drop(lru);
 }

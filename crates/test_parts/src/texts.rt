@@ -1,16 +1,23 @@
 use journal_model::{Bytes, Decl, Decls, Script, Sizes};
 use std::alloc::Global;
-use std::test::Fail;
+use std::process::Abort;
 use text_line::{Line, mem_word, name_of, put_actor, put_hex, put_hex_byte, put_numbered};
 use ttm_base::{Actor, BufId, FlaggedPlaces, ItemList, Mem, NoMemory, Placement};
 
-/// A script with the buffer `b7`.
-fn script(alloc: Global) -> Result<Script, NoMemory> {
-    let mut name = Bytes::new(alloc);
-    name.push(b'b')?;
-    name.push(b'7')?;
+const SIZES: Sizes = Sizes {
+    buddy: false,
+    vram: 8,
+    tt: 4,
+    frames: 4,
+    swap: 2,
+    engines: 0,
+};
+
+/// A list with the buffer `b7`.
+fn buffers(rt: &impl Abort, alloc: Global) -> Decls {
+    let name = Bytes::from_slice(alloc, b"b7").expect(rt, "a name");
     let mut buffers = Decls::new(alloc);
-    buffers.push(Decl {
+    let decl = Decl {
         name,
         pages: 4,
         prio: 0,
@@ -19,41 +26,50 @@ fn script(alloc: Global) -> Result<Script, NoMemory> {
         placement: Placement {
             list: FlaggedPlaces::new(alloc),
         },
-    })?;
-    Ok(Script {
+    };
+    buffers.push(decl).expect(rt, "a buffer");
+    buffers
+}
+
+/// A script with the buffer.
+fn script(rt: &impl Abort, alloc: Global) -> Script {
+    Script {
         version: 1,
-        sizes: Sizes {
-            buddy: false,
-            vram: 8,
-            tt: 4,
-            frames: 4,
-            swap: 2,
-            engines: 0,
-        },
-        buffers,
+        sizes: SIZES,
+        buffers: buffers(rt, alloc),
         threads: ItemList::new(alloc),
         turns: ItemList::new(alloc),
         marks: ItemList::new(alloc),
-    })
+    }
 }
 
-#[test]
-fn words_of_a_line(rt: HostRuntime) -> Result<(), Fail> {
-    let script = script(rt.alloc())?;
-    let mut line = Line::new(rt.alloc());
-    put_actor(&mut line, Actor::Thread(12))?;
-    line.word(name_of(&script, BufId(0)))?;
+/// An actor, a buffer, a memory type, a number and bytes.
+fn put_words(line: &mut Line, script: &Script) -> Result<(), NoMemory> {
+    put_actor(line, Actor::Thread(12))?;
+    line.word(name_of(script, BufId(0)))?;
     line.word(mem_word(Mem::Tt))?;
     line.number(u64::MAX)?;
     line.put_byte(b' ')?;
-    put_hex(&mut line, &[0, 0xff, 0x1a])?;
-    line.end_line()?;
-    assert!(rt; line.bytes() == b"t12 b7 tt 18446744073709551615 00ff1a\n".as_slice());
-    line.clear();
+    put_hex(line, &[0, 0xff, 0x1a])?;
+    line.end_line()
+}
+
+/// Letters and numbers with nothing between them.
+fn put_together(line: &mut Line) -> Result<(), NoMemory> {
     line.put(b"g")?;
     line.put_number(0)?;
-    put_numbered(&mut line, b'-', 5)?;
-    put_hex_byte(&mut line, 0xc)?;
+    put_numbered(line, b'-', 5)?;
+    put_hex_byte(line, 0xc)
+}
+
+#[test]
+fn words_of_a_line(rt: HostRuntime) {
+    let script = script(&rt, rt.alloc());
+    let mut line = Line::new(rt.alloc());
+    assert!(rt; put_words(&mut line, &script).is_ok());
+    drop(script);
+    assert!(rt; line.bytes() == b"t12 b7 tt 18446744073709551615 00ff1a\n".as_slice());
+    line.clear();
+    assert!(rt; put_together(&mut line).is_ok());
     assert!(rt; line.into_bytes().as_slice() == b"g0-50c".as_slice());
-    Ok(())
 }

@@ -2,10 +2,7 @@ use bo_table::{Bo, BoTable};
 use journal_model::{Decl, Name};
 use std::alloc::Global;
 use std::process::Abort;
-use std::test::Fail;
-use ttm_base::{
-    BufId, FlaggedPlaces, JobId, Loc, Mem, NoMemory, Placement, Span, Spans, Stamp, Usage,
-};
+use ttm_base::{BufId, FlaggedPlaces, JobId, Loc, Mem, Placement, Span, Spans, Stamp, Usage};
 
 /// A change of a buffer, as the table's calls are named.
 #[derive(Clone, Copy)]
@@ -28,7 +25,7 @@ enum Change {
 
 /// What is to be seen of a live buffer: its memory type, its first span there, how many pages have frames, the page to fill next, its pins and its
 /// holder.
-#[derive(Drop)]
+#[derive(Clone, Copy)]
 struct Look {
     mem: Mem,
     span: Option<Span>,
@@ -52,21 +49,12 @@ fn declared(alloc: Global, pages: u32) -> Decl {
 }
 
 /// Three pages from this one on.
-fn three(start: u32) -> Option<Span> {
-    Some(Span {
+fn three_from(rt: &impl Abort, alloc: Global, start: u32) -> Spans {
+    let span = Span {
         start,
         end: start.saturating_add(3),
-    })
-}
-
-/// The same as spans.
-fn three_from(alloc: Global, start: u32) -> Result<Spans, NoMemory> {
-    let mut spans = Spans::new(alloc);
-    spans.push(Span {
-        start,
-        end: start.saturating_add(3),
-    })?;
-    Ok(spans)
+    };
+    Spans::from_slice(alloc, &[span]).expect(rt, "a span")
 }
 
 /// A buffer, which is declared.
@@ -98,18 +86,13 @@ fn add_fence(rt: &impl Abort, table: &mut BoTable, b: BufId, num: u64) {
 }
 
 /// Changes the second buffer.
-fn take_change(
-    rt: &impl Abort,
-    alloc: Global,
-    table: &mut BoTable,
-    what: Change,
-) -> Result<(), NoMemory> {
+fn take_change(rt: &impl Abort, alloc: Global, table: &mut BoTable, what: Change) {
     let b = BufId(1);
     match what {
         Change::Make => table.make(b),
         Change::Page(page, place) => table.set_page(b, page, place),
         Change::Target(mem, start) => {
-            let spans = three_from(alloc, start)?;
+            let spans = three_from(rt, alloc, start);
             table.set_target(b, mem, Some(spans));
         }
         Change::LeaveTt => table.leave_tt(alloc, b),
@@ -123,144 +106,275 @@ fn take_change(
         Change::Unpin => table.unpin(b),
         Change::Use(num) => add_fence(rt, table, b, num),
     }
-    Ok(())
 }
 
-fn assert_seen(rt: &impl Abort, bo: &Bo, look: &Look) {
-    assert!(rt; bo.alive);
+/// The buffer stands where it is to stand.
+fn assert_place(rt: &impl Abort, bo: &Bo, look: &Look) {
     assert!(rt; bo.mem == look.mem);
     assert!(rt; bo.spans.items().first().copied() == look.span);
     assert!(rt; bo.table.frames() == look.frames);
     assert!(rt; bo.table.first_unfilled() == look.unfilled);
+}
+
+/// The buffer lives, and is pinned and held as is wanted.
+fn assert_seen(rt: &impl Abort, bo: &Bo, look: &Look) {
+    assert!(rt; bo.alive);
     assert!(rt; bo.pins == look.pins);
     assert!(rt; bo.resv.holder() == look.holder);
+    assert_place(rt, bo, look);
 }
 
-fn seen(
-    mem: Mem,
-    span: Option<Span>,
-    frames: u32,
-    unfilled: Option<u32>,
-    pins: u8,
-    holder: Option<u64>,
-) -> Look {
-    Look {
-        mem,
-        span,
-        frames,
-        unfilled,
-        pins,
-        holder: holder.map(Stamp),
-    }
-}
+/// A buffer in SYSTEM without pages to fill, which nobody pins or holds.
+const EMPTY: Look = Look {
+    mem: Mem::System,
+    span: None,
+    frames: 0,
+    unfilled: None,
+    pins: 0,
+    holder: None,
+};
+
+/// The stamp of the ticket that holds the buffer.
+const HELD: Option<Stamp> = Some(Stamp(2));
+
+const AT_4: Option<Span> = Some(Span { start: 4, end: 7 });
+
+const AT_8: Option<Span> = Some(Span { start: 8, end: 11 });
+
+const AT_16: Option<Span> = Some(Span { start: 16, end: 19 });
+
+/// The changes of the second buffer's life, and what is to be seen after each.
+const LIFE: [(Change, Look); 25] = [
+    (
+        Change::Make,
+        Look {
+            unfilled: Some(0),
+            ..EMPTY
+        },
+    ),
+    (
+        Change::Page(1, Loc::Frame(7)),
+        Look {
+            frames: 1,
+            unfilled: Some(0),
+            ..EMPTY
+        },
+    ),
+    (
+        Change::Page(0, Loc::Frame(5)),
+        Look {
+            frames: 2,
+            unfilled: Some(2),
+            ..EMPTY
+        },
+    ),
+    (Change::Page(2, Loc::Frame(6)), Look { frames: 3, ..EMPTY }),
+    (
+        Change::Page(1, Loc::Slot(4)),
+        Look {
+            frames: 2,
+            unfilled: Some(1),
+            ..EMPTY
+        },
+    ),
+    (
+        Change::Page(0, Loc::Slot(3)),
+        Look {
+            frames: 1,
+            unfilled: Some(0),
+            ..EMPTY
+        },
+    ),
+    (
+        Change::Page(1, Loc::Frame(8)),
+        Look {
+            frames: 2,
+            unfilled: Some(0),
+            ..EMPTY
+        },
+    ),
+    (Change::Page(0, Loc::Frame(9)), Look { frames: 3, ..EMPTY }),
+    (Change::Page(3, Loc::Zero), Look { frames: 3, ..EMPTY }),
+    (
+        Change::Reserve(2),
+        Look {
+            frames: 3,
+            holder: HELD,
+            ..EMPTY
+        },
+    ),
+    (
+        Change::Target(Mem::Tt, 4),
+        Look {
+            frames: 3,
+            holder: HELD,
+            ..EMPTY
+        },
+    ),
+    (
+        Change::Bind,
+        Look {
+            mem: Mem::Tt,
+            span: AT_4,
+            frames: 3,
+            holder: HELD,
+            ..EMPTY
+        },
+    ),
+    (
+        Change::LeaveTt,
+        Look {
+            mem: Mem::Tt,
+            span: AT_4,
+            frames: 3,
+            holder: HELD,
+            ..EMPTY
+        },
+    ),
+    (
+        Change::Unbind,
+        Look {
+            frames: 3,
+            holder: HELD,
+            ..EMPTY
+        },
+    ),
+    (
+        Change::Target(Mem::Tt, 8),
+        Look {
+            frames: 3,
+            holder: HELD,
+            ..EMPTY
+        },
+    ),
+    (
+        Change::Bind,
+        Look {
+            mem: Mem::Tt,
+            span: AT_8,
+            frames: 3,
+            holder: HELD,
+            ..EMPTY
+        },
+    ),
+    (
+        Change::Target(Mem::Vram, 16),
+        Look {
+            mem: Mem::Tt,
+            span: AT_8,
+            frames: 3,
+            holder: HELD,
+            ..EMPTY
+        },
+    ),
+    (
+        Change::Carry(Mem::Vram),
+        Look {
+            mem: Mem::Vram,
+            span: AT_16,
+            unfilled: Some(0),
+            holder: HELD,
+            ..EMPTY
+        },
+    ),
+    (
+        Change::Use(1),
+        Look {
+            mem: Mem::Vram,
+            span: AT_16,
+            unfilled: Some(0),
+            holder: HELD,
+            ..EMPTY
+        },
+    ),
+    (
+        Change::Page(0, Loc::Frame(5)),
+        Look {
+            mem: Mem::Vram,
+            span: AT_16,
+            frames: 1,
+            unfilled: Some(1),
+            holder: HELD,
+            ..EMPTY
+        },
+    ),
+    (
+        Change::DropFrames,
+        Look {
+            mem: Mem::Vram,
+            span: AT_16,
+            unfilled: Some(0),
+            holder: HELD,
+            ..EMPTY
+        },
+    ),
+    (
+        Change::Pin,
+        Look {
+            mem: Mem::Vram,
+            span: AT_16,
+            unfilled: Some(0),
+            pins: 1,
+            holder: HELD,
+            ..EMPTY
+        },
+    ),
+    (
+        Change::Pin,
+        Look {
+            mem: Mem::Vram,
+            span: AT_16,
+            unfilled: Some(0),
+            pins: 2,
+            holder: HELD,
+            ..EMPTY
+        },
+    ),
+    (
+        Change::Unpin,
+        Look {
+            mem: Mem::Vram,
+            span: AT_16,
+            unfilled: Some(0),
+            pins: 1,
+            holder: HELD,
+            ..EMPTY
+        },
+    ),
+    (
+        Change::Release,
+        Look {
+            mem: Mem::Vram,
+            span: AT_16,
+            unfilled: Some(0),
+            pins: 1,
+            ..EMPTY
+        },
+    ),
+];
 
 /// Two dead buffers, of two pages and of three.
-fn two_buffers(alloc: Global) -> Result<BoTable, NoMemory> {
+fn two_buffers(rt: &impl Abort, alloc: Global) -> BoTable {
     let decls = [declared(alloc, 2), declared(alloc, 3)];
-    BoTable::new(alloc, &decls, 1)
+    BoTable::new(alloc, &decls, 1).expect(rt, "buffers")
+}
+
+/// The buffer is dead, and nobody pins it.
+fn assert_dead(rt: &impl Abort, table: &BoTable, b: BufId) {
+    let bo = lent(rt, table, b);
+    assert!(rt; !bo.alive);
+    assert!(rt; bo.pins == 0);
 }
 
 #[test]
-fn life_of_a_buffer(rt: HostRuntime) -> Result<(), Fail> {
-    let mut table = two_buffers(rt.alloc())?;
-    for (what, wanted) in [
-        (Change::Make, seen(Mem::System, None, 0, Some(0), 0, None)),
-        (
-            Change::Page(1, Loc::Frame(7)),
-            seen(Mem::System, None, 1, Some(0), 0, None),
-        ),
-        (
-            Change::Page(0, Loc::Frame(5)),
-            seen(Mem::System, None, 2, Some(2), 0, None),
-        ),
-        (
-            Change::Page(2, Loc::Frame(6)),
-            seen(Mem::System, None, 3, None, 0, None),
-        ),
-        (
-            Change::Page(1, Loc::Slot(4)),
-            seen(Mem::System, None, 2, Some(1), 0, None),
-        ),
-        (
-            Change::Page(0, Loc::Slot(3)),
-            seen(Mem::System, None, 1, Some(0), 0, None),
-        ),
-        (
-            Change::Page(1, Loc::Frame(8)),
-            seen(Mem::System, None, 2, Some(0), 0, None),
-        ),
-        (
-            Change::Page(0, Loc::Frame(9)),
-            seen(Mem::System, None, 3, None, 0, None),
-        ),
-        (
-            Change::Page(3, Loc::Zero),
-            seen(Mem::System, None, 3, None, 0, None),
-        ),
-        (
-            Change::Reserve(2),
-            seen(Mem::System, None, 3, None, 0, Some(2)),
-        ),
-        (
-            Change::Target(Mem::Tt, 4),
-            seen(Mem::System, None, 3, None, 0, Some(2)),
-        ),
-        (Change::Bind, seen(Mem::Tt, three(4), 3, None, 0, Some(2))),
-        (
-            Change::LeaveTt,
-            seen(Mem::Tt, three(4), 3, None, 0, Some(2)),
-        ),
-        (Change::Unbind, seen(Mem::System, None, 3, None, 0, Some(2))),
-        (
-            Change::Target(Mem::Tt, 8),
-            seen(Mem::System, None, 3, None, 0, Some(2)),
-        ),
-        (Change::Bind, seen(Mem::Tt, three(8), 3, None, 0, Some(2))),
-        (
-            Change::Target(Mem::Vram, 16),
-            seen(Mem::Tt, three(8), 3, None, 0, Some(2)),
-        ),
-        (
-            Change::Carry(Mem::Vram),
-            seen(Mem::Vram, three(16), 0, Some(0), 0, Some(2)),
-        ),
-        (
-            Change::Use(1),
-            seen(Mem::Vram, three(16), 0, Some(0), 0, Some(2)),
-        ),
-        (
-            Change::Page(0, Loc::Frame(5)),
-            seen(Mem::Vram, three(16), 1, Some(1), 0, Some(2)),
-        ),
-        (
-            Change::DropFrames,
-            seen(Mem::Vram, three(16), 0, Some(0), 0, Some(2)),
-        ),
-        (
-            Change::Pin,
-            seen(Mem::Vram, three(16), 0, Some(0), 1, Some(2)),
-        ),
-        (
-            Change::Pin,
-            seen(Mem::Vram, three(16), 0, Some(0), 2, Some(2)),
-        ),
-        (
-            Change::Unpin,
-            seen(Mem::Vram, three(16), 0, Some(0), 1, Some(2)),
-        ),
-        (
-            Change::Release,
-            seen(Mem::Vram, three(16), 0, Some(0), 1, None),
-        ),
-    ] {
-        take_change(&rt, rt.alloc(), &mut table, what)?;
-        assert_seen(&rt, lent(&rt, &table, BufId(1)), &wanted);
+fn life_of_a_buffer(rt: HostRuntime) {
+    let mut table = two_buffers(&rt, rt.alloc());
+    for (what, wanted) in &LIFE {
+        take_change(&rt, rt.alloc(), &mut table, *what);
+        assert_seen(&rt, lent(&rt, &table, BufId(1)), wanted);
     }
     table.kill(BufId(1));
-    for b in [0, 1] {
-        let bo = lent(&rt, &table, BufId(b));
-        assert!(&rt; !bo.alive);
-        assert!(&rt; bo.pins == 0);
-    }
-    Ok(())
+    assert_dead(&rt, &table, BufId(0));
+    assert_dead(&rt, &table, BufId(1));
+    drop(table);
 }
