@@ -45,13 +45,15 @@ block_at m ends one b r h = held_at ends b (ap (is_held b) r.held ∙ h)
 pub released_one : (m after : Managed) (ends : List ℕ) (one given : List Span) (b : Span) → AreBlocks m ends one → is_held b m.held ≡ true → given ≡ b ∷ [] → after.size ≡ m.size → after.held ≡ without_all given m.held
     → (after.held ≡ without b m.held) × AreBlocks after (set ends b.start 0) given
 released_one m after ends one given b r h g size held =
-    let e : after.held ≡ without b m.held = held ∙ ap (λ bs. without_all bs m.held) g in
-    (e, record {
-      size = length-set ends b.start 0 ∙ r.size ∙ sym size;
-      small = let l = r.small in omega (arith, size, l);
-      held = let_go_one ends b (ap (is_held b) r.held ∙ h) ∙ ap (without b) r.held ∙ sym e;
-      single = ap length g;
-    })
+    let e : after.held ≡ without b m.held = held ∙ ap (λ bs. without_all bs m.held) g in (
+      e,
+      record {
+        size = length-set ends b.start 0 ∙ r.size ∙ sym size;
+        small = let l = r.small in omega (arith, size, l);
+        held = let_go_one ends b (ap (is_held b) r.held ∙ h) ∙ ap (without b) r.held ∙ sym e;
+        single = ap length g;
+      },
+    )
 
 pub trimmed_one : (m after : Managed) (ends : List ℕ) (one : List Span) (b : Span) (keep : ℕ) → AreBlocks m ends one → is_held b m.held ≡ true → 1 ≤ keep → after.size ≡ m.size
     → after.held ≡ with_block (record { start = b.start; end = b.start + keep }) (without b m.held) → AreBlocks after (set ends b.start (b.start + keep)) one

@@ -24,9 +24,9 @@ mode_of n = if n == 0 then Some Best else if n == 1 then Some Low else if n == 2
 -- the pages that an insert takes; an align of 0 is none
 abbrev pub range_for : Ranges → ℕ → ℕ → ℕ → Span → Option Span
 range_for m mode pages align range = elim (mode_of mode) [
-    | Some md ↦ range_choice md (holes (is_free_beside m.held) m.size) pages (max 1 align) range
-    | None ↦ None
-  ]
+  | Some md ↦ range_choice md (holes (is_free_beside m.held) m.size) pages (max 1 align) range
+  | None ↦ None
+]
 
 -- the flags: 1 is topdown, 2 is contiguous
 abbrev pub is_topdown : ℕ → Bool

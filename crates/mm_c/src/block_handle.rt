@@ -4,8 +4,8 @@ ghost use Rattle.buddy_manager.specs.Held.{Managed};
 ghost use Rattle.std.specs.Global.{Global};
 ghost use Rattle.mm_c.specs.BlockOwned.{handle_owns};
 
-use crate::parts::Parts;
 use crate::blocks::Blocks;
+use crate::parts::Parts;
 use std::alloc::Global;
 use std::marker::Model;
 

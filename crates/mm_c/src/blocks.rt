@@ -99,12 +99,7 @@ impl Blocks {
     }
 
     /// Takes blocks, writes them to the front of an array, and tells how many they are.
-    pub fn alloc(
-        &mut self,
-        request: BlockRequest,
-        out: &mut [PageSpan],
-        count: &mut usize,
-    ) -> u32
+    pub fn alloc(&mut self, request: BlockRequest, out: &mut [PageSpan], count: &mut usize) -> u32
         ensures size { self.new.size ≡ self.old.size }
         ensures room { length out.new ≡ length out.old }
         ensures fits { result ≡ DONE → count.new ≤ length out.old }

@@ -87,6 +87,7 @@ fn lines_that_break_a_condition(rt: HostRuntime) -> Result<(), Fail> {
             Some((1, false)),
         ),
         ("mm 9\nreserve 0 8 9\nreserve 0 8 8\n", Some((1, false))),
+        ("mm 9\nholes\nblocks\nholes 0\n", Some((2, false))),
         (
             "buddy 9\nalloc 0 1 0 9 - contig\nalloc 0 0 0 9 - -\n",
             Some((1, false)),
@@ -103,7 +104,7 @@ fn lines_that_break_a_condition(rt: HostRuntime) -> Result<(), Fail> {
         assert!(rt; readable(rt.alloc(), text)? == want, "{text}");
     }
     let operation = Operation::Remove { id: 7 };
-    assert!(rt; (operation.kind(), operation.id()) == (Kind::Remove, 7));
+    assert!(rt; (operation.kind(), operation.id()) == (Kind::Remove, Some(7)));
     assert!(rt; Answer::Done != Answer::Bad);
     Ok(())
 }
