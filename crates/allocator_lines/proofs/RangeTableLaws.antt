@@ -15,13 +15,13 @@ span_read [] i d h = absurd (omega arith)
 span_read (x ∷ xs) zero d h = refl
 span_read (x ∷ xs) (suc i) d h = span_read xs i d (omega arith)
 
-abbrev with_parts : ℕ → List Span → List (Option Span) → RangesHeld
-with_parts size held spans = record { memory = record { size = size; held = held }; spans = spans }
+abbrev with_parts : ℕ → List Span → List (Option Span) → List Span → RangesHeld
+with_parts size held spans listed = record { memory = record { size = size; held = held }; spans = spans; listed = listed }
 
 -- a table of a manager without spans, where no ID has any
-pub table_is_new : (m : Managed) (spans : List (Option Span)) (pages : ℕ) → m.size ≡ pages → m.held ≡ [] → spans ≡ replicate 65536 None → with_parts m.size m.held spans ≡ new_ranges pages
-table_is_new m spans pages s h e =
-    ap (λ n. with_parts n m.held spans) s ∙ ap (λ hs. with_parts pages hs spans) h ∙ ap (with_parts pages []) e
+pub table_is_new : (m : Managed) (spans : List (Option Span)) (listed : List Span) (pages : ℕ) → m.size ≡ pages → m.held ≡ [] → spans ≡ replicate 65536 None → listed ≡ [] → with_parts m.size m.held spans listed ≡ new_ranges pages
+table_is_new m spans listed pages s h e l =
+    ap (λ n. with_parts n m.held spans listed) s ∙ ap (λ hs. with_parts pages hs spans listed) h ∙ ap (λ xs. with_parts pages [] xs listed) e ∙ ap (with_parts pages [] (replicate 65536 None)) l
 
 -- ---- tests of all pages
 

@@ -14,13 +14,13 @@ read_at [] i d h = absurd (omega arith)
 read_at (x ∷ xs) zero d h = refl
 read_at (x ∷ xs) (suc i) d h = read_at xs i d (omega arith)
 
-abbrev with_parts : ℕ → List Span → List (List Span) → BuddyHeld
-with_parts size held spans = record { memory = record { size = size; held = held }; spans = spans }
+abbrev with_parts : ℕ → List Span → List (List Span) → List Span → BuddyHeld
+with_parts size held spans listed = record { memory = record { size = size; held = held }; spans = spans; listed = listed }
 
 -- a table of a manager without blocks, where no ID has any
-pub table_is_new : (m : Managed) (spans : List (List Span)) (pages : ℕ) → m.size ≡ pages → m.held ≡ [] → spans ≡ replicate 65536 [] → with_parts m.size m.held spans ≡ new_blocks pages
-table_is_new m spans pages s h e =
-    ap (λ n. with_parts n m.held spans) s ∙ ap (λ hs. with_parts pages hs spans) h ∙ ap (with_parts pages []) e
+pub table_is_new : (m : Managed) (spans : List (List Span)) (listed : List Span) (pages : ℕ) → m.size ≡ pages → m.held ≡ [] → spans ≡ replicate 65536 [] → listed ≡ [] → with_parts m.size m.held spans listed ≡ new_blocks pages
+table_is_new m spans listed pages s h e l =
+    ap (λ n. with_parts n m.held spans listed) s ∙ ap (λ hs. with_parts pages hs spans listed) h ∙ ap (λ xs. with_parts pages [] xs listed) e ∙ ap (with_parts pages [] (replicate 65536 [])) l
 
 -- a test that decides it is the test of the definitions
 pub test_is : (b : Bool) (bs hs : List Span) → Decides b (AreHeld bs hs) → b ≡ all_held bs hs

@@ -7,7 +7,7 @@ use Rattle.allocator_lines.specs.declared.answer.Answer.TheVariants as answer
 use Rattle.allocator_lines.specs.declared.operation.Operation.{Operation}
 use Rattle.allocator_lines.specs.Lines.{id_of}
 
--- the answer, where these spans are what the ID holds
+-- the answer, where these spans are what it lists
 abbrev pub answer_word : Answer → List Span → Text
 answer_word answer.Spans spans = spans_word spans
 answer_word answer.Refused spans = codes "none"
@@ -28,7 +28,7 @@ first_bad comes_to after table (o ∷ operations) =
     if is_bad (comes_to table o) then Some 0 else option_map suc (first_bad comes_to after (after table o) operations)
 
 -- a line for each operation up to that one
-abbrev pub answer_lines : {T : Type 0} → (T → Operation → Answer) → (T → Operation → T) → (T → ℕ → List Span) → T → List Operation → Text
+abbrev pub answer_lines : {T : Type 0} → (T → Operation → Answer) → (T → Operation → T) → (T → Option ℕ → List Span) → T → List Operation → Text
 answer_lines comes_to after held table [] = []
 answer_lines comes_to after held table (o ∷ operations) =
     if is_bad (comes_to table o) then []

@@ -11,7 +11,7 @@ use Rattle.allocator_lines.specs.declared.operation.Kind.{Kind}
 use Rattle.allocator_lines.specs.declared.operation.Kind.TheVariants as kind
 use Rattle.allocator_lines.specs.declared.operation.Load.{Load}
 use Rattle.allocator_lines.specs.declared.operation.Operation.{Operation}
-use Rattle.allocator_lines.specs.declared.operation.Operation.TheVariants.{Alloc, Free, Insert, Reserve, Remove}
+use Rattle.allocator_lines.specs.declared.operation.Operation.TheVariants.{Alloc, Free, Insert, Reserve, Remove, Holes, Blocks}
 
 -- ---- words
 
@@ -89,6 +89,11 @@ abbrev pub remove_line : List Text → Option Operation
 remove_line (_ ∷ id ∷ []) = option_map (λ i. Remove i) (id_in id)
 remove_line _ = None
 
+-- `holes` or `blocks`, alone
+abbrev pub listing_line : Operation → List Text → Option Operation
+listing_line operation (_ ∷ []) = Some operation
+listing_line operation _ = None
+
 -- by its first word
 abbrev pub operation_by : ℕ → Text → List Text → Option Operation
 operation_by size word words =
@@ -97,6 +102,8 @@ operation_by size word words =
     else if bytes_eq word (codes "insert") then insert_line size words
     else if bytes_eq word (codes "reserve") then reserve_line size words
     else if bytes_eq word (codes "remove") then remove_line words
+    else if bytes_eq word (codes "holes") then listing_line Holes words
+    else if bytes_eq word (codes "blocks") then listing_line Blocks words
     else None
 
 abbrev pub operation_of_words : ℕ → List Text → Option Operation
@@ -112,13 +119,18 @@ kind_of (Free _) = kind.Free
 kind_of (Insert _ _ _ _ _ _) = kind.Insert
 kind_of (Reserve _ _ _) = kind.Reserve
 kind_of (Remove _) = kind.Remove
+kind_of Holes = kind.List
+kind_of Blocks = kind.List
 
-abbrev pub id_of : Operation → ℕ
-id_of (Alloc id _ _ _ _ _) = id
-id_of (Free id) = id
-id_of (Insert id _ _ _ _ _) = id
-id_of (Reserve id _ _) = id
-id_of (Remove id) = id
+-- the ID that it is for, if it is for one
+abbrev pub id_of : Operation → Option ℕ
+id_of (Alloc id _ _ _ _ _) = Some id
+id_of (Free id) = Some id
+id_of (Insert id _ _ _ _ _) = Some id
+id_of (Reserve id _ _) = Some id
+id_of (Remove id) = Some id
+id_of Holes = None
+id_of Blocks = None
 
 -- ---- a whole list
 

@@ -11,12 +11,13 @@ use Rattle.range_manager.specs.Held.{Managed, with_span, is_open}
 use Rattle.allocator_lines.specs.declared.answer.Answer.{Answer}
 use Rattle.allocator_lines.specs.declared.answer.Answer.TheVariants as answer
 use Rattle.allocator_lines.specs.declared.operation.Operation.{Operation}
-use Rattle.allocator_lines.specs.declared.operation.Operation.TheVariants.{Alloc, Free, Insert, Reserve, Remove}
+use Rattle.allocator_lines.specs.declared.operation.Operation.TheVariants.{Alloc, Free, Insert, Reserve, Remove, Holes, Blocks}
 
--- the manager, and the span of each ID
+-- the manager, the span of each ID, and the holes as they were last listed
 pub record RangesHeld : Type 0 where
   pub memory : Managed
   pub spans : List (Option Span)
+  pub listed : List Span
 
 -- what an ID holds
 abbrev pub span_at : List (Option Span) → ℕ → Option Span
@@ -27,9 +28,14 @@ abbrev pub listed_span : Option Span → List Span
 listed_span None = []
 listed_span (Some s) = s ∷ []
 
+-- what an ID holds, or what was listed
+abbrev pub ranges_at : RangesHeld → Option ℕ → List Span
+ranges_at t None = t.listed
+ranges_at t (Some id) = listed_span (span_at t.spans id)
+
 -- free pages, and no spans
 abbrev pub new_ranges : ℕ → RangesHeld
-new_ranges pages = record { memory = record { size = pages; held = [] }; spans = replicate 65536 None }
+new_ranges pages = record { memory = record { size = pages; held = [] }; spans = replicate 65536 None; listed = [] }
 
 -- the manager with a span more
 abbrev pub with_one : Managed → Span → Managed
@@ -106,19 +112,25 @@ abbrev pub after_insert : RangesHeld → ℕ → ℕ → ℕ → Span → Mode �
 after_insert t id pages align range mode = record {
   memory = insert_memory t.memory (span_at t.spans id) pages align range mode;
   spans = slice_set t.spans id (insert_span t.memory (span_at t.spans id) pages align range mode);
+  listed = t.listed;
 }
 
 abbrev pub after_reserve : RangesHeld → ℕ → Span → RangesHeld
 after_reserve t id s = record {
   memory = reserve_memory t.memory (span_at t.spans id) s;
   spans = slice_set t.spans id (reserve_span t.memory (span_at t.spans id) s);
+  listed = t.listed;
 }
 
 abbrev pub after_remove : RangesHeld → ℕ → RangesHeld
 after_remove t id = record {
   memory = remove_memory t.memory (span_at t.spans id);
   spans = slice_set t.spans id (remove_span t.memory (span_at t.spans id));
+  listed = t.listed;
 }
+
+abbrev pub after_holes : RangesHeld → RangesHeld
+after_holes t = record { memory = t.memory; spans = t.spans; listed = holes (is_free_beside t.memory.held) t.memory.size }
 
 -- an ID, and an alignment
 abbrev pub is_insertion : ℕ → ℕ → Bool
@@ -132,6 +144,8 @@ range_answer t (Reserve id start end) =
 range_answer t (Remove id) = if nat_lt id 65536 then remove_answer t.memory (span_at t.spans id) else answer.Bad
 range_answer t (Alloc _ _ _ _ _ _) = answer.Bad
 range_answer t (Free _) = answer.Bad
+range_answer t Holes = answer.Spans
+range_answer t Blocks = answer.Bad
 
 abbrev pub after_range : RangesHeld → Operation → RangesHeld
 after_range t (Insert id pages align first last mode) =
@@ -140,3 +154,5 @@ after_range t (Reserve id start end) = if nat_lt id 65536 then after_reserve t i
 after_range t (Remove id) = if nat_lt id 65536 then after_remove t id else t
 after_range t (Alloc _ _ _ _ _ _) = t
 after_range t (Free _) = t
+after_range t Holes = after_holes t
+after_range t Blocks = t

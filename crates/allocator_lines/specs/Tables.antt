@@ -4,10 +4,11 @@ use Rattle.ttm_base.specs.declared.Span.{Span}
 use Rattle.ttm_base.specs.BuddyChoice.{buddy_choice}
 use Rattle.ttm_base.specs.Holes.{is_free_beside}
 use Rattle.buddy_manager.specs.Held.{Managed, with_blocks, without_all, all_held}
+use Rattle.manager_walk.specs.Cutting.{free_list}
 use Rattle.allocator_lines.specs.declared.answer.Answer.{Answer}
 use Rattle.allocator_lines.specs.declared.answer.Answer.TheVariants as answer
 use Rattle.allocator_lines.specs.declared.operation.Operation.{Operation}
-use Rattle.allocator_lines.specs.declared.operation.Operation.TheVariants.{Alloc, Free, Insert, Reserve, Remove}
+use Rattle.allocator_lines.specs.declared.operation.Operation.TheVariants.{Alloc, Free, Insert, Reserve, Remove, Holes, Blocks}
 
 -- what an ID holds
 abbrev pub spans_at : List (List Span) → ℕ → List Span
@@ -15,14 +16,20 @@ spans_at spans id = unwrap_or (slice_get spans id) []
 
 -- ---- a buddy manager
 
--- the manager, and the blocks of each ID
+-- the manager, the blocks of each ID, and the free blocks as they were last listed
 pub record BuddyHeld : Type 0 where
   pub memory : Managed
   pub spans : List (List Span)
+  pub listed : List Span
+
+-- what an ID holds, or what was listed
+abbrev pub blocks_at : BuddyHeld → Option ℕ → List Span
+blocks_at t None = t.listed
+blocks_at t (Some id) = spans_at t.spans id
 
 -- free pages, and no blocks
 abbrev pub new_blocks : ℕ → BuddyHeld
-new_blocks pages = record { memory = record { size = pages; held = [] }; spans = replicate 65536 [] }
+new_blocks pages = record { memory = record { size = pages; held = [] }; spans = replicate 65536 []; listed = [] }
 
 -- the blocks that a request gets
 abbrev pub blocks_for : Managed → Span → Bool → Bool → ℕ → Option (List Span)
@@ -54,6 +61,7 @@ abbrev pub after_alloc : BuddyHeld → ℕ → Span → Bool → Bool → ℕ �
 after_alloc t id range topdown contig pages = record {
   memory = alloc_memory t.memory (spans_at t.spans id) range topdown contig pages;
   spans = slice_set t.spans id (alloc_blocks t.memory (spans_at t.spans id) range topdown contig pages);
+  listed = t.listed;
 }
 
 -- there are blocks, and the manager holds each of them
@@ -73,7 +81,11 @@ abbrev pub after_free : BuddyHeld → ℕ → BuddyHeld
 after_free t id = record {
   memory = free_memory t.memory (spans_at t.spans id);
   spans = slice_set t.spans id (free_blocks t.memory (spans_at t.spans id));
+  listed = t.listed;
 }
+
+abbrev pub after_blocks : BuddyHeld → BuddyHeld
+after_blocks t = record { memory = t.memory; spans = t.spans; listed = free_list (is_free_beside t.memory.held) t.memory.size }
 
 -- an ID, and some pages
 abbrev pub is_request : ℕ → ℕ → Bool
@@ -86,6 +98,8 @@ buddy_answer t (Free id) = if nat_lt id 65536 then free_answer t.memory (spans_a
 buddy_answer t (Insert _ _ _ _ _ _) = answer.Bad
 buddy_answer t (Reserve _ _ _) = answer.Bad
 buddy_answer t (Remove _) = answer.Bad
+buddy_answer t Holes = answer.Bad
+buddy_answer t Blocks = answer.Spans
 
 abbrev pub after_buddy : BuddyHeld → Operation → BuddyHeld
 after_buddy t (Alloc id pages first last topdown contig) =
@@ -94,3 +108,5 @@ after_buddy t (Free id) = if nat_lt id 65536 then after_free t id else t
 after_buddy t (Insert _ _ _ _ _ _) = t
 after_buddy t (Reserve _ _ _) = t
 after_buddy t (Remove _) = t
+after_buddy t Holes = t
+after_buddy t Blocks = after_blocks t

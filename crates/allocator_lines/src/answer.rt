@@ -8,7 +8,7 @@ use ttm_base::{NoMemory, Span};
 /// What came of an operation.
 #[derive(Clone, Copy, PartialEq, Eq)]
 pub enum Answer {
-    /// The ID got spans.
+    /// The ID got spans, or they were listed.
     Spans,
     /// There is no choice for it.
     Refused,
@@ -73,7 +73,7 @@ fn put_word(alloc: Global, out: &mut String, answer: Answer, spans: &[Span]) -> 
     }
 }
 
-/// Puts the line of an answer behind a text, where these spans are what the operation's ID holds.
+/// Puts the line of an answer behind a text, where these spans are what it lists.
 pub fn put_answer(
     alloc: Global,
     out: &mut String,

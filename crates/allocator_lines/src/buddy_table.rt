@@ -1,19 +1,21 @@
 ghost use Rattle.std.specs.Prelude.{◌≡◌, ℕ, ◌<◌, ◌≤◌, [], IfOk, OnOk, OnErr, replicate, unwrap_or};
 ghost use Rattle.buddy_manager.specs.Held.{all_held};
-ghost use Rattle.allocator_lines.specs.Tables.{new_blocks, spans_at, blocks_for, answer_for, with_choice, alloc_answer, alloc_memory, alloc_blocks, after_alloc, can_free, free_answer, free_memory, free_blocks, after_free, is_request};
+ghost use Rattle.allocator_lines.specs.Tables.{new_blocks, spans_at, blocks_for, answer_for, with_choice, alloc_answer, alloc_memory, alloc_blocks, after_alloc, can_free, free_answer, free_memory, free_blocks, after_free, after_blocks, is_request};
 
 use crate::{Answer, IDS, Operation, Table};
 use buddy_manager::{AllocFault, BuddyFlags, BuddyManager};
+use manager_walk::free_blocks;
 use std::alloc::Global;
 use std::marker::Model;
 use ttm_base::{NoMemory, Span, Spans};
 
-/// A buddy manager, and the blocks that each ID got there. It isn't proved that the manager still holds them: `free` looks, and
+/// A buddy manager, the blocks that each ID got there, and its free blocks as they were last listed. It isn't proved that the manager still holds them: `free` looks, and
 /// compares each block with those behind it.
 #[derive(Drop)]
 pub struct BuddyTable {
     manager: BuddyManager,
     spans: Vec<Spans>,
+    listed: Spans,
 }
 
 impl Model for BuddyTable {
@@ -22,7 +24,7 @@ impl Model for BuddyTable {
 
     ghost Value = { BuddyHeld };
 
-    ghost view = { λ t. record { memory = t.manager; spans = t.spans.items } };
+    ghost view = { λ t. record { memory = t.manager; spans = t.spans.items; listed = t.listed } };
 
     ghost invariant = { λ t. vec_len t.spans ≡ 65536 };
 }
@@ -125,7 +127,12 @@ impl BuddyTable {
     {
         let manager = BuddyManager::new(alloc, pages)?;
         let spans = no_spans(alloc, IDS)?;
-        Ok(BuddyTable { manager, spans })
+        let listed = Spans::new(alloc);
+        Ok(BuddyTable {
+            manager,
+            spans,
+            listed,
+        })
     }
 
     /// Takes the blocks of a request for an ID that holds none.
@@ -157,16 +164,26 @@ impl BuddyTable {
         let blocks = &mut self.spans[id as usize];
         free_from(&mut self.manager, blocks)
     }
+
+    /// Lists the free blocks.
+    pub fn list_blocks(&mut self) -> Result<(), NoMemory>
+        ensures after { OnOk result (self.new ≡ after_blocks self.old) }
+        ensures same { OnErr result (self.new ≡ self.old) }
+    {
+        let alloc = *self.spans.allocator();
+        self.listed = free_blocks(alloc, &mut self.manager)?;
+        Ok(())
+    }
 }
 
 impl Table for BuddyTable {
-    ghost use Rattle.allocator_lines.specs.Tables.{spans_at, buddy_answer, after_buddy};
+    ghost use Rattle.allocator_lines.specs.Tables.{blocks_at, buddy_answer, after_buddy};
 
     ghost answer = { buddy_answer };
 
     ghost after = { after_buddy };
 
-    ghost held = { λ table id. spans_at table.spans id };
+    ghost held = { blocks_at };
 
     fn run(&mut self, operation: &Operation) -> Result<Answer, NoMemory> {
         match *operation {
@@ -188,11 +205,18 @@ impl Table for BuddyTable {
                 self.alloc(id, range, BuddyFlags { topdown, contig }, pages)
             }
             Operation::Free { id } => Ok(if id < IDS { self.free(id) } else { Answer::Bad }),
+            Operation::Blocks => {
+                self.list_blocks()?;
+                Ok(Answer::Spans)
+            }
             _ => Ok(Answer::Bad),
         }
     }
 
-    fn spans(&self, id: u32) -> &[Span] {
+    fn spans(&self, id: Option<u32>) -> &[Span] {
+        let Some(id) = id else {
+            return self.listed.items();
+        };
         match self.spans.get(id as usize) {
             Some(spans) => spans.items(),
             None => &[],

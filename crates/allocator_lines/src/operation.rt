@@ -1,6 +1,6 @@
 ghost use Rattle.std.specs.Prelude.{◌≡◌, IfOk, codes, Some, None};
 ghost use Rattle.journal_model.specs.Reading.{number_in};
-ghost use Rattle.allocator_lines.specs.Lines.{id_in, pages_in, flag_of, mode_of, alloc_with, alloc_of, alloc_line, insert_with, insert_of, insert_line, reserve_some, reserve_with, reserve_of, reserve_line, free_line, remove_line, operation_by, operation_of_words, operation_of, kind_of, id_of, head_by, head_of_words, head_of, size_of_head, operations_of, is_end, load_of_lines, load_of};
+ghost use Rattle.allocator_lines.specs.Lines.{id_in, pages_in, flag_of, mode_of, alloc_with, alloc_of, alloc_line, insert_with, insert_of, insert_line, reserve_some, reserve_with, reserve_of, reserve_line, free_line, remove_line, listing_line, operation_by, operation_of_words, operation_of, kind_of, id_of, head_by, head_of_words, head_of, size_of_head, operations_of, is_end, load_of_lines, load_of};
 
 use journal_model::Bytes;
 use script_words::cut::cut;
@@ -15,7 +15,7 @@ pub enum Head {
     Ranges(u32),
 }
 
-/// One operation, for an ID below 65,536. Sizes and places are in pages.
+/// One operation; all but the last two are for an ID below 65,536. Sizes and places are in pages.
 #[derive(Clone, Copy)]
 pub enum Operation {
     Alloc {
@@ -45,6 +45,10 @@ pub enum Operation {
     Remove {
         id: u32,
     },
+    /// Lists the holes of a range manager.
+    Holes,
+    /// Lists the free blocks of a buddy manager.
+    Blocks,
 }
 
 /// The kinds of operations.
@@ -55,6 +59,7 @@ pub enum Kind {
     Insert,
     Reserve,
     Remove,
+    List,
 }
 
 /// A list up to its end, or up to the first line that can't be read.
@@ -76,10 +81,12 @@ impl Operation {
             Operation::Insert { .. } => Kind::Insert,
             Operation::Reserve { .. } => Kind::Reserve,
             Operation::Remove { .. } => Kind::Remove,
+            Operation::Holes | Operation::Blocks => Kind::List,
         }
     }
 
-    pub fn id(&self) -> u32
+    /// The ID that it is for, if it is for one.
+    pub fn id(&self) -> Option<u32>
         ensures { result ≡ id_of self.now }
     {
         match self {
@@ -87,7 +94,8 @@ impl Operation {
             | Operation::Free { id }
             | Operation::Insert { id, .. }
             | Operation::Reserve { id, .. }
-            | Operation::Remove { id } => *id,
+            | Operation::Remove { id } => Some(*id),
+            Operation::Holes | Operation::Blocks => None,
         }
     }
 }
@@ -299,6 +307,15 @@ fn remove_line(words: &[Bytes]) -> Option<Operation>
     }
 }
 
+fn listing_line(operation: Operation, words: &[Bytes]) -> Option<Operation>
+    ensures { result ≡ listing_line operation words.now }
+{
+    match words {
+        [_] => Some(operation),
+        _ => None,
+    }
+}
+
 fn operation_by(size: u32, word: &[u8], words: &[Bytes]) -> Option<Operation>
     ensures { result ≡ operation_by size word.now words.now }
 {
@@ -312,6 +329,10 @@ fn operation_by(size: u32, word: &[u8], words: &[Bytes]) -> Option<Operation>
         reserve_line(size, words)
     } else if is(word, b"remove") {
         remove_line(words)
+    } else if is(word, b"holes") {
+        listing_line(Operation::Holes, words)
+    } else if is(word, b"blocks") {
+        listing_line(Operation::Blocks, words)
     } else {
         None
     }

@@ -1,19 +1,21 @@
 ghost use Rattle.std.specs.Prelude.{◌≡◌, ℕ, ◌<◌, ◌≤◌, [], None, IfOk, OnOk, OnErr, replicate};
-ghost use Rattle.allocator_lines.specs.RangeTables.{new_ranges, span_at, listed_span, pages_for, chosen_answer, chosen_memory, insert_answer, insert_memory, insert_span, after_insert, all_open, reserved, reserve_answer, reserve_memory, reserve_span, after_reserve, begins, remove_answer, remove_memory, remove_span, after_remove, is_insertion};
+ghost use Rattle.allocator_lines.specs.RangeTables.{new_ranges, span_at, listed_span, pages_for, chosen_answer, chosen_memory, insert_answer, insert_memory, insert_span, after_insert, all_open, reserved, reserve_answer, reserve_memory, reserve_span, after_reserve, begins, remove_answer, remove_memory, remove_span, after_remove, after_holes, is_insertion};
 
 use crate::{Answer, IDS, Operation, Table};
+use manager_walk::holes;
 use range_manager::{InsertFault, RangeManager};
 use std::alloc::Global;
 use std::marker::Model;
 use std::slice;
-use ttm_base::{Mode, NoMemory, Span};
+use ttm_base::{Mode, NoMemory, Span, Spans};
 
-/// A range manager, and the span that each ID got there. It isn't proved that the manager still holds them: `remove` looks,
+/// A range manager, the span that each ID got there, and its holes as they were last listed. It isn't proved that the manager still holds them: `remove` looks,
 /// which is a read and a comparison.
 #[derive(Drop)]
 pub struct RangeTable {
     manager: RangeManager,
     spans: Vec<Option<Span>>,
+    listed: Spans,
 }
 
 impl Model for RangeTable {
@@ -22,7 +24,7 @@ impl Model for RangeTable {
 
     ghost Value = { RangesHeld };
 
-    ghost view = { λ t. record { memory = t.manager; spans = t.spans.items } };
+    ghost view = { λ t. record { memory = t.manager; spans = t.spans.items; listed = t.listed } };
 
     ghost invariant = { λ t. vec_len t.spans ≡ 65536 };
 }
@@ -168,7 +170,12 @@ impl RangeTable {
     {
         let manager = RangeManager::new(alloc, pages)?;
         let spans = no_spans(alloc, IDS)?;
-        Ok(RangeTable { manager, spans })
+        let listed = Spans::new(alloc);
+        Ok(RangeTable {
+            manager,
+            spans,
+            listed,
+        })
     }
 
     /// Takes the pages of a request for an ID that holds none.
@@ -213,16 +220,26 @@ impl RangeTable {
         let span = &mut self.spans[id as usize];
         remove_from(&mut self.manager, span)
     }
+
+    /// Lists the holes.
+    pub fn list_holes(&mut self) -> Result<(), NoMemory>
+        ensures after { OnOk result (self.new ≡ after_holes self.old) }
+        ensures same { OnErr result (self.new ≡ self.old) }
+    {
+        let alloc = *self.spans.allocator();
+        self.listed = holes(alloc, &self.manager)?;
+        Ok(())
+    }
 }
 
 impl Table for RangeTable {
-    ghost use Rattle.allocator_lines.specs.RangeTables.{new_ranges, span_at, listed_span, range_answer, after_range};
+    ghost use Rattle.allocator_lines.specs.RangeTables.{ranges_at, range_answer, after_range};
 
     ghost answer = { range_answer };
 
     ghost after = { after_range };
 
-    ghost held = { λ table id. listed_span (span_at table.spans id) };
+    ghost held = { ranges_at };
 
     fn run(&mut self, operation: &Operation) -> Result<Answer, NoMemory> {
         match *operation {
@@ -254,11 +271,18 @@ impl Table for RangeTable {
             } else {
                 Answer::Bad
             }),
+            Operation::Holes => {
+                self.list_holes()?;
+                Ok(Answer::Spans)
+            }
             _ => Ok(Answer::Bad),
         }
     }
 
-    fn spans(&self, id: u32) -> &[Span] {
+    fn spans(&self, id: Option<u32>) -> &[Span] {
+        let Some(id) = id else {
+            return self.listed.items();
+        };
         match self.spans.get(id as usize) {
             Some(Some(span)) => slice::from_ref(span),
             _ => &[],

@@ -1,4 +1,4 @@
-ghost use Rattle.std.specs.Prelude.{◌≡◌, ℕ, List, IfOk, OnOk, OnErr};
+ghost use Rattle.std.specs.Prelude.{◌≡◌, ℕ, List, Option, IfOk, OnOk, OnErr};
 ghost use Rattle.ttm_base.specs.declared.Span.{Span};
 ghost use Rattle.allocator_lines.specs.declared.answer.Answer.{Answer};
 ghost use Rattle.allocator_lines.specs.declared.operation.Operation.{Operation};
@@ -14,8 +14,8 @@ pub trait Table: Drop {
     /// The table after an operation.
     ghost after: { Self → Operation → Self };
 
-    /// What an ID holds.
-    ghost held: { Self → ℕ → List Span };
+    /// What an ID holds, or, without one, what was listed last.
+    ghost held: { Self → Option ℕ → List Span };
 
     /// Does one operation. An operation of another manager is a bad one.
     fn run(&mut self, operation: &Operation) -> Result<Answer, NoMemory>
@@ -23,7 +23,7 @@ pub trait Table: Drop {
         ensures after { OnOk result (self.new ≡ after self.old operation.now) }
         ensures same { OnErr result (self.new ≡ self.old) };
 
-    /// What an ID holds.
-    fn spans(&self, id: u32) -> &[Span]
+    /// What an ID holds, or, without one, what was listed last.
+    fn spans(&self, id: Option<u32>) -> &[Span]
         ensures { result.now ≡ held self.now id };
 }

@@ -6,8 +6,8 @@ use Rattle.allocator_lines.specs.declared.operation.Load.{Load}
 use Rattle.allocator_lines.specs.declared.operation.Operation.{Operation}
 use Rattle.allocator_lines.specs.Answers.{first_bad, answer_lines}
 use Rattle.allocator_lines.specs.Lines.{load_of}
-use Rattle.allocator_lines.specs.RangeTables.{new_ranges, span_at, listed_span, range_answer, after_range}
-use Rattle.allocator_lines.specs.Tables.{new_blocks, spans_at, buddy_answer, after_buddy}
+use Rattle.allocator_lines.specs.RangeTables.{new_ranges, ranges_at, range_answer, after_range}
+use Rattle.allocator_lines.specs.Tables.{new_blocks, blocks_at, buddy_answer, after_buddy}
 use Rattle.allocator_replay.specs.declared.Fault.{Fault}
 use Rattle.allocator_replay.specs.declared.Fault.TheVariants as fault
 
@@ -35,8 +35,8 @@ bad_for (Ranges pages) operations = first_bad range_answer after_range (new_rang
 
 -- the answers to a list
 abbrev pub lines_for : Head → List Operation → List ℕ
-lines_for (Buddy pages) operations = answer_lines buddy_answer after_buddy (λ t id. spans_at t.spans id) (new_blocks pages) operations
-lines_for (Ranges pages) operations = answer_lines range_answer after_range (λ t id. listed_span (span_at t.spans id)) (new_ranges pages) operations
+lines_for (Buddy pages) operations = answer_lines buddy_answer after_buddy blocks_at (new_blocks pages) operations
+lines_for (Ranges pages) operations = answer_lines range_answer after_range ranges_at (new_ranges pages) operations
 
 abbrev pub ending_of_load : Load → Result ⊤ Fault
 ending_of_load load = ending (bad_for load.head load.operations) load

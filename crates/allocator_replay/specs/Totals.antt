@@ -15,6 +15,7 @@ total_of kind.Free t = t.free
 total_of kind.Insert t = t.insert
 total_of kind.Reserve t = t.reserve
 total_of kind.Remove t = t.remove
+total_of kind.List t = t.list
 
 -- the kind, the calls, and the nanoseconds of one, where there were calls
 abbrev pub total_line : List ℕ → Total → List ℕ
@@ -22,7 +23,12 @@ total_line name t =
     if t.calls == 0 then []
     else name ++ 32 ∷ decimal t.calls ++ 32 ∷ decimal (min (t.nanos / t.calls) (2 ^ 64 - 1)) ++ 10 ∷ []
 
-abbrev pub times_lines : Times → List ℕ
-times_lines t =
+-- the kinds that take pages or give them back
+abbrev pub call_lines : Times → List ℕ
+call_lines t =
     total_line (codes "alloc") t.alloc ++ total_line (codes "free") t.free ++ total_line (codes "insert") t.insert
     ++ total_line (codes "reserve") t.reserve ++ total_line (codes "remove") t.remove
+
+-- all kinds
+abbrev pub times_lines : Times → List ℕ
+times_lines t = call_lines t ++ total_line (codes "list") t.list

@@ -1,18 +1,22 @@
 //! Does a list of operations on a buddy manager or a range manager, and prints the answers, or how long each kind took.
 //!
 //! The list is read from standard input. Its first line is `buddy SIZE` or `mm SIZE`, in pages. Then each line is an
-//! operation for an ID below 65,536:
+//! operation, most of them for an ID below 65,536:
 //!
 //!     alloc ID PAGES FIRST LAST topdown|- contig|-       (buddy)
 //!     free ID
 //!     insert ID PAGES ALIGN FIRST LAST best|low|high     (mm)
 //!     reserve ID START END
 //!     remove ID
+//!     holes                                              (mm)
+//!     blocks                                             (buddy)
 //!
-//! Each operation is answered by a line: its spans (`8-10,10-11`), `none` where there is no choice for it, or `ok`. The first
-//! line that can't be read or done ends the program with `bad line N` and status 3. With the argument `--time` there is in
-//! place of the answers a line `KIND CALLS NANOSECONDS_PER_CALL` for each kind that occurs. The other statuses are 2 for
-//! other words, 4 and 5 where reading or writing fails, 6 for want of memory, and 7 where there is no clock.
+//! Each operation is answered by a line: its spans (`8-10,10-11`), `none` where there is no choice for it, or `ok`. The last two
+//! list what is free: the holes of a range manager, and the free blocks of a buddy manager, each as large as it can be, in order
+//! of address (`-` where there is none). The first line that can't be read or done ends the program with `bad line N` and
+//! status 3. With the argument `--time` there is in place of the answers a line `KIND CALLS NANOSECONDS_PER_CALL` for each
+//! kind that occurs. The other statuses are 2 for other words, 4 and 5 where reading or writing fails, 6 for want of memory,
+//! and 7 where there is no clock.
 #![tactic(auto)]
 
 ghost use Rattle.std.specs.Prelude.{◌≡◌, ◌≢◌, ◌++◌, Err, string_bytes};

@@ -1,7 +1,7 @@
 //! How long the calls of each kind take.
 ghost use Rattle.std.specs.Prelude.{◌≡◌, ◌≢◌, ◌++◌, OnOk, string_bytes};
 ghost use Rattle.allocator_lines.specs.declared.operation.Kind.{Kind};
-ghost use Rattle.allocator_replay.specs.Totals.{added, total_of, total_line, times_lines};
+ghost use Rattle.allocator_replay.specs.Totals.{added, total_of, total_line, call_lines, times_lines};
 
 use crate::{Fault, line_of};
 use allocator_lines::{Answer, Kind, Operation, Table};
@@ -50,6 +50,7 @@ pub struct Times {
     insert: Total,
     reserve: Total,
     remove: Total,
+    list: Total,
 }
 
 impl Times {
@@ -60,6 +61,7 @@ impl Times {
             insert: Total::NONE,
             reserve: Total::NONE,
             remove: Total::NONE,
+            list: Total::NONE,
         }
     }
 
@@ -73,18 +75,27 @@ impl Times {
             Kind::Insert => self.insert.add(calls, nanos),
             Kind::Reserve => self.reserve.add(calls, nanos),
             Kind::Remove => self.remove.add(calls, nanos),
+            Kind::List => self.list.add(calls, nanos),
         }
     }
 
-    /// Puts a line for each kind that occurred behind a text.
-    pub fn put(&self, alloc: Global, out: &mut String) -> Result<(), NoMemory>
-        ensures { OnOk result (string_bytes out.new ≡ string_bytes out.old ++ times_lines self.now) }
+    /// Puts a line for each kind that occurred behind a text, but for lists.
+    fn put_calls(&self, alloc: Global, out: &mut String) -> Result<(), NoMemory>
+        ensures { OnOk result (string_bytes out.new ≡ string_bytes out.old ++ call_lines self.now) }
     {
         self.alloc.put(alloc, "alloc", out)?;
         self.free.put(alloc, "free", out)?;
         self.insert.put(alloc, "insert", out)?;
         self.reserve.put(alloc, "reserve", out)?;
         self.remove.put(alloc, "remove", out)
+    }
+
+    /// Puts a line for each kind that occurred behind a text.
+    pub fn put(&self, alloc: Global, out: &mut String) -> Result<(), NoMemory>
+        ensures { OnOk result (string_bytes out.new ≡ string_bytes out.old ++ times_lines self.now) }
+    {
+        self.put_calls(alloc, out)?;
+        self.list.put(alloc, "list", out)
     }
 }
 

@@ -1,1 +1,3 @@
+pub mod BlockLaws
+pub mod HoleLaws
 pub mod OpenLaws

@@ -6,7 +6,7 @@ use Rattle.std.proofs.lemmas.Bool.{true≢false, not-true, and_parts, cases_lt, 
 use Rattle.ttm_base.specs.declared.Span.{Span}
 use Rattle.ttm_base.specs.declared.Mode.TheVariants.{Low}
 use Rattle.ttm_base.specs.Holes.{has_page, with_page, holes, is_free_beside}
-use Rattle.ttm_base.specs.RangeChoice.{Fit, fit_in, range_choice}
+use Rattle.ttm_base.specs.RangeChoice.{fit_in, range_choice}
 use Rattle.range_manager.proofs.SpanLaws.{IsAmong, has_parts, has_from, has_before, has_past, among_has, found_among, found_none}
 use Rattle.range_manager.proofs.FitLaws.{fits, taken_of}
 use Rattle.hole_tree.specs.HoleSet.{starts_at}

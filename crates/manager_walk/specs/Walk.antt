@@ -1,5 +1,5 @@
 -- Held spans and holes by where they begin, as a caller walks over them.
-use Rattle.std.specs.Prelude.{◌≡◌, ℕ, ◌<◌, ◌≤◌, ◌&&◌, Bool, true, false, List, Option, Some, None, IsSome, nat_lt}
+use Rattle.std.specs.Prelude.{◌≡◌, ℕ, ◌<◌, ◌≤◌, ◌&&◌, Bool, true, false, List, Some, None, IsSome, nat_lt}
 use Rattle.std.specs.List.{find}
 use Rattle.ttm_base.specs.declared.Span.{Span}
 use Rattle.ttm_base.specs.Holes.{has_page, is_free_beside}

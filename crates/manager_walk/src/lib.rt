@@ -1,6 +1,10 @@
-//! Walks over what a range manager holds, and over what is free, in order of address.
+//! Walks over what a manager holds and what is free there, in order of address.
 #![tactic(auto)]
 
+mod blocks;
+mod listing;
 mod ranges;
 
+pub use blocks::free_blocks;
+pub use listing::holes;
 pub use ranges::{is_open, next_held, next_hole};

@@ -83,7 +83,7 @@ fn is_read(alloc: Global, text: &str, want: Option<(usize, bool)>) -> bool {
 
 /// Texts, each with how many operations come before the first line that can't be read, and whether there is no such line;
 /// None where the first line can't be read.
-const TEXTS: [(&str, Option<(usize, bool)>); 11] = [
+const TEXTS: [(&str, Option<(usize, bool)>); 12] = [
     ("mm 9", Some((0, true))),
     ("mm 9\nremove 65535\nremove 65536\n", Some((1, false))),
     (
@@ -99,6 +99,7 @@ const TEXTS: [(&str, Option<(usize, bool)>); 11] = [
         Some((1, false)),
     ),
     ("mm 9\nreserve 0 8 9\nreserve 0 8 8\n", Some((1, false))),
+    ("mm 9\nholes\nblocks\nholes 0\n", Some((2, false))),
     (
         "buddy 9\nalloc 0 1 0 9 - contig\nalloc 0 0 0 9 - -\n",
         Some((1, false)),
@@ -123,6 +124,6 @@ fn lines_that_break_a_condition(rt: HostRuntime) {
 fn operations_tell_kind_and_id(rt: HostRuntime) {
     let operation = Operation::Remove { id: 7 };
     assert!(rt; operation.kind() == Kind::Remove);
-    assert!(rt; operation.id() == 7);
+    assert!(rt; operation.id() == Some(7));
     assert!(rt; Answer::Done != Answer::Bad);
 }

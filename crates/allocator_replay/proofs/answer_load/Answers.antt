@@ -1,7 +1,7 @@
 use Rattle.std.proofs.Common.{refl}
 use Rattle.allocator_lines.specs.Answers.{first_bad, answer_lines}
-use Rattle.allocator_lines.specs.RangeTables.{span_at, listed_span, range_answer, after_range}
-use Rattle.allocator_lines.specs.Tables.{spans_at, buddy_answer, after_buddy}
+use Rattle.allocator_lines.specs.RangeTables.{ranges_at, range_answer, after_range}
+use Rattle.allocator_lines.specs.Tables.{blocks_at, buddy_answer, after_buddy}
 use Rattle.allocator_replay.proofs.AnswerLaws.{ends, puts}
 use Rattle.allocator_replay.proofs.answer_load.Goals as goal
 
@@ -11,7 +11,7 @@ returns-in_ok-new-in-Buddy-clause-ending c =
 
 pub returns-in_ok-new-in-Buddy-clause-text : goal.returns-in_ok-new-in-Buddy-clause-text
 returns-in_ok-new-in-Buddy-clause-text c =
-    puts (λ t. answer_lines buddy_answer after_buddy (λ t id. spans_at t.spans id) t c.args.load.now.operations) c.args.load.now _ _ _ _ _ _ c.in-Buddy.is c.in_ok-new-in-Buddy.ensures refl c.answer.ensures.text
+    puts (λ t. answer_lines buddy_answer after_buddy blocks_at t c.args.load.now.operations) c.args.load.now _ _ _ _ _ _ c.in-Buddy.is c.in_ok-new-in-Buddy.ensures refl c.answer.ensures.text
 
 pub returns-in_ok-new-in-Ranges-clause-ending : goal.returns-in_ok-new-in-Ranges-clause-ending
 returns-in_ok-new-in-Ranges-clause-ending c =
@@ -19,4 +19,4 @@ returns-in_ok-new-in-Ranges-clause-ending c =
 
 pub returns-in_ok-new-in-Ranges-clause-text : goal.returns-in_ok-new-in-Ranges-clause-text
 returns-in_ok-new-in-Ranges-clause-text c =
-    puts (λ t. answer_lines range_answer after_range (λ t id. listed_span (span_at t.spans id)) t c.args.load.now.operations) c.args.load.now _ _ _ _ _ _ c.in-Ranges.is c.in_ok-new-in-Ranges.ensures refl c.answer-in-Ranges.ensures.text
+    puts (λ t. answer_lines range_answer after_range ranges_at t c.args.load.now.operations) c.args.load.now _ _ _ _ _ _ c.in-Ranges.is c.in_ok-new-in-Ranges.ensures refl c.answer-in-Ranges.ensures.text

@@ -1,4 +1,4 @@
-use Rattle.std.proofs.Common.{◌<◌, sym, subst, arith}
+use Rattle.std.proofs.Common.{◌<◌, sym, subst}
 use Rattle.manager_walk.proofs.OpenLaws.{next_at, starts}
 use Rattle.manager_walk.proofs.ranges.next_held.Goals as goal
 

@@ -1,0 +1,109 @@
+//! The free blocks of a buddy manager (drm_buddy_print).
+ghost use Rattle.std.specs.Prelude.{◌≡◌, ◌+◌, ◌^◌, ◌<◌, ◌≤◌, ◌++◌, [], IfOk, OnOk, flat_map};
+ghost use Rattle.ttm_base.specs.Holes.{holes, is_free_beside};
+ghost use Rattle.manager_walk.specs.Walk.{is_open};
+ghost use Rattle.manager_walk.specs.Cutting.{grown, blocks_of, free_list};
+
+use crate::listing::add_page;
+use buddy_manager::{AllocFault, BuddyFlags, BuddyManager};
+use std::alloc::Global;
+use ttm_base::{NoMemory, Span, Spans};
+
+/// One block, the lowest of those from the smallest.
+const ALONE: BuddyFlags = BuddyFlags {
+    topdown: false,
+    contig: true,
+};
+
+/// A page is free. The list is for the answer of the search, and is empty behind it.
+fn is_open(manager: &mut BuddyManager, page: u32, room: &mut Spans) -> Result<bool, NoMemory>
+    requires page { page + 1 < 2 ^ 32 }
+    requires empty { room.old ≡ [] }
+    ensures value { IfOk result (λ answer. answer ≡ is_open manager.old.held manager.old.size page) }
+    ensures same { manager.new ≡ manager.old }
+    ensures left { room.new ≡ [] }
+{
+    match manager.choice(1, page, page + 1, ALONE, room) {
+        Ok(()) => {
+            room.clear();
+            Ok(true)
+        }
+        Err(AllocFault::NoBlocks) => Ok(false),
+        Err(AllocFault::NoMemory) => Err(NoMemory),
+    }
+}
+
+/// The holes of a manager.
+fn holes(alloc: Global, manager: &mut BuddyManager) -> Result<Spans, NoMemory>
+    ensures holes { IfOk result (λ found. found ≡ holes (is_free_beside manager.old.held) manager.old.size) }
+    ensures same { manager.new ≡ manager.old }
+{
+    let (free, used) = manager.lengths();
+    let size = free.checked_add(used).ok_or(NoMemory)?;
+    let mut found = Spans::new(alloc);
+    let mut room = Spans::new(alloc);
+    for page in 0..size {
+        if is_open(manager, page, &mut room)? {
+            add_page(&mut found, page)?;
+        }
+    }
+    Ok(found)
+}
+
+/// The size of the largest block from a page on that ends by another page. It is doubled so often at most.
+fn grown(times: u32, from: u64, to: u64) -> u64
+    requires some { from < to }
+    requires most { to < 2 ^ 32 }
+    ensures size { result ≡ grown times from to 1 }
+    ensures fits { from + result ≤ to }
+{
+    let mut size = 1;
+    for _time in 0..times {
+        if from % (2 * size) != 0 || from + 2 * size > to {
+            return size;
+        }
+        size = 2 * size;
+    }
+    size
+}
+
+/// The largest block from a page on that ends by another page.
+fn block_from(start: u32, end: u32) -> Span
+    requires { start < end }
+    ensures { result ≡ record { start = start; end = start + grown 32 start end 1 } }
+{
+    let size = grown(32, start as u64, end as u64);
+    Span {
+        start,
+        end: start + size as u32,
+    }
+}
+
+/// Puts a hole's blocks behind others.
+fn put_blocks(blocks: &mut Spans, hole: Span) -> Result<(), NoMemory>
+    ensures { OnOk result (blocks.new ≡ blocks.old ++ blocks_of hole) }
+{
+    let mut start = hole.start;
+    for _page in hole.start..hole.end {
+        if start >= hole.end {
+            return Ok(());
+        }
+        let block = block_from(start, hole.end);
+        blocks.push(block)?;
+        start = block.end;
+    }
+    Ok(())
+}
+
+/// The free blocks of a manager, each as large as it can be. It costs a search a page.
+pub fn free_blocks(alloc: Global, manager: &mut BuddyManager) -> Result<Spans, NoMemory>
+    ensures blocks { IfOk result (λ blocks. blocks ≡ free_list (is_free_beside manager.old.held) manager.old.size) }
+    ensures same { manager.new ≡ manager.old }
+{
+    let holes = holes(alloc, manager)?;
+    let mut blocks = Spans::new(alloc);
+    for hole in holes.items() {
+        put_blocks(&mut blocks, *hole)?;
+    }
+    Ok(blocks)
+}
