@@ -22,9 +22,9 @@ use Rattle.journal_model.specs.Stores.{is_there, within, zeros, stores_after, sh
 use Rattle.journal_model.specs.Complete.{is_over, is_complete}
 use Rattle.journal_model.specs.Legal.{World, first_state, IsLegal, IsLegalNext, state_of, stores_of, world_of, world_after, next_entry, shown_step}
 use Rattle.journal_model.proofs.JournalLaws.{world_of-append, IsLegal-append}
-use Rattle.law_journal.proofs.Counted.{over_law}
-use Rattle.law_journal.proofs.Shown.{LegalStep, legal_step}
-use Rattle.law_journal.proofs.Turns.{next_is_legal}
+use Rattle.law_state.proofs.Counted.{over_law}
+use Rattle.law_state.proofs.Shown.{LegalStep, legal_step}
+use Rattle.law_state.proofs.Turns.{next_is_legal}
 use Rattle.law_state.proofs.Rules.{Rules, rules_of, at_work_rules}
 use Rattle.law_state.proofs.GoodStates.{good_law}
 use Rattle.law_state.proofs.Counters.{below_law}

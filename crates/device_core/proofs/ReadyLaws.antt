@@ -39,7 +39,7 @@ use Rattle.journal_model.specs.Search.{Quest, quest, is_caught, through_tt, step
 use Rattle.journal_model.specs.PageSteps.{next_job}
 use Rattle.journal_model.specs.Next.{next, step_of_task, step_of_act, step_of_start}
 use Rattle.journal_model.specs.Stores.{Stores, showing}
-use Rattle.law_journal.proofs.Courses.{is_of_engine, is_of_reaper, of_engine, of_reaper, thread_is_there}
+use Rattle.law_state.proofs.JournalCourses.{is_of_engine, is_of_reaper, of_engine, of_reaper, thread_is_there}
 use Rattle.law_state.specs.GoodState.{last_number, GoodState}
 use Rattle.law_state.specs.Counters.{Below}
 use Rattle.law_state.specs.Courses.{GoodCourses}

@@ -4,7 +4,7 @@ ghost use Rattle.journal_model.specs.Complete.{is_complete};
 ghost use Rattle.journal_model.specs.Legal.{state_of};
 ghost use Rattle.journal_model.specs.DeadEnd.{can_step};
 ghost use Rattle.journal_model.specs.Scheduled.{own_order};
-ghost use Rattle.law_progress.specs.Sound.{SomeGoesOn};
+ghost use Rattle.law_sound.specs.Sound.{SomeGoesOn};
 ghost use Rattle.device_core.specs.Kept.{entry_of, with_entry, turn_of, after_turn};
 
 use crate::enact::enact;

@@ -10,8 +10,8 @@ use Rattle.journal_model.specs.State.{buffer, grip, course}
 use Rattle.journal_model.specs.Ready.{has_some_target}
 use Rattle.journal_model.specs.ScriptRules.{is_script}
 use Rattle.journal_model.specs.Legal.{World, first_world, world_after, world_along, state_of, IsLegalFrom, IsLegal}
-use Rattle.law_journal.proofs.Shown.{legal_step}
-use Rattle.lemma_end_pages.proofs.Victims.{Caught}
+use Rattle.law_state.proofs.Shown.{legal_step}
+use Rattle.lemma_end_searches.proofs.Victims.{Caught}
 use Rattle.law_end.proofs.Lasting.{Steady, steady_keeps, steady_first}
 use Rattle.law_answers.specs.AtWork.{IsHeld, AreFew}
 

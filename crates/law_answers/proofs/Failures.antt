@@ -40,7 +40,7 @@ use Rattle.journal_model.specs.ApplyJobs.{ops_of}
 use Rattle.journal_model.specs.ApplyPages.{with_spans, with_loc, without_frames, bound, unbound, search_over}
 use Rattle.journal_model.specs.ApplyMoves.{moved}
 use Rattle.journal_model.specs.ApplyVictims.{failed_if, with_fail, with_victim, gone_dry, course_after_dry}
-use Rattle.law_progress.specs.Sound.{Carried, Fits, command_of, locks, system_tt, system_vram, system_both, tt_system, tt_tt, tt_vram, vram_vram, vram_tt, vram_system, vram_both}
+use Rattle.law_sound.specs.Sound.{Carried, Fits, command_of, locks, system_tt, system_vram, system_both, tt_system, tt_tt, tt_vram, vram_vram, vram_tt, vram_system, vram_both}
 use Rattle.law_sound.proofs.Turns.{Turn, Works, OnVictim, OnBuffer, OnCarried, start, lock, victim_unbind, victim_empty, victim_give, victim_skip, victim_move, victim_fill, victim_search, give, act, fill_in_place, ask, bind, fill_to_bind, hop_up, unbind, move_up, move_across, move_down, fill_to_move, hop_down}
 use Rattle.law_sound.proofs.Gifts.{Gives, Sought, Filled, answers, makes, shifts, draws, reserves, backs, seeks, binds, unbinds, moves, fills, lets_go, empties, depopulates, untakes, skips, arms, frees, swaps, finds, evicts, dries, fresh, again, back, evicts_for_swap, nothing}
 use Rattle.law_sound.proofs.Bufs.{same_or_other, other_is, has_found, found_passes, has_pushed, has_without, without_gone, last_caught, none_missing, clash}
@@ -48,13 +48,13 @@ use Rattle.law_sound.proofs.Steadies.{next_course, locking_command}
 use Rattle.law_sound.proofs.Owners.{none_or}
 use Rattle.law_sound.proofs.Grips.{live_set, victim_free, swap_free}
 use Rattle.law_sound.proofs.OwnedKeeps.{bare, unlocked}
-use Rattle.lemma_end_measure_parts.proofs.Frame.{untouched}
+use Rattle.lemma_end_measure.proofs.Frame.{untouched}
 use Rattle.lemma_end_measure.proofs.Giving.{changed_here}
 use Rattle.lemma_end_measure.proofs.Border.{Known}
 use Rattle.lemma_end_measure.proofs.Parts.{after}
-use Rattle.lemma_end_carrying.proofs.Rows.{meets_alike, some_is}
-use Rattle.lemma_end_carrying.proofs.Carries.{live_is}
-use Rattle.lemma_end_carrying.proofs.Takes.{taken, taken_body}
+use Rattle.lemma_end_ways.proofs.Rows.{meets_alike, some_is}
+use Rattle.lemma_end_ways.proofs.Carries.{live_is}
+use Rattle.lemma_end_ways.proofs.Takes.{taken, taken_body}
 use Rattle.lemma_end_ways.proofs.OnWays.{Carrying, SameLock, lock_same, works_alike, search_lock, fail_lock, dry_lock}
 use Rattle.lemma_end_ways.proofs.Keeps.{targets_changed, targets_used}
 use Rattle.law_answers.proofs.Frames.{AreFull}

@@ -21,15 +21,15 @@ use Rattle.journal_model.specs.ScriptRules.{is_script}
 use Rattle.journal_model.specs.Next.{next}
 use Rattle.journal_model.specs.Apply.{applied}
 use Rattle.journal_model.specs.Legal.{World, first_state, first_world, world_after, world_along, state_of, IsLegalFrom, IsLegal}
-use Rattle.law_journal.proofs.Shown.{legal_step}
-use Rattle.law_journal.proofs.Courses.{is_of_engine, is_of_reaper, of_engine, of_reaper}
+use Rattle.law_state.proofs.Shown.{legal_step}
+use Rattle.law_state.proofs.JournalCourses.{is_of_engine, is_of_reaper, of_engine, of_reaper}
 use Rattle.law_state.proofs.Lists.{get_within}
 use Rattle.law_state.proofs.Rules.{rules_of, declared_pages}
-use Rattle.law_progress.specs.Sound.{command_of}
+use Rattle.law_sound.specs.Sound.{command_of}
 use Rattle.law_sound.proofs.Along.{Stepped, OfWorker, packet, done, reap, of_worker, stepped_of, first_course}
 use Rattle.law_sound.proofs.Bufs.{none_missing, clash}
 use Rattle.law_sound.proofs.Steadies.{own_course}
-use Rattle.lemma_end_measure_parts.proofs.Locks.{few_threads}
+use Rattle.lemma_end_measure.proofs.Locks.{few_threads}
 use Rattle.lemma_end_measure.proofs.Border.{Known, one, others_same}
 use Rattle.lemma_end_measure.proofs.Parts.{after}
 use Rattle.lemma_end_searches.proofs.Ways.{way_of_last}

@@ -38,13 +38,13 @@ use Rattle.journal_model.specs.ApplyMoves.{table_left, moved}
 use Rattle.journal_model.specs.ApplyVictims.{leaves_tt}
 use Rattle.journal_model.specs.Legal.{first_state}
 use Rattle.law_state.proofs.Lists.{set_at}
-use Rattle.law_progress.specs.Sound.{OnItsWay, in_vram, to_tt, out_of_vram, in_tt, in_system}
+use Rattle.law_sound.specs.Sound.{OnItsWay, in_vram, to_tt, out_of_vram, in_tt, in_system}
 use Rattle.law_sound.proofs.Turns.{Turn, bind, victim_move, move_up, move_across, move_down, victim_empty, act}
 use Rattle.law_sound.proofs.Gifts.{Gives, Sought, Filled, makes, seeks, binds, unbinds, moves, fills, empties, depopulates, untakes, arms, frees, swaps, finds, evicts, dries, fresh, again, back, evicts_for_swap, nothing}
 use Rattle.law_sound.proofs.Bufs.{same_self, none_found, clash}
 use Rattle.lemma_end_measure.proofs.Parts.{after}
-use Rattle.lemma_end_carrying.proofs.Takes.{taken, taken_body}
-use Rattle.lemma_end_pages.proofs.Victims.{Caught, found_last}
+use Rattle.lemma_end_ways.proofs.Takes.{taken, taken_body}
+use Rattle.lemma_end_searches.proofs.Victims.{Caught, found_last}
 use Rattle.lemma_end_ways.proofs.Spanless.{first_live}
 use Rattle.lemma_end_ways.proofs.Targets.{LastWay}
 

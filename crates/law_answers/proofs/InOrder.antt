@@ -15,8 +15,8 @@ use Rattle.journal_model.specs.Complete.{is_answer, is_by_thread, answers_of, is
 use Rattle.journal_model.specs.Next.{next}
 use Rattle.journal_model.specs.ScriptRules.{is_script}
 use Rattle.journal_model.specs.Legal.{World, first_world, world_after, world_along, state_of, IsLegalNext, IsLegalFrom, IsLegal}
-use Rattle.law_journal.proofs.Shown.{legal_step}
-use Rattle.law_journal.proofs.Counted.{counted_law}
+use Rattle.law_state.proofs.Shown.{legal_step}
+use Rattle.law_state.proofs.Counted.{counted_law}
 use Rattle.law_state.proofs.Moves.{thread_step}
 use Rattle.law_state.proofs.Pins.{at_number}
 use Rattle.law_sound.proofs.Along.{sound_law}

@@ -20,7 +20,7 @@ use Rattle.journal_model.specs.Ready.{is_ready, first_unready}
 use Rattle.journal_model.specs.Tasks.{forbidden, task_of_victim, task_of_failed, task_of_unready, task_of_command}
 use Rattle.journal_model.specs.ScriptRules.{is_script}
 use Rattle.journal_model.specs.Legal.{first_world, world_along, state_of, IsLegal}
-use Rattle.law_journal.proofs.Shown.{legal_plain}
+use Rattle.law_state.proofs.Shown.{legal_plain}
 use Rattle.law_sound.proofs.Along.{stepped_of}
 use Rattle.law_sound.proofs.Turns.{Turn, OnNamed, ban, pinned, bare, ready, refuse, give_up}
 use Rattle.law_sound.proofs.Gifts.{Gives, seeks, fills, exists, no_buffer, gives_up, refuses, no_swap}

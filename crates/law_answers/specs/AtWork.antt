@@ -6,7 +6,7 @@ use Rattle.journal_model.specs.declared.state.State.{State}
 use Rattle.journal_model.specs.declared.state.Job.{Job}
 use Rattle.journal_model.specs.State.{buffer, grip, course}
 use Rattle.journal_model.specs.Ready.{has_some_target}
-use Rattle.law_progress.specs.Sound.{Has}
+use Rattle.law_sound.specs.Sound.{Has}
 
 -- the buffer's holder is the stamp of a thread that has it, as a named one or as a victim
 pub record IsHeld (s : State) (b : BufId) : Type 0 where

@@ -22,14 +22,14 @@ use Rattle.journal_model.specs.Apply.{applied, thread_of}
 use Rattle.journal_model.specs.Complete.{is_answer, is_by_thread}
 use Rattle.journal_model.specs.Causes.{is_take_of, dry_of, presses, is_no_pages_of, has_its_cause, have_causes}
 use Rattle.journal_model.specs.Legal.{World, Made, first_state, first_world, world_after, made_along, made_of, IsLegalFrom, IsLegal}
-use Rattle.law_journal.proofs.Shown.{legal_step}
-use Rattle.law_journal.proofs.Courses.{is_of_engine, is_of_reaper, of_engine, of_reaper}
-use Rattle.law_progress.specs.Sound.{Owned, command_of}
+use Rattle.law_state.proofs.Shown.{legal_step}
+use Rattle.law_state.proofs.JournalCourses.{is_of_engine, is_of_reaper, of_engine, of_reaper}
+use Rattle.law_sound.specs.Sound.{Owned, command_of}
 use Rattle.law_sound.proofs.Along.{Stepped, stepped_of, first_course, OfWorker, packet, done, reap, of_worker}
 use Rattle.law_sound.proofs.Steadies.{own_course}
 use Rattle.law_sound.proofs.Bufs.{none_missing}
 use Rattle.law_sound.proofs.Grips.{one_course}
-use Rattle.lemma_end_measure_parts.proofs.Frame.{others_buffer}
+use Rattle.lemma_end_measure.proofs.Frame.{others_buffer}
 use Rattle.lemma_causes_trail.proofs.Windows.{quiet_others, others_window, others_command, Trail}
 use Rattle.lemma_causes_trail.proofs.Tasks.{seeking_same, places_of}
 use Rattle.lemma_causes_trail.proofs.Stages.{Stage, calm, pressed, spent, frameless, Alike}

@@ -35,8 +35,8 @@ use Rattle.journal_model.specs.Next.{step_of_task}
 use Rattle.journal_model.specs.Tasks.{task_of_command}
 use Rattle.journal_model.specs.Complete.{is_answer}
 use Rattle.journal_model.specs.Causes.{dry_of, is_take_of, in_command, is_no_pages_of, search_of}
-use Rattle.law_journal.proofs.Courses.{own_answered, one_more_if}
-use Rattle.law_progress.specs.Sound.{Owned, command_of}
+use Rattle.law_state.proofs.JournalCourses.{own_answered, one_more_if}
+use Rattle.law_sound.specs.Sound.{Owned, command_of}
 use Rattle.law_sound.proofs.Turns.{Turn, OnNamed}
 use Rattle.law_sound.proofs.Gifts.{Gives, Sought, Filled, seeks, fills, finds, evicts, dries, fresh, again, back, evicts_for_swap, nothing}
 use Rattle.law_sound.proofs.Steadies.{next_course, own_course}

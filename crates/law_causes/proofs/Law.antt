@@ -13,7 +13,7 @@ use Rattle.journal_model.specs.ScriptRules.{is_script}
 use Rattle.journal_model.specs.Next.{next}
 use Rattle.journal_model.specs.Apply.{applied}
 use Rattle.journal_model.specs.Legal.{first_state, made_of, state_of, IsLegal}
-use Rattle.law_journal.proofs.Courses.{is_of_engine, is_of_reaper, of_engine, of_reaper}
+use Rattle.law_state.proofs.JournalCourses.{is_of_engine, is_of_reaper, of_engine, of_reaper}
 use Rattle.law_state.proofs.Rules.{rules_of}
 use Rattle.law_sound.proofs.Along.{stepped_of, of_worker}
 use Rattle.law_end.proofs.Lasting.{Steady, steady_keeps, steady_first}

@@ -30,10 +30,10 @@ use Rattle.journal_model.specs.Complete.{is_answer, is_by_thread}
 use Rattle.journal_model.specs.Causes.{in_command}
 use Rattle.journal_model.specs.PlainMemory.{Plain, plain_after_kind}
 use Rattle.journal_model.specs.Legal.{World, Made, first_state, first_world, world_after, world_along, made_along, made_of, state_of, IsLegalFrom, IsLegal}
-use Rattle.law_journal.proofs.Shown.{legal_step}
-use Rattle.law_journal.proofs.Courses.{is_of_engine, is_of_reaper, of_engine, of_reaper}
+use Rattle.law_state.proofs.Shown.{legal_step}
+use Rattle.law_state.proofs.JournalCourses.{is_of_engine, is_of_reaper, of_engine, of_reaper}
 use Rattle.std.proofs.lemmas.Bool.{or_left, or_right}
-use Rattle.law_progress.specs.Sound.{Owned}
+use Rattle.law_sound.specs.Sound.{Owned}
 use Rattle.law_sound.proofs.Turns.{Turn, start, lock, refuse, give_up, act}
 use Rattle.law_sound.proofs.Gifts.{Gives, exists, no_buffer, no_swap, gives_up, refuses, seeks, fills}
 use Rattle.law_sound.proofs.Along.{Stepped, stepped_of, OfWorker, packet, done, reap, of_worker}

@@ -31,13 +31,13 @@ use Rattle.journal_model.specs.ApplyVictims.{with_fail, gone_dry, course_after_d
 use Rattle.journal_model.specs.Legal.{Made}
 use Rattle.journal_model.specs.Complete.{is_answer, is_by_thread}
 use Rattle.journal_model.specs.Causes.{is_take_of, dry_of, presses, is_at_work, places_sought, is_dry_place, was_dry, search_of, shows_pressure}
-use Rattle.law_progress.specs.Sound.{Owned}
+use Rattle.law_sound.specs.Sound.{Owned}
 use Rattle.law_sound.proofs.Turns.{Works, OnNamed}
 use Rattle.law_sound.proofs.Steadies.{next_course}
 use Rattle.law_sound.proofs.Bufs.{same_self, other_is, has_found, none_missing, none_last}
 use Rattle.law_sound.proofs.Owners.{none_or}
 use Rattle.law_sound.proofs.Grips.{IsFree}
-use Rattle.lemma_end_measure_parts.proofs.Frame.{touches, untouched}
+use Rattle.lemma_end_measure.proofs.Frame.{touches, untouched}
 use Rattle.lemma_causes_trail.proofs.Found.{Found, takes, catches, dries, no_first}
 use Rattle.lemma_causes_trail.proofs.Windows.{ends, Quiet, quiet_cut, quiet_elsewhere, quiet_kept, more_window, Trail, trail_by_victim, trail_by_dry, trail_more, trail_dry}
 use Rattle.lemma_causes_trail.proofs.Tasks.{places_of, quest_places, quest_forced, quest_dry, Seeking, aim_is_named, seeking_same}

@@ -22,7 +22,7 @@ use Rattle.law_state.proofs.Counters.{is_counted}
 use Rattle.law_owners.proofs.Counts.{one, summed}
 use Rattle.law_sound.proofs.Turns.{Turn, start, act}
 use Rattle.law_sound.proofs.Gifts.{Gives, draws, arms, seeks, fills}
-use Rattle.law_journal.proofs.Courses.{next_course, courses_after}
+use Rattle.law_state.proofs.JournalCourses.{next_course, courses_after}
 use Rattle.law_sound.proofs.Steadies.{locking_command}
 use Rattle.law_sound.proofs.Along.{Stepped, OfWorker, packet, done, reap}
 

@@ -12,11 +12,11 @@ use Rattle.journal_model.specs.ScriptRules.{is_script}
 use Rattle.journal_model.specs.Next.{next}
 use Rattle.journal_model.specs.Apply.{applied}
 use Rattle.journal_model.specs.Legal.{state_of, IsLegal}
-use Rattle.law_journal.proofs.Courses.{is_of_engine, is_of_reaper, of_engine, of_reaper}
+use Rattle.law_state.proofs.JournalCourses.{is_of_engine, is_of_reaper, of_engine, of_reaper}
 use Rattle.law_state.specs.GoodState.{last_number}
 use Rattle.law_state.proofs.Rules.{rules_of}
 use Rattle.law_state.proofs.Counters.{next_counted}
-use Rattle.law_progress.proofs.JournalEnds.{journal_ends}
+use Rattle.law_sound.proofs.JournalEnds.{journal_ends}
 use Rattle.law_sound.proofs.Along.{stepped_of, of_worker, sound_law}
 use Rattle.lemma_end_measure.proofs.MeasureFirst.{first_below}
 use Rattle.law_limit.proofs.Limits.{product_most, threads_most}

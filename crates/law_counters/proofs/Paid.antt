@@ -37,8 +37,8 @@ use Rattle.law_owners.proofs.Counts.{one, summed, weigh, summed-set}
 use Rattle.law_owners.proofs.Weights.{changed_weight}
 use Rattle.law_sound.proofs.Along.{OfWorker, packet, done, reap}
 use Rattle.lemma_bytes_told.specs.Told.{is_still, Told, still, makes, frees, leaves, takes, untakes, populates, swaps_in, depopulates, binds, unbinds, moves_up, moves_across, moves_down, evicts, catches, swaps_out, arms, reads, writes, results}
-use Rattle.lemma_bytes_shapes.proofs.Shapes.{still_core, still_ghosts}
-use Rattle.lemma_bytes_shapes.proofs.Numbers.{not_zero}
+use Rattle.lemma_bytes_told.proofs.Shapes.{still_core, still_ghosts}
+use Rattle.lemma_bytes_told.proofs.Numbers.{not_zero}
 
 -- ---- what live buffers are worth: that they were made, and their targets
 

@@ -8,9 +8,9 @@ use Rattle.journal_model.specs.Legal.{IsLegal}
 use Rattle.journal_model.specs.Complete.{is_over, is_complete}
 use Rattle.journal_model.specs.DeadEnd.{can_step}
 use Rattle.journal_model.specs.Scheduled.{run_of, own_order, scheduled_actors, packets_in, scheduled, turn_limit}
-use Rattle.law_journal.proofs.Counted.{over_law}
-use Rattle.law_journal.proofs.Turns.{run_good}
-use Rattle.law_progress.proofs.JournalEnds.{journal_ends, sim_ends}
+use Rattle.law_state.proofs.Counted.{over_law}
+use Rattle.law_state.proofs.Turns.{run_good}
+use Rattle.law_sound.proofs.JournalEnds.{journal_ends, sim_ends}
 use Rattle.law_sound.proofs.Orders.{goes, rests, none_passes}
 use Rattle.lemma_end_measure.proofs.MeasureFirst.{first_below}
 use Rattle.law_end.proofs.Lasting.{Steady, steady_keeps, steady_first, measure_falls}

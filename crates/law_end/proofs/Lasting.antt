@@ -23,29 +23,29 @@ use Rattle.journal_model.specs.ScriptRules.{is_script}
 use Rattle.journal_model.specs.Next.{next}
 use Rattle.journal_model.specs.Apply.{applied}
 use Rattle.journal_model.specs.Legal.{first_state}
-use Rattle.law_journal.proofs.Courses.{is_of_engine, is_of_reaper, of_engine, of_reaper}
+use Rattle.law_state.proofs.JournalCourses.{is_of_engine, is_of_reaper, of_engine, of_reaper}
 use Rattle.law_state.specs.GoodState.{GoodState}
 use Rattle.law_state.specs.Courses.{GoodCourses}
 use Rattle.law_state.proofs.Lists.{get_within}
 use Rattle.law_state.proofs.Rules.{Rules, rules_of, declared_pages}
 use Rattle.law_state.proofs.GoodStates.{good_keeps, good_first}
 use Rattle.law_state.proofs.Pins.{courses_keep, courses_law}
-use Rattle.law_progress.specs.Sound.{Sound}
-use Rattle.law_progress.proofs.DeadEnds.{command_is}
-use Rattle.law_progress.proofs.Measure.{measure}
+use Rattle.law_sound.specs.Sound.{Sound}
+use Rattle.law_sound.proofs.DeadEnds.{command_is}
+use Rattle.law_sound.proofs.Measure.{measure}
 use Rattle.law_sound.proofs.Along.{Stepped, OfWorker, of_worker, stepped_of, sound_keeps, sound_first}
 use Rattle.law_sound.proofs.Gifts.{Gives, Sought, Filled, seeks, binds, unbinds, moves, fills, lets_go, empties, depopulates, untakes, swaps, finds, evicts, dries, fresh, again, back, evicts_for_swap, nothing}
 use Rattle.law_sound.proofs.Bufs.{same_self, clash}
-use Rattle.lemma_end_measure_parts.proofs.Locks.{few_threads}
+use Rattle.lemma_end_measure.proofs.Locks.{few_threads}
 use Rattle.lemma_end_measure.proofs.Border.{Known}
 use Rattle.lemma_end_measure.proofs.Falls.{is_searching, entry_falls}
-use Rattle.lemma_end_pages.proofs.Victims.{Caught, nobody, single, pair, last_is, last_of_two}
+use Rattle.lemma_end_searches.proofs.Victims.{Caught, nobody, single, pair, last_is, last_of_two}
 use Rattle.lemma_end_searches.proofs.Ways.{GoodVictims, way_of_last}
-use Rattle.lemma_end_search_steps.proofs.VictimsKeep.{victims_keep, victims_stay, victims_first}
-use Rattle.lemma_end_search_steps.proofs.Listed.{Listed, listed_keeps, listed_stays, listed_first, swaps_below}
-use Rattle.lemma_end_search_steps.proofs.DryPlaces.{DryOf, dry_keeps, dry_stays, dry_first}
+use Rattle.lemma_end_searches.proofs.VictimsKeep.{victims_keep, victims_stay, victims_first}
+use Rattle.lemma_end_searches.proofs.Listed.{Listed, listed_keeps, listed_stays, listed_first, swaps_below}
+use Rattle.lemma_end_searches.proofs.DryPlaces.{DryOf, dry_keeps, dry_stays, dry_first}
 use Rattle.lemma_end_searches.proofs.Searches.{is_search, Rows, search_falls}
-use Rattle.lemma_end_carrying.proofs.VictimSteps.{IsLast, alone, second}
+use Rattle.lemma_end_ways.proofs.VictimSteps.{IsLast, alone, second}
 use Rattle.lemma_end_ways.proofs.Spanless.{AreBare, bare_stepped, bare_worker, bare_first}
 use Rattle.lemma_end_ways.proofs.OnWays.{Carrying}
 use Rattle.lemma_end_ways.proofs.Keeps.{LeftPlaces}

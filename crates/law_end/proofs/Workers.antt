@@ -18,8 +18,8 @@ use Rattle.journal_model.specs.PageSteps.{unless_waiting}
 use Rattle.journal_model.specs.Next.{head_of, step_of_job, next}
 use Rattle.journal_model.specs.Apply.{applied}
 use Rattle.journal_model.specs.ApplyJobs.{after_packet_run, after_done}
-use Rattle.law_progress.proofs.Measure.{measure}
-use Rattle.law_progress.proofs.MeasureFalls.{reap_lowers, packet_lowers, done_lowers}
+use Rattle.law_sound.proofs.Measure.{measure}
+use Rattle.law_sound.proofs.MeasureFalls.{reap_lowers, packet_lowers, done_lowers}
 use Rattle.law_sound.proofs.Bufs.{found_passes}
 
 -- a kind that is made once no job is waited for

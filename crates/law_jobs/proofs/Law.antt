@@ -26,8 +26,8 @@ use Rattle.journal_model.specs.Apply.{applied, engine_of}
 use Rattle.journal_model.specs.ApplyMoves.{with_job}
 use Rattle.journal_model.specs.ApplyJobs.{changed_job}
 use Rattle.journal_model.specs.Legal.{World, first_state, first_world, world_after, world_along, state_of, IsLegalFrom, IsLegal}
-use Rattle.law_journal.proofs.Shown.{legal_step}
-use Rattle.law_journal.proofs.Courses.{is_of_reaper, of_reaper}
+use Rattle.law_state.proofs.Shown.{legal_step}
+use Rattle.law_state.proofs.JournalCourses.{is_of_reaper, of_reaper}
 use Rattle.law_state.specs.GoodState.{last_number, GoodState}
 use Rattle.law_state.proofs.Lists.{set_at}
 use Rattle.law_state.proofs.Rules.{Rules, rules_of}

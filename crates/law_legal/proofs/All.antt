@@ -9,7 +9,7 @@ use Rattle.journal_model.specs.declared.entry.Kind.TheVariants as kind
 use Rattle.journal_model.specs.ScriptRules.{is_script}
 use Rattle.journal_model.specs.Next.{next}
 use Rattle.journal_model.specs.Legal.{IsLegal, first_world, world_along, state_of}
-use Rattle.law_journal.proofs.Shown.{shows, legal_plain}
+use Rattle.law_state.proofs.Shown.{shows, legal_plain}
 use Rattle.law_owners.proofs.Fronts.{legal_front, throughout_law}
 use Rattle.law_end.proofs.Ends.{journals_end}
 use Rattle.law_lists.proofs.Caught.{victims_law}

@@ -23,7 +23,7 @@ use Rattle.journal_model.specs.Spelling.{buffer_line, thread_lines, turn_line, s
 use Rattle.journal_model.specs.Complete.{thread_numbers}
 use Rattle.journal_model.specs.Scheduled.{scheduled_actors, packets_in, turn_limit}
 use Rattle.law_state.proofs.JobsKeep.{few_packets}
-use Rattle.law_progress.proofs.MeasureFalls.{sum_most}
+use Rattle.law_sound.proofs.MeasureFalls.{sum_most}
 
 -- ---- products and sums
 

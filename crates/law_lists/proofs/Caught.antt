@@ -37,7 +37,7 @@ use Rattle.journal_model.specs.Stores.{Stores, showing}
 use Rattle.journal_model.specs.Tasks.{task_of, task_of_command}
 use Rattle.journal_model.specs.Next.{next, step_of_task}
 use Rattle.journal_model.specs.Legal.{World, Made, first_world, world_after, made_along, IsLegalFrom, IsLegal}
-use Rattle.law_journal.proofs.Shown.{legal_step}
+use Rattle.law_state.proofs.Shown.{legal_step}
 use Rattle.law_state.proofs.Moves.{thread_step}
 use Rattle.law_sound.proofs.Gifts.{Gives, seeks, fills, evicts, evicts_for_swap, task_gives}
 use Rattle.law_lists.specs.NamedVictims.{IsFirst, IsEvicted, IsNamedVictim, NamesVictims}

@@ -17,14 +17,14 @@ use Rattle.journal_model.specs.Next.{next}
 use Rattle.journal_model.specs.Apply.{applied}
 use Rattle.journal_model.specs.ScriptRules.{is_script}
 use Rattle.journal_model.specs.Legal.{World, first_state, first_world, world_after, world_along, state_of, IsLegalFrom, IsLegal}
-use Rattle.law_journal.proofs.Shown.{legal_step}
-use Rattle.law_journal.proofs.Courses.{is_of_engine, is_of_reaper, of_engine, of_reaper}
+use Rattle.law_state.proofs.Shown.{legal_step}
+use Rattle.law_state.proofs.JournalCourses.{is_of_engine, is_of_reaper, of_engine, of_reaper}
 use Rattle.law_state.specs.GoodState.{GoodState}
 use Rattle.law_state.specs.Courses.{GoodCourses}
 use Rattle.law_state.proofs.Rules.{Rules, rules_of}
 use Rattle.law_state.proofs.GoodStates.{good_keeps, good_first}
 use Rattle.law_state.proofs.Pins.{courses_keep, courses_law}
-use Rattle.law_progress.specs.Sound.{Sound}
+use Rattle.law_sound.specs.Sound.{Sound}
 use Rattle.law_sound.proofs.Along.{of_worker, stepped_of, sound_keeps, sound_first}
 use Rattle.law_lists.specs.GoodLists.{IsOn, BelongsOn, GoodLists}
 use Rattle.law_lists.proofs.Bunches.{side_by_side}

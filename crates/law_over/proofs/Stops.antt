@@ -22,8 +22,8 @@ use Rattle.journal_model.specs.Commands.{commands_of, command_at_work}
 use Rattle.journal_model.specs.Next.{next, head_of}
 use Rattle.journal_model.specs.Complete.{has_answered, is_complete, is_over, thread_numbers}
 use Rattle.journal_model.specs.Legal.{World, first_world, world_after, world_along, world_of, state_of, IsLegalFrom, IsLegal}
-use Rattle.law_journal.proofs.Counted.{over_law}
-use Rattle.law_journal.proofs.Shown.{legal_step}
+use Rattle.law_state.proofs.Counted.{over_law}
+use Rattle.law_state.proofs.Shown.{legal_step}
 
 -- ---- by actor
 

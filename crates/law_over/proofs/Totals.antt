@@ -23,8 +23,8 @@ use Rattle.journal_model.specs.Commands.{commands_of, command_at_work}
 use Rattle.journal_model.specs.Next.{next}
 use Rattle.journal_model.specs.Complete.{is_answer, is_by_thread, answers_of, is_complete, thread_numbers}
 use Rattle.journal_model.specs.Legal.{World, first_world, world_after, IsLegalNext, IsLegalFrom, IsLegal, state_of}
-use Rattle.law_journal.proofs.Courses.{of_engine, of_reaper, is_of_engine, is_of_reaper}
-use Rattle.law_journal.proofs.Shown.{LegalStep, legal_step}
+use Rattle.law_state.proofs.JournalCourses.{of_engine, of_reaper, is_of_engine, is_of_reaper}
+use Rattle.law_state.proofs.Shown.{LegalStep, legal_step}
 use Rattle.law_over.proofs.Stops.{no_commands, three}
 
 both : (a b : Bool) → (a && b) ≡ true → (a ≡ true) × (b ≡ true)

@@ -26,8 +26,8 @@ use Rattle.journal_model.specs.Apply.{applied, thread_of}
 use Rattle.journal_model.specs.ApplyJobs.{ops_of}
 use Rattle.journal_model.specs.ApplyCommands.{named_in}
 use Rattle.journal_model.specs.Legal.{World, first_state, first_world, world_after, world_along, state_of, IsLegalFrom, IsLegal}
-use Rattle.law_journal.proofs.Shown.{legal_step}
-use Rattle.law_journal.proofs.Courses.{is_of_engine, is_of_reaper, of_engine, of_reaper}
+use Rattle.law_state.proofs.Shown.{legal_step}
+use Rattle.law_state.proofs.JournalCourses.{is_of_engine, is_of_reaper, of_engine, of_reaper}
 use Rattle.law_state.proofs.Rules.{Rules, rules_of}
 use Rattle.law_state.proofs.Moves.{thread_step}
 use Rattle.law_owners.specs.OneOwner.{AreOwned, HaveOneOwner}

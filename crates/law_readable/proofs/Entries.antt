@@ -45,14 +45,14 @@ use Rattle.journal_model.specs.Search.{Step, Quest, quest, is_caught, through_tt
 use Rattle.journal_model.specs.PageSteps.{unless_waiting, once_idle, page_to_fill, first_frame_page, next_job, next_ghost}
 use Rattle.journal_model.specs.Next.{next, head_of, step_of_act, step_of_job, step_of_task}
 use Rattle.journal_model.specs.Readable.{is_dry_why, is_kind, is_left, is_shown, is_some_actor, is_span, is_u32, is_u64}
-use Rattle.law_journal.proofs.Courses.{thread_is_there}
+use Rattle.law_state.proofs.JournalCourses.{thread_is_there}
 use Rattle.law_state.specs.GoodState.{GoodState}
 use Rattle.law_state.specs.Counters.{Below}
 use Rattle.law_state.proofs.JobNames.{found_at}
 use Rattle.law_state.proofs.Rules.{Rules, rules_of, at_work_rules, declared_pages}
 use Rattle.law_state.proofs.GoodStates.{table_pages}
 use Rattle.law_state.proofs.Courses.{quest_dry}
-use Rattle.law_progress.specs.Sound.{Has, Sound}
+use Rattle.law_sound.specs.Sound.{Has, Sound}
 use Rattle.law_sound.proofs.Bufs.{has_found, last_caught, none_missing}
 use Rattle.law_sound.proofs.Grips.{live_within, victim_free, swap_free}
 use Rattle.law_sound.proofs.Orders.{there}

@@ -10,11 +10,11 @@ use Rattle.journal_model.specs.Laws.{TextsDiffer}
 use Rattle.journal_model.specs.Stores.{showing}
 use Rattle.journal_model.specs.Readable.{is_kind, is_readable, is_some_actor}
 use Rattle.journal_model.proofs.JournalLaws.{IsLegal-append, world_of-append}
-use Rattle.law_journal.proofs.Shown.{legal_step}
+use Rattle.law_state.proofs.Shown.{legal_step}
 use Rattle.law_state.proofs.Counters.{below_law, next_counted}
 use Rattle.law_state.proofs.GoodStates.{good_law}
 use Rattle.law_state.proofs.Rules.{rules_of}
-use Rattle.law_progress.proofs.JournalEnds.{journal_ends}
+use Rattle.law_sound.proofs.JournalEnds.{journal_ends}
 use Rattle.law_sound.proofs.Along.{sound_law}
 use Rattle.law_limit.proofs.Limits.{product_most}
 use Rattle.lemma_end_measure.proofs.MeasureFirst.{first_below}

@@ -21,15 +21,15 @@ use Rattle.journal_model.specs.ApplyJobs.{ops_of}
 use Rattle.journal_model.specs.Complete.{is_complete}
 use Rattle.journal_model.specs.DeadEnd.{IsDeadEnd}
 use Rattle.journal_model.specs.Legal.{World, first_state, first_world, world_after, world_along, state_of, IsLegalFrom, IsLegal}
-use Rattle.law_journal.proofs.Shown.{legal_step}
-use Rattle.law_journal.proofs.Counted.{over_law}
-use Rattle.law_journal.proofs.Courses.{is_of_engine, is_of_reaper, of_engine, of_reaper, thread_is_there}
+use Rattle.law_state.proofs.Shown.{legal_step}
+use Rattle.law_state.proofs.Counted.{over_law}
+use Rattle.law_state.proofs.JournalCourses.{is_of_engine, is_of_reaper, of_engine, of_reaper, thread_is_there}
 use Rattle.law_state.specs.GoodState.{GoodState}
 use Rattle.law_state.proofs.Rules.{Rules, rules_of}
 use Rattle.law_state.proofs.Moves.{ThreadStep, thread_step}
 use Rattle.law_state.proofs.GoodStates.{arm_of, move_of, good_keeps, good_first}
-use Rattle.law_progress.specs.Sound.{SoundJobs, Steady, Sound, Has, SomeGoesOn, command_of}
-use Rattle.law_progress.proofs.DeadEnds.{command_is, no_dead_end}
+use Rattle.law_sound.specs.Sound.{SoundJobs, Steady, Sound, Has, SomeGoesOn, command_of}
+use Rattle.law_sound.proofs.DeadEnds.{command_is, no_dead_end}
 use Rattle.law_sound.proofs.Turns.{Turn, turn_of}
 use Rattle.law_sound.proofs.Gifts.{Gives, task_gives}
 use Rattle.law_sound.proofs.Bufs.{clash}

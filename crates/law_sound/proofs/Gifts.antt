@@ -43,7 +43,7 @@ use Rattle.journal_model.specs.Waits.{waited_for, jobs_before_write, is_idle}
 use Rattle.journal_model.specs.Search.{Step, Quest, quest, is_caught, why_of, step_of_crowded, step_of_forced, first_choice, step_of_quest}
 use Rattle.journal_model.specs.PageSteps.{unless_waiting, once_idle, page_to_fill, filled_by, step_without_victim, step_without_frame, step_of_fill, first_frame_page, step_of_swap_out, why_caught, step_of_empty, next_job, next_ghost, target_to_untake, step_of_give_back}
 use Rattle.journal_model.specs.Next.{step_of_start, backs_off, step_of_holder, step_of_lock, step_of_act, step_of_task}
-use Rattle.law_progress.specs.Sound.{locks}
+use Rattle.law_sound.specs.Sound.{locks}
 
 -- ---- what a search gives
 

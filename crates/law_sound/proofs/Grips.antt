@@ -28,7 +28,7 @@ use Rattle.journal_model.specs.Apply.{applied}
 use Rattle.journal_model.specs.ApplyCommands.{with_holder, released, with_pins, pinned_more, pinned_less}
 use Rattle.journal_model.specs.ApplyJobs.{with_use}
 use Rattle.journal_model.proofs.KeptLengths.{length-applied}
-use Rattle.law_journal.proofs.Courses.{others_kept, courses_after}
+use Rattle.law_state.proofs.JournalCourses.{others_kept, courses_after}
 use Rattle.law_state.proofs.Lists.{set_at, live_changed}
 use Rattle.law_sound.proofs.Bufs.{same_self, same_is, same_or_other, found_passes, clash}
 use Rattle.law_sound.proofs.Owners.{OneCourse}

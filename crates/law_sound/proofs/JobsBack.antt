@@ -14,7 +14,7 @@ use Rattle.journal_model.specs.declared.state.Job.{Job}
 use Rattle.journal_model.specs.Waits.{same_job, is_unfinished, unfinished, jobs_before_use}
 use Rattle.journal_model.specs.ApplyJobs.{changed_job}
 use Rattle.law_state.specs.GoodState.{GoodJobs, last_number}
-use Rattle.law_progress.specs.Sound.{SoundJobs, is_among, waits_for_some_of, WaitsGoBack}
+use Rattle.law_sound.specs.Sound.{SoundJobs, is_among, waits_for_some_of, WaitsGoBack}
 
 -- ---- tests of lists
 

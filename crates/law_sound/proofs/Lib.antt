@@ -8,3 +8,13 @@ pub mod Grips
 pub mod OwnedKeeps
 pub mod Along
 pub mod Orders
+pub mod EnginesGoOn
+pub mod ThreadsGoOn
+pub mod NoDeadEnd
+pub mod DeadEnds
+pub mod Measure
+pub mod OthersSame
+pub mod MeasureFalls
+pub mod BackoffLowers
+pub mod CarriedOn
+pub mod JournalEnds

@@ -30,10 +30,10 @@ use Rattle.journal_model.specs.Complete.{is_over, is_complete, has_answered, thr
 use Rattle.journal_model.specs.DeadEnd.{can_step}
 use Rattle.journal_model.specs.Legal.{IsLegal, state_of}
 use Rattle.journal_model.specs.Scheduled.{Ticketed, ticketed, by_stamp, sorted_by_stamp, own_order}
-use Rattle.law_journal.proofs.Counted.{over_law}
-use Rattle.law_journal.proofs.Courses.{thread_is_there}
-use Rattle.law_progress.specs.Sound.{Sound, SomeGoesOn, command_of}
-use Rattle.law_progress.proofs.DeadEnds.{command_is, no_dead_end}
+use Rattle.law_state.proofs.Counted.{over_law}
+use Rattle.law_state.proofs.JournalCourses.{thread_is_there}
+use Rattle.law_sound.specs.Sound.{Sound, SomeGoesOn, command_of}
+use Rattle.law_sound.proofs.DeadEnds.{command_is, no_dead_end}
 use Rattle.law_sound.specs.Orders.{FindsOne}
 use Rattle.law_sound.proofs.Bufs.{found_passes, clash}
 use Rattle.law_sound.proofs.Along.{sound_law, goes_on_law}

@@ -34,7 +34,7 @@ use Rattle.journal_model.specs.ApplyJobs.{ops_of}
 use Rattle.journal_model.specs.ApplyCommands.{named_in}
 use Rattle.journal_model.specs.ApplyPages.{search_over}
 use Rattle.journal_model.specs.ApplyVictims.{failed_if, with_fail, with_victim, no_longer_caught, gone_dry, course_after_dry}
-use Rattle.law_progress.specs.Sound.{Has, Steady, Owned, command_of, locks}
+use Rattle.law_sound.specs.Sound.{Has, Steady, Owned, command_of, locks}
 use Rattle.law_sound.proofs.Turns.{Turn, Works, OnVictim, OnNamed, answer, start, lock, victim_empty, victim_skip, victim_fill, victim_search, refuse, give_up, act, fill_in_place, ask, fill_to_bind, hop_up, fill_to_move, hop_down, OnBuffer}
 use Rattle.law_sound.proofs.Gifts.{Gives, Sought, Filled, answers, makes, exists, shifts, draws, no_buffer, reserves, backs, seeks, binds, unbinds, moves, fills, lets_go, empties, depopulates, untakes, skips, gives_up, refuses, arms, frees, swaps, no_swap, acts, finds, evicts, dries, fresh, again, back, evicts_for_swap, nothing}
 use Rattle.law_sound.proofs.Bufs.{victims_of, same_self, same_is, same_or_other, other_is, has_pushed, has_more, has_new, has_without, without_gone, without_kept, names_let_go, names_failed, names_pushed, last_caught, none_last, none_caught, none_missing, clash}

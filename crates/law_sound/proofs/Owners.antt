@@ -7,7 +7,7 @@ use Rattle.journal_model.specs.declared.script.Script.{Script}
 use Rattle.journal_model.specs.declared.state.State.{State}
 use Rattle.journal_model.specs.State.{course, grip, is_live, has_buffer}
 use Rattle.journal_model.specs.Search.{is_caught}
-use Rattle.law_progress.specs.Sound.{Has, Steady, Owned}
+use Rattle.law_sound.specs.Sound.{Has, Steady, Owned}
 use Rattle.law_sound.proofs.Bufs.{same_or_other}
 
 some_is : (o : Option Stamp) (st su : Stamp) → o ≡ Some st → o ≡ Some su → st ≡ su

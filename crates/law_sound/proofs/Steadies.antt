@@ -19,8 +19,8 @@ use Rattle.journal_model.specs.Tasks.{starts, first_missing}
 use Rattle.journal_model.specs.ApplyCommands.{has_made, on_to_next}
 use Rattle.journal_model.specs.ApplyPages.{search_over}
 use Rattle.journal_model.specs.ApplyVictims.{failed_if, with_fail, no_longer_caught, with_victim, gone_dry, course_after_dry}
-pub use Rattle.law_journal.proofs.Courses.{next_course, own_course}
-use Rattle.law_progress.specs.Sound.{Steady, command_of, wanted, wants, locks}
+pub use Rattle.law_state.proofs.JournalCourses.{next_course, own_course}
+use Rattle.law_sound.specs.Sound.{Steady, command_of, wanted, wants, locks}
 use Rattle.law_sound.proofs.Turns.{Works}
 use Rattle.law_sound.proofs.Bufs.{victims_of, let_go, has_pushed, has_without, names_let_go, names_failed, names_pushed, none_caught, missing_is_named, clash}
 

@@ -11,7 +11,8 @@ ghost use Rattle.journal_model.specs.Complete.{is_complete, is_over};
 ghost use Rattle.journal_model.specs.DeadEnd.{can_step};
 ghost use Rattle.journal_model.specs.Laws.{LegalNeverEndsDead};
 ghost use Rattle.law_sound.specs.Orders.{FindsOne};
-ghost use Rattle.law_progress.specs.Sound.{Sound, SomeGoesOn};
+ghost use Rattle.law_sound.specs.Sound.{Sound, SomeGoesOn};
+ghost use Rattle.journal_model.specs.declared.state.State.{State};
 
 /// Jobs wait for earlier jobs alone, and the holder of a buffer tells which thread has it.
 pub fn states_are_sound()
@@ -45,4 +46,9 @@ pub fn nobody_goes_on_behind_the_end()
 pub fn own_order_finds_who_goes_on()
     ensures { (script : Script) (journal : List Entry) → IsTrue (is_script script) → IsLegal script journal
         → is_over script (state_of script journal) ≡ false → FindsOne script (state_of script journal) }
+{}
+
+/// In a sound state that isn't over some actor has an entry.
+pub fn sound_states_go_on()
+    ensures { (script : Script) (s : State) → Sound script s → is_over script s ≡ false → SomeGoesOn script s }
 {}

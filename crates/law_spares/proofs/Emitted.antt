@@ -35,7 +35,7 @@ use Rattle.law_state.proofs.Lists.{get_pushed, get_within}
 use Rattle.lemma_bytes_model.proofs.Actions.{or_first, or_second}
 use Rattle.lemma_bytes_view.proofs.Jobs.{same_job-refl}
 use Rattle.lemma_bytes_view.proofs.Kept.{keep_more}
-use Rattle.lemma_bytes_emit.proofs.MoreJobs.{get_last, among_unfinished}
+use Rattle.lemma_bytes_view.proofs.MoreJobs.{get_last, among_unfinished}
 use Rattle.lemma_bytes_arm.proofs.Fences.{fold_kept, joins_writes}
 use Rattle.lemma_bytes_arm.proofs.Named.{AllOf, views_named, mentioned, written_mentioned}
 use Rattle.lemma_bytes_model.specs.Entries.{Piece, Change, Probe}

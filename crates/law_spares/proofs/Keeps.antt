@@ -34,7 +34,7 @@ use Rattle.journal_model.specs.ApplyCommands.{named_in, ghost_of_freed}
 use Rattle.journal_model.specs.ApplyPages.{with_kernel_fences, with_spans, with_loc, without_frames, bound, unbound}
 use Rattle.journal_model.specs.ApplyVictims.{leaves_tt}
 use Rattle.journal_model.specs.ApplyJobs.{ops_of, changed_job, core_after_arm}
-use Rattle.law_journal.proofs.Courses.{is_of_engine, is_of_reaper, of_engine, of_reaper}
+use Rattle.law_state.proofs.JournalCourses.{is_of_engine, is_of_reaper, of_engine, of_reaper}
 use Rattle.law_state.specs.GoodState.{HasPages, GoodState}
 use Rattle.law_state.proofs.Rules.{Rules, at_work_rules}
 use Rattle.law_state.proofs.Lists.{get_pushed, get_within}
@@ -42,10 +42,10 @@ use Rattle.law_sound.proofs.Along.{OfWorker, packet, done, reap}
 use Rattle.lemma_bytes_told.specs.Told.{Told, IsThere, IsQuiet, still, makes, frees, leaves, takes, untakes, populates, swaps_in, depopulates, binds, unbinds, moves_up, moves_across, moves_down, evicts, catches, swaps_out, arms, reads, writes, results}
 use Rattle.lemma_bytes_view.proofs.Jobs.{same_job-refl, passed, waited_is_done, head_packet, head_first, Changed, changed_at}
 use Rattle.lemma_bytes_view.proofs.Kept.{keep_changed}
-use Rattle.lemma_bytes_emit.proofs.MoreJobs.{get_last, among_unfinished}
-use Rattle.lemma_bytes_shapes.proofs.Shapes.{HaveShapes, still_core}
-use Rattle.lemma_bytes_shapes.proofs.Numbers.{not_zero}
-use Rattle.law_pages.specs.OwnPages.{GoodGhosts}
+use Rattle.lemma_bytes_view.proofs.MoreJobs.{get_last, among_unfinished}
+use Rattle.lemma_bytes_told.proofs.Shapes.{HaveShapes, still_core}
+use Rattle.lemma_bytes_told.proofs.Numbers.{not_zero}
+use Rattle.law_transparent.specs.OwnPages.{GoodGhosts}
 use Rattle.law_spares.proofs.Holders.{Holding, BufferHolds, IsAwaited, GhostHolds, Holder, HaveHolders, AreInOrder, ghost_kept, changed_holds, changed_either, set_either, kernel_fenced, retargeted, caught, no_page, more_ghosts}
 use Rattle.law_spares.proofs.Emitted.{move_holds, evict_holds, arm_holds}
 

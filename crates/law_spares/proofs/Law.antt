@@ -28,8 +28,8 @@ use Rattle.journal_model.specs.Stores.{Stores, showing}
 use Rattle.journal_model.specs.Spares.{tt_of_ghosts, pages_taken, pages_given, job_names, are_unnamed, spares_jobs}
 use Rattle.journal_model.specs.Legal.{World, Made, first_world, world_after, world_of, made_along, state_of, IsLegalNext, IsLegalFrom, IsLegal}
 use Rattle.journal_model.specs.Laws.{SparesJobs}
-use Rattle.law_journal.proofs.Shown.{legal_step}
-use Rattle.law_journal.proofs.Courses.{is_of_engine, is_of_reaper, of_engine}
+use Rattle.law_state.proofs.Shown.{legal_step}
+use Rattle.law_state.proofs.JournalCourses.{is_of_engine, is_of_reaper, of_engine}
 use Rattle.law_state.proofs.Rules.{rules_of}
 use Rattle.law_state.proofs.GoodStates.{good_law}
 use Rattle.law_sound.proofs.Along.{of_worker}
@@ -40,8 +40,8 @@ use Rattle.law_holders.proofs.Positions.{has_times, in_sum, two_in_sum, in_list}
 use Rattle.lemma_bytes_model.proofs.Actions.{or_first, or_second}
 use Rattle.law_transparent.proofs.Law.{world_push, legal_push}
 use Rattle.law_transparent.proofs.Carried.{clear_law, view_law, told_law, kept_law}
-use Rattle.law_pages.proofs.Law.{ghosts_law}
-use Rattle.law_packet_places.proofs.Spared.{weighs_once, unbind_takes, free_takes, reap_takes, in_first}
+use Rattle.law_transparent.proofs.PagesLaw.{ghosts_law}
+use Rattle.law_transparent.proofs.Spared.{weighs_once, unbind_takes, free_takes, reap_takes, in_first}
 use Rattle.law_spares.proofs.Holders.{Holder, HaveHolders}
 use Rattle.law_spares.proofs.Keeps.{Kept, HaveBegun, holders_keep, order_keeps, engine_keeps, reaper_keeps}
 

@@ -23,8 +23,8 @@ use Rattle.journal_model.specs.Next.{next, step_of_task, step_of_act, step_of_st
 use Rattle.journal_model.specs.Apply.{applied}
 use Rattle.journal_model.specs.ApplyMoves.{last_ghost_left}
 use Rattle.journal_model.specs.Legal.{World, first_world, world_after, world_along, state_of, IsLegalFrom, IsLegal}
-use Rattle.law_journal.proofs.Shown.{legal_step}
-use Rattle.law_journal.proofs.Courses.{is_of_engine, is_of_reaper, of_engine, of_reaper}
+use Rattle.law_state.proofs.Shown.{legal_step}
+use Rattle.law_state.proofs.JournalCourses.{is_of_engine, is_of_reaper, of_engine, of_reaper}
 use Rattle.law_state.specs.GoodState.{last_number}
 use Rattle.law_state.specs.Counters.{Below}
 use Rattle.law_state.proofs.Lists.{set_at}

@@ -42,8 +42,8 @@ use Rattle.journal_model.specs.ApplyMoves.{with_job, move_packets}
 use Rattle.journal_model.specs.ApplyJobs.{ops_of, changed_job}
 use Rattle.journal_model.specs.Legal.{World, first_state, first_world, world_after, world_along, state_of, IsLegalFrom, IsLegal}
 use Rattle.journal_model.proofs.KeptLengths.{length-applied}
-use Rattle.law_journal.proofs.Shown.{legal_step}
-use Rattle.law_journal.proofs.Courses.{is_of_engine, is_of_reaper, of_engine, of_reaper}
+use Rattle.law_state.proofs.Shown.{legal_step}
+use Rattle.law_state.proofs.JournalCourses.{is_of_engine, is_of_reaper, of_engine, of_reaper}
 use Rattle.law_state.proofs.Lists.{get_within}
 use Rattle.law_state.specs.GoodState.{HasPages, GoodJobs, GoodState}
 use Rattle.law_state.proofs.Tables.{tables_keep}

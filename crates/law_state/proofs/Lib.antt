@@ -8,3 +8,7 @@ pub mod GoodStates
 pub mod Courses
 pub mod Counters
 pub mod Pins
+pub mod Shown
+pub mod JournalCourses
+pub mod Counted
+pub mod Turns

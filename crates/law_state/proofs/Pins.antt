@@ -28,8 +28,8 @@ use Rattle.journal_model.specs.Next.{next}
 use Rattle.journal_model.specs.Apply.{applied}
 use Rattle.journal_model.specs.ApplyCommands.{with_holder, released, pinned_more, pinned_less, with_pins}
 use Rattle.journal_model.specs.Legal.{World, first_state, first_world, world_after, world_along, state_of, IsLegalFrom, IsLegal}
-use Rattle.law_journal.proofs.Shown.{legal_step}
-use Rattle.law_journal.proofs.Courses.{is_of_engine, is_of_reaper, of_engine, of_reaper, thread_is_there, others_kept, search_keeps, dry_keeps, fail_keeps, next_course, own_course, own_answered, one_more_if, engine_keeps, reaper_keeps, course_in}
+use Rattle.law_state.proofs.Shown.{legal_step}
+use Rattle.law_state.proofs.JournalCourses.{is_of_engine, is_of_reaper, of_engine, of_reaper, thread_is_there, others_kept, search_keeps, dry_keeps, fail_keeps, next_course, own_course, own_answered, one_more_if, engine_keeps, reaper_keeps, course_in}
 use Rattle.law_state.specs.Courses.{makes, HaveFewPins, GoodCourses}
 use Rattle.law_state.proofs.Lists.{set_at}
 use Rattle.law_state.proofs.Moves.{ThreadStep, thread_step}

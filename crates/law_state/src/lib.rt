@@ -1,7 +1,7 @@
 //! Laws on the states that legal journals lead to.
 #![tactic(auto)]
 
-ghost use Rattle.std.specs.Prelude.{IsTrue, List, length};
+ghost use Rattle.std.specs.Prelude.{IsTrue, List, length, ◌≡◌, ℕ};
 ghost use Rattle.journal_model.specs.declared.script.Script.{Script};
 ghost use Rattle.journal_model.specs.declared.entry.Entry.{Entry};
 ghost use Rattle.journal_model.specs.ScriptRules.{is_script};
@@ -9,6 +9,9 @@ ghost use Rattle.journal_model.specs.Legal.{IsLegal, state_of};
 ghost use Rattle.law_state.specs.GoodState.{GoodState};
 ghost use Rattle.law_state.specs.Counters.{Below};
 ghost use Rattle.law_state.specs.Courses.{GoodCourses};
+ghost use Rattle.journal_model.specs.State.{course};
+ghost use Rattle.journal_model.specs.Scheduled.{scheduled};
+ghost use Rattle.journal_model.specs.Complete.{answers_of, is_complete, is_over};
 
 /// Page tables have their declared pages; jobs have distinct names, some packets each, and no more run than there are.
 pub fn states_are_good()
@@ -23,4 +26,19 @@ pub fn counters_are_low()
 /// No buffer has more pins than can be counted, and only a command that makes something stands as made.
 pub fn courses_are_good()
     ensures { (script : Script) (journal : List Entry) → IsLegal script journal → GoodCourses script (state_of script journal) }
+{}
+
+/// A thread stands behind as many commands as it has results and refusals in the journal.
+pub fn answers_are_counted()
+    ensures { (script : Script) (journal : List Entry) (thread : ℕ) → IsLegal script journal → (course (state_of script journal) thread).answered ≡ answers_of thread journal }
+{}
+
+/// The state that a legal journal leads to is over exactly where the journal is complete.
+pub fn over_is_complete()
+    ensures { (script : Script) (journal : List Entry) → IsLegal script journal → is_over script (state_of script journal) ≡ is_complete script journal }
+{}
+
+/// The journal of the simulator's turns is legal.
+pub fn scheduled_is_legal()
+    ensures { (script : Script) (n : ℕ) → IsLegal script (scheduled script n) }
 {}

@@ -32,11 +32,11 @@ use Rattle.law_owners.proofs.Law.{AreHeldOnce}
 use Rattle.lemma_bytes_model.specs.Memory.{Nowhere, Vram, Frame, Slot}
 use Rattle.law_holders.specs.Holding.{seen, live_at}
 use Rattle.law_holders.proofs.Mapped.{maps_aperture}
-use Rattle.lemma_bytes_emit.proofs.Viewed.{Viewed}
-use Rattle.lemma_bytes_move.proofs.Tables.{get_at, full_is}
+use Rattle.lemma_bytes_view.proofs.Viewed.{Viewed}
+use Rattle.lemma_bytes_view.proofs.Tables.{get_at, full_is}
 use Rattle.lemma_bytes_arm.proofs.Arms.{Reached, arm_viewed}
 use Rattle.lemma_bytes_arm.proofs.Writes.{write_viewed}
-use Rattle.lemma_bytes_shapes.proofs.Shapes.{Shapely, HaveShapes}
+use Rattle.lemma_bytes_told.proofs.Shapes.{Shapely, HaveShapes}
 
 -- ---- pages of a ready buffer
 

@@ -12,10 +12,10 @@ use Rattle.journal_model.specs.Next.{next}
 use Rattle.journal_model.specs.Apply.{applied}
 use Rattle.journal_model.specs.PlainMemory.{Plain, first_plain, plain_after, plain_of}
 use Rattle.journal_model.specs.Legal.{World, first_state, first_world, world_after, world_along, world_of, state_of, stores_of, IsLegalFrom, IsLegal}
-use Rattle.law_journal.proofs.Shown.{legal_step}
+use Rattle.law_state.proofs.Shown.{legal_step}
 use Rattle.law_state.proofs.Rules.{rules_of}
 use Rattle.lemma_bytes_told.specs.Told.{Told}
-use Rattle.lemma_bytes_emit.proofs.Viewed.{Viewed}
+use Rattle.lemma_bytes_view.proofs.Viewed.{Viewed}
 use Rattle.law_transparent.proofs.Steps.{told_of}
 use Rattle.law_transparent.proofs.Law.{world_push, legal_push, ClearWorld, known, one_more, first_clear}
 use Rattle.law_transparent.proofs.Ways.{have_ways}

@@ -13,14 +13,14 @@ use Rattle.journal_model.specs.PlainMemory.{Memory, Dues}
 use Rattle.journal_model.specs.Ready.{has_all_frames}
 use Rattle.journal_model.specs.ApplyMoves.{ghost_of_moved}
 use Rattle.law_owners.proofs.Law.{AreHeldOnce}
-use Rattle.lemma_bytes_bind.proofs.Binds.{IsAt}
-use Rattle.lemma_bytes_emit.proofs.Moving.{moved_core}
-use Rattle.lemma_bytes_emit.proofs.Viewed.{Viewed}
-use Rattle.lemma_bytes_move.proofs.Tables.{full_is}
-use Rattle.lemma_bytes_move.proofs.Ups.{up_viewed}
-use Rattle.lemma_bytes_move.proofs.Acrosses.{across_viewed}
-use Rattle.lemma_bytes_move.proofs.Downs.{down_viewed, evict_viewed}
-use Rattle.lemma_bytes_shapes.proofs.Shapes.{Shapely}
+use Rattle.lemma_bytes_view.proofs.Binds.{IsAt}
+use Rattle.lemma_bytes_view.proofs.Moving.{moved_core}
+use Rattle.lemma_bytes_view.proofs.Viewed.{Viewed}
+use Rattle.lemma_bytes_view.proofs.Tables.{full_is}
+use Rattle.lemma_bytes_view.proofs.Ups.{up_viewed}
+use Rattle.lemma_bytes_view.proofs.Acrosses.{across_viewed}
+use Rattle.lemma_bytes_view.proofs.Downs.{down_viewed, evict_viewed}
+use Rattle.lemma_bytes_told.proofs.Shapes.{Shapely}
 
 module _ (script : Script) (c : Core) (dues : Dues) (m : Memory) (bytes : pages.PageBytes) (u : Viewed script c dues m bytes) (held : AreHeldOnce script c) (n gn : ℕ) (undue : (k : ℕ) → dues (record { ctx = 0; num = n }) k ≡ []) where
   -- the buffer, by its parts

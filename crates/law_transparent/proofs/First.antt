@@ -11,10 +11,10 @@ use Rattle.lemma_bytes_model.specs.Memory.{Nowhere}
 use Rattle.lemma_bytes_model.specs.View.{View, Good}
 use Rattle.law_holders.specs.Holding.{seen, live_at, buffer_at}
 use Rattle.law_holders.proofs.Owner.{owner_of}
-use Rattle.lemma_bytes_bind.proofs.News.{fresh_page}
+use Rattle.lemma_bytes_view.proofs.News.{fresh_page}
 use Rattle.lemma_bytes_view.proofs.World.{Seen, bare}
 use Rattle.lemma_bytes_view.proofs.PacketStep.{no_bytes}
-use Rattle.lemma_bytes_emit.proofs.Viewed.{Viewed}
+use Rattle.lemma_bytes_view.proofs.Viewed.{Viewed}
 
 -- no buffer is live
 none_is : {X : Type 0} (xs : List X) (i : ℕ) → unwrap_or (option_and_then (λ x. x) (slice_get (map (λ d. None) xs) i)) (new_buffer 0) ≡ new_buffer 0

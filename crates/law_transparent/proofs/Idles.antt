@@ -27,7 +27,7 @@ use Rattle.law_holders.proofs.HeldOnce.{room_of, number_of, Spot, at_buffer, at_
 use Rattle.law_holders.proofs.Owner.{owner_of, owner_none}
 use Rattle.lemma_bytes_view.proofs.World.{bare}
 use Rattle.lemma_bytes_view.proofs.PacketStep.{within_same, within_cut}
-use Rattle.lemma_bytes_emit.proofs.Viewed.{Viewed}
+use Rattle.lemma_bytes_view.proofs.Viewed.{Viewed}
 
 -- ---- what weighs nothing is held by nobody
 

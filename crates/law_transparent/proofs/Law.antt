@@ -15,14 +15,14 @@ use Rattle.journal_model.specs.Stores.{Stores, within, stores_after, showing}
 use Rattle.journal_model.specs.Legal.{World, first_world, world_after, world_along, world_of, state_of, IsLegalNext, IsLegalFrom, IsLegal}
 use Rattle.journal_model.specs.PlainMemory.{Plain, first_plain, plain_after, plain_after_kind}
 use Rattle.journal_model.specs.Transparent.{IsKindPlain, IsTransparentFrom, IsTransparent}
-use Rattle.law_journal.proofs.Shown.{legal_step, shown_alike}
+use Rattle.law_state.proofs.Shown.{legal_step, shown_alike}
 use Rattle.law_state.proofs.Rules.{rules_of}
 use Rattle.law_state.proofs.GoodStates.{good_law}
 use Rattle.law_state.proofs.Pins.{courses_law}
 use Rattle.law_owners.proofs.Law.{AreHeldOnce, once_law}
 use Rattle.law_sound.proofs.Along.{sound_law, first_course}
 use Rattle.lemma_bytes_told.specs.Told.{OnWay}
-use Rattle.lemma_bytes_shapes.proofs.Shapes.{first_shapes}
+use Rattle.lemma_bytes_told.proofs.Shapes.{first_shapes}
 use Rattle.law_transparent.proofs.First.{first_viewed}
 use Rattle.law_transparent.proofs.Steps.{Clear, Known, step_clear}
 

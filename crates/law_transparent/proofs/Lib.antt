@@ -10,3 +10,9 @@ pub mod Law
 pub mod Ways
 mod Worked
 pub mod Carried
+pub mod Chosen
+pub mod Proper
+pub mod PagesLaw
+pub mod Short
+pub mod PacketPlacesLaw
+pub mod Spared

@@ -27,10 +27,10 @@ use Rattle.law_holders.specs.Holding.{seen, live_at, buffer_at, HeldOnce}
 use Rattle.law_holders.proofs.HeldOnce.{held_once}
 use Rattle.lemma_bytes_view.proofs.World.{bare}
 use Rattle.lemma_bytes_view.proofs.PacketStep.{no_bytes}
-use Rattle.lemma_bytes_bind.proofs.Binds.{IsAt, at_is, idle_done, stands_by_table}
-use Rattle.lemma_bytes_bind.proofs.Refills.{refill_good, refill_seen}
-use Rattle.lemma_bytes_fill.proofs.Fills.{fill_viewed}
-use Rattle.lemma_bytes_emit.proofs.Viewed.{Viewed}
+use Rattle.lemma_bytes_view.proofs.Binds.{IsAt, at_is, idle_done, stands_by_table}
+use Rattle.lemma_bytes_view.proofs.Refills.{refill_good, refill_seen}
+use Rattle.lemma_bytes_view.proofs.Fills.{fill_viewed}
+use Rattle.lemma_bytes_view.proofs.Viewed.{Viewed}
 use Rattle.law_transparent.proofs.Idles.{frame_idle, frame_there, slot_idle, slot_there}
 
 module _ (script : Script) (c : Core) (dues : Dues) (m : Memory) (bytes : pages.PageBytes) (u : Viewed script c dues m bytes) (held : AreHeldOnce script c) (b : BufId) (x : Buffer) (is : IsAt c b x) where

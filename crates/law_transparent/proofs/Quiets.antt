@@ -30,14 +30,14 @@ use Rattle.lemma_bytes_view.proofs.World.{bare}
 use Rattle.lemma_bytes_view.proofs.PacketStep.{no_bytes}
 use Rattle.lemma_bytes_view.proofs.Apertures.{Spared}
 use Rattle.lemma_bytes_view.proofs.Quiet.{Quiet, aperture_same, quiet_good, quiet_seen, catch_is_quiet, target_is_quiet}
-use Rattle.lemma_bytes_bind.proofs.Binds.{IsAt, spared_but, carried_good, carried_seen, bind_good, bind_seen, unbind_good, unbind_seen, stands_by_table, keeps_none}
-use Rattle.lemma_bytes_bind.proofs.News.{new_good, new_seen}
-use Rattle.lemma_bytes_targets.proofs.Takes.{is_mover, take_good, take_seen}
-use Rattle.lemma_bytes_targets.proofs.Drops.{drop_good, drop_seen, emptied_kept, emptied_place, untaken_place, untaken_kept, untaken_target}
-use Rattle.lemma_bytes_free.proofs.Frees.{without, free_good, free_seen}
-use Rattle.lemma_bytes_fill.proofs.Leaves.{leave_viewed}
-use Rattle.lemma_bytes_emit.proofs.Viewed.{Viewed}
-use Rattle.lemma_bytes_move.proofs.Tables.{AllFrames}
+use Rattle.lemma_bytes_view.proofs.Binds.{IsAt, spared_but, carried_good, carried_seen, bind_good, bind_seen, unbind_good, unbind_seen, stands_by_table, keeps_none}
+use Rattle.lemma_bytes_view.proofs.News.{new_good, new_seen}
+use Rattle.lemma_bytes_view.proofs.Takes.{is_mover, take_good, take_seen}
+use Rattle.lemma_bytes_view.proofs.Drops.{drop_good, drop_seen, emptied_kept, emptied_place, untaken_place, untaken_kept, untaken_target}
+use Rattle.lemma_bytes_view.proofs.Frees.{without, free_good, free_seen}
+use Rattle.lemma_bytes_view.proofs.Leaves.{leave_viewed}
+use Rattle.lemma_bytes_view.proofs.Viewed.{Viewed}
+use Rattle.lemma_bytes_view.proofs.Tables.{AllFrames}
 use Rattle.law_transparent.proofs.Idles.{choice_free}
 
 module _ (script : Script) (c : Core) (dues : Dues) (m : Memory) (bytes : pages.PageBytes) (u : Viewed script c dues m bytes) (held : AreHeldOnce script c) where

@@ -32,23 +32,23 @@ use Rattle.journal_model.specs.Stores.{Stores, within, written, stores_after, sh
 use Rattle.journal_model.specs.Waits.{waited_for, jobs_before_read}
 use Rattle.journal_model.specs.PlainMemory.{Memory, Dues, Plain, command_of, memory_after_result, plain_after_kind, after_ops, pieces_shown, with_dues}
 use Rattle.journal_model.specs.Transparent.{IsKindPlain, read_of}
-use Rattle.law_journal.proofs.Courses.{one_more_if, own_answered, others_kept, thread_is_there, of_engine, of_reaper, is_of_engine, is_of_reaper}
+use Rattle.law_state.proofs.JournalCourses.{one_more_if, own_answered, others_kept, thread_is_there, of_engine, of_reaper, is_of_engine, is_of_reaper}
 use Rattle.law_state.specs.GoodState.{GoodState}
 use Rattle.law_state.specs.Courses.{GoodCourses}
 use Rattle.law_state.proofs.Rules.{Rules, at_work_rules}
 use Rattle.law_state.proofs.Pins.{at_number}
 use Rattle.law_step.proofs.Due.{next_due}
 use Rattle.law_owners.proofs.Law.{AreHeldOnce}
-use Rattle.law_progress.specs.Sound.{Sound}
+use Rattle.law_sound.specs.Sound.{Sound}
 use Rattle.law_sound.proofs.Along.{stepped_of, OfWorker, of_worker, packet, done, reap}
-use Rattle.lemma_bytes_bind.proofs.Binds.{IsAt}
-use Rattle.lemma_bytes_bind.proofs.ReadShows.{read_shows}
-use Rattle.lemma_bytes_emit.proofs.Viewed.{Viewed}
+use Rattle.lemma_bytes_view.proofs.Binds.{IsAt}
+use Rattle.lemma_bytes_view.proofs.ReadShows.{read_shows}
+use Rattle.lemma_bytes_view.proofs.Viewed.{Viewed}
 use Rattle.lemma_bytes_told.proofs.Spots.{fill_spot, frame_spot}
 use Rattle.lemma_bytes_told.specs.Told.{is_still, is_write, shows_bytes, OnWay, Told, still, makes, frees, leaves, takes, untakes, populates, swaps_in, depopulates, binds, unbinds, moves_up, moves_across, moves_down, evicts, catches, swaps_out, arms, reads, writes, results}
 use Rattle.lemma_bytes_told.proofs.Telling.{tells}
-use Rattle.lemma_bytes_shapes.proofs.Shapes.{HaveShapes, shapes_keep}
-use Rattle.lemma_bytes_shapes.proofs.Numbers.{NumberedState, not_zero, numbers_keep, filtered}
+use Rattle.lemma_bytes_told.proofs.Shapes.{HaveShapes, shapes_keep}
+use Rattle.lemma_bytes_told.proofs.Numbers.{NumberedState, not_zero, numbers_keep, filtered}
 use Rattle.law_transparent.proofs.Idles.{viewed_within}
 use Rattle.law_transparent.proofs.Quiets.{catch_viewed, new_viewed, free_viewed, left_viewed, take_viewed, untake_viewed, depopulate_viewed, bind_viewed, unbind_viewed}
 use Rattle.law_transparent.proofs.Pages.{populate_viewed, swap_in_viewed, swap_out_viewed}

@@ -14,8 +14,8 @@ use Rattle.journal_model.specs.declared.entry.Entry.{Entry}
 use Rattle.journal_model.specs.State.{buffer, course, has_target}
 use Rattle.journal_model.specs.ScriptRules.{is_script}
 use Rattle.journal_model.specs.Legal.{World, first_world, world_after, world_along, state_of, IsLegalFrom}
-use Rattle.law_journal.proofs.Shown.{legal_step}
-use Rattle.law_progress.specs.Sound.{OnItsWay, in_vram, to_tt, out_of_vram, in_tt, in_system}
+use Rattle.law_state.proofs.Shown.{legal_step}
+use Rattle.law_sound.specs.Sound.{OnItsWay, in_vram, to_tt, out_of_vram, in_tt, in_system}
 use Rattle.lemma_end_searches.proofs.Ways.{Ways}
 use Rattle.law_end.proofs.Lasting.{Steady, steady_keeps, steady_first}
 use Rattle.lemma_bytes_told.specs.Told.{OnWay}

@@ -17,7 +17,7 @@ use Rattle.journal_model.specs.ScriptRules.{is_script}
 use Rattle.journal_model.specs.Scheduled.{scheduled}
 use Rattle.journal_model.specs.Transparent.{IsTransparent}
 use Rattle.journal_model.proofs.Rows.{sizes, buf_named, buf_id}
-use Rattle.law_journal.proofs.Turns.{scheduled_legal}
+use Rattle.law_state.proofs.Turns.{scheduled_legal}
 use Rattle.law_transparent.proofs.Law.{transparent_given}
 use Rattle.law_transparent.proofs.Ways.{have_ways}
 

@@ -27,9 +27,9 @@ use Rattle.lemma_bytes_view.specs.Seen.{meant, steps_from}
 use Rattle.lemma_bytes_view.proofs.World.{bare}
 use Rattle.lemma_bytes_view.proofs.PacketStep as packets
 use Rattle.lemma_bytes_view.proofs.DoneStep as ends
-use Rattle.lemma_bytes_bind.proofs.Reaps.{Leaving, reap_good, reap_seen}
-use Rattle.lemma_bytes_emit.proofs.Viewed.{Viewed}
-use Rattle.lemma_bytes_shapes.proofs.Numbers.{AreDistinct, first_only}
+use Rattle.lemma_bytes_view.proofs.Reaps.{Leaving, reap_good, reap_seen}
+use Rattle.lemma_bytes_view.proofs.Viewed.{Viewed}
+use Rattle.lemma_bytes_told.proofs.Numbers.{AreDistinct, first_only}
 
 module _ (script : Script) (s : State) (dues : Dues) (m : Memory) (bytes : pages.PageBytes) (u : Viewed script s.core dues m bytes) (jobs : GoodJobs script.sizes.engines s.last_jobs s.core.jobs) where
   pub packet_viewed : (e n k : ℕ) (piece : List ℕ) → next script s (actor.Engine e) ≡ Ok (kind.Packet n k piece) →

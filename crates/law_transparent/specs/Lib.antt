@@ -1,0 +1,3 @@
+pub mod OwnPages
+pub mod NamedPlaces
+pub mod Spared

@@ -11,7 +11,7 @@ use Rattle.lemma_bytes_model.specs.Memory as memory
 use Rattle.lemma_bytes_model.specs.Memory.{Page, Nowhere}
 use Rattle.law_holders.proofs.Owner.{owner_of, owning}
 use Rattle.lemma_bytes_view.proofs.World.{bare}
-use Rattle.lemma_bytes_emit.proofs.Viewed.{Viewed}
+use Rattle.lemma_bytes_view.proofs.Viewed.{Viewed}
 use Rattle.law_transparent.proofs.Carried.{view_law}
 use Rattle.law_views.specs.GoodViews.{IsOwner, HasGoodView}
 

@@ -42,11 +42,11 @@ use Rattle.lemma_bytes_view.proofs.Jobs.{same_job-refl}
 use Rattle.lemma_bytes_view.proofs.Kept.{keep_more, changing_kept, using_kept, ghostly_kept, mover_kept}
 use Rattle.lemma_bytes_view.proofs.PacketStep.{no_bytes}
 use Rattle.lemma_bytes_view.proofs.Titles.{SameHolds, owners_same}
-use Rattle.lemma_bytes_bind.proofs.Binds.{among_all}
+use Rattle.lemma_bytes_view.proofs.Binds.{among_all}
 use Rattle.law_pieces.specs.Pieces.{paged, views_of}
 use Rattle.law_pieces.proofs.Pieces.{ops_on_memory, ops_steps, shown_from}
-use Rattle.lemma_bytes_emit.proofs.Viewed.{Viewed}
-use Rattle.lemma_bytes_emit.proofs.MoreJobs.{get_last, is_prior, prior_is, prior_waits, among_unfinished, emitted_seen}
+use Rattle.lemma_bytes_view.proofs.Viewed.{Viewed}
+use Rattle.lemma_bytes_view.proofs.MoreJobs.{get_last, is_prior, prior_is, prior_waits, among_unfinished, emitted_seen}
 use Rattle.lemma_bytes_arm.proofs.Named.{AllOf, SameOwn, steps_placed, steps_own, plain_own, named_all, views_named, mentioned, written_mentioned}
 use Rattle.lemma_bytes_arm.proofs.Fences.{IsLive, fold_kept, fold_aperture, fold_reads, fold_writes, joins_writes, joins_reads, among_flat}
 

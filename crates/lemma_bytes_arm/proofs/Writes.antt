@@ -28,10 +28,10 @@ use Rattle.law_holders.proofs.There.{held_there}
 use Rattle.lemma_bytes_view.specs.Seen.{put_in}
 use Rattle.lemma_bytes_view.proofs.World.{Seen, bare}
 use Rattle.lemma_bytes_view.proofs.PacketStep.{no_bytes, within_same, within_cut, put_same}
-use Rattle.lemma_bytes_bind.proofs.Binds.{idle_done}
+use Rattle.lemma_bytes_view.proofs.Binds.{idle_done}
 use Rattle.law_pieces.specs.Pieces.{paged, piece_view}
 use Rattle.law_pieces.proofs.Pieces.{piece_on_memory}
-use Rattle.lemma_bytes_emit.proofs.Viewed.{Viewed}
+use Rattle.lemma_bytes_view.proofs.Viewed.{Viewed}
 use Rattle.lemma_bytes_arm.proofs.Arms.{Reached}
 use Rattle.lemma_bytes_arm.proofs.Named.{SameOwn, plain_own}
 

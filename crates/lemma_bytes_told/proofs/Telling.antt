@@ -40,7 +40,7 @@ use Rattle.journal_model.specs.Next.{step_of_act, step_of_task}
 use Rattle.law_state.specs.Courses as courses
 use Rattle.law_state.proofs.JobNames.{found_at}
 use Rattle.law_step.specs.Due.{is_due}
-use Rattle.law_progress.specs.Sound.{Has, Owned}
+use Rattle.law_sound.specs.Sound.{Has, Owned}
 use Rattle.law_sound.proofs.Turns.{Turn, OnVictim, OnNamed, OnBuffer, answer, start, victim_unbind, victim_empty, victim_give, victim_move, victim_fill, victim_search, give, act, fill_in_place, ask, bind, fill_to_bind, hop_up, unbind, move_up, move_across, move_down, fill_to_move, hop_down}
 use Rattle.law_sound.proofs.Gifts as gifts
 use Rattle.law_sound.proofs.Gifts.{Gives, Sought, Filled, PlaceOf}

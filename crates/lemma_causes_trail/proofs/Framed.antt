@@ -42,7 +42,7 @@ use Rattle.law_sound.proofs.Turns.{Turn, victim_move, victim_fill, fill_in_place
 use Rattle.law_sound.proofs.Gifts.{Gives, Sought, Filled, answers, makes, exists, shifts, draws, no_buffer, reserves, backs, seeks, binds, unbinds, moves, fills, lets_go, empties, depopulates, untakes, skips, gives_up, refuses, arms, frees, swaps, no_swap, acts, finds, evicts, dries, fresh, again, back, evicts_for_swap, nothing}
 use Rattle.law_sound.proofs.Bufs.{same_or_other, found_passes, clash}
 use Rattle.law_sound.proofs.Grips.{live_set}
-use Rattle.lemma_end_carrying.proofs.Takes.{taken, taken_body}
+use Rattle.lemma_end_ways.proofs.Takes.{taken, taken_body}
 use Rattle.lemma_end_ways.proofs.Spanless.{first_live}
 
 -- its frames wait for its pages in TT

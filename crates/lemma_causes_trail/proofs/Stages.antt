@@ -33,7 +33,7 @@ use Rattle.journal_model.specs.Causes.{in_command, is_no_pages_of, is_take_of, d
 use Rattle.law_sound.proofs.Turns.{Works}
 use Rattle.law_sound.proofs.Steadies.{next_course}
 use Rattle.law_sound.proofs.Bufs.{same_is, other_is, victims_of, clash}
-use Rattle.lemma_end_measure_parts.proofs.Frame.{touches}
+use Rattle.lemma_end_measure.proofs.Frame.{touches}
 use Rattle.lemma_causes_trail.proofs.Found.{takes}
 use Rattle.lemma_causes_trail.proofs.Windows.{Quiet, Trail}
 use Rattle.lemma_causes_trail.proofs.Tasks.{places_of, Seeking, is_aside}

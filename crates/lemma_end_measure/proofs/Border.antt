@@ -24,8 +24,8 @@ use Rattle.journal_model.specs.ApplyCommands.{on_to_next, named_in, ghost_of_fre
 use Rattle.journal_model.specs.ApplyJobs.{ops_of}
 use Rattle.law_state.specs.GoodState.{GoodState}
 use Rattle.law_state.proofs.Rules.{Rules}
-use Rattle.law_progress.specs.Sound.{Has, Owned}
-use Rattle.law_progress.proofs.Measure.{all_pages, packet_count, whole_command, locking_left, command_left, later_commands, thread_left, slot_debts, left_of_buffer, job_left, measure}
+use Rattle.law_sound.specs.Sound.{Has, Owned}
+use Rattle.law_sound.proofs.Measure.{all_pages, packet_count, whole_command, locking_left, command_left, later_commands, thread_left, slot_debts, left_of_buffer, job_left, measure}
 use Rattle.law_sound.proofs.Along.{Stepped}
 use Rattle.law_sound.proofs.Orders.{there}
 use Rattle.law_sound.proofs.Turns.{OnNamed, Works}
@@ -33,11 +33,11 @@ use Rattle.law_sound.proofs.Bufs.{none_last}
 use Rattle.law_sound.proofs.Steadies.{next_course, own_course}
 use Rattle.law_sound.proofs.Owners.{OneCourse}
 use Rattle.law_sound.proofs.Grips.{one_course}
-use Rattle.lemma_end_measure_parts.proofs.Locks.{locks_most}
-use Rattle.lemma_end_measure_parts.proofs.Frame.{left_of, left_is, others_left, others_buffer}
-use Rattle.lemma_end_measure_parts.proofs.Working.{phase, phase_is, working_most, command_least, working_least}
-use Rattle.lemma_end_measure_parts.proofs.Slots.{Fewer, same_all, gone_fewer, debts_keep, no_debts}
-use Rattle.lemma_end_measure_parts.proofs.Sums.{sum_one, sum_set_most, uses_left, uses_fewer, pages_of_new, decl_most, drop_at, length-packets, sum_pushed}
+use Rattle.lemma_end_measure.proofs.Locks.{locks_most}
+use Rattle.lemma_end_measure.proofs.Frame.{left_of, left_is, others_left, others_buffer}
+use Rattle.lemma_end_measure.proofs.Working.{phase, phase_is, working_most, command_least, working_least}
+use Rattle.lemma_end_measure.proofs.Slots.{Fewer, same_all, gone_fewer, debts_keep, no_debts}
+use Rattle.lemma_end_measure.proofs.Sums.{sum_one, sum_set_most, uses_left, uses_fewer, pages_of_new, decl_most, drop_at, length-packets, sum_pushed}
 
 -- what is known of a state and of its script
 pub record Known (script : Script) (s : State) : Type 0 where

@@ -23,15 +23,15 @@ use Rattle.journal_model.specs.Ready.{first_unready, is_ready}
 use Rattle.journal_model.specs.Places.{slots_of}
 use Rattle.journal_model.specs.Holds.{has_number}
 use Rattle.journal_model.specs.Apply.{applied}
-use Rattle.law_progress.specs.Sound.{locks}
-use Rattle.law_progress.proofs.Measure.{measure}
+use Rattle.law_sound.specs.Sound.{locks}
+use Rattle.law_sound.proofs.Measure.{measure}
 use Rattle.law_sound.proofs.Along.{Stepped}
 use Rattle.law_sound.proofs.Turns.{Turn, Works, OnNamed, OnVictim, answer, start, lock, give, victim_skip, act}
 use Rattle.law_sound.proofs.Gifts.{Gives, answers, makes, exists, shifts, draws, no_buffer, reserves, backs, depopulates, untakes, skips, gives_up, refuses, arms, frees, no_swap, acts}
 use Rattle.law_sound.proofs.Bufs.{victims_of, same_self, has_found, none_missing, none_last, last_caught}
 use Rattle.law_sound.proofs.Steadies.{locking_command, lock_wants, locks_alone}
 use Rattle.law_sound.proofs.OwnedKeeps.{bare, unlocked_alone, has_stamp, begun_locks}
-use Rattle.lemma_end_measure_parts.proofs.Slots.{OneFewer, Fewer, same_one, same_all}
+use Rattle.lemma_end_measure.proofs.Slots.{OneFewer, Fewer, same_one, same_all}
 use Rattle.lemma_end_measure.proofs.Border.{Known, next_falls, new_falls, bulk_falls, ticket_falls, free_falls, arm_falls}
 use Rattle.lemma_end_measure.proofs.Skipping.{skip_falls}
 use Rattle.lemma_end_measure.proofs.Giving.{target_there, depopulate_falls, untake_falls}

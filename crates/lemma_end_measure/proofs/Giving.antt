@@ -30,17 +30,17 @@ use Rattle.journal_model.specs.Tasks.{gives_back}
 use Rattle.journal_model.specs.PageSteps.{target_to_untake}
 use Rattle.journal_model.specs.Apply.{applied}
 use Rattle.journal_model.specs.ApplyPages.{with_spans, without_frame, without_frames}
-use Rattle.law_progress.proofs.Measure.{one_if, packet_count, frame_count, target_count, to_give_back, if_named, search_left, later_commands, left_of_buffer, job_left, page_left, thread_left, slot_debts, locks_left, measure}
-use Rattle.law_progress.proofs.MeasureFalls.{sum_set, sum_most}
+use Rattle.law_sound.proofs.Measure.{one_if, packet_count, frame_count, target_count, to_give_back, if_named, search_left, later_commands, left_of_buffer, job_left, page_left, thread_left, slot_debts, locks_left, measure}
+use Rattle.law_sound.proofs.MeasureFalls.{sum_set, sum_most}
 use Rattle.law_state.proofs.Lists.{get_within}
 use Rattle.law_sound.proofs.Along.{Stepped}
 use Rattle.law_sound.proofs.Turns.{Works}
 use Rattle.law_sound.proofs.Bufs.{same_is}
 use Rattle.law_sound.proofs.Steadies.{next_course, own_course}
-use Rattle.lemma_end_measure_parts.proofs.Frame.{left_of, left_is, others_left, untouched}
-use Rattle.lemma_end_measure_parts.proofs.Working.{phase_is}
-use Rattle.lemma_end_measure_parts.proofs.Slots.{OneFewer, Fewer, debts_keep, no_debts}
-use Rattle.lemma_end_measure_parts.proofs.Sums.{sum_one, fewer_kept}
+use Rattle.lemma_end_measure.proofs.Frame.{left_of, left_is, others_left, untouched}
+use Rattle.lemma_end_measure.proofs.Working.{phase_is}
+use Rattle.lemma_end_measure.proofs.Slots.{OneFewer, Fewer, debts_keep, no_debts}
+use Rattle.lemma_end_measure.proofs.Sums.{sum_one, fewer_kept}
 use Rattle.lemma_end_measure.proofs.Border.{Known, range, one, others_same, own_is, own_now}
 
 -- ---- one buffer

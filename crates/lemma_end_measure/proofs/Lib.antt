@@ -5,3 +5,8 @@ pub mod Skipping
 pub mod Giving
 pub mod Parts
 pub mod Falls
+pub mod Locks
+pub mod Frame
+pub mod Working
+pub mod Slots
+pub mod Sums

@@ -22,19 +22,19 @@ use Rattle.journal_model.specs.Next.{backs_off}
 use Rattle.journal_model.specs.Apply.{applied}
 use Rattle.journal_model.specs.Complete.{thread_numbers}
 use Rattle.journal_model.specs.Scheduled.{Ticketed, ticketed}
-use Rattle.law_progress.specs.Sound.{command_of}
-use Rattle.law_progress.proofs.DeadEnds.{command_is}
-use Rattle.law_progress.proofs.Measure.{left_of_buffer, job_left, is_elder, number_of, waits_for_elder, missing_of, missing, locks_left, locking_left, command_left, thread_left, slot_debts, measure}
+use Rattle.law_sound.specs.Sound.{command_of}
+use Rattle.law_sound.proofs.DeadEnds.{command_is}
+use Rattle.law_sound.proofs.Measure.{left_of_buffer, job_left, is_elder, number_of, waits_for_elder, missing_of, missing, locks_left, locking_left, command_left, thread_left, slot_debts, measure}
 use Rattle.law_sound.proofs.Along.{Stepped}
 use Rattle.law_sound.proofs.Bufs.{same_is, has_more, has_new, missing_is_named, missing_not_held}
 use Rattle.law_sound.proofs.Steadies.{next_course, own_course}
 use Rattle.law_sound.proofs.Owners.{none_or}
 use Rattle.law_sound.proofs.Grips.{grip_other, released_other}
-use Rattle.lemma_end_measure_parts.proofs.Locks.{digit, Each, Among, missing_most, locks_fall, backoff_lowers}
-use Rattle.lemma_end_measure_parts.proofs.Frame.{left_of, left_is, others_left}
-use Rattle.lemma_end_measure_parts.proofs.Working.{phase, phase_is, working_most}
-use Rattle.lemma_end_measure_parts.proofs.Slots.{Fewer, same_all, debts_keep, no_debts}
-use Rattle.lemma_end_measure_parts.proofs.Sums.{sum_one}
+use Rattle.lemma_end_measure.proofs.Locks.{digit, Each, Among, missing_most, locks_fall, backoff_lowers}
+use Rattle.lemma_end_measure.proofs.Frame.{left_of, left_is, others_left}
+use Rattle.lemma_end_measure.proofs.Working.{phase, phase_is, working_most}
+use Rattle.lemma_end_measure.proofs.Slots.{Fewer, same_all, debts_keep, no_debts}
+use Rattle.lemma_end_measure.proofs.Sums.{sum_one}
 use Rattle.lemma_end_measure.proofs.Border.{Known, shared, range, one, others_same, own_is, own_was, own_now}
 
 -- ---- what is missing

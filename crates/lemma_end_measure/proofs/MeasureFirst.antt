@@ -14,10 +14,10 @@ use Rattle.journal_model.specs.Commands.{commands_of, command_at_work}
 use Rattle.journal_model.specs.Complete.{thread_numbers}
 use Rattle.journal_model.specs.Legal.{first_state}
 use Rattle.journal_model.specs.Scheduled.{ticketed, packets_in, turn_limit, scheduled_actors}
-use Rattle.law_progress.proofs.DeadEnds.{command_is}
-use Rattle.law_progress.proofs.OthersSame.{sum_same}
-use Rattle.law_progress.proofs.Measure.{all_pages, packet_count, whole_command, command_left, thread_left, slot_debts, left_of_buffer, missing, binary, by_age, may_lock, measure, missing_of, waits_for_elder}
-use Rattle.lemma_end_measure_parts.proofs.Slots.{no_debts}
+use Rattle.law_sound.proofs.DeadEnds.{command_is}
+use Rattle.law_sound.proofs.OthersSame.{sum_same}
+use Rattle.law_sound.proofs.Measure.{all_pages, packet_count, whole_command, command_left, thread_left, slot_debts, left_of_buffer, missing, binary, by_age, may_lock, measure, missing_of, waits_for_elder}
+use Rattle.lemma_end_measure.proofs.Slots.{no_debts}
 use Rattle.law_sound.proofs.Along.{first_course, sound_first}
 
 -- ---- sums and products

@@ -15,15 +15,15 @@ use Rattle.journal_model.specs.State.{new_buffer, buffer, course, grip}
 use Rattle.journal_model.specs.Tasks.{first_missing}
 use Rattle.journal_model.specs.Apply.{applied}
 use Rattle.journal_model.specs.Scheduled.{Ticketed}
-use Rattle.law_progress.proofs.Measure.{is_elder, number_of, waits_for_elder, missing, packet_count, to_give_back, if_named, search_left, later_commands, thread_left, slot_debts, locks_left, measure}
+use Rattle.law_sound.proofs.Measure.{is_elder, number_of, waits_for_elder, missing, packet_count, to_give_back, if_named, search_left, later_commands, thread_left, slot_debts, locks_left, measure}
 use Rattle.law_sound.proofs.Along.{Stepped}
 use Rattle.law_sound.proofs.Steadies.{next_course, own_course}
-use Rattle.lemma_end_measure_parts.proofs.Locks.{digit, locks_keep}
+use Rattle.lemma_end_measure.proofs.Locks.{digit, locks_keep}
 use Rattle.lemma_end_measure.proofs.Locking.{waits_of, waits_from, missing_in, missing_is, stamps_same, missing_other, missing_own}
-use Rattle.lemma_end_measure_parts.proofs.Frame.{left_of, left_is, others_left}
-use Rattle.lemma_end_measure_parts.proofs.Working.{phase_is}
-use Rattle.lemma_end_measure_parts.proofs.Slots.{Fewer, debts_keep}
-use Rattle.lemma_end_measure_parts.proofs.Sums.{sum_one}
+use Rattle.lemma_end_measure.proofs.Frame.{left_of, left_is, others_left}
+use Rattle.lemma_end_measure.proofs.Working.{phase_is}
+use Rattle.lemma_end_measure.proofs.Slots.{Fewer, debts_keep}
+use Rattle.lemma_end_measure.proofs.Sums.{sum_one}
 use Rattle.lemma_end_measure.proofs.Border.{Known, shared, range, one, others_same, own_is, own_now}
 
 -- the state after an entry of a thread

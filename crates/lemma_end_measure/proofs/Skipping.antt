@@ -25,17 +25,17 @@ use Rattle.journal_model.specs.Tasks.{first_missing}
 use Rattle.journal_model.specs.Holds.{free_slot}
 use Rattle.journal_model.specs.Apply.{applied}
 use Rattle.journal_model.specs.ApplyVictims.{no_longer_caught, with_skip}
-use Rattle.law_progress.proofs.Measure.{one_if, packet_count, to_give_back, victim_left, has_failed, not_skipped, room_for_victims, if_named, search_share, search_left, later_commands, thread_left, slot_debt, slot_debts, measure}
-use Rattle.law_progress.proofs.MeasureFalls.{sum_most}
+use Rattle.law_sound.proofs.Measure.{one_if, packet_count, to_give_back, victim_left, has_failed, not_skipped, room_for_victims, if_named, search_share, search_left, later_commands, thread_left, slot_debt, slot_debts, measure}
+use Rattle.law_sound.proofs.MeasureFalls.{sum_most}
 use Rattle.law_sound.proofs.Along.{Stepped}
 use Rattle.law_sound.proofs.Turns.{OnVictim, InVram}
 use Rattle.law_sound.proofs.Bufs.{same_self, same_is, same_or_other, let_go, has_more, has_new}
 use Rattle.law_sound.proofs.Steadies.{next_course, own_course}
-use Rattle.lemma_end_measure_parts.proofs.Locks.{locks_most}
-use Rattle.lemma_end_measure_parts.proofs.Frame.{left_of, left_is, others_left}
-use Rattle.lemma_end_measure_parts.proofs.Working.{phase_is}
-use Rattle.lemma_end_measure_parts.proofs.Slots.{Fewer, same_all, debts_keep}
-use Rattle.lemma_end_measure_parts.proofs.Sums.{sum_one}
+use Rattle.lemma_end_measure.proofs.Locks.{locks_most}
+use Rattle.lemma_end_measure.proofs.Frame.{left_of, left_is, others_left}
+use Rattle.lemma_end_measure.proofs.Working.{phase_is}
+use Rattle.lemma_end_measure.proofs.Slots.{Fewer, same_all, debts_keep}
+use Rattle.lemma_end_measure.proofs.Sums.{sum_one}
 use Rattle.lemma_end_measure.proofs.Border.{Known, shared, range, one, others_same, own_is, own_now}
 
 -- ---- victims let go

@@ -31,8 +31,8 @@ use Rattle.journal_model.specs.Dry.{has_frame, victim}
 use Rattle.journal_model.specs.Search.{Quest, quest, through_tt, why_of, is_caught}
 use Rattle.journal_model.specs.ApplyCommands.{with_holder}
 use Rattle.journal_model.specs.ApplyVictims.{leaves_tt, with_victim}
-use Rattle.law_progress.proofs.Measure.{one_if, victim_left, has_failed, not_skipped, room_for_victims, search_share, search_left, left_of_buffer, slot_debt, measure}
-use Rattle.law_progress.proofs.MeasureFalls.{sum_most}
+use Rattle.law_sound.proofs.Measure.{one_if, victim_left, has_failed, not_skipped, room_for_victims, search_share, search_left, left_of_buffer, slot_debt, measure}
+use Rattle.law_sound.proofs.MeasureFalls.{sum_most}
 use Rattle.law_sound.proofs.Along.{Stepped}
 use Rattle.law_sound.proofs.Turns.{Works}
 use Rattle.law_sound.proofs.Bufs.{other_is}
@@ -40,14 +40,14 @@ use Rattle.law_sound.proofs.Owners.{none_or}
 use Rattle.law_sound.proofs.Grips.{grip_other, victim_passes}
 use Rattle.law_sound.proofs.OwnedKeeps.{HasIn}
 use Rattle.law_sound.proofs.Steadies.{own_course}
-use Rattle.lemma_end_measure_parts.proofs.Frame.{same_left, untouched}
-use Rattle.lemma_end_measure_parts.proofs.Slots.{OneFewer, Fewer, slot_stays, debts_from}
-use Rattle.lemma_end_measure_parts.proofs.Sums.{sum_kept, fewer_kept, sum_pushed}
+use Rattle.lemma_end_measure.proofs.Frame.{same_left, untouched}
+use Rattle.lemma_end_measure.proofs.Slots.{OneFewer, Fewer, slot_stays, debts_from}
+use Rattle.lemma_end_measure.proofs.Sums.{sum_kept, fewer_kept, sum_pushed}
 use Rattle.lemma_end_measure.proofs.Giving.{changed_here}
 use Rattle.lemma_end_measure.proofs.Skipping.{search_was}
 use Rattle.lemma_end_measure.proofs.Border.{Known}
 use Rattle.lemma_end_measure.proofs.Parts.{after, parts_fall, locks_stay}
-use Rattle.lemma_end_pages.proofs.Victims.{last_pushed}
+use Rattle.lemma_end_searches.proofs.Victims.{last_pushed}
 
 -- ---- what is caught
 

@@ -2,3 +2,11 @@ pub mod Loosening
 pub mod Catching
 pub mod Ways
 pub mod Searches
+pub mod Victims
+pub mod Failing
+pub mod Tables
+pub mod Paging
+pub mod WaySteps
+pub mod VictimsKeep
+pub mod Listed
+pub mod DryPlaces

@@ -21,18 +21,18 @@ use Rattle.journal_model.specs.Waits.{waited_for, jobs_before_write}
 use Rattle.journal_model.specs.Search.{Step}
 use Rattle.journal_model.specs.PageSteps.{unless_waiting, once_idle, first_frame_page, why_caught, step_of_swap_out, step_of_empty}
 use Rattle.journal_model.specs.ApplyVictims.{no_longer_caught}
-use Rattle.law_progress.proofs.Measure.{one_if, to_give_back, victim_left, not_skipped, search_share, search_left, slot_debt, measure}
-use Rattle.law_progress.proofs.MeasureFalls.{sum_most}
+use Rattle.law_sound.proofs.Measure.{one_if, to_give_back, victim_left, not_skipped, search_share, search_left, slot_debt, measure}
+use Rattle.law_sound.proofs.MeasureFalls.{sum_most}
 use Rattle.law_sound.proofs.Along.{Stepped}
 use Rattle.law_sound.proofs.Turns.{OnVictim, Emptied, for_tt, for_swap, left_vram}
 use Rattle.law_sound.proofs.Bufs.{let_go}
 use Rattle.law_sound.proofs.Steadies.{own_course}
-use Rattle.lemma_end_measure_parts.proofs.Locks.{locks_most}
-use Rattle.lemma_end_measure_parts.proofs.Slots.{same_all}
+use Rattle.lemma_end_measure.proofs.Locks.{locks_most}
+use Rattle.lemma_end_measure.proofs.Slots.{same_all}
 use Rattle.lemma_end_measure.proofs.Skipping.{let_go_falls, room_most, search_was}
 use Rattle.lemma_end_measure.proofs.Border.{Known}
 use Rattle.lemma_end_measure.proofs.Parts.{after, parts_fall}
-use Rattle.lemma_end_pages.proofs.Victims.{Caught, found_last, still_failed}
+use Rattle.lemma_end_searches.proofs.Victims.{Caught, found_last, still_failed}
 
 -- a victim that was caught for swap, and is let go, has no frame, or finds no slot
 kept_in : (script : Script) (s : State) (b : BufId) → step_of_swap_out script s b (Ok (kind.Loose b)) (Ok (kind.Loose b)) ≡ Ok (kind.Loose b) → (has_frame (buffer s b) && is_some (free_slot script s.core)) ≡ false

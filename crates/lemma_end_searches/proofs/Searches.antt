@@ -47,8 +47,8 @@ use Rattle.journal_model.specs.ApplyVictims.{failed_if, with_fail, gone_dry, cou
 use Rattle.law_state.proofs.Rules.{Rules}
 use Rattle.law_state.proofs.JobsKeep.{all_at}
 use Rattle.law_state.proofs.Lists.{get_within}
-use Rattle.law_progress.specs.Sound.{Carried, Fits, at_target, system_tt, system_vram, system_both, tt_system, tt_tt, tt_vram, vram_vram, vram_tt, vram_system, vram_both}
-use Rattle.law_progress.proofs.Measure.{room_for_victims, measure}
+use Rattle.law_sound.specs.Sound.{Carried, Fits, at_target, system_tt, system_vram, system_both, tt_system, tt_tt, tt_vram, vram_vram, vram_tt, vram_system, vram_both}
+use Rattle.law_sound.proofs.Measure.{room_for_victims, measure}
 use Rattle.law_sound.proofs.Along.{Stepped}
 use Rattle.law_sound.proofs.Turns.{Turn, Works, OnVictim, OnNamed, OnBuffer, InVram, victim_empty, victim_fill, victim_search, act, fill_in_place, ask, fill_to_bind, hop_up, fill_to_move, hop_down}
 use Rattle.law_sound.proofs.Gifts.{Gives, Sought, Filled, answers, seeks, fills, lets_go, empties, swaps, finds, evicts, dries, fresh, again, back, evicts_for_swap, nothing}
@@ -58,12 +58,12 @@ use Rattle.law_sound.proofs.Grips.{IsFree, victim_free, swap_free, swap_passes}
 use Rattle.law_sound.proofs.OwnedKeeps.{has_stamp, begun_locks}
 use Rattle.lemma_end_measure.proofs.Border.{Known}
 use Rattle.lemma_end_measure.proofs.Parts.{after, locks_stay}
-use Rattle.lemma_end_pages.proofs.Victims.{Caught, alone_for_vram, found_last}
+use Rattle.lemma_end_searches.proofs.Victims.{Caught, alone_for_vram, found_last}
 use Rattle.lemma_end_searches.proofs.Ways.{GoodVictims, way_of_last, unskipped_last, emptied_fine, swap_stands}
-use Rattle.lemma_end_pages.proofs.Tables.{is_swap_out, to_fill}
-use Rattle.lemma_end_pages.proofs.Failing.{fail_falls, dry_falls, victim_fail_falls}
+use Rattle.lemma_end_searches.proofs.Tables.{is_swap_out, to_fill}
+use Rattle.lemma_end_searches.proofs.Failing.{fail_falls, dry_falls, victim_fail_falls}
 use Rattle.lemma_end_searches.proofs.Loosening.{loose_falls}
-use Rattle.lemma_end_pages.proofs.Paging.{Filler, for_named, for_victim, by_name, by_victim, populate_falls, swap_in_falls, swap_out_falls}
+use Rattle.lemma_end_searches.proofs.Paging.{Filler, for_named, for_victim, by_name, by_victim, populate_falls, swap_in_falls, swap_out_falls}
 use Rattle.lemma_end_searches.proofs.Catching.{Prey, for_swap, evicted, hop, hops, catch_falls}
 
 -- ---- few places

@@ -13,10 +13,10 @@ use Rattle.journal_model.specs.declared.state.Buffer.{Buffer}
 use Rattle.journal_model.specs.declared.entry.Why.{Why}
 use Rattle.journal_model.specs.declared.entry.Why.TheVariants as why
 use Rattle.journal_model.specs.State.{buffer, same_buffer, has_buffer, has_target}
-use Rattle.law_progress.specs.Sound.{Targeted, OnItsWay, in_vram, to_tt, out_of_vram, in_tt, in_system}
+use Rattle.law_sound.specs.Sound.{Targeted, OnItsWay, in_vram, to_tt, out_of_vram, in_tt, in_system}
 use Rattle.law_sound.proofs.Turns.{Emptied, for_tt, for_swap, left_vram}
 use Rattle.law_sound.proofs.Bufs.{same_self, same_is, victims_of, let_go}
-use Rattle.lemma_end_pages.proofs.Victims.{Caught, nobody, single, pair, Last, last_is, last_of_two}
+use Rattle.lemma_end_searches.proofs.Victims.{Caught, nobody, single, pair, Last, last_is, last_of_two}
 
 -- each victim on its way
 abbrev pub Ways : (BufId → Buffer) → List Victim → Type 0

@@ -26,8 +26,8 @@ use Rattle.journal_model.specs.Commands.{named}
 use Rattle.journal_model.specs.Ready.{is_in_place, is_ready, first_unready, has_some_target}
 use Rattle.journal_model.specs.Search.{quest, is_caught}
 use Rattle.journal_model.specs.PageSteps.{target_to_untake}
-use Rattle.law_progress.specs.Sound.{Carried, Fits, OnItsWay, in_vram, to_tt, out_of_vram, in_tt, in_system}
-use Rattle.law_progress.proofs.Measure.{measure}
+use Rattle.law_sound.specs.Sound.{Carried, Fits, OnItsWay, in_vram, to_tt, out_of_vram, in_tt, in_system}
+use Rattle.law_sound.proofs.Measure.{measure}
 use Rattle.law_sound.proofs.Along.{Stepped}
 use Rattle.law_sound.proofs.Turns.{Turn, Works, OnVictim, OnNamed, OnBuffer, OnCarried, victim_unbind, victim_give, victim_move, victim_search, give, ask, bind, hop_up, unbind, move_up, move_across, move_down, hop_down}
 use Rattle.law_sound.proofs.Gifts.{Gives, Sought, Filled, PlaceOf, seeks, binds, unbinds, moves, fills, depopulates, untakes, finds, evicts, dries, fresh, again, back, evicts_for_swap, nothing}
@@ -36,9 +36,9 @@ use Rattle.law_sound.proofs.OwnedKeeps.{has_stamp, begun_locks}
 use Rattle.lemma_end_measure.proofs.Border.{Known}
 use Rattle.lemma_end_measure.proofs.Giving.{target_there, depopulate_falls, untake_falls}
 use Rattle.lemma_end_measure.proofs.Parts.{after}
-use Rattle.lemma_end_carrying.proofs.Carries.{AtNamed, at_named, live_is, bind_falls, unbind_falls, move_up_falls, move_across_falls, move_down_falls}
-use Rattle.lemma_end_carrying.proofs.VictimSteps.{IsLast, AtVictim, at_victim, victim_unbind_falls, victim_move_falls, victim_depopulate_falls, victim_untake_falls}
-use Rattle.lemma_end_carrying.proofs.Takes.{hop_place, asked_falls, hop_falls, victim_take_falls, up, down}
+use Rattle.lemma_end_ways.proofs.Carries.{AtNamed, at_named, live_is, bind_falls, unbind_falls, move_up_falls, move_across_falls, move_down_falls}
+use Rattle.lemma_end_ways.proofs.VictimSteps.{IsLast, AtVictim, at_victim, victim_unbind_falls, victim_move_falls, victim_depopulate_falls, victim_untake_falls}
+use Rattle.lemma_end_ways.proofs.Takes.{hop_place, asked_falls, hop_falls, victim_take_falls, up, down}
 use Rattle.lemma_end_ways.proofs.OnWays.{Carrying}
 use Rattle.lemma_end_ways.proofs.Keeps.{LeftPlaces, zero_or_more}
 use Rattle.lemma_end_ways.proofs.Targets.{LastWay}

@@ -44,7 +44,7 @@ use Rattle.journal_model.specs.ApplyPages.{bound, unbound, with_spans, with_loc,
 use Rattle.journal_model.specs.ApplyMoves.{moved}
 use Rattle.journal_model.specs.ApplyVictims.{with_fail, with_victim, course_after_dry}
 use Rattle.law_state.proofs.Lists.{get_within, live_changed}
-use Rattle.law_progress.specs.Sound.{Carried, Fits, asks, command_of, locks, at_target}
+use Rattle.law_sound.specs.Sound.{Carried, Fits, asks, command_of, locks, at_target}
 use Rattle.law_sound.proofs.Turns.{Turn, Works, OnVictim, OnNamed, OnBuffer, OnMisplaced, start, lock, victim_unbind, victim_empty, victim_give, victim_skip, victim_move, victim_fill, victim_search, give, act, fill_in_place, ask, bind, fill_to_bind, hop_up, unbind, move_up, move_across, move_down, fill_to_move, hop_down}
 use Rattle.law_sound.proofs.Gifts.{Gives, Sought, Filled, PlaceOf, answers, makes, shifts, draws, reserves, backs, seeks, binds, unbinds, moves, fills, lets_go, empties, depopulates, untakes, skips, arms, frees, swaps, finds, evicts, dries, fresh, again, back, evicts_for_swap, nothing}
 use Rattle.law_sound.proofs.Bufs.{same_or_other, other_is, has_found, has_pushed, has_without, without_gone, last_caught, none_missing, clash}
@@ -52,14 +52,14 @@ use Rattle.law_sound.proofs.Steadies.{next_course, locking_command}
 use Rattle.law_sound.proofs.Owners.{none_or}
 use Rattle.law_sound.proofs.Grips.{live_set, victim_free, swap_free}
 use Rattle.law_sound.proofs.OwnedKeeps.{bare, unlocked, at_search, at_fill}
-use Rattle.lemma_end_measure_parts.proofs.Frame.{untouched}
+use Rattle.lemma_end_measure.proofs.Frame.{untouched}
 use Rattle.lemma_end_measure.proofs.Giving.{live_at, changed_here}
 use Rattle.lemma_end_measure.proofs.Border.{Known}
 use Rattle.lemma_end_measure.proofs.Parts.{after}
-use Rattle.lemma_end_carrying.proofs.Rows.{MeetsAt, meets_alike, fits_meet, meet_fits, fits_alike, none_is, some_is, Nearer, bound_nearer, unbound_nearer, up_nearer, across_nearer, down_nearer}
-use Rattle.lemma_end_carrying.proofs.Carries.{live_is}
-use Rattle.lemma_end_carrying.proofs.Takes.{taken, taken_body, hop_place}
-use Rattle.lemma_end_reach.proofs.Reaches.{IsListed, place_listed, asked_fits, system_choice, some_forced}
+use Rattle.lemma_end_ways.proofs.Rows.{MeetsAt, meets_alike, fits_meet, meet_fits, fits_alike, none_is, some_is, Nearer, bound_nearer, unbound_nearer, up_nearer, across_nearer, down_nearer}
+use Rattle.lemma_end_ways.proofs.Carries.{live_is}
+use Rattle.lemma_end_ways.proofs.Takes.{taken, taken_body, hop_place}
+use Rattle.lemma_end_ways.proofs.Reaches.{IsListed, place_listed, asked_fits, system_choice, some_forced}
 use Rattle.lemma_end_ways.proofs.Spanless.{AreBare, buffer_bare}
 use Rattle.lemma_end_ways.proofs.TakenRows.{Took, taken_spans, first_row, up_row, down_row, untaken_row}
 use Rattle.lemma_end_ways.proofs.OnWays.{OnWay, Carrying, SameLock, lock_same, works_alike, search_lock, fail_lock, dry_lock, find_stays, pins_same, on_way_kept}

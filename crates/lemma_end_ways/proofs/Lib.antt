@@ -4,3 +4,10 @@ pub mod OnWays
 pub mod Keeps
 pub mod Targets
 pub mod Falling
+pub mod Exact
+pub mod Rows
+pub mod Pages
+pub mod Carries
+pub mod VictimSteps
+pub mod Takes
+pub mod Reaches

@@ -27,7 +27,7 @@ use Rattle.journal_model.specs.ApplyPages.{search_over}
 use Rattle.journal_model.specs.ApplyVictims.{failed_if, with_fail, gone_dry, course_after_dry}
 use Rattle.law_state.specs.Courses.{GoodCourses, makes}
 use Rattle.law_state.proofs.Lists.{set_at}
-use Rattle.law_progress.specs.Sound.{Has, Owned, Carried, Fits, asks, command_of}
+use Rattle.law_sound.specs.Sound.{Has, Owned, Carried, Fits, asks, command_of}
 use Rattle.law_sound.proofs.Along.{Stepped}
 use Rattle.law_sound.proofs.Turns.{Turn, Works, answer, act}
 use Rattle.law_sound.proofs.Gifts.{Gives, answers, seeks, fills, acts}
@@ -35,9 +35,9 @@ use Rattle.law_sound.proofs.Bufs.{same_self, same_is, same_or_other, has_found, 
 use Rattle.law_sound.proofs.Owners.{OneCourse, none_or}
 use Rattle.law_sound.proofs.Grips.{grip_other}
 use Rattle.law_sound.proofs.OwnedKeeps.{HasIn}
-use Rattle.lemma_end_measure_parts.proofs.Frame.{touches, untouched, touched_mine}
+use Rattle.lemma_end_measure.proofs.Frame.{touches, untouched, touched_mine}
 use Rattle.lemma_end_measure.proofs.Parts.{after}
-use Rattle.lemma_end_carrying.proofs.Rows.{carried_map}
+use Rattle.lemma_end_ways.proofs.Rows.{carried_map}
 
 -- a held buffer on its way
 pub record OnWay (script : Script) (s : State) (c : Course) (cmd : Command) (b : BufId) : Type 0 where

@@ -30,7 +30,7 @@ use Rattle.law_state.proofs.Lists.{set_at, live_changed}
 use Rattle.law_sound.proofs.Along.{Stepped, OfWorker, packet, done, reap}
 use Rattle.law_sound.proofs.Turns.{Turn, victim_move, move_up, move_across, move_down}
 use Rattle.law_sound.proofs.Gifts.{Gives, seeks, moves, fills}
-use Rattle.lemma_end_carrying.proofs.Takes.{taken, taken_body}
+use Rattle.lemma_end_ways.proofs.Takes.{taken, taken_body}
 
 abbrev pub IsBare : Buffer → Type 0
 IsBare x = x.mem ≡ System → x.spans ≡ []

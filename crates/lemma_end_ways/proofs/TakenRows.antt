@@ -13,9 +13,9 @@ use Rattle.journal_model.specs.State.{has_target, target_of, with_target}
 use Rattle.journal_model.specs.Ready.{has_some_target}
 use Rattle.journal_model.specs.PageSteps.{target_to_untake}
 use Rattle.journal_model.specs.ApplyPages.{with_spans}
-use Rattle.law_progress.specs.Sound.{Targeted, Carried, system_tt, system_vram, system_both, tt_system, tt_tt, tt_vram, vram_vram, vram_tt, vram_system, vram_both}
+use Rattle.law_sound.specs.Sound.{Targeted, Carried, system_tt, system_vram, system_both, tt_system, tt_tt, tt_vram, vram_vram, vram_tt, vram_system, vram_both}
 use Rattle.law_sound.proofs.Bufs.{clash}
-use Rattle.lemma_end_carrying.proofs.Rows.{MeetsAt, meets_at, some_is}
+use Rattle.lemma_end_ways.proofs.Rows.{MeetsAt, meets_at, some_is}
 
 -- y is x with one more target
 pub record Took (to : Mem) (spans : List Span) (x y : Buffer) : Type 0 where

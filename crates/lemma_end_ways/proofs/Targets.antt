@@ -34,7 +34,7 @@ use Rattle.journal_model.specs.Apply.{applied}
 use Rattle.journal_model.specs.Legal.{first_state}
 use Rattle.law_state.specs.Courses.{GoodCourses}
 use Rattle.law_state.proofs.Lists.{set_at}
-use Rattle.law_progress.specs.Sound.{asks, command_of, locks, OnItsWay, in_vram, to_tt, out_of_vram, in_tt, in_system}
+use Rattle.law_sound.specs.Sound.{asks, command_of, locks, OnItsWay, in_vram, to_tt, out_of_vram, in_tt, in_system}
 use Rattle.law_sound.proofs.Along.{Stepped, OfWorker, packet, done, reap}
 use Rattle.law_sound.proofs.Turns.{Turn, Works, OnNamed, Emptied, for_tt, for_swap, left_vram, Refusal, ban, pinned, Surrender, bare, ready, answer, start, lock, victim_empty, victim_skip, refuse, give_up, act}
 use Rattle.law_sound.proofs.Gifts.{Gives, Sought, Filled, answers, makes, exists, shifts, draws, no_buffer, reserves, backs, seeks, binds, unbinds, moves, fills, lets_go, empties, depopulates, untakes, skips, gives_up, refuses, arms, frees, swaps, no_swap, acts, finds, evicts, dries, fresh, again, back, evicts_for_swap, nothing}
@@ -43,10 +43,10 @@ use Rattle.law_sound.proofs.Owners.{none_or}
 use Rattle.law_sound.proofs.Grips.{IsFree, grip_other, grip_here, released_other, pins_hold, live_set, live_within, victim_free, swap_free, one_course}
 use Rattle.law_sound.proofs.OwnedKeeps.{HasIn, unlocked, at_search, at_fill, has_stamp, begun_locks}
 use Rattle.law_sound.proofs.Steadies.{own_course}
-use Rattle.lemma_end_measure_parts.proofs.Frame.{touches, untouched, turn_has}
+use Rattle.lemma_end_measure.proofs.Frame.{touches, untouched, turn_has}
 use Rattle.lemma_end_measure.proofs.Border.{Known}
 use Rattle.lemma_end_measure.proofs.Parts.{after}
-use Rattle.lemma_end_carrying.proofs.Rows.{some_is}
+use Rattle.lemma_end_ways.proofs.Rows.{some_is}
 use Rattle.lemma_end_ways.proofs.Spanless.{AreBare, first_live}
 use Rattle.lemma_end_ways.proofs.OnWays.{OnWay, Carrying, others_on_way}
 use Rattle.lemma_end_ways.proofs.Keeps.{LeftPlaces, clear, clear_ready, clear_locking, own_keeps}

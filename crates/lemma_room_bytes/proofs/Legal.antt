@@ -22,11 +22,11 @@ use Rattle.journal_model.specs.ScriptRules.{is_script}
 use Rattle.journal_model.specs.Search.{Step}
 use Rattle.journal_model.specs.Waits.{waited_for}
 use Rattle.journal_model.specs.Legal.{World, IsLegal, IsLegalNext, state_of, world_of}
-use Rattle.law_journal.proofs.Shown.{shows, shown_plain, legal_step}
+use Rattle.law_state.proofs.Shown.{shows, shown_plain, legal_step}
 use Rattle.law_owners.proofs.Taken.{lowest_is_free}
-use Rattle.law_pages.proofs.Law.{ghosts_law}
+use Rattle.law_transparent.proofs.PagesLaw.{ghosts_law}
 use Rattle.law_transparent.proofs.Carried.{clear_law, told_law}
-use Rattle.lemma_bytes_move.proofs.Tables.{full_is}
+use Rattle.lemma_bytes_view.proofs.Tables.{full_is}
 use Rattle.lemma_bytes_told.specs.Told.{is_still, Told, still, makes, frees, leaves, takes, untakes, populates, swaps_in, depopulates, binds, unbinds, moves_up, moves_across, moves_down, evicts, catches, swaps_out, arms, reads, writes, results}
 use Rattle.lemma_room_bytes.specs.Mapped.{IsFull}
 use Rattle.lemma_room_bytes.specs.Telling.{Tells}

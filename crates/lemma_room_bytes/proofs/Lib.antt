@@ -11,3 +11,16 @@ pub mod Legal
 pub mod Entries
 pub mod Reached
 pub mod SpanPages
+pub mod Marks
+pub mod Held
+pub mod Pools
+pub mod Lowest
+pub mod Walks
+pub mod Slots
+pub mod SlotKinds
+pub mod Others
+pub mod Telling
+pub mod Behind
+pub mod First
+pub mod Asks
+pub mod LegalEntries

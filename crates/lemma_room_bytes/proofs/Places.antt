@@ -19,7 +19,7 @@ use Rattle.law_owners.proofs.Law.{AreHeldOnce}
 use Rattle.lemma_bytes_model.specs.View.{Live}
 use Rattle.law_holders.specs.Holding.{seen}
 use Rattle.law_holders.proofs.There.{held_there}
-use Rattle.lemma_bytes_move.proofs.Tables.{get_at}
+use Rattle.lemma_bytes_view.proofs.Tables.{get_at}
 use Rattle.room_ties.specs.Pages.{AreStores}
 use Rattle.lemma_room_bytes.specs.Mapped.{IsFull}
 use Rattle.lemma_room_bytes.specs.Shown.{is_in_stores}

@@ -21,10 +21,10 @@ use Rattle.journal_model.specs.Places.{page_at}
 use Rattle.journal_model.specs.Ready.{is_ready}
 use Rattle.journal_model.specs.ScriptRules.{is_script}
 use Rattle.journal_model.specs.Stores.{showing}
-use Rattle.law_journal.proofs.Shown.{legal_step}
+use Rattle.law_state.proofs.Shown.{legal_step}
 use Rattle.law_transparent.proofs.Acts.{ready_filled}
 use Rattle.law_transparent.proofs.Carried.{clear_law, told_law}
-use Rattle.lemma_bytes_move.proofs.Tables.{full_is}
+use Rattle.lemma_bytes_view.proofs.Tables.{full_is}
 use Rattle.lemma_bytes_told.specs.Told.{is_still, is_write, Told, still, makes, frees, leaves, takes, untakes, populates, swaps_in, depopulates, binds, unbinds, moves_up, moves_across, moves_down, evicts, catches, swaps_out, arms, reads, writes, results}
 use Rattle.lemma_room_bytes.specs.Mapped.{IsFull}
 use Rattle.lemma_room_bytes.proofs.Places.{IsReached, page_reached}

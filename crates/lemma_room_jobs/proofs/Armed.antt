@@ -34,10 +34,10 @@ use Rattle.room_ties.specs.declared.parts.Parts.{Parts}
 use Rattle.room_ties.specs.Fences.{WaitsFor, AreFences}
 use Rattle.room_ties.specs.Pages.{ArePooled, AreSlots, AreStores}
 use Rattle.room_ties.specs.Ties.{Ties}
-use Rattle.lemma_room_sets.proofs.Later.{IsLater, ghosts_later, move_later}
-use Rattle.lemma_room_sets.proofs.Told.{unfenced_armed}
+use Rattle.lemma_room_jobs.proofs.Later.{IsLater, ghosts_later, move_later}
+use Rattle.lemma_room_jobs.proofs.Told.{unfenced_armed}
 use Rattle.lemma_room_jobs.proofs.Emitted.{later_more, timeline_more, rings_more}
-use Rattle.lemma_room_sets.proofs.Stays.{frames_armed, slots_armed, maps_armed}
+use Rattle.lemma_room_jobs.proofs.Stays.{frames_armed, slots_armed, maps_armed}
 
 -- the job of these operations
 abbrev pub armed_job : State → JobId → List Op → List BufId → Job

@@ -30,11 +30,11 @@ use Rattle.room_ties.specs.Fences.{WaitsFor, AreFences, set_at, with_use_in}
 use Rattle.room_ties.specs.Ghosts.{IsGhost}
 use Rattle.room_ties.specs.Lines.{IsTimeline, AreInLine}
 use Rattle.room_ties.specs.MoveFences.{IsMoveFence}
-use Rattle.lemma_room_sets.proofs.Lists.{is_there, length_set}
-use Rattle.lemma_room_sets.proofs.Later.{fences_later}
-use Rattle.lemma_room_sets.proofs.Needs.{move_waits}
-use Rattle.lemma_room_sets.proofs.Sets.{armed_set, waits_none, waits_moved, waits_armed, fences_kept, fences_used, fences_armed}
-use Rattle.lemma_room_sets.proofs.GhostSteps.{waits_for_job}
+use Rattle.lemma_room_jobs.proofs.Lists.{is_there, length_set}
+use Rattle.lemma_room_jobs.proofs.Later.{fences_later}
+use Rattle.lemma_room_jobs.proofs.Needs.{move_waits}
+use Rattle.lemma_room_jobs.proofs.Sets.{armed_set, waits_none, waits_moved, waits_armed, fences_kept, fences_used, fences_armed}
+use Rattle.lemma_room_jobs.proofs.GhostSteps.{waits_for_job}
 use Rattle.lemma_room_jobs.proofs.Armed.{armed_job}
 use Rattle.lemma_room_jobs.proofs.Emitted.{later_more, emitted_now}
 

@@ -16,8 +16,8 @@ use Rattle.law_jobs.specs.JobLines.{jobs_of, unfinished_of, numbers_of, done_of}
 use Rattle.law_jobs.proofs.Lists.{kept_passing, counted}
 use Rattle.room_ties.specs.Lines.{IsTimeline, AreInLine}
 use Rattle.room_ties.specs.RingJobs.{IsPushed, IsRing, AreRings}
-use Rattle.lemma_room_sets.proofs.Lists.{both, any_along, all_at, filter_all, all_passing, all_drop, length_set, at_set, at_other}
-use Rattle.lemma_room_sets.proofs.Later.{IsLater, ring_later}
+use Rattle.lemma_room_jobs.proofs.Lists.{both, any_along, all_at, filter_all, all_passing, all_drop, length_set, at_set, at_other}
+use Rattle.lemma_room_jobs.proofs.Later.{IsLater, ring_later}
 use Rattle.lemma_room_jobs.proofs.Heads.{IsHead}
 
 -- one packet more has run

@@ -19,8 +19,8 @@ use Rattle.room_ties.specs.Fences.{is_unfinished_in, is_emitted, WaitsFor}
 use Rattle.room_ties.specs.Lines.{IsTimeline}
 use Rattle.room_ties.specs.RingJobs.{IsPushed, IsRing, AreRings}
 use Rattle.room_ties.specs.MoveFences.{IsMoveFence}
-use Rattle.lemma_room_sets.proofs.Lists.{filter_append, length_set, at_set, at_other}
-use Rattle.lemma_room_sets.proofs.Later.{IsLater, waits_later, ring_later}
+use Rattle.lemma_room_jobs.proofs.Lists.{filter_append, length_set, at_set, at_other}
+use Rattle.lemma_room_jobs.proofs.Later.{IsLater, waits_later, ring_later}
 
 same_parts : (i k : JobId) → i.ctx ≡ k.ctx → i.num ≡ k.num → i ≡ k
 same_parts i k x y = ap (λ c. record { ctx = c; num = i.num }) x ∙ ap (λ n. record { ctx = k.ctx; num = n }) y

@@ -19,7 +19,7 @@ use Rattle.journal_model.specs.Search.{Step}
 use Rattle.journal_model.specs.Waits.{waited_for}
 use Rattle.law_jobs.specs.JobLines.{unfinished_of}
 use Rattle.room_ties.specs.RingJobs.{IsPushed, IsRing, AreRings}
-use Rattle.lemma_room_sets.proofs.Lists.{find_is}
+use Rattle.lemma_room_jobs.proofs.Lists.{find_is}
 
 -- the head of a context, by its number
 pub record IsHead (jobs : List Job) (e n : ℕ) (j : Job) : Type 0 where

@@ -19,7 +19,7 @@ use Rattle.journal_model.specs.ScriptRules.{is_script}
 use Rattle.journal_model.specs.Legal.{World, IsLegal, IsLegalNext, state_of}
 use Rattle.journal_model.specs.Places.{aperture}
 use Rattle.journal_model.specs.Stores.{showing, job_packet}
-use Rattle.law_journal.proofs.Shown.{legal_step}
+use Rattle.law_state.proofs.Shown.{legal_step}
 use Rattle.law_state.specs.GoodState.{last_number}
 use Rattle.law_state.proofs.Counters.{is_left, next_counted}
 use Rattle.law_jobs.proofs.Law.{line_law}

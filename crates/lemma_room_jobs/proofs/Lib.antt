@@ -8,3 +8,10 @@ pub mod Packets
 pub mod Tied
 pub mod Armed
 pub mod BufferSets
+pub mod Lists
+pub mod Later
+pub mod Needs
+pub mod Sets
+pub mod GhostSteps
+pub mod Stays
+pub mod Told

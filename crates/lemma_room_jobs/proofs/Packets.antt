@@ -21,8 +21,8 @@ use Rattle.journal_model.specs.declared.script.Sizes.{Sizes}
 use Rattle.journal_model.specs.declared.state.Core.{Core}
 use Rattle.journal_model.specs.Places.{aperture}
 use Rattle.journal_model.specs.Stores.{is_there, within}
-use Rattle.law_packet_places.specs.NamedPlaces as named
-use Rattle.law_packet_places.specs.NamedPlaces.{IsRunnable}
+use Rattle.law_transparent.specs.NamedPlaces as named
+use Rattle.law_transparent.specs.NamedPlaces.{IsRunnable}
 use Rattle.room_ties.specs.Pages.{AreSlots, AreStores, HasNoMore}
 
 -- ---- packets over bytes that agree where packets reach

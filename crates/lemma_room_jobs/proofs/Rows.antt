@@ -12,7 +12,7 @@ use Rattle.law_state.specs.GoodState.{last_number}
 use Rattle.law_jobs.specs.JobLines.{unfinished_of, numbers_of, done_of}
 use Rattle.law_jobs.proofs.Lists.{length-count}
 use Rattle.room_ties.specs.Lines.{AreInLine}
-use Rattle.lemma_room_sets.proofs.Lists.{filter_append, filtered_at, find_only, length_set}
+use Rattle.lemma_room_jobs.proofs.Lists.{filter_append, filtered_at, find_only, length_set}
 use Rattle.lemma_room_jobs.proofs.Heads.{IsHead}
 
 none_beyond : (last : List ℕ) (ctx : ℕ) → length last ≤ ctx → last_number last ctx ≡ 0

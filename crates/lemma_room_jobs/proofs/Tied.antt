@@ -15,12 +15,12 @@ use Rattle.journal_model.specs.ApplyJobs.{after_done, after_packet_run}
 use Rattle.journal_model.specs.Holds.{held_slots}
 use Rattle.journal_model.specs.Places.{aperture}
 use Rattle.journal_model.specs.Stores.{job_packet, within}
-use Rattle.law_packet_places.specs.NamedPlaces.{NameWhatIsThere}
+use Rattle.law_transparent.specs.NamedPlaces.{NameWhatIsThere}
 use Rattle.room_ties.specs.declared.parts.Parts.{Parts}
 use Rattle.room_ties.specs.Lines.{AreInLine}
 use Rattle.room_ties.specs.Ties.{Ties}
-use Rattle.lemma_room_sets.proofs.Lists.{filtered_at}
-use Rattle.lemma_room_sets.proofs.Later.{ghosts_later}
+use Rattle.lemma_room_jobs.proofs.Lists.{filtered_at}
+use Rattle.lemma_room_jobs.proofs.Later.{ghosts_later}
 use Rattle.lemma_room_jobs.proofs.Heads.{IsEnd, IsRun, ring_next}
 use Rattle.lemma_room_jobs.proofs.Rows.{head_known, packet_named}
 use Rattle.lemma_room_jobs.proofs.Packets.{can_run, shows_same, stores_run, slots_run, nothing_beyond}

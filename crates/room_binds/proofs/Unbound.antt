@@ -21,14 +21,14 @@ use Rattle.journal_model.specs.Places.{pages_of}
 use Rattle.journal_model.specs.Stores.{stores_after}
 use Rattle.journal_model.specs.Legal.{IsLegalNext, state_of, world_of, world_after}
 use Rattle.law_owners.proofs.Law.{once_law}
-use Rattle.law_pages.proofs.Law.{ghosts_law}
+use Rattle.law_transparent.proofs.PagesLaw.{ghosts_law}
 use Rattle.law_transparent.proofs.Carried.{told_law}
 use Rattle.lemma_bytes_told.specs.Told.{IsThere, Told}
 use Rattle.lemma_room_bytes.specs.Mapped.{cleared}
 use Rattle.lemma_room_bytes.proofs.Entries.{unbind_tie}
 use Rattle.lemma_room_bytes.proofs.Holders.{own_spans, is_in_tt, buffer_inside}
 use Rattle.lemma_room_bytes.proofs.Legal.{entry_tells}
-use Rattle.lemma_room_frames.proofs.Others.{others_same, pool_stays, slots_stay}
+use Rattle.lemma_room_bytes.proofs.Others.{others_same, pool_stays, slots_stay}
 use Rattle.lemma_room_jobs.proofs.Packets.{nothing_beyond}
 use Rattle.lemma_room_lists.specs.Listed.{HasLists}
 use Rattle.lemma_room_lists.proofs.KindLaws.{unbind_lists}

@@ -26,7 +26,7 @@ use Rattle.room_ties.specs.Pages.{AreStores}
 use Rattle.room_ties.specs.Ties.{Ties}
 use Rattle.room_ties.specs.Held.{AreHeld}
 use Rattle.lemma_room_jobs.proofs.First.{first_timeline, first_rings, first_fences, first_move}
-use Rattle.lemma_room_frames.proofs.First.{first_pool, first_slots}
+use Rattle.lemma_room_bytes.proofs.First.{first_pool, first_slots}
 use Rattle.room_first.specs.declared.first.Buffers.{Buffers}
 use Rattle.room_first.specs.declared.first.Memory.{Memory}
 use Rattle.room_first.specs.declared.first.Work.{Work}

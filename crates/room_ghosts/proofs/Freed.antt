@@ -34,8 +34,8 @@ use Rattle.journal_model.specs.Stores.{stores_after}
 use Rattle.journal_model.specs.Legal.{IsLegalNext, state_of, world_of, world_after}
 use Rattle.law_owners.specs.OneOwner.{HaveOneOwner}
 use Rattle.law_owners.proofs.Law.{owner_law, once_law}
-use Rattle.law_pages.specs.OwnPages.{GoodGhosts}
-use Rattle.law_pages.proofs.Law.{ghosts_law}
+use Rattle.law_transparent.specs.OwnPages.{GoodGhosts}
+use Rattle.law_transparent.proofs.PagesLaw.{ghosts_law}
 use Rattle.law_transparent.proofs.Carried.{told_law}
 use Rattle.lemma_bytes_told.specs.Told.{IsThere, Told, still, frees, leaves}
 use Rattle.lemma_room_lists.specs.Listed.{HasLists}
@@ -45,13 +45,13 @@ use Rattle.lemma_room_spans.specs.Owned.{HoldsAsIn, HoldsAsOwned}
 use Rattle.lemma_room_spans.proofs.Entries.{thread_spans, next_ghost_fresh}
 use Rattle.lemma_room_spans.proofs.Holders.{live_kept}
 use Rattle.lemma_room_spans.proofs.MoveFence.{behind_fence}
-use Rattle.lemma_room_sets.proofs.GhostSteps.{ghosts_push}
-use Rattle.lemma_room_sets.proofs.Sets.{fences_cleared}
+use Rattle.lemma_room_jobs.proofs.GhostSteps.{ghosts_push}
+use Rattle.lemma_room_jobs.proofs.Sets.{fences_cleared}
 use Rattle.lemma_room_jobs.proofs.Packets.{nothing_beyond}
-use Rattle.lemma_room_frames.specs.GivenBack.{given_back}
-use Rattle.lemma_room_frames.proofs.Pools.{free_pooled, free_to_ghost_pooled}
-use Rattle.lemma_room_frames.proofs.SlotKinds.{free_slots}
-use Rattle.lemma_room_frames.proofs.Walks.{frames_within, slots_within, table_held_still}
+use Rattle.lemma_room_bytes.specs.GivenBack.{given_back}
+use Rattle.lemma_room_bytes.proofs.Pools.{free_pooled, free_to_ghost_pooled}
+use Rattle.lemma_room_bytes.proofs.SlotKinds.{free_slots}
+use Rattle.lemma_room_bytes.proofs.Walks.{frames_within, slots_within, table_held_still}
 use Rattle.lemma_room_bytes.specs.Mapped.{cleared}
 use Rattle.lemma_room_bytes.proofs.Entries.{free_tie, free_left_tie}
 use Rattle.lemma_room_bytes.proofs.Holders.{buffer_inside, is_in_tt, own_spans}

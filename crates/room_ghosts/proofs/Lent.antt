@@ -19,8 +19,8 @@ use Rattle.journal_model.specs.Legal.{state_of}
 use Rattle.journal_model.specs.Places.{frame_of}
 use Rattle.journal_model.specs.State.{buffer}
 use Rattle.lemma_bytes_told.specs.Told.{IsThere}
-use Rattle.lemma_room_sets.proofs.Needs.{set_is}
-use Rattle.lemma_room_sets.proofs.Sets.{set_length}
+use Rattle.lemma_room_jobs.proofs.Needs.{set_is}
+use Rattle.lemma_room_jobs.proofs.Sets.{set_length}
 use Rattle.lemma_room_jobs.proofs.BufferSets.{empty_set, freed_ghost}
 use Rattle.room_ties.specs.declared.parts.Parts.{Parts}
 use Rattle.room_ties.specs.Fences.{fences_of, set_at}

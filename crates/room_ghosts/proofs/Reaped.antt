@@ -17,19 +17,19 @@ use Rattle.journal_model.specs.Places.{pages_of}
 use Rattle.journal_model.specs.Stores.{stores_after}
 use Rattle.journal_model.specs.Legal.{IsLegalNext, state_of, world_of, world_after}
 use Rattle.law_owners.proofs.Law.{owner_law, once_law}
-use Rattle.law_pages.specs.OwnPages.{GoodGhosts}
-use Rattle.law_pages.proofs.Law.{ghosts_law}
+use Rattle.law_transparent.specs.OwnPages.{GoodGhosts}
+use Rattle.law_transparent.proofs.PagesLaw.{ghosts_law}
 use Rattle.lemma_room_spans.specs.Calls.{given}
 use Rattle.lemma_room_spans.specs.Owned.{HoldsAsOwned}
 use Rattle.lemma_room_spans.proofs.Carried.{reap_spans}
 use Rattle.lemma_room_spans.proofs.Holders.{ghost_kept}
 use Rattle.lemma_room_spans.proofs.MoveFence.{behind_fence}
-use Rattle.lemma_room_sets.proofs.GhostSteps.{IsFound, IsReap, ghost_found, ghosts_reaped, reap_of}
+use Rattle.lemma_room_jobs.proofs.GhostSteps.{IsFound, IsReap, ghost_found, ghosts_reaped, reap_of}
 use Rattle.lemma_room_jobs.proofs.Packets.{nothing_beyond}
-use Rattle.lemma_room_frames.specs.GivenBack.{given_back}
-use Rattle.lemma_room_frames.proofs.Asks.{ghost_frame_may_go}
-use Rattle.lemma_room_frames.proofs.Pools.{reap_pooled}
-use Rattle.lemma_room_frames.proofs.SlotKinds.{reap_slots}
+use Rattle.lemma_room_bytes.specs.GivenBack.{given_back}
+use Rattle.lemma_room_bytes.proofs.Asks.{ghost_frame_may_go}
+use Rattle.lemma_room_bytes.proofs.Pools.{reap_pooled}
+use Rattle.lemma_room_bytes.proofs.SlotKinds.{reap_slots}
 use Rattle.lemma_room_bytes.specs.Mapped.{cleared}
 use Rattle.lemma_room_bytes.proofs.Entries.{reap_tie}
 use Rattle.lemma_room_bytes.proofs.Holders.{ghost_inside}

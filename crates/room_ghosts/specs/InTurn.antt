@@ -1,7 +1,7 @@
 -- Numbers that are given back one by one.
 use Rattle.std.specs.Prelude.{◌≡◌, ℕ, Bool, true, List, Option, Some, filter_map, slice_get, take}
 use Rattle.ttm_base.specs.declared.Loc.{Loc}
-use Rattle.lemma_room_frames.specs.GivenBack.{given_back}
+use Rattle.lemma_room_bytes.specs.GivenBack.{given_back}
 
 -- each number is held when its turn comes, behind those before it
 abbrev pub AreHeldInTurn : List Bool → List ℕ → Type 0

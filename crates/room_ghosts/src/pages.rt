@@ -1,6 +1,6 @@
 ghost use Rattle.std.specs.Prelude.{◌≡◌, filter_map};
 ghost use Rattle.journal_model.specs.Places.{slot_of};
-ghost use Rattle.lemma_room_frames.specs.GivenBack.{given_back};
+ghost use Rattle.lemma_room_bytes.specs.GivenBack.{given_back};
 ghost use Rattle.room_ghosts.specs.InTurn.{AreHeldInTurn, AreHeldAlong};
 
 use page_pool::PagePool;

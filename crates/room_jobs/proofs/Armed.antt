@@ -48,9 +48,9 @@ use Rattle.room_ties.specs.declared.parts.Parts.{Parts}
 use Rattle.room_ties.specs.Fences.{AreFences, WaitsFor, fences_of, is_emitted, with_use_in}
 use Rattle.room_ties.specs.Held.{AreHeld}
 use Rattle.room_ties.specs.Ties.{Ties}
-use Rattle.lemma_room_sets.proofs.Later.{IsLater, fences_later}
-use Rattle.lemma_room_sets.proofs.Lists.{both}
-use Rattle.lemma_room_sets.proofs.Sets.{fences_armed, set_length, waits_armed, waits_length, waits_none}
+use Rattle.lemma_room_jobs.proofs.Later.{IsLater, fences_later}
+use Rattle.lemma_room_jobs.proofs.Lists.{both}
+use Rattle.lemma_room_jobs.proofs.Sets.{fences_armed, set_length, waits_armed, waits_length, waits_none}
 use Rattle.lemma_room_jobs.proofs.Armed.{armed_job, armed_tied}
 use Rattle.lemma_room_jobs.proofs.Emitted.{emitted_now, later_more}
 use Rattle.lemma_room_jobs.proofs.LegalJobs.{arm_number}

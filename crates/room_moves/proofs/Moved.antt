@@ -43,7 +43,7 @@ use Rattle.journal_model.specs.State.{buffer, changed, target_spans}
 use Rattle.journal_model.specs.Stores.{within}
 use Rattle.law_counters.proofs.Law.{counters_law}
 use Rattle.law_owners.proofs.Law.{once_law, owner_law}
-use Rattle.law_pages.proofs.Law.{ghosts_law}
+use Rattle.law_transparent.proofs.PagesLaw.{ghosts_law}
 use Rattle.law_state.proofs.GoodStates.{good_law, table_pages}
 use Rattle.law_state.proofs.Rules.{rules_of}
 use Rattle.law_state.specs.GoodState.{last_number}
@@ -66,19 +66,19 @@ use Rattle.room_ties.specs.Managers.{IsVram, IsTt}
 use Rattle.room_ties.specs.MoveFences.{IsMoveFence}
 use Rattle.room_ties.specs.Pages.{AreSlots, AreStores}
 use Rattle.room_ties.specs.RingJobs.{AreRings}
-use Rattle.lemma_room_sets.proofs.GhostSteps.{ghosts_push}
-use Rattle.lemma_room_sets.proofs.Later.{IsLater, ghosts_later, move_later}
-use Rattle.lemma_room_sets.proofs.Sets.{set_length}
-use Rattle.lemma_room_sets.proofs.Told.{unfenced_as}
+use Rattle.lemma_room_jobs.proofs.GhostSteps.{ghosts_push}
+use Rattle.lemma_room_jobs.proofs.Later.{IsLater, ghosts_later, move_later}
+use Rattle.lemma_room_jobs.proofs.Sets.{set_length}
+use Rattle.lemma_room_jobs.proofs.Told.{unfenced_as}
 use Rattle.lemma_room_jobs.proofs.BufferSets.{move_id, move_job, empty_set, before_write, moved_fences, moved_ghost}
 use Rattle.lemma_room_jobs.proofs.Emitted.{later_more, move_now, rings_more, timeline_more}
 use Rattle.lemma_room_jobs.proofs.LegalJobs.{move_number}
 use Rattle.lemma_room_jobs.proofs.Packets.{within_same}
-use Rattle.lemma_room_frames.specs.GivenBack.{given_back, slots_left}
-use Rattle.lemma_room_frames.proofs.Behind.{pool_behind}
-use Rattle.lemma_room_frames.proofs.Held.{no_slots}
-use Rattle.lemma_room_frames.proofs.SlotKinds.{move_slots}
-use Rattle.lemma_room_legal.proofs.Entries.{next_tells, no_slots_in_tt}
+use Rattle.lemma_room_bytes.specs.GivenBack.{given_back, slots_left}
+use Rattle.lemma_room_bytes.proofs.Behind.{pool_behind}
+use Rattle.lemma_room_bytes.proofs.Held.{no_slots}
+use Rattle.lemma_room_bytes.proofs.SlotKinds.{move_slots}
+use Rattle.lemma_room_bytes.proofs.LegalEntries.{next_tells, no_slots_in_tt}
 use Rattle.lemma_room_bytes.specs.Mapped.{HasStoresAfter}
 use Rattle.lemma_room_bytes.proofs.Entries.{move_in_tie, move_out_tie}
 use Rattle.lemma_room_bytes.proofs.Holders.{target_inside}

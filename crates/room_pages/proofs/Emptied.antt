@@ -27,10 +27,10 @@ use Rattle.room_ties.specs.Held.{AreHeld}
 use Rattle.room_ties.specs.Pages.{ArePooled}
 use Rattle.room_ties.specs.Ties.{Ties}
 use Rattle.lemma_room_jobs.proofs.Packets.{nothing_beyond}
-use Rattle.lemma_room_frames.specs.GivenBack.{given_back}
-use Rattle.lemma_room_frames.proofs.Pools.{depopulate_pooled}
-use Rattle.lemma_room_frames.proofs.SlotKinds.{depopulate_slots}
-use Rattle.lemma_room_frames.proofs.Walks.{frames_within, table_held_still}
+use Rattle.lemma_room_bytes.specs.GivenBack.{given_back}
+use Rattle.lemma_room_bytes.proofs.Pools.{depopulate_pooled}
+use Rattle.lemma_room_bytes.proofs.SlotKinds.{depopulate_slots}
+use Rattle.lemma_room_bytes.proofs.Walks.{frames_within, table_held_still}
 use Rattle.lemma_room_bytes.proofs.Fills.{depopulate_stores}
 use Rattle.room_pages.specs.Tables.{AreHeldInTurn}
 use Rattle.room_steps.proofs.Steps.{held_after, step_as}

@@ -34,14 +34,14 @@ use Rattle.room_ties.specs.Held.{AreHeld}
 use Rattle.room_ties.specs.Pages.{ArePooled, AreSlots}
 use Rattle.room_ties.specs.Ties.{Ties}
 use Rattle.lemma_room_jobs.proofs.Packets.{nothing_beyond}
-use Rattle.lemma_room_frames.specs.After.{frame_at}
-use Rattle.lemma_room_frames.specs.GivenBack.{given, taken}
-use Rattle.lemma_room_frames.proofs.Lowest.{slot_first, lowest_is_unheld}
-use Rattle.lemma_room_frames.proofs.Marks.{length-marks}
-use Rattle.lemma_room_frames.proofs.Pools.{swap_out_pooled}
-use Rattle.lemma_room_frames.proofs.SlotKinds.{swap_out_slots}
-use Rattle.lemma_room_frames.proofs.Telling.{to_empty}
-use Rattle.lemma_room_frames.proofs.Walks.{frames_within, page_held}
+use Rattle.lemma_room_bytes.specs.After.{frame_at}
+use Rattle.lemma_room_bytes.specs.GivenBack.{given, taken}
+use Rattle.lemma_room_bytes.proofs.Lowest.{slot_first, lowest_is_unheld}
+use Rattle.lemma_room_bytes.proofs.Marks.{length-marks}
+use Rattle.lemma_room_bytes.proofs.Pools.{swap_out_pooled}
+use Rattle.lemma_room_bytes.proofs.SlotKinds.{swap_out_slots}
+use Rattle.lemma_room_bytes.proofs.Telling.{to_empty}
+use Rattle.lemma_room_bytes.proofs.Walks.{frames_within, page_held}
 use Rattle.lemma_room_bytes.proofs.Fills.{swap_out_stores}
 use Rattle.lemma_room_bytes.proofs.Shown.{frame_read}
 use Rattle.room_pages.specs.Tables.{frame_in}

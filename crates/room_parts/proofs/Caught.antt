@@ -35,7 +35,7 @@ use Rattle.law_sound.proofs.Bufs.{found_passes}
 use Rattle.law_sound.proofs.Gifts.{Gives, seeks, fills, evicts, evicts_for_swap}
 use Rattle.lemma_room_lists.specs.Listed.{AreListed}
 use Rattle.lemma_room_lists.proofs.KindLaws.{regripped_unseen, loose_lists}
-use Rattle.lemma_room_sets.proofs.Stays.{KeepsPlaces}
+use Rattle.lemma_room_jobs.proofs.Stays.{KeepsPlaces}
 use Rattle.lemma_room_spans.proofs.Still.{catch_spans}
 use Rattle.room_ties.specs.declared.parts.Parts.{Parts}
 use Rattle.room_ties.specs.Bos.{unfenced}

@@ -26,10 +26,10 @@ use Rattle.room_ties.specs.Held.{AreHeld}
 use Rattle.room_ties.specs.Pages.{ArePooled}
 use Rattle.room_ties.specs.Ties.{Ties}
 use Rattle.lemma_room_jobs.proofs.Packets.{nothing_beyond}
-use Rattle.lemma_room_frames.proofs.Lowest.{pool_first, lowest_is_unheld}
-use Rattle.lemma_room_frames.proofs.Pools.{populate_pooled}
-use Rattle.lemma_room_frames.proofs.SlotKinds.{populate_slots}
-use Rattle.lemma_room_frames.proofs.Telling.{to_fill}
+use Rattle.lemma_room_bytes.proofs.Lowest.{pool_first, lowest_is_unheld}
+use Rattle.lemma_room_bytes.proofs.Pools.{populate_pooled}
+use Rattle.lemma_room_bytes.proofs.SlotKinds.{populate_slots}
+use Rattle.lemma_room_bytes.proofs.Telling.{to_fill}
 use Rattle.lemma_room_bytes.proofs.Fills.{populate_stores}
 use Rattle.room_steps.proofs.Steps.{held_after, step_as}
 use Rattle.room_steps.proofs.Frames.{changed_bos}

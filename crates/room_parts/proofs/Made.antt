@@ -42,9 +42,9 @@ use Rattle.room_ties.specs.declared.parts.Parts.{Parts}
 use Rattle.room_ties.specs.Bos.{AreBos, unfenced}
 use Rattle.room_ties.specs.Held.{AreHeld}
 use Rattle.room_ties.specs.Ties.{Ties}
-use Rattle.lemma_room_sets.proofs.Sets.{fences_cleared}
+use Rattle.lemma_room_jobs.proofs.Sets.{fences_cleared}
 use Rattle.lemma_room_jobs.proofs.Packets.{nothing_beyond}
-use Rattle.lemma_room_frames.proofs.Others.{new_same, pool_stays, new_slots}
+use Rattle.lemma_room_bytes.proofs.Others.{new_same, pool_stays, new_slots}
 use Rattle.lemma_room_bytes.proofs.Fills.{new_stores}
 use Rattle.room_steps.specs.Courses.{course_at, with_course_by}
 use Rattle.room_steps.proofs.Steps.{held_after, step_as, thread_stepped, thread_there}

@@ -14,7 +14,7 @@ use Rattle.journal_model.specs.declared.entry.Entry.{Entry}
 use Rattle.journal_model.specs.declared.entry.Kind.TheVariants as kind
 use Rattle.journal_model.specs.ApplyJobs.{after_done}
 use Rattle.journal_model.specs.Legal.{World, IsLegalNext, state_of, stores_of, world_of, world_after}
-use Rattle.law_packet_places.proofs.Law.{places_law}
+use Rattle.law_transparent.proofs.PacketPlacesLaw.{places_law}
 use Rattle.room_ties.specs.declared.parts.Parts.{Parts}
 use Rattle.room_ties.specs.Lines.{AreInLine}
 use Rattle.room_ties.specs.Held.{AreHeld}

@@ -33,13 +33,13 @@ use Rattle.room_ties.specs.Held.{AreHeld}
 use Rattle.room_ties.specs.Pages.{ArePooled, AreSlots}
 use Rattle.room_ties.specs.Ties.{Ties}
 use Rattle.lemma_room_jobs.proofs.Packets.{nothing_beyond}
-use Rattle.lemma_room_frames.proofs.Held.{table_set}
-use Rattle.lemma_room_frames.proofs.Lowest.{pool_first, lowest_is_unheld}
-use Rattle.lemma_room_frames.proofs.Marks.{mark_at, has_some, owned_below}
-use Rattle.lemma_room_frames.proofs.Pools.{swap_in_pooled}
-use Rattle.lemma_room_frames.proofs.SlotKinds.{swap_in_slots}
-use Rattle.lemma_room_frames.proofs.Telling.{to_fill}
-use Rattle.lemma_room_frames.proofs.Walks.{slots_within}
+use Rattle.lemma_room_bytes.proofs.Held.{table_set}
+use Rattle.lemma_room_bytes.proofs.Lowest.{pool_first, lowest_is_unheld}
+use Rattle.lemma_room_bytes.proofs.Marks.{mark_at, has_some, owned_below}
+use Rattle.lemma_room_bytes.proofs.Pools.{swap_in_pooled}
+use Rattle.lemma_room_bytes.proofs.SlotKinds.{swap_in_slots}
+use Rattle.lemma_room_bytes.proofs.Telling.{to_fill}
+use Rattle.lemma_room_bytes.proofs.Walks.{slots_within}
 use Rattle.lemma_room_bytes.proofs.Fills.{swap_in_stores}
 use Rattle.room_steps.proofs.Lent.{is_below}
 use Rattle.room_steps.proofs.Frames.{changed_bos}

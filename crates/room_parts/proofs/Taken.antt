@@ -31,7 +31,7 @@ use Rattle.journal_model.specs.Holds.{size_of}
 use Rattle.journal_model.specs.Next.{next}
 use Rattle.journal_model.specs.Waits.{jobs_before_target}
 use Rattle.journal_model.specs.Legal.{IsLegalNext, state_of, stores_of, world_of}
-use Rattle.law_pages.proofs.Law.{ghosts_law}
+use Rattle.law_transparent.proofs.PagesLaw.{ghosts_law}
 use Rattle.law_transparent.proofs.Carried.{told_law}
 use Rattle.lemma_bytes_told.specs.Told as told
 use Rattle.lemma_bytes_told.specs.Told.{IsThere, Told}
@@ -49,9 +49,9 @@ use Rattle.room_ties.specs.Fences.{fences_of, is_emitted, AreFences}
 use Rattle.room_ties.specs.Held.{AreHeld}
 use Rattle.room_ties.specs.Managers.{IsTt}
 use Rattle.room_ties.specs.Ties.{Ties}
-use Rattle.lemma_room_sets.proofs.Sets.{fences_kept, set_length}
-use Rattle.lemma_room_sets.proofs.Stays.{KeepsPlaces}
-use Rattle.lemma_room_sets.proofs.Told.{unfenced_as}
+use Rattle.lemma_room_jobs.proofs.Sets.{fences_kept, set_length}
+use Rattle.lemma_room_jobs.proofs.Stays.{KeepsPlaces}
+use Rattle.lemma_room_jobs.proofs.Told.{unfenced_as}
 use Rattle.lemma_room_jobs.proofs.BufferSets.{taken_sets, taken_fences}
 use Rattle.lemma_room_jobs.proofs.LegalJobs.{in_line}
 use Rattle.room_steps.specs.Courses.{course_at, with_course_by}

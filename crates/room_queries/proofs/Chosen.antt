@@ -18,7 +18,7 @@ use Rattle.journal_model.specs.Choice.{choice}
 use Rattle.journal_model.specs.Commands.{decl, undeclared}
 use Rattle.journal_model.specs.ScriptRules.{is_decl}
 use Rattle.journal_model.specs.Legal.{state_of}
-use Rattle.law_pages.proofs.Law.{ghosts_law}
+use Rattle.law_transparent.proofs.PagesLaw.{ghosts_law}
 use Rattle.law_state.proofs.JobsKeep.{all_at}
 use Rattle.law_state.proofs.Rules.{rules_of}
 use Rattle.lemma_room_spans.specs.Owned.{FirstOfNumber, HoldsAsOwned}

@@ -18,12 +18,12 @@ use Rattle.journal_model.specs.Stores.{job_packet, no_packet}
 use Rattle.journal_model.specs.Waits.{waited_for}
 use Rattle.journal_model.specs.Legal.{state_of, stores_of, world_of}
 use Rattle.law_jobs.specs.JobLines.{unfinished_of}
-use Rattle.law_packet_places.proofs.Law.{places_law}
+use Rattle.law_transparent.proofs.PacketPlacesLaw.{places_law}
 use Rattle.room_ties.specs.declared.parts.Parts.{Parts}
 use Rattle.room_ties.specs.RingJobs.{IsRing}
 use Rattle.room_ties.specs.Held.{AreHeld}
-use Rattle.lemma_room_sets.proofs.Lists.{filtered_at, find_is}
-use Rattle.lemma_room_sets.proofs.Needs.{head_waits}
+use Rattle.lemma_room_jobs.proofs.Lists.{filtered_at, find_is}
+use Rattle.lemma_room_jobs.proofs.Needs.{head_waits}
 use Rattle.lemma_room_jobs.proofs.Heads.{IsHead}
 use Rattle.lemma_room_jobs.proofs.Packets.{can_run, shows_same}
 use Rattle.lemma_room_jobs.proofs.Rows.{head_named}

@@ -28,8 +28,8 @@ use Rattle.lemma_bytes_told.specs.Told.{IsThere}
 use Rattle.room_ties.specs.declared.parts.Parts.{Parts}
 use Rattle.room_ties.specs.Bos.{unfenced}
 use Rattle.room_ties.specs.Held.{AreHeld}
-use Rattle.lemma_room_sets.proofs.Lists.{get_map}
-use Rattle.lemma_room_frames.proofs.Walks.{page_held, slots_within}
+use Rattle.lemma_room_jobs.proofs.Lists.{get_map}
+use Rattle.lemma_room_bytes.proofs.Walks.{page_held, slots_within}
 use Rattle.lemma_room_bytes.proofs.Places.{page_there}
 use Rattle.lemma_room_bytes.proofs.Shown.{range_append}
 use Rattle.room_steps.proofs.Lent.{is_below, stands_at}

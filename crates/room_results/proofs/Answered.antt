@@ -37,7 +37,7 @@ use Rattle.journal_model.specs.Places.{aperture, page_at}
 use Rattle.journal_model.specs.Stores.{put_bytes, showing, stores_after, written}
 use Rattle.journal_model.specs.Tasks.{forbidden}
 use Rattle.journal_model.specs.Legal.{World, IsLegalNext, state_of, stores_of, world_of, world_after}
-use Rattle.law_journal.proofs.Shown.{legal_step}
+use Rattle.law_state.proofs.Shown.{legal_step}
 use Rattle.law_state.specs.Courses.{makes}
 use Rattle.law_state.specs.GoodState.{HasPages}
 use Rattle.law_state.proofs.GoodStates.{good_law}

@@ -26,8 +26,8 @@ use Rattle.room_ties.specs.Fences.{fences_of, jobs_in, are_emitted}
 use Rattle.room_ties.specs.Managers.{IsVram, IsTt}
 use Rattle.room_ties.specs.Pages.{ArePooled, AreSlots, AreStores}
 use Rattle.room_ties.specs.Ties.{Ties}
-use Rattle.lemma_room_sets.proofs.Stays.{KeepsPlaces, frames_kept, slots_kept, maps_kept}
-use Rattle.lemma_room_sets.proofs.Told.{told_same, all_same, unfenced_as}
+use Rattle.lemma_room_jobs.proofs.Stays.{KeepsPlaces, frames_kept, slots_kept, maps_kept}
+use Rattle.lemma_room_jobs.proofs.Told.{told_same, all_same, unfenced_as}
 
 -- a change that leaves a buffer where it stands, with its frames and slots, and with its fences, at which it doesn't look
 pub record LeavesInPlace (f : Buffer → Buffer) : Type 0 where

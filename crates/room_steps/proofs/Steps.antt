@@ -14,7 +14,7 @@ use Rattle.journal_model.specs.Apply.{apply}
 use Rattle.journal_model.specs.Stores.{Stores, within, showing, stores_after}
 use Rattle.journal_model.specs.Legal.{World, IsLegalNext, state_of, stores_of, world_of, world_after}
 use Rattle.journal_model.proofs.JournalLaws.{world_of-append, IsLegal-append}
-use Rattle.law_journal.proofs.Shown.{legal_step}
+use Rattle.law_state.proofs.Shown.{legal_step}
 use Rattle.law_sound.proofs.Along.{Stepped, stepped_of, sound_law}
 use Rattle.room_ties.specs.declared.parts.Parts.{Parts}
 use Rattle.room_ties.specs.Ties.{Ties}

@@ -17,7 +17,7 @@ use Rattle.journal_model.specs.Ready.{is_ready}
 use Rattle.journal_model.specs.ScriptRules.{is_script}
 use Rattle.journal_model.specs.Tasks.{task_of}
 use Rattle.law_state.proofs.GoodStates.{good_law}
-use Rattle.law_progress.specs.Sound.{Has, Owned, command_of}
+use Rattle.law_sound.specs.Sound.{Has, Owned, command_of}
 use Rattle.law_sound.proofs.Along.{sound_law}
 use Rattle.law_sound.proofs.Bufs.{clash, has_found, last_caught, missing_not_held, none_missing}
 use Rattle.law_sound.proofs.Grips.{live_within}

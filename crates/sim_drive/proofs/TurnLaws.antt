@@ -7,7 +7,7 @@ use Rattle.journal_model.specs.declared.entry.Entry.{Entry}
 use Rattle.journal_model.specs.Complete.{is_complete}
 use Rattle.journal_model.specs.Legal.{World, world_of, state_of, next_entry}
 use Rattle.journal_model.specs.Scheduled.{Run, run_of, stepped, appended, scheduled, actor_of_turn}
-use Rattle.law_journal.proofs.Turns.{run_good}
+use Rattle.law_state.proofs.Turns.{run_good}
 use Rattle.device_core.specs.Kept.{Kept, entry_of, with_entry, with_step, after_turn}
 
 module _ (script : Script) (n : ℕ) where

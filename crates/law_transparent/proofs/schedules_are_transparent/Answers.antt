@@ -1,4 +1,4 @@
-use Rattle.law_journal.proofs.Turns.{scheduled_legal}
+use Rattle.law_state.proofs.Turns.{scheduled_legal}
 use Rattle.journal_model.specs.Scheduled.{scheduled}
 use Rattle.law_transparent.proofs.Law.{transparent_given}
 use Rattle.law_transparent.proofs.Ways.{have_ways}

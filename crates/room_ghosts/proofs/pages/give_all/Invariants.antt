@@ -1,5 +1,5 @@
 use Rattle.std.proofs.Common.{◌≡◌, take}
-use Rattle.lemma_room_frames.specs.GivenBack.{given_back}
+use Rattle.lemma_room_bytes.specs.GivenBack.{given_back}
 use Rattle.room_ghosts.proofs.pages.give_all.Given as goal
 
 abbrev pub invariant-loop-frame : goal.invariant-loop-frame

@@ -1,5 +1,5 @@
 use Rattle.std.proofs.Common.{ap, subst, sym, ◌∙◌}
-use Rattle.lemma_room_frames.specs.GivenBack.{given_back}
+use Rattle.lemma_room_bytes.specs.GivenBack.{given_back}
 use Rattle.room_ghosts.specs.InTurn.{AreHeldInTurn}
 use Rattle.room_ghosts.proofs.Reaped.{reap_some, reap_turns, reap_pages, reap_held}
 use Rattle.room_ghosts.proofs.reaps.reap.Goals as goal

@@ -2,7 +2,7 @@ use Rattle.std.proofs.Common.{◌≡◌, ◌∙◌, subst, sym, false}
 use Rattle.std.specs.Prelude.{Bool, ◌↔◌}
 use Rattle.journal_model.specs.Legal.{state_of}
 use Rattle.journal_model.specs.Complete.{is_complete}
-use Rattle.law_progress.specs.Sound.{SomeGoesOn}
+use Rattle.law_sound.specs.Sound.{SomeGoesOn}
 use Rattle.rules_stores.specs.Kept.{bytes_of}
 use Rattle.law_sound.proofs.Orders.{until_the_end}
 use Rattle.device_core.proofs.DeviceLaws.{over}

@@ -1,4 +1,0 @@
-pub mod Shown
-pub mod Courses
-pub mod Counted
-pub mod Turns

@@ -1,3 +1,0 @@
-pub mod Short
-pub mod Law
-pub mod Spared

@@ -1,2 +1,0 @@
-pub mod NamedPlaces
-pub mod Spared

@@ -1,3 +1,0 @@
-pub mod Viewed
-pub mod MoreJobs
-pub mod Moving

@@ -1,4 +1,0 @@
-pub mod Tables
-pub mod Ups
-pub mod Acrosses
-pub mod Downs

@@ -1,3 +1,0 @@
-pub mod ChoicePages
-pub mod Shapes
-pub mod Numbers

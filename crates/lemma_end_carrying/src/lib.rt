@@ -1,2 +1,0 @@
-//! Each step of carrying a buffer lowers the number that says how far a journal still has to go.
-#![tactic(auto)]

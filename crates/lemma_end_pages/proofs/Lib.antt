@@ -1,4 +1,0 @@
-pub mod Victims
-pub mod Failing
-pub mod Tables
-pub mod Paging

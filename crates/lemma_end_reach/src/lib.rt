@@ -1,2 +1,0 @@
-//! A choice of pages lies in the place that it was made for.
-#![tactic(auto)]

@@ -1,4 +1,0 @@
-pub mod WaySteps
-pub mod VictimsKeep
-pub mod Listed
-pub mod DryPlaces

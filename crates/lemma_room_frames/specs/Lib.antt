@@ -1,3 +1,0 @@
-pub mod GivenBack
-pub mod Tables
-pub mod After
