@@ -15,7 +15,7 @@ ghost use Rattle.swap_core.specs.Due.{job_before_swap, swapped, swap_out_due};
 use crate::buffers::live;
 use journal_model::{Command, Course, Kind, Task, Victim, Why};
 use room_turns::{Rooms, Step, turn};
-use rules_state::{is_frame, same_buffer};
+use state_words::{is_frame, same_buffer};
 use ttm_base::{Actor, BufId, Loc, Need, NoMemory, Usage};
 
 /// The position of the first page with a frame. Takes time by the pages before it.
