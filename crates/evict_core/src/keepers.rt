@@ -8,7 +8,7 @@ use bo_table::Bo;
 use journal_model::{Cause, CauseRow, Causes, Script};
 use room_ties::Ghost;
 use room_turns::Rooms;
-use rules_state::{intersects, reach_of, same_mem, target_of};
+use state_words::{intersects, reach_of, same_mem, target_of};
 use std::alloc::Global;
 use ttm_base::{BufId, Mem, NoMemory, Place, Span};
 

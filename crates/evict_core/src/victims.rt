@@ -9,7 +9,7 @@ ghost use Rattle.evict_core.specs.Walks as walks;
 use bo_table::Bo;
 use journal_model::Script;
 use room_turns::Rooms;
-use rules_state::{declared_pages, has_buffer, intersects, length_of, reach_of, same_mem};
+use state_words::{declared_pages, has_buffer, intersects, length_of, reach_of, same_mem};
 use ttm_base::{BufId, Mem, Place, Span};
 
 /// The place has as many pages as the buffer.

@@ -7,9 +7,19 @@ ghost use Rattle.room_turns.specs.declared.Step.TheVariants as answer;
 ghost use Rattle.room_turns.specs.Acting.{free_due};
 ghost use Rattle.room_turns.specs.Turns.{after_step, entry_of, step_of};
 
-use journal_model::{Command, Kind};
+use journal_model::{Command, Kind, Task};
 use room_turns::{Rooms, Step, make};
 use ttm_base::{Actor, BufId, NoMemory, Usage};
+
+/// A thread's Free is due: its command frees a buffer and is at work, since that buffer is held. Takes time as `Rooms::task` does.
+pub fn is_free_due(rooms: &Rooms, thread: u32) -> bool
+    ensures { result ≡ free_due rooms.now.script (state_behind rooms.now) thread }
+{
+    match rooms.task(thread) {
+        Task::Act => matches!(rooms.command(thread), Some(Command::Free { .. })),
+        _ => false,
+    }
+}
 
 /// A buffer goes: one whose jobs aren't done leaves a ghost.
 fn kind_of_free(rooms: &Rooms, b: BufId) -> Kind

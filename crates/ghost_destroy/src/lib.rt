@@ -5,5 +5,5 @@
 mod free;
 mod reaper;
 
-pub use free::hold;
+pub use free::{hold, is_free_due};
 pub use reaper::reap_first;

@@ -17,7 +17,7 @@ ghost use Rattle.room_turns.specs.Turns.{after_step, entry_of, step_of};
 use bo_table::Bo;
 use journal_model::{Kind, Left, Task};
 use room_turns::{Rooms, Step, make};
-use rules_state::{is_caught, target_of};
+use state_words::{is_caught, target_of};
 use ttm_base::{Actor, BufId, Mem, Need, NoMemory, Usage};
 
 /// A buffer goes back to SYSTEM once no job uses it.

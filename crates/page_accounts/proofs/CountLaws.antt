@@ -5,7 +5,7 @@ use Rattle.std.proofs.lemmas.Grind.{common_steps}
 use Rattle.std.proofs.lemmas.List.Elements.{filter-append}
 use Rattle.std.proofs.lemmas.List.{length-append}
 use Rattle.ttm_base.specs.ListWords.{count_from}
-use Rattle.rules_state.proofs.PageLaws.{count_from-push}
+use Rattle.state_words.proofs.PageLaws.{count_from-push}
 
 -- one number more
 pub count_more : (test : ℕ → Bool) (n : ℕ) → length (filter test (count_from 1 (n + 1) 0)) ≡ (if test n then length (filter test (count_from 1 n 0)) + 1 else length (filter test (count_from 1 n 0)))

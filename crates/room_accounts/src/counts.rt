@@ -9,7 +9,7 @@ ghost use Rattle.room_accounts.specs.Amounts.{amount, amount_where_live, amount_
 use bo_table::{Bo, BoTable};
 use journal_model::Targets;
 use room_ties::Ghost;
-use rules_state::{length_of, same_mem, slot_of, target_of};
+use state_words::{length_of, same_mem, slot_of, target_of};
 use ttm_base::{BufId, Loc, Mem, Span};
 
 /// What is counted of a buffer or a ghost.

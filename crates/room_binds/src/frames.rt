@@ -2,7 +2,7 @@ ghost use Rattle.std.specs.Prelude.{◌≡◌, IfOk, filter_map};
 ghost use Rattle.journal_model.specs.Places as words;
 
 use journal_model::Frames;
-use rules_state::frame_of;
+use state_words::frame_of;
 use std::alloc::Global;
 use ttm_base::{Loc, NoMemory};
 

@@ -1,6 +1,7 @@
-//! One turn of any actor of a device on its rooms.
+//! One turn of any actor of a device on its rooms: of the calls that make entries, the one that serves what the actor is at.
 #![tactic(auto)]
 
+mod threads;
 mod turns;
 
 pub use turns::turn;

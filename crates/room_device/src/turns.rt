@@ -1,11 +1,29 @@
 ghost use Rattle.std.specs.Prelude.{◌≡◌, IfOk, OnOk, OnErr};
+ghost use Rattle.ttm_base.specs.declared.Actor.TheVariants as actor;
 ghost use Rattle.room_turns.specs.Turns.{after_step, entry_of, step_of};
 
+use crate::threads::turn_of_thread;
+use engine_work::run;
+use ghost_destroy::reap_first;
 use room_turns::{Rooms, Step};
 use std::alloc::Global;
-use ttm_base::{Actor, NoMemory};
+use ttm_base::{Actor, Need, NoMemory};
 
-/// A turn of an actor: its one legal entry is appended, or it is told what it needs first.
+/// A turn of an engine. One that the script doesn't have never has a job.
+fn turn_of_engine(alloc: Global, rooms: &mut Rooms, engine: u32) -> Result<Step, NoMemory>
+    ensures step { IfOk result (λ step. step ≡ step_of (entry_of rooms.old (actor.Engine engine))) }
+    ensures made { OnOk result (rooms.new ≡ after_step rooms.old (entry_of rooms.old (actor.Engine engine))) }
+    ensures err { OnErr result (rooms.new ≡ rooms.old) }
+{
+    let _legal = rooms.journal();
+    if engine > rooms.script().sizes.engines {
+        return Ok(Step::Need(Need::NoJob));
+    }
+    run(alloc, rooms, engine)
+}
+
+/// A turn of an actor: its one legal entry is appended, or it is told what it needs first. A thread that the script doesn't have needs a command,
+/// and an engine that it doesn't have needs a job.
 ///
 /// # Errors
 ///
@@ -15,6 +33,9 @@ pub fn turn(alloc: Global, rooms: &mut Rooms, who: Actor) -> Result<Step, NoMemo
     ensures made { OnOk result (rooms.new ≡ after_step rooms.old (entry_of rooms.old who)) }
     ensures err { OnErr result (rooms.new ≡ rooms.old) }
 {
-    let _ = (alloc, rooms, who);
-    Err(NoMemory)
+    match who {
+        Actor::Thread(thread) => turn_of_thread(alloc, rooms, thread),
+        Actor::Engine(engine) => turn_of_engine(alloc, rooms, engine),
+        Actor::Reaper => reap_first(rooms),
+    }
 }

@@ -16,7 +16,7 @@ use lru_bulk::Lru;
 use page_pool::PagePool;
 use resource_core::{PagesKind, RangeRoom, VramRoom};
 use room_ties::{Ghosts, Parts};
-use rules_state::new_course;
+use state_words::new_course;
 use std::alloc::Global;
 use swap_store::SwapStore;
 use ttm_base::NoMemory;

@@ -4,7 +4,7 @@ ghost use Rattle.room_steps.specs.Courses.{course_at, with_course_by};
 ghost use Rattle.room_ghosts.specs.Leaving.{freeing};
 
 use journal_model::{BufIds, Courses};
-use rules_state::same_buffer;
+use state_words::same_buffer;
 use ttm_base::BufId;
 
 /// Takes a buffer out of those that a thread holds.

@@ -5,7 +5,7 @@ ghost use Rattle.room_jobs.specs.Standing.{body_in, frame_place, standing_names}
 
 use bo_table::{Bo, BoTable};
 use op_cutting::{PageNames, cut};
-use rules_state::{frame_of, name_in_spans};
+use state_words::{frame_of, name_in_spans};
 use std::alloc::Global;
 use ttm_base::{BufId, Loc, Mem, NoMemory, Op, Packet, PagePlace};
 

@@ -5,7 +5,7 @@ ghost use Rattle.room_jobs.specs.Uses.{AreWide, HaveContext, with_uses, with_wai
 
 use bo_table::BoTable;
 use fence_core::FenceSet;
-use rules_holds::{is_written, use_of};
+use state_words::{is_written, use_of};
 use std::alloc::Global;
 use ttm_base::{BufId, JobId, NoMemory, Op, Usage};
 

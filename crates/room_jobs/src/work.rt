@@ -5,7 +5,7 @@ ghost use Rattle.room_steps.specs.Courses.{course_at};
 ghost use Rattle.room_jobs.specs.Work.{work_of};
 
 use journal_model::{BufIds, Command, Courses, Script};
-use rules_state::{commands_of, named};
+use state_words::{commands_of, named};
 use std::alloc::Global;
 use ttm_base::{NoMemory, Op};
 

@@ -15,7 +15,7 @@ use room_steps::{
     touch,
 };
 use room_ties::Parts;
-use rules_state::is_caught;
+use state_words::is_caught;
 use std::alloc::Global;
 use ttm_base::{BufId, Deny, NoMemory};
 

@@ -15,7 +15,7 @@ use byte_store::{ByteStore, PAGE};
 use copy_packet::{ProbeBytes, show};
 use journal_model::{Bytes, Entry, Script};
 use room_ties::Parts;
-use rules_state::page_at;
+use state_words::page_at;
 use std::alloc::Global;
 use swap_store::SwapStore;
 use ttm_base::{BufId, Loc, Mem, NoMemory};

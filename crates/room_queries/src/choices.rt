@@ -9,7 +9,7 @@ ghost use Rattle.room_ties.specs.Held.{AreHeld};
 use journal_model::{Entry, Script};
 use resource_core::{Manager, RangeRoom, TakeFault, VramRoom};
 use room_ties::Parts;
-use rules_state::{declared_align, declared_pages};
+use state_words::{declared_align, declared_pages};
 use std::alloc::Global;
 use ttm_base::{BufId, Mem, NoMemory, Place, Spans};
 

@@ -62,7 +62,7 @@ use Rattle.room_ties.specs.Bos.{AreBos, unfenced}
 use Rattle.room_ties.specs.Held.{AreHeld}
 use Rattle.room_ties.specs.Pages.{AreStores}
 use Rattle.room_ties.specs.Ties.{Ties}
-use Rattle.rules_parts.proofs.ListingLaws.{pins-released}
+use Rattle.state_words.proofs.Pins.{pins-released}
 use Rattle.room_steps.specs.Courses.{command_in, course_at, course_in, with_course_by}
 use Rattle.room_steps.proofs.Few.{few_commands}
 use Rattle.room_steps.proofs.Lent.{is_below, is_there, lent_below, stands_at}

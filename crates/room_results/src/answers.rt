@@ -10,7 +10,7 @@ use crate::writes::write;
 use journal_model::{Entry, Script, Shown};
 use room_steps::{command_of, go_on, held_by, release_all};
 use room_ties::Parts;
-use rules_state::named;
+use state_words::named;
 use std::alloc::Global;
 use ttm_base::NoMemory;
 

@@ -9,7 +9,7 @@ use bo_table::BoTable;
 use journal_model::{Command, Script};
 use lru_bulk::Lru;
 use room_steps::touch;
-use rules_state::has_buffer;
+use state_words::has_buffer;
 use ttm_base::{BufId, NoMemory};
 
 /// Takes a buffer off its list, if it is on one.

@@ -11,7 +11,7 @@ use bo_table::{Bo, BoTable};
 use byte_store::PAGE;
 use copy_packet::Stores;
 use journal_model::Command;
-use rules_state::page_at;
+use state_words::page_at;
 use ttm_base::{Loc, Mem};
 
 /// Puts bytes on a page of a buffer.

@@ -31,7 +31,7 @@ use journal_model::{Bytes, Command, Course, Entry, Script, Stage, Task};
 use lru_bulk::Lru;
 use room_first::first_parts;
 use room_ties::{Ghost, Parts};
-use rules_state::commands_of;
+use state_words::commands_of;
 use std::alloc::Global;
 use std::marker::Model;
 use ttm_base::{BufId, ItemList, JobId, NoMemory, Place, Spans, Stamp, Usage};

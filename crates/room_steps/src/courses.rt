@@ -5,8 +5,7 @@ ghost use Rattle.journal_model.specs.ApplyVictims.{with_victim, with_skip, no_lo
 ghost use Rattle.room_steps.specs.Courses.{command_in, course_at, course_in, with_course_by, stamped, with_held, begun_anew};
 
 use journal_model::{Command, Courses, Script, Why};
-use rules_parts::courses;
-use rules_state::{commands_of, new_course};
+use state_words::{commands_of, courses, new_course};
 use std::alloc::Global;
 use ttm_base::{BufId, Deny, NoMemory, Stamp};
 

@@ -5,7 +5,7 @@ ghost use Rattle.journal_model.specs.Tasks as words;
 ghost use Rattle.room_tasks.specs.Mentions.{mentioned, mentioned_by};
 
 use journal_model::{Command, Course};
-use rules_state::has_buffer;
+use state_words::has_buffer;
 use ttm_base::{BufId, Op};
 
 /// The buffers that a command mentions, some of them twice: its own, and those of its operations.

@@ -13,7 +13,7 @@ use crate::standing::live;
 use crate::tasks::{can_give, refusal, task_of_command};
 use journal_model::{Command, Course, Courses, Entry, Script, Task};
 use room_ties::Parts;
-use rules_state::commands_of;
+use state_words::commands_of;
 use ttm_base::{BufId, Deny};
 
 /// The course of a thread, if the thread is there. Threads are numbered from 1.

@@ -8,7 +8,7 @@ use crate::mentions::{buffers_of, mentions_of};
 use crate::standing::{has_all_frames, has_some_target, live, mem_of, spans_of};
 use bo_table::{Bo, BoTable};
 use journal_model::{Command, Script};
-use rules_state::{compatible, declared_places, same_mem, size_of};
+use state_words::{compatible, declared_places, same_mem, size_of};
 use ttm_base::{BufId, Mem, Op};
 
 /// The buffer stands where its declared placement lets it.

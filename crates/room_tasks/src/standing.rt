@@ -6,7 +6,7 @@ ghost use Rattle.journal_model.specs.State as state;
 ghost use Rattle.room_tasks.specs.Seen.{seen, standing, HasGrips};
 
 use bo_table::{Bo, BoTable};
-use rules_state::target_of;
+use state_words::target_of;
 use ttm_base::{BufId, Mem, Span};
 
 /// The buffer, if it is live. None stands for an empty buffer in SYSTEM.

@@ -10,7 +10,7 @@ use crate::ready::{is_in_place, unready};
 use crate::standing::{has_all_frames, has_frame, has_some_target, has_target, live, mem_of, pins};
 use bo_table::{Bo, BoTable};
 use journal_model::{Aim, Command, Course, Script, Stage, Task, Victim, Why};
-use rules_state::same_mem;
+use state_words::same_mem;
 use ttm_base::{BufId, Deny, Mem};
 
 /// New and touch take no ticket; each other command begins with one.

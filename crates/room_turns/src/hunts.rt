@@ -15,7 +15,7 @@ ghost use Rattle.room_turns.specs.Hunts.{list_of, quest_of, seen};
 
 use journal_model::{Aim, Command, Course, Script, Task};
 use room_state::Rooms;
-use rules_state::{as_fallback, declared_places, is_caught, unflagged, whole};
+use state_words::{as_fallback, declared_places, is_caught, unflagged, whole};
 use ttm_base::{BufId, FlaggedPlace, Mem, Place};
 
 /// Where a search looks.

@@ -5,7 +5,7 @@ use Rattle.std.specs.List.{list_all}
 use Rattle.std.proofs.lemmas.Grind.{common_steps}
 use Rattle.std.proofs.lemmas.Bool.Decides.{nat_tests}
 use Rattle.ttm_base.specs.ListWords.{count_from}
-use Rattle.rules_state.proofs.PageLaws.{count_from-push}
+use Rattle.state_words.proofs.PageLaws.{count_from-push}
 use Rattle.rules_state.proofs.FindLaws.{count_from-split}
 use Rattle.ttm_base.specs.BuddyChoice.{is_free_block}
 use Rattle.rules_choice.specs.Marks.{marked, IsCounted}

@@ -9,7 +9,7 @@ use Rattle.ttm_base.specs.declared.Span.{Span}
 use Rattle.ttm_base.specs.ListWords.{first_least, least_by, last_or}
 use Rattle.ttm_base.specs.Reach.{length_of}
 use Rattle.ttm_base.specs.RangeChoice.{Fit, best_fit, fit_in, fitting_hole}
-use Rattle.rules_state.proofs.ListSteps.{filter_map_more}
+use Rattle.state_words.proofs.ListSteps.{filter_map_more}
 use Rattle.rules_choice.specs.Least.{lesser_by}
 use Rattle.rules_choice.specs.Fits.{better_fit}
 

@@ -5,7 +5,7 @@ use Rattle.std.proofs.lemmas.Grind.{common_steps}
 use Rattle.std.proofs.lemmas.List.{append-nil, get_or-reverse}
 use Rattle.ttm_base.specs.ListWords.{least_by, count_from}
 use Rattle.ttm_base.specs.BuddyChoice.{Candidate, first_candidate}
-use Rattle.rules_state.proofs.ListSteps.{filter_map_more}
+use Rattle.state_words.proofs.ListSteps.{filter_map_more}
 use Rattle.rules_choice.specs.Least.{lesser_by}
 use Rattle.ttm_base.specs.BlockStarts.{starts_of}
 use Rattle.rules_choice.proofs.FitLaws.{least_by-push}

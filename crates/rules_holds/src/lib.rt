@@ -13,8 +13,8 @@ pub use holds::{
     spans_in,
 };
 pub use packets::packets_of;
+pub use state_words::{is_written, use_of};
 pub use waits::{
-    changes, is_idle, is_unfinished, is_written, jobs_before_read, jobs_before_target,
-    jobs_before_use, jobs_before_write, unfinished, use_of, waited_before_read,
-    waited_before_write, waited_for,
+    changes, is_idle, is_unfinished, jobs_before_read, jobs_before_target, jobs_before_use,
+    jobs_before_write, unfinished, waited_before_read, waited_before_write, waited_for,
 };

@@ -6,7 +6,8 @@ ghost use Rattle.journal_model.specs.Waits as words;
 ghost use Rattle.rules_holds.specs.Named.{named_last};
 
 use journal_model::{Buffer, Core, Job, JobIds, same_job};
-use rules_state::{buffer_in, dead_buffer, writes};
+use rules_state::{buffer_in, dead_buffer};
+use state_words::is_written;
 use std::alloc::Global;
 use ttm_base::{BufId, Fence, JobId, Mem, NoMemory, Op, Usage};
 
@@ -145,24 +146,6 @@ pub fn jobs_before_target(alloc: Global, core: &Core, mem: Mem) -> Result<JobIds
         }
     }
     Ok(jobs)
-}
-
-/// An operation of the job writes the buffer.
-pub fn is_written(ops: &[Op], b: BufId) -> bool
-    ensures { result ≡ words.is_written ops.now b }
-{
-    ops.iter().any(|op| writes(b, op))
-}
-
-/// How the job joins the fences of a buffer.
-pub fn use_of(ops: &[Op], b: BufId) -> Usage
-    ensures { result ≡ words.use_of ops.now b }
-{
-    if is_written(ops, b) {
-        Usage::Write
-    } else {
-        Usage::Read
-    }
 }
 
 /// The unfinished jobs that a job waits for at a buffer: all of one that it writes, those that change one that it only reads.

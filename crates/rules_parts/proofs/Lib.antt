@@ -1,5 +1,4 @@
 pub mod OrderLaws
 pub mod ListingLaws
-pub mod ListLaws
 pub mod UndoLaws
 pub mod PinLaws

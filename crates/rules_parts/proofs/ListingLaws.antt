@@ -7,9 +7,10 @@ use Rattle.journal_model.specs.declared.script.Script.{Script}
 use Rattle.journal_model.specs.declared.state.Buffer.{Buffer}
 use Rattle.journal_model.specs.declared.state.Grip.{Grip}
 use Rattle.ttm_base.specs.declared.Stamp.{Stamp}
-use Rattle.journal_model.specs.ApplyCommands.{with_holder, released}
-use Rattle.journal_model.specs.State.{live_in, changed, grip_in, no_grip, regripped}
+use Rattle.journal_model.specs.ApplyCommands.{with_holder}
+use Rattle.journal_model.specs.State.{live_in, changed, grip_in, regripped}
 use Rattle.journal_model.specs.Lists.{listed_as, put_on, taken_off, touched}
+use Rattle.state_words.proofs.Pins.{pins-regripped}
 use Rattle.rules_parts.specs.Listing.{listed_mem, listed_in, relisted}
 
 pub listed_as_in : (script : Script) (lists : List (List BufId)) (b : BufId) (g : Grip) (x : Option Buffer) → listed_as script lists b g x ≡ listed_in script lists b (listed_mem g x)
@@ -48,24 +49,6 @@ touched-moved f mem moves script buffers grips lists b =
 listed_as-pins : (script : Script) (lists : List (List BufId)) (b : BufId) (g h : Grip) → g.pins ≡ h.pins → (x : Option Buffer) → listed_as script lists b g x ≡ listed_as script lists b h x
 listed_as-pins script lists b g h same None = refl
 listed_as-pins script lists b g h same (Some x) = rw same
-
--- another holder changes no pins
-pins-at : (holder : Option Stamp) (grips : List Grip) (i j : ℕ) →
-    (unwrap_or (slice_get (slice_set grips i (with_holder holder (unwrap_or (slice_get grips i) no_grip))) j) no_grip).pins ≡ (unwrap_or (slice_get grips j) no_grip).pins
-pins-at holder [] i j = refl
-pins-at holder (g ∷ grips) zero zero = refl
-pins-at holder (g ∷ grips) zero (suc j) = refl
-pins-at holder (g ∷ grips) (suc i) zero = refl
-pins-at holder (g ∷ grips) (suc i) (suc j) = pins-at holder grips i j
-
--- the pins of a buffer after a buffer got another holder
-pub pins-regripped : (holder : Option Stamp) (grips : List Grip) (b c : BufId) → (grip_in (regripped (with_holder holder) grips b) c).pins ≡ (grip_in grips c).pins
-pins-regripped holder grips b c = pins-at holder grips b.0 c.0
-
--- after some were released
-pub pins-released : (grips : List Grip) (bs : List BufId) (c : BufId) → (grip_in (released grips bs) c).pins ≡ (grip_in grips c).pins
-pins-released grips [] c = refl
-pins-released grips (b ∷ bs) c = pins-released (regripped (with_holder None) grips b) bs c ∙ pins-regripped None grips b c
 
 -- a buffer that was let go is listed as before
 pub touched_released : (holder : Option Stamp) (script : Script) (buffers : List (Option Buffer)) (grips : List Grip) (lists : List (List BufId)) (b c : BufId) → touched script buffers (regripped (with_holder holder) grips b) lists c ≡ touched script buffers grips lists c

@@ -5,7 +5,7 @@ use Rattle.journal_model.specs.declared.script.Command.{Command}
 use Rattle.journal_model.specs.declared.script.Command.TheVariants as command
 use Rattle.journal_model.specs.declared.state.Grip.{Grip}
 use Rattle.journal_model.specs.ApplyCommands.{released}
-use Rattle.rules_parts.proofs.ListingLaws.{pins-released}
+use Rattle.state_words.proofs.Pins.{pins-released}
 use Rattle.rules_parts.specs.Pins.{HasPinsLeft}
 
 pub pins_left_released : (grips : List Grip) (bs : List BufId) (cmd : Command) → HasPinsLeft grips (Some cmd) → HasPinsLeft (released grips bs) (Some cmd)

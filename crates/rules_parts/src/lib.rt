@@ -4,6 +4,7 @@
 
 pub mod actors;
 pub mod buffers;
-pub mod courses;
 pub mod grips;
 pub mod lists;
+
+pub use state_words::courses;

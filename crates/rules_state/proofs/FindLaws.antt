@@ -4,7 +4,7 @@ use Rattle.std.specs.Prelude.{find}
 use Rattle.std.proofs.lemmas.Grind.{common_steps}
 use Rattle.std.proofs.lemmas.List.Folds.{find-append}
 use Rattle.ttm_base.specs.ListWords.{count_from}
-use Rattle.rules_state.proofs.PageLaws.{count_from-push}
+use Rattle.state_words.proofs.PageLaws.{count_from-push}
 
 -- a count in two parts
 pub count_from-split : (a b start : ℕ) → count_from 1 (a + b) start ≡ count_from 1 a start ++ count_from 1 b (start + a)

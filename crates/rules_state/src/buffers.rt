@@ -1,24 +1,11 @@
-ghost use Rattle.std.specs.Prelude.{◌≡◌, ◌==◌, IfOk, option_copied, replicate};
+ghost use Rattle.std.specs.Prelude.{◌≡◌, IfOk, option_copied, replicate};
 ghost use Rattle.ttm_base.specs.declared.Loc.TheVariants as loc;
 ghost use Rattle.journal_model.specs.State as words;
 
-use journal_model::{BufIds, Buffer, Core, Course, Fences, Grip, State, Table, Targets, Victims};
+use journal_model::{BufIds, Buffer, Core, Course, Fences, Grip, State, Table, Targets};
+use state_words::{same_buffer, target_of};
 use std::alloc::Global;
 use ttm_base::{BufId, Loc, Mem, NoMemory, Span, Spans};
-
-/// The buffers are one.
-pub fn same_buffer(a: BufId, b: BufId) -> bool
-    ensures { result ≡ words.same_buffer a b }
-{
-    a.0 == b.0
-}
-
-/// The list has the buffer.
-pub fn has_buffer(bs: &[BufId], b: BufId) -> bool
-    ensures { result ≡ words.has_buffer bs.now b }
-{
-    bs.iter().any(|c| same_buffer(b, *c))
-}
 
 /// The list without the buffer.
 pub fn without_buffer(alloc: Global, bs: &[BufId], b: BufId) -> Result<BufIds, NoMemory>
@@ -107,17 +94,6 @@ pub fn buffer_in<'a>(core: &'a Core, b: BufId, dead: &'a Buffer) -> &'a Buffer
     }
 }
 
-/// The spans that wait for the buffer in a memory type.
-pub fn target_of(mem: Mem, targets: &Targets) -> Option<&Spans>
-    ensures { option_copied result ≡ words.target_of mem targets.now }
-{
-    match mem {
-        Mem::System => targets.system.as_ref(),
-        Mem::Tt => targets.tt.as_ref(),
-        Mem::Vram => targets.vram.as_ref(),
-    }
-}
-
 /// The buffer has a target in a memory type.
 pub fn has_target(mem: Mem, buffer: &Buffer) -> bool
     ensures { result ≡ words.has_target mem buffer.now }
@@ -152,24 +128,6 @@ pub fn grip_in(grips: &[Grip], b: BufId) -> Grip
     match grips.get(b.0 as usize) {
         Some(grip) => *grip,
         None => no_grip(),
-    }
-}
-
-/// A thread that has answered so many commands, at the start of the next.
-pub fn new_course(alloc: Global, answered: u32) -> Course
-    ensures { result ≡ words.new_course answered }
-{
-    Course {
-        answered,
-        stamp: None,
-        held: BufIds::new(alloc),
-        first: None,
-        made: false,
-        forced: false,
-        dry: 0,
-        fail: None,
-        caught: Victims::new(alloc),
-        skips: BufIds::new(alloc),
     }
 }
 

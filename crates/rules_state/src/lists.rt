@@ -1,11 +1,9 @@
 ghost use Rattle.std.specs.Prelude.{◌≡◌, ◌++◌, ◌*◌, ◌<◌, ◌^◌, IfOk, OnOk};
 ghost use Rattle.journal_model.specs.Lists as words;
-ghost use Rattle.journal_model.specs.Search as searches;
 
-use crate::buffers::same_buffer;
-use crate::commands::declared_group;
-use journal_model::{BufIds, Course, Script, State};
+use journal_model::{BufIds, Script, State};
 use rules_places::mem_number;
+use state_words::declared_group;
 use std::alloc::Global;
 use ttm_base::{BufId, Mem, NoMemory};
 
@@ -62,16 +60,4 @@ pub fn is_member(script: &Script, group: u32, b: BufId) -> bool
     ensures { result ≡ words.is_member script.now group b }
 {
     same_group(declared_group(script, b), Some(group))
-}
-
-/// The buffer is a victim of this thread.
-pub fn is_caught(course: &Course, b: BufId) -> bool
-    ensures { result ≡ searches.is_caught course.now b }
-{
-    course
-        .caught
-        .items()
-        .iter()
-        .map(|v| v.b)
-        .any(|c| same_buffer(b, c))
 }

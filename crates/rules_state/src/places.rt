@@ -1,7 +1,8 @@
-ghost use Rattle.std.specs.Prelude.{◌≡◌, ◌++◌, IfOk, OnOk, slice_get};
+ghost use Rattle.std.specs.Prelude.{◌≡◌, ◌++◌, IfOk, OnOk};
 ghost use Rattle.journal_model.specs.Places as words;
 
 use journal_model::{Buffer, Frames};
+use state_words::{frame_of, name_in_spans, slot_of};
 use std::alloc::Global;
 use ttm_base::{Loc, Mem, NoMemory, PagePlace, Span};
 
@@ -26,28 +27,6 @@ pub fn pages_of(alloc: Global, spans: &[Span]) -> Result<Frames, NoMemory>
     Ok(pages)
 }
 
-/// The page of the spans at a position, if they have so many.
-pub fn page_at(spans: &[Span], i: u32) -> Option<u32>
-    ensures { result ≡ slice_get (words.pages_of spans.now) i }
-{
-    let mut left = i;
-    for span in spans {
-        let pages = span.end.saturating_sub(span.start);
-        if left < pages {
-            return Some(span.start + left);
-        }
-        left -= pages;
-    }
-    None
-}
-
-/// The page of the spans at a position, 0 where they don't have so many.
-pub fn page_of_spans(spans: &[Span], i: u32) -> u32
-    ensures { result ≡ words.page_of_spans spans.now i }
-{
-    page_at(spans, i).unwrap_or(0)
-}
-
 /// What the page table says of a page.
 pub fn loc_of(buffer: &Buffer, i: u32) -> Loc
     ensures { result ≡ words.loc_of buffer.now i }
@@ -55,33 +34,6 @@ pub fn loc_of(buffer: &Buffer, i: u32) -> Loc
     match buffer.table.items().get(i as usize) {
         Some(loc) => *loc,
         None => Loc::Zero,
-    }
-}
-
-/// The frame, if it is one.
-pub fn frame_of(loc: Loc) -> Option<u32>
-    ensures { result ≡ words.frame_of loc }
-{
-    match loc {
-        Loc::Frame(frame) => Some(frame),
-        Loc::Slot(_) | Loc::Zero => None,
-    }
-}
-
-/// It is a frame.
-pub fn is_frame(loc: Loc) -> bool
-    ensures { result ≡ words.is_frame loc }
-{
-    frame_of(loc).is_some()
-}
-
-/// The slot, if it is one.
-pub fn slot_of(loc: Loc) -> Option<u32>
-    ensures { result ≡ words.slot_of loc }
-{
-    match loc {
-        Loc::Slot(slot) => Some(slot),
-        Loc::Frame(_) | Loc::Zero => None,
     }
 }
 
@@ -109,17 +61,6 @@ pub fn slots_of(alloc: Global, buffer: &Buffer) -> Result<Frames, NoMemory>
         }
     }
     Ok(slots)
-}
-
-/// How packets name a page of spans.
-pub fn name_in_spans(mem: Mem, spans: &[Span], i: u32) -> PagePlace
-    ensures { result ≡ words.name_in_spans mem spans.now i }
-{
-    match mem {
-        Mem::Vram => PagePlace::Vram(page_of_spans(spans, i)),
-        Mem::Tt => PagePlace::Aper(page_of_spans(spans, i)),
-        Mem::System => PagePlace::Frame(0),
-    }
 }
 
 /// How packets name a page of a buffer in SYSTEM: by its frame.

@@ -5,9 +5,9 @@ ghost use Rattle.journal_model.specs.Search as words;
 ghost use Rattle.rules_state.specs.Quests.{quest_of};
 
 use crate::buffers::{buffer_in, dead_buffer, has_target};
-use crate::commands::{as_fallback, asked_places, only_place, whole};
-use crate::lists::is_caught;
+use crate::commands::{asked_places, only_place};
 use journal_model::{Aim, Buffer, Command, Course, Script, State};
+use state_words::{as_fallback, is_caught, whole};
 use std::alloc::Global;
 use ttm_base::{BufId, FlaggedPlaces, Mem, NoMemory};
 

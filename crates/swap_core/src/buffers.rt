@@ -1,4 +1,6 @@
 ghost use Rattle.std.specs.Prelude.{◌≡◌, ◌&&◌, find, option_copied};
+ghost use Rattle.ttm_base.specs.declared.Mem.TheVariants.{Vram};
+ghost use Rattle.ttm_base.specs.Reach.{same_mem};
 ghost use Rattle.bo_table.specs.Seen.{grip_of};
 ghost use Rattle.journal_model.specs.State.{buffer, grip};
 ghost use Rattle.journal_model.specs.Dry as words;
@@ -27,6 +29,26 @@ fn is_loose(bo: &Bo) -> bool
     ensures { result ≡ words.is_loose (grip_of bo.now) }
 {
     bo.pins == 0 && bo.resv.holder().is_none()
+}
+
+/// A buffer has a frame.
+pub(crate) fn has_frame(rooms: &Rooms, b: BufId) -> bool
+    ensures { result ≡ words.has_frame (buffer (state_behind rooms.now) b) }
+{
+    match live(rooms, b) {
+        Some(bo) => bo.table.has_frame(),
+        None => false,
+    }
+}
+
+/// A buffer stands in VRAM and has a frame.
+pub(crate) fn has_frame_in_vram(rooms: &Rooms, b: BufId) -> bool
+    ensures { result ≡ (same_mem (buffer (state_behind rooms.now) b).mem Vram && words.has_frame (buffer (state_behind rooms.now) b)) }
+{
+    match live(rooms, b) {
+        Some(bo) => matches!(bo.mem, Mem::Vram) && bo.table.has_frame(),
+        None => false,
+    }
 }
 
 /// A buffer may give its frames to swap.

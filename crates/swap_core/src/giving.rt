@@ -5,9 +5,20 @@ ghost use Rattle.room_turns.specs.declared.Step.TheVariants as answer;
 ghost use Rattle.room_turns.specs.Turns.{after_step, entry_of, step_of};
 ghost use Rattle.swap_core.specs.Due.{depopulate_due};
 
+use crate::buffers::has_frame_in_vram;
 use journal_model::{Kind, Task};
 use room_turns::{Rooms, Step, make};
 use ttm_base::{Actor, NoMemory};
+
+/// A thread's Depopulate is due: a buffer that gives back what its search took stands in VRAM and has a frame. Takes time as `Rooms::task` does.
+pub fn is_depopulate_due(rooms: &Rooms, thread: u32) -> bool
+    ensures { result ≡ depopulate_due rooms.now.script (state_behind rooms.now) thread }
+{
+    match rooms.task(thread) {
+        Task::GiveBack(b) => has_frame_in_vram(rooms, b),
+        _ => false,
+    }
+}
 
 /// A buffer in VRAM whose move failed gives its frames back, once its Depopulate is due (ttm_tt_unpopulate).
 ///

@@ -8,5 +8,5 @@ mod giving;
 mod swapping;
 
 pub use filling::fill;
-pub use giving::depopulate;
-pub use swapping::swap_out_page;
+pub use giving::{depopulate, is_depopulate_due};
+pub use swapping::{is_swap_out_due, swap_out_page};

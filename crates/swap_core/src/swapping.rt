@@ -12,10 +12,10 @@ ghost use Rattle.room_turns.specs.Turns.{after_step, entry_of, step_of};
 ghost use Rattle.swap_core.specs.Due as due;
 ghost use Rattle.swap_core.specs.Due.{job_before_swap, swapped, swap_out_due};
 
-use crate::buffers::live;
+use crate::buffers::{has_frame, live};
 use journal_model::{Command, Course, Kind, Task, Victim, Why};
 use room_turns::{Rooms, Step, turn};
-use rules_state::{is_frame, same_buffer};
+use state_words::{is_frame, same_buffer};
 use ttm_base::{Actor, BufId, Loc, Need, NoMemory, Usage};
 
 /// The position of the first page with a frame. Takes time by the pages before it.
@@ -94,8 +94,19 @@ fn swapped_buffer(rooms: &Rooms, thread: u32) -> Option<BufId>
     }
 }
 
+/// A thread's SwapOut is due: a victim that was caught for swap, or the buffer of a swapout that is at work, has a frame, and a slot is free. It
+/// is due whether the buffer is idle or not. Takes time as `Rooms::task` does.
+pub fn is_swap_out_due(rooms: &Rooms, thread: u32) -> bool
+    ensures { result ≡ swap_out_due rooms.now.script (state_behind rooms.now) thread }
+{
+    match swapped_buffer(rooms, thread) {
+        Some(b) => has_frame(rooms, b) && rooms.free_slot().is_some(),
+        None => false,
+    }
+}
+
 /// The first page with a frame of a victim that was caught for swap, or of the buffer of a swapout, goes to the lowest free slot, once the
-/// thread's SwapOut is due (ttm_tt_swapout). It is due whether the buffer is idle or not.
+/// thread's SwapOut is due (ttm_tt_swapout).
 ///
 /// # Errors
 ///

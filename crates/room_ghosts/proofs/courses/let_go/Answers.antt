@@ -1,6 +1,6 @@
 use Rattle.std.proofs.Common.{arith}
 use Rattle.std.proofs.lemmas.Bool.Decides.{nat_tests}
-use Rattle.rules_parts.proofs.ListLaws.{keeps_none, keeps_less, keeps_more, keeps_all}
+use Rattle.state_words.proofs.ListLaws.{keeps_none, keeps_less, keeps_more, keeps_all}
 use Rattle.room_ghosts.proofs.courses.let_go.Goals as goal
 
 pub loop-i-init : goal.loop-i-init

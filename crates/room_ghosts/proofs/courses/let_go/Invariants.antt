@@ -2,7 +2,7 @@ use Rattle.std.proofs.Common.{◌-◌, length, Bool}
 use Rattle.std.specs.Prelude.{not}
 use Rattle.ttm_base.specs.declared.BufId.{BufId}
 use Rattle.journal_model.specs.State.{same_buffer}
-use Rattle.rules_parts.proofs.ListLaws.{Keeps}
+use Rattle.state_words.proofs.ListLaws.{Keeps}
 use Rattle.room_ghosts.proofs.courses.let_go.Given as goal
 
 -- the buffers that stay

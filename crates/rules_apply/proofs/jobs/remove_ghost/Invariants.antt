@@ -1,7 +1,7 @@
 use Rattle.std.proofs.Common.{ℕ, ◌-◌, length, Bool}
 use Rattle.std.specs.Prelude.{◌==◌, not}
 use Rattle.journal_model.specs.declared.state.Ghost.{Ghost}
-use Rattle.rules_parts.proofs.ListLaws.{Keeps}
+use Rattle.state_words.proofs.ListLaws.{Keeps}
 use Rattle.rules_apply.proofs.jobs.remove_ghost.Given as goal
 
 -- the ghosts that stay

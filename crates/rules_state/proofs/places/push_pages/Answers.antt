@@ -1,6 +1,6 @@
 use Rattle.std.proofs.Common.{arith}
 use Rattle.std.proofs.lemmas.Grind.{common_steps}
-use Rattle.rules_state.proofs.PageLaws.{count_from-push}
+use Rattle.state_words.proofs.PageLaws.{count_from-push}
 use Rattle.rules_state.proofs.places.push_pages.Goals as goal
 
 pub loop-k-preserved : goal.loop-k-preserved

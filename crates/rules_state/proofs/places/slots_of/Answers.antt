@@ -2,7 +2,7 @@ use Rattle.std.proofs.Common.{arith}
 use Rattle.std.proofs.lemmas.Grind.{common_steps}
 use Rattle.ttm_base.specs.declared.Loc.TheVariants.{Zero}
 use Rattle.journal_model.specs.Places.{slot_of}
-use Rattle.rules_state.proofs.ListSteps.{filter_map_more}
+use Rattle.state_words.proofs.ListSteps.{filter_map_more}
 use Rattle.rules_state.proofs.places.slots_of.Goals as goal
 
 pub loop-loc-preserved : goal.loop-loc-preserved

@@ -1,6 +1,6 @@
 use Rattle.std.proofs.Common.{arith}
 use Rattle.std.proofs.lemmas.Grind.{common_steps}
-use Rattle.rules_state.proofs.PageLaws.{count_from-push}
+use Rattle.state_words.proofs.PageLaws.{count_from-push}
 use Rattle.rules_stores.proofs.shown.buffer_bytes.Goals as goal
 
 pub loop-i-preserved : goal.loop-i-preserved

@@ -1,11 +1,24 @@
 ghost use Rattle.std.specs.Prelude.{◌≡◌, ◌+◌, ◌^◌, ◌<◌, filter, map, not, OnOk, OnErr};
+ghost use Rattle.journal_model.specs.Search as searches;
 ghost use Rattle.journal_model.specs.State as state;
 ghost use Rattle.journal_model.specs.ApplyPages.{search_over};
 ghost use Rattle.journal_model.specs.ApplyVictims.{failed_if, with_fail, no_longer_caught, with_victim, with_skip, forces, gone_dry};
 
+use crate::buffers::same_buffer;
 use journal_model::{Course, Victim, Victims, Why};
-use rules_state::{is_caught, same_buffer};
 use ttm_base::{BufId, Deny, NoMemory};
+
+/// The buffer is a victim of this thread.
+pub fn is_caught(course: &Course, b: BufId) -> bool
+    ensures { result ≡ searches.is_caught course.now b }
+{
+    course
+        .caught
+        .items()
+        .iter()
+        .map(|v| v.b)
+        .any(|c| same_buffer(b, c))
+}
 
 /// Ends the search of a named buffer.
 pub fn end_search(course: &mut Course, b: BufId)

@@ -3,8 +3,8 @@ use Rattle.std.specs.Prelude.{not}
 use Rattle.ttm_base.specs.declared.BufId.{BufId}
 use Rattle.journal_model.specs.declared.state.Victim.{Victim}
 use Rattle.journal_model.specs.State.{same_buffer}
-use Rattle.rules_parts.proofs.ListLaws.{Keeps}
-use Rattle.rules_parts.proofs.courses.remove_victim.Given as goal
+use Rattle.state_words.proofs.ListLaws.{Keeps}
+use Rattle.state_words.proofs.courses.remove_victim.Given as goal
 
 -- the victims that stay
 abbrev pub stays : BufId → Victim → Bool

@@ -1,7 +1,7 @@
 use Rattle.std.proofs.Common.{arith}
 use Rattle.std.proofs.lemmas.Grind.{common_steps}
-use Rattle.rules_state.proofs.Mentions.{first_mentions_more}
-use Rattle.rules_state.proofs.commands.first_mentions.Goals as goal
+use Rattle.state_words.proofs.Mentions.{first_mentions_more}
+use Rattle.state_words.proofs.commands.first_mentions.Goals as goal
 
 pub loop-b-preserved : goal.loop-b-preserved
 loop-b-preserved c =

@@ -1,7 +1,7 @@
 use Rattle.std.proofs.Common.{arith}
 use Rattle.std.proofs.lemmas.Bool.Decides.{nat_tests}
-use Rattle.rules_parts.proofs.ListLaws.{keeps_none, keeps_less, keeps_more, keeps_all}
-use Rattle.rules_parts.proofs.courses.remove_victim.Goals as goal
+use Rattle.state_words.proofs.ListLaws.{keeps_none, keeps_less, keeps_more, keeps_all}
+use Rattle.state_words.proofs.courses.remove_victim.Goals as goal
 
 pub loop-i-init : goal.loop-i-init
 loop-i-init c = keeps_none _ _

@@ -1,8 +1,8 @@
 use Rattle.std.proofs.Common.{arith}
 use Rattle.std.proofs.lemmas.Grind.{common_steps}
 use Rattle.std.proofs.lemmas.Bool.Decides.{nat_tests}
-use Rattle.rules_state.proofs.PageLaws.{slice_get-pages}
-use Rattle.rules_state.proofs.places.page_at.Goals as goal
+use Rattle.state_words.proofs.PageLaws.{slice_get-pages}
+use Rattle.state_words.proofs.places.page_at.Goals as goal
 
 pub returns-then-left-pages : goal.returns-then-left-pages
 returns-then-left-pages c =

@@ -1,6 +1,6 @@
 use Rattle.std.proofs.Common.{◌≡◌, [], take}
 use Rattle.journal_model.specs.Commands.{first_mentions}
-use Rattle.rules_state.proofs.commands.first_mentions.Given as goal
+use Rattle.state_words.proofs.commands.first_mentions.Given as goal
 
 abbrev pub invariant-loop-b : goal.invariant-loop-b
 invariant-loop-b l = l.firsts ≡ first_mentions [] (take l.b-index l.bs)

@@ -2,7 +2,7 @@ use Rattle.std.proofs.Common.{◌<◌, length, arith, ◌∙◌}
 use Rattle.std.proofs.Math.ListN.{length-set}
 use Rattle.journal_model.specs.ApplyVictims.{failed_if}
 use Rattle.journal_model.proofs.ListSteps.{map_over_step}
-use Rattle.rules_parts.proofs.courses.fail_victim.Goals as goal
+use Rattle.state_words.proofs.courses.fail_victim.Goals as goal
 
 pub loop-i-preserved : goal.loop-i-preserved
 loop-i-preserved c =

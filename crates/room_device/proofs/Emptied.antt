@@ -1,0 +1,77 @@
+-- A victim none of whose pages is due to go to a slot is let go.
+use Rattle.std.proofs.Common.{◌≡◌, ℕ, Bool, true, false, Option, Some, None, Ok, refl, ◌∙◌, ap}
+use Rattle.std.specs.Prelude.{◌&&◌, is_some}
+use Rattle.ttm_base.specs.declared.Actor.TheVariants as actor
+use Rattle.ttm_base.specs.declared.BufId.{BufId}
+use Rattle.journal_model.specs.declared.script.Script.{Script}
+use Rattle.journal_model.specs.declared.state.Course.{Course}
+use Rattle.journal_model.specs.declared.state.State.{State}
+use Rattle.journal_model.specs.declared.state.Stage.TheVariants as stage
+use Rattle.journal_model.specs.declared.state.Task.{Task}
+use Rattle.journal_model.specs.declared.state.Task.TheVariants as task
+use Rattle.journal_model.specs.declared.entry.Kind.TheVariants as kind
+use Rattle.journal_model.specs.declared.entry.Why.{Why}
+use Rattle.journal_model.specs.declared.entry.Why.TheVariants as why
+use Rattle.journal_model.specs.State.{buffer, course}
+use Rattle.journal_model.specs.Commands.{command_at_work}
+use Rattle.journal_model.specs.Dry.{has_frame}
+use Rattle.journal_model.specs.Holds.{free_slot}
+use Rattle.journal_model.specs.Next.{next}
+use Rattle.journal_model.specs.PageSteps.{first_frame_page, once_idle, step_of_empty, why_caught}
+use Rattle.journal_model.specs.Search.{Step}
+use Rattle.journal_model.specs.Tasks.{stage_of, task_of}
+use Rattle.evict_core.specs.Tasks.{lets_go}
+use Rattle.swap_core.specs.Due.{can_swap, if_for_swap, swap_out_due, swapped_at}
+use Rattle.room_turns.specs.Turns.{Kept, entry_of, state_behind}
+use Rattle.room_turns.proofs.Threads.{command_at, entry_is, next_at}
+
+module _ (script : Script) (s : State) (b : BufId) where
+  -- the step of a victim, by its frames and the free slot
+  abbrev by_frame : Bool → Option ℕ → Step
+  by_frame q o =
+      elim q [
+        | false ↦ Ok (kind.Loose b)
+        | true ↦ elim o [ None ↦ Ok (kind.Loose b) | Some slot ↦ once_idle s.core b (kind.SwapOut b (first_frame_page (buffer s b)) slot) ]
+      ]
+
+  -- by its cause
+  abbrev by_cause : Option Why → Step
+  by_cause o =
+      elim o [
+        | Some w ↦ elim w [
+          | why.Swap ↦ by_frame (has_frame (buffer s b)) (free_slot script s.core)
+          | why.Tt ↦ Ok (kind.Loose b)
+          | why.Vram ↦ Ok (kind.Loose b)
+        ]
+        | None ↦ Ok (kind.Loose b)
+      ]
+
+  goes_by_frame : (q : Bool) (o : Option ℕ) → (q && is_some o) ≡ false → by_frame q o ≡ Ok (kind.Loose b)
+  goes_by_frame false o h = refl
+  goes_by_frame true None h = refl
+  goes_by_frame true (Some slot) h = cc
+
+  goes_by_cause : (o : Option Why) → can_swap script s (if_for_swap b o) ≡ false → by_cause o ≡ Ok (kind.Loose b)
+  goes_by_cause None h = refl
+  goes_by_cause (Some why.Swap) h = goes_by_frame (has_frame (buffer s b)) (free_slot script s.core) h
+  goes_by_cause (Some why.Tt) h = refl
+  goes_by_cause (Some why.Vram) h = refl
+
+  goes : (c : Course) → can_swap script s (if_for_swap b (why_caught c b)) ≡ false → step_of_empty script s c b ≡ Ok (kind.Loose b)
+  goes c h = goes_by_cause (why_caught c b) h
+
+-- a victim is let go
+pub empty_next : (script : Script) (s : State) (t : ℕ) → stage_of (task_of script s t) ≡ stage.Empty → swap_out_due script s t ≡ false → (b : BufId) × (next script s (actor.Thread t) ≡ Ok (kind.Loose b))
+empty_next script s t empty h = by (task_of script s t) refl empty h
+  where
+    by : (x : Task) → task_of script s t ≡ x → stage_of x ≡ stage.Empty → can_swap script s (swapped_at (command_at_work script s t) (course s t) x) ≡ false → (b : BufId) × (next script s (actor.Thread t) ≡ Ok (kind.Loose b))
+    by (task.Empty b) is e due =
+        let work = command_at script s t stage.Empty empty (λ i. cc) in
+        (b, next_at script s t work.0 (task.Empty b) work.1 is ∙ goes script s b (course s t) due)
+    by x is e due = cc
+
+-- it is let go
+pub empty_lets_go : (r : Kept) (t : ℕ) → stage_of (task_of r.script (state_behind r) t) ≡ stage.Empty → swap_out_due r.script (state_behind r) t ≡ false → lets_go (entry_of r (actor.Thread t)) ≡ true
+empty_lets_go r t empty h =
+    let step = empty_next r.script (state_behind r) t empty h in
+    ap lets_go (entry_is r t (kind.Loose step.0) refl step.1)

@@ -1,0 +1,111 @@
+ghost use Rattle.std.specs.Prelude.{◌≡◌, false, IfOk, OnOk, OnErr};
+ghost use Rattle.ttm_base.specs.declared.Actor.TheVariants as actor;
+ghost use Rattle.journal_model.specs.declared.state.Stage.TheVariants as stage;
+ghost use Rattle.journal_model.specs.Tasks.{stage_of, task_of};
+ghost use Rattle.room_turns.specs.Searching.{finds_choice};
+ghost use Rattle.room_turns.specs.Turns.{after_step, entry_of, state_behind, step_of};
+
+use evict_core::{catch, dry, loose, skip};
+use ghost_destroy::{hold, is_free_due};
+use journal_model::{Stage, Task};
+use move_pipeline::{carry, take_target, untake};
+use room_turns::{Rooms, Step};
+use std::alloc::Global;
+use swap_core::{depopulate, fill, is_depopulate_due, is_swap_out_due, swap_out_page};
+use ttm_base::{Need, NoMemory};
+use validate_list::{act, lock, refuse, start};
+
+/// A search that finds no pages catches a buffer to evict; without one, the place at work is dry.
+fn make_room(alloc: Global, rooms: &mut Rooms, thread: u32) -> Result<Step, NoMemory>
+    requires stage { stage_of (task_of rooms.old.script (state_behind rooms.old) thread) ≡ stage.Search }
+    requires none { finds_choice rooms.old.script (state_behind rooms.old) thread ≡ false }
+    ensures step { IfOk result (λ step. step ≡ step_of (entry_of rooms.old (actor.Thread thread))) }
+    ensures made { OnOk result (rooms.new ≡ after_step rooms.old (entry_of rooms.old (actor.Thread thread))) }
+    ensures err { OnErr result (rooms.new ≡ rooms.old) }
+{
+    if catch(rooms, thread)? {
+        return Ok(Step::Made);
+    }
+    dry(alloc, rooms, thread)
+}
+
+/// A search takes the pages that it finds; without some, room is made.
+fn search(alloc: Global, rooms: &mut Rooms, thread: u32) -> Result<Step, NoMemory>
+    requires { stage_of (task_of rooms.old.script (state_behind rooms.old) thread) ≡ stage.Search }
+    ensures step { IfOk result (λ step. step ≡ step_of (entry_of rooms.old (actor.Thread thread))) }
+    ensures made { OnOk result (rooms.new ≡ after_step rooms.old (entry_of rooms.old (actor.Thread thread))) }
+    ensures err { OnErr result (rooms.new ≡ rooms.old) }
+{
+    if take_target(rooms, thread)? {
+        return Ok(Step::Made);
+    }
+    make_room(alloc, rooms, thread)
+}
+
+/// A victim's pages go to slots as far as that is due, and then it is let go.
+fn empty(rooms: &mut Rooms, thread: u32) -> Result<Step, NoMemory>
+    requires { stage_of (task_of rooms.old.script (state_behind rooms.old) thread) ≡ stage.Empty }
+    ensures step { IfOk result (λ step. step ≡ step_of (entry_of rooms.old (actor.Thread thread))) }
+    ensures made { OnOk result (rooms.new ≡ after_step rooms.old (entry_of rooms.old (actor.Thread thread))) }
+    ensures err { OnErr result (rooms.new ≡ rooms.old) }
+{
+    if is_swap_out_due(rooms, thread) {
+        swap_out_page(rooms, thread)
+    } else {
+        loose(rooms, thread)
+    }
+}
+
+/// A failed search gives back what it took, first frames, then targets. With nothing left to give back a victim is skipped, and a command refused.
+fn give_back(rooms: &mut Rooms, thread: u32) -> Result<Step, NoMemory>
+    requires { stage_of (task_of rooms.old.script (state_behind rooms.old) thread) ≡ stage.Fail }
+    ensures step { IfOk result (λ step. step ≡ step_of (entry_of rooms.old (actor.Thread thread))) }
+    ensures made { OnOk result (rooms.new ≡ after_step rooms.old (entry_of rooms.old (actor.Thread thread))) }
+    ensures err { OnErr result (rooms.new ≡ rooms.old) }
+{
+    match rooms.task(thread) {
+        Task::Skip(_) => skip(rooms, thread),
+        Task::GiveUp(_) => refuse(rooms, thread),
+        _ if is_depopulate_due(rooms, thread) => depopulate(rooms, thread),
+        _ => untake(rooms, thread),
+    }
+}
+
+/// A command does what it is for, and is answered. A Free, and a SwapOut of each page, are entries of their own.
+fn work(rooms: &mut Rooms, thread: u32) -> Result<Step, NoMemory>
+    requires { stage_of (task_of rooms.old.script (state_behind rooms.old) thread) ≡ stage.Act }
+    ensures step { IfOk result (λ step. step ≡ step_of (entry_of rooms.old (actor.Thread thread))) }
+    ensures made { OnOk result (rooms.new ≡ after_step rooms.old (entry_of rooms.old (actor.Thread thread))) }
+    ensures err { OnErr result (rooms.new ≡ rooms.old) }
+{
+    if is_free_due(rooms, thread) {
+        hold(rooms, thread)
+    } else if is_swap_out_due(rooms, thread) {
+        swap_out_page(rooms, thread)
+    } else {
+        act(rooms, thread)
+    }
+}
+
+/// A turn of a thread, by the stage in which it is. One that the script doesn't have is idle.
+pub(crate) fn turn_of_thread(
+    alloc: Global,
+    rooms: &mut Rooms,
+    thread: u32,
+) -> Result<Step, NoMemory>
+    ensures step { IfOk result (λ step. step ≡ step_of (entry_of rooms.old (actor.Thread thread))) }
+    ensures made { OnOk result (rooms.new ≡ after_step rooms.old (entry_of rooms.old (actor.Thread thread))) }
+    ensures err { OnErr result (rooms.new ≡ rooms.old) }
+{
+    match rooms.stage(thread) {
+        Stage::Idle => Ok(Step::Need(Need::NoCommand)),
+        Stage::Start => start(rooms, thread),
+        Stage::Lock => lock(rooms, thread),
+        Stage::Search => search(alloc, rooms, thread),
+        Stage::Carry => carry(rooms, thread),
+        Stage::Fill => fill(rooms, thread),
+        Stage::Empty => empty(rooms, thread),
+        Stage::Fail => give_back(rooms, thread),
+        Stage::Act => work(rooms, thread),
+    }
+}

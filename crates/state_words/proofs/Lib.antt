@@ -1,0 +1,5 @@
+pub mod Mentions
+pub mod PageLaws
+pub mod ListSteps
+pub mod ListLaws
+pub mod Pins

@@ -1,0 +1,175 @@
+ghost use Rattle.std.specs.Prelude.{◌≡◌, ◌∷◌, [], IfOk, flat_map};
+ghost use Rattle.journal_model.specs.Commands as words;
+
+use crate::buffers::{has_buffer, same_buffer};
+use journal_model::{BufIds, Command, Script};
+use std::alloc::Global;
+use ttm_base::{BufId, FlaggedPlace, Mem, NoMemory, Op, Place};
+
+/// The declared pages of a buffer.
+pub fn declared_pages(script: &Script, b: BufId) -> u32
+    ensures { result ≡ (words.decl script.now b).pages }
+{
+    match script.buffers.items().get(b.0 as usize) {
+        Some(decl) => decl.pages,
+        None => 0,
+    }
+}
+
+/// The priority of a buffer, from 0, which is evicted first, to 3.
+pub fn declared_prio(script: &Script, b: BufId) -> u32
+    ensures { result ≡ (words.decl script.now b).prio }
+{
+    match script.buffers.items().get(b.0 as usize) {
+        Some(decl) => decl.prio,
+        None => 0,
+    }
+}
+
+/// The group in which a buffer is moved in bulk.
+pub fn declared_group(script: &Script, b: BufId) -> Option<u32>
+    ensures { result ≡ (words.decl script.now b).group }
+{
+    match script.buffers.items().get(b.0 as usize) {
+        Some(decl) => decl.group,
+        None => None,
+    }
+}
+
+/// The alignment of a buffer in pages.
+pub fn declared_align(script: &Script, b: BufId) -> u32
+    ensures { result ≡ (words.decl script.now b).align }
+{
+    match script.buffers.items().get(b.0 as usize) {
+        Some(decl) => decl.align,
+        None => 1,
+    }
+}
+
+/// The places of a buffer, none of one that isn't declared.
+pub fn declared_places(script: &Script, b: BufId) -> &[FlaggedPlace]
+    ensures { result.now ≡ (words.decl script.now b).placement.list }
+{
+    match script.buffers.items().get(b.0 as usize) {
+        Some(decl) => decl.placement.list.items(),
+        None => &[],
+    }
+}
+
+/// The commands of a thread. Threads are numbered from 1.
+pub fn commands_of(script: &Script, thread: u32) -> &[Command]
+    ensures { result.now ≡ words.commands_of script.now thread }
+{
+    if thread == 0 {
+        return &[];
+    }
+    match script.threads.items().get(thread as usize - 1) {
+        Some(commands) => commands.items(),
+        None => &[],
+    }
+}
+
+/// The buffers of operations, as they are mentioned.
+fn mentions(alloc: Global, ops: &[Op]) -> Result<BufIds, NoMemory>
+    ensures { IfOk result (λ bs. bs ≡ flat_map words.buffers_of_op ops.now) }
+{
+    let mut bs = BufIds::new(alloc);
+    for op in ops {
+        match op {
+            Op::Fill { dst, .. } => bs.push(*dst)?,
+            Op::Copy { dst, src, .. } | Op::Xor { dst, src, .. } => {
+                bs.push(*dst)?;
+                bs.push(*src)?;
+            }
+            Op::Probe { src, .. } => bs.push(*src)?,
+        }
+    }
+    Ok(bs)
+}
+
+/// An operation writes a buffer.
+pub fn writes(b: BufId, op: &Op) -> bool
+    ensures { result ≡ words.writes b op.now }
+{
+    match op {
+        Op::Fill { dst, .. } | Op::Copy { dst, .. } | Op::Xor { dst, .. } => same_buffer(b, *dst),
+        Op::Probe { .. } => false,
+    }
+}
+
+/// Each buffer once, in order of first mention.
+pub fn first_mentions(alloc: Global, bs: &[BufId]) -> Result<BufIds, NoMemory>
+    ensures { IfOk result (λ firsts. firsts ≡ words.first_mentions [] bs.now) }
+{
+    let mut firsts = BufIds::new(alloc);
+    for b in bs {
+        if !has_buffer(firsts.items(), *b) {
+            firsts.push(*b)?;
+        }
+    }
+    Ok(firsts)
+}
+
+/// A list of one buffer.
+fn only(alloc: Global, b: BufId) -> Result<BufIds, NoMemory>
+    ensures { IfOk result (λ bs. bs ≡ b ∷ []) }
+{
+    let mut bs = BufIds::new(alloc);
+    bs.push(b)?;
+    Ok(bs)
+}
+
+/// The buffers that a command names.
+pub fn named(alloc: Global, command: &Command) -> Result<BufIds, NoMemory>
+    ensures { IfOk result (λ bs. bs ≡ words.named command.now) }
+{
+    match command {
+        Command::New { b } | Command::Free { b } | Command::Pin { b } | Command::Unpin { b } => {
+            only(alloc, *b)
+        }
+        Command::Find { b } | Command::SwapOut { b } => only(alloc, *b),
+        Command::Write { b, .. } | Command::Read { b, .. } | Command::Move { b, .. } => {
+            only(alloc, *b)
+        }
+        Command::Touch { .. } => Ok(BufIds::new(alloc)),
+        Command::Submit { ops, .. } => {
+            let bs = mentions(alloc, ops.items())?;
+            first_mentions(alloc, bs.items())
+        }
+    }
+}
+
+/// All of a memory type, as a place.
+pub fn whole(mem: Mem) -> Place
+    ensures { result ≡ words.whole mem }
+{
+    Place {
+        mem,
+        first: 0,
+        last: 0,
+        topdown: false,
+        contig: false,
+    }
+}
+
+/// A place without a flag.
+pub fn unflagged(place: Place) -> FlaggedPlace
+    ensures { result ≡ words.unflagged place }
+{
+    FlaggedPlace {
+        place,
+        desired: false,
+        fallback: false,
+    }
+}
+
+/// A place that is tried under pressure alone.
+pub fn as_fallback(place: Place) -> FlaggedPlace
+    ensures { result ≡ words.as_fallback place }
+{
+    FlaggedPlace {
+        place,
+        desired: false,
+        fallback: true,
+    }
+}

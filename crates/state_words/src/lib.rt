@@ -1,0 +1,21 @@
+//! What a script says of buffers, commands and places, and what a thread's course becomes, as code: the words that the plain rules and the
+//! rooms have in common. Each function is named after its definition and gives what the definition says.
+#![tactic(auto)]
+
+mod buffers;
+mod commands;
+pub mod courses;
+mod placement;
+mod places;
+mod uses;
+
+pub use buffers::{has_buffer, new_course, same_buffer, target_of};
+pub use commands::{
+    as_fallback, commands_of, declared_align, declared_group, declared_pages, declared_places,
+    declared_prio, first_mentions, named, unflagged, whole, writes,
+};
+pub use courses::is_caught;
+pub use placement::{reach_of, size_of};
+pub use places::{frame_of, is_frame, name_in_spans, page_at, page_of_spans, slot_of};
+pub use rules_places::{compatible, intersects, length_of, same_mem};
+pub use uses::{is_written, use_of};

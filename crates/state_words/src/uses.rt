@@ -1,0 +1,23 @@
+ghost use Rattle.std.specs.Prelude.{◌≡◌};
+ghost use Rattle.journal_model.specs.Waits as words;
+
+use crate::commands::writes;
+use ttm_base::{BufId, Op, Usage};
+
+/// An operation of the job writes the buffer.
+pub fn is_written(ops: &[Op], b: BufId) -> bool
+    ensures { result ≡ words.is_written ops.now b }
+{
+    ops.iter().any(|op| writes(b, op))
+}
+
+/// How the job joins the fences of a buffer.
+pub fn use_of(ops: &[Op], b: BufId) -> Usage
+    ensures { result ≡ words.use_of ops.now b }
+{
+    if is_written(ops, b) {
+        Usage::Write
+    } else {
+        Usage::Read
+    }
+}
