@@ -206,7 +206,7 @@ module _ (script : Script) (fits : IsTrue (is_script script)) (ctx : ℕ) where
       let more = before ++ e ∷ [] in
       let joined : more ++ es ≡ before ++ e ∷ es = grind (arith, common_steps) in
       let grown : done_in ctx (state_of script more) ≡ done_of more ctx =
-        one_more before e legal rest.0 ∙ ap (λ n. max n (done_by ctx e)) h ∙ sym (fold-append (λ n f. max n (done_by ctx f)) 0 before (e ∷ [])) in
+      one_more before e legal rest.0 ∙ ap (λ n. max n (done_by ctx e)) h ∙ sym (fold-append (λ n f. max n (done_by ctx f)) 0 before (e ∷ [])) in
       subst (λ js. done_in ctx (state_of script js) ≡ done_of js ctx) joined
       (along more es (IsLegal-append script before e legal rest.0) (subst (λ w. IsLegalFrom script w es) (sym (world_of-append script before e)) rest.1) grown)
 
