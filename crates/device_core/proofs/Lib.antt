@@ -1,3 +1,1 @@
-pub mod ReadyLaws
-pub mod DeviceLaws
-pub mod EnactLaws
+pub mod DoneLaws

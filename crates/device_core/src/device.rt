@@ -1,50 +1,35 @@
-ghost use Rattle.std.specs.Prelude.{◌≡◌, ◌↔◌, ◌+◌, ◌<◌, ◌^◌, ◌∷◌, ◌++◌, [], false, IfOk, OnOk, OnErr, Ok, IsTrue, find, length, remove};
+ghost use Rattle.std.specs.Prelude.{◌≡◌, ◌↔◌, [], false, IfOk, OnOk, OnErr, IsTrue, find};
 ghost use Rattle.journal_model.specs.ScriptRules.{is_script};
 ghost use Rattle.journal_model.specs.Complete.{is_complete};
-ghost use Rattle.journal_model.specs.Legal.{state_of};
-ghost use Rattle.journal_model.specs.DeadEnd.{can_step};
-ghost use Rattle.journal_model.specs.Scheduled.{own_order};
+ghost use Rattle.journal_model.specs.Legal.{IsLegal, state_of};
 ghost use Rattle.law_sound.specs.Sound.{SomeGoesOn};
-ghost use Rattle.device_core.specs.Kept.{entry_of, with_entry, turn_of, after_turn};
+ghost use Rattle.report_text.specs.Accounts.{AreAccountsOf};
+ghost use Rattle.device_core.specs.Done.{done_of};
+ghost use Rattle.device_core.specs.Kept.{entry_of, after_step, turn_of, after_turn, goes_on, order_of, next_actor, after_found};
 
-use crate::enact::enact;
-use journal_model::{Entry, Script, State};
-use rules_apply::first_state;
-use rules_next::next;
-use rules_schedule::{is_over, next_actor};
-use rules_stores::PlainStores;
+use journal_model::{Entry, Script};
+use report_text::Accounts;
+use room_accounts::accounts_of;
+use room_device::turn;
+use room_turns::{Rooms, Step};
 use std::alloc::Global;
 use std::marker::Model;
-use ttm_base::{Actor, ItemList, Need, NoMemory, Turn};
-
-/// Takes out the entry at a position, and those behind it move up.
-fn take_back(journal: &mut ItemList<Entry>, at: usize)
-    requires { at < length journal.old }
-    ensures { journal.new ≡ remove journal.old at }
-{
-    journal.remove(at);
-}
+use ttm_base::{Actor, ItemList, NoMemory, Turn};
+use turn_order::own_order;
 
 /// A memory manager that runs a script, and the journal of what it did.
 #[derive(Drop)]
 pub struct Device {
     alloc: Global,
-    script: Script,
-    journal: ItemList<Entry>,
-    state: State,
-    stores: PlainStores,
+    rooms: Rooms,
 }
 
 impl Model for Device {
     ghost use Rattle.device_core.specs.Kept.{Kept};
-    ghost use Rattle.device_core.specs.Held.{IsHeld};
-    ghost use Rattle.rules_stores.specs.Kept.{bytes_of};
 
     ghost Value = { Kept };
 
-    ghost view = { λ d. record { script = d.script; journal = d.journal } };
-
-    ghost invariant = { λ d. IsHeld d.script d.journal d.state d.stores.sizes (bytes_of d.stores) };
+    ghost view = { λ d. d.rooms };
 }
 
 impl Device {
@@ -57,36 +42,38 @@ impl Device {
         requires { IsTrue (is_script script) }
         ensures { IfOk result (λ d. d ≡ record { script = script; journal = [] }) }
     {
-        let state = first_state(alloc, &script)?;
-        let stores = PlainStores::new(alloc, script.sizes)?;
-        Ok(Device {
-            alloc,
-            script,
-            journal: ItemList::new(alloc),
-            state,
-            stores,
-        })
+        let rooms = Rooms::new(alloc, script)?;
+        Ok(Device { alloc, rooms })
     }
 
     /// The script that is run.
     pub fn script(&self) -> &Script
         ensures { result.now ≡ self.now.script }
     {
-        &self.script
+        self.rooms.script()
     }
 
-    /// The entries so far.
+    /// The entries so far, which are legal.
     pub fn journal(&self) -> &[Entry]
-        ensures { result.now ≡ self.now.journal }
+        ensures journal { result.now ≡ self.now.journal }
+        ensures legal { IsLegal self.now.script self.now.journal }
     {
-        self.journal.items()
+        self.rooms.journal()
     }
 
-    /// The state that the entries lead to.
-    pub fn state(&self) -> &State
-        ensures { result.now ≡ state_of self.now.script self.now.journal }
+    /// The parts, with what they tell of the state that the entries lead to.
+    pub fn rooms(&self) -> &Rooms
+        ensures { result.now ≡ self.now }
     {
-        &self.state
+        &self.rooms
+    }
+
+    /// How the pages, frames and slots are held.
+    pub fn accounts(&self) -> Accounts
+        ensures { AreAccountsOf self.now.script (state_of self.now.script self.now.journal).core result }
+    {
+        let rooms = &self.rooms;
+        accounts_of(rooms.parts(), rooms.script(), rooms.journal())
     }
 
     /// Every command is answered, every job is done and there is no ghost. Until then some actor has an entry.
@@ -94,45 +81,21 @@ impl Device {
         ensures complete { result ≡ is_complete self.now.script self.now.journal }
         ensures goes_on { (result ≡ false) ↔ SomeGoesOn self.now.script (state_of self.now.script self.now.journal) }
     {
-        is_over(&self.script, &self.state)
+        let _legal = self.rooms.journal();
+        self.rooms.over()
     }
 
-    /// The entry that an actor makes next, or what it needs first.
-    fn next_entry(&self, who: Actor) -> Result<Result<Entry, Need>, NoMemory>
-        requires { length self.now.journal + 1 < 2 ^ 64 }
-        ensures { IfOk result (λ step. step ≡ entry_of self.now who) }
+    /// The number of the last job of a context that is done, or 0.
+    pub(crate) fn reached(&self, ctx: u32) -> u64
+        ensures { result ≡ done_of self.now.journal ctx }
     {
-        match next(self.alloc, &self.script, &self.state, who)? {
-            Ok(kind) => {
-                let kind = self
-                    .stores
-                    .showing(self.alloc, &self.script, &self.state, who, kind)?;
-                Ok(Ok(Entry { who, kind }))
-            }
-            Err(need) => Ok(Err(need)),
+        let _legal = self.rooms.journal();
+        let line = self.rooms.line();
+        if ctx < line.contexts() {
+            line.reached(ctx)
+        } else {
+            0
         }
-    }
-
-    /// Makes an entry.
-    fn make(&mut self, entry: Entry) -> Result<(), NoMemory>
-        requires next { entry_of self.old entry.who ≡ Ok entry }
-        requires short { length self.old.journal + 1 < 2 ^ 64 }
-        ensures ok { OnOk result (self.new ≡ with_entry self.old entry) }
-        ensures err { OnErr result (self.new ≡ self.old) }
-    {
-        let at = self.journal.len();
-        self.journal.push(entry)?;
-        let made = enact(
-            self.alloc,
-            &self.script,
-            &mut self.state,
-            &mut self.stores,
-            self.journal.get(at),
-        );
-        if made.is_err() {
-            take_back(&mut self.journal, at);
-        }
-        made
     }
 
     /// A turn of an actor.
@@ -148,29 +111,58 @@ impl Device {
         if self.over() {
             return Ok(Turn::Over);
         }
-        if self.journal.len() == usize::MAX {
-            return Err(NoMemory);
-        }
-        match self.next_entry(who)? {
-            Ok(entry) => {
-                self.make(entry)?;
-                Ok(Turn::Made(self.journal.len() as u64))
-            }
-            Err(need) => Ok(Turn::Blocked(need)),
+        match turn(self.alloc, &mut self.rooms, who)? {
+            Step::Made => Ok(Turn::Made(self.rooms.journal().len() as u64)),
+            Step::Need(need) => Ok(Turn::Blocked(need)),
         }
     }
 
-    /// The actor whose turn it is where no schedule says so.
+    /// Has an actor make its entry, if it has one.
+    fn try_step(&mut self, who: Actor) -> Result<bool, NoMemory>
+        ensures had { IfOk result (λ had. had ≡ goes_on self.old who) }
+        ensures made { OnOk result (self.new ≡ after_step self.old (entry_of self.old who)) }
+        ensures err { OnErr result (self.new ≡ self.old) }
+    {
+        match turn(self.alloc, &mut self.rooms, who)? {
+            Step::Made => Ok(true),
+            Step::Need(_) => Ok(false),
+        }
+    }
+
+    /// Has the first of these actors that has an entry make it.
+    fn step_first(&mut self, actors: &[Actor]) -> Result<Option<Actor>, NoMemory>
+        ensures found { IfOk result (λ found. found ≡ find (goes_on self.old) actors.now) }
+        ensures made { OnOk result (self.new ≡ after_found self.old (find (goes_on self.old) actors.now)) }
+        ensures err { OnErr result (self.new ≡ self.old) }
+    {
+        for who in actors {
+            if self.try_step(*who)? {
+                return Ok(Some(*who));
+            }
+        }
+        Ok(None)
+    }
+
+    /// The actors in the order in which the simulator looks for one that has an entry.
+    fn order(&self) -> Result<ItemList<Actor>, NoMemory>
+        ensures { IfOk result (λ order. order ≡ order_of self.now) }
+    {
+        let rooms = &self.rooms;
+        own_order(self.alloc, rooms.parts(), rooms.script(), rooms.journal())
+    }
+
+    /// A turn where no schedule says whose: the first actor in the simulator's own order that has an entry makes it. Answers which it
+    /// was; none, where nobody has an entry.
     ///
     /// # Errors
     ///
-    /// Want of memory.
-    pub fn next_actor(&self) -> Result<Option<Actor>, NoMemory>
-        ensures { IfOk result (λ found. found ≡ find (can_step self.now.script (state_of self.now.script self.now.journal)) (own_order self.now.script (state_of self.now.script self.now.journal))) }
+    /// Want of memory; nothing is changed.
+    pub fn step_next(&mut self) -> Result<Option<Actor>, NoMemory>
+        ensures found { IfOk result (λ found. found ≡ next_actor self.old) }
+        ensures made { OnOk result (self.new ≡ after_found self.old (next_actor self.old)) }
+        ensures err { OnErr result (self.new ≡ self.old) }
     {
-        if self.journal.len() == usize::MAX {
-            return Err(NoMemory);
-        }
-        next_actor(self.alloc, &self.script, &self.state)
+        let order = self.order()?;
+        self.step_first(order.items())
     }
 }

@@ -1,19 +1,6 @@
-ghost use Rattle.std.specs.Prelude.{◌≡◌};
-ghost use Rattle.device_core.specs.Done as words;
-
 use crate::Device;
-use journal_model::{Entry, Kind, Script};
+use journal_model::{Entry, Script};
 use ttm_base::{Actor, Logged, NoMemory, Stepper, Turn};
-
-/// The number of the job of a context that an entry ends, or 0.
-fn done_by(ctx: u32, entry: &Entry) -> u64
-    ensures { result ≡ words.done_by ctx entry.now }
-{
-    match (entry.who, &entry.kind) {
-        (Actor::Engine(e), Kind::Done { num }) if e == ctx => *num,
-        _ => 0,
-    }
-}
 
 impl Logged for Device {
     type Item = Entry;
@@ -33,9 +20,7 @@ impl Logged for Device {
     }
 
     fn done(&self, ctx: u32) -> u64 {
-        self.journal()
-            .iter()
-            .fold(0, |most, entry| most.max(done_by(ctx, entry)))
+        self.reached(ctx)
     }
 
     ghost done_grows = { done_of_grows };

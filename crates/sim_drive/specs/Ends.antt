@@ -3,7 +3,7 @@ use Rattle.std.specs.Prelude.{◌≡◌, ℕ, ◌<◌, ◌≤◌, true, false, �
 use Rattle.journal_model.specs.declared.script.Script.{Script}
 use Rattle.journal_model.specs.Complete.{is_complete}
 use Rattle.journal_model.specs.Scheduled.{scheduled}
-use Rattle.device_core.specs.Kept.{Kept}
+pub use Rattle.device_core.specs.Kept.{Kept}
 
 -- the journal isn't complete after any lesser number of turns
 abbrev pub NotBefore : Script → ℕ → Type 0

@@ -4,5 +4,6 @@
 mod limit;
 mod turns;
 
+pub use device_core::Device;
 pub use limit::turn_limit;
 pub use turns::drive;

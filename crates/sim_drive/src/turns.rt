@@ -1,7 +1,6 @@
-ghost use Rattle.std.specs.Prelude.{◌≡◌, ◌+◌, ◌++◌, [], OnOk, OnErr, IfOk, false, flat_map};
+ghost use Rattle.std.specs.Prelude.{◌≡◌, ◌+◌, ◌++◌, [], OnOk, OnErr, IfOk, false, flat_map, slice_get};
 ghost use Rattle.journal_model.specs.Complete.{is_complete};
-ghost use Rattle.journal_model.specs.Legal.{state_of};
-ghost use Rattle.journal_model.specs.Scheduled.{actor_of_turn, scheduled, scheduled_actors};
+ghost use Rattle.journal_model.specs.Scheduled.{scheduled, scheduled_actors};
 ghost use Rattle.sim_drive.specs.Ends.{EndsAfter, HasTaken};
 
 use device_core::Device;
@@ -30,18 +29,14 @@ fn actors_of(alloc: Global, lines: &[TurnLine]) -> Result<ItemList<Actor>, NoMem
     Ok(actors)
 }
 
-/// Whose turn it is: the schedule's actor, or where it is at its end the first that has an entry.
-fn actor_at(device: &Device, schedule: &[Actor], turn: u64) -> Result<Option<Actor>, NoMemory>
-    requires { schedule.now ≡ scheduled_actors device.now.script }
-    ensures { IfOk result (λ who. who ≡ actor_of_turn device.now.script (state_of device.now.script device.now.journal) turn) }
+/// Whose turn it is in the schedule, unless it is at its end.
+fn scheduled_at(schedule: &[Actor], turn: u64) -> Option<Actor>
+    ensures { result ≡ slice_get schedule.now turn }
 {
-    match schedule.get(turn as usize) {
-        Some(who) => Ok(Some(*who)),
-        None => device.next_actor(),
-    }
+    schedule.get(turn as usize).copied()
 }
 
-/// Takes a turn.
+/// Takes a turn: that of the schedule's actor, or where the schedule is at its end, of the first actor that has an entry.
 fn take_turn(device: &mut Device, schedule: &[Actor], turn: u64) -> Result<(), NoMemory>
     requires schedule { schedule.now ≡ scheduled_actors device.old.script }
     requires journal { device.old.journal ≡ scheduled device.old.script turn }
@@ -49,8 +44,13 @@ fn take_turn(device: &mut Device, schedule: &[Actor], turn: u64) -> Result<(), N
     ensures taken { OnOk result (device.new ≡ record { script = device.old.script; journal = scheduled device.old.script (turn + 1) }) }
     ensures kept { OnErr result (device.new ≡ device.old) }
 {
-    if let Some(who) = actor_at(device, schedule, turn)? {
-        device.step(who)?;
+    match scheduled_at(schedule, turn) {
+        Some(who) => {
+            device.step(who)?;
+        }
+        None => {
+            device.step_next()?;
+        }
     }
     Ok(())
 }

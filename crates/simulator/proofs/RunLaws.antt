@@ -7,8 +7,7 @@ use Rattle.journal_model.specs.Complete.{is_complete}
 use Rattle.journal_model.specs.Scheduled.{scheduled, turn_limit}
 use Rattle.command_words.specs.declared.Form.{Form}
 use Rattle.command_words.specs.declared.Form.TheVariants as form
-use Rattle.device_core.specs.Kept.{Kept}
-use Rattle.sim_drive.specs.Ends.{EndsAfter}
+use Rattle.sim_drive.specs.Ends.{Kept, EndsAfter}
 pub use Rattle.law_legal.proofs.All.{keeps_laws}
 use Rattle.law_end.proofs.Ends.{schedule_completes}
 use Rattle.law_limit.proofs.Limits.{limit_fits}

@@ -6,7 +6,7 @@ use Rattle.journal_model.specs.Complete.{is_complete}
 use Rattle.journal_model.specs.Scheduled.{scheduled, turn_limit}
 use Rattle.command_words.specs.declared.Form.{Form}
 use Rattle.command_words.specs.declared.Form.TheVariants as form
-use Rattle.device_core.specs.Kept.{Kept}
+pub use Rattle.sim_drive.specs.Ends.{Kept}
 use Rattle.sim_drive.specs.Ends.{EndsAfter}
 pub use Rattle.law_legal.specs.KeepsLaws.{KeepsLaws}
 use Rattle.simulator.specs.declared.outcome.Status.{Status}

@@ -3,7 +3,7 @@ use Rattle.std.specs.Prelude.{ℕ, List, [], ◌∷◌, ◌++◌, codes, decimal
 use Rattle.journal_model.specs.Words.{Text, line}
 use Rattle.journal_model.specs.Complete.{is_complete}
 use Rattle.journal_model.specs.ReportText.{report}
-use Rattle.device_core.specs.Kept.{Kept}
+use Rattle.sim_drive.specs.Ends.{Kept}
 use Rattle.simulator.specs.declared.outcome.Status.{Status}
 use Rattle.simulator.specs.declared.outcome.Status.TheVariants as status
 use Rattle.simulator.specs.declared.outcome.Outcome.{Outcome}

@@ -8,5 +8,6 @@ mod top;
 
 pub use input::{Input, read_input};
 pub use outcome::{Outcome, Status};
+pub use sim_drive::Device;
 pub use tell::{write_outcome, write_text};
 pub use top::{sim_top, status_after};

@@ -1,7 +1,7 @@
 ghost use Rattle.std.specs.Prelude.{◌≡◌};
 ghost use Rattle.simulator.specs.Outcomes.{code_of, status_of, status_of_run};
 
-use device_core::Device;
+use sim_drive::Device;
 
 /// How a run of the program ended.
 #[derive(Clone, Copy, PartialEq, Eq)]

@@ -7,10 +7,9 @@ ghost use Rattle.simulator.specs.Outcomes.{bad_script_text, help_text, run_text,
 ghost use Rattle.simulator.specs.Plain.{IsPlain};
 
 use crate::outcome::Outcome;
-use device_core::Device;
 use io_edge::{Sink, write_all};
-use page_accounts::accounts_of;
 use report_text::{WriteFault, write_report};
+use sim_drive::Device;
 use std::alloc::Global;
 use ttm_base::NoMemory;
 
@@ -75,7 +74,7 @@ fn write_device<K: Sink>(alloc: Global, device: &Device, sink: &mut K) -> Result
     ensures text { Writes result (K.written sink.old) (K.written sink.new) (report device.now.script device.now.journal) }
     ensures faults { K.faults sink.new ≡ faults_after_writing result (K.faults sink.old) }
 {
-    let accounts = accounts_of(alloc, device.script(), device.state())?;
+    let accounts = device.accounts();
     write_report(alloc, device.script(), device.journal(), &accounts, sink)
 }
 

@@ -10,11 +10,10 @@ use crate::input::{Input, read_input};
 use crate::outcome::{Outcome, Status};
 use crate::tell::write_outcome;
 use command_words::{Form, Words, read_words};
-use device_core::Device;
 use io_edge::{Sink, Source};
 use journal_model::Script;
 use report_text::WriteFault;
-use sim_drive::{drive, turn_limit};
+use sim_drive::{Device, drive, turn_limit};
 use std::alloc::Global;
 use ttm_base::NoMemory;
 

@@ -5,15 +5,13 @@ ghost use Rattle.std.specs.Prelude.{◌≡◌, []};
 
 use device_core::Device;
 use io_edge::{Sink, StdSink};
-use page_accounts::accounts_of;
 use report_text::{WriteFault, write_report};
-use rules_stores::StorePage;
 use script_text::read_script;
 use std::alloc::Global;
 use std::io;
 use std::io::{BufRead, BufReader};
 use test_cases::{Case, Table, no_memory};
-use ttm_base::{Actor, JobId, Need, PagePlace, Turn};
+use ttm_base::{Actor, JobId, Need, Turn};
 
 /// How many turns follow the steps of a case at most.
 const MOST_TURNS: u32 = 100_000;
@@ -65,11 +63,7 @@ fn take_steps(rt: &impl Print, device: &mut Device, steps: &[Actor]) -> io::Resu
 
 /// Takes the next turn in the simulator's order, if somebody has an entry.
 fn take_next(device: &mut Device) -> io::Result<bool> {
-    let Some(who) = device.next_actor().map_err(no_memory)? else {
-        return Ok(false);
-    };
-    let _ = device.step(who).map_err(no_memory)?;
-    Ok(true)
+    Ok(device.step_next().map_err(no_memory)?.is_some())
 }
 
 /// Takes turns in the simulator's order until nobody has an entry.
@@ -80,14 +74,6 @@ fn go_to_the_end(device: &mut Device) -> io::Result<()> {
         }
     }
     Ok(())
-}
-
-/// The frame that a page of TT stands for.
-fn frame_of(device: &Device, page: u32) -> Option<u32> {
-    match StorePage::named(&device.state().core, PagePlace::Aper(page)) {
-        StorePage::Frame(frame) => Some(frame),
-        _ => None,
-    }
 }
 
 fn print_frame(rt: &impl Print, frame: Option<u32>) -> io::Result<()> {
@@ -101,7 +87,7 @@ fn print_frame(rt: &impl Print, frame: Option<u32>) -> io::Result<()> {
 fn print_aperture(rt: &impl Print, device: &Device) -> io::Result<()> {
     print!(rt; "aperture")?;
     for page in 0..device.script().sizes.tt {
-        print_frame(rt, frame_of(device, page))?;
+        print_frame(rt, device.rooms().parts().stores.aper.get(page))?;
     }
     println!(rt; "")
 }
@@ -110,7 +96,7 @@ fn print_aperture(rt: &impl Print, device: &Device) -> io::Result<()> {
 fn write_device<K: Sink>(alloc: Global, device: &Device, sink: &mut K) -> Result<(), WriteFault>
     requires { device.now.script.marks ≡ [] }
 {
-    let accounts = accounts_of(alloc, device.script(), device.state())?;
+    let accounts = device.accounts();
     write_report(alloc, device.script(), device.journal(), &accounts, sink)
 }
 

@@ -1,7 +1,7 @@
 -- A device and the parts that follow it.
 use Rattle.std.specs.Prelude.{◌≡◌, [], ◌∷◌, ◌++◌}
 use Rattle.journal_model.specs.declared.entry.Entry.{Entry}
-use Rattle.device_core.specs.Kept as device
+use Rattle.plain_device.specs.Kept as device
 use Rattle.room_state.specs.Kept as rooms
 
 -- both have the same script and the same entries

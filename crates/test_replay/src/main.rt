@@ -12,8 +12,8 @@ mod replay;
 
 use accounts::accounts_in;
 use compare::{Difference, first_difference};
-use device_core::Device;
 use journal_model::Script;
+use plain_device::Device;
 use replay::{Replay, Taken};
 use report_text::{Account, Accounts};
 use room_state::Rooms;

@@ -2,8 +2,8 @@ ghost use Rattle.std.specs.Prelude.{◌≡◌, OnOk};
 ghost use Rattle.test_replay.specs.Steps.{AreInStep, IsOneAhead};
 
 use crate::copies::copy_of;
-use device_core::Device;
 use journal_model::Entry;
+use plain_device::Device;
 use room_state::Rooms;
 use rules_next::next;
 use rules_search::has_room;

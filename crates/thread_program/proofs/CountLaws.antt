@@ -12,7 +12,7 @@ use Rattle.journal_model.specs.declared.script.Command.{Command}
 use Rattle.journal_model.specs.declared.entry.Entry.{Entry}
 use Rattle.journal_model.specs.declared.entry.Kind.{Kind}
 use Rattle.journal_model.specs.Complete.{is_answer}
-use Rattle.device_core.specs.Kept.{Kept}
+use Rattle.simulator.specs.Ends.{Kept}
 use Rattle.law_over.proofs.Totals.{number_of, sum_same, all_answered}
 use Rattle.plain_memory.specs.Along as words
 use Rattle.plain_memory.specs.Mismatches.{mismatches_of}

@@ -12,7 +12,7 @@ use Rattle.journal_model.specs.declared.entry.Entry.{Entry}
 use Rattle.journal_model.specs.ScriptRules.{is_script}
 use Rattle.journal_model.specs.Complete.{is_complete, thread_numbers}
 use Rattle.journal_model.specs.Legal.{IsLegal}
-use Rattle.device_core.specs.Kept.{Kept}
+use Rattle.simulator.specs.Ends.{Kept}
 use Rattle.turn_lock.proofs.Prefixes.{prefix_trans}
 use Rattle.law_over.proofs.Stops.{last}
 use Rattle.simulator.proofs.RunLaws.{keeps_laws}

@@ -1,7 +1,7 @@
 -- What is counted of a run of a script that was drawn from a number, and how such a run ends.
 use Rattle.std.specs.Prelude.{ℕ, [], ◌∷◌, ◌++◌, codes, decimal}
 use Rattle.journal_model.specs.Words.{Text, line}
-use Rattle.device_core.specs.Kept.{Kept}
+use Rattle.simulator.specs.Ends.{Kept}
 use Rattle.generated_load.specs.Loads.{IsLoad}
 use Rattle.simulator.specs.declared.outcome.Status.{Status}
 use Rattle.simulator.specs.declared.outcome.Status.TheVariants as status

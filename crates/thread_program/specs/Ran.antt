@@ -4,7 +4,7 @@ use Rattle.journal_model.specs.declared.script.Script.{Script}
 use Rattle.journal_model.specs.Legal.{IsLegal}
 use Rattle.journal_model.specs.Complete.{is_complete}
 use Rattle.simulator.specs.Ends.{KeepsLaws}
-use Rattle.device_core.specs.Kept.{Kept}
+use Rattle.simulator.specs.Ends.{Kept}
 
 -- a legal, complete journal of the script, which keeps the laws
 pub record IsThreaded (script : Script) (k : Kept) : Type 0 where

@@ -1,7 +1,7 @@
 -- What comes out of a run on threads.
 use Rattle.std.specs.Prelude.{Option, Some, None}
 use Rattle.journal_model.specs.declared.script.Script.{Script}
-use Rattle.device_core.specs.Kept.{Kept}
+use Rattle.simulator.specs.Ends.{Kept}
 use Rattle.simulator.specs.declared.outcome.Outcome.{Outcome}
 use Rattle.simulator.specs.declared.outcome.Outcome.TheVariants as outcome
 use Rattle.simulator.specs.Edges.{Edge, IsUntouched, WasCutOff}

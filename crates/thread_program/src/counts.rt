@@ -4,12 +4,11 @@ ghost use Rattle.journal_model.specs.Words.{line};
 ghost use Rattle.report_text.specs.WriteFault.{faults_after_writing};
 ghost use Rattle.thread_program.specs.Counted.{HasRunLoad, counts_text, load_counts};
 
-use device_core::Device;
 use io_edge::Sink;
 use itoa::Buffer;
 use plain_memory::{answers, command_count, mismatches};
 use report_text::WriteFault;
-use simulator::write_text;
+use simulator::{Device, write_text};
 use std::alloc::Global;
 use ttm_base::NoMemory;
 

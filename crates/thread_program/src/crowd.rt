@@ -3,8 +3,8 @@ ghost use Rattle.journal_model.specs.ScriptRules.{is_script};
 ghost use Rattle.thread_program.specs.Ran.{IsThreaded};
 
 use crate::actors::actors_of;
-use device_core::Device;
 use journal_model::Script;
+use simulator::Device;
 use std::alloc::Global;
 use std::sync::Wait;
 use std::thread::Threads;
@@ -33,6 +33,7 @@ pub fn run_threads<R: Threads + Wait + Sync, G: Gate + Sync>(
     let (turns, pass) = Turns::new(alloc, device, contexts)?;
     let (answer, pass) = work_all(rt, alloc, &turns, pass, gate, actors.items());
     let device = turns.close(rt, pass);
+    let _legal = device.journal();
     answer?;
     Ok(device)
 }

@@ -1,7 +1,6 @@
 use Rattle.std.proofs.Common.{◌≡◌, ◌<◌, ◌≤◌, List, length, Some, sym, ◌∙◌, ap, subst}
 use Rattle.ttm_base.specs.declared.Actor.{Actor}
-use Rattle.journal_model.specs.Legal.{IsLegal}
-use Rattle.device_core.specs.Kept.{Kept}
+use Rattle.simulator.specs.Ends.{Kept}
 use Rattle.thread_program.proofs.ThreadLaws.{at_ok, few_actors, finished}
 use Rattle.thread_program.proofs.crowd.run_threads.Goals as goal
 
@@ -14,8 +13,6 @@ returns g c =
     let first : c.in_ok-turns.pass.me.0.root ≡ Some c.args.script =
     ap (λ m. m.0.root) c.in_ok-turns.ensures.1 ∙ ap (λ (d : Kept). Some d.script) c.in_ok-device.ensures in
     let seen = c.work_all-answer.ensures.root c.args.script first in
-    let legal : IsLegal c.close-device.result.script c.close-device.result.journal =
-    subst (λ (k : Kept). IsLegal k.script k.journal) c.device.view_is c.device.invariant.legal in
     finished c.args.script c.close-device.result c.work_all-answer.result.1.me.0.seen c.work_all-answer.result.1.me.0.root c.requires
     (at_ok _ c.work_all-answer.result.0 c.in_ok-answer.field-0 c.in_ok-answer.was c.work_all-answer.ensures.over)
-    seen c.close-device.ensures.before (c.close-device.ensures.root c.args.script seen) legal
+    seen c.close-device.ensures.before (c.close-device.ensures.root c.args.script seen) c.journal-legal.ensures.legal

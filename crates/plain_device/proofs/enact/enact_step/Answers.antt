@@ -1,8 +1,8 @@
 use Rattle.std.proofs.Common.{subst, ◌≡◌, false}
 use Rattle.rules_apply.specs.Sure.{takes_no_memory}
 use Rattle.rules_stores.specs.Kept.{BecomesBytes, bytes_of}
-use Rattle.device_core.proofs.EnactLaws.{when_ok, both_on_err, no_bytes}
-use Rattle.device_core.proofs.enact.enact_step.Goals as goal
+use Rattle.plain_device.proofs.EnactLaws.{when_ok, both_on_err, no_bytes}
+use Rattle.plain_device.proofs.enact.enact_step.Goals as goal
 
 pub returns-clause-bytes : goal.returns-clause-bytes
 returns-clause-bytes c = when_ok c.apply.result c.after.ensures

@@ -2,8 +2,8 @@ use Rattle.std.proofs.Common.{Some, subst, ◌≡◌}
 use Rattle.journal_model.specs.Commands.{command_at_work}
 use Rattle.journal_model.specs.Apply.{thread_of}
 use Rattle.rules_stores.specs.Kept.{BecomesBytes, bytes_of}
-use Rattle.device_core.proofs.EnactLaws.{answered_write}
-use Rattle.device_core.proofs.enact.enact_result.Goals as goal
+use Rattle.plain_device.proofs.EnactLaws.{answered_write}
+use Rattle.plain_device.proofs.enact.enact_result.Goals as goal
 
 pub returns-in-Some-clause-bytes : goal.returns-in-Some-clause-bytes
 returns-in-Some-clause-bytes c =

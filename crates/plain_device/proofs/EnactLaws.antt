@@ -21,7 +21,7 @@ use Rattle.journal_model.specs.CommandRules.{is_command, is_range_of, is_byte}
 use Rattle.law_state.proofs.Rules.{Rules, at_work_rules}
 use Rattle.rules_stores.specs.Writes.{CanStore, IsShortWrite}
 use Rattle.rules_apply.specs.Sure.{takes_no_memory}
-use Rattle.device_core.specs.Held.{is_result}
+use Rattle.plain_device.specs.Held.{is_result}
 
 module _ {X E : Type 0} where
   pub when_ok : {P : Type 0} (r : Result X E) → P → OnOk r P

@@ -30,11 +30,11 @@ use Rattle.law_state.proofs.GoodStates.{good_law}
 use Rattle.law_state.proofs.Counters.{below_law}
 use Rattle.law_state.proofs.Pins.{courses_law}
 use Rattle.rules_apply.specs.Ready.{IsReady, IsReadyFor}
-use Rattle.device_core.specs.Kept.{Kept, entry_of, with_entry}
-use Rattle.device_core.specs.Held.{IsHeld, HasNoMore}
+use Rattle.plain_device.specs.Kept.{Kept, entry_of, with_entry}
+use Rattle.plain_device.specs.Held.{IsHeld, HasNoMore}
 use Rattle.rules_stores.specs.Kept as kept
 use Rattle.rules_stores.specs.Kept.{KeptBytes}
-use Rattle.device_core.proofs.ReadyLaws.{Known, has_room, ready}
+use Rattle.plain_device.proofs.ReadyLaws.{Known, has_room, ready}
 
 -- beyond the pages that there are, there is nothing
 nothing_beyond : (sizes : Sizes) (bytes : PageBytes) → HasNoMore sizes (within sizes bytes)

@@ -1,9 +1,9 @@
 use Rattle.std.proofs.Common.{◌≡◌, ◌+◌, ◌^◌, ◌<◌, length, arith}
 use Rattle.std.proofs.lemmas.Bool.Decides.{nat_tests}
 use Rattle.rules_stores.specs.Kept.{bytes_of}
-use Rattle.device_core.proofs.ReadyLaws.{has_room}
-use Rattle.device_core.proofs.DeviceLaws.{known}
-use Rattle.device_core.proofs.device.Device.next_actor.Goals as goal
+use Rattle.plain_device.proofs.ReadyLaws.{has_room}
+use Rattle.plain_device.proofs.DeviceLaws.{known}
+use Rattle.plain_device.proofs.device.Device.next_actor.Goals as goal
 
 pub next_actor-requires : goal.next_actor-requires
 next_actor-requires c =

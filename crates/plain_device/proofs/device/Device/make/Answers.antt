@@ -3,10 +3,10 @@ use Rattle.journal_model.specs.Apply.{apply}
 use Rattle.journal_model.specs.Stores.{stores_after}
 use Rattle.rules_stores.specs.Kept.{BecomesBytes, bytes_of}
 use Rattle.law_state.proofs.Rules.{rules_of}
-use Rattle.device_core.specs.Kept.{entry_of}
-use Rattle.device_core.proofs.EnactLaws.{can_store, of_ok, of_err}
-use Rattle.device_core.proofs.DeviceLaws.{pushed_ready, held_same, held_more}
-use Rattle.device_core.proofs.device.Device.make.Goals as goal
+use Rattle.plain_device.specs.Kept.{entry_of}
+use Rattle.plain_device.proofs.EnactLaws.{can_store, of_ok, of_err}
+use Rattle.plain_device.proofs.DeviceLaws.{pushed_ready, held_same, held_more}
+use Rattle.plain_device.proofs.device.Device.make.Goals as goal
 
 pub enact-made-requires-clause-ready : goal.enact-made-requires-clause-ready
 enact-made-requires-clause-ready c =

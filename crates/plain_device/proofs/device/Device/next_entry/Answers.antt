@@ -1,9 +1,9 @@
 use Rattle.std.proofs.Common.{◌≡◌, ◌+◌, ◌^◌, ◌<◌, length, Ok, sym, ◌∙◌, subst}
 use Rattle.rules_stores.specs.Kept.{bytes_of}
-use Rattle.device_core.specs.Kept.{entry_of}
-use Rattle.device_core.proofs.ReadyLaws.{has_room}
-use Rattle.device_core.proofs.DeviceLaws.{known, entry_shown}
-use Rattle.device_core.proofs.device.Device.next_entry.Goals as goal
+use Rattle.plain_device.specs.Kept.{entry_of}
+use Rattle.plain_device.proofs.ReadyLaws.{has_room}
+use Rattle.plain_device.proofs.DeviceLaws.{known, entry_shown}
+use Rattle.plain_device.proofs.device.Device.next_entry.Goals as goal
 
 pub next-requires : goal.next-requires
 next-requires c =

@@ -4,7 +4,7 @@ ghost use Rattle.journal_model.specs.Stores.{stores_after};
 ghost use Rattle.rules_apply.specs.Ready.{IsReady};
 ghost use Rattle.rules_stores.specs.Kept.{BecomesBytes, bytes_of};
 ghost use Rattle.rules_stores.specs.Writes.{CanStore};
-ghost use Rattle.device_core.specs.Held.{is_result};
+ghost use Rattle.plain_device.specs.Held.{is_result};
 
 use journal_model::{Entry, Kind, Script, State};
 use rules_apply::apply;

@@ -1,0 +1,3 @@
+pub mod ReadyLaws
+pub mod DeviceLaws
+pub mod EnactLaws

@@ -1,0 +1,8 @@
+//! A memory manager with the journal of what it did: each turn of an actor makes the entry that is legal next, if there is one.
+#![tactic(auto)]
+
+mod device;
+mod enact;
+mod stepper;
+
+pub use device::Device;
