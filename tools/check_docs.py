@@ -1,11 +1,11 @@
 #!/usr/bin/env python3
 """Checks that what documents name exists. Takes a second; needs Python alone, and no build.
 
-usage: tools/check_docs.py [DOCUMENT ...]      without documents: README.md, docs/*.md and crates/*/README.md; that each
-                                               crate stands in crates.txt and in docs/ARCHITECTURE.md and has its
-                                               README.md, headed by its name, and each law (public function of
-                                               crates/law_*) stands in docs/CLAIMS.md; and that README.md has at most
-                                               7 KB and its table of sizes is right
+usage: tools/check_docs.py [DOCUMENT ...]      without documents: README.md, examples/README.md, docs/*.md and
+                                               crates/*/README.md; that each crate stands in crates.txt and in
+                                               docs/ARCHITECTURE.md and has its README.md, headed by its name, and
+                                               each law (public function of crates/law_*) stands in docs/CLAIMS.md;
+                                               and that README.md has at most 7 KB and its table of sizes is right
        tools/check_docs.py --sizes             that table's rows
        tools/check_docs.py --closure MODULE    the definition files that MODULE rests on, as rows of a table
 
@@ -338,7 +338,8 @@ def main():
             print(size_row(*row))
         return
     documents = [pathlib.Path(word).resolve() for word in words] or [
-        TOP / "README.md", *sorted((TOP / "docs").glob("*.md")), *sorted((TOP / "crates").glob("*/README.md"))]
+        TOP / "README.md", TOP / "examples" / "README.md", *sorted((TOP / "docs").glob("*.md")),
+        *sorted((TOP / "crates").glob("*/README.md"))]
     index = Index()
     faults = 0
     for fault in [] if words else [*missing_crates(index), *missing_laws(), *faults_of_pages(index), *faults_of_readme()]:
