@@ -3,6 +3,7 @@
 
 #include <stdio.h>
 #include <stdlib.h>
+#include <string.h>
 
 static void expect(enum pearoar_status status, enum pearoar_status wanted, const char *call)
 {
@@ -10,6 +11,13 @@ static void expect(enum pearoar_status status, enum pearoar_status wanted, const
 		return;
 	fprintf(stderr, "%s: status %d in place of %d\n", call, status, wanted);
 	exit(1);
+}
+
+static void print_spans(const struct pearoar_span *spans, size_t count)
+{
+	for (size_t i = 0; i < count; i++)
+		printf(" %u-%u", spans[i].start, spans[i].end);
+	printf("\n");
 }
 
 static void print_ranges(struct pearoar_ranges *ranges)
@@ -71,16 +79,18 @@ static void use_blocks(void)
 {
 	struct pearoar_blocks blocks = PEAROAR_CLOSED;
 	struct pearoar_block_request request = { .pages = 13, .first = 0, .last = 40, .flags = 0 };
-	struct pearoar_span out[4];
+	struct pearoar_span out[4], by_address[4];
 	size_t count;
 
 	expect(pearoar_blocks_create(&blocks, 40), PEAROAR_DONE, "create");
 	expect(pearoar_blocks_alloc(&blocks, &request, out, 2, &count), PEAROAR_TOO_MANY, "alloc with little room");
 	printf("13 pages are %zu blocks:", count);
 	expect(pearoar_blocks_alloc(&blocks, &request, out, 4, &count), PEAROAR_DONE, "alloc");
-	for (size_t i = 0; i < count; i++)
-		printf(" %u-%u", out[i].start, out[i].end);
-	printf("\n");
+	print_spans(out, count);
+	printf("by address:");
+	memcpy(by_address, out, count * sizeof(out[0]));
+	pearoar_spans_sort(by_address, count);
+	print_spans(by_address, count);
 	request.pages = 3;
 	request.flags = PEAROAR_TOPDOWN + PEAROAR_CONTIGUOUS;
 	request.last = 32;

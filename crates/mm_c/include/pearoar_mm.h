@@ -128,9 +128,10 @@ void pearoar_blocks_destroy(struct pearoar_blocks *blocks);
 
 /*
  * Takes blocks that have the request's pages together, and writes them to the front of `out`, which takes `room` blocks, in the
- * order in which they are chosen: the largest first (drm_buddy_alloc_blocks). `count` gets how many they are. Contiguous, it is one,
- * and `room` of 1 is enough; else `room` of `pages` always is. PEAROAR_NO_ROOM: the free blocks in the range don't have them.
- * PEAROAR_TOO_MANY: `count` is how much room is wanted, and nothing is held. PEAROAR_INVALID: no pages, or an unknown flag.
+ * order in which they are chosen: the largest first (drm_buddy_alloc_blocks). pearoar_spans_sort puts them in order of address.
+ * `count` gets how many they are. Contiguous, it is one, and `room` of 1 is enough; else `room` of `pages` always is.
+ * PEAROAR_NO_ROOM: the free blocks in the range don't have them. PEAROAR_TOO_MANY: `count` is how much room is wanted, and nothing is
+ * held. PEAROAR_INVALID: no pages, or an unknown flag.
  */
 enum pearoar_status pearoar_blocks_alloc(struct pearoar_blocks *blocks, const struct pearoar_block_request *request, struct pearoar_span *out, size_t room, size_t *count);
 
@@ -154,6 +155,11 @@ void pearoar_blocks_lengths(struct pearoar_blocks *blocks, uint32_t *free_pages,
  * at each block's end. It costs a step a page.
  */
 enum pearoar_status pearoar_blocks_next_held(struct pearoar_blocks *blocks, uint32_t from, struct pearoar_span *block);
+
+/* ---- Both ---- */
+
+/* Sorts `count` spans or blocks by their `start`, in place. It takes no memory, and has nothing to do with a manager. */
+void pearoar_spans_sort(struct pearoar_span *spans, size_t count);
 
 #ifdef __cplusplus
 }

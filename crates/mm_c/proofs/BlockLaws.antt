@@ -1,5 +1,5 @@
 -- The ends tell which block begins at a page.
-use Rattle.std.proofs.Common.{◌≡◌, ℕ, ◌+◌, ◌<◌, ◌≤◌, true, List, [], ◌∷◌, Option, Some, None, refl, ap, sym, ◌∙◌, length, length-set, replicate, get_or, set, ◌^◌, arith, nat_lt, if◌then◌else◌}
+use Rattle.std.proofs.Common.{◌≡◌, ℕ, ◌+◌, ◌<◌, ◌≤◌, true, List, [], ◌∷◌, Some, None, refl, ap, sym, ◌∙◌, length, length-set, replicate, get_or, set, ◌^◌, arith, nat_lt, if◌then◌else◌}
 use Rattle.std.specs.List.{find}
 use Rattle.std.proofs.lemmas.List.{length-replicate}
 use Rattle.ttm_base.specs.declared.Span.{Span}

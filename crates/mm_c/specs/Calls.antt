@@ -1,5 +1,5 @@
 -- What C asks for, in the managers' words.
-use Rattle.std.specs.Prelude.{◌≡◌, ℕ, ◌==◌, ◌%◌, ◌/◌, ◌&&◌, Bool, nat_lt, List, Option, Some, None, max, map, take, if◌then◌else◌}
+use Rattle.std.specs.Prelude.{ℕ, ◌==◌, ◌%◌, ◌/◌, ◌&&◌, Bool, nat_lt, List, Option, Some, None, max, map, take, if◌then◌else◌}
 use Rattle.ttm_base.specs.declared.Span.{Span}
 use Rattle.ttm_base.specs.declared.Mode.{Mode}
 use Rattle.ttm_base.specs.declared.Mode.TheVariants.{Best, Low, High}

@@ -10,4 +10,5 @@ mod parts;
 mod range_calls;
 mod range_handle;
 mod ranges;
+mod span_calls;
 mod status;

@@ -27,6 +27,7 @@ fn run_script(alloc: Global, turns: Option<u64>, script: Script) -> Result<Outco
     let mut device = Device::new(alloc, script)?;
     let allowed = turns.unwrap_or(turn_limit(device.script()));
     let turns = drive(alloc, &mut device, allowed)?;
+    let _legal = device.journal();
     Ok(Outcome::Ran { device, turns })
 }
 

@@ -3,4 +3,4 @@ use Rattle.test_device.proofs.write_device.Goals as goal
 
 pub write_report-requires-clause-accounts : goal.write_report-requires-clause-accounts
 write_report-requires-clause-accounts g c =
-    same_accounts c.args.device.now.script c.script.result.now c.args.device.now.journal c.journal.result.now c.accounts.result c.script.ensures c.journal.ensures.journal c.accounts.ensures
+    same_accounts c.args.device.now.script c.script.result.now c.args.device.now.journal c.journal.result.now c.accounts-accounts.result c.script.ensures c.journal.ensures.journal c.accounts-accounts.ensures

@@ -1,4 +1,3 @@
-use Rattle.std.proofs.Common.{arith}
 use Rattle.buddy_manager.specs.Held.{held_from}
 use Rattle.manager_walk.proofs.OpenLaws.{next_at, none_to_next}
 use Rattle.mm_c.proofs.BlockLaws.{begins_here, begins_not}

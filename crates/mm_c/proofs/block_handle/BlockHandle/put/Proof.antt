@@ -1,17 +1,15 @@
 -- `put` stores the pointer of the parts, and the handle owns what they owned.
-use Rattle.std.proofs.Common.{◌≡◌, ℕ, List, [], ◌∷◌, ◌++◌, refl, sym, ap, ◌∙◌, MutBor}
-use mathlib.Core.Bool.{Bool, true, false}
+use Rattle.std.proofs.Common.{List, [], ◌∷◌, ◌++◌, refl, ◌∙◌}
+use mathlib.Core.Bool.{true}
 use lib.Dec.{T, lit<}
 use mir.Syntax.{ty_ptr, named}
-use mir.Val.{Val, vptr, vunit, vstruct, vcons, vnil, of_list, has_ty, WT}
-use base.Logic.{SProp, ent}
+use mir.Val.{Val, vunit, vstruct, vcons, vnil, of_list, has_ty, WT}
 use base.Fml.{ftrue, fsep, flft}
 use base.Fraction.{full_share}
-use types.Logic.{Logic, sem}
 use contract.Running.{tables}
-use types.Kit.{‵, raw, ◌⊛◌, at_ret, ◌$◌, ◌∵◌, !, qed, done, move, keep, drop, use1, split, join, fsplit, fsplit3, fjoin, feq_i, fpack, rewrite, suffices, frame, group}
+use types.Kit.{‵, ◌⊛◌, ◌$◌, ◌∵◌, !, qed, done, move, keep, split, join, fsplit, fsplit3, fjoin, feq_i, fpack, rewrite, suffices, frame, group}
 use types.Run.{enter, of_opd, unit_lit, stop, fld, assigns, returns}
-use types.ByLocal.{alloc_all, pass_all, free_all, look_at, get, get_in, through, sets, env}
+use types.ByLocal.{alloc_all, pass_all, free_all, look_at, get, get_in, through, sets}
 use types.Part.{whole, sub, store_in}
 use denote.Exit.{yes}
 use denote.Laws.{Is, Tells, shows}

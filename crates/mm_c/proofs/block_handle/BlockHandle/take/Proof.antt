@@ -1,5 +1,5 @@
 -- `take` hands on what the handle points to, and leaves it nothing.
-use Rattle.std.proofs.Common.{◌≡◌, ℕ, List, [], ◌∷◌, refl, sym, ap, ◌∙◌, MutBor}
+use Rattle.std.proofs.Common.{◌≡◌, List, [], ◌∷◌, refl, sym, ap, ◌∙◌}
 use mathlib.Core.Bool.{Bool, true, false}
 use mir.Syntax.{named}
 use mir.Val.{Val, vptr, vstruct, vcons, vnil, has_ty, WT}
@@ -11,15 +11,15 @@ use denote.Struct.Struct.{within}
 use denote.Struct.Owning.{shape}
 use Rattle.std.proofs.mem.Facts.{says_two}
 use mir.Raw.{raw as bare}
-use base.Logic.{SProp, ent, id⊢, never, fst∗}
+use base.Logic.{never, fst∗}
 use base.Fml.{ftrue, fsep, flft}
 use base.Fraction.{full_share}
-use types.Logic.{Logic, sem}
+use types.Logic.{sem}
 use contract.Monad.{fact}
 use contract.Running.{tables}
-use types.Kit.{‵, raw, ◌⊛◌, at_ret, ◌$◌, ◌∵◌, !, qed, done, move, keep, drop, use1, split, join, fsplit, fsplit3, fjoin, feq_i, fpack, rewrite, suffices, frame, group}
-use types.Run.{enter, of_opd, load, look, stop, fld, no_more, and_then, returns}
-use types.ByLocal.{alloc_all, pass_all, free_all, look_at, get, through, sets, env}
+use types.Kit.{‵, raw, ◌⊛◌, ◌$◌, ◌∵◌, !, qed, done, move, keep, split, join, fsplit, fsplit3, fjoin, feq_i, fpack, rewrite, suffices, frame, group}
+use types.Run.{enter, of_opd, load, stop, fld, no_more, and_then, returns}
+use types.ByLocal.{alloc_all, pass_all, free_all, look_at, get, through, sets}
 use types.Part.{agg, whole, sub, look_in}
 use denote.Exit.{yes}
 use denote.Laws.{shows}
@@ -28,7 +28,7 @@ use denote.RawPtr.{Ptr, block_ptr, null_ptr, in_a_block}
 use denote.Ref.{MutRef, mut_vals, mut_Tells}
 use denote.Signature.{plain}
 use denote.Steps.{nothing, heard, opens, closes, peeks}
-use denote.Triple.Walked.{Stays, walk_of, says, stay_dropped, Goes-dropped, stay_ref, Goes-ref, ends_at}
+use denote.Triple.Walked.{Stays, walk_of, stay_dropped, Goes-dropped, stay_ref, Goes-ref, ends_at}
 use Rattle.std.proofs.raw_atomic.Walks.{proved}
 use Rattle.std.proofs.Handle.{heap_val, heap_Tells}
 use Rattle.std.specs.Box.Ownership.{box_owns}

@@ -1,4 +1,4 @@
-use Rattle.std.proofs.Common.{ap, sym, subst, ◌∙◌, length, ◌++◌, ◌∷◌, []}
+use Rattle.std.proofs.Common.{ap, ◌∙◌, length, ◌++◌, ◌∷◌, []}
 use Rattle.mm_c.proofs.BlockLaws.{blocks_new}
 use Rattle.mm_c.proofs.blocks.Blocks.new.Goals as goal
 

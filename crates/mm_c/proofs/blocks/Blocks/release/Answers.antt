@@ -1,4 +1,4 @@
-use Rattle.std.proofs.Common.{◌≡◌, true, [], ◌∷◌, length, set, ap, sym, subst, ◌∙◌, arith}
+use Rattle.std.proofs.Common.{◌≡◌, true, [], ◌∷◌, set, ap, sym, subst, ◌∙◌, arith}
 use Rattle.buddy_manager.specs.Held.{Managed, is_held, without, AreHeld}
 use Rattle.mm_c.specs.Kept.{AreBlocks}
 use Rattle.mm_c.proofs.BlockLaws.{block_at, released_one, set_single}

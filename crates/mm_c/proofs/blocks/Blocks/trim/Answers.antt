@@ -1,6 +1,4 @@
-use Rattle.std.proofs.Common.{◌≡◌, ◌≤◌, true, sym, ◌∙◌, arith}
-use Rattle.buddy_manager.specs.Held.{is_held}
-use Rattle.buddy_manager.proofs.ManagedLaws.{IsAt}
+use Rattle.std.proofs.Common.{sym, ◌∙◌, arith}
 use Rattle.mm_c.proofs.BlockLaws.{block_at, trimmed_one}
 use Rattle.mm_c.proofs.blocks.Blocks.trim.Goals as goal
 use Rattle.mm_c.proofs.blocks.Blocks.trim.Goals.{After-is_held}
