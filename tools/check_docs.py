@@ -26,7 +26,7 @@ Links `[..](path)` are checked from the document's folder, with their `#heading`
 `crates/..` file and then a number, the number is the file's lines without imports, comments and blanks; in a row that begins with
 `sum`, it is the sum of such rows above in the same table.
 
-Each fault is a line `document:line: what`; the exit status is 1 if there is one.
+A mark that a merge left is a fault, too. Each fault is a line `document:line: what`; the exit status is 1 if there is one.
 """
 import collections
 import glob
@@ -209,6 +209,8 @@ def fault_of_link(document, target):
 def faults_of(index, document):
     fenced, total = False, 0
     for number, line in enumerate(document.read_text().splitlines(), 1):
+        if line.startswith(("<<<<<<< ", ">>>>>>> ")):
+            yield number, "a merge left its marks"
         if line.startswith("```"):
             fenced = not fenced
         if fenced or line.startswith(("```", "    ")):
