@@ -1,5 +1,8 @@
+use denote.Param.Send.{sendable}
+use Rattle.std.proofs.Crossing.{crosses}
 use Rattle.std.proofs.Common.{◌≡◌, ◌<◌, ◌≤◌, List, length, Some, sym, ◌∙◌, ap, subst}
 use Rattle.ttm_base.specs.declared.Actor.{Actor}
+use Rattle.lemma_room_sends.proofs.Sends.{rooms}
 use Rattle.simulator.specs.Ends.{Kept}
 use Rattle.thread_program.proofs.ThreadLaws.{at_ok, few_actors, finished}
 use Rattle.thread_program.proofs.crowd.run_threads.Goals as goal
@@ -7,6 +10,9 @@ use Rattle.thread_program.proofs.crowd.run_threads.Goals as goal
 pub work_all-answer-requires-clause-actors : goal.work_all-answer-requires-clause-actors
 work_all-answer-requires-clause-actors g c = λ κs lives.
     subst (λ (xs : List Actor). (1 ≤ length xs) × (length xs < 4294967296)) (sym (c.items.ensures ∙ c.in_ok-actors.ensures)) (few_actors c.args.script c.requires)
+
+pub work_all-answer-requires-send-V : goal.work_all-answer-requires-send-V
+work_all-answer-requires-send-V g c κs within = search (sendable, crosses, rooms) depth 60 fits 20000
 
 pub returns : goal.returns
 returns g c =
