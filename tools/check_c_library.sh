@@ -6,11 +6,11 @@
 # Only proved code is built. Over libraries that checks of one's own left in out/, `rt lib` takes what they kept. Over those that `rt ci`
 # left in a clean clone, of which `rt lib` would prove each anew, the kit's compiler is called itself, and proves mm_c alone.
 #
-# usage: tools/check_c_library.sh [--random N]     100,000 of each kind without
+# usage: tools/check_c_library.sh [--random N]     300,000 without it
 set -u
 top=$(cd "$(dirname "$0")/.." && pwd)
 crate=$top/crates/mm_c
-calls=100000
+calls=300000
 if [ "${1:-}" = --random ]; then
   calls=${2:?usage: tools/check_c_library.sh [--random N]}
 fi
