@@ -1,0 +1,36 @@
+#!/usr/bin/env bash
+# Builds the program ttm without proving it, to be measured, and optimized as a proved one is. The kit's `rt try` makes the program's LLVM
+# module, and of it a slow program that checks itself and isn't kept; the module is kept as soon as it is there, and compiled anew. It has
+# the checks of a run that isn't proved (of an index, of a sum), so it does a little more than the proved program. It takes some minutes.
+#
+# usage: tools/build_unproved.sh FILE [FLAG ..]     writes FILE and FILE.bc; a FLAG goes to clang, as `-mllvm -inline-threshold=-10000`
+#                                                   where a profile is to show each function
+set -eu
+top=$(cd "$(dirname "$0")/.." && pwd)
+kit=$(dirname "$(rt doc)")
+file=$(realpath -m "$1")
+shift
+work=$(mktemp -d)
+trap 'rm -rf "$work"' EXIT
+
+(cd "$top/crates/ttm" && TMPDIR="$work" exec rt try -- --version) </dev/null >"$work/log" 2>&1 &
+try=$!
+module=
+while [ -z "$module" ]; do # a small one is the kit's own; where there is an object, the compiler has begun and the module is whole
+  module=$(find "$work" -name module.bc -size +500k -execdir sh -c 'ls module*.o* >/dev/null' \; -print 2>/dev/null || true)
+  kill -0 "$try" 2>/dev/null || { cat "$work/log" >&2; exit 1; }
+  sleep 0.2
+done
+cp "$module" "$file.bc"
+kill "$try"
+wait "$try" || true
+
+# What `rt run` gives the compiler and the linker.
+flags=(--target=x86_64-unknown-linux-gnu --sysroot="$kit/toolchain" -march=x86-64 -O3 -fPIE -ffunction-sections -fdata-sections)
+for flag in -no-trap-after-noreturn -trap-unreachable -no-x86-call-frame-opt -disable-machine-licm -disable-postra-machine-licm \
+  -sink-common-insts=false; do
+  flags+=(-mllvm "$flag")
+done
+"$kit/toolchain/bin/clang" "${flags[@]}" "$@" -c -x ir "$file.bc" -o "$work/ttm.o"
+"$kit/bin/rattle-link" --target x86_64-unknown-linux-gnu --toolchain "$kit/toolchain" -o "$file" "$work/ttm.o" \
+  "$kit/c/libos_c.a" "$kit/c/liblibc_c.a"

@@ -1,0 +1,83 @@
+#!/usr/bin/env python3
+"""Runs `ttm sim` on the loads of tools/loads.py, each at two sizes of which the second is ten times the first.
+
+usage: tools/measure_loads.py PROGRAM [--seconds N] [NAME ...]      all loads, without names
+
+PROGRAM is crates/ttm/out/ttm, which `./ttm` proves and builds, or what tools/build_unproved.sh writes. For each load and size stand
+the entries of its work, the processor seconds that they take, entries a second, instructions an entry (counted by valgrind), and
+the most memory that the run took. What only prepares a load (`--bare`) is subtracted, the start of the program too, but for
+`stores`, which is about the start. At the second size stands how many times an entry takes the instructions that it takes at the
+first. Runs of more than N seconds (2) aren't counted: then seconds stand for instructions there, marked by ~.
+"""
+import argparse
+import contextlib
+import os
+import re
+import subprocess
+import tempfile
+
+import loads
+
+COUNT = "valgrind --tool=cachegrind --cache-sim=no --cachegrind-out-file=/dev/null".split()
+ROW = "{:14}{:>7}{:>9}{:>10}{:>11}{:>14}{:>8}{:>8}"
+
+
+def run(words, script):
+    """Runs a program on a script: its output, processor seconds and most memory in MiB."""
+    with open(script) as given, tempfile.TemporaryFile() as taken:
+        child = subprocess.Popen([*words, "sim"], stdin=given, stdout=taken, stderr=subprocess.STDOUT)
+        _pid, status, used = os.wait4(child.pid, 0)
+        child.returncode = os.waitstatus_to_exitcode(status)
+        taken.seek(0)
+        said = taken.read().decode()
+    if child.returncode:
+        raise SystemExit(f"{' '.join(words)} ended with {child.returncode}: {said[-200:]}")
+    return said, used.ru_utime + used.ru_stime, used.ru_maxrss / 1024
+
+
+def measure(program, load, is_bare, folder, most):
+    """Entries, seconds, instructions (None where that would take too long) and memory of a load."""
+    script = os.path.join(folder, "script")
+    with open(script, "w") as it, contextlib.redirect_stdout(it):
+        load.print(is_bare)
+    said, seconds, memory = run([program], script)
+    entries = int(re.search(r"^journal (\d+)$", said, re.M)[1])
+    if seconds < 0.3:
+        seconds = min(seconds, *(run([program], script)[1] for _again in range(4)))
+    counted = run([*COUNT, program], script)[0] if seconds <= most else ""
+    found = re.search(r"I +refs: +([\d,]+)", counted)
+    return entries, seconds, int(found[1].replace(",", "")) if found else None, memory
+
+
+def work(program, load, folder, most):
+    """The same of what a load does behind its preparation."""
+    entries, seconds, count, memory = measure(program, load, False, folder, most)
+    if not load.is_start:
+        bare_entries, bare_seconds, bare_count, _memory = measure(program, load, True, folder, most)
+        entries, seconds = entries - bare_entries, max(seconds - bare_seconds, 1e-6)
+        count = count - bare_count if count and bare_count else None
+    return entries, seconds, count, memory
+
+
+def main():
+    parser = argparse.ArgumentParser(usage=__doc__.split("usage: ")[1])
+    parser.add_argument("program")
+    parser.add_argument("--seconds", type=float, default=2)
+    parser.add_argument("names", nargs="*", default=list(loads.LOADS))
+    words = parser.parse_intermixed_args()
+    print(ROW.format("load", "size", "entries", "seconds", "entries/s", "instr/entry", "ratio", "MiB"))
+    for name in words.names:
+        function, least = loads.LOADS[name]
+        before = None
+        for size in (least, 10 * least):
+            with tempfile.TemporaryDirectory() as folder:
+                entries, seconds, count, memory = work(os.path.abspath(words.program), function(size), folder, words.seconds)
+            costs = count and count / entries, seconds / entries
+            of_ten = "" if before is None else f"{costs[0] / before[0]:.2f}" if all((costs[0], before[0])) else f"~{costs[1] / before[1]:.1f}"
+            count_word = f"{costs[0]:,.0f}" if costs[0] else "-"
+            print(ROW.format(name, size, entries, f"{seconds:.3f}", f"{entries / seconds:,.0f}", count_word, of_ten, f"{memory:.0f}"), flush=True)
+            before = costs
+
+
+if __name__ == "__main__":
+    main()
