@@ -1,4 +1,4 @@
-//! Laws on how legal journals go on: until a journal is complete, some actor has an entry.
+//! Laws on how legal journals go on: until a journal is complete, some actor has an entry; and the measure of the work that is left.
 #![tactic(auto)]
 
 ghost use Rattle.std.specs.Prelude.{◌≡◌, ◌↔◌, IsTrue, List, true, false};

@@ -1,4 +1,5 @@
-//! Laws on the states that legal journals lead to.
+//! Laws on legal journals and the states that they lead to: commands are answered once and in order, and a state tells whether
+//! its journal is complete.
 #![tactic(auto)]
 
 ghost use Rattle.std.specs.Prelude.{IsTrue, List, length, ◌≡◌, ℕ};

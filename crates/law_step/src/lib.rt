@@ -9,7 +9,9 @@ ghost use Rattle.journal_model.specs.declared.entry.Kind.{Kind};
 ghost use Rattle.journal_model.specs.Next.{next};
 ghost use Rattle.law_step.specs.Due.{is_due};
 
-/// What an actor makes next stands on the state before it: where the buffer is, and that the jobs to wait for are done.
+/// What an actor makes next tells of the state before it: a buffer is dead before it is made; it is where it has to be before it is
+/// bound, emptied at once or moved; and the jobs to wait for are done before it is unbound, swapped out or freed without a ghost, and
+/// before a ghost goes.
 pub fn next_entries_are_due()
     ensures { (script : Script) (s : State) (who : Actor) (k : Kind) → next script s who ≡ Ok k → is_due s k ≡ true }
 {}

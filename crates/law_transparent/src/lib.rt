@@ -1,5 +1,6 @@
 //! The law that legal journals are transparent: whatever moves, is swapped or waits, reads and probes show the bytes of a
-//! memory in which each buffer has its own place for good.
+//! memory in which each buffer has its own place for good. Beside it: the pages of buffers and targets, the numbers of ghosts, and
+//! the places that packets name.
 #![tactic(auto)]
 
 ghost use Rattle.std.specs.Prelude.{ℕ, IsTrue, ◌≡◌, List, Some, Ok};

@@ -1,2 +1,3 @@
-//! Lemmas for `law_transparent::legal_journals_are_transparent`: what a thread's entry tells of the buffer that it is on.
+//! Lemmas for `law_transparent::legal_journals_are_transparent`: what a thread's entry tells of the buffer that it is on; the shape of
+//! buffers, and the numbers of ghosts.
 #![tactic(auto)]

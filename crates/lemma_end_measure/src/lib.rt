@@ -1,2 +1,3 @@
-//! How far each legal journal still has to go: a number that entries lower.
+//! How far each legal journal still has to go: a number that entries lower, its parts, and what the pages and targets of a buffer
+//! count in it.
 #![tactic(auto)]

@@ -1,2 +1,2 @@
-//! Lemmas on the stores of a device: bytes and the aperture behind each kind of entry, and the bytes that commands show.
+//! Lemmas on the stores of a device: bytes, frames, slots and the aperture behind each kind of entry, and the bytes that commands show.
 #![tactic(auto)]
