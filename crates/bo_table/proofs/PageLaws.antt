@@ -1,5 +1,5 @@
--- The number of frames in a page table, and its first page without one, after a change.
-use Rattle.std.proofs.Common.{◌≡◌, true, false, cond, ℕ, zero, suc, ◌+◌, ◌<◌, ◌≤◌, ◌^◌, min, List, [], ◌∷◌, Bool, Some, None, refl, sym, ap, arith, add-one, length, drop, replicate, subst}
+-- The number of frames in a page table, and its first pages without and with one, after a change.
+use Rattle.std.proofs.Common.{◌≡◌, true, false, cond, ℕ, zero, suc, ◌+◌, ◌<◌, ◌≤◌, ◌^◌, min, List, [], ◌∷◌, Bool, Some, None, refl, sym, ◌∙◌, ap, arith, add-one, length, drop, replicate, subst}
 use Rattle.std.proofs.lemmas.Bool.{cond_both, ltb-false}
 use Rattle.std.proofs.lemmas.Option.{cond_some}
 use Rattle.std.proofs.lemmas.List.{length-map, length-replicate}
@@ -10,7 +10,7 @@ use Rattle.ttm_base.specs.declared.Loc.TheVariants.{Frame, Slot, Zero}
 use Rattle.journal_model.specs.Places.{is_frame}
 use Rattle.journal_model.specs.ApplyPages.{without_frame}
 use Rattle.bo_table.proofs.Setting.{length_set}
-use Rattle.bo_table.specs.Pages.{frame_count, first_unfilled, IsCounted}
+use Rattle.bo_table.specs.Pages.{frame_count, first_filled, first_unfilled, IsCounted}
 
 -- ---- the first item that passes, once one was set
 
@@ -33,18 +33,18 @@ first_other p (x ∷ xs) (suc i) y t h =
       | false ↦ λ n. ap (λ k. 1 + k) (first_other p xs i y t (λ e. n (omega arith)))
     ] h
 
-filled : {X : Type 0} (p : X → Bool) (xs : List X) (i : ℕ) (y : X) → p y ≡ false → i ≡ position_or_len p xs → i < length xs → position_or_len p (slice_set xs i y) ≡ suc i + position_or_len p (drop (suc i) xs)
-filled p [] i y t e h = absurd (omega arith)
-filled p (x ∷ xs) zero y t e h = rw t refl
-filled p (x ∷ xs) (suc i) y t e h =
+raised : {X : Type 0} (p : X → Bool) (xs : List X) (i : ℕ) (y : X) → p y ≡ false → i ≡ position_or_len p xs → i < length xs → position_or_len p (slice_set xs i y) ≡ suc i + position_or_len p (drop (suc i) xs)
+raised p [] i y t e h = absurd (omega arith)
+raised p (x ∷ xs) zero y t e h = rw t refl
+raised p (x ∷ xs) (suc i) y t e h =
     elim (p x) as (λ b. suc i ≡ cond (not b) (1 + position_or_len p xs) 0 → cond (not b) (1 + position_or_len p (slice_set xs i y)) 0 ≡ suc (suc i) + position_or_len p (drop (suc i) xs)) [
       | true ↦ λ n. absurd (omega arith)
-      | false ↦ λ n. let more : position_or_len p (slice_set xs i y) ≡ suc i + position_or_len p (drop (suc i) xs) = filled p xs i y t (omega arith) (omega arith) in omega arith
+      | false ↦ λ n. let more : position_or_len p (slice_set xs i y) ≡ suc i + position_or_len p (drop (suc i) xs) = raised p xs i y t (omega arith) (omega arith) in omega arith
     ] e
 
 -- to one that doesn't, where it was the first
-pub first_filled : {X : Type 0} (p : X → Bool) (xs : List X) (i : ℕ) (y : X) → p y ≡ false → i ≡ position_or_len p xs → i < length xs → position_or_len p (slice_set xs i y) ≡ i + 1 + position_or_len p (drop (i + 1) xs)
-first_filled p xs i y t e h = subst (λ (n : ℕ). position_or_len p (slice_set xs i y) ≡ n + position_or_len p (drop n xs)) (sym (add-one i)) (filled p xs i y t e h)
+pub first_raised : {X : Type 0} (p : X → Bool) (xs : List X) (i : ℕ) (y : X) → p y ≡ false → i ≡ position_or_len p xs → i < length xs → position_or_len p (slice_set xs i y) ≡ i + 1 + position_or_len p (drop (i + 1) xs)
+first_raised p xs i y t e h = subst (λ (n : ℕ). position_or_len p (slice_set xs i y) ≡ n + position_or_len p (drop n xs)) (sym (add-one i)) (raised p xs i y t e h)
 
 -- the first item that passes, or the end
 pub first_within : {X : Type 0} (p : X → Bool) (xs : List X) → position_or_len p xs ≤ length xs
@@ -100,6 +100,13 @@ frame_fits places page l here t =
 
 -- ---- whole tables without a frame
 
+-- where none has one, the first that has one is the end
+pub none_filled : (places : List Loc) → frame_count places ≡ 0 → first_filled places ≡ length places
+none_filled [] h = refl
+none_filled (Frame f ∷ places) h = absurd (omega arith)
+none_filled (Slot k ∷ places) h = omega (arith, none_filled places h)
+none_filled (Zero ∷ places) h = omega (arith, none_filled places h)
+
 zeros : (pages : ℕ) → frame_count (replicate pages Zero) ≡ 0
 zeros zero = refl
 zeros (suc pages) = zeros pages
@@ -108,8 +115,8 @@ first_zero : (pages : ℕ) → first_unfilled (replicate pages Zero) ≡ 0
 first_zero zero = refl
 first_zero (suc pages) = refl
 
-pub zeros_counted : (pages : ℕ) → pages < 2 ^ 32 → IsCounted (replicate pages Zero) 0 0
-zeros_counted pages h = record { frames_are = sym (zeros pages); first_is = sym (first_zero pages); short = rw (length-replicate pages Zero) h }
+pub zeros_counted : (pages : ℕ) → pages < 2 ^ 32 → IsCounted (replicate pages Zero) 0 0 pages
+zeros_counted pages h = record { frames_are = sym (zeros pages); unfilled_is = sym (first_zero pages); filled_is = sym (none_filled (replicate pages Zero) (zeros pages) ∙ length-replicate pages Zero); short = rw (length-replicate pages Zero) h }
 
 dropped : (places : List Loc) → frame_count (map without_frame places) ≡ 0
 dropped [] = refl
@@ -123,8 +130,8 @@ first_dropped (Frame f ∷ places) = refl
 first_dropped (Slot k ∷ places) = refl
 first_dropped (Zero ∷ places) = refl
 
-pub dropped_counted : (places : List Loc) → length places < 2 ^ 32 → IsCounted (map without_frame places) 0 0
-dropped_counted places h = record { frames_are = sym (dropped places); first_is = sym (first_dropped places); short = rw (length-map places without_frame) h }
+pub dropped_counted : (places : List Loc) → length places < 2 ^ 32 → IsCounted (map without_frame places) 0 0 (length places)
+dropped_counted places h = record { frames_are = sym (dropped places); unfilled_is = sym (first_dropped places); filled_is = sym (none_filled (map without_frame places) (dropped places) ∙ length-map places without_frame); short = rw (length-map places without_frame) h }
 
 cleared : (places : List Loc) → frame_count (map (λ l. Zero) places) ≡ 0
 cleared [] = refl
@@ -134,5 +141,5 @@ first_cleared : (places : List Loc) → first_unfilled (map (λ l. Zero) places)
 first_cleared [] = refl
 first_cleared (l ∷ places) = refl
 
-pub cleared_counted : (places : List Loc) → length places < 2 ^ 32 → IsCounted (map (λ l. Zero) places) 0 0
-cleared_counted places h = record { frames_are = sym (cleared places); first_is = sym (first_cleared places); short = rw (length-map places (λ (l : Loc). Zero)) h }
+pub cleared_counted : (places : List Loc) → length places < 2 ^ 32 → IsCounted (map (λ l. Zero) places) 0 0 (length places)
+cleared_counted places h = record { frames_are = sym (cleared places); unfilled_is = sym (first_cleared places); filled_is = sym (none_filled (map (λ l. Zero) places) (cleared places) ∙ length-map places (λ (l : Loc). Zero)); short = rw (length-map places (λ (l : Loc). Zero)) h }

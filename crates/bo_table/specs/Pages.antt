@@ -1,4 +1,4 @@
--- The pages of a buffer: how many have a frame, and the first one that has none.
+-- The pages of a buffer: how many have a frame, the first one that has none, and the first one that has one.
 use Rattle.std.specs.Prelude.{◌≡◌, ℕ, ◌<◌, ◌^◌, Bool, not, List, length}
 use Rattle.std.specs.List.{filter_map, position_or_len}
 use Rattle.ttm_base.specs.declared.Loc.{Loc}
@@ -16,8 +16,13 @@ frame_count places = length (filter_map frame_of places)
 abbrev pub first_unfilled : List Loc → ℕ
 first_unfilled places = position_or_len has_no_frame places
 
--- the two numbers that are kept beside the places are theirs
-pub record IsCounted (places : List Loc) (frames first : ℕ) : Type 0 where
+-- the first page with a frame; as many as there are, where none has one
+abbrev pub first_filled : List Loc → ℕ
+first_filled places = position_or_len is_frame places
+
+-- the three numbers that are kept beside the places are theirs
+pub record IsCounted (places : List Loc) (frames unfilled filled : ℕ) : Type 0 where
   pub frames_are : frames ≡ frame_count places
-  pub first_is : first ≡ first_unfilled places
+  pub unfilled_is : unfilled ≡ first_unfilled places
+  pub filled_is : filled ≡ first_filled places
   pub short : length places < 2 ^ 32

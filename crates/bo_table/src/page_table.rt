@@ -6,7 +6,7 @@ ghost use Rattle.ttm_base.specs.declared.Loc.TheVariants as loc;
 ghost use Rattle.journal_model.specs.ApplyPages.{without_frame};
 ghost use Rattle.journal_model.specs.Places.{frame_of};
 ghost use Rattle.journal_model.specs.Places as words;
-ghost use Rattle.bo_table.specs.Pages.{frame_count, first_unfilled};
+ghost use Rattle.bo_table.specs.Pages.{frame_count, first_filled, first_unfilled};
 
 use journal_model::Table;
 use std::alloc::Global;
@@ -94,10 +94,29 @@ fn filled_front(places: &[Loc]) -> usize
     }
 }
 
+/// The position of the first page with a frame.
+fn first_frame(places: &[Loc]) -> Option<usize>
+    ensures { result ≡ position words.is_frame places.now }
+{
+    places.iter().position(|place| is_frame(*place))
+}
+
+/// How many pages at the front have no frame.
+#[tactic(auto, using(crate::proofs::PageLaws::first_is_some, crate::proofs::PageLaws::first_is_none, crate::proofs::PageLaws::first_within))]
+fn empty_front(places: &[Loc]) -> usize
+    ensures value { result ≡ first_filled places.now }
+    ensures within { result ≤ length places.now }
+{
+    match first_frame(places) {
+        Some(first) => first,
+        None => places.len(),
+    }
+}
+
 /// The first page without a frame once this page has this place. Only where the first one gets a frame it looks at others, up to the next
 /// one without.
-#[tactic(auto, using(crate::proofs::PageLaws::first_lower, crate::proofs::PageLaws::first_other, crate::proofs::PageLaws::first_filled))]
-fn first_after(places: &Table, first: u32, page: u32, place: Loc) -> u32
+#[tactic(auto, using(crate::proofs::PageLaws::first_lower, crate::proofs::PageLaws::first_other, crate::proofs::PageLaws::first_raised))]
+fn first_unfilled_after(places: &Table, first: u32, page: u32, place: Loc) -> u32
     requires first { first ≡ first_unfilled places.now }
     requires page { page < length places.now }
     requires short { length places.now < 2 ^ 32 }
@@ -113,13 +132,38 @@ fn first_after(places: &Table, first: u32, page: u32, place: Loc) -> u32
     }
 }
 
-/// Where the pages of a buffer stand, by number (ttm_tt). It keeps how many of them have a frame, and the first one that has none, so that to
-/// fill a buffer looks at each page once.
+/// The first page with a frame once this page has this place, and so many pages have one. Only where the first one loses its frame, and
+/// others have one, it looks at others, up to the next one with a frame.
+#[tactic(auto, using(crate::proofs::PageLaws::first_lower, crate::proofs::PageLaws::first_other, crate::proofs::PageLaws::first_raised))]
+fn first_filled_after(places: &Table, frames: u32, first: u32, page: u32, place: Loc) -> u32
+    requires count { frames ≡ frame_count (slice_set places.now page place) }
+    requires first { first ≡ first_filled places.now }
+    requires page { page < length places.now }
+    requires short { length places.now < 2 ^ 32 }
+    ensures { result ≡ first_filled (slice_set places.now page place) }
+{
+    if frames == 0 {
+        places.len() as u32
+    } else if is_frame(place) {
+        first.min(page)
+    } else if page == first {
+        let next = page as usize + 1;
+        (next + empty_front(&places.items()[next..])) as u32
+    } else {
+        first
+    }
+}
+
+/// Where the pages of a buffer stand, by number (ttm_tt). It keeps how many of them have a frame, the first one that has none, and the first
+/// one that has one, so that to fill a buffer looks at each page once, and so does to swap it out.
 #[derive(Drop)]
 pub struct PageTable {
     places: Table,
     frames: u32,
-    first: u32,
+    /// The first page without a frame; as many as there are, where each has one.
+    unfilled: u32,
+    /// The first page with a frame; as many as there are, where none has one.
+    filled: u32,
 }
 
 impl Model for PageTable {
@@ -131,7 +175,7 @@ impl Model for PageTable {
 
     ghost view = { λ t. t.places };
 
-    ghost invariant = { λ t. IsCounted t.places t.frames t.first };
+    ghost invariant = { λ t. IsCounted t.places t.frames t.unfilled t.filled };
 }
 
 impl PageTable {
@@ -144,7 +188,8 @@ impl PageTable {
         Ok(PageTable {
             places,
             frames: 0,
-            first: 0,
+            unfilled: 0,
+            filled: pages,
         })
     }
 
@@ -166,8 +211,19 @@ impl PageTable {
     pub fn first_unfilled(&self) -> Option<u32>
         ensures { result ≡ position (λ l. not (words.is_frame l)) self.now }
     {
-        if (self.first as usize) < self.places.len() {
-            Some(self.first)
+        if (self.unfilled as usize) < self.places.len() {
+            Some(self.unfilled)
+        } else {
+            None
+        }
+    }
+
+    /// The page that is swapped out next: the first one with a frame, in constant time.
+    pub fn first_filled(&self) -> Option<u32>
+        ensures { result ≡ position words.is_frame self.now }
+    {
+        if (self.filled as usize) < self.places.len() {
+            Some(self.filled)
         } else {
             None
         }
@@ -195,7 +251,8 @@ impl PageTable {
     {
         if (page as usize) < self.places.len() {
             self.frames = frames_after(&self.places, self.frames, page, place);
-            self.first = first_after(&self.places, self.first, page, place);
+            self.unfilled = first_unfilled_after(&self.places, self.unfilled, page, place);
+            self.filled = first_filled_after(&self.places, self.frames, self.filled, page, place);
             self.places.set(page as usize, place);
         }
     }
@@ -205,9 +262,10 @@ impl PageTable {
     pub(crate) fn drop_frames(&mut self)
         ensures { self.new ≡ map without_frame self.old }
     {
+        self.filled = self.places.len() as u32;
         drop_frames(&mut self.places);
         self.frames = 0;
-        self.first = 0;
+        self.unfilled = 0;
     }
 
     /// Makes each page Zero.
@@ -215,8 +273,9 @@ impl PageTable {
     pub(crate) fn clear(&mut self)
         ensures { self.new ≡ map (λ l. loc.Zero) self.old }
     {
+        self.filled = self.places.len() as u32;
         clear(&mut self.places);
         self.frames = 0;
-        self.first = 0;
+        self.unfilled = 0;
     }
 }

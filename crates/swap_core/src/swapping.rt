@@ -1,11 +1,10 @@
-ghost use Rattle.std.specs.Prelude.{◌≡◌, ◌<◌, ◌≤◌, Some, true, find, length, option_map, position, unwrap_or, IfOk, IfSome, OnOk, OnErr};
+ghost use Rattle.std.specs.Prelude.{◌≡◌, ◌<◌, Some, true, find, length, option_map, IfOk, OnOk, OnErr};
 ghost use Rattle.ttm_base.specs.declared.Actor.TheVariants as actor;
 ghost use Rattle.ttm_base.specs.declared.Need.TheVariants as need;
 ghost use Rattle.journal_model.specs.declared.entry.Kind.TheVariants as kind;
 ghost use Rattle.journal_model.specs.State as states;
 ghost use Rattle.journal_model.specs.State.{buffer};
 ghost use Rattle.journal_model.specs.PageSteps as words;
-ghost use Rattle.journal_model.specs.Places as places;
 ghost use Rattle.room_turns.specs.Turns.{state_behind};
 ghost use Rattle.room_turns.specs.Acting.{made_unless};
 ghost use Rattle.room_turns.specs.Turns.{after_step, entry_of, step_of};
@@ -15,35 +14,15 @@ ghost use Rattle.swap_core.specs.Due.{job_before_swap, swapped, swap_out_due};
 use crate::buffers::{has_frame, live};
 use journal_model::{Command, Course, Kind, Task, Victim, Why};
 use room_turns::{Rooms, Step, turn};
-use state_words::{is_frame, same_buffer};
-use ttm_base::{Actor, BufId, Loc, Need, NoMemory, Usage};
+use state_words::same_buffer;
+use ttm_base::{Actor, BufId, Need, NoMemory, Usage};
 
-/// The position of the first page with a frame. Takes time by the pages before it.
-fn first_frame(table: &[Loc]) -> Option<usize>
-    ensures value { result ≡ position places.is_frame table.now }
-    ensures bound { IfSome result (λ page. page < length table.now) }
-{
-    table.iter().position(|loc| is_frame(*loc))
-}
-
-/// The first page of so few that has a frame, or page 0.
-fn first_page(table: &[Loc]) -> u32
-    requires { length table.now ≤ 4096 }
-    ensures { result ≡ unwrap_or (position places.is_frame table.now) 0 }
-{
-    match first_frame(table) {
-        Some(page) => page as u32,
-        None => 0,
-    }
-}
-
-/// The first page of a buffer with a frame, or page 0.
+/// The first page of a buffer with a frame, or page 0. In constant time.
 fn first_frame_page(rooms: &Rooms, b: BufId) -> u32
     ensures { result ≡ words.first_frame_page (buffer (state_behind rooms.now) b) }
 {
-    let _legal = rooms.journal();
     match live(rooms, b) {
-        Some(bo) => first_page(bo.table.places()),
+        Some(bo) => bo.table.first_filled().unwrap_or(0),
         None => 0,
     }
 }
