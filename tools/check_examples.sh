@@ -1,7 +1,8 @@
 #!/usr/bin/env bash
-# Runs each examples/NAME.ttm through the program and compares its output with examples/NAME.report. It proves nothing: the program is
-# built unproved by `rt try`, once, and runs for each example. It takes a minute or two. An example without a report, or a report
-# without an example, fails too. Each fault is a line that names the example; the exit status is 1 if there is one.
+# Runs each examples/NAME.ttm through the program and compares its output with examples/NAME.report; and one of them by other
+# words. It proves nothing: the program is built unproved by `rt try`, once, and runs for each example. It takes a minute or two. An
+# example without a report, or a report without an example, fails too. Each fault is a line that names the example; the exit status is 1
+# if there is one.
 #
 # usage: tools/check_examples.sh [FOLDER]     FOLDER in place of examples/
 set -u
@@ -27,10 +28,23 @@ for script in "$examples"/*.ttm; do
   fi
   cp "$script" "$cases/$name"
   cp "$examples/$name.report" "$cases/$name.stdout"
+  echo sim >"$cases/$name.args"
   count=$((count + 1))
 done
 
-(cd "$top/crates/ttm" && rt try --cases "$cases" -- sim) >"$cases.log" 2>&1
+# answers NAME TEXT WORD..: what the program writes by these words, with a script of one thread on standard input
+answers() {
+  cp "$top/examples/read_crosses_a_page.ttm" "$cases/$1"
+  printf "$2" >"$cases/$1.stdout"
+  printf '%s\n' "${@:3}" >"$cases/$1.args"
+  count=$((count + 1))
+}
+answers the_words_run "$(sed 's/$/\\n/' "$top/examples/read_crosses_a_page.report" | tr -d '\n')" run
+answers the_words_version 'ttm 0.1.0\n' --version
+answers the_words_of_nothing 'usage\n' Sim
+answers the_words_of_a_script_too_many 'usage\n' run 3
+
+(cd "$top/crates/ttm" && rt try --cases "$cases") >"$cases.log" 2>&1
 status=$?
 if [ "$status" -ne 0 ] || ! grep -q "^cases=$count ended=$count fault=0 differs=0 no-answer=0 " "$cases.log"; then
   sed '/output=expected/d; s/^/examples: /' "$cases.log"

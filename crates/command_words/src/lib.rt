@@ -46,11 +46,11 @@ impl Words {
     }
 
     /// Puts a word at the end.
-    pub fn push(&mut self, word: &[u8]) -> Result<(), NoMemory>
+    pub fn push(&mut self, word: &str) -> Result<(), NoMemory>
         ensures ok { OnOk result (self.new ≡ self.old ++ word.now ∷ []) }
         ensures err { OnErr result (self.new ≡ self.old) }
     {
-        let word = owned(self.alloc, word)?;
+        let word = owned(self.alloc, word.as_bytes())?;
         self.words.push(word)
     }
 

@@ -1,3 +1,6 @@
+pub mod DrawLaws
+pub mod DrawnLaws
+pub mod LineLaws
 pub mod BufferLaws
 pub mod CommandLaws
 pub mod LoadLaws

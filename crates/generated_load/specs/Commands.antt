@@ -1,23 +1,58 @@
--- The commands of a generated script: they fit any script with its buffers.
-use Rattle.std.specs.Prelude.{◌≡◌, ℕ, ◌*◌, ◌≤◌, true, List, length, map, replicate, sum_by}
-use Rattle.std.specs.List.{list_all}
-use Rattle.journal_model.specs.declared.script.Script.{Script}
+-- The commands of a generated script.
+use Rattle.std.specs.Prelude.{ℕ, zero, suc, ◌+◌, List, [], ◌∷◌, ◌++◌, replicate}
+use Rattle.rand_pcg.specs.Lcg.{Lcg}
+use Rattle.ttm_base.specs.declared.Op.TheVariants as op
 use Rattle.journal_model.specs.declared.script.Command.{Command}
-use Rattle.journal_model.specs.CommandRules.{is_command, command_len}
-use Rattle.generated_load.specs.Buffers.{HasLoadBuffers}
+use Rattle.journal_model.specs.declared.script.Command.TheVariants as command
+use Rattle.generated_load.specs.declared.choices.Choice.{Choice}
+use Rattle.generated_load.specs.declared.choices.ChoiceKind.{ChoiceKind}
+use Rattle.generated_load.specs.declared.choices.ChoiceKind.TheVariants as kind
+use Rattle.generated_load.specs.Choices.{own_buffer, load_choice}
 
--- a command whose operations take at most the bytes of the smallest buffer
-pub record IsLoadCommand (c : Command) : Type 0 where
-  pub fits : (script : Script) → HasLoadBuffers script → is_command script c ≡ true
-  pub len : command_len c ≤ 16384
+-- The command of a kind. A copy takes all of the smallest buffers, a thread touches the group of its own buffers.
+abbrev pub command_by : ChoiceKind → ℕ → Choice → Command
+command_by kind.Write t c = command.Write c.x c.off (replicate 16 c.byte)
+command_by kind.Read t c = command.Read c.x c.off 16
+command_by kind.Copy t c = command.Submit c.engine (op.Copy c.x 0 c.y 0 16384 ∷ [])
+command_by kind.Xor t c = command.Submit c.engine (op.Xor c.x c.off c.y c.off 16 ∷ [])
+command_by kind.Fill t c = command.Submit c.engine (op.Fill c.x c.off 16 c.byte ∷ op.Probe c.x c.off 16 ∷ [])
+command_by kind.Find t c = command.Find c.x
+command_by kind.SwapOut t c = command.SwapOut c.x
+command_by kind.Touch t c = command.Touch t
 
--- commands of a thread
-pub record AreLoadCommands (cs : List Command) : Type 0 where
-  pub fit : (script : Script) → HasLoadBuffers script → list_all (is_command script) cs ≡ true
-  pub len : sum_by command_len cs ≤ 16384 * length cs
+-- the command of a choice
+abbrev pub load_command : ℕ → Choice → Command
+load_command t c = command_by c.kind t c
 
--- the commands of so many threads
-pub record AreLoadThreads (n : ℕ) (ts : List (List Command)) : Type 0 where
-  pub fit : (script : Script) → HasLoadBuffers script → list_all (list_all (is_command script)) ts ≡ true
-  pub len : sum_by (sum_by command_len) ts ≤ 3538944 * n
-  pub lens : map length ts ≡ replicate n 216
+-- so many commands of a thread, drawn one after another, and the generator behind them
+unfoldable pub drawn_commands : ℕ → ℕ → Lcg → List Command × Lcg
+drawn_commands zero t g = ([], g)
+drawn_commands (suc n) t g =
+    let before = drawn_commands n t g in
+    let choice = load_choice t before.1 in
+    (before.0 ++ load_command t choice.0 ∷ [], choice.1)
+
+-- makes a thread's first so many buffers
+unfoldable pub news : ℕ → ℕ → List Command
+news zero t = []
+news (suc n) t = news n t ++ command.New (own_buffer t n) ∷ []
+
+-- reads the first bytes of a thread's first so many buffers
+unfoldable pub reads : ℕ → ℕ → List Command
+reads zero t = []
+reads (suc n) t = reads n t ++ command.Read (own_buffer t n) 0 16 ∷ []
+
+-- A thread, counted from 0: it makes its eight buffers, does two hundred commands that are drawn, and reads of each buffer. And the
+-- generator behind them.
+abbrev pub load_commands : ℕ → Lcg → List Command × Lcg
+load_commands t g =
+    let drawn = drawn_commands 200 t g in
+    (news 8 t ++ drawn.0 ++ reads 8 t, drawn.1)
+
+-- the first so many threads, drawn one after another, and the generator behind them
+unfoldable pub load_threads : ℕ → Lcg → List (List Command) × Lcg
+load_threads zero g = ([], g)
+load_threads (suc n) g =
+    let before = load_threads n g in
+    let commands = load_commands n before.1 in
+    (before.0 ++ commands.0 ∷ [], commands.1)

@@ -1,3 +1,4 @@
+pub mod Draws
 pub mod Buffers
 pub mod Choices
 pub mod Commands

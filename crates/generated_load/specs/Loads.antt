@@ -1,8 +1,17 @@
--- What is promised of a generated script.
-use Rattle.std.specs.Prelude.{◌≡◌, List, [], ◌∷◌, IsTrue, length, map}
+-- The script that is drawn from a number, and what is promised of it.
+use Rattle.std.specs.Prelude.{◌≡◌, ℕ, List, [], ◌∷◌, IsTrue, length, map}
 use Rattle.journal_model.specs.declared.script.Script.{Script}
 use Rattle.journal_model.specs.ScriptRules.{is_script}
-use Rattle.generated_load.specs.Buffers.{load_sizes}
+use Rattle.generated_load.specs.Draws.{seeded}
+use Rattle.generated_load.specs.Buffers.{load_sizes, load_buffers}
+use Rattle.generated_load.specs.Commands.{load_threads}
+
+-- Twenty-four buffers, whose priorities are drawn first, and then the commands of three threads.
+unfoldable pub load_script : ℕ → Script
+load_script n =
+    let buffers = load_buffers 24 (seeded n) in
+    let threads = load_threads 3 buffers.1 in
+    record { version = 1; sizes = load_sizes; buffers = buffers.0; threads = threads.0; turns = []; marks = [] }
 
 -- a script without marks, with three threads of 216 commands
 pub record IsLoad (script : Script) : Type 0 where

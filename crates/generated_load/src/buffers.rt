@@ -1,6 +1,6 @@
-ghost use Rattle.std.specs.Prelude.{◌≡◌, ◌<◌, ◌≤◌, IfOk};
+ghost use Rattle.std.specs.Prelude.{◌≡◌, ◌<◌, IfOk};
 ghost use Rattle.journal_model.specs.Commands.{whole};
-ghost use Rattle.generated_load.specs.Buffers.{AreLoadBuffers, IsLoadBuffer, load_name, load_placement};
+ghost use Rattle.generated_load.specs.Buffers.{load_buffer, load_buffers, load_name, load_pages, load_placement};
 
 use crate::draws::Draws;
 use journal_model::{Decl, Decls, Name};
@@ -21,15 +21,18 @@ fn name(alloc: Global, number: u32) -> Result<Name, NoMemory>
     Ok(name)
 }
 
-/// Buffers of 4 to 16 pages: each thread has one of each size in turn.
+/// Buffers of 4 to 16 pages: each thread has eight of them.
 fn pages(number: u32) -> u32
-    ensures { (4 ≤ result) × (result ≤ 16) }
+    ensures { result ≡ load_pages number }
 {
-    match number / 3 {
-        0 | 1 => 4,
-        2..=4 => 8,
-        5 | 6 => 12,
-        _ => 16,
+    if number < 6 {
+        4
+    } else if number < 15 {
+        8
+    } else if number < 21 {
+        12
+    } else {
+        16
     }
 }
 
@@ -70,11 +73,9 @@ fn placement(alloc: Global) -> Result<Placement, NoMemory>
 }
 
 /// A buffer. The members of a group are the buffers of a thread.
-#[tactic(auto, using(crate::proofs::BufferLaws::decl_fits))]
 fn buffer(alloc: Global, number: u32, prio: u32) -> Result<Decl, NoMemory>
-    requires number { number < 24 }
-    requires prio { prio < 4 }
-    ensures { IfOk result (IsLoadBuffer number) }
+    requires { number < 24 }
+    ensures { IfOk result (λ decl. decl ≡ load_buffer number prio) }
 {
     Ok(Decl {
         name: name(alloc, number)?,
@@ -88,7 +89,7 @@ fn buffer(alloc: Global, number: u32, prio: u32) -> Result<Decl, NoMemory>
 
 /// The buffers, whose priorities are drawn in their order.
 pub fn draw_buffers(alloc: Global, draws: &mut Draws) -> Result<Decls, NoMemory>
-    ensures { IfOk result (AreLoadBuffers 24) }
+    ensures { IfOk result (λ buffers. (buffers, draws.new) ≡ load_buffers 24 draws.old) }
 {
     let mut buffers = Decls::new(alloc);
     for number in 0..24 {

@@ -1,5 +1,5 @@
-ghost use Rattle.std.specs.Prelude.{◌≡◌, ◌≢◌, ◌+◌, ◌*◌, ◌<◌};
-ghost use Rattle.generated_load.specs.Choices.{IsChoice};
+ghost use Rattle.std.specs.Prelude.{◌≡◌, ◌<◌};
+ghost use Rattle.generated_load.specs.Choices.{behind, kind_of, load_choice, own_buffer};
 
 use crate::draws::Draws;
 use ttm_base::BufId;
@@ -29,7 +29,9 @@ pub struct Choice {
     pub engine: u32,
 }
 
-fn kind_of(number: u32) -> ChoiceKind {
+fn kind_of(number: u32) -> ChoiceKind
+    ensures { result ≡ kind_of number }
+{
     match number {
         0 => ChoiceKind::Write,
         1 => ChoiceKind::Read,
@@ -46,7 +48,7 @@ fn kind_of(number: u32) -> ChoiceKind {
 pub fn own_buffer(thread: u32, number: u32) -> BufId
     requires thread { thread < 3 }
     requires number { number < 8 }
-    ensures { result.0 ≡ 3 * number + thread }
+    ensures { result ≡ own_buffer thread number }
 {
     BufId(3 * number + thread)
 }
@@ -55,8 +57,8 @@ pub fn own_buffer(thread: u32, number: u32) -> BufId
 fn behind(number: u32, distance: u32) -> u32
     requires number { number < 8 }
     requires distance { distance < 7 }
+    ensures behind { result ≡ behind number distance }
     ensures below { result < 8 }
-    ensures other { result ≢ number }
 {
     (number + 1 + distance) % 8
 }
@@ -64,20 +66,20 @@ fn behind(number: u32, distance: u32) -> u32
 /// Draws the numbers for a command.
 pub fn choose(draws: &mut Draws, thread: u32) -> Choice
     requires { thread < 3 }
-    ensures { IsChoice result }
+    ensures { (result, draws.new) ≡ load_choice thread draws.old }
 {
-    let kind = kind_of(draws.draw(8));
     let number = draws.draw(8);
-    let other = behind(number, draws.draw(7));
-    let off = 16 * draws.draw(1024);
-    let byte = draws.draw(256) as u8;
-    let engine = draws.draw(2) + 1;
+    let first = draws.draw(8);
+    let distance = draws.draw(7);
+    let sixteens = draws.draw(1024);
+    let byte = draws.draw(256);
+    let engine = draws.draw(2);
     Choice {
-        kind,
-        x: own_buffer(thread, number),
-        y: own_buffer(thread, other),
-        off,
-        byte,
-        engine,
+        kind: kind_of(number),
+        x: own_buffer(thread, first),
+        y: own_buffer(thread, behind(first, distance)),
+        off: 16 * sixteens,
+        byte: byte as u8,
+        engine: engine + 1,
     }
 }

@@ -1,8 +1,6 @@
-ghost use Rattle.std.specs.Prelude.{◌≡◌, ◌∷◌, ◌+◌, ◌<◌, [], IfOk, OnOk, length, true};
-ghost use Rattle.std.specs.List.{list_all};
-ghost use Rattle.journal_model.specs.CommandRules.{is_byte};
-ghost use Rattle.generated_load.specs.Choices.{IsChoice};
-ghost use Rattle.generated_load.specs.Commands.{AreLoadCommands, IsLoadCommand};
+ghost use Rattle.std.specs.Prelude.{◌≡◌, ◌∷◌, ◌++◌, ◌<◌, [], IfOk, OnOk, replicate};
+ghost use Rattle.generated_load.specs.Commands.{command_by, drawn_commands, load_command, load_commands, news, reads};
+ghost use Rattle.generated_load.specs.declared.choices.ChoiceKind.TheVariants as kind;
 
 use crate::choices::{Choice, ChoiceKind, choose, own_buffer};
 use crate::draws::Draws;
@@ -18,8 +16,7 @@ const COPY_LEN: u32 = 16384;
 
 /// A byte, sixteen times.
 fn repeated(alloc: Global, byte: u8) -> Result<Bytes, NoMemory>
-    ensures len { IfOk result (λ bytes. length bytes ≡ 16) }
-    ensures bytes { IfOk result (λ bytes. list_all is_byte bytes ≡ true) }
+    ensures { IfOk result (λ bytes. bytes ≡ replicate 16 byte) }
 {
     let mut bytes = Bytes::new(alloc);
     for _count in 0..LEN {
@@ -48,8 +45,7 @@ fn job_of_two(alloc: Global, engine: u32, first: Op, second: Op) -> Result<Comma
 }
 
 fn copy(alloc: Global, choice: Choice) -> Result<Command, NoMemory>
-    requires { IsChoice choice }
-    ensures { IfOk result IsLoadCommand }
+    ensures { IfOk result (λ command. command ≡ command_by kind.Copy 0 choice) }
 {
     job(
         alloc,
@@ -65,8 +61,7 @@ fn copy(alloc: Global, choice: Choice) -> Result<Command, NoMemory>
 }
 
 fn xor(alloc: Global, choice: Choice) -> Result<Command, NoMemory>
-    requires { IsChoice choice }
-    ensures { IfOk result IsLoadCommand }
+    ensures { IfOk result (λ command. command ≡ command_by kind.Xor 0 choice) }
 {
     job(
         alloc,
@@ -82,8 +77,7 @@ fn xor(alloc: Global, choice: Choice) -> Result<Command, NoMemory>
 }
 
 fn fill_and_probe(alloc: Global, choice: Choice) -> Result<Command, NoMemory>
-    requires { IsChoice choice }
-    ensures { IfOk result IsLoadCommand }
+    ensures { IfOk result (λ command. command ≡ command_by kind.Fill 0 choice) }
 {
     job_of_two(
         alloc,
@@ -102,25 +96,16 @@ fn fill_and_probe(alloc: Global, choice: Choice) -> Result<Command, NoMemory>
     )
 }
 
-fn write(alloc: Global, choice: Choice) -> Result<Command, NoMemory>
-    requires { IsChoice choice }
-    ensures { IfOk result IsLoadCommand }
-{
-    Ok(Command::Write {
-        b: choice.x,
-        off: choice.off,
-        bytes: repeated(alloc, choice.byte)?,
-    })
-}
-
 /// The command of a choice. A thread touches the group of its own buffers.
 fn command_of(alloc: Global, choice: Choice, thread: u32) -> Result<Command, NoMemory>
-    requires choice { IsChoice choice }
-    requires thread { thread < 3 }
-    ensures { IfOk result IsLoadCommand }
+    ensures { IfOk result (λ command. command ≡ load_command thread choice) }
 {
     match choice.kind {
-        ChoiceKind::Write => write(alloc, choice),
+        ChoiceKind::Write => Ok(Command::Write {
+            b: choice.x,
+            off: choice.off,
+            bytes: repeated(alloc, choice.byte)?,
+        }),
         ChoiceKind::Read => Ok(Command::Read {
             b: choice.x,
             off: choice.off,
@@ -135,83 +120,60 @@ fn command_of(alloc: Global, choice: Choice, thread: u32) -> Result<Command, NoM
     }
 }
 
-/// Puts a command behind others.
-fn add(commands: &mut Commands, command: Command) -> Result<(), NoMemory>
-    requires before { AreLoadCommands commands.old }
-    requires command { IsLoadCommand command }
-    ensures fit { OnOk result (AreLoadCommands commands.new) }
-    ensures len { OnOk result (length commands.new ≡ length commands.old + 1) }
-{
-    commands.push(command)
-}
-
 /// Makes each of a thread's buffers.
 fn add_news(commands: &mut Commands, thread: u32) -> Result<(), NoMemory>
-    requires before { AreLoadCommands commands.old }
-    requires thread { thread < 3 }
-    ensures fit { OnOk result (AreLoadCommands commands.new) }
-    ensures len { OnOk result (length commands.new ≡ length commands.old + 8) }
+    requires { thread < 3 }
+    ensures { OnOk result (commands.new ≡ commands.old ++ news 8 thread) }
 {
     for number in 0..8 {
-        add(
-            commands,
-            Command::New {
-                b: own_buffer(thread, number),
-            },
-        )?;
+        commands.push(Command::New {
+            b: own_buffer(thread, number),
+        })?;
     }
     Ok(())
 }
 
 /// Draws two hundred commands.
-fn add_drawn(
+fn draw_more(
     alloc: Global,
     draws: &mut Draws,
     commands: &mut Commands,
     thread: u32,
 ) -> Result<(), NoMemory>
-    requires before { AreLoadCommands commands.old }
-    requires thread { thread < 3 }
-    ensures fit { OnOk result (AreLoadCommands commands.new) }
-    ensures len { OnOk result (length commands.new ≡ length commands.old + 200) }
+    requires { thread < 3 }
+    ensures commands { OnOk result (commands.new ≡ commands.old ++ (drawn_commands 200 thread draws.old).0) }
+    ensures draws { OnOk result (draws.new ≡ (drawn_commands 200 thread draws.old).1) }
 {
     for _count in 0..200u32 {
         let choice = choose(draws, thread);
-        add(commands, command_of(alloc, choice, thread)?)?;
+        commands.push(command_of(alloc, choice, thread)?)?;
     }
     Ok(())
 }
 
 /// Reads the first bytes of each of a thread's buffers.
 fn add_reads(commands: &mut Commands, thread: u32) -> Result<(), NoMemory>
-    requires before { AreLoadCommands commands.old }
-    requires thread { thread < 3 }
-    ensures fit { OnOk result (AreLoadCommands commands.new) }
-    ensures len { OnOk result (length commands.new ≡ length commands.old + 8) }
+    requires { thread < 3 }
+    ensures { OnOk result (commands.new ≡ commands.old ++ reads 8 thread) }
 {
     for number in 0..8 {
-        add(
-            commands,
-            Command::Read {
-                b: own_buffer(thread, number),
-                off: 0,
-                len: LEN,
-            },
-        )?;
+        commands.push(Command::Read {
+            b: own_buffer(thread, number),
+            off: 0,
+            len: LEN,
+        })?;
     }
     Ok(())
 }
 
 /// The commands of a thread, counted from 0.
-#[tactic(auto, using(crate::proofs::CommandLaws::no_commands))]
 pub fn draw_commands(alloc: Global, draws: &mut Draws, thread: u32) -> Result<Commands, NoMemory>
     requires { thread < 3 }
-    ensures fit { IfOk result AreLoadCommands }
-    ensures len { IfOk result (λ commands. length commands ≡ 216) }
+    ensures { IfOk result (λ commands. (commands, draws.new) ≡ load_commands thread draws.old) }
 {
     let mut commands = Commands::new(alloc);
     add_news(&mut commands, thread)?;
-    add_drawn(alloc, draws, &mut commands, thread)?;
+    draw_more(alloc, draws, &mut commands, thread)?;
     add_reads(&mut commands, thread)?;
     Ok(commands)
 }

@@ -1,18 +1,19 @@
-ghost use Rattle.std.specs.Prelude.{IfOk};
-ghost use Rattle.generated_load.specs.Commands.{AreLoadThreads};
-ghost use Rattle.generated_load.specs.Loads.{IsLoad};
+ghost use Rattle.std.specs.Prelude.{◌≡◌, IfOk};
+ghost use Rattle.law_script.specs.ScriptLaws.{IsPlainScript};
+ghost use Rattle.generated_load.specs.Commands.{load_threads};
+ghost use Rattle.generated_load.specs.Loads.{IsLoad, load_script};
 
 use crate::buffers::draw_buffers;
 use crate::commands::draw_commands;
 use crate::draws::Draws;
 use journal_model::{CommandLists, Marks, Script, Sizes, TurnLines};
+use script_spelling::write_script;
 use std::alloc::Global;
 use ttm_base::NoMemory;
 
 /// The commands of all threads, drawn in their order.
-#[tactic(auto, using(crate::proofs::CommandLaws::one_thread_more, crate::proofs::CommandLaws::no_threads))]
 fn draw_threads(alloc: Global, draws: &mut Draws) -> Result<CommandLists, NoMemory>
-    ensures { IfOk result (AreLoadThreads 3) }
+    ensures { IfOk result (λ threads. (threads, draws.new) ≡ load_threads 3 draws.old) }
 {
     let mut threads = CommandLists::new(alloc);
     for thread in 0..3 {
@@ -21,15 +22,11 @@ fn draw_threads(alloc: Global, draws: &mut Draws) -> Result<CommandLists, NoMemo
     Ok(threads)
 }
 
-/// Draws a script from a number: 24 buffers of 216 pages in all over 64 pages of VRAM, 192 frames and two user engines, and
-/// three threads of 216 commands. One number gives one script. No command of it is ever refused.
-///
-/// # Errors
-///
-/// Want of memory.
-#[tactic(auto, using(crate::proofs::LoadLaws::is_load))]
-pub fn generated(alloc: Global, number: u64) -> Result<Script, NoMemory>
-    ensures { IfOk result IsLoad }
+/// Draws a script: 24 buffers of 216 pages in all over 64 pages of VRAM, 192 frames and two user engines, and three threads of 216
+/// commands.
+#[tactic(auto, unfolding(crate::specs::Loads::load_script))]
+fn draw_script(alloc: Global, number: u64) -> Result<Script, NoMemory>
+    ensures { IfOk result (λ script. script ≡ load_script number) }
 {
     let mut draws = Draws::new(number);
     let buffers = draw_buffers(alloc, &mut draws)?;
@@ -49,4 +46,19 @@ pub fn generated(alloc: Global, number: u64) -> Result<Script, NoMemory>
         turns: TurnLines::new(alloc),
         marks: Marks::new(alloc),
     })
+}
+
+/// The bytes of the script that is drawn from a number.
+///
+/// # Errors
+///
+/// Want of memory.
+#[tactic(auto, using(crate::proofs::LoadLaws::is_load, crate::proofs::LoadLaws::spells))]
+pub fn generated(alloc: Global, number: u64) -> Result<Vec<u8>, NoMemory>
+    ensures text { IfOk result (λ text. IsPlainScript text.items (load_script number)) }
+    ensures load { IsLoad (load_script number) }
+{
+    let script = draw_script(alloc, number)?;
+    let text = write_script(alloc, &script)?;
+    Ok(text)
 }

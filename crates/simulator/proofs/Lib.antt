@@ -2,3 +2,4 @@ pub mod InputLaws
 pub mod EndLaws
 pub mod ReportLaws
 pub mod RunLaws
+pub mod DeviceLaws

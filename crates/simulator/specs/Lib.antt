@@ -3,3 +3,4 @@ pub mod Outcomes
 pub mod Inputs
 pub mod Ends
 pub mod Plain
+pub mod Lawful

@@ -2,11 +2,14 @@
 #![tactic(auto)]
 
 mod input;
+mod law;
 mod outcome;
 mod tell;
 mod top;
 
+pub use device_end::discard;
 pub use input::{Input, read_input};
+pub use law::lawful_parts;
 pub use outcome::{Outcome, Status};
 pub use sim_drive::Device;
 pub use tell::{write_outcome, write_text};

@@ -10,6 +10,7 @@ use crate::input::{Input, read_input};
 use crate::outcome::{Outcome, Status};
 use crate::tell::write_outcome;
 use command_words::{Form, Words, read_words};
+use device_end::discard;
 use io_edge::{Sink, Source};
 use journal_model::Script;
 use report_text::WriteFault;
@@ -26,9 +27,16 @@ fn run_script(alloc: Global, turns: Option<u64>, script: Script) -> Result<Outco
 {
     let mut device = Device::new(alloc, script)?;
     let allowed = turns.unwrap_or(turn_limit(device.script()));
-    let turns = drive(alloc, &mut device, allowed)?;
-    let _legal = device.journal();
-    Ok(Outcome::Ran { device, turns })
+    match drive(alloc, &mut device, allowed) {
+        Ok(turns) => {
+            let _legal = device.journal();
+            Ok(Outcome::Ran { device, turns })
+        }
+        Err(NoMemory) => {
+            discard(device);
+            Err(NoMemory)
+        }
+    }
 }
 
 /// Reads a script, and runs it.
@@ -88,7 +96,7 @@ pub fn sim_top<S: Source, K: Sink>(
         Ok(outcome) => {
             let status = outcome.status();
             let ended = status_after(status, write_outcome(alloc, &outcome, sink));
-            drop(outcome);
+            outcome.discard();
             ended
         }
         Err(NoMemory) => Status::NoMemory,

@@ -6,7 +6,7 @@ use std::process::Abort;
 fn asks(rt: &impl Abort, alloc: Global, words: &[&str], want: Option<Form>) -> bool {
     let mut list = Words::new(alloc);
     for word in words {
-        list.push(word.as_bytes()).expect(rt, "a word");
+        list.push(word).expect(rt, "a word");
     }
     read_words(&list) == want
 }

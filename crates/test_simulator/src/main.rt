@@ -22,7 +22,7 @@ struct Outcome {
 fn words_of(alloc: Global, case: &Case) -> io::Result<Words> {
     let mut words = Words::new(alloc);
     for word in &case.words {
-        words.push(word.as_bytes()).map_err(no_memory)?;
+        words.push(word.as_str()).map_err(no_memory)?;
     }
     Ok(words)
 }

@@ -9,6 +9,9 @@ use ttm_base::{Actor, JobId, Logged, Need, NoMemory, Stepper, Turn};
 pub struct Counter {
     limit: u64,
     journal: Vec<u64>,
+    /// How many rounds of a sum a step takes, and what it came to.
+    rounds: u32,
+    sum: u64,
     ghost small: { limit < 2 ^ 32 },
 }
 
@@ -16,10 +19,32 @@ impl Counter {
     pub fn new(alloc: Global, limit: u32) -> Counter
         ensures { (result.limit ≡ limit) × (result.journal.items ≡ []) }
     {
+        Counter::slow(alloc, limit, 0)
+    }
+
+    /// One whose steps take a while, so that those who wait for a turn meanwhile do sleep.
+    pub fn slow(alloc: Global, limit: u32, rounds: u32) -> Counter
+        ensures { (result.limit ≡ limit) × (result.journal.items ≡ []) }
+    {
         Counter {
             limit: limit as u64,
             journal: Vec::new(alloc),
+            rounds,
+            sum: 0,
         }
+    }
+
+    /// Takes a while.
+    fn linger(&mut self)
+        ensures { (self.new.limit ≡ self.old.limit) × (self.new.journal.items ≡ self.old.journal.items) }
+    {
+        let mut sum = self.sum;
+        for round in 0..self.rounds {
+            sum = (sum ^ (sum >> 7))
+                .wrapping_mul(31)
+                .wrapping_add(u64::from(round));
+        }
+        self.sum = sum;
     }
 
     pub fn journal(&self) -> &[u64]
@@ -73,6 +98,7 @@ impl Stepper for Counter {
     ghost is_over = { is_over_at };
 
     fn step(&mut self, who: Actor) -> Result<Turn, NoMemory> {
+        self.linger();
         let made = self.journal.len() as u64;
         if made >= 2 * self.limit {
             return Ok(Turn::Over);

@@ -6,6 +6,10 @@ mod counter;
 #[cfg(test)]
 mod gates;
 #[cfg(test)]
+mod program;
+#[cfg(test)]
 mod tests;
+#[cfg(test)]
+mod watch;
 #[cfg(test)]
 mod workers;

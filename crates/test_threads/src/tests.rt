@@ -2,7 +2,6 @@ use crate::gates::{Counting, Meeting, Steering};
 use command_words::Words;
 use generated_load::generated;
 use io_edge::{MemSink, MemSource};
-use script_spelling::write_script;
 use sha2::{Digest, Sha256};
 use std::alloc::Global;
 use std::process::Abort;
@@ -19,16 +18,16 @@ const ROOM: usize = 1 << 22;
 /// How many bytes a read or a write moves at most.
 const CHUNK: usize = 4096;
 
-fn words_of(alloc: Global, words: &[&str]) -> Result<Words, NoMemory> {
+pub fn words_of(alloc: Global, words: &[&str]) -> Result<Words, NoMemory> {
     let mut list = Words::new(alloc);
     for word in words {
-        list.push(word.as_bytes())?;
+        list.push(word)?;
     }
     Ok(list)
 }
 
 /// Runs the program on threads, and gives its status and what it wrote.
-fn run<R: Threads + Wait + Sync, G: Gate + Sync>(
+pub fn run<R: Threads + Wait + Sync, G: Gate + Sync>(
     rt: &R,
     alloc: Global,
     words: &[&str],
@@ -148,8 +147,7 @@ const DIGESTS: [(u64, &str); 3] = [
 fn texts_of_generated_scripts(rt: HostRuntime) -> Result<(), Fail> {
     let alloc = rt.alloc();
     for (number, digest) in DIGESTS {
-        let script = generated(alloc, number)?;
-        let text = write_script(alloc, &script)?;
+        let text = generated(alloc, number)?;
         let found = hex::encode(alloc, Sha256::digest(text.as_slice()))?;
         assert!(rt; found.as_str() == digest, "{number}");
     }
@@ -171,8 +169,7 @@ const READS: &str = "57d88fe86366640cd6f3d26b7297330639ec3e520087845110302952028
 #[test]
 fn generated_load_on_threads(rt: HostRuntime) -> Result<(), Fail> {
     let alloc = rt.alloc();
-    let script = generated(alloc, 1)?;
-    let text = write_script(alloc, &script)?;
+    let text = generated(alloc, 1)?;
     let gate = Meeting::new();
     let (status, sink) = run(&rt, alloc, &["run"], text.as_slice(), &gate)?;
     assert!(rt; gate.have_met());

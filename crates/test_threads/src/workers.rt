@@ -8,7 +8,7 @@ use std::sync::Wait;
 use std::test::Fail;
 use ttm_base::{Actor, Logged, Stepper};
 use turn_lock::{Pass, Turns};
-use worker_pool::work_all;
+use worker_pool::{IdleGate, work_all};
 
 /// One turn for the actor, after which the word of context 0 is raised to what is done there.
 fn turn_of<R: Wait>(rt: &R, turns: &Turns<Counter>, pass: &mut Pass<Counter>, who: Actor) -> u64
@@ -58,5 +58,18 @@ fn two_workers_are_at_work_at_once(rt: HostRuntime) -> Result<(), Fail> {
     let counter = turns.close(&rt, pass);
     assert!(rt; answer.is_ok() && meeting.have_met());
     assert!(rt; counter.journal().len() == 20);
+    Ok(())
+}
+
+/// A step takes some milliseconds, so workers sleep until it is their turn; where nobody wakes them, they never end.
+#[test]
+fn workers_that_sleep_are_woken(rt: HostRuntime) -> Result<(), Fail> {
+    let counter = Counter::slow(rt.alloc(), 5, 4_000_000);
+    let (turns, pass) = Turns::new(rt.alloc(), counter, 1).ok().ok_or("memory")?;
+    let actors = [Actor::Thread(1), Actor::Thread(2), Actor::Engine(0)];
+    let (answer, pass) = work_all(&rt, rt.alloc(), &turns, pass, &IdleGate, &actors);
+    assert!(rt; answer.is_ok());
+    let counter = turns.close(&rt, pass);
+    assert!(rt; counter.journal().len() == 10);
     Ok(())
 }

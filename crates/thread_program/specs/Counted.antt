@@ -1,8 +1,8 @@
 -- What is counted of a run of a script that was drawn from a number, and how such a run ends.
-use Rattle.std.specs.Prelude.{ℕ, [], ◌∷◌, ◌++◌, codes, decimal}
+use Rattle.std.specs.Prelude.{◌≡◌, ℕ, [], ◌∷◌, ◌++◌, codes, decimal}
 use Rattle.journal_model.specs.Words.{Text, line}
 use Rattle.simulator.specs.Ends.{Kept}
-use Rattle.generated_load.specs.Loads.{IsLoad}
+use Rattle.generated_load.specs.Loads.{IsLoad, load_script}
 use Rattle.simulator.specs.declared.outcome.Status.{Status}
 use Rattle.simulator.specs.declared.outcome.Status.TheVariants as status
 use Rattle.simulator.specs.Edges.{Edge, IsUntouched, IsWritten, IsBroken, IsCut}
@@ -10,8 +10,8 @@ use Rattle.thread_program.specs.declared.counts.Counts.{Counts}
 use Rattle.thread_program.specs.Ran.{IsThreaded}
 
 -- three threads, their commands and as many results and refusals, and no read that shows other bytes than the plain memory has
-abbrev pub load_counts : Kept → Counts
-load_counts k = record {
+abbrev pub load_counts : Counts
+load_counts = record {
   threads = 3;
   commands = 648;
   results = 648;
@@ -27,15 +27,16 @@ counts_text n counts =
     ++ line (codes "results" ∷ decimal counts.results ∷ [])
     ++ line (codes "mismatches" ∷ decimal counts.mismatches ∷ [])
 
--- a legal, complete journal of a generated script
-pub record HasRunLoad (k : Kept) : Type 0 where
+-- a legal, complete journal of the script of the number
+pub record HasRunLoad (n : ℕ) (k : Kept) : Type 0 where
+  pub of : k.script ≡ load_script n
   pub load : IsLoad k.script
   pub ran : IsThreaded k.script k
 
 -- The status: done where the counts of a run were written whole; else a write failed or memory ran out, and a front of them was
 -- written, or nothing where memory ran out before.
 pub data EndsCounted (n : ℕ) (sink : Edge) : Status → Type 0 where
-  told : (k : Kept) → HasRunLoad k → IsWritten sink (counts_text n (load_counts k)) → EndsCounted n sink status.Done
-  broken : (k : Kept) → HasRunLoad k → IsBroken sink (counts_text n (load_counts k)) → EndsCounted n sink status.WriteFault
-  cut : (k : Kept) → HasRunLoad k → IsCut sink (counts_text n (load_counts k)) → EndsCounted n sink status.NoMemory
+  told : (k : Kept) → HasRunLoad n k → IsWritten sink (counts_text n load_counts) → EndsCounted n sink status.Done
+  broken : (k : Kept) → HasRunLoad n k → IsBroken sink (counts_text n load_counts) → EndsCounted n sink status.WriteFault
+  cut : (k : Kept) → HasRunLoad n k → IsCut sink (counts_text n load_counts) → EndsCounted n sink status.NoMemory
   nothing : IsUntouched sink → EndsCounted n sink status.NoMemory

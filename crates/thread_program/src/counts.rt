@@ -2,7 +2,9 @@ ghost use Rattle.std.specs.Prelude.{◌≡◌, ◌++◌, ◌∷◌, [], IfOk, On
 ghost use Rattle.io_edge.specs.Written.{Writes};
 ghost use Rattle.journal_model.specs.Words.{line};
 ghost use Rattle.report_text.specs.WriteFault.{faults_after_writing};
+ghost use Rattle.generated_load.specs.Loads.{IsLoad};
 ghost use Rattle.thread_program.specs.Counted.{HasRunLoad, counts_text, load_counts};
+ghost use Rattle.thread_program.specs.Ran.{IsThreaded};
 
 use io_edge::Sink;
 use itoa::Buffer;
@@ -24,8 +26,9 @@ pub struct Counts {
 }
 
 fn counts_of(alloc: Global, device: &Device) -> Result<Counts, NoMemory>
-    requires { HasRunLoad device.now }
-    ensures { IfOk result (λ counts. counts ≡ load_counts device.now) }
+    requires load { IsLoad device.now.script }
+    requires ran { IsThreaded device.now.script device.now }
+    ensures { IfOk result (λ counts. counts ≡ load_counts) }
 {
     let script = device.script();
     let journal = device.journal();
@@ -68,8 +71,8 @@ pub fn write_counts<K: Sink>(
     device: &Device,
     sink: &mut K,
 ) -> Result<(), WriteFault>
-    requires { HasRunLoad device.now }
-    ensures text { Writes result (K.written sink.old) (K.written sink.new) (counts_text number (load_counts device.now)) }
+    requires { HasRunLoad number device.now }
+    ensures text { Writes result (K.written sink.old) (K.written sink.new) (counts_text number load_counts) }
     ensures faults { K.faults sink.new ≡ faults_after_writing result (K.faults sink.old) }
 {
     let counts = counts_of(alloc, device)?;

@@ -4,7 +4,7 @@ ghost use Rattle.thread_program.specs.Ran.{IsThreaded};
 
 use crate::actors::actors_of;
 use journal_model::Script;
-use simulator::Device;
+use simulator::{Device, discard};
 use std::alloc::Global;
 use std::sync::Wait;
 use std::thread::Threads;
@@ -34,6 +34,11 @@ pub fn run_threads<R: Threads + Wait + Sync, G: Gate + Sync>(
     let (answer, pass) = work_all(rt, alloc, &turns, pass, gate, actors.items());
     let device = turns.close(rt, pass);
     let _legal = device.journal();
-    answer?;
-    Ok(device)
+    match answer {
+        Ok(()) => Ok(device),
+        Err(NoMemory) => {
+            discard(device);
+            Err(NoMemory)
+        }
+    }
 }

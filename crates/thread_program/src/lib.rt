@@ -4,6 +4,7 @@
 mod actors;
 mod counts;
 mod crowd;
+mod drawn;
 mod launch;
 mod top;
 

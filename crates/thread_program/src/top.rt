@@ -9,11 +9,13 @@ ghost use Rattle.thread_program.specs.Threaded.{ComesThreaded, Launched};
 
 use crate::counts::write_counts;
 use crate::crowd::run_threads;
+use crate::drawn::read_drawn;
 use crate::launch::{Launch, read_launch};
 use command_words::Words;
-use generated_load::generated;
 use io_edge::{Sink, Source};
-use simulator::{Device, Input, Outcome, Status, read_input, sim_top, status_after, write_outcome};
+use simulator::{
+    Device, Input, Outcome, Status, discard, read_input, sim_top, status_after, write_outcome,
+};
 use std::alloc::Global;
 use std::sync::Wait;
 use std::thread::Threads;
@@ -57,7 +59,7 @@ fn run_top<R: Threads + Wait + Sync, S: Source, K: Sink, G: Gate + Sync>(
         Ok(outcome) => {
             let status = outcome.status();
             let ended = status_after(status, write_outcome(alloc, &outcome, sink));
-            drop(outcome);
+            outcome.discard();
             ended
         }
         Err(NoMemory) => Status::NoMemory,
@@ -71,9 +73,9 @@ fn run_drawn<R: Threads + Wait + Sync, G: Gate + Sync>(
     number: u64,
     gate: &G,
 ) -> Result<Device, NoMemory>
-    ensures { IfOk result HasRunLoad }
+    ensures { IfOk result (HasRunLoad number) }
 {
-    let script = generated(alloc, number)?;
+    let script = read_drawn(alloc, number)?;
     run_threads(rt, alloc, script, gate)
 }
 
@@ -91,7 +93,7 @@ fn gen_top<R: Threads + Wait + Sync, K: Sink, G: Gate + Sync>(
     match run_drawn(rt, alloc, number, gate) {
         Ok(device) => {
             let ended = status_after(Status::Done, write_counts(alloc, number, &device, sink));
-            drop(device);
+            discard(device);
             ended
         }
         Err(NoMemory) => Status::NoMemory,

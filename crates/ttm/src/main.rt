@@ -5,22 +5,31 @@ use command_words::Words;
 use io_edge::{StdSink, StdSource};
 use std::alloc::Global;
 use std::env;
+use std::io::ErrorKind;
 use std::process::ExitCode;
 use std::rt::Env;
 use thread_program::{Status, ttm_top};
 use ttm_base::NoMemory;
 use worker_pool::IdleGate;
 
-/// The words after the program's name.
+/// The words after the program's name. Where one isn't text (UTF-8), the library tells none, and no words ask for nothing that the
+/// program knows.
+///
+/// # Errors
+///
+/// Want of memory.
 fn words_of(rt: &(impl Env + Alloc), alloc: Global) -> Result<Words, NoMemory> {
     let mut words = Words::new(alloc);
-    let Ok(all) = env::args(rt) else {
-        return Err(NoMemory);
-    };
-    for word in all.skip(1) {
-        words.push(word.as_bytes())?;
+    match env::args(rt) {
+        Ok(all) => {
+            for word in all.skip(1) {
+                words.push(word.as_str())?;
+            }
+            Ok(words)
+        }
+        Err(fault) if fault.kind() == ErrorKind::InvalidData => Ok(words),
+        Err(_) => Err(NoMemory),
     }
-    Ok(words)
 }
 
 fn main(rt: HostRuntime) -> ExitCode {

@@ -1,10 +1,16 @@
-use Rattle.std.proofs.Common.{◌<◌, arith}
-use Rattle.generated_load.proofs.CommandLaws.{read_fits}
+use Rattle.std.proofs.Common.{◌≡◌, ◌++◌, arith, subst}
+use Rattle.generated_load.specs.Commands.{reads}
+use Rattle.generated_load.proofs.DrawnLaws.{none_read, one_read}
 use Rattle.generated_load.proofs.commands.add_reads.Goals as goal
 
-pub add-requires-clause-command : goal.add-requires-clause-command
-add-requires-clause-command c =
-    let own = c.own_buffer.ensures in
-    let few = c.requires.thread in
-    let below = c.loop-number-test.true in
-    read_fits c.own_buffer.result 0 (omega (arith, own, few, below)) (omega arith)
+pub loop-number-init : goal.loop-number-init
+loop-number-init c = none_read c.args.thread c.args.commands.now
+
+pub loop-number-preserved : goal.loop-number-preserved
+loop-number-preserved c =
+    one_read c.loop-number.number c.args.thread c.args.commands.now c.loop-number.commands c.push.new.self c.own_buffer.result c.loop-number.invariant c.own_buffer.ensures c.in_ok-push.ensures.ok
+
+pub returns : goal.returns
+returns c =
+    let all : c.loop-number.number ≡ 8 = omega arith in
+    subst (λ n. c.loop-number.commands ≡ c.args.commands.now ++ reads n c.args.thread) all c.loop-number.invariant

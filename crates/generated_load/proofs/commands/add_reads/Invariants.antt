@@ -1,6 +1,6 @@
-use Rattle.std.proofs.Common.{◌≡◌, ◌+◌, length}
-use Rattle.generated_load.specs.Commands.{AreLoadCommands}
+use Rattle.std.proofs.Common.{◌≡◌, ◌++◌}
+use Rattle.generated_load.specs.Commands.{reads}
 use Rattle.generated_load.proofs.commands.add_reads.Given as goal
 
 abbrev pub invariant-loop-number : goal.invariant-loop-number
-invariant-loop-number l = AreLoadCommands l.commands × (length l.commands ≡ length l.initial.commands + l.number)
+invariant-loop-number l = l.commands ≡ l.initial.commands ++ reads l.number l.thread

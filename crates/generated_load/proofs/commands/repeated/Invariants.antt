@@ -1,7 +1,6 @@
-use Rattle.std.proofs.Common.{◌≡◌, true, length}
-use Rattle.std.specs.List.{list_all}
-use Rattle.journal_model.specs.CommandRules.{is_byte}
+use Rattle.std.proofs.Common.{◌≡◌}
+use Rattle.std.specs.Prelude.{replicate}
 use Rattle.generated_load.proofs.commands.repeated.Given as goal
 
 abbrev pub invariant-loop-count : goal.invariant-loop-count
-invariant-loop-count l = (length l.bytes ≡ l._count) × (list_all is_byte l.bytes ≡ true)
+invariant-loop-count l = l.bytes ≡ replicate l._count l.byte

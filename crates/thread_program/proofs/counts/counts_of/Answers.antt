@@ -10,5 +10,5 @@ mismatches-requires c = subst (λ (s : Script). IsTrue (is_script s)) (sym c.scr
 
 pub returns : goal.returns
 returns c =
-    counts_are c.args.device.now c.script-script.result.now c.journal-journal.result.now _ _ _ _ c.requires c.script-script.ensures c.journal-journal.ensures.journal
+    counts_are c.args.device.now c.script-script.result.now c.journal-journal.result.now _ _ _ _ c.requires.load c.requires.ran c.script-script.ensures c.journal-journal.ensures.journal
     c.len.ensures c.command_count.ensures c.answers.ensures c.in_ok-mismatches.ensures.counted

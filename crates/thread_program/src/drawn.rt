@@ -1,0 +1,22 @@
+ghost use Rattle.std.specs.Prelude.{◌≡◌, IfOk};
+ghost use Rattle.generated_load.specs.Loads.{IsLoad, load_script};
+
+use generated_load::generated;
+use journal_model::Script;
+use script_text::{ScriptFault, read_script};
+use std::alloc::Global;
+use ttm_base::NoMemory;
+
+/// The script that is read from the text that is drawn from a number.
+#[tactic(auto, using(crate::proofs::DrawnLaws::read_is))]
+pub fn read_drawn(alloc: Global, number: u64) -> Result<Script, NoMemory>
+    ensures script { IfOk result (λ script. script ≡ load_script number) }
+    ensures load { IsLoad (load_script number) }
+{
+    let text = generated(alloc, number)?;
+    match read_script(alloc, text.as_slice()) {
+        Ok(script) => Ok(script),
+        Err(ScriptFault::NoMemory) => Err(NoMemory),
+        Err(ScriptFault::Bad { .. }) => unreachable!(),
+    }
+}
