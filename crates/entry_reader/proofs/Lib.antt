@@ -1,0 +1,13 @@
+pub mod NumberLaws
+pub mod Wholes
+pub mod Lists
+pub mod Walks
+pub mod ScriptFacts
+pub mod WordLaws
+pub mod CauseLaws
+pub mod KindsTold
+pub mod KindsAgain
+pub mod EntryLaws
+pub mod HeadTold
+pub mod ReportSteps
+pub mod Verdicts

@@ -1,0 +1,6 @@
+use Rattle.std.proofs.Common.{◌≡◌, min, take}
+use Rattle.journal_model.specs.Reading.{read_on}
+use Rattle.entry_reader.proofs.numbers.value_of.Given as goal
+
+abbrev pub invariant-loop-c : goal.invariant-loop-c
+invariant-loop-c l = l.n ≡ min (read_on 0 (take l.c-index l.word)) 18446744073709551616

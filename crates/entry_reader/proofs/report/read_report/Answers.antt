@@ -1,0 +1,10 @@
+use Rattle.std.proofs.Common.{Option, subst}
+use Rattle.entry_reader.specs.declared.report.Head.{Head}
+use Rattle.entry_reader.specs.Parsing.{IsHeadRead}
+use Rattle.entry_reader.proofs.report.read_report.Goals as goal
+
+pub read_entries-requires-clause-head : goal.read_entries-requires-clause-head
+read_entries-requires-clause-head c = subst (λ (o : Option Head). IsHeadRead c.args.script.now c.args.text.now o) c.in-Some.is c.in_ok-head.ensures
+
+pub returns : goal.returns
+returns c = subst (λ (o : Option Head). IsHeadRead c.args.script.now c.args.text.now o) c.in-None.is c.in_ok-head.ensures

@@ -1,0 +1,4 @@
+pub mod EntryReading
+pub mod HeadReading
+pub mod Parsing
+pub mod Read

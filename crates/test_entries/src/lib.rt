@@ -1,0 +1,7 @@
+//! Tests of reading entries and reports.
+#![tactic(auto)]
+
+#[cfg(test)]
+mod entries;
+#[cfg(test)]
+mod reports;

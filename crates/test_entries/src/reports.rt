@@ -1,0 +1,79 @@
+use entry_reader::{ReportFault, read_report};
+use script_text::read_script;
+
+const SCRIPT: &str = "ttm 1
+vram range 0
+tt 0
+frames 1
+swap 0
+engines 0
+buffer a 1 prio 1 group - align 1 want sys busy sys
+thread
+new a
+end
+";
+
+/// Reports, how many entries are read, the place behind them, and why there are no more.
+const REPORTS: [(&str, usize, usize, Option<ReportFault>); 14] = [
+    (
+        "report 1\njournal 2\n1 t1 new a\n2 t1 result ok\nresults\n",
+        2,
+        45,
+        None,
+    ),
+    (
+        "report 1\njournal 2\n1 t1 new a\n2 t1 result ok\n",
+        2,
+        45,
+        None,
+    ),
+    ("report 1\njournal 0\n1 t1 new a\n", 0, 19, None),
+    ("report 1\njournal 0\n", 0, 19, None),
+    (
+        "report 1\njournal 3\n1 t1 new a\n2 t1 result ok\nresults\n",
+        2,
+        45,
+        Some(ReportFault::Entry),
+    ),
+    (
+        "report 1\njournal 18446744073709551615\n1 t1 new a\n",
+        1,
+        49,
+        Some(ReportFault::Entry),
+    ),
+    (
+        "report 1\njournal 2\n1 t1 new a\n1 t1 result ok\n",
+        1,
+        30,
+        Some(ReportFault::Entry),
+    ),
+    (
+        "report 1\njournal 2\n1 t1 new a\n2 t1 result ok",
+        1,
+        30,
+        Some(ReportFault::Entry),
+    ),
+    ("", 0, 0, Some(ReportFault::Head)),
+    ("report 1\n", 0, 0, Some(ReportFault::Head)),
+    ("report 2\njournal 0\n", 0, 0, Some(ReportFault::Head)),
+    (
+        "report 1\njournal 18446744073709551616\n",
+        0,
+        0,
+        Some(ReportFault::Head),
+    ),
+    ("report 1\njournal 00\n", 0, 0, Some(ReportFault::Head)),
+    ("report 1\njournal 0", 0, 0, Some(ReportFault::Head)),
+];
+
+#[test]
+fn reports_up_to_a_fault(rt: HostRuntime) {
+    let alloc = rt.alloc();
+    let script = read_script(alloc, SCRIPT.as_bytes()).expect(&rt, "a script");
+    for (text, entries, rest, fault) in REPORTS {
+        let parsed = read_report(alloc, &script, text.as_bytes()).expect(&rt, "memory");
+        assert!(rt; parsed.entries.len() == entries, "{text}");
+        assert!(rt; parsed.rest == rest, "{text}");
+        assert!(rt; parsed.fault == fault, "{text}");
+    }
+}
