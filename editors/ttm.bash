@@ -1,0 +1,16 @@
+# Completion of ./ttm for bash: source this file. Made by tools/editors.py of editors/words.txt.
+_ttm() {
+  local word=${COMP_WORDS[COMP_CWORD]}
+  local words=
+  case $COMP_CWORD in
+    1) words='sim run gen explain picture stats --help --version --build' ;;
+    2)
+      case ${COMP_WORDS[1]} in
+        sim) words='--turns' ;;
+        stats) words='json' ;;
+      esac
+      ;;
+  esac
+  COMPREPLY=($(compgen -W "$words" -- "$word"))
+}
+complete -o default -F _ttm ttm ./ttm

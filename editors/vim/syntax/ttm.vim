@@ -1,0 +1,216 @@
+" Vim syntax file for scripts of ttm. Made by tools/editors.py of editors/words.txt.
+if exists("b:current_syntax")
+  finish
+endif
+
+syntax match ttmError /^.\+$/
+syntax match ttmLine0 /\v^%(ttm) %(1|2)$/ contains=ttmWord0_0
+syntax match ttmWord0_0 /\v%(ttm)/ contained nextgroup=ttmWord0_1 skipwhite
+highlight default link ttmWord0_0 ttmKeyword
+syntax match ttmWord0_1 /\v%(1|2)/ contained
+highlight default link ttmWord0_1 ttmKeyword
+syntax match ttmLine1 /\v^%(vram) %(range|buddy) [0-9]+$/ contains=ttmWord1_0
+syntax match ttmWord1_0 /\v%(vram)/ contained nextgroup=ttmWord1_1 skipwhite
+highlight default link ttmWord1_0 ttmKeyword
+syntax match ttmWord1_1 /\v%(range|buddy)/ contained nextgroup=ttmWord1_2 skipwhite
+highlight default link ttmWord1_1 ttmKeyword
+syntax match ttmWord1_2 /\v[0-9]+/ contained
+highlight default link ttmWord1_2 ttmNumber
+syntax match ttmLine2 /\v^%(tt) [0-9]+$/ contains=ttmWord2_0
+syntax match ttmWord2_0 /\v%(tt)/ contained nextgroup=ttmWord2_1 skipwhite
+highlight default link ttmWord2_0 ttmKeyword
+syntax match ttmWord2_1 /\v[0-9]+/ contained
+highlight default link ttmWord2_1 ttmNumber
+syntax match ttmLine3 /\v^%(frames) [0-9]+$/ contains=ttmWord3_0
+syntax match ttmWord3_0 /\v%(frames)/ contained nextgroup=ttmWord3_1 skipwhite
+highlight default link ttmWord3_0 ttmKeyword
+syntax match ttmWord3_1 /\v[0-9]+/ contained
+highlight default link ttmWord3_1 ttmNumber
+syntax match ttmLine4 /\v^%(swap) [0-9]+$/ contains=ttmWord4_0
+syntax match ttmWord4_0 /\v%(swap)/ contained nextgroup=ttmWord4_1 skipwhite
+highlight default link ttmWord4_0 ttmKeyword
+syntax match ttmWord4_1 /\v[0-9]+/ contained
+highlight default link ttmWord4_1 ttmNumber
+syntax match ttmLine5 /\v^%(engines) [0-9]+$/ contains=ttmWord5_0
+syntax match ttmWord5_0 /\v%(engines)/ contained nextgroup=ttmWord5_1 skipwhite
+highlight default link ttmWord5_0 ttmKeyword
+syntax match ttmWord5_1 /\v[0-9]+/ contained
+highlight default link ttmWord5_1 ttmNumber
+syntax match ttmLine6 /\v^%(buffer) [a-z][a-z0-9]{0,7} [0-9]+ %(prio) [0-9]+ %(group) %(-|[0-9]+) %(align) [0-9]+ %(want) %(sys|tt|vram)[a-z0-9\@+,-]* %(busy) %(sys|tt|vram)[a-z0-9\@+,-]*$/ contains=ttmWord6_0
+syntax match ttmWord6_0 /\v%(buffer)/ contained nextgroup=ttmWord6_1 skipwhite
+highlight default link ttmWord6_0 ttmKeyword
+syntax match ttmWord6_1 /\v[a-z][a-z0-9]{0,7}/ contained nextgroup=ttmWord6_2 skipwhite
+highlight default link ttmWord6_1 ttmName
+syntax match ttmWord6_2 /\v[0-9]+/ contained nextgroup=ttmWord6_3 skipwhite
+highlight default link ttmWord6_2 ttmNumber
+syntax match ttmWord6_3 /\v%(prio)/ contained nextgroup=ttmWord6_4 skipwhite
+highlight default link ttmWord6_3 ttmKeyword
+syntax match ttmWord6_4 /\v[0-9]+/ contained nextgroup=ttmWord6_5 skipwhite
+highlight default link ttmWord6_4 ttmNumber
+syntax match ttmWord6_5 /\v%(group)/ contained nextgroup=ttmWord6_6 skipwhite
+highlight default link ttmWord6_5 ttmKeyword
+syntax match ttmWord6_6 /\v%(-|[0-9]+)/ contained nextgroup=ttmWord6_7 skipwhite
+highlight default link ttmWord6_6 ttmNumber
+syntax match ttmWord6_7 /\v%(align)/ contained nextgroup=ttmWord6_8 skipwhite
+highlight default link ttmWord6_7 ttmKeyword
+syntax match ttmWord6_8 /\v[0-9]+/ contained nextgroup=ttmWord6_9 skipwhite
+highlight default link ttmWord6_8 ttmNumber
+syntax match ttmWord6_9 /\v%(want)/ contained nextgroup=ttmWord6_10 skipwhite
+highlight default link ttmWord6_9 ttmKeyword
+syntax match ttmWord6_10 /\v%(sys|tt|vram)[a-z0-9\@+,-]*/ contained nextgroup=ttmWord6_11 skipwhite
+highlight default link ttmWord6_10 ttmPlaces
+syntax match ttmWord6_11 /\v%(busy)/ contained nextgroup=ttmWord6_12 skipwhite
+highlight default link ttmWord6_11 ttmKeyword
+syntax match ttmWord6_12 /\v%(sys|tt|vram)[a-z0-9\@+,-]*/ contained
+highlight default link ttmWord6_12 ttmPlaces
+syntax match ttmLine7 /\v^%(buffer) [a-z][a-z0-9]{0,7} [0-9]+ %(prio) [0-9]+ %(group) %(-|[0-9]+) %(align) [0-9]+ %(place) %(sys|tt|vram)[a-z0-9\@+,-]*$/ contains=ttmWord7_0
+syntax match ttmWord7_0 /\v%(buffer)/ contained nextgroup=ttmWord7_1 skipwhite
+highlight default link ttmWord7_0 ttmKeyword
+syntax match ttmWord7_1 /\v[a-z][a-z0-9]{0,7}/ contained nextgroup=ttmWord7_2 skipwhite
+highlight default link ttmWord7_1 ttmName
+syntax match ttmWord7_2 /\v[0-9]+/ contained nextgroup=ttmWord7_3 skipwhite
+highlight default link ttmWord7_2 ttmNumber
+syntax match ttmWord7_3 /\v%(prio)/ contained nextgroup=ttmWord7_4 skipwhite
+highlight default link ttmWord7_3 ttmKeyword
+syntax match ttmWord7_4 /\v[0-9]+/ contained nextgroup=ttmWord7_5 skipwhite
+highlight default link ttmWord7_4 ttmNumber
+syntax match ttmWord7_5 /\v%(group)/ contained nextgroup=ttmWord7_6 skipwhite
+highlight default link ttmWord7_5 ttmKeyword
+syntax match ttmWord7_6 /\v%(-|[0-9]+)/ contained nextgroup=ttmWord7_7 skipwhite
+highlight default link ttmWord7_6 ttmNumber
+syntax match ttmWord7_7 /\v%(align)/ contained nextgroup=ttmWord7_8 skipwhite
+highlight default link ttmWord7_7 ttmKeyword
+syntax match ttmWord7_8 /\v[0-9]+/ contained nextgroup=ttmWord7_9 skipwhite
+highlight default link ttmWord7_8 ttmNumber
+syntax match ttmWord7_9 /\v%(place)/ contained nextgroup=ttmWord7_10 skipwhite
+highlight default link ttmWord7_9 ttmKeyword
+syntax match ttmWord7_10 /\v%(sys|tt|vram)[a-z0-9\@+,-]*/ contained
+highlight default link ttmWord7_10 ttmPlaces
+syntax match ttmLine8 /\v^%(thread)$/ contains=ttmWord8_0
+syntax match ttmWord8_0 /\v%(thread)/ contained
+highlight default link ttmWord8_0 ttmKeyword
+syntax match ttmLine9 /\v^%(new) [a-z][a-z0-9]{0,7}$/ contains=ttmWord9_0
+syntax match ttmWord9_0 /\v%(new)/ contained nextgroup=ttmWord9_1 skipwhite
+highlight default link ttmWord9_0 ttmKeyword
+syntax match ttmWord9_1 /\v[a-z][a-z0-9]{0,7}/ contained
+highlight default link ttmWord9_1 ttmName
+syntax match ttmLine10 /\v^%(free) [a-z][a-z0-9]{0,7}$/ contains=ttmWord10_0
+syntax match ttmWord10_0 /\v%(free)/ contained nextgroup=ttmWord10_1 skipwhite
+highlight default link ttmWord10_0 ttmKeyword
+syntax match ttmWord10_1 /\v[a-z][a-z0-9]{0,7}/ contained
+highlight default link ttmWord10_1 ttmName
+syntax match ttmLine11 /\v^%(pin) [a-z][a-z0-9]{0,7}$/ contains=ttmWord11_0
+syntax match ttmWord11_0 /\v%(pin)/ contained nextgroup=ttmWord11_1 skipwhite
+highlight default link ttmWord11_0 ttmKeyword
+syntax match ttmWord11_1 /\v[a-z][a-z0-9]{0,7}/ contained
+highlight default link ttmWord11_1 ttmName
+syntax match ttmLine12 /\v^%(unpin) [a-z][a-z0-9]{0,7}$/ contains=ttmWord12_0
+syntax match ttmWord12_0 /\v%(unpin)/ contained nextgroup=ttmWord12_1 skipwhite
+highlight default link ttmWord12_0 ttmKeyword
+syntax match ttmWord12_1 /\v[a-z][a-z0-9]{0,7}/ contained
+highlight default link ttmWord12_1 ttmName
+syntax match ttmLine13 /\v^%(find) [a-z][a-z0-9]{0,7}$/ contains=ttmWord13_0
+syntax match ttmWord13_0 /\v%(find)/ contained nextgroup=ttmWord13_1 skipwhite
+highlight default link ttmWord13_0 ttmKeyword
+syntax match ttmWord13_1 /\v[a-z][a-z0-9]{0,7}/ contained
+highlight default link ttmWord13_1 ttmName
+syntax match ttmLine14 /\v^%(swapout) [a-z][a-z0-9]{0,7}$/ contains=ttmWord14_0
+syntax match ttmWord14_0 /\v%(swapout)/ contained nextgroup=ttmWord14_1 skipwhite
+highlight default link ttmWord14_0 ttmKeyword
+syntax match ttmWord14_1 /\v[a-z][a-z0-9]{0,7}/ contained
+highlight default link ttmWord14_1 ttmName
+syntax match ttmLine15 /\v^%(move) [a-z][a-z0-9]{0,7} %(sys|tt|vram)$/ contains=ttmWord15_0
+syntax match ttmWord15_0 /\v%(move)/ contained nextgroup=ttmWord15_1 skipwhite
+highlight default link ttmWord15_0 ttmKeyword
+syntax match ttmWord15_1 /\v[a-z][a-z0-9]{0,7}/ contained nextgroup=ttmWord15_2 skipwhite
+highlight default link ttmWord15_1 ttmName
+syntax match ttmWord15_2 /\v%(sys|tt|vram)/ contained
+highlight default link ttmWord15_2 ttmKeyword
+syntax match ttmLine16 /\v^%(write) [a-z][a-z0-9]{0,7} [0-9]+ %([0-9a-f][0-9a-f])+$/ contains=ttmWord16_0
+syntax match ttmWord16_0 /\v%(write)/ contained nextgroup=ttmWord16_1 skipwhite
+highlight default link ttmWord16_0 ttmKeyword
+syntax match ttmWord16_1 /\v[a-z][a-z0-9]{0,7}/ contained nextgroup=ttmWord16_2 skipwhite
+highlight default link ttmWord16_1 ttmName
+syntax match ttmWord16_2 /\v[0-9]+/ contained nextgroup=ttmWord16_3 skipwhite
+highlight default link ttmWord16_2 ttmNumber
+syntax match ttmWord16_3 /\v%([0-9a-f][0-9a-f])+/ contained
+highlight default link ttmWord16_3 ttmBytes
+syntax match ttmLine17 /\v^%(read) [a-z][a-z0-9]{0,7} [0-9]+ [0-9]+$/ contains=ttmWord17_0
+syntax match ttmWord17_0 /\v%(read)/ contained nextgroup=ttmWord17_1 skipwhite
+highlight default link ttmWord17_0 ttmKeyword
+syntax match ttmWord17_1 /\v[a-z][a-z0-9]{0,7}/ contained nextgroup=ttmWord17_2 skipwhite
+highlight default link ttmWord17_1 ttmName
+syntax match ttmWord17_2 /\v[0-9]+/ contained nextgroup=ttmWord17_3 skipwhite
+highlight default link ttmWord17_2 ttmNumber
+syntax match ttmWord17_3 /\v[0-9]+/ contained
+highlight default link ttmWord17_3 ttmNumber
+syntax match ttmLine18 /\v^%(touch) [0-9]+$/ contains=ttmWord18_0
+syntax match ttmWord18_0 /\v%(touch)/ contained nextgroup=ttmWord18_1 skipwhite
+highlight default link ttmWord18_0 ttmKeyword
+syntax match ttmWord18_1 /\v[0-9]+/ contained
+highlight default link ttmWord18_1 ttmNumber
+syntax match ttmLine19 /\v^%(end)$/ contains=ttmWord19_0
+syntax match ttmWord19_0 /\v%(end)/ contained
+highlight default link ttmWord19_0 ttmKeyword
+syntax match ttmSubmit /\v^submit [0-9]+ %(%(fill) [a-z][a-z0-9]{0,7} [0-9]+ [0-9]+ [0-9a-f][0-9a-f]|%(copy) [a-z][a-z0-9]{0,7} [0-9]+ [a-z][a-z0-9]{0,7} [0-9]+ [0-9]+|%(xor) [a-z][a-z0-9]{0,7} [0-9]+ [a-z][a-z0-9]{0,7} [0-9]+ [0-9]+|%(probe) [a-z][a-z0-9]{0,7} [0-9]+ [0-9]+)%( ; %(%(fill) [a-z][a-z0-9]{0,7} [0-9]+ [0-9]+ [0-9a-f][0-9a-f]|%(copy) [a-z][a-z0-9]{0,7} [0-9]+ [a-z][a-z0-9]{0,7} [0-9]+ [0-9]+|%(xor) [a-z][a-z0-9]{0,7} [0-9]+ [a-z][a-z0-9]{0,7} [0-9]+ [0-9]+|%(probe) [a-z][a-z0-9]{0,7} [0-9]+ [0-9]+))*$/ contains=ttmSubmitWord,ttmJobWord,ttmJobEnd
+syntax match ttmSubmitWord /\v^submit/ contained nextgroup=ttmSubmitEngine skipwhite
+syntax match ttmSubmitEngine /\v[0-9]+/ contained nextgroup=ttmJob0_0,ttmJob1_0,ttmJob2_0,ttmJob3_0 skipwhite
+syntax match ttmJobEnd /;/ contained nextgroup=ttmJob0_0,ttmJob1_0,ttmJob2_0,ttmJob3_0 skipwhite
+highlight default link ttmSubmitWord ttmKeyword
+highlight default link ttmSubmitEngine ttmNumber
+highlight default link ttmJobEnd ttmKeyword
+syntax match ttmJob0_0 /\v%(fill)/ contained nextgroup=ttmJob0_1 skipwhite
+highlight default link ttmJob0_0 ttmKeyword
+syntax match ttmJob0_1 /\v[a-z][a-z0-9]{0,7}/ contained nextgroup=ttmJob0_2 skipwhite
+highlight default link ttmJob0_1 ttmName
+syntax match ttmJob0_2 /\v[0-9]+/ contained nextgroup=ttmJob0_3 skipwhite
+highlight default link ttmJob0_2 ttmNumber
+syntax match ttmJob0_3 /\v[0-9]+/ contained nextgroup=ttmJob0_4 skipwhite
+highlight default link ttmJob0_3 ttmNumber
+syntax match ttmJob0_4 /\v[0-9a-f][0-9a-f]/ contained nextgroup=ttmJobEnd skipwhite
+highlight default link ttmJob0_4 ttmBytes
+syntax match ttmJob1_0 /\v%(copy)/ contained nextgroup=ttmJob1_1 skipwhite
+highlight default link ttmJob1_0 ttmKeyword
+syntax match ttmJob1_1 /\v[a-z][a-z0-9]{0,7}/ contained nextgroup=ttmJob1_2 skipwhite
+highlight default link ttmJob1_1 ttmName
+syntax match ttmJob1_2 /\v[0-9]+/ contained nextgroup=ttmJob1_3 skipwhite
+highlight default link ttmJob1_2 ttmNumber
+syntax match ttmJob1_3 /\v[a-z][a-z0-9]{0,7}/ contained nextgroup=ttmJob1_4 skipwhite
+highlight default link ttmJob1_3 ttmName
+syntax match ttmJob1_4 /\v[0-9]+/ contained nextgroup=ttmJob1_5 skipwhite
+highlight default link ttmJob1_4 ttmNumber
+syntax match ttmJob1_5 /\v[0-9]+/ contained nextgroup=ttmJobEnd skipwhite
+highlight default link ttmJob1_5 ttmNumber
+syntax match ttmJob2_0 /\v%(xor)/ contained nextgroup=ttmJob2_1 skipwhite
+highlight default link ttmJob2_0 ttmKeyword
+syntax match ttmJob2_1 /\v[a-z][a-z0-9]{0,7}/ contained nextgroup=ttmJob2_2 skipwhite
+highlight default link ttmJob2_1 ttmName
+syntax match ttmJob2_2 /\v[0-9]+/ contained nextgroup=ttmJob2_3 skipwhite
+highlight default link ttmJob2_2 ttmNumber
+syntax match ttmJob2_3 /\v[a-z][a-z0-9]{0,7}/ contained nextgroup=ttmJob2_4 skipwhite
+highlight default link ttmJob2_3 ttmName
+syntax match ttmJob2_4 /\v[0-9]+/ contained nextgroup=ttmJob2_5 skipwhite
+highlight default link ttmJob2_4 ttmNumber
+syntax match ttmJob2_5 /\v[0-9]+/ contained nextgroup=ttmJobEnd skipwhite
+highlight default link ttmJob2_5 ttmNumber
+syntax match ttmJob3_0 /\v%(probe)/ contained nextgroup=ttmJob3_1 skipwhite
+highlight default link ttmJob3_0 ttmKeyword
+syntax match ttmJob3_1 /\v[a-z][a-z0-9]{0,7}/ contained nextgroup=ttmJob3_2 skipwhite
+highlight default link ttmJob3_1 ttmName
+syntax match ttmJob3_2 /\v[0-9]+/ contained nextgroup=ttmJob3_3 skipwhite
+highlight default link ttmJob3_2 ttmNumber
+syntax match ttmJob3_3 /\v[0-9]+/ contained nextgroup=ttmJobEnd skipwhite
+highlight default link ttmJob3_3 ttmNumber
+syntax match ttmSchedule /\v^schedule%( %(t[0-9]+|e[0-9]+|r))+$/ contains=ttmScheduleWord,ttmActor
+syntax match ttmScheduleWord /\v^schedule/ contained
+syntax match ttmActor /\v %(t[0-9]+|e[0-9]+|r)/hs=s+1 contained
+highlight default link ttmScheduleWord ttmKeyword
+highlight default link ttmKeyword Keyword
+highlight default link ttmNumber Number
+highlight default link ttmName Identifier
+highlight default link ttmPlaces Type
+highlight default link ttmBytes Constant
+highlight default link ttmActor Function
+highlight default link ttmError Error
+
+let b:current_syntax = "ttm"
