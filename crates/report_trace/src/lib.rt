@@ -1,0 +1,34 @@
+//! What a report says that was held, moved and done: the script and its report are read as text, and the journal is followed entry by
+//! entry. It stands on no crate of the device, so what it adds up is a second count.
+#![tactic(auto)]
+
+mod append;
+pub mod pages;
+pub mod reading;
+pub mod trace;
+pub mod words;
+
+pub use pages::{Area, Holder, Pages, Stretch};
+pub use reading::read;
+use std::alloc::{AllocError, AllocFailed};
+pub use trace::{Actor, Command, Ghost, Job, Move, Trace};
+
+/// Why a report isn't read.
+#[derive(Clone, Copy, Debug, PartialEq, Eq)]
+pub enum Fault {
+    NoMemory,
+    /// The line of this number isn't what may stand there.
+    BadLine(usize),
+}
+
+impl From<AllocError> for Fault {
+    fn from(_: AllocError) -> Fault {
+        Fault::NoMemory
+    }
+}
+
+impl<T: Drop> From<AllocFailed<T>> for Fault {
+    fn from(_: AllocFailed<T>) -> Fault {
+        Fault::NoMemory
+    }
+}
