@@ -1,19 +1,24 @@
 #!/usr/bin/env bash
-# Builds the program ttm without proving it, to be measured, and optimized as a proved one is. The kit's `rt try` makes the program's LLVM
+# Builds a program, ttm where no other is named, without proving it, to be measured or tried, and optimized as a proved one is. The kit's `rt try` makes the program's LLVM
 # module, and of it a slow program that checks itself and isn't kept; the module is kept as soon as it is there, and compiled anew. It has
 # the checks of a run that isn't proved (of an index, of a sum), so it does a little more than the proved program. It takes some minutes.
 #
-# usage: tools/build_unproved.sh FILE [FLAG ..]     writes FILE and FILE.bc; a FLAG goes to clang, as `-mllvm -inline-threshold=-10000`
-#                                                   where a profile is to show each function
+# usage: tools/build_unproved.sh [--crate NAME] FILE [FLAG ..]     writes FILE and FILE.bc; a FLAG goes to clang, as
+#                                                                  `-mllvm -inline-threshold=-10000` where a profile is to show each function
 set -eu
 top=$(cd "$(dirname "$0")/.." && pwd)
 kit=$(dirname "$(rt doc)")
+crate=ttm
+if [ "$1" = --crate ]; then
+  crate=$2
+  shift 2
+fi
 file=$(realpath -m "$1")
 shift
 work=$(mktemp -d)
 trap 'rm -rf "$work"' EXIT
 
-(cd "$top/crates/ttm" && TMPDIR="$work" exec rt try -- --version) </dev/null >"$work/log" 2>&1 &
+(cd "$top/crates/$crate" && TMPDIR="$work" exec rt try -- --version) </dev/null >"$work/log" 2>&1 &
 try=$!
 module=
 while [ -z "$module" ]; do # a small one is the kit's own; where there is an object, the compiler has begun and the module is whole

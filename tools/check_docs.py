@@ -106,7 +106,7 @@ class Index:
         names = self.specs[crate][path.stem]
         for line in path.read_text().splitlines():
             self.words.update(re.findall(WORD, line.split("--")[0]))
-            named = re.match(r"\s*(?:abbrev )?(?:pub )?(?:record |data |abbrev )?(" + WORD + r")\b.*:", line)
+            named = re.match(r"\s*(?:abbrev |unfoldable )?(?:pub )?(?:record |data |abbrev )?(" + WORD + r")\b.*:", line)
             if named and not line.startswith("use "):
                 names.add(named[1])
 

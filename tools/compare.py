@@ -6,7 +6,7 @@ usage: tools/compare.py ORACLE COUNT [FIRST_SEED]
 ORACLE is a program with the words `random SEED [--v2]` (prints a valid script), `mangle SEED` (breaks the script on its
 standard input) and `sim` (runs a script as this program does). For each seed a script of each version, and the same
 broken, go through `./ttm sim` and `ORACLE sim`; status and every byte of the output must agree. The first difference is
-printed and ends the comparison with status 1. Scripts with lines that this program doesn't read yet are left out.
+printed and ends the comparison with status 1. Build `./ttm` first (`./ttm --build`). Scripts with lines that this program doesn't read yet are left out.
 """
 import pathlib
 import subprocess

@@ -3,7 +3,7 @@
 
 usage: tools/measure_loads.py PROGRAM [--seconds N] [NAME ...]      all loads, without names
 
-PROGRAM is crates/ttm/out/ttm, which `./ttm` proves and builds, or what tools/build_unproved.sh writes. For each load and size stand
+PROGRAM is crates/ttm/out/ttm, which `./ttm --build` proves and builds, or what tools/build_unproved.sh writes. For each load and size stand
 the entries of its work, the processor seconds that they take, entries a second, instructions an entry (counted by valgrind), and
 the most memory that the run took. What only prepares a load (`--bare`) is subtracted, the start of the program too, but for
 `stores`, which is about the start. At the second size stands how many times an entry takes the instructions that it takes at the
