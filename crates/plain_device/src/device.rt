@@ -1,10 +1,11 @@
 ghost use Rattle.std.specs.Prelude.{◌≡◌, ◌↔◌, ◌+◌, ◌<◌, ◌^◌, ◌∷◌, ◌++◌, [], false, IfOk, OnOk, OnErr, Ok, IsTrue, find, length, remove};
 ghost use Rattle.journal_model.specs.ScriptRules.{is_script};
 ghost use Rattle.journal_model.specs.Complete.{is_complete};
-ghost use Rattle.journal_model.specs.Legal.{state_of};
+ghost use Rattle.journal_model.specs.Legal.{state_of, stores_of};
 ghost use Rattle.journal_model.specs.DeadEnd.{can_step};
 ghost use Rattle.journal_model.specs.Scheduled.{own_order};
 ghost use Rattle.law_sound.specs.Sound.{SomeGoesOn};
+ghost use Rattle.rules_stores.specs.Kept.{bytes_of};
 ghost use Rattle.plain_device.specs.Kept.{entry_of, with_entry, turn_of, after_turn};
 
 use crate::enact::enact;
@@ -23,6 +24,11 @@ fn take_back(journal: &mut ItemList<Entry>, at: usize)
     ensures { journal.new ≡ remove journal.old at }
 {
     journal.remove(at);
+}
+
+/// Lets a device go, with all its parts. Each crate that lets one go without this call proves how each type of its parts is dropped.
+pub fn discard(device: Device) {
+    drop(device);
 }
 
 /// A memory manager that runs a script, and the journal of what it did.
@@ -87,6 +93,13 @@ impl Device {
         ensures { result.now ≡ state_of self.now.script self.now.journal }
     {
         &self.state
+    }
+
+    /// The bytes that the entries lead to.
+    pub fn stores(&self) -> &PlainStores
+        ensures { bytes_of result.now ≡ stores_of self.now.script self.now.journal }
+    {
+        &self.stores
     }
 
     /// Every command is answered, every job is done and there is no ghost. Until then some actor has an entry.

@@ -56,7 +56,11 @@ fn enact_step(
 }
 
 /// Makes the state and the bytes those after an entry.
-pub(super) fn enact(
+///
+/// # Errors
+///
+/// Want of memory: the state stays, and so do the bytes.
+pub fn enact(
     alloc: Global,
     script: &Script,
     state: &mut State,

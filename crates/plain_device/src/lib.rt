@@ -2,7 +2,7 @@
 #![tactic(auto)]
 
 mod device;
-mod enact;
+pub mod enact;
 mod stepper;
 
-pub use device::Device;
+pub use device::{Device, discard};

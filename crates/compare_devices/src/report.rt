@@ -1,0 +1,59 @@
+use io_edge::MemSink;
+use journal_model::{Entry, Script};
+use report_text::report::{write_journal, write_outcome};
+use report_text::{Accounts, WriteFault};
+use std::alloc::Global;
+use text_line::Line;
+use ttm_base::NoMemory;
+
+/// Room for a report, in bytes.
+const ROOM: usize = 1 << 22;
+
+/// Writes the entries, results and accounts of a device.
+fn write_all_parts(
+    line: &mut Line,
+    script: &Script,
+    journal: &[Entry],
+    accounts: &Accounts,
+    sink: &mut MemSink,
+) -> Result<(), WriteFault> {
+    write_journal(line, script, journal, sink)?;
+    write_outcome(line, script, journal, accounts, sink)
+}
+
+/// The report of a device: two legal journals of a script have two reports.
+///
+/// # Errors
+///
+/// Want of memory, and more than 4 MiB.
+pub fn report_of(
+    alloc: Global,
+    script: &Script,
+    journal: &[Entry],
+    accounts: &Accounts,
+) -> Result<MemSink, NoMemory> {
+    let mut line = Line::new(alloc);
+    let mut sink = MemSink::new(alloc, ROOM, ROOM, Vec::new(alloc))?;
+    match write_all_parts(&mut line, script, journal, accounts, &mut sink) {
+        Ok(()) => Ok(sink),
+        Err(_) => Err(NoMemory),
+    }
+}
+
+/// The first line in which two texts differ, from 1.
+pub fn line_that_differs(one: &[u8], other: &[u8]) -> Option<u64> {
+    let mut line = 1u64;
+    for (here, plain) in one.iter().zip(other.iter()) {
+        if *here != *plain {
+            return Some(line);
+        }
+        if *here == b'\n' {
+            line = line.saturating_add(1);
+        }
+    }
+    if one.len() == other.len() {
+        None
+    } else {
+        Some(line)
+    }
+}
