@@ -1,0 +1,167 @@
+-- What is known of a journal that is replayed, entry by entry.
+use Rattle.std.proofs.Common.{◌≡◌, ℕ, zero, suc, ◌+◌, ◌^◌, ◌<◌, List, [], ◌∷◌, ◌++◌, length, Option, Some, None, Ok, Err, IsTrue, refl, sym, subst, ◌∙◌, ap, arith}
+use Rattle.std.specs.Prelude.{slice_get, take}
+use Rattle.std.proofs.Math.Seq.{take-length}
+use Rattle.std.proofs.lemmas.List.{length-take-le, take_more}
+use Rattle.std.proofs.lemmas.Option.{slice_get_within, get_or_from_slice_get}
+use Rattle.ttm_base.specs.declared.Actor.{Actor}
+use Rattle.ttm_base.specs.declared.Need.{Need}
+use Rattle.ttm_base.specs.Pages.{PageBytes}
+use Rattle.journal_model.specs.declared.script.Script.{Script}
+use Rattle.journal_model.specs.declared.state.State.{State}
+use Rattle.journal_model.specs.declared.entry.Entry.{Entry}
+use Rattle.journal_model.specs.declared.entry.Kind.{Kind}
+use Rattle.journal_model.specs.declared.entry.Kind.TheVariants as kind
+use Rattle.journal_model.specs.ScriptRules.{is_script}
+use Rattle.journal_model.specs.Next.{next}
+use Rattle.journal_model.specs.Apply.{apply}
+use Rattle.journal_model.specs.Stores.{Stores, zeros, within, stores_after, showing}
+use Rattle.journal_model.specs.Complete.{is_over, is_complete}
+use Rattle.journal_model.specs.Legal.{World, first_state, first_world, IsLegal, IsLegalFrom, IsLegalNext, state_of, world_of, world_after, world_along, shown_step}
+use Rattle.journal_model.specs.Verdict.{unshown, unshown_step, IsStep}
+use Rattle.law_state.proofs.Shown.{legal_step}
+use Rattle.law_state.proofs.Counted.{over_law}
+use Rattle.rules_search.specs.Room.{HasRoom}
+use Rattle.rules_apply.specs.Ready.{IsReady}
+use Rattle.rules_stores.specs.Kept.{KeptBytes, BecomesBytes, bytes_of}
+use Rattle.plain_device.specs.Kept.{entry_of}
+use Rattle.plain_device.specs.Held.{IsHeld}
+use Rattle.plain_device.proofs.ReadyLaws.{has_room}
+use Rattle.plain_device.proofs.DeviceLaws.{known, entry_is, can_apply, held_after, same_within}
+use Rattle.report_check.specs.declared.judge.Fault.{Fault}
+use Rattle.report_check.specs.declared.judge.Fault.TheVariants as fault
+use Rattle.report_check.specs.Judged.{Differs, IsFault, IsJudged, IsBadAt, IsLegalTo}
+
+-- ---- one entry
+
+-- what is shown is no part of the step
+unshown_showing : (script : Script) (stores : Stores) (s : State) (who : Actor) (k : Kind) → unshown (showing script stores s who k) ≡ unshown k
+unshown_showing script stores s who (kind.Result r) = refl
+unshown_showing script stores s who (kind.Packet n k piece) = refl
+unshown_showing script stores s who k = refl
+
+-- an entry that is legal next is its actor's step
+legal_is_step : (script : Script) (w : World) (e : Entry) → IsLegalNext script w e → IsStep script w e
+legal_is_step script w e h =
+    let l = legal_step script w e h in
+    let told : unshown e.kind ≡ unshown l.kind = ap (λ (f : Entry). unshown f.kind) l.entry ∙ unshown_showing script w.stores w.state e.who l.kind in
+    ap unshown_step l.step ∙ ap (λ (k : Kind). Ok k) (sym told)
+
+-- so with any fault it isn't legal next
+fault_is_not_legal : (script : Script) (w : World) (e : Entry) (f : Fault) → IsFault script w e f → IsLegalNext script w e → ⊥
+fault_is_not_legal script w e fault.NoStep h legal = h (legal_is_step script w e legal)
+fault_is_not_legal script w e fault.NotShown h legal = h.1 legal
+
+module _ (script : Script) (s : State) (bytes : PageBytes) (e : Entry) where
+  -- the state and the bytes
+  abbrev here : World
+  here = record { state = s; stores = bytes }
+
+  -- an actor that has no entry makes none
+  pub no_step : (need : Need) → next script s e.who ≡ Err need → IsStep script here e → ⊥
+  no_step need n h = let bad : unshown_step (Err need) ≡ Ok (unshown e.kind) = sym (ap unshown_step n) ∙ h in cc
+
+  -- the entry is judged by how it differs from the actor's
+  pub judged : (k made : Kind) (f : Option Fault) → next script s e.who ≡ Ok k → made ≡ showing script bytes s e.who k → Differs made e.kind f → IsJudged script here e f
+  judged k made None n m d = ap (shown_step script here e.who) n ∙ ap (λ (x : Kind). Ok (record { who = e.who; kind = x })) (sym m ∙ d)
+  judged k made (Some fault.NotShown) n m d = (
+    ap unshown_step n ∙ ap (λ (x : Kind). Ok x) (sym (unshown_showing script bytes s e.who k) ∙ ap unshown (sym m) ∙ d.0),
+    λ legal.
+        let both : shown_step script here e.who (Ok k) ≡ Ok e = sym (ap (shown_step script here e.who) n) ∙ legal in
+        let it : (record { who = e.who; kind = showing script bytes s e.who k }) ≡ e = cc in
+        d.1 (m ∙ ap (λ (x : Entry). x.kind) it),
+  )
+  judged k made (Some fault.NoStep) n m d = λ step.
+      let both : unshown_step (Ok k) ≡ Ok (unshown e.kind) = sym (ap unshown_step n) ∙ step in
+      let it : unshown k ≡ unshown e.kind = cc in
+      d (ap unshown m ∙ unshown_showing script bytes s e.who k ∙ it)
+
+-- ---- the entries so far
+
+-- one more
+more : (es : List Entry) (at : ℕ) (e : Entry) → slice_get es at ≡ Some e → take (at + 1) es ≡ take at es ++ e ∷ []
+more es at e h = take_more es at e (slice_get_within es at e h) ∙ ap (λ (y : Entry). take at es ++ y ∷ []) (get_or_from_slice_get es at e e h)
+
+-- each entry of a legal journal is legal next behind those before it
+legal_at : (script : Script) (w : World) (es : List Entry) (at : ℕ) (e : Entry) → slice_get es at ≡ Some e → IsLegalFrom script w es → IsLegalNext script (world_along script w (take at es)) e
+legal_at script w [] at e g h = cc
+legal_at script w (x ∷ es) zero e g h = let it : x ≡ e = cc in subst (IsLegalNext script w) it h.0
+legal_at script w (x ∷ es) (suc at) e g h = legal_at script (world_after script w x) es at e g h.1
+
+-- fewer entries than the journal has can be counted
+short_take : (es : List Entry) (at : ℕ) → at < length es → length es < 2 ^ 64 → length (take at es) + 1 < 2 ^ 64
+short_take es at h l = let e = length-take-le at es (omega (arith, h)) in omega (arith, e, h, l)
+
+module _ (script : Script) (journal : List Entry) (at : ℕ) (state : State) (stores : KeptBytes) where
+  -- what is held of the entries so far
+  abbrev pub IsHeldSoFar : Type 0
+  IsHeldSoFar = IsHeld script (take at journal) state stores.sizes (bytes_of stores)
+
+  abbrev world : World
+  world = record { state = state; stores = bytes_of stores }
+
+  world_is : IsHeldSoFar → world ≡ world_of script (take at journal)
+  world_is h =
+      ap (λ (s : State). record { state = s; stores = bytes_of stores }) h.state_is
+      ∙ ap (λ (b : PageBytes). record { state = state_of script (take at journal); stores = b }) h.bytes_are
+
+  pub room : IsHeldSoFar → at < length journal → length journal < 2 ^ 64 → HasRoom script state
+  room h less l = has_room script state (length (take at journal)) (known script (take at journal) state stores.sizes (bytes_of stores) h (short_take journal at less l))
+
+  -- a legal entry is that of the journal
+  entry_next : IsHeldSoFar → (e : Entry) → IsLegalNext script world e → entry_of (record { script = script; journal = take at journal }) e.who ≡ Ok e
+  entry_next h e legal = entry_is script (take at journal) state stores.sizes (bytes_of stores) h e.who ∙ legal
+
+  pub ready : IsHeldSoFar → at < length journal → length journal < 2 ^ 64 → (e : Entry) → IsLegalNext script world e → IsReady script state e
+  ready h less l e legal = can_apply script (take at journal) state stores.sizes (bytes_of stores) h (short_take journal at less l) e.who e (entry_next h e legal)
+
+  -- held again behind the entry
+  pub held_next : IsHeldSoFar → (e : Entry) (s : State) (new : KeptBytes) → slice_get journal at ≡ Some e → IsLegalNext script world e →
+      s ≡ apply script state e → BecomesBytes stores new (stores_after script state e.who e.kind (bytes_of stores)) → IsHeld script (take (at + 1) journal) s new.sizes (bytes_of new)
+  held_next h e s new there legal to b =
+      let bytes_is : bytes_of new ≡ within stores.sizes (stores_after script state e.who e.kind (bytes_of stores)) =
+      b.bytes_are ∙ same_within stores.sizes (stores_after script state e.who e.kind (bytes_of stores)) (bytes_of stores) h.no_more in
+      let after = held_after script (take at journal) state stores.sizes (bytes_of stores) h e.who e (entry_next h e legal) in
+      subst (λ j. IsHeld script j s new.sizes (bytes_of new)) (sym (more journal at e there))
+      (subst (λ t. IsHeld script (take at journal ++ e ∷ []) t new.sizes (bytes_of new)) (sym to)
+      (subst (λ n. IsHeld script (take at journal ++ e ∷ []) (apply script state e) n (bytes_of new)) (sym b.same_sizes)
+      (subst (λ m. IsHeld script (take at journal ++ e ∷ []) (apply script state e) stores.sizes m) (sym bytes_is) after)))
+
+  -- the first that isn't legal next
+  pub bad_at : IsHeldSoFar → (e : Entry) (number : ℕ) (f : Fault) → slice_get journal at ≡ Some e → number ≡ at + 1 → IsFault script world e f → IsBadAt script journal number f
+  bad_at h e number f there counted wrong =
+      let wrong_here : IsFault script (world_of script (take at journal)) e f = subst (λ w. IsFault script w e f) (world_is h) wrong in
+      record {
+        at = at;
+        entry = e;
+        counted = counted;
+        there = there;
+        before = h.legal;
+        fault = wrong_here;
+        not_legal = λ legal. fault_is_not_legal script (world_of script (take at journal)) e f wrong_here (legal_at script (first_world script) journal at e there legal);
+      }
+
+-- ---- all of them
+
+-- before the first
+pub held_first : (script : Script) (journal : List Entry) (state : State) (stores : KeptBytes) → IsTrue (is_script script) → state ≡ first_state script → stores.sizes ≡ script.sizes → bytes_of stores ≡ zeros →
+    IsHeld script (take 0 journal) state stores.sizes (bytes_of stores)
+held_first script journal state stores fits s z b =
+    record {
+      fits = fits;
+      legal = tt;
+      state_is = s;
+      sizes_are = z;
+      bytes_are = b;
+      no_more = λ page o h. ap (λ (f : PageBytes). f page o) b;
+    }
+
+-- behind the last
+pub legal_to : (script : Script) (journal : List Entry) (state : State) (stores : KeptBytes) → IsHeld script (take (length journal) journal) state stores.sizes (bytes_of stores) → IsLegalTo script journal state
+legal_to script journal state stores h =
+    let all = take-length journal in
+    record { legal = subst (IsLegal script) all h.legal; state = h.state_is ∙ ap (state_of script) all }
+
+-- a legal journal is complete where its state is over
+pub complete_at : (script : Script) (journal : List Entry) (state : State) → IsLegalTo script journal state → is_over script state ≡ is_complete script journal
+complete_at script journal state h = ap (is_over script) h.state ∙ over_law script journal h.legal

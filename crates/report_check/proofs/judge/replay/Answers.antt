@@ -1,0 +1,49 @@
+use Rattle.std.proofs.Common.{◌≡◌, ◌^◌, ◌<◌, length, Some, refl, subst, arith}
+use Rattle.std.specs.Prelude.{slice_get}
+use Rattle.std.proofs.lemmas.Option.{slice_get_read}
+use Rattle.law_state.proofs.Rules.{rules_of}
+use Rattle.journal_model.specs.Legal.{World}
+use Rattle.rules_stores.specs.Kept.{bytes_of}
+use Rattle.plain_device.proofs.EnactLaws.{can_store}
+use Rattle.report_check.specs.Judged.{IsJudged}
+use Rattle.report_check.proofs.ReplayLaws.{room, ready, held_next, bad_at, held_first}
+use Rattle.report_check.proofs.judge.replay.Goals as goal
+
+pub loop-at-init : goal.loop-at-init
+loop-at-init c = held_first c.args.script.now c.args.journal.now c.in_ok-state.state c.in_ok-stores.stores c.requires c.in_ok-state.ensures c.in_ok-stores.ensures.sizes c.in_ok-stores.ensures.bytes
+
+pub fault_of-requires : goal.fault_of-requires
+fault_of-requires c =
+    let less : c.loop-at.at < length c.args.journal.now = omega arith in
+    let most : length c.args.journal.now < 2 ^ 64 = omega arith in
+    room c.args.script.now c.args.journal.now c.loop-at.at c.loop-at.state c.loop-at.stores c.loop-at.invariant less most
+
+pub returns-in-Some : goal.returns-in-Some
+returns-in-Some c =
+    let less : c.loop-at.at < length c.args.journal.now = omega arith in
+    let e = c.index-journal-at.result in
+    let w : World = record { state = c.loop-at.state; stores = bytes_of c.loop-at.stores } in
+    let there : slice_get c.args.journal.now c.loop-at.at ≡ Some e = slice_get_read c.args.journal.now (length c.args.journal.now) c.loop-at.at e refl less c.index-journal-at.is in
+    bad_at c.args.script.now c.args.journal.now c.loop-at.at c.loop-at.state c.loop-at.stores c.loop-at.invariant e _ c.in-Some.fault there refl
+    (subst (IsJudged c.args.script.now w e) c.in-Some.is c.in_ok-fault.ensures)
+
+pub enact-requires-clause-ready : goal.enact-requires-clause-ready
+enact-requires-clause-ready c =
+    let less : c.loop-at.at < length c.args.journal.now = omega arith in
+    let most : length c.args.journal.now < 2 ^ 64 = omega arith in
+    let e = c.index-journal-at.result in
+    let w : World = record { state = c.loop-at.state; stores = bytes_of c.loop-at.stores } in
+    ready c.args.script.now c.args.journal.now c.loop-at.at c.loop-at.state c.loop-at.stores c.loop-at.invariant less most e
+    (subst (IsJudged c.args.script.now w e) c.in_default.is c.in_ok-fault.ensures)
+
+pub enact-requires-clause-short : goal.enact-requires-clause-short
+enact-requires-clause-short c = can_store c.args.script.now (rules_of c.args.script.now c.requires) c.loop-at.state c.index-journal-at.result.who c.index-journal-at.result.kind
+
+pub loop-at-preserved : goal.loop-at-preserved
+loop-at-preserved c =
+    let less : c.loop-at.at < length c.args.journal.now = omega arith in
+    let e = c.index-journal-at.result in
+    let w : World = record { state = c.loop-at.state; stores = bytes_of c.loop-at.stores } in
+    let there : slice_get c.args.journal.now c.loop-at.at ≡ Some e = slice_get_read c.args.journal.now (length c.args.journal.now) c.loop-at.at e refl less c.index-journal-at.is in
+    held_next c.args.script.now c.args.journal.now c.loop-at.at c.loop-at.state c.loop-at.stores c.loop-at.invariant e c.enact.new.state c.enact.new.stores there
+    (subst (IsJudged c.args.script.now w e) c.in_default.is c.in_ok-fault.ensures) c.in_ok-enact.ensures.state c.in_ok-enact.ensures.bytes

@@ -1,0 +1,11 @@
+//! Whether a report is right: whether its journal is a legal, complete one of the script, and what follows it the rest of its report.
+#![tactic(auto)]
+
+mod judge;
+mod parts;
+mod same;
+mod tail;
+
+pub use judge::{Fault, Outcome, Verdict, check, replay};
+pub use same::{same_kind, same_step};
+pub use tail::tail_is;

@@ -1,0 +1,146 @@
+//! Whether kinds of entries, and their steps, are one.
+
+ghost use Rattle.std.specs.Prelude.{◌≡◌, ◌↔◌, IsTrue};
+ghost use Rattle.journal_model.specs.declared.entry.Kind.TheVariants as kinds;
+ghost use Rattle.journal_model.specs.Verdict.{unshown};
+
+use crate::parts::{same_bytes, same_dry, same_left, same_shown, same_spans, same_why};
+use journal_model::{DryWhy, Kind, Left, Shown};
+use ttm_base::{BufId, Mem, Span};
+
+fn is_take(kind: &Kind, b: BufId, mem: Mem, spans: &[Span]) -> bool
+    ensures { IsTrue result ↔ (kinds.Take b mem spans.now ≡ kind.now) }
+{
+    match kind {
+        Kind::Take {
+            b: c,
+            mem: m,
+            spans: s,
+        } => b == *c && mem == *m && same_spans(spans, s.items()),
+        _ => false,
+    }
+}
+
+fn is_populate(kind: &Kind, b: BufId, page: u32, frame: u32) -> bool
+    ensures { IsTrue result ↔ (kinds.Populate b page frame ≡ kind.now) }
+{
+    matches!(kind, Kind::Populate { b: c, page: p, frame: f } if b == *c && page == *p && frame == *f)
+}
+
+fn is_swap_in(kind: &Kind, b: BufId, page: u32, slot: u32, frame: u32) -> bool
+    ensures { IsTrue result ↔ (kinds.SwapIn b page slot frame ≡ kind.now) }
+{
+    match kind {
+        Kind::SwapIn {
+            b: c,
+            page: p,
+            slot: s,
+            frame: f,
+        } => { b == *c && page == *p && slot == *s && frame == *f }
+        _ => false,
+    }
+}
+
+fn is_move(kind: &Kind, b: BufId, mem: Mem, num: u64, left: Left) -> bool
+    ensures { IsTrue result ↔ (kinds.Move b mem num left ≡ kind.now) }
+{
+    match kind {
+        Kind::Move {
+            b: c,
+            mem: m,
+            num: n,
+            left: l,
+        } => { b == *c && mem == *m && num == *n && same_left(left, *l) }
+        _ => false,
+    }
+}
+
+fn is_dry(kind: &Kind, b: BufId, k: u32, why: &DryWhy) -> bool
+    ensures { IsTrue result ↔ (kinds.Dry b k why.now ≡ kind.now) }
+{
+    match kind {
+        Kind::Dry { b: c, k: i, why: w } => b == *c && k == *i && same_dry(why, w),
+        _ => false,
+    }
+}
+
+fn is_swap_out(kind: &Kind, b: BufId, page: u32, slot: u32) -> bool
+    ensures { IsTrue result ↔ (kinds.SwapOut b page slot ≡ kind.now) }
+{
+    matches!(kind, Kind::SwapOut { b: c, page: p, slot: s } if b == *c && page == *p && slot == *s)
+}
+
+fn is_packet(kind: &Kind, num: u64, k: u32, piece: &[u8]) -> bool
+    ensures { IsTrue result ↔ (kinds.Packet num k piece.now ≡ kind.now) }
+{
+    match kind {
+        Kind::Packet {
+            num: n,
+            k: i,
+            piece: p,
+        } => num == *n && k == *i && same_bytes(piece, p.items()),
+        _ => false,
+    }
+}
+
+fn is_result(kind: &Kind, shown: &Shown) -> bool
+    ensures { IsTrue result ↔ (kinds.Result shown.now ≡ kind.now) }
+{
+    match kind {
+        Kind::Result { shown: s } => same_shown(shown, s),
+        _ => false,
+    }
+}
+
+/// What they do, and what they show, is one.
+pub fn same_kind(kind: &Kind, other: &Kind) -> bool
+    ensures { IsTrue result ↔ (kind.now ≡ other.now) }
+{
+    match kind {
+        Kind::Ticket { s } => matches!(other, Kind::Ticket { s: t } if s == t),
+        Kind::Reserve { b } => matches!(other, Kind::Reserve { b: c } if b == c),
+        Kind::Backoff { b, s } => matches!(other, Kind::Backoff { b: c, s: t } if b == c && s == t),
+        Kind::New { b } => matches!(other, Kind::New { b: c } if b == c),
+        Kind::Free { b, g } => matches!(other, Kind::Free { b: c, g: h } if b == c && g == h),
+        Kind::Take { b, mem, spans } => is_take(other, *b, *mem, spans.items()),
+        Kind::Untake { b, mem } =>
+            matches!(other, Kind::Untake { b: c, mem: m } if b == c && mem == m),
+        Kind::Populate { b, page, frame } => is_populate(other, *b, *page, *frame),
+        Kind::SwapIn {
+            b,
+            page,
+            slot,
+            frame,
+        } => is_swap_in(other, *b, *page, *slot, *frame),
+        Kind::Depopulate { b } => matches!(other, Kind::Depopulate { b: c } if b == c),
+        Kind::Bind { b } => matches!(other, Kind::Bind { b: c } if b == c),
+        Kind::Unbind { b } => matches!(other, Kind::Unbind { b: c } if b == c),
+        Kind::Move { b, mem, num, left } => is_move(other, *b, *mem, *num, *left),
+        Kind::Catch { b, why } =>
+            matches!(other, Kind::Catch { b: c, why: w } if b == c && same_why(*why, *w)),
+        Kind::Loose { b } => matches!(other, Kind::Loose { b: c } if b == c),
+        Kind::Skip { b } => matches!(other, Kind::Skip { b: c } if b == c),
+        Kind::Dry { b, k, why } => is_dry(other, *b, *k, why),
+        Kind::SwapOut { b, page, slot } => is_swap_out(other, *b, *page, *slot),
+        Kind::NoPages { b } => matches!(other, Kind::NoPages { b: c } if b == c),
+        Kind::Arm { engine, num } =>
+            matches!(other, Kind::Arm { engine: e, num: n } if engine == e && num == n),
+        Kind::Packet { num, k, piece } => is_packet(other, *num, *k, piece.items()),
+        Kind::Done { num } => matches!(other, Kind::Done { num: n } if num == n),
+        Kind::Reap { g } => matches!(other, Kind::Reap { g: h } if g == h),
+        Kind::Bulk { group } => matches!(other, Kind::Bulk { group: g } if group == g),
+        Kind::Result { shown } => is_result(other, shown),
+        Kind::Refused { deny } => matches!(other, Kind::Refused { deny: d } if deny == d),
+    }
+}
+
+/// What they do is one, whatever they show.
+pub fn same_step(kind: &Kind, other: &Kind) -> bool
+    ensures { IsTrue result ↔ (unshown kind.now ≡ unshown other.now) }
+{
+    match (kind, other) {
+        (Kind::Result { .. }, Kind::Result { .. }) => true,
+        (Kind::Packet { num, k, .. }, Kind::Packet { num: n, k: i, .. }) => num == n && k == i,
+        _ => same_kind(kind, other),
+    }
+}

@@ -1,0 +1,103 @@
+//! What follows the journal of a report: it is written, and compared.
+
+ghost use Rattle.std.specs.Prelude.{◌≡◌, ◌↔◌, ◌++◌, ◌∷◌, ◌<◌, ◌≤◌, [], Some, IfOk, IsTrue, MatchResult, codes, length, take};
+ghost use Rattle.std.specs.Io.KnownBytes.{append_known};
+ghost use Rattle.io_edge.specs.Faults.{faults_after};
+ghost use Rattle.io_edge.specs.Written.{Writes};
+ghost use Rattle.journal_model.specs.Legal.{state_of};
+ghost use Rattle.journal_model.specs.ReportText.{report};
+ghost use Rattle.journal_model.specs.Words.{line as line_of};
+ghost use Rattle.report_text.specs.Accounts.{AreAccountsOf};
+ghost use Rattle.report_text.specs.Parts.{journal_part, outcome_part};
+
+use crate::parts::same_bytes;
+use io_edge::{Failed, Sink, write_all};
+use journal_model::{Entry, Script, State};
+use page_accounts::accounts_of;
+use report_text::report::write_outcome;
+use report_text::{Accounts, WriteFault};
+use std::alloc::Global;
+use text_line::Line;
+use ttm_base::NoMemory;
+
+/// A text as a sink. It refuses only for want of memory.
+#[derive(Drop)]
+struct TextSink {
+    bytes: Vec<u8>,
+    faults: u64,
+}
+
+impl Sink for TextSink {
+    ghost use Rattle.std.specs.Prelude.{Some};
+
+    ghost written = { λ s. Some s.bytes.items };
+
+    ghost faults = { λ s. s.faults };
+
+    #[tactic(auto, using(crate::proofs::TailLaws::whole_piece))]
+    fn write(&mut self, piece: &[u8]) -> Result<usize, Failed> {
+        match self.bytes.extend_from_slice(piece) {
+            Ok(()) => Ok(piece.len()),
+            Err(_) => {
+                self.faults = self.faults.saturating_add(1);
+                Err(Failed)
+            }
+        }
+    }
+}
+
+/// Writes what follows the entries of a report.
+fn write_tail<K: Sink>(
+    alloc: Global,
+    script: &Script,
+    journal: &[Entry],
+    accounts: &Accounts,
+    sink: &mut K,
+) -> Result<(), WriteFault>
+    ensures { Writes result (K.written sink.old) (K.written sink.new) (outcome_part script.now journal.now accounts.now ++ line_of (codes "end" ∷ [])) }
+{
+    let mut line = Line::new(alloc);
+    write_outcome(&mut line, script, journal, accounts, sink)?;
+    write_all(sink, b"end\n")?;
+    Ok(())
+}
+
+/// What follows the entries in the report of a journal.
+fn tail_of(
+    alloc: Global,
+    script: &Script,
+    journal: &[Entry],
+    state: &State,
+) -> Result<Vec<u8>, NoMemory>
+    requires marks { script.now.marks ≡ [] }
+    requires state { state.now ≡ state_of script.now journal.now }
+    ensures { IfOk result (λ tail. journal_part script.now journal.now ++ tail.items ≡ report script.now journal.now) }
+{
+    let accounts = accounts_of(alloc, script, state)?;
+    let bytes = Vec::new(alloc);
+    let mut sink = TextSink { bytes, faults: 0 };
+    match write_tail(alloc, script, journal, &accounts, &mut sink) {
+        Ok(()) => Ok(sink.bytes),
+        Err(_) => Err(NoMemory),
+    }
+}
+
+/// Whether these bytes are what follows the entries in the report of a journal, which leads to this state.
+///
+/// # Errors
+///
+/// Want of memory.
+pub fn tail_is(
+    alloc: Global,
+    script: &Script,
+    journal: &[Entry],
+    state: &State,
+    tail: &[u8],
+) -> Result<bool, NoMemory>
+    requires marks { script.now.marks ≡ [] }
+    requires state { state.now ≡ state_of script.now journal.now }
+    ensures { IfOk result (λ is. IsTrue is ↔ (journal_part script.now journal.now ++ tail.now ≡ report script.now journal.now)) }
+{
+    let right = tail_of(alloc, script, journal, state)?;
+    Ok(same_bytes(right.as_slice(), tail))
+}
