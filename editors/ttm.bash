@@ -3,7 +3,7 @@ _ttm() {
   local word=${COMP_WORDS[COMP_CWORD]}
   local words=
   case $COMP_CWORD in
-    1) words='sim run gen explain picture stats --help --version --build' ;;
+    1) words='sim run gen check explain picture stats --help --version --build' ;;
     2)
       case ${COMP_WORDS[1]} in
         sim) words='--turns' ;;

@@ -47,7 +47,8 @@ answers 0 'ttm 0.1.0\n' --version
 answers 0 - --help
 answers 0 'gen 3\nthreads 3\ncommands 648\nresults 648\nmismatches 0\n' gen 3
 answers 7 - sim --turns 2
-for words in "" Sim "sim --turns" "sim --turns 012" "run 1" gen "gen 03" "--help sim"; do
+answers 8 'rejected: entry 0, rule 1\n' check
+for words in "" Sim "sim --turns" "sim --turns 012" "run 1" gen "gen 03" "check 1" "--help sim"; do
   answers 2 'usage\n' $words
 done
 answers 2 'usage\n' sim --turns $'\xff'
@@ -65,9 +66,17 @@ for word in sim run; do
   ends "$word of nothing" 3 'bad script: line 1, rule 3\n' $?
 done
 
+# Verdicts, on a report and on inputs of the most bytes that are looked at and of one more.
+cat "$one" "$whole" | timeout 60 "$program" check >"$work/out" 2>"$work/err"
+ends "check of a report" 0 'valid\n' $?
+{ cat "$one" "$whole"; head -c 68157440 /dev/zero; } | head -c 68157440 | timeout 60 "$program" check >"$work/out" 2>"$work/err"
+ends "check of the most bytes" 8 'rejected: entry 11, rule 6\n' $?
+{ cat "$one" "$whole"; head -c 68157440 /dev/zero; } | head -c 68157441 | timeout 60 "$program" check >"$work/out" 2>"$work/err"
+ends "check of a byte more" 8 'rejected: entry 0, rule 1\n' $?
+
 # Standard output that can't be written: a full disk, none, and a pipe that nobody reads.
 : >"$work/out"
-for words in --help --version sim run "gen 1" "sim --turns 2" Sim; do
+for words in --help --version sim run check "gen 1" "sim --turns 2" Sim; do
   timeout 60 "$program" $words <"$one" >/dev/full 2>"$work/err"
   ends "$words, full disk" 5 '' $?
   timeout 60 "$program" $words <"$one" >&- 2>"$work/err"

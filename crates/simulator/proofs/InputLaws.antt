@@ -1,5 +1,5 @@
 -- What reading gives, and what the program ends with.
-use Rattle.std.proofs.Common.{◌≡◌, ℕ, true, Some, Ok, Err, Result, Option, length, refl, ap, ◌∙◌}
+use Rattle.std.proofs.Common.{◌≡◌, ℕ, true, Some, Ok, Err, Result, Option, length, ap}
 use Rattle.std.specs.Prelude.{nat_lt, None, if◌then◌else◌}
 use Rattle.journal_model.specs.declared.script.Script.{Script}
 use Rattle.journal_model.specs.Words.{Text}

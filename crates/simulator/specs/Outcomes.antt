@@ -1,5 +1,5 @@
 -- The text that is due for an outcome, and its status.
-use Rattle.std.specs.Prelude.{ℕ, List, [], ◌∷◌, ◌++◌, codes, decimal, if◌then◌else◌}
+use Rattle.std.specs.Prelude.{ℕ, [], ◌∷◌, ◌++◌, codes, decimal, if◌then◌else◌}
 use Rattle.journal_model.specs.Words.{Text, line}
 use Rattle.journal_model.specs.Complete.{is_complete}
 use Rattle.journal_model.specs.ReportText.{report}
@@ -18,6 +18,7 @@ code_of status.ReadFault = 4
 code_of status.WriteFault = 5
 code_of status.NoMemory = 6
 code_of status.Unfinished = 7
+code_of status.Rejected = 8
 
 -- of a device that has run
 abbrev pub status_of_run : Kept → Status
@@ -35,17 +36,21 @@ status_of (outcome.Ran k turns) = status_of_run k
 -- what --help says
 abbrev pub help_text : Text
 help_text =
-    line (codes "Runs a script of a graphics memory manager, and reports each step." ∷ [])
+    line (codes "Runs a script of a graphics memory manager (TTM), and reports each step." ∷ [])
     ++ line (codes "" ∷ [])
-    ++ line (codes "ttm sim              reads a script from standard input, and writes its report" ∷ [])
-    ++ line (codes "ttm sim --turns N    the same, in at most N turns" ∷ [])
-    ++ line (codes "ttm run              runs the script on threads, one for each actor" ∷ [])
-    ++ line (codes "ttm gen N            runs a script drawn from the number N on threads, and counts what came of it" ∷ [])
+    ++ line (codes "ttm sim              reads a script from standard input, and writes its report:" ∷ [])
+    ++ line (codes "                     ttm sim < examples/one_page_eviction.ttm" ∷ [])
+    ++ line (codes "ttm sim --turns N    the same, in at most N turns: ttm sim --turns 100 < examples/one_page_eviction.ttm" ∷ [])
+    ++ line (codes "ttm run              runs the script on threads, one for each actor: ttm run < examples/eviction_to_tt.ttm" ∷ [])
+    ++ line (codes "ttm gen N            runs a script drawn from the number N on threads, and counts what came of it: ttm gen 1" ∷ [])
+    ++ line (codes "ttm check            reads a script and a report behind it, and tells whether the report is right:" ∷ [])
+    ++ line (codes "                     cat examples/one_page_eviction.ttm examples/one_page_eviction.report | ttm check" ∷ [])
     ++ line (codes "ttm --help           this text" ∷ [])
     ++ line (codes "ttm --version        the version" ∷ [])
     ++ line (codes "" ∷ [])
     ++ line (codes "The exit status is 0 (done), 2 (unknown words), 3 (the input is no script), 4 (a read failed)," ∷ [])
-    ++ line (codes "5 (a write failed), 6 (no memory) or 7 (not over after N turns)." ∷ [])
+    ++ line (codes "5 (a write failed), 6 (no memory), 7 (not over after N turns) or 8 (the report isn't right)." ∷ [])
+    ++ line (codes "Scripts and reports are described in docs/SPECIFICATION.md." ∷ [])
 
 -- names the first broken line, and on it the least broken rule
 abbrev pub bad_script_text : ℕ → ℕ → Text

@@ -1,6 +1,5 @@
 -- What is said of an outcome on the way to its status.
-use Rattle.std.specs.Prelude.{◌≡◌, [], Option, Result, Ok, Err}
-use Rattle.journal_model.specs.declared.script.Script.{Script}
+use Rattle.std.specs.Prelude.{◌≡◌, [], Result, Ok, Err}
 use Rattle.report_text.specs.declared.report.WriteFault.{WriteFault}
 use Rattle.report_text.specs.declared.report.WriteFault.TheVariants as fault
 use Rattle.simulator.specs.declared.outcome.Status.{Status}

@@ -12,5 +12,5 @@ pub use input::{Input, read_input};
 pub use law::lawful_parts;
 pub use outcome::{Outcome, Status};
 pub use sim_drive::Device;
-pub use tell::{write_outcome, write_text};
-pub use top::{sim_top, status_after};
+pub use tell::{write_bad_script, write_outcome, write_text};
+pub use top::{Told, sim_top, status_after, tell_outcome};

@@ -20,6 +20,8 @@ pub enum Status {
     NoMemory,
     /// The turns that were allowed are taken, and the journal isn't complete.
     Unfinished,
+    /// The report isn't that of a legal, complete journal.
+    Rejected,
 }
 
 impl Status {
@@ -35,6 +37,7 @@ impl Status {
             Status::WriteFault => 5,
             Status::NoMemory => 6,
             Status::Unfinished => 7,
+            Status::Rejected => 8,
         }
     }
 }

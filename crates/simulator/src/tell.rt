@@ -13,17 +13,21 @@ use sim_drive::Device;
 use std::alloc::Global;
 use ttm_base::NoMemory;
 
-const HELP: &[u8] = b"Runs a script of a graphics memory manager, and reports each step.
+const HELP: &[u8] = b"Runs a script of a graphics memory manager (TTM), and reports each step.
 
-ttm sim              reads a script from standard input, and writes its report
-ttm sim --turns N    the same, in at most N turns
-ttm run              runs the script on threads, one for each actor
-ttm gen N            runs a script drawn from the number N on threads, and counts what came of it
+ttm sim              reads a script from standard input, and writes its report:
+                     ttm sim < examples/one_page_eviction.ttm
+ttm sim --turns N    the same, in at most N turns: ttm sim --turns 100 < examples/one_page_eviction.ttm
+ttm run              runs the script on threads, one for each actor: ttm run < examples/eviction_to_tt.ttm
+ttm gen N            runs a script drawn from the number N on threads, and counts what came of it: ttm gen 1
+ttm check            reads a script and a report behind it, and tells whether the report is right:
+                     cat examples/one_page_eviction.ttm examples/one_page_eviction.report | ttm check
 ttm --help           this text
 ttm --version        the version
 
 The exit status is 0 (done), 2 (unknown words), 3 (the input is no script), 4 (a read failed),
-5 (a write failed), 6 (no memory) or 7 (not over after N turns).
+5 (a write failed), 6 (no memory), 7 (not over after N turns) or 8 (the report isn't right).
+Scripts and reports are described in docs/SPECIFICATION.md.
 ";
 
 fn bad_script_line(alloc: Global, line: u32, rule: u32) -> Result<String, NoMemory>
@@ -47,7 +51,8 @@ pub fn write_text<K: Sink>(text: &[u8], sink: &mut K) -> Result<(), WriteFault>
     Ok(())
 }
 
-fn write_bad_script<K: Sink>(
+/// Writes the line that names the first broken line of a script and the rule.
+pub fn write_bad_script<K: Sink>(
     alloc: Global,
     line: u32,
     rule: u32,

@@ -1,9 +1,11 @@
 ghost use Rattle.std.specs.Prelude.{◌≡◌, [], IfOk, IsTrue, OnErr};
 ghost use Rattle.journal_model.specs.ScriptRules.{is_script};
+ghost use Rattle.io_edge.specs.Written.{Writes};
 ghost use Rattle.command_words.specs.Forms.{form_of};
 ghost use Rattle.report_text.specs.WriteFault.{faults_after_writing};
-ghost use Rattle.simulator.specs.Edges.{Edge};
+ghost use Rattle.simulator.specs.Edges.{Edge, IsUntouched};
 ghost use Rattle.simulator.specs.Ends.{Comes, ComesSim, ComesRun, Ends};
+ghost use Rattle.simulator.specs.Outcomes.{text_of};
 ghost use Rattle.simulator.specs.Plain.{IsPlain, status_after};
 
 use crate::input::{Input, read_input};
@@ -81,6 +83,34 @@ pub fn status_after(status: Status, written: Result<(), WriteFault>) -> Status
     }
 }
 
+/// What words and source came to, and how the writing of its text ended. It has to be discarded.
+pub struct Told {
+    pub outcome: Outcome,
+    pub written: Result<(), WriteFault>,
+}
+
+/// Finds what the words and the source come to, and then writes the text of it to the sink.
+///
+/// # Errors
+///
+/// Want of memory for the outcome, be it in the midst of a run; nothing is written.
+pub fn tell_outcome<S: Source, K: Sink>(
+    alloc: Global,
+    words: &Words,
+    source: &mut S,
+    sink: &mut K,
+) -> Result<Told, NoMemory>
+    ensures comes { IfOk result (λ told. Comes (form_of words.now) (record { before = S.left source.old; after = S.left source.new; faults_before = S.faults source.old; faults_after = S.faults source.new }) told.outcome) }
+    ensures text { IfOk result (λ told. Writes told.written (K.written sink.old) (K.written sink.new) (text_of told.outcome)) }
+    ensures faults { IfOk result (λ told. K.faults sink.new ≡ faults_after_writing told.written (K.faults sink.old)) }
+    ensures source { OnErr result (S.faults source.new ≡ S.faults source.old) }
+    ensures nothing { OnErr result (IsUntouched (record { before = K.written sink.old; after = K.written sink.new; faults_before = K.faults sink.old; faults_after = K.faults sink.new })) }
+{
+    let outcome = outcome_of(alloc, words, source)?;
+    let written = write_outcome(alloc, &outcome, sink);
+    Ok(Told { outcome, written })
+}
+
 /// Does what the words ask: runs the script that the source gives, and writes the report of what it did to the sink.
 pub fn sim_top<S: Source, K: Sink>(
     alloc: Global,
@@ -92,10 +122,10 @@ pub fn sim_top<S: Source, K: Sink>(
         (record { before = S.left source.old; after = S.left source.new; faults_before = S.faults source.old; faults_after = S.faults source.new })
         (record { before = K.written sink.old; after = K.written sink.new; faults_before = K.faults sink.old; faults_after = K.faults sink.new }) result }
 {
-    match outcome_of(alloc, words, source) {
-        Ok(outcome) => {
+    match tell_outcome(alloc, words, source, sink) {
+        Ok(Told { outcome, written }) => {
             let status = outcome.status();
-            let ended = status_after(status, write_outcome(alloc, &outcome, sink));
+            let ended = status_after(status, written);
             outcome.discard();
             ended
         }

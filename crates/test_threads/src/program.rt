@@ -71,7 +71,7 @@ mismatches 0
 ";
 
 /// Words and input, the status, and what is written.
-const ROWS: [(&[&str], &str, Status, &str); 11] = [
+const ROWS: [(&[&str], &str, Status, &str); 14] = [
     (&["sim"], ONE_THREAD, Status::Done, WHOLE),
     (&["run"], ONE_THREAD, Status::Done, WHOLE),
     (
@@ -94,6 +94,19 @@ const ROWS: [(&[&str], &str, Status, &str); 11] = [
         Status::BadScript,
         "bad script: line 1, rule 4\n",
     ),
+    (
+        &["check"],
+        ONE_THREAD,
+        Status::Rejected,
+        "rejected: entry 0, rule 1\n",
+    ),
+    (
+        &["check"],
+        "ttm 1\n",
+        Status::BadScript,
+        "bad script: line 2, rule 3\n",
+    ),
+    (&["check", "1"], ONE_THREAD, Status::Usage, "usage\n"),
     (&[], ONE_THREAD, Status::Usage, "usage\n"),
     (&["run", "2"], ONE_THREAD, Status::Usage, "usage\n"),
     (&["gen"], ONE_THREAD, Status::Usage, "usage\n"),

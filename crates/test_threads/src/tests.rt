@@ -187,6 +187,19 @@ fn generated_load_on_threads(rt: HostRuntime) -> Result<(), Fail> {
     Ok(())
 }
 
+/// What a run on threads writes is valid, behind its script.
+#[test]
+fn report_of_a_run_is_valid(rt: HostRuntime) -> Result<(), Fail> {
+    let alloc = rt.alloc();
+    let mut text = generated(alloc, 1)?;
+    let (_, report) = run(&rt, alloc, &["run"], text.as_slice(), &IdleGate)?;
+    text.extend_from_slice(report.bytes())?;
+    let (status, sink) = run(&rt, alloc, &["check"], text.as_slice(), &IdleGate)?;
+    assert!(rt; status == Status::Done);
+    assert!(rt; sink.bytes() == b"valid\n".as_slice());
+    Ok(())
+}
+
 #[test]
 fn turns_of_a_generated_load(rt: HostRuntime) -> Result<(), Fail> {
     let gate = Counting::new();

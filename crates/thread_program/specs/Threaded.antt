@@ -11,6 +11,7 @@ use Rattle.command_words.specs.declared.Form.{Form}
 use Rattle.simulator.specs.declared.outcome.Status.{Status}
 use Rattle.thread_program.specs.declared.launch.Launch.{Launch}
 use Rattle.thread_program.specs.declared.launch.Launch.TheVariants as launch
+use Rattle.check_program.specs.Ends.{EndsChecked}
 use Rattle.thread_program.specs.Counted.{EndsCounted}
 use Rattle.thread_program.specs.Ran.{IsThreaded}
 
@@ -29,8 +30,9 @@ ComesThreaded source outcome.Usage = ⊥
 ComesThreaded source outcome.Help = ⊥
 ComesThreaded source outcome.Version = ⊥
 
--- how the program ends: on threads where the words ask for them, and else as the simulator
+-- how the program ends: on threads or with a verdict where the words ask for that, and else as the simulator
 abbrev pub Launched : Option Launch → Option Form → Edge → Edge → Status → Type 0
 Launched (Some launch.Run) asked source sink s = EndsWith (ComesThreaded source) source sink s
 Launched (Some (launch.Gen n)) asked source sink s = IsUntouched source × EndsCounted n sink s
+Launched (Some launch.Check) asked source sink s = EndsChecked source sink s
 Launched None asked source sink s = Ends asked source sink s

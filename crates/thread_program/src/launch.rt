@@ -4,21 +4,24 @@ ghost use Rattle.thread_program.specs.Launches.{launch_of};
 use command_words::{Words, plain_number};
 use script_words::words::is;
 
-/// What the words ask of threads.
+/// What the words ask beside the simulator.
 #[derive(Clone, Copy, PartialEq, Eq)]
 pub enum Launch {
     /// Run a script, one worker for each actor.
     Run,
     /// Draw a script from the number, and run it.
     Gen(u64),
+    /// Judge a report.
+    Check,
 }
 
-/// What the words ask of threads, if they do.
+/// What the words ask beside the simulator, if they do.
 pub fn read_launch(words: &Words) -> Option<Launch>
     ensures { result ≡ launch_of words.now }
 {
     match words.items() {
         [word] if is(word.items(), b"run") => Some(Launch::Run),
+        [word] if is(word.items(), b"check") => Some(Launch::Check),
         [word, number] if is(word.items(), b"gen") => {
             plain_number(number.items()).map(Launch::Gen)
         }

@@ -11,6 +11,7 @@ use crate::counts::write_counts;
 use crate::crowd::run_threads;
 use crate::drawn::read_drawn;
 use crate::launch::{Launch, read_launch};
+use check_program::check_top;
 use command_words::Words;
 use io_edge::{Sink, Source};
 use simulator::{
@@ -100,7 +101,7 @@ fn gen_top<R: Threads + Wait + Sync, K: Sink, G: Gate + Sync>(
     }
 }
 
-/// Does what the words ask, on threads where they ask for them.
+/// Does what the words ask, on threads where they ask for them, or with a verdict.
 pub fn ttm_top<R: Threads + Wait + Sync, S: Source, K: Sink, G: Gate + Sync>(
     rt: &R,
     alloc: Global,
@@ -116,6 +117,7 @@ pub fn ttm_top<R: Threads + Wait + Sync, S: Source, K: Sink, G: Gate + Sync>(
     match read_launch(words) {
         Some(Launch::Run) => run_top(rt, alloc, source, sink, gate),
         Some(Launch::Gen(number)) => gen_top(rt, alloc, number, sink, gate),
+        Some(Launch::Check) => check_top(alloc, source, sink),
         None => sim_top(alloc, words, source, sink),
     }
 }

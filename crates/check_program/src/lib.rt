@@ -1,0 +1,11 @@
+//! The word `check`: a script and the report behind it are read, and the verdict is written.
+#![tactic(auto)]
+
+mod finding;
+mod split;
+mod tell;
+mod top;
+
+pub use finding::{Finding, finding_in};
+pub use tell::write_finding;
+pub use top::check_top;
