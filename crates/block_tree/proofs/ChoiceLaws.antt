@@ -1,19 +1,19 @@
 -- The candidate of the choice, from what a search finds.
-use Rattle.std.proofs.Common.{◌≡◌, ℕ, zero, suc, ◌+◌, ◌-◌, ◌*◌, ◌/◌, ◌^◌, ◌<◌, ◌≤◌, inl, inr, Bool, true, false, List, [], ◌∷◌, Option, Some, None, length, get_or, filter_map, option_map, refl, ap, sym, ◌∙◌, subst, arith, if◌then◌else◌}
+use Rattle.std.proofs.Common.{◌≡◌, ℕ, zero, suc, ◌+◌, ◌-◌, ◌*◌, ◌/◌, ◌^◌, ◌<◌, ◌≤◌, inl, inr, Bool, true, false, List, [], ◌∷◌, Option, Some, None, length, get_or, filter_map, refl, ap, sym, ◌∙◌, subst, arith, if◌then◌else◌}
 use Rattle.std.specs.List.{cons_option}
 use Rattle.std.proofs.lemmas.Grind.{common_steps}
 use Rattle.std.proofs.lemmas.List.{get_or-reverse}
-use Rattle.std.proofs.Math.Nat.{div-eq_of_lt}
 use Rattle.std.proofs.lemmas.Bool.{cases_lt, cases_eq, lt-ltb, le-ltb}
 use Rattle.ttm_base.specs.ListWords.{count_from, least_by, first_least}
 use Rattle.ttm_base.specs.declared.Span.{Span}
 use Rattle.ttm_base.specs.BuddyChoice.{Candidate, candidate}
 use Rattle.ttm_base.specs.BlockStarts.{starts_of, candidate_at}
 use Rattle.ttm_base.proofs.StartLaws.{candidate_by_start}
-use Rattle.block_tree.specs.declared.request.Request.{Request}
-use Rattle.block_tree.specs.Searching.{IsIn, whole_at, HasNone, IsLeast, IsAhead, IsFirst}
-use Rattle.block_tree.proofs.Numbers.{some_pages, block_pages, in_block, from_down, down_from}
-use Rattle.block_tree.proofs.FreeLaws.{IsRoot, candidate_from, candidate_is, taken_within}
+use Rattle.block_tree.specs.Searching.{IsAhead}
+use Rattle.block_tree.specs.Pieces.{IsPiece}
+use Rattle.block_tree.proofs.Numbers.{down_from}
+use Rattle.block_tree.proofs.FreeLaws.{candidate_from}
+use Rattle.block_tree.proofs.PieceLaws.{piece_within, candidate_piece, piece_candidate}
 
 -- ---- the first of least key
 
@@ -124,68 +124,40 @@ turn_ahead false n i m h l a = omega arith
 
 -- ---- the candidate
 
--- no block of an order has more pages than there are
-pub candidate_large : (f : ℕ → Bool) (size : ℕ) (range : Span) (topdown : Bool) (k : ℕ) → size < 2 ^ k → candidate f size range topdown k ≡ None
-candidate_large f size range topdown k h =
-    candidate_by_start f size range k topdown
-    ∙ least_none (candidate_at f size range k) (starts_of topdown k size) (λ m l.
-    let e = length-starts topdown k size in
-    let z : size / 2 ^ k ≡ 0 = div-eq_of_lt h in
-    absurd (omega (arith, e, l, z)))
+none_such : (o : Option Candidate) → ((c : Candidate) → o ≡ Some c → ⊥) → o ≡ None
+none_such None h = refl
+none_such (Some c) h = absurd (h c refl)
 
-key_of : (k i : ℕ) (o : Option ℕ) (c : Candidate) → option_map (candidate_from k i) o ≡ Some c → o ≡ Some c.whole
-key_of k i None c h = absurd cc
-key_of k i (Some w) c h = ap Some (let e : candidate_from k i w ≡ c = cc in ap (λ c. c.whole) e)
+module _ (f : ℕ → Bool) (size : ℕ) (range : Span) (topdown : Bool) (k : ℕ) where
+  -- what is met in a turn
+  at_turn : (m : ℕ) (c : Candidate) → m < size / 2 ^ k → candidate_at f size range k (get_or (starts_of topdown k size) m 0) ≡ Some c → IsPiece f size range k c.whole (turn topdown (size / 2 ^ k) m)
+  at_turn m c h e = candidate_piece f size range k (turn topdown (size / 2 ^ k) m) c (sym (ap (candidate_at f size range k) (start_of topdown k size m h)) ∙ e)
 
-module _ (f : ℕ → Bool) (size o : ℕ) (ms : List ℕ) (r : Request) (root : IsRoot f size o ms) where
-  at_turn : (m : ℕ) → m < size / 2 ^ r.order
-      → candidate_at f size r.range r.order (get_or (starts_of r.topdown r.order size) m 0) ≡ option_map (candidate_from r.order (turn r.topdown (size / 2 ^ r.order) m)) (whole_at r o ms (turn r.topdown (size / 2 ^ r.order) m))
-  at_turn m h =
-      let n : ℕ = turn r.topdown (size / 2 ^ r.order) m in
-      let b = from_down size n r.order (turn_below r.topdown (size / 2 ^ r.order) m h) in
-      let s = some_pages r.order in
-      ap (candidate_at f size r.range r.order) (start_of r.topdown r.order size m h) ∙ candidate_is f size o ms r n root (omega (arith, b, s))
-
-  in_root : (n : ℕ) → n < size / 2 ^ r.order → IsIn o 0 r.order n
-  in_root n h =
-      let b = from_down size n r.order h in
-      let s = some_pages r.order in
-      let fits = root.fits in
-      in_block (n * 2 ^ r.order) o 0 (omega arith) (omega (arith, b, s, fits))
-
-  pub candidate_none : HasNone r o ms 0 → candidate f size r.range r.topdown r.order ≡ None
+  pub candidate_none : ((i w : ℕ) → IsPiece f size range k w i → ⊥) → candidate f size range topdown k ≡ None
   candidate_none none =
-      candidate_by_start f size r.range r.order r.topdown
-      ∙ least_none (candidate_at f size r.range r.order) (starts_of r.topdown r.order size) (λ m h.
-      let l : m < size / 2 ^ r.order = let e = length-starts r.topdown r.order size in omega (arith, e, h) in
-      let n : ℕ = turn r.topdown (size / 2 ^ r.order) m in
-      at_turn m l ∙ ap (option_map (candidate_from r.order n)) (none n (in_root n (turn_below r.topdown (size / 2 ^ r.order) m l))))
+      candidate_by_start f size range k topdown
+      ∙ least_none (candidate_at f size range k) (starts_of topdown k size) (λ m h.
+      let l : m < size / 2 ^ k = let e = length-starts topdown k size in omega (arith, e, h) in
+      none_such (candidate_at f size range k (get_or (starts_of topdown k size) m 0)) (λ c e. none (turn topdown (size / 2 ^ k) m) c.whole (at_turn m c l e)))
 
-  pub candidate_found : (j i : ℕ) → IsLeast r o ms 0 j → IsFirst r o ms 0 j i → candidate f size r.range r.topdown r.order ≡ Some (candidate_from r.order i j)
-  candidate_found j i least first =
-      let inside : i * 2 ^ r.order < 0 * 2 ^ o + 2 ^ o = (block_pages (i * 2 ^ r.order) o 0 first.within).1 in
-      let end = taken_within f size o ms r i j root (omega arith) first.is in
-      let below : i < size / 2 ^ r.order = down_from size i r.order end in
-      let m : ℕ = turn r.topdown (size / 2 ^ r.order) i in
-      let l : m < size / 2 ^ r.order = turn_below r.topdown (size / 2 ^ r.order) i below in
-      let len = length-starts r.topdown r.order size in
-      let back : turn r.topdown (size / 2 ^ r.order) m ≡ i = turn_back r.topdown (size / 2 ^ r.order) i below in
-      candidate_by_start f size r.range r.order r.topdown
-      ∙ least_at (candidate_at f size r.range r.order) (starts_of r.topdown r.order size) m (candidate_from r.order i j) (omega (arith, l, len))
-      (at_turn m l ∙ ap (λ n. option_map (candidate_from r.order n) (whole_at r o ms n)) back ∙ ap (option_map (candidate_from r.order i)) first.is)
-      (λ t c h e. let u : t < size / 2 ^ r.order = omega (arith, len, h) in bound t c u (sym (at_turn t u) ∙ e))
-      (λ t c h e. let u : t < size / 2 ^ r.order = omega (arith, l, h) in
-      let x = sym (at_turn t u) ∙ e in
-      let b = bound t c u x in
+  pub candidate_found : (j i : ℕ) → ((m w : ℕ) → IsPiece f size range k w m → j ≤ w) → IsPiece f size range k j i → ((m : ℕ) → IsPiece f size range k j m → IsAhead topdown i m)
+      → candidate f size range topdown k ≡ Some (candidate_from k i j)
+  candidate_found j i bound is first =
+      let below : i < size / 2 ^ k = down_from size i k (piece_within f size range k j i is) in
+      let m : ℕ = turn topdown (size / 2 ^ k) i in
+      let l : m < size / 2 ^ k = turn_below topdown (size / 2 ^ k) i below in
+      let len = length-starts topdown k size in
+      let back : turn topdown (size / 2 ^ k) m ≡ i = turn_back topdown (size / 2 ^ k) i below in
+      candidate_by_start f size range k topdown
+      ∙ least_at (candidate_at f size range k) (starts_of topdown k size) m (candidate_from k i j) (omega (arith, l, len))
+      (ap (candidate_at f size range k) (start_of topdown k size m l ∙ ap (λ n. n * 2 ^ k) back) ∙ piece_candidate f size range k j i is)
+      (λ t c h e. let u : t < size / 2 ^ k = omega (arith, len, h) in bound (turn topdown (size / 2 ^ k) t) c.whole (at_turn t c u e))
+      (λ t c h e. let u : t < size / 2 ^ k = omega (arith, l, h) in
+      let x = at_turn t c u e in
+      let b = bound (turn topdown (size / 2 ^ k) t) c.whole x in
       elim (cases_eq j c.whole) [
         | inr n ↦ omega arith
         | inl s ↦
-            let n : ℕ = turn r.topdown (size / 2 ^ r.order) t in
-            let w : whole_at r o ms n ≡ Some j = key_of r.order n (whole_at r o ms n) c x ∙ ap Some (sym s) in
-            absurd (turn_ahead r.topdown (size / 2 ^ r.order) i t below h (first.first n (in_root n (turn_below r.topdown (size / 2 ^ r.order) t u)) w))
+            let w : IsPiece f size range k j (turn topdown (size / 2 ^ k) t) = subst (λ n. IsPiece f size range k n (turn topdown (size / 2 ^ k) t)) (sym s) x in
+            absurd (turn_ahead topdown (size / 2 ^ k) i t below h (first (turn topdown (size / 2 ^ k) t) w))
       ])
-    where
-      bound : (t : ℕ) (c : Candidate) → t < size / 2 ^ r.order → option_map (candidate_from r.order (turn r.topdown (size / 2 ^ r.order) t)) (whole_at r o ms (turn r.topdown (size / 2 ^ r.order) t)) ≡ Some c → j ≤ c.whole
-      bound t c u x =
-          let n : ℕ = turn r.topdown (size / 2 ^ r.order) t in
-          least.bound n c.whole (in_root n (turn_below r.topdown (size / 2 ^ r.order) t u)) (key_of r.order n (whole_at r o ms n) c x)

@@ -3,6 +3,7 @@ pub mod TreeLaws
 pub mod MarkLaws
 pub mod SearchLaws
 pub mod FreeLaws
+pub mod PieceLaws
 pub mod ChoiceLaws
 pub mod KeptLaws
 pub mod HalfLaws

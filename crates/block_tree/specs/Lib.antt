@@ -1,3 +1,4 @@
 pub mod Masks
 pub mod Searching
 pub mod FreeSet
+pub mod Pieces

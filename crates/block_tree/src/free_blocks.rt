@@ -3,6 +3,7 @@ ghost use Rattle.ttm_base.specs.BuddyChoice.{candidate};
 ghost use Rattle.ttm_base.specs.Holes.{has_page};
 ghost use Rattle.block_tree.specs.FreeSet.{is_free, HasSameBelow};
 ghost use Rattle.block_tree.specs.Masks.{nodes, is_free_in, is_marked, IsTree};
+ghost use Rattle.block_tree.specs.Pieces.{LeastWholeOf, FirstPieceOf};
 
 use crate::masks::{block_len, mark, nodes};
 use crate::request::Request;
@@ -110,6 +111,60 @@ impl FreeBlocks {
         mark(&mut self.masks, self.order, 0, span, free);
     }
 
+    /// The least order of the free blocks from which a block of an order inside a range can be split.
+    pub fn least_whole(&self, range: Span, order: u32) -> Option<u32>
+        ensures least { LeastWholeOf (is_free self.now) (length self.now) range order result }
+        ensures small { IfSome result (λ whole. whole < 32) }
+    {
+        if order > self.order {
+            return None;
+        }
+        let request = Request {
+            order,
+            range: reach_of(range, self.size, block_len(self.order)),
+            topdown: false,
+        };
+        least_order(&self.masks, self.order, 0, request)
+    }
+
+    /// The first block of an order inside a range that would be split from a free block of a second order: the lowest, or for
+    /// topdown the highest.
+    pub fn first_piece(&self, range: Span, topdown: bool, order: u32, whole: u32) -> Option<Span>
+        requires order { order ≤ whole }
+        requires whole { whole < 32 }
+        ensures first { FirstPieceOf (is_free self.now) (length self.now) range topdown order whole result }
+        ensures within { IfSome result (λ block. block.end ≤ length self.now) }
+        ensures small { IfSome result (λ block. block.end < 2 ^ 31) }
+    {
+        let request = Request {
+            order,
+            range: reach_of(range, self.size, block_len(self.order)),
+            topdown,
+        };
+        let number = first_block(&self.masks, self.order, 0, request, whole)?;
+        Some(span_of(order, number))
+    }
+
+    /// Takes the block that `first_piece` answers: it is held from then on.
+    pub fn take_piece(&mut self, range: Span, topdown: bool, order: u32, whole: u32) -> Option<Span>
+        requires order { order ≤ whole }
+        requires whole { whole < 32 }
+        ensures first { FirstPieceOf (is_free self.old) (length self.old) range topdown order whole result }
+        ensures size { length self.new ≡ length self.old }
+        ensures taken { IfSome result (λ block. (page : ℕ) → is_free self.new page ≡ is_marked block false (is_free self.old page) page) }
+        ensures none { result ≡ None → self.new ≡ self.old }
+        ensures within { IfSome result (λ block. block.end ≤ length self.old) }
+        ensures small { IfSome result (λ block. block.end < 2 ^ 31) }
+    {
+        let request = Request {
+            order,
+            range: reach_of(range, self.size, block_len(self.order)),
+            topdown,
+        };
+        let number = take_first(&mut self.masks, self.order, 0, request, whole)?;
+        Some(span_of(order, number))
+    }
+
     /// The free block of an order inside a range that is split from the smallest: among equals the lowest, or for topdown the
     /// highest.
     pub fn candidate(&self, range: Span, topdown: bool, order: u32) -> Option<Span>
@@ -119,24 +174,8 @@ impl FreeBlocks {
         ensures small { IfSome result (λ block. block.end < 2 ^ 31) }
         ensures len { IfSome result (λ block. block.end ≡ block.start + 2 ^ order) }
     {
-        if order > self.order {
-            return None;
-        }
-        let request = Request {
-            order,
-            range: reach_of(range, self.size, block_len(self.order)),
-            topdown,
-        };
-        let whole = least_order(&self.masks, self.order, 0, request)?;
-        let Some(number) = first_block(&self.masks, self.order, 0, request, whole) else {
-            unreachable!()
-        };
-        let len = block_len(order);
-        let start = number * len;
-        Some(Span {
-            start,
-            end: start + len,
-        })
+        let whole = self.least_whole(range, order)?;
+        self.first_piece(range, topdown, order, whole)
     }
 
     /// Takes the block that `candidate` answers: it is held from then on.
@@ -150,18 +189,7 @@ impl FreeBlocks {
         ensures small { IfSome result (λ block. block.end < 2 ^ 31) }
         ensures len { IfSome result (λ block. block.end ≡ block.start + 2 ^ order) }
     {
-        if order > self.order {
-            return None;
-        }
-        let request = Request {
-            order,
-            range: reach_of(range, self.size, block_len(self.order)),
-            topdown,
-        };
-        let whole = least_order(&self.masks, self.order, 0, request)?;
-        let Some(number) = take_first(&mut self.masks, self.order, 0, request, whole) else {
-            unreachable!()
-        };
-        Some(span_of(order, number))
+        let whole = self.least_whole(range, order)?;
+        self.take_piece(range, topdown, order, whole)
     }
 }

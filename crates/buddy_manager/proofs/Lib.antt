@@ -2,3 +2,5 @@ pub mod HeldLaws
 pub mod TakingLaws
 pub mod ManagedLaws
 pub mod UndoneLaws
+pub mod FindLaws
+pub mod FindingLaws

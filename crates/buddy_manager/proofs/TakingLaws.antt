@@ -1,9 +1,7 @@
 -- Blocks that are taken one after the other.
-use Rattle.std.proofs.Common.{◌≡◌, ℕ, zero, suc, ◌+◌, ◌-◌, ◌^◌, ◌<◌, ◌≤◌, ◌&&◌, ◌||◌, Bool, true, false, List, [], ◌∷◌, ◌++◌, Option, Some, None, append_assoc, length, get_or, take, pow_pos, refl, ap, sym, ◌∙◌, subst, arith, not, nat_eq, option_map, if◌then◌else◌}
+use Rattle.std.proofs.Common.{◌≡◌, ℕ, zero, suc, ◌+◌, ◌-◌, ◌^◌, ◌<◌, ◌≤◌, ◌&&◌, ◌||◌, Bool, true, false, List, [], ◌∷◌, ◌++◌, Option, Some, None, append_assoc, length, get_or, take, pow_pos, refl, ap, sym, ◌∙◌, subst, arith, not, option_map, if◌then◌else◌}
 use Rattle.std.specs.List.{list_any}
 use Rattle.std.proofs.Math.Bool.{or_assoc}
-use Rattle.std.proofs.lemmas.Bool.{eqb-true}
-use Rattle.std.proofs.lemmas.List.{append-nil}
 use Rattle.ttm_base.specs.declared.Span.{Span}
 use Rattle.ttm_base.specs.Holes.{has_page}
 use Rattle.ttm_base.specs.BuddyChoice.{Candidate, candidate, first_candidate, log2, scattered, taken_after}
@@ -205,40 +203,11 @@ can_take_first f n b pages w h s l =
 pub can_take_all : (f : ℕ → Bool) (n : ℕ) (b : Span) (k : ℕ) → b.end ≤ n → ((page : ℕ) → has_page page b ≡ true → f page ≡ true) → b.end ≡ b.start + 2 ^ k → CanTake f n b
 can_take_all f n b k w h l = let s = pow_pos k in record { some = omega arith; within = w; free = h }
 
--- ---- block after block, but for the last
+-- ---- no page is left
 
--- no order between has a candidate
-pub first_below : (at : ℕ → Option Candidate) (left orders : ℕ) → orders ≡ (if nat_eq (2 ^ log2 left) left then log2 left else log2 left + 1) → (2 ^ log2 left ≡ left → at (log2 left) ≡ None)
-    → first_candidate at orders ≡ first_candidate at (log2 left + 1)
-first_below at left orders e h = two (nat_eq (2 ^ log2 left) left) refl e where
-  two : (t : Bool) → nat_eq (2 ^ log2 left) left ≡ t → orders ≡ (if t then log2 left else log2 left + 1) → first_candidate at orders ≡ first_candidate at (log2 left + 1)
-  two true q e =
-      let back : log2 left + 1 - 1 ≡ log2 left = omega arith in
-      ap (first_candidate at) (e ∙ sym back) ∙ first_on at (log2 left + 1) (omega arith) (ap at back ∙ h (eqb-true (2 ^ log2 left) left q))
-  two false q e = ap (first_candidate at) e
-
-scattered_done : (fuel : ℕ) (f : ℕ → Bool) (size : ℕ) (range : Span) (topdown : Bool) → scattered fuel f size range topdown 0 ≡ Some []
+pub scattered_done : (fuel : ℕ) (f : ℕ → Bool) (size : ℕ) (range : Span) (topdown : Bool) → scattered fuel f size range topdown 0 ≡ Some []
 scattered_done zero f size range topdown = refl
 scattered_done (suc fuel) f size range topdown = refl
-
--- a block of all pages that are left is the last
-pub scattered_last : (fuel : ℕ) (f : ℕ → Bool) (size : ℕ) (range : Span) (topdown : Bool) (left : ℕ) (spans : List Span) (b : Span)
-    → 0 < fuel → 0 < left → option_map (λ c. c.block) (first_candidate (candidate f size range topdown) (log2 left + 1)) ≡ Some b → b.end ≡ b.start + left
-    → option_map (λ more. spans ++ more) (scattered fuel f size range topdown left) ≡ Some (spans ++ b ∷ [])
-scattered_last fuel f size range topdown left spans b some more h all =
-    let found = of_candidate (first_candidate (candidate f size range topdown) (log2 left + 1)) b h in
-    let none : left - (b.end - b.start) ≡ 0 = omega (arith, all) in
-    sym (scattered_more fuel f size range topdown left spans found.candidate some more found.is)
-    ∙ ap (λ (x : Span). option_map (λ more. (spans ++ x ∷ []) ++ more) (scattered (fuel - 1) (less f x) size range topdown (left - (x.end - x.start)))) found.block
-    ∙ ap (λ (n : ℕ). option_map (λ more. (spans ++ b ∷ []) ++ more) (scattered (fuel - 1) (less f b) size range topdown n)) none
-    ∙ ap (option_map (λ more. (spans ++ b ∷ []) ++ more)) (scattered_done (fuel - 1) (less f b) size range topdown)
-    ∙ ap Some (append-nil (spans ++ b ∷ []))
-
--- the last may be taken after the others
-pub taken_last : (before now : List Bool) (bs : List Span) (b : Span) → IsTakenBy before bs now → CanTake (is_free now) (length now) b → AreTaken (is_free before) (length before) (bs ++ b ∷ [])
-taken_last before now bs b t c =
-    taken_more (is_free before) (length before) bs b t.each
-    (subst (λ n. CanTake (beside (is_free before) bs) n b) t.size (can_take_same (is_free now) (beside (is_free before) bs) (length now) b (λ page e. sym (t.marks page) ∙ e) c))
 
 -- ---- spans that are given back together
 

@@ -7,8 +7,9 @@ ghost use Rattle.block_tree.specs.Masks.{is_marked};
 ghost use Rattle.buddy_manager.specs.Held.{AllBy};
 ghost use Rattle.buddy_manager.specs.Taking.{AreTaken, CanTake, Tells, IsTakenBy, IsSame};
 
+use crate::find::find_blocks;
 use crate::{AllocFault, BuddyFlags};
-use block_tree::{FreeBlocks, block_len};
+use block_tree::FreeBlocks;
 use ttm_base::{Span, Spans, log2, order_of};
 
 /// Takes the block of the greatest order below a bound that has one.
@@ -62,67 +63,6 @@ fn scattered(
     } else {
         Err(AllocFault::NoBlocks)
     }
-}
-
-/// The block of all the pages that are left, which ends a choice.
-fn last_block(free: &FreeBlocks, range: Span, topdown: bool, left: u32) -> Option<Span>
-    requires { 1 ≤ left }
-    ensures can { IfSome result (CanTake (is_free free.now) (length free.now)) }
-    ensures all { IfSome result (λ block. block.end ≡ block.start + left) }
-    ensures choice { IfSome result (λ block. (test : ℕ → Bool) → Tells test free.now → option_map (λ c. c.block) (words.first_candidate (words.candidate test (length free.now) range topdown) (words.log2 left + 1)) ≡ Some block) }
-    ensures none { result ≡ None → 2 ^ words.log2 left ≡ left → (test : ℕ → Bool) → Tells test free.now → words.candidate test (length free.now) range topdown (words.log2 left) ≡ None }
-{
-    let order = log2(left);
-    if block_len(order) != left {
-        return None;
-    }
-    free.candidate(range, topdown, order)
-}
-
-/// How many orders have blocks of fewer than so many pages.
-fn orders_below(pages: u32) -> u32
-    requires { 1 ≤ pages }
-    ensures value { result ≡ (if 2 ^ words.log2 pages == pages then words.log2 pages else words.log2 pages + 1) }
-    ensures less { (order : ℕ) → order < result → 2 ^ order < pages }
-{
-    let order = log2(pages);
-    if block_len(order) == pages {
-        order
-    } else {
-        order + 1
-    }
-}
-
-/// Takes block after block, but for the last, which it answers. After a refusal those that were taken stand in `out`.
-fn take_front(
-    free: &mut FreeBlocks,
-    range: Span,
-    topdown: bool,
-    pages: u32,
-    out: &mut Spans,
-) -> Result<Span, AllocFault>
-    requires empty { out.old ≡ [] }
-    requires some { 1 ≤ pages }
-    ensures taken { IsTakenBy free.old out.new free.new }
-    ensures can { IfOk result (CanTake (is_free free.new) (length free.new)) }
-    ensures ok { IfOk result (λ last. (test : ℕ → Bool) → Tells test free.old → words.scattered pages test (length free.old) range topdown pages ≡ Some (out.new ++ last ∷ [])) }
-    ensures none { result ≡ Err AllocFault.NoBlocks → (test : ℕ → Bool) → Tells test free.old → words.scattered pages test (length free.old) range topdown pages ≡ None }
-{
-    let mut left = pages;
-    for _block in 0..pages {
-        if let Some(last) = last_block(free, range, topdown, left) {
-            return Ok(last);
-        }
-        let Some(block) = take_block(free, range, topdown, orders_below(left)) else {
-            return Err(AllocFault::NoBlocks);
-        };
-        let Ok(()) = out.push(block) else {
-            free.mark(block, true);
-            return Err(AllocFault::NoMemory);
-        };
-        left -= block.end - block.start;
-    }
-    Err(AllocFault::NoBlocks)
 }
 
 /// Finds one block of the next power of two, cut to the pages.
@@ -182,13 +122,15 @@ pub fn take_spans(free: &mut FreeBlocks, spans: &[Span])
     }
 }
 
-/// Two spans that touch, as one.
+/// Two spans of which one touches or has the other, as one.
 fn joined(run: Span, span: Span) -> Option<Span>
     ensures pages { IfSome result (λ both. (page : ℕ) → has_page page both ≡ (has_page page run || has_page page span)) }
     ensures end { IfSome result (λ both. (size : ℕ) → run.end ≤ size → span.end ≤ size → both.end ≤ size) }
 {
     if run.start > run.end || span.start > span.end {
         None
+    } else if run.start <= span.start && span.end <= run.end {
+        Some(run)
     } else if run.end == span.start {
         Some(Span {
             start: run.start,
@@ -204,13 +146,23 @@ fn joined(run: Span, span: Span) -> Option<Span>
     }
 }
 
-/// Marks the pages of spans as free: those that touch one after the other in one walk.
+/// Marks the pages of spans as free.
 pub fn free_spans(free: &mut FreeBlocks, spans: &[Span])
     requires { AllBy (length free.old) spans.now }
     ensures size { length free.new ≡ length free.old }
     ensures freed { (page : ℕ) → is_free free.new page ≡ (is_free free.old page || list_any (has_page page) spans.now) }
 {
-    let mut run = Span { start: 0, end: 0 };
+    free_all(free, Span { start: 0, end: 0 }, spans);
+}
+
+/// Marks the pages of a first span and of others as free: those that touch one after the other in one walk.
+pub fn free_all(free: &mut FreeBlocks, first: Span, spans: &[Span])
+    requires first { first.end ≤ length free.old }
+    requires spans { AllBy (length free.old) spans.now }
+    ensures size { length free.new ≡ length free.old }
+    ensures freed { (page : ℕ) → is_free free.new page ≡ (is_free free.old page || (has_page page first || list_any (has_page page) spans.now)) }
+{
+    let mut run = first;
     for span in spans {
         match joined(run, *span) {
             Some(both) => run = both,
@@ -264,39 +216,6 @@ pub fn take_choice(
         Ok(()) => Ok(()),
         Err(fault) => {
             free_spans(free, out.items());
-            out.clear();
-            Err(fault)
-        }
-    }
-}
-
-/// Finds block after block. Each but the last is taken while the others are sought.
-fn find_blocks(
-    free: &mut FreeBlocks,
-    range: Span,
-    topdown: bool,
-    pages: u32,
-    out: &mut Spans,
-) -> Result<(), AllocFault>
-    requires empty { out.old ≡ [] }
-    requires some { 1 ≤ pages }
-    ensures can { OnOk result (AreTaken (is_free free.old) (length free.old) out.new) }
-    ensures same { IsSame free.old free.new }
-    ensures ok { OnOk result ((test : ℕ → Bool) → Tells test free.old → words.scattered pages test (length free.old) range topdown pages ≡ Some out.new) }
-    ensures none { result ≡ Err AllocFault.NoBlocks → (test : ℕ → Bool) → Tells test free.old → words.scattered pages test (length free.old) range topdown pages ≡ None }
-    ensures empty { OnErr result (out.new ≡ []) }
-{
-    let found = take_front(free, range, topdown, pages, out);
-    free_spans(free, out.items());
-    match found {
-        Ok(last) => {
-            let Ok(()) = out.push(last) else {
-                out.clear();
-                return Err(AllocFault::NoMemory);
-            };
-            Ok(())
-        }
-        Err(fault) => {
             out.clear();
             Err(fault)
         }

@@ -3,6 +3,7 @@
 
 mod choice;
 mod ends;
+mod find;
 mod manager;
 
 pub use manager::BuddyManager;

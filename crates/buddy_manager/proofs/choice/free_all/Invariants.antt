@@ -2,12 +2,12 @@ use Rattle.std.proofs.Common.{◌≡◌, ℕ, ◌≤◌, ◌||◌, length, take}
 use Rattle.std.specs.List.{list_any}
 use Rattle.ttm_base.specs.Holes.{has_page}
 use Rattle.block_tree.specs.FreeSet.{is_free}
-use Rattle.buddy_manager.proofs.choice.free_spans.Given as goal
+use Rattle.buddy_manager.proofs.choice.free_all.Given as goal
 
 abbrev pub invariant-loop-span : goal.invariant-loop-span
 invariant-loop-span l =
     record {
       size : length l.free ≡ length l.initial.free;
       within : l.run.end ≤ length l.initial.free;
-      freed : (page : ℕ) → (is_free l.free page || has_page page l.run) ≡ (is_free l.initial.free page || list_any (has_page page) (take l.span-index l.spans));
+      freed : (page : ℕ) → (is_free l.free page || has_page page l.run) ≡ (is_free l.initial.free page || (has_page page l.fn.first || list_any (has_page page) (take l.span-index l.spans)));
     }
