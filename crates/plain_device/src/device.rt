@@ -26,19 +26,26 @@ fn take_back(journal: &mut ItemList<Entry>, at: usize)
     journal.remove(at);
 }
 
-/// Lets a device go, with all its parts. Each crate that lets one go without this call proves how each type of its parts is dropped.
-pub fn discard(device: Device) {
-    drop(device);
-}
-
 /// A memory manager that runs a script, and the journal of what it did.
-#[derive(Drop)]
 pub struct Device {
     alloc: Global,
     script: Script,
     journal: ItemList<Entry>,
     state: State,
     stores: PlainStores,
+}
+
+/// By hand, so that no crate above has to prove how each part goes.
+impl Drop for Device {
+    fn drop(self) {
+        let Self {
+            alloc: _,
+            script: _,
+            journal: _,
+            state: _,
+            stores: _,
+        } = self;
+    }
 }
 
 impl Model for Device {

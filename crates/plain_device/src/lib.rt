@@ -5,4 +5,4 @@ mod device;
 pub mod enact;
 mod stepper;
 
-pub use device::{Device, discard};
+pub use device::Device;

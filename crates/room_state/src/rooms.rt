@@ -37,12 +37,23 @@ use std::marker::Model;
 use ttm_base::{BufId, ItemList, JobId, NoMemory, Place, Spans, Stamp, Usage};
 
 /// The whole state on its parts, seen as a script and a journal.
-#[derive(Drop)]
 pub struct Rooms {
     alloc: Global,
     script: Script,
     journal: ItemList<Entry>,
     parts: Parts,
+}
+
+/// By hand, so that no crate above has to prove how each part goes.
+impl Drop for Rooms {
+    fn drop(self) {
+        let Self {
+            alloc: _,
+            script: _,
+            journal: _,
+            parts: _,
+        } = self;
+    }
 }
 
 impl Model for Rooms {

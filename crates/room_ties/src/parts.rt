@@ -30,7 +30,6 @@ pub struct Ghost {
 pub type Ghosts = ItemQueue<Ghost>;
 
 /// All parts of the device: the only copy of what they keep.
-#[derive(Drop)]
 pub struct Parts {
     /// Buffers by declared number, how they are held, and the jobs that use them.
     pub bos: BoTable,
@@ -58,4 +57,25 @@ pub struct Parts {
     pub tickets: Tickets,
     /// The last ghost's number.
     pub last_ghost: u64,
+}
+
+/// By hand, and it only names the fields: a derived drop is proved once more in each crate that lets a value go.
+impl Drop for Parts {
+    fn drop(self) {
+        let Self {
+            bos: _,
+            line: _,
+            rings: _,
+            ghosts: _,
+            vram: _,
+            tt: _,
+            pool: _,
+            swap: _,
+            stores: _,
+            lru: _,
+            courses: _,
+            tickets: _,
+            last_ghost: _,
+        } = self;
+    }
 }

@@ -7,7 +7,6 @@ mod outcome;
 mod tell;
 mod top;
 
-pub use device_end::discard;
 pub use input::{Input, read_input};
 pub use law::lawful_parts;
 pub use outcome::{Outcome, Status};

@@ -1,7 +1,6 @@
 ghost use Rattle.std.specs.Prelude.{◌≡◌};
 ghost use Rattle.simulator.specs.Outcomes.{code_of, status_of, status_of_run};
 
-use device_end::discard;
 use sim_drive::Device;
 
 /// How a run of the program ended.
@@ -42,7 +41,8 @@ impl Status {
     }
 }
 
-/// What words and input come to, before anything is written. It has to be discarded.
+/// What words and input come to, before anything is written.
+#[derive(Drop)]
 pub enum Outcome {
     Usage,
     Help,
@@ -65,18 +65,6 @@ impl Outcome {
             Outcome::ReadFault => Status::ReadFault,
             Outcome::BadScript { .. } => Status::BadScript,
             Outcome::Ran { device, .. } => status_of_run(device),
-        }
-    }
-
-    /// Lets it go.
-    pub fn discard(self) {
-        match self {
-            Outcome::Usage => {}
-            Outcome::Help => {}
-            Outcome::Version => {}
-            Outcome::ReadFault => {}
-            Outcome::BadScript { line: _, rule: _ } => {}
-            Outcome::Ran { device, turns: _ } => discard(device),
         }
     }
 }

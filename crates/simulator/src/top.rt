@@ -12,7 +12,6 @@ use crate::input::{Input, read_input};
 use crate::outcome::{Outcome, Status};
 use crate::tell::write_outcome;
 use command_words::{Form, Words, read_words};
-use device_end::discard;
 use io_edge::{Sink, Source};
 use journal_model::Script;
 use report_text::WriteFault;
@@ -29,16 +28,9 @@ fn run_script(alloc: Global, turns: Option<u64>, script: Script) -> Result<Outco
 {
     let mut device = Device::new(alloc, script)?;
     let allowed = turns.unwrap_or(turn_limit(device.script()));
-    match drive(alloc, &mut device, allowed) {
-        Ok(turns) => {
-            let _legal = device.journal();
-            Ok(Outcome::Ran { device, turns })
-        }
-        Err(NoMemory) => {
-            discard(device);
-            Err(NoMemory)
-        }
-    }
+    let turns = drive(alloc, &mut device, allowed)?;
+    let _legal = device.journal();
+    Ok(Outcome::Ran { device, turns })
 }
 
 /// Reads a script, and runs it.
@@ -83,7 +75,8 @@ pub fn status_after(status: Status, written: Result<(), WriteFault>) -> Status
     }
 }
 
-/// What words and source came to, and how the writing of its text ended. It has to be discarded.
+/// What words and source came to, and how the writing of its text ended.
+#[derive(Drop)]
 pub struct Told {
     pub outcome: Outcome,
     pub written: Result<(), WriteFault>,
@@ -123,12 +116,7 @@ pub fn sim_top<S: Source, K: Sink>(
         (record { before = K.written sink.old; after = K.written sink.new; faults_before = K.faults sink.old; faults_after = K.faults sink.new }) result }
 {
     match tell_outcome(alloc, words, source, sink) {
-        Ok(Told { outcome, written }) => {
-            let status = outcome.status();
-            let ended = status_after(status, written);
-            outcome.discard();
-            ended
-        }
+        Ok(Told { outcome, written }) => status_after(outcome.status(), written),
         Err(NoMemory) => Status::NoMemory,
     }
 }

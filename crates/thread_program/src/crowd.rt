@@ -4,7 +4,7 @@ ghost use Rattle.thread_program.specs.Ran.{IsThreaded};
 
 use crate::actors::actors_of;
 use journal_model::Script;
-use simulator::{Device, discard};
+use simulator::Device;
 use std::alloc::Global;
 use std::sync::Wait;
 use std::thread::Threads;
@@ -36,9 +36,6 @@ pub fn run_threads<R: Threads + Wait + Sync, G: Gate + Sync>(
     let _legal = device.journal();
     match answer {
         Ok(()) => Ok(device),
-        Err(NoMemory) => {
-            discard(device);
-            Err(NoMemory)
-        }
+        Err(NoMemory) => Err(NoMemory),
     }
 }

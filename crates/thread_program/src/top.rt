@@ -14,9 +14,7 @@ use crate::launch::{Launch, read_launch};
 use check_program::check_top;
 use command_words::Words;
 use io_edge::{Sink, Source};
-use simulator::{
-    Device, Input, Outcome, Status, discard, read_input, sim_top, status_after, write_outcome,
-};
+use simulator::{Device, Input, Outcome, Status, read_input, sim_top, status_after, write_outcome};
 use std::alloc::Global;
 use std::sync::Wait;
 use std::thread::Threads;
@@ -57,12 +55,7 @@ fn run_top<R: Threads + Wait + Sync, S: Source, K: Sink, G: Gate + Sync>(
         (record { before = K.written sink.old; after = K.written sink.new; faults_before = K.faults sink.old; faults_after = K.faults sink.new }) result }
 {
     match outcome_of(rt, alloc, source, gate) {
-        Ok(outcome) => {
-            let status = outcome.status();
-            let ended = status_after(status, write_outcome(alloc, &outcome, sink));
-            outcome.discard();
-            ended
-        }
+        Ok(outcome) => { status_after(outcome.status(), write_outcome(alloc, &outcome, sink)) }
         Err(NoMemory) => Status::NoMemory,
     }
 }
@@ -92,11 +85,7 @@ fn gen_top<R: Threads + Wait + Sync, K: Sink, G: Gate + Sync>(
         (record { before = K.written sink.old; after = K.written sink.new; faults_before = K.faults sink.old; faults_after = K.faults sink.new }) result }
 {
     match run_drawn(rt, alloc, number, gate) {
-        Ok(device) => {
-            let ended = status_after(Status::Done, write_counts(alloc, number, &device, sink));
-            discard(device);
-            ended
-        }
+        Ok(device) => { status_after(Status::Done, write_counts(alloc, number, &device, sink)) }
         Err(NoMemory) => Status::NoMemory,
     }
 }

@@ -8,7 +8,7 @@ use Rattle.thread_program.proofs.top.gen_top.Goals as goal
 pub returns-in-Ok : goal.returns-in-Ok
 returns-in-Ok g c =
     let sink : Edge = record { before = g.K.Sink.written c.args.sink.now; after = g.K.Sink.written c.write_counts.new.sink; faults_before = g.K.Sink.faults c.args.sink.now; faults_after = g.K.Sink.faults c.write_counts.new.sink } in
-    subst (λ (s : Status). EndsCounted c.args.number sink s) (sym c.status_after-ended.ensures)
+    subst (λ (s : Status). EndsCounted c.args.number sink s) (sym c.status_after.ensures)
     (ends_counted c.args.number sink _ c.write_counts.result c.in-Ok.ensures c.write_counts.ensures.text c.write_counts.ensures.faults)
 
 pub returns-in-Err : goal.returns-in-Err

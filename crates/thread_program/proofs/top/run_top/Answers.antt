@@ -12,7 +12,7 @@ returns-in-Ok g c =
     let source : Edge = record { before = g.S.Source.left c.args.source.now; after = g.S.Source.left c.outcome_of.new.source; faults_before = g.S.Source.faults c.args.source.now; faults_after = g.S.Source.faults c.outcome_of.new.source } in
     let sink : Edge = record { before = g.K.Sink.written c.args.sink.now; after = g.K.Sink.written c.write_outcome.new.sink; faults_before = g.K.Sink.faults c.args.sink.now; faults_after = g.K.Sink.faults c.write_outcome.new.sink } in
     subst (λ (s : Status). EndsWith (ComesThreaded source) source sink s)
-    (sym (c.status_after-ended.ensures ∙ ap (λ s. status_after s c.write_outcome.result) c.status-status.ensures))
+    (sym (c.status_after.ensures ∙ ap (λ s. status_after s c.write_outcome.result) c.status.ensures))
     (ends_after (ComesThreaded source) source sink _ c.write_outcome.result c.in-Ok.ensures.comes c.write_outcome.ensures.text c.write_outcome.ensures.faults)
 
 pub returns-in-Err : goal.returns-in-Err
