@@ -1,7 +1,7 @@
 //! What a line's words are, by its first word.
 
 /// What a word of a line is for.
-#[derive(Clone, Copy, PartialEq, Eq)]
+#[derive(Clone, Copy)]
 pub enum Role {
     /// A word that stands for itself, or one of a few.
     Fixed,
@@ -17,13 +17,15 @@ pub enum Role {
     Bytes,
     Engine,
     Actor,
+    /// The name of an operation, or what stands between two.
+    Operation,
 }
 
 const MOST_LENGTH: u64 = 16_777_216;
 
 /// What a line with a first word looks like.
-#[derive(Clone, Copy)]
 pub struct Form {
+    first: &'static str,
     pub text: &'static str,
     /// The roles of the words behind the first.
     pub roles: &'static [Role],
@@ -31,42 +33,34 @@ pub struct Form {
     pub others: Role,
 }
 
-fn with_roles(text: &'static str, roles: &'static [Role]) -> Form {
-    Form {
-        text,
-        roles,
-        others: Role::Fixed,
-    }
-}
+const NAME: &[Role] = &[Role::Name];
 
-static NAME: [Role; 1] = [Role::Name];
+const PAGES: &[Role] = &[Role::Number(16384)];
 
-static PAGES: [Role; 1] = [Role::Number(16384)];
+const SLOTS: &[Role] = &[Role::Number(32768)];
 
-static SLOTS: [Role; 1] = [Role::Number(32768)];
+const ENGINES: &[Role] = &[Role::Number(8)];
 
-static ENGINES: [Role; 1] = [Role::Number(8)];
+const GROUP: &[Role] = &[Role::Number(15)];
 
-static GROUP: [Role; 1] = [Role::Number(15)];
+const MANAGED: &[Role] = &[Role::Fixed, Role::Number(16384)];
 
-static MANAGED: [Role; 2] = [Role::Fixed, Role::Number(16384)];
+const MOVE: &[Role] = &[Role::Name, Role::Fixed];
 
-static MOVE: [Role; 2] = [Role::Name, Role::Fixed];
+const WRITE: &[Role] = &[Role::Name, Role::Number(MOST_LENGTH), Role::Bytes];
 
-static WRITE: [Role; 3] = [Role::Name, Role::Number(MOST_LENGTH), Role::Bytes];
+const READ: &[Role] = &[Role::Name, Role::Number(MOST_LENGTH), Role::Length(256)];
 
-static READ: [Role; 3] = [Role::Name, Role::Number(MOST_LENGTH), Role::Length(256)];
+const SUBMIT: &[Role] = &[Role::Engine];
 
-static SUBMIT: [Role; 1] = [Role::Engine];
-
-static FILL: [Role; 4] = [
+const FILL: &[Role] = &[
     Role::Name,
     Role::Number(MOST_LENGTH),
     Role::Length(MOST_LENGTH),
     Role::Bytes,
 ];
 
-static COPY: [Role; 5] = [
+const COPY: &[Role] = &[
     Role::Name,
     Role::Number(MOST_LENGTH),
     Role::Name,
@@ -74,7 +68,7 @@ static COPY: [Role; 5] = [
     Role::Length(MOST_LENGTH),
 ];
 
-static BUFFER: [Role; 12] = [
+const BUFFER: &[Role] = &[
     Role::NewName,
     Role::Number(4096),
     Role::Fixed,
@@ -89,50 +83,163 @@ static BUFFER: [Role; 12] = [
     Role::Places,
 ];
 
-/// The form of a line with this first word.
-pub fn form_of(first: &str) -> Option<Form> {
-    match first {
-        "ttm" => Some(with_roles("ttm 1 or ttm 2", &[])),
-        "vram" => Some(with_roles("vram range|buddy PAGES, 0 to 16384 pages", &MANAGED)),
-        "tt" => Some(with_roles("tt PAGES, 0 to 16384", &PAGES)),
-        "frames" => Some(with_roles("frames N, 0 to 16384", &PAGES)),
-        "swap" => Some(with_roles("swap SLOTS, 0 to 32768", &SLOTS)),
-        "engines" => Some(with_roles("engines N, 0 to 8", &ENGINES)),
-        "buffer" => Some(with_roles(
-            "buffer NAME PAGES prio P group G align A, then want PLACES busy PLACES (ttm 1) or place PLACES (ttm 2); PAGES and A 1 to 4096, P 0 to 3, G - or 0 to 15",
-            &BUFFER,
-        )),
-        "new" => Some(with_roles("new NAME", &NAME)),
-        "free" => Some(with_roles("free NAME", &NAME)),
-        "pin" => Some(with_roles("pin NAME", &NAME)),
-        "unpin" => Some(with_roles("unpin NAME", &NAME)),
-        "find" => Some(with_roles("find NAME", &NAME)),
-        "swapout" => Some(with_roles("swapout NAME", &NAME)),
-        "move" => Some(with_roles("move NAME sys|tt|vram", &MOVE)),
-        "write" => Some(with_roles("write NAME OFFSET BYTES", &WRITE)),
-        "read" => Some(with_roles("read NAME OFFSET LENGTH, 1 to 256 bytes", &READ)),
-        "touch" => Some(with_roles("touch GROUP, 0 to 15", &GROUP)),
-        "submit" => Some(with_roles(
-            "submit ENGINE OPERATION ; OPERATION ..: fill NAME OFFSET LENGTH BYTE, copy or xor NAME OFFSET NAME OFFSET LENGTH, probe NAME OFFSET LENGTH",
-            &SUBMIT,
-        )),
-        "schedule" => Some(Form {
-            text: "schedule ACTOR .., 1 to 64 of them: tN, eN or r",
-            roles: &[],
-            others: Role::Actor,
-        }),
-        "thread" => Some(with_roles("thread", &[])),
-        "end" => Some(with_roles("end", &[])),
-        _ => None,
-    }
+static FORMS: [Form; 21] = [
+    Form {
+        first: "ttm",
+        text: "ttm 1 or ttm 2",
+        roles: &[],
+        others: Role::Fixed,
+    },
+    Form {
+        first: "vram",
+        text: "vram range|buddy PAGES, 0 to 16384 pages",
+        roles: MANAGED,
+        others: Role::Fixed,
+    },
+    Form {
+        first: "tt",
+        text: "tt PAGES, 0 to 16384",
+        roles: PAGES,
+        others: Role::Fixed,
+    },
+    Form {
+        first: "frames",
+        text: "frames N, 0 to 16384",
+        roles: PAGES,
+        others: Role::Fixed,
+    },
+    Form {
+        first: "swap",
+        text: "swap SLOTS, 0 to 32768",
+        roles: SLOTS,
+        others: Role::Fixed,
+    },
+    Form {
+        first: "engines",
+        text: "engines N, 0 to 8",
+        roles: ENGINES,
+        others: Role::Fixed,
+    },
+    Form {
+        first: "buffer",
+        text: "buffer NAME PAGES prio P group G align A, then want PLACES busy PLACES (ttm 1) or place PLACES (ttm 2); PAGES and A 1 to 4096, P 0 to 3, G - or 0 to 15",
+        roles: BUFFER,
+        others: Role::Fixed,
+    },
+    Form {
+        first: "new",
+        text: "new NAME",
+        roles: NAME,
+        others: Role::Fixed,
+    },
+    Form {
+        first: "free",
+        text: "free NAME",
+        roles: NAME,
+        others: Role::Fixed,
+    },
+    Form {
+        first: "pin",
+        text: "pin NAME",
+        roles: NAME,
+        others: Role::Fixed,
+    },
+    Form {
+        first: "unpin",
+        text: "unpin NAME",
+        roles: NAME,
+        others: Role::Fixed,
+    },
+    Form {
+        first: "find",
+        text: "find NAME",
+        roles: NAME,
+        others: Role::Fixed,
+    },
+    Form {
+        first: "swapout",
+        text: "swapout NAME",
+        roles: NAME,
+        others: Role::Fixed,
+    },
+    Form {
+        first: "move",
+        text: "move NAME sys|tt|vram",
+        roles: MOVE,
+        others: Role::Fixed,
+    },
+    Form {
+        first: "write",
+        text: "write NAME OFFSET BYTES",
+        roles: WRITE,
+        others: Role::Fixed,
+    },
+    Form {
+        first: "read",
+        text: "read NAME OFFSET LENGTH, 1 to 256 bytes",
+        roles: READ,
+        others: Role::Fixed,
+    },
+    Form {
+        first: "touch",
+        text: "touch GROUP, 0 to 15",
+        roles: GROUP,
+        others: Role::Fixed,
+    },
+    Form {
+        first: "submit",
+        text: "submit ENGINE OPERATION ; OPERATION ..: fill NAME OFFSET LENGTH BYTE, copy or xor NAME OFFSET NAME OFFSET LENGTH, probe NAME OFFSET LENGTH",
+        roles: SUBMIT,
+        others: Role::Operation,
+    },
+    Form {
+        first: "schedule",
+        text: "schedule ACTOR .., 1 to 64 of them: tN, eN or r",
+        roles: &[],
+        others: Role::Actor,
+    },
+    Form {
+        first: "thread",
+        text: "thread",
+        roles: &[],
+        others: Role::Fixed,
+    },
+    Form {
+        first: "end",
+        text: "end",
+        roles: &[],
+        others: Role::Fixed,
+    },
+];
+
+/// The form of a line, by its first word.
+pub fn form_of(line: &str) -> Option<&'static Form> {
+    form_among(&FORMS, line.split(' ').next()?)
 }
 
-/// The roles of the words behind an operation's name.
-pub fn roles_of_operation(name: &str) -> &'static [Role] {
-    match name {
-        "fill" => &FILL,
-        "copy" | "xor" => &COPY,
-        "probe" => &READ,
-        _ => &[],
+fn form_among(forms: &'static [Form], first: &str) -> Option<&'static Form> {
+    for form in forms {
+        if form.first == first {
+            return Some(form);
+        }
     }
+    None
+}
+
+/// The roles of the words behind the name of an operation.
+static OPERATIONS: [(&str, &[Role]); 4] = [
+    ("fill", FILL),
+    ("copy", COPY),
+    ("xor", COPY),
+    ("probe", READ),
+];
+
+/// The roles of the words behind this word of a job.
+pub fn roles_of_operation(name: &str) -> &'static [Role] {
+    for (operation, roles) in OPERATIONS.iter() {
+        if *operation == name {
+            return roles;
+        }
+    }
+    &[]
 }

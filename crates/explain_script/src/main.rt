@@ -10,8 +10,8 @@ mod place;
 mod rule;
 
 use form::form_of;
-use place::{ALIEN, known_at};
-use rule::Rule;
+use place::{ALIEN, Line};
+use rule::{Rule, Told, rule_of};
 use std::alloc::{AllocError, Global};
 use std::env;
 use std::io::Read;
@@ -25,7 +25,7 @@ const USAGE: &str =
 #[derive(Clone, Copy)]
 enum Asked {
     Help,
-    Explain(usize, Rule),
+    Explain(usize, &'static Told),
 }
 
 fn words_ask(rt: &(impl Env + Alloc)) -> Option<Asked> {
@@ -35,9 +35,9 @@ fn words_ask(rt: &(impl Env + Alloc)) -> Option<Asked> {
         return Some(Asked::Help);
     }
     let line = first.as_str().parse::<usize>().ok()?;
-    let rule = Rule::of(words.next()?.as_str().parse::<u32>().ok()?)?;
+    let told = rule_of(words.next()?.as_str().parse::<usize>().ok()?)?;
     match words.next() {
-        None => Some(Asked::Explain(line, rule)),
+        None => Some(Asked::Explain(line, told)),
         Some(_) => None,
     }
 }
@@ -52,34 +52,24 @@ fn text_of(alloc: Global, bytes: &[u8]) -> Result<String, AllocError> {
     Ok(text)
 }
 
-/// Puts the line behind a text, and below it marks its place.
-fn put_line(
-    alloc: Global,
-    script: &str,
-    number: usize,
-    rule: Rule,
-    out: &mut String,
-) -> Result<(), AllocError> {
-    let Some(line) = script.split('\n').nth(number.saturating_sub(1)) else {
-        let end = format!(in alloc; "line {number}: the input ends before it\n")?;
-        return out.push_str(end.as_str());
-    };
-    let head = format!(in alloc; "line {number}: ")?;
-    out.push_str(head.as_str())?;
-    for c in line.chars() {
+/// Puts the line behind a text that is empty, and below it marks its place.
+fn put_line(out: &mut String, rule: Rule, line: Line<'_>) -> Result<(), AllocError> {
+    let number = line.number;
+    write!(out, "line {number}: ")?;
+    let head = out.len();
+    for c in line.text.chars() {
         out.push(if c == ALIEN { '?' } else { c })?;
     }
-    out.push('\n')?;
-    if let Some(place) = known_at(alloc, script, number)?.place_of(alloc, rule, line)? {
-        for _ in 0..head.len().saturating_add(place.column) {
+    if let Some(place) = line.place_of(rule) {
+        out.push('\n')?;
+        for _ in 0..head.saturating_add(place.column) {
             out.push(' ')?;
         }
         for _ in 0..place.length {
             out.push('^')?;
         }
-        out.push('\n')?;
     }
-    Ok(())
+    out.push('\n')
 }
 
 /// Why the line of this number breaks the rule.
@@ -87,38 +77,44 @@ fn explanation(
     alloc: Global,
     script: &str,
     number: usize,
-    rule: Rule,
+    told: &Told,
 ) -> Result<String, AllocError> {
+    let Told {
+        rule,
+        broken,
+        right,
+    } = *told;
     let mut out = String::new(alloc);
-    if rule != Rule::Size {
-        put_line(alloc, script, number, rule, &mut out)?;
+    if let Rule::Size = rule {
+        write!(out, "broken: {broken}\nright: {right}\n")?;
+        return Ok(out);
     }
-    let broken = rule.broken();
-    let right = rule.right();
-    out.push_str(format!(in alloc; "broken: {broken}\nright: {right}\n")?.as_str())?;
-    if let Some(line) = script.split('\n').nth(number.saturating_sub(1)) {
-        put_form(alloc, line, rule, &mut out)?;
+    let Some(text) = script.split('\n').nth(number.saturating_sub(1)) else {
+        write!(
+            out,
+            "line {number}: the input ends before it\nbroken: {broken}\nright: {right}\n"
+        )?;
+        return Ok(out);
+    };
+    let line = Line {
+        script,
+        number,
+        text,
+    };
+    put_line(&mut out, rule, line)?;
+    write!(out, "broken: {broken}\nright: {right}\n")?;
+    if let Some(form) = form_of(text) {
+        let form = form.text;
+        write!(out, "form: {form}\n")?;
     }
     Ok(out)
-}
-
-/// Puts the form of a line behind a text, where its first word has one.
-fn put_form(alloc: Global, line: &str, rule: Rule, out: &mut String) -> Result<(), AllocError> {
-    let first = line.split(' ').next().unwrap_or("");
-    match form_of(first) {
-        Some(form) if rule != Rule::Size => {
-            let form = form.text;
-            out.push_str(format!(in alloc; "form: {form}\n")?.as_str())
-        }
-        _ => Ok(()),
-    }
 }
 
 fn main(rt: HostRuntime) -> ExitCode {
     let Some(asked) = words_ask(&rt) else {
         return ExitCode::from(2);
     };
-    let Asked::Explain(number, rule) = asked else {
+    let Asked::Explain(number, told) = asked else {
         return ExitCode::from(if rt.print(USAGE).is_ok() { 0 } else { 5 });
     };
     let mut bytes = Vec::new(rt.alloc());
@@ -129,7 +125,7 @@ fn main(rt: HostRuntime) -> ExitCode {
         rt.alloc(),
         script.as_str(),
         number,
-        rule,
+        told,
     ));
     match text {
         Ok(text) => ExitCode::from(if rt.print(text.as_str()).is_ok() {

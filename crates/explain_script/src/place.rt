@@ -2,7 +2,6 @@
 
 use crate::form::{Role, form_of, roles_of_operation};
 use crate::rule::Rule;
-use std::alloc::{AllocError, Global};
 
 /// What stands for a byte that no script has.
 pub const ALIEN: char = '\u{7f}';
@@ -14,63 +13,18 @@ pub struct Place {
     pub length: usize,
 }
 
+/// A line of a script, by its number from 1.
 #[derive(Clone, Copy)]
-struct Word<'a> {
-    text: &'a str,
-    column: usize,
-    role: Role,
-}
-
-impl Word<'_> {
-    fn place(&self) -> Place {
-        Place {
-            column: self.column,
-            length: self.text.len().max(1),
-        }
-    }
-}
-
-/// What the other lines of a script say.
-#[derive(Drop)]
-pub struct Known<'a> {
-    /// The buffers that lines above declare.
-    names: Vec<&'a str>,
-    engines: u64,
-    threads: u64,
-}
-
-/// What the lines of a script say to the one of this number.
-pub fn known_at<'a>(alloc: Global, script: &'a str, line: usize) -> Result<Known<'a>, AllocError> {
-    let mut known = Known {
-        names: Vec::new(alloc),
-        engines: 0,
-        threads: 0,
-    };
-    for (index, text) in script.split('\n').enumerate() {
-        let mut words = text.split(' ');
-        match words.next() {
-            Some("buffer") if index.saturating_add(1) < line => {
-                if let Some(name) = words.next() {
-                    known.names.push(name)?;
-                }
-            }
-            Some("engines") => known.engines = words.next().and_then(value_of).unwrap_or(0),
-            Some("thread") => known.threads = known.threads.saturating_add(1),
-            _ => {}
-        }
-    }
-    Ok(known)
+pub struct Line<'a> {
+    pub script: &'a str,
+    pub number: usize,
+    pub text: &'a str,
 }
 
 /// A number in plain decimals.
 fn value_of(word: &str) -> Option<u64> {
-    let bytes = word.as_bytes();
-    for byte in bytes {
-        if !byte.is_ascii_digit() {
-            return None;
-        }
-    }
-    if bytes.len() > 1 && word.starts_with('0') {
+    let is_padded = word.len() > 1 && word.starts_with('0');
+    if is_padded || !word.bytes().all(|byte| byte.is_ascii_digit()) {
         return None;
     }
     word.parse::<u64>().ok()
@@ -111,92 +65,90 @@ fn are_places(word: &str) -> bool {
     true
 }
 
-impl Known<'_> {
-    fn is_declared(&self, word: &str) -> bool {
-        for name in self.names.iter() {
-            if *name == word {
-                return true;
+impl Line<'_> {
+    /// A line above declares a buffer of this name.
+    fn is_declared(&self, name: &str) -> bool {
+        for line in self.script.split('\n').take(self.number.saturating_sub(1)) {
+            if let Some(rest) = line.strip_prefix("buffer ") {
+                if rest.split(' ').next() == Some(name) {
+                    return true;
+                }
             }
         }
         false
     }
 
+    /// How many engines and threads the script has.
+    fn actors(&self) -> (u64, u64) {
+        let (mut engines, mut threads) = (0u64, 0u64);
+        for line in self.script.split('\n') {
+            let mut words = line.split(' ');
+            match words.next() {
+                Some("engines") => engines = words.next().and_then(value_of).unwrap_or(0),
+                Some("thread") => threads = threads.saturating_add(1),
+                _ => {}
+            }
+        }
+        (engines, threads)
+    }
+
     fn has_actor(&self, word: &str) -> bool {
         if let Some(number) = word.strip_prefix('t') {
-            return !is_outside(1, number, self.threads);
+            return !is_outside(1, number, self.actors().1);
         }
         if let Some(number) = word.strip_prefix('e') {
-            return !is_outside(0, number, self.engines);
+            return !is_outside(0, number, self.actors().0);
         }
         word == "r"
     }
 
-    /// The word breaks the rule, if it can by itself.
-    fn is_broken(&self, rule: Rule, word: &Word<'_>) -> bool {
-        let text = word.text;
-        match (rule, word.role) {
-            (Rule::Shape, _) => text.is_empty(),
-            (Rule::Number, Role::Number(most)) => is_outside(0, text, most),
-            (Rule::Number, Role::Length(_) | Role::Engine) => value_of(text).is_none(),
-            (Rule::Name, Role::Name) => !self.is_declared(text),
-            (Rule::Name, Role::NewName) => !is_name(text) || self.is_declared(text),
-            (Rule::Place, Role::Places) => !are_places(text),
-            (Rule::Range, Role::Length(most)) => is_outside(1, text, most),
-            (Rule::Bytes, Role::Bytes) => !are_bytes(text),
-            (Rule::Existence, Role::Engine) => is_outside(1, text, self.engines),
-            (Rule::Existence, Role::Actor) => !self.has_actor(text),
+    /// A word of the line breaks the rule, if it can by itself.
+    fn is_broken(&self, rule: Rule, word: &str, role: Role) -> bool {
+        match (rule, role) {
+            (Rule::Order | Rule::Count, _) => true,
+            (Rule::Shape, _) => word.is_empty(),
+            (Rule::Number, Role::Number(most)) => is_outside(0, word, most),
+            (Rule::Number, Role::Length(_) | Role::Engine) => value_of(word).is_none(),
+            (Rule::Name, Role::Name) => !self.is_declared(word),
+            (Rule::Name, Role::NewName) => !is_name(word) || self.is_declared(word),
+            (Rule::Place, Role::Places) => !are_places(word),
+            (Rule::Range, Role::Length(most)) => is_outside(1, word, most),
+            (Rule::Bytes, Role::Bytes) => !are_bytes(word),
+            (Rule::Existence, Role::Engine) => is_outside(1, word, self.actors().0),
+            (Rule::Existence, Role::Actor) => !self.has_actor(word),
             _ => false,
         }
     }
 
-    /// Where a line breaks a rule.
-    pub fn place_of(
-        &self,
-        alloc: Global,
-        rule: Rule,
-        line: &str,
-    ) -> Result<Option<Place>, AllocError> {
-        if rule == Rule::Line {
+    /// Where the line breaks a rule.
+    pub fn place_of(&self, rule: Rule) -> Option<Place> {
+        let line = self.text;
+        if let Rule::Line = rule {
             let column = line.find(ALIEN).unwrap_or(line.len());
-            return Ok(Some(Place { column, length: 1 }));
+            return Some(Place { column, length: 1 });
         }
-        let words = words_of(alloc, line)?;
-        for word in words.iter() {
-            if rule == Rule::Order || rule == Rule::Count || self.is_broken(rule, word) {
-                return Ok(Some(word.place()));
-            }
-        }
-        Ok(None)
-    }
-}
-
-/// The words of a line, each with its role.
-fn words_of<'a>(alloc: Global, line: &'a str) -> Result<Vec<Word<'a>>, AllocError> {
-    let first = line.split(' ').next().unwrap_or("");
-    let mut words = Vec::new(alloc);
-    let mut column = 0usize;
-    let mut roles: &[Role] = &[];
-    let mut others = Role::Fixed;
-    if let Some(form) = form_of(first) {
-        roles = form.roles;
-        others = form.others;
-    }
-    for (index, text) in line.split(' ').enumerate() {
-        let role = match roles.split_first() {
-            Some((role, rest)) if index > 0 => {
-                roles = rest;
-                *role
-            }
-            _ if index > 0 => {
-                if first == "submit" {
-                    roles = roles_of_operation(text);
+        let form = form_of(line);
+        let others = form.map(|form| form.others).unwrap_or(Role::Fixed);
+        let mut roles = form.map(|form| form.roles).unwrap_or(&[]);
+        let mut column = 0usize;
+        for word in line.split(' ') {
+            let role = match roles.split_first() {
+                Some((role, rest)) if column > 0 => {
+                    roles = rest;
+                    *role
                 }
-                others
+                None if column > 0 => others,
+                _ => Role::Fixed,
+            };
+            if self.is_broken(rule, word, role) {
+                let length = word.len().max(1);
+                return Some(Place { column, length });
             }
-            _ => Role::Fixed,
-        };
-        words.push(Word { text, column, role })?;
-        column = column.saturating_add(text.len()).saturating_add(1);
+            if let Role::Operation = role {
+                roles = roles_of_operation(word);
+            }
+            column = column.saturating_add(word.len()).saturating_add(1);
+        }
+        None
     }
-    Ok(words)
 }

@@ -2,7 +2,8 @@
 
 ghost use Rattle.std.specs.Prelude.{◌≡◌, ◌<◌, ◌≤◌, ◌-◌, ◌/◌, ◌*◌, IfSome};
 
-use crate::svg::{Area, Drawing};
+use crate::svg::Drawing;
+use crate::svg::Piece::{Number, Text};
 use report_trace::{Area as Part, Trace};
 use std::alloc::{AllocError, Global};
 
@@ -70,6 +71,11 @@ impl Scale {
 
     pub fn x(self, column: usize) -> usize {
         column.saturating_mul(self.unit).saturating_add(LEFT)
+    }
+
+    /// The middle of a column.
+    pub fn middle(self, column: usize) -> usize {
+        self.x(column).saturating_add(self.unit / 2)
     }
 
     pub fn width(self) -> usize {
@@ -154,13 +160,27 @@ pub struct Layout {
     pub width: usize,
 }
 
+/// The section of an area, where it has one.
+fn section_of(sections: &[Section], part: Part) -> Option<Section> {
+    for one in sections {
+        if one.part == part {
+            return Some(*one);
+        }
+    }
+    None
+}
+
 /// How many shapes a scale asks for, at most one for each stretch, job and command, and less where a column has many.
-fn shapes(trace: &Trace<'_>, scale: Scale) -> usize {
+fn shapes(trace: &Trace<'_>, sections: &[Section], scale: Scale) -> usize {
     let mut count = 0usize;
-    for one in trace.stretches.iter() {
-        let section = Section::of(one.area, trace.pages(one.area).size(), 0);
-        if scale.shown(one.from, one.to).is_some() && section.shown(one.first, one.last).is_some() {
-            count = count.saturating_add(1);
+    for one in trace.held.stretches.iter() {
+        if let (Some(section), Some(_)) = (
+            section_of(sections, one.area),
+            scale.shown(one.from, one.to),
+        ) {
+            if section.shown(one.first, one.last).is_some() {
+                count = count.saturating_add(1);
+            }
         }
     }
     let end = trace.len().saturating_add(1);
@@ -169,7 +189,7 @@ fn shapes(trace: &Trace<'_>, scale: Scale) -> usize {
             count = count.saturating_add(1);
         }
     }
-    for one in trace.commands.iter() {
+    for one in trace.works.commands.iter() {
         if scale.shown(one.from, one.to.unwrap_or(end)).is_some() {
             count = count.saturating_add(1);
         }
@@ -178,12 +198,12 @@ fn shapes(trace: &Trace<'_>, scale: Scale) -> usize {
 }
 
 /// The scale with the fewest entries a column for which there are not too many shapes.
-fn scale_of(trace: &Trace<'_>) -> Scale {
+fn scale_of(trace: &Trace<'_>, sections: &[Section]) -> Scale {
     let entries = trace.len();
     let mut bin = entries.div_ceil(WIDE);
     for _ in 0..64 {
         let scale = Scale::of(entries, bin);
-        if bin >= entries || shapes(trace, scale) <= MOST_SHAPES {
+        if bin >= entries || shapes(trace, sections, scale) <= MOST_SHAPES {
             return scale;
         }
         bin = bin.saturating_mul(2);
@@ -199,13 +219,11 @@ static STEPS: [usize; 19] = [
 
 impl Layout {
     pub fn of(alloc: Global, trace: &Trace<'_>) -> Result<Layout, AllocError> {
-        let scale = scale_of(trace);
         let mut sections = Vec::new(alloc);
         let mut y = 26usize;
-        for part in [Part::Vram, Part::Tt, Part::Frames, Part::Swap] {
-            let size = trace.pages(part).size();
-            if size > 0 {
-                let section = Section::of(part, size, y.saturating_add(16));
+        for pages in trace.held.areas.iter() {
+            if pages.size() > 0 {
+                let section = Section::of(pages.area, pages.size(), y.saturating_add(16));
                 y = section
                     .top
                     .saturating_add(section.height())
@@ -213,13 +231,14 @@ impl Layout {
                 sections.push(section)?;
             }
         }
+        let scale = scale_of(trace, sections.as_slice());
         let engines = y.saturating_add(18);
         let lanes = trace
             .engines
             .saturating_add(1)
             .saturating_mul(ENGINE_HEIGHT);
         let threads = engines.saturating_add(lanes).saturating_add(18);
-        let axis = threads.saturating_add(trace.scripts.len().saturating_mul(THREAD_HEIGHT));
+        let axis = threads.saturating_add(trace.works.threads.len().saturating_mul(THREAD_HEIGHT));
         Ok(Layout {
             scale,
             sections,
@@ -235,16 +254,11 @@ impl Layout {
     }
 
     pub fn section(&self, part: Part) -> Option<Section> {
-        for one in self.sections.iter() {
-            if one.part == part {
-                return Some(*one);
-            }
-        }
-        None
+        section_of(self.sections.as_slice(), part)
     }
 
     /// Lines at round numbers of entries, and these numbers.
-    pub fn put_axis(&self, drawing: &mut Drawing) -> Result<(), AllocError> {
+    pub fn put_axis(&self, drawing: &mut Drawing) {
         let scale = self.scale;
         let mut step = 1_000_000usize;
         for one in STEPS.iter().rev() {
@@ -254,13 +268,11 @@ impl Layout {
         }
         for mark in 1..=(scale.entries / step.max(1)) {
             let entry = mark.saturating_mul(step);
-            let x = scale.x(scale.column(entry)).saturating_add(scale.unit / 2);
+            let x = scale.middle(scale.column(entry));
             let bottom = self.axis;
-            let path = format!(in drawing.alloc; "M{x} 42V{bottom}")?;
-            drawing.path("ax", path.as_str(), "")?;
-            let label = format!(in drawing.alloc; "{entry}")?;
-            drawing.text("n mid", x, bottom.saturating_add(11), label.as_str())?;
+            let path = [Text("M"), Number(x), Text(" 42V"), Number(bottom)];
+            drawing.path("ax", &path, &[]);
+            drawing.text("n mid", x, bottom.saturating_add(11), &[Number(entry)]);
         }
-        Ok(())
     }
 }

@@ -21,11 +21,11 @@ pub use svg::put_escaped;
 pub fn picture(alloc: Global, trace: &Trace<'_>) -> Result<String, AllocError> {
     let layout = Layout::of(alloc, trace)?;
     let mut drawing = Drawing::new(alloc);
-    put_head(&mut drawing, trace, &layout)?;
-    layout.put_axis(&mut drawing)?;
-    put_areas(&mut drawing, trace, &layout)?;
-    put_engines(&mut drawing, trace, &layout)?;
-    put_threads(&mut drawing, trace, &layout)?;
-    put_legend(&mut drawing, trace, &layout)?;
+    put_head(&mut drawing, trace, &layout);
+    layout.put_axis(&mut drawing);
+    put_areas(&mut drawing, trace, &layout);
+    put_engines(&mut drawing, trace, &layout);
+    put_threads(&mut drawing, trace, &layout);
+    put_legend(&mut drawing, trace, &layout);
     drawing.finish()
 }

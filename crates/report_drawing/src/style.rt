@@ -3,9 +3,9 @@
 ghost use Rattle.std.specs.Prelude.{◌≤◌};
 
 use crate::layout::Layout;
+use crate::svg::Piece::{self, Colour, Number, Text, Word};
 use crate::svg::{Area, Drawing};
 use report_trace::Trace;
-use std::alloc::AllocError;
 
 /// Seven hues that differ in lightness, too, so that people who don't tell red from green tell them apart: those of Okabe and Ito.
 static HUES: [[u8; 3]; 7] = [
@@ -28,8 +28,8 @@ const STYLE: &str =
 ";
 
 /// One of four lightnesses of a part of a colour: as it is, light, dark, or darker.
-fn shaded(part: u8, shade: usize) -> u16 {
-    let part = u16::from(part);
+fn shaded(part: u8, shade: usize) -> usize {
+    let part = usize::from(part);
     match shade {
         0 => part,
         1 => (part + 255) / 2,
@@ -39,47 +39,50 @@ fn shaded(part: u8, shade: usize) -> u16 {
 }
 
 /// The colour of a buffer.
-fn put_colour(out: &mut String, buffer: usize) -> Result<(), AllocError> {
+fn colour_of(buffer: usize) -> Piece<'static> {
     let shade = buffer / 7 % 4;
-    if let Some([red, green, blue]) = HUES.get(buffer % 7) {
-        let (red, green, blue) = (
+    match HUES.get(buffer % 7) {
+        Some([red, green, blue]) => Colour([
             shaded(*red, shade),
             shaded(*green, shade),
             shaded(*blue, shade),
-        );
-        write!(out, "rgb({red},{green},{blue})")?;
+        ]),
+        None => Text(""),
     }
-    Ok(())
 }
 
 /// The colour and the hatching of each buffer.
-fn put_buffers(drawing: &mut Drawing, trace: &Trace<'_>) -> Result<(), AllocError> {
-    for (buffer, _) in trace.names.iter().enumerate() {
-        let mut colour = String::new(drawing.alloc);
-        put_colour(&mut colour, buffer)?;
-        let colour = colour.as_str();
-        write!(
-            drawing.shapes,
-            ".l{buffer}{{fill:{colour};stroke:#222;stroke-width:.4}}.t{buffer}{{fill:url(#p{buffer});stroke:{colour}}}\n"
-        )?;
+fn put_buffers(drawing: &mut Drawing, buffers: usize) {
+    for buffer in 0..buffers {
+        let (colour, buffer) = (colour_of(buffer), Number(buffer));
+        drawing.put(&[
+            Text(".l"),
+            buffer,
+            Text("{fill:"),
+            colour,
+            Text(";stroke:#222;stroke-width:.4}.t"),
+            buffer,
+            Text("{fill:url(#p"),
+            buffer,
+            Text(");stroke:"),
+            colour,
+            Text("}\n"),
+        ]);
     }
-    drawing
-        .shapes
-        .push_str(".dense rect{stroke:none}</style><defs>\n")?;
-    for (buffer, _) in trace.names.iter().enumerate() {
-        let mut colour = String::new(drawing.alloc);
-        put_colour(&mut colour, buffer)?;
-        let colour = colour.as_str();
-        write!(
-            drawing.shapes,
-            "<pattern id=\"p{buffer}\" width=\"5\" height=\"5\" patternUnits=\"userSpaceOnUse\" patternTransform=\"rotate(45)\">"
-        )?;
-        write!(
-            drawing.shapes,
-            "<path d=\"M0 0h5v5h-5z\" fill=\"#fff\"/><path d=\"M0 0h2.2v5h-2.2z\" fill=\"{colour}\"/></pattern>\n"
-        )?;
+    drawing.put(&[Text(".dense rect{stroke:none}</style><defs>\n")]);
+    for buffer in 0..buffers {
+        drawing.put(&[
+            Text("<pattern id=\"p"),
+            Number(buffer),
+            Text(
+                "\" width=\"5\" height=\"5\" patternUnits=\"userSpaceOnUse\" patternTransform=\"rotate(45)\">",
+            ),
+            Text("<path d=\"M0 0h5v5h-5z\" fill=\"#fff\"/><path d=\"M0 0h2.2v5h-2.2z\" fill=\""),
+            colour_of(buffer),
+            Text("\"/></pattern>\n"),
+        ]);
     }
-    drawing.shapes.push_str("</defs>\n")
+    drawing.put(&[Text("</defs>\n")]);
 }
 
 /// How many names stand in a row of the legend.
@@ -90,87 +93,82 @@ fn names_in_row(layout: &Layout) -> usize
 }
 
 /// The beginning: size, style and heading.
-pub fn put_head(
-    drawing: &mut Drawing,
-    trace: &Trace<'_>,
-    layout: &Layout,
-) -> Result<(), AllocError> {
-    let width = layout.width;
+pub fn put_head(drawing: &mut Drawing, trace: &Trace<'_>, layout: &Layout) {
     let rows = trace.names.len().div_ceil(names_in_row(layout));
     let height = layout
         .axis
         .saturating_add(rows.saturating_mul(16))
         .saturating_add(60);
-    write!(
-        drawing.shapes,
-        "<svg xmlns=\"http://www.w3.org/2000/svg\" width=\"{width}\" height=\"{height}\" viewBox=\"0 0 {width} {height}\"><style>\n"
-    )?;
-    drawing.shapes.push_str(STYLE)?;
-    put_buffers(drawing, trace)?;
-    write!(
-        drawing.shapes,
-        "<rect width=\"{width}\" height=\"{height}\" fill=\"#fff\"/>\n"
-    )?;
-    let entries = trace.len();
-    let bin = layout.scale.bin;
-    let heading = if bin == 1 {
-        format!(in drawing.alloc; "{entries} entries, from left to right")?
+    let (width, height) = (Number(layout.width), Number(height));
+    drawing.put(&[
+        Text("<svg xmlns=\"http://www.w3.org/2000/svg\" width=\""),
+        width,
+        Text("\" height=\""),
+        height,
+        Text("\" viewBox=\"0 0 "),
+        width,
+        Text(" "),
+        height,
+        Text("\"><style>\n"),
+        Text(STYLE),
+    ]);
+    put_buffers(drawing, trace.names.len());
+    drawing.put(&[
+        Text("<rect width=\""),
+        width,
+        Text("\" height=\""),
+        height,
+        Text("\" fill=\"#fff\"/>\n"),
+    ]);
+    let entries = Number(trace.len());
+    let across = Text(" entries, from left to right");
+    if layout.scale.bin == 1 {
+        drawing.text("h", 8, 16, &[entries, across]);
     } else {
-        format!(in drawing.alloc;
-            "{entries} entries, from left to right: a column has {bin}, and shows what is held behind the last of them"
-        )?
-    };
-    drawing.text("h", 8, 16, heading.as_str())
+        let binned = [
+            entries,
+            across,
+            Text(": a column has "),
+            Number(layout.scale.bin),
+            Text(", and shows what is held behind the last of them"),
+        ];
+        drawing.text("h", 8, 16, &binned);
+    }
 }
 
-fn put_item(
-    drawing: &mut Drawing,
-    class: &str,
-    x: usize,
-    y: usize,
-    label: &str,
-) -> Result<(), AllocError> {
+fn put_item(drawing: &mut Drawing, class: &[Piece<'_>], x: usize, y: usize, label: Piece<'_>) {
     let area = Area {
         x,
         y: y.saturating_sub(9),
         width: 14,
         height: 10,
     };
-    drawing.rect(class, area, "")?;
-    drawing.text("s", x.saturating_add(18), y, label)
+    drawing.rect(class, area, &[]);
+    drawing.text("s", x.saturating_add(18), y, &[label]);
 }
 
 /// What colours and marks mean.
-pub fn put_legend(
-    drawing: &mut Drawing,
-    trace: &Trace<'_>,
-    layout: &Layout,
-) -> Result<(), AllocError> {
+pub fn put_legend(drawing: &mut Drawing, trace: &Trace<'_>, layout: &Layout) {
     let top = layout.axis.saturating_add(32);
     let in_row = names_in_row(layout);
     for (buffer, name) in trace.names.iter().enumerate() {
         let x = (buffer % in_row).saturating_mul(72).saturating_add(8);
         let y = (buffer / in_row).saturating_mul(16).saturating_add(top);
-        let class = format!(in drawing.alloc; "l{buffer}")?;
-        put_item(drawing, class.as_str(), x, y, name)?;
+        put_item(drawing, &[Text("l"), Number(buffer)], x, y, Word(name));
     }
     let rows = trace.names.len().div_ceil(in_row);
     let y = rows.saturating_mul(16).saturating_add(top);
-    put_item(drawing, "t0", 8, y, "target")?;
-    put_item(drawing, "g", 72, y, "ghost")?;
-    put_item(drawing, "free", 134, y, "free")?;
-    let middle = y.saturating_sub(4);
-    let band = format!(in drawing.alloc; "M190 {middle}h18")?;
-    drawing.path("m", band.as_str(), "")?;
-    let tip = format!(in drawing.alloc; "M212 {middle}l-6 -3v6z")?;
-    drawing.path("tip", tip.as_str(), "")?;
-    drawing.text("s", 216, y, "a move, until its copy is done")?;
-    put_item(drawing, "c", 372, y, "command")?;
-    let high = y.saturating_sub(8);
-    let backoff = format!(in drawing.alloc; "M450 {high}h8l-4 8z")?;
-    drawing.path("b", backoff.as_str(), "")?;
-    drawing.text("s", 462, y, "backoff")?;
-    let refused = format!(in drawing.alloc; "M516 {high}l6 6m0 -6l-6 6")?;
-    drawing.path("x", refused.as_str(), "")?;
-    drawing.text("s", 528, y, "refused")
+    put_item(drawing, &[Text("t0")], 8, y, Text("target"));
+    put_item(drawing, &[Text("g")], 72, y, Text("ghost"));
+    put_item(drawing, &[Text("free")], 134, y, Text("free"));
+    let middle = Number(y.saturating_sub(4));
+    drawing.path("m", &[Text("M190 "), middle, Text("h18")], &[]);
+    drawing.path("tip", &[Text("M212 "), middle, Text("l-6 -3v6z")], &[]);
+    drawing.text("s", 216, y, &[Text("a move, until its copy is done")]);
+    put_item(drawing, &[Text("c")], 372, y, Text("command"));
+    let high = Number(y.saturating_sub(8));
+    drawing.path("b", &[Text("M450 "), high, Text("h8l-4 8z")], &[]);
+    drawing.text("s", 462, y, &[Text("backoff")]);
+    drawing.path("x", &[Text("M516 "), high, Text("l6 6m0 -6l-6 6")], &[]);
+    drawing.text("s", 528, y, &[Text("refused")]);
 }

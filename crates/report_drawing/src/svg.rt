@@ -3,14 +3,28 @@
 ghost use Rattle.std.specs.Prelude.{◌≡◌, ◌++◌, OnOk, string_bytes};
 ghost use Rattle.report_drawing.specs.Escape.{escaped, escaped_byte};
 
+use self::Piece::{Colour, Number, Text, Word};
 use std::alloc::{AllocError, Global};
+
+/// A piece of a text.
+#[derive(Clone, Copy)]
+pub enum Piece<'a> {
+    /// What stands there as it is.
+    Text(&'a str),
+    /// What a script or a report says, which is escaped.
+    Word(&'a str),
+    Number(usize),
+    /// Parts of red, green and blue, of 255 at most.
+    Colour([usize; 3]),
+}
 
 /// What is drawn so far. Labels stand behind the shapes, so that no shape hides them.
 #[derive(Drop)]
 pub struct Drawing {
-    pub alloc: Global,
-    pub shapes: String,
+    shapes: String,
     labels: String,
+    /// Memory was lacking for something, and so it isn't there.
+    is_cut: bool,
 }
 
 /// A box: its corner at the top left, and its size.
@@ -47,56 +61,102 @@ pub fn put_escaped(out: &mut String, text: &str) -> Result<(), AllocError>
     Ok(())
 }
 
+/// Puts pieces behind a text.
+fn put(out: &mut String, pieces: &[Piece<'_>]) -> Result<(), AllocError> {
+    for piece in pieces {
+        match piece {
+            Text(text) => out.push_str(text)?,
+            Word(word) => put_escaped(out, word)?,
+            Number(number) => write!(out, "{number}")?,
+            Colour([red, green, blue]) => write!(out, "rgb({red},{green},{blue})")?,
+        }
+    }
+    Ok(())
+}
+
 impl Drawing {
     pub fn new(alloc: Global) -> Drawing {
         Drawing {
-            alloc,
             shapes: String::new(alloc),
             labels: String::new(alloc),
+            is_cut: false,
         }
+    }
+
+    /// Puts pieces behind the shapes.
+    pub fn put(&mut self, pieces: &[Piece<'_>]) {
+        if put(&mut self.shapes, pieces).is_err() {
+            self.is_cut = true;
+        }
+    }
+
+    /// Ends a shape, with a title.
+    fn end(&mut self, name: &str, title: &[Piece<'_>]) {
+        if title.is_empty() {
+            return self.put(&[Text("/>\n")]);
+        }
+        self.put(&[Text("><title>")]);
+        self.put(title);
+        self.put(&[Text("</title></"), Text(name), Text(">\n")]);
     }
 
     /// A box of a class, with a title.
-    pub fn rect(&mut self, class: &str, area: Area, title: &str) -> Result<(), AllocError> {
-        let Area {
-            x,
-            y,
-            width,
-            height,
-        } = area;
-        write!(
-            self.shapes,
-            "<rect class=\"{class}\" x=\"{x}\" y=\"{y}\" width=\"{width}\" height=\"{height}\""
-        )?;
-        if title == "" {
-            return self.shapes.push_str("/>\n");
-        }
-        self.shapes.push_str("><title>")?;
-        put_escaped(&mut self.shapes, title)?;
-        self.shapes.push_str("</title></rect>\n")
+    pub fn rect(&mut self, class: &[Piece<'_>], area: Area, title: &[Piece<'_>]) {
+        self.put(&[Text("<rect class=\"")]);
+        self.put(class);
+        self.put(&[
+            Text("\" x=\""),
+            Number(area.x),
+            Text("\" y=\""),
+            Number(area.y),
+            Text("\" width=\""),
+            Number(area.width),
+            Text("\" height=\""),
+            Number(area.height),
+            Text("\""),
+        ]);
+        self.end("rect", title);
     }
 
     /// A path of a class, with a title.
-    pub fn path(&mut self, class: &str, path: &str, title: &str) -> Result<(), AllocError> {
-        write!(self.shapes, "<path class=\"{class}\" d=\"{path}\"")?;
-        if title == "" {
-            return self.shapes.push_str("/>\n");
+    pub fn path(&mut self, class: &str, path: &[Piece<'_>], title: &[Piece<'_>]) {
+        self.put(&[Text("<path class=\""), Text(class), Text("\" d=\"")]);
+        self.put(path);
+        self.put(&[Text("\"")]);
+        self.end("path", title);
+    }
+
+    fn put_label(&mut self, pieces: &[Piece<'_>]) {
+        if put(&mut self.labels, pieces).is_err() {
+            self.is_cut = true;
         }
-        self.shapes.push_str("><title>")?;
-        put_escaped(&mut self.shapes, title)?;
-        self.shapes.push_str("</title></path>\n")
     }
 
     /// A text of a class at a place.
-    pub fn text(&mut self, class: &str, x: usize, y: usize, text: &str) -> Result<(), AllocError> {
-        write!(self.labels, "<text class=\"{class}\" x=\"{x}\" y=\"{y}\">")?;
-        put_escaped(&mut self.labels, text)?;
-        self.labels.push_str("</text>\n")
+    pub fn text(&mut self, class: &str, x: usize, y: usize, text: &[Piece<'_>]) {
+        self.put_label(&[
+            Text("<text class=\""),
+            Text(class),
+            Text("\" x=\""),
+            Number(x),
+            Text("\" y=\""),
+            Number(y),
+            Text("\">"),
+        ]);
+        self.put_label(text);
+        self.put_label(&[Text("</text>\n")]);
     }
 
     /// The whole text.
     pub fn finish(self) -> Result<String, AllocError> {
-        let Drawing { shapes, labels, .. } = self;
+        let Drawing {
+            shapes,
+            labels,
+            is_cut,
+        } = self;
+        if is_cut {
+            return Err(AllocError);
+        }
         let mut all = shapes;
         all.push_str(labels.as_str())?;
         all.push_str("</svg>\n")?;

@@ -1,48 +1,70 @@
-//! Draws a report: a script and behind it its report on standard input, an SVG on standard output.
+//! Shows a report, of a script and behind it its report on standard input: with the word `picture` an SVG on standard output, with
+//! `stats` what it adds up to, as text, or with `stats json` as JSON.
 //!
 //! The statuses are 0, 2 for other words, 3 where a line can't be read (`bad report: line N`, of the input), 4 and 5 where reading or
 //! writing fails, and 6 for want of memory.
 #![tactic(auto)]
 
 use report_drawing::picture;
-use report_trace::{Fault, read};
+use report_summary::{json_of, summary, text_of};
+use report_trace::{Fault, Trace, read};
 use std::alloc::{AllocError, Global};
 use std::env;
 use std::io::Read;
 use std::process::ExitCode;
 use std::rt::Env;
 
-const USAGE: &str = "usage: cat SCRIPT REPORT | report_picture > FILE.svg\n";
+const USAGE: &str = "usage: cat SCRIPT REPORT | report_picture picture > FILE.svg
+       cat SCRIPT REPORT | report_picture stats [json]
+";
 
 /// What the words ask for.
-#[derive(Clone, Copy, PartialEq, Eq)]
+#[derive(Clone, Copy)]
 enum Form {
-    Draw,
+    Picture,
+    Text,
+    Json,
     Help,
     Other,
 }
 
 fn words_ask(rt: &(impl Env + Alloc)) -> Form {
-    let Ok(words) = env::args(rt) else {
+    let Ok(mut words) = env::args(rt) else {
         return Form::Other;
     };
-    let mut form = Form::Draw;
-    for word in words.skip(1) {
-        form = if word.as_str() == "--help" && form == Form::Draw {
-            Form::Help
-        } else {
-            Form::Other
+    let _ = words.next();
+    let mut form = match words.next() {
+        Some(word) => match word.as_str() {
+            "picture" => Form::Picture,
+            "stats" => Form::Text,
+            "--help" => Form::Help,
+            _ => Form::Other,
+        },
+        None => Form::Other,
+    };
+    for word in words {
+        form = match (form, word.as_str()) {
+            (Form::Text, "json") => Form::Json,
+            (Form::Text | Form::Picture, "--help") => Form::Help,
+            _ => Form::Other,
         };
     }
     form
 }
 
-/// The picture of a script and its report.
-fn answer(alloc: Global, text: &str) -> Result<String, Fault> {
+/// What a trace is shown as.
+fn shown(alloc: Global, form: Form, trace: &Trace<'_>) -> Result<String, AllocError> {
+    match form {
+        Form::Text => text_of(alloc, &summary(alloc, trace)?),
+        Form::Json => json_of(alloc, &summary(alloc, trace)?),
+        _ => picture(alloc, trace),
+    }
+}
+
+/// What a script and its report are shown as.
+fn answer(alloc: Global, form: Form, text: &str) -> Result<String, Fault> {
     let trace = read(alloc, text)?;
-    let drawn = picture(alloc, &trace);
-    drop(trace);
-    Ok(drawn?)
+    Ok(shown(alloc, form, &trace)?)
 }
 
 /// The input as text: what isn't ASCII becomes a question mark.
@@ -54,16 +76,17 @@ fn ascii_of(alloc: Global, bytes: &[u8]) -> Result<String, AllocError> {
     Ok(text)
 }
 
-fn print(rt: &(impl Print + Alloc), text: &str, status: u8) -> u8 {
-    if rt.print(text).is_ok() { status } else { 5 }
+fn print(rt: &(impl Print + Alloc), text: &str, status: u8) -> ExitCode {
+    ExitCode::from(if rt.print(text).is_ok() { status } else { 5 })
 }
 
 fn main(rt: HostRuntime) -> ExitCode {
     let alloc = rt.alloc();
-    match words_ask(&rt) {
-        Form::Draw => {}
-        Form::Help => return ExitCode::from(print(&rt, USAGE, 0)),
-        Form::Other => return ExitCode::from(print(&rt, USAGE, 2)),
+    let form = words_ask(&rt);
+    match form {
+        Form::Picture | Form::Text | Form::Json => {}
+        Form::Help => return print(&rt, USAGE, 0),
+        Form::Other => return print(&rt, USAGE, 2),
     }
     let mut bytes = Vec::new(alloc);
     if rt.stdin().read_to_end(&mut bytes).is_err() {
@@ -72,8 +95,8 @@ fn main(rt: HostRuntime) -> ExitCode {
     let Ok(text) = ascii_of(alloc, bytes.as_slice()) else {
         return ExitCode::from(6);
     };
-    match answer(alloc, text.as_str()) {
-        Ok(svg) => ExitCode::from(print(&rt, svg.as_str(), 0)),
+    match answer(alloc, form, text.as_str()) {
+        Ok(text) => print(&rt, text.as_str(), 0),
         Err(Fault::NoMemory) => ExitCode::from(6),
         Err(Fault::BadLine(line)) => ExitCode::from(if println!(rt;
             "bad report: line {line}"

@@ -1,22 +1,18 @@
 //! The sections of a summary.
 
-ghost use Rattle.std.specs.Prelude.{◌≡◌, ◌*◌, ◌-◌, ◌^◌, min, unwrap_or, vec_len, IfOk};
+ghost use Rattle.std.specs.Prelude.{◌≡◌, ◌*◌, ◌-◌, ◌^◌, min, unwrap_or};
 
-use crate::rows::Section;
+use crate::rows::{Name, Summary};
 use report_trace::{Area, Ghost, Holder, Trace};
 use std::alloc::{AllocError, Global};
 
+/// The sections, in their order.
+pub static SECTIONS: [&str; 7] = [
+    "entries", "moves", "victims", "ghosts", "pages", "threads", "refusals",
+];
+
 /// The bytes of a page.
 const PAGE: u64 = 4096;
-
-fn name_of(area: Area) -> &'static str {
-    match area {
-        Area::Vram => "vram",
-        Area::Tt => "tt",
-        Area::Frames => "frames",
-        Area::Swap => "swap",
-    }
-}
 
 /// The bytes of pages.
 fn bytes_of(pages: usize) -> u64
@@ -32,144 +28,145 @@ fn life_of(one: Ghost, end: usize) -> usize
     one.reaped.unwrap_or(end).saturating_sub(one.made)
 }
 
-fn entries(alloc: Global, trace: &Trace<'_>) -> Result<Section, AllocError> {
-    let mut section = Section::new(alloc, "entries");
-    section.add(alloc, "all", "count", trace.len() as u64)?;
-    for (kind, count) in trace.kinds.iter() {
-        section.add(alloc, kind, "count", *count as u64)?;
+fn add_entries<'a>(all: &mut Summary<'a>, trace: &Trace<'a>) -> Result<(), AllocError> {
+    all.add(
+        "entries",
+        Name::Word("all"),
+        &[("count", trace.len() as u64)],
+    )?;
+    for entry in trace.entries.iter() {
+        all.add("entries", Name::Word(entry.kind), &[("count", 1)])?;
     }
-    Ok(section)
+    Ok(())
 }
 
-fn moves(alloc: Global, trace: &Trace<'_>) -> Result<Section, AllocError> {
-    let mut section = Section::new(alloc, "moves");
+/// The moves by their directions; first those of buffers, then those of pages from frames and to them.
+fn add_moves<'a>(all: &mut Summary<'a>, trace: &Trace<'a>) -> Result<(), AllocError> {
     for one in trace.moves.iter() {
-        let from = name_of(one.from);
-        let to = name_of(one.to);
-        let row = format!(in alloc; "{from} to {to}")?;
-        section.add(alloc, row.as_str(), "moves", 1)?;
-        section.add(alloc, row.as_str(), "bytes", bytes_of(one.pages))?;
+        let row = match (one.from, one.to) {
+            (Area::Vram, Area::Vram) => "vram to vram",
+            (Area::Vram, _) => "vram to tt",
+            (_, Area::Vram) => "tt to vram",
+            _ => "tt to tt",
+        };
+        let amounts = [("moves", 1), ("bytes", bytes_of(one.pages))];
+        all.add("moves", Name::Word(row), &amounts)?;
     }
     for (kind, row) in [("swapout", "frames to swap"), ("swapin", "swap to frames")] {
-        for (name, count) in trace.kinds.iter() {
-            if *name == kind {
-                section.add(alloc, row, "moves", *count as u64)?;
-                section.add(alloc, row, "bytes", bytes_of(*count))?;
+        for entry in trace.entries.iter() {
+            if entry.kind == kind {
+                all.add("moves", Name::Word(row), &[("moves", 1), ("bytes", PAGE)])?;
             }
         }
     }
-    Ok(section)
+    Ok(())
 }
 
 /// Who was caught, by what for.
-fn victims(alloc: Global, trace: &Trace<'_>) -> Result<Section, AllocError> {
-    let mut section = Section::new(alloc, "victims");
+fn add_victims<'a>(all: &mut Summary<'a>, trace: &Trace<'a>) -> Result<(), AllocError> {
     for (buffer, why) in trace.victims.iter() {
         let name = match *why {
             "vram" => "vram",
             "tt" => "tt",
             _ => "swap",
         };
-        section.add(alloc, trace.name(*buffer), name, 1)?;
+        all.add("victims", Name::Word(trace.name(*buffer)), &[(name, 1)])?;
     }
-    Ok(section)
+    Ok(())
 }
 
 /// How many ghosts there were, and for how many entries.
-fn ghosts(alloc: Global, trace: &Trace<'_>) -> Result<Section, AllocError> {
-    let mut section = Section::new(alloc, "ghosts");
+fn add_ghosts(all: &mut Summary<'_>, trace: &Trace<'_>) -> Result<(), AllocError> {
     let end = trace.len().saturating_add(1);
     let mut longest = 0usize;
     for one in trace.ghosts.iter() {
         let life = life_of(*one, end);
         longest = longest.max(life);
-        section.add(alloc, "all", "count", 1)?;
-        section.add(alloc, "all", "entries", life as u64)?;
+        let amounts = [("count", 1), ("entries", life as u64)];
+        all.add("ghosts", Name::Word("all"), &amounts)?;
     }
     if longest > 0 {
-        section.add(alloc, "longest", "entries", longest as u64)?;
+        let amounts = [("entries", longest as u64)];
+        all.add("ghosts", Name::Word("longest"), &amounts)?;
     }
-    Ok(section)
+    Ok(())
 }
 
 /// The pages of each sort: how many, the most that were held, and who holds how many in the end.
-fn pages(alloc: Global, trace: &Trace<'_>) -> Result<Section, AllocError> {
-    let mut section = Section::new(alloc, "pages");
-    for area in [Area::Vram, Area::Tt, Area::Frames, Area::Swap] {
-        let pages = trace.pages(area);
-        let row = name_of(area);
-        section.add(alloc, row, "size", pages.size() as u64)?;
-        section.add(alloc, row, "most", pages.most as u64)?;
-        section.add(
-            alloc,
-            row,
-            "free",
-            pages.size().saturating_sub(pages.held) as u64,
-        )?;
-        for name in ["live", "target", "ghost"] {
-            section.add(alloc, row, name, 0)?;
-        }
-        for one in trace.stretches.iter() {
-            if one.area == area && one.to > trace.len() {
-                let name = match one.holder {
-                    Holder::Live(_) => "live",
-                    Holder::Target(_) => "target",
-                    Holder::Ghost(_) => "ghost",
-                };
-                section.add(alloc, row, name, one.last.saturating_sub(one.first) as u64)?;
+fn add_pages(all: &mut Summary<'_>, trace: &Trace<'_>) -> Result<(), AllocError> {
+    for pages in trace.held.areas.iter() {
+        let row = match pages.area {
+            Area::Vram => "vram",
+            Area::Tt => "tt",
+            Area::Frames => "frames",
+            Area::Swap => "swap",
+        };
+        let (mut live, mut target, mut left) = (0u64, 0u64, 0u64);
+        for one in trace.held.stretches.iter() {
+            if one.area == pages.area && one.to > trace.len() {
+                let count = one.last.saturating_sub(one.first) as u64;
+                match one.holder {
+                    Holder::Live(_) => live = live.saturating_add(count),
+                    Holder::Target(_) => target = target.saturating_add(count),
+                    Holder::Ghost(_) => left = left.saturating_add(count),
+                }
             }
         }
+        let amounts = [
+            ("size", pages.size() as u64),
+            ("most", pages.most as u64),
+            ("free", pages.size().saturating_sub(pages.held) as u64),
+            ("live", live),
+            ("target", target),
+            ("ghost", left),
+        ];
+        all.add("pages", Name::Word(row), &amounts)?;
     }
-    Ok(section)
+    Ok(())
 }
 
-fn threads(alloc: Global, trace: &Trace<'_>) -> Result<Section, AllocError> {
-    let mut section = Section::new(alloc, "threads");
-    for command in trace.commands.iter() {
-        let thread = command.thread;
-        let row = format!(in alloc; "t{thread}")?;
-        section.add(alloc, row.as_str(), "commands", 1)?;
-        section.add(alloc, row.as_str(), "waits", command.waits as u64)?;
-        section.add(alloc, row.as_str(), "waited", command.waited as u64)?;
-        section.add(
-            alloc,
-            row.as_str(),
-            "backoffs",
-            command.backoffs.len() as u64,
-        )?;
+fn add_threads(all: &mut Summary<'_>, trace: &Trace<'_>) -> Result<(), AllocError> {
+    for command in trace.works.commands.iter() {
+        let amounts = [
+            ("commands", 1),
+            ("waits", command.waits as u64),
+            ("waited", command.waited as u64),
+            ("backoffs", command.backoffs as u64),
+        ];
+        all.add("threads", Name::Thread(command.thread), &amounts)?;
     }
-    Ok(section)
+    Ok(())
 }
 
 /// The refusals, each with what it found no room or frames for.
-fn refusals(alloc: Global, trace: &Trace<'_>) -> Result<Section, AllocError> {
-    let mut section = Section::new(alloc, "refusals");
-    for command in trace.commands.iter() {
+fn add_refusals<'a>(all: &mut Summary<'a>, trace: &Trace<'a>) -> Result<(), AllocError> {
+    for (place, command) in trace.works.commands.iter().enumerate() {
         if command.answer != "" {
-            let (thread, number) = (command.thread, command.number.saturating_add(1));
-            let row = format!(in alloc; "t{thread} {number}")?;
-            section.add(alloc, row.as_str(), "entry", command.last as u64)?;
-            section.note(command.answer)?;
-            for cause in command.causes.iter() {
-                section.note("; ")?;
-                section.note(cause)?;
+            let name = Name::Command(command.thread, command.number.saturating_add(1));
+            all.add("refusals", name, &[("entry", command.last as u64)])?;
+            all.add_note(command.answer)?;
+            for (of, cause) in trace.works.causes.iter() {
+                if *of == place {
+                    all.add_note(cause)?;
+                }
             }
         }
     }
-    Ok(section)
+    Ok(())
 }
 
-/// All sections of a report.
-pub fn summary(alloc: Global, trace: &Trace<'_>) -> Result<Vec<Section>, AllocError>
-    ensures { IfOk result (λ all. vec_len all ≡ 7) }
-{
-    let mut sections = Vec::new(alloc);
-    sections.push(entries(alloc, trace)?)?;
-    sections.push(moves(alloc, trace)?)?;
-    sections.push(victims(alloc, trace)?)?;
-    sections.push(ghosts(alloc, trace)?)?;
-    sections.push(pages(alloc, trace)?)?;
-    sections.push(threads(alloc, trace)?)?;
-    sections.push(refusals(alloc, trace)?)?;
-    Ok(sections)
+/// All that a report adds up to.
+pub fn summary<'a>(alloc: Global, trace: &Trace<'a>) -> Result<Summary<'a>, AllocError> {
+    let mut all = Summary {
+        rows: Vec::new(alloc),
+        notes: Vec::new(alloc),
+    };
+    add_entries(&mut all, trace)?;
+    add_moves(&mut all, trace)?;
+    add_victims(&mut all, trace)?;
+    add_ghosts(&mut all, trace)?;
+    add_pages(&mut all, trace)?;
+    add_threads(&mut all, trace)?;
+    add_refusals(&mut all, trace)?;
+    Ok(all)
 }

@@ -1,11 +1,9 @@
 //! What words say.
 
-ghost use Rattle.std.specs.Prelude.{◌≡◌, ◌<◌, ◌≤◌, IfSome};
-
-use std::alloc::{AllocError, Global};
+ghost use Rattle.std.specs.Prelude.{◌<◌, IfSome};
 
 /// Pages from the first one to the one before the last.
-#[derive(Clone, Copy, PartialEq, Eq)]
+#[derive(Clone, Copy)]
 pub struct Span {
     pub first: usize,
     pub last: usize,
@@ -18,7 +16,7 @@ pub fn number(word: &str) -> Option<usize> {
 
 /// The number behind a letter, as of `t1`.
 pub fn number_behind(letter: char, word: &str) -> Option<usize> {
-    word.strip_prefix(letter).and_then(number)
+    number(word.strip_prefix(letter)?)
 }
 
 /// A span as `F-L`, with a page at least.
@@ -26,8 +24,7 @@ pub fn read_span(word: &str) -> Option<Span>
     ensures { IfSome result (λ s. s.first < s.last) }
 {
     let (first, last) = word.split_once('-')?;
-    let first = number(first)?;
-    let last = number(last)?;
+    let (first, last) = (number(first)?, number(last)?);
     if first < last {
         Some(Span { first, last })
     } else {
@@ -35,26 +32,20 @@ pub fn read_span(word: &str) -> Option<Span>
     }
 }
 
-/// Spans joined by commas, or `-` for none.
-pub fn read_spans(alloc: Global, word: &str) -> Result<Option<Vec<Span>>, AllocError> {
-    let mut all = Vec::new(alloc);
-    if word == "-" {
-        return Ok(Some(all));
+/// A word of a line, by its place from 0, or nothing.
+pub fn word<'a>(words: &[&'a str], place: usize) -> &'a str {
+    match words.get(place) {
+        Some(word) => *word,
+        None => "",
     }
-    for part in word.split(',') {
-        match read_span(part) {
-            Some(one) => all.push(one)?,
-            None => return Ok(None),
-        }
-    }
-    Ok(Some(all))
 }
 
-/// The words of a line.
-pub fn words<'a>(alloc: Global, line: &'a str) -> Result<Vec<&'a str>, AllocError> {
-    let mut all = Vec::new(alloc);
-    for word in line.split(' ') {
-        all.push(word)?;
+/// What a table has for a line: in the row of its first word, and of how many words it has.
+pub fn row_of<T: Copy + Drop>(rows: &[(&str, usize, T)], first: &str, count: usize) -> Option<T> {
+    for (name, words, what) in rows {
+        if *words == count && *name == first {
+            return Some(*what);
+        }
     }
-    Ok(all)
+    None
 }

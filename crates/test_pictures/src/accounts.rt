@@ -3,26 +3,19 @@ use crate::reports::{
     FREE_LEAVES_A_GHOST, ONE_PAGE_EVICTION, PIPELINED_EVICTION,
 };
 use report_drawing::{picture, put_escaped};
-use report_summary::{Section, json_of, summary};
+use report_summary::{Name, Summary, json_of, summary};
 use report_trace::{Fault, read};
 use serde_json::Value;
 use std::alloc::{AllocError, Global};
 
-/// The numbers of an account, as a report has them: size, free, live, target, ghost.
-const NAMES: [&str; 5] = ["size", "free", "live", "target", "ghost"];
-
 /// What a summary says of the pages of one sort, as a report has it.
-fn account_of(alloc: Global, sections: &[Section], name: &str) -> Result<String, AllocError> {
+fn account_of(alloc: Global, summary: &Summary<'_>, name: &str) -> Result<String, AllocError> {
     let mut line = String::from_str(alloc, name)?;
-    for section in sections {
-        for row in section.rows.iter() {
-            if section.name == "pages" && row.name.as_str() == name {
-                for wanted in NAMES.iter() {
-                    for (of, value) in row.values.iter() {
-                        if of == wanted {
-                            line.push_str(format!(in alloc; " {of} {value}")?.as_str())?;
-                        }
-                    }
+    for row in summary.rows.iter() {
+        if row.section == "pages" && row.name == Name::Word(name) {
+            for (of, value) in row.values.iter() {
+                if *of != "most" {
+                    write!(line, " {of} {value}")?;
                 }
             }
         }
@@ -32,35 +25,31 @@ fn account_of(alloc: Global, sections: &[Section], name: &str) -> Result<String,
 
 /// The end of an account's line as a picture has it.
 fn heading_of(alloc: Global, account: &str) -> Result<String, AllocError> {
-    let mut text = String::from_str(alloc, "in the end free ")?;
-    let mut words = account.split(' ').skip(4);
-    text.push_str(words.next().unwrap_or(""))?;
-    for name in ["live", "target", "ghost"] {
-        text.push_str(", ")?;
-        text.push_str(name)?;
-        text.push_str(" ")?;
-        text.push_str(words.nth(1).unwrap_or(""))?;
+    let mut text = String::from_str(alloc, "in the end")?;
+    for (place, word) in account.split(' ').skip(3).enumerate() {
+        let between = if place > 0 && place % 2 == 0 {
+            ", "
+        } else {
+            " "
+        };
+        write!(text, "{between}{word}")?;
     }
-    text.push_str("<")?;
+    text.push('<')?;
     Ok(text)
 }
 
-/// Each account is what the summary says, and the picture where there are pages.
-fn are_told(
+/// An account is what the summary says, and the picture where there are pages.
+fn is_told(
     alloc: Global,
-    accounts: &[&str],
-    sections: &[Section],
+    account: &str,
+    summary: &Summary<'_>,
     picture: &str,
 ) -> Result<bool, AllocError> {
-    let mut agrees = accounts.len() == 4;
-    for account in accounts {
-        let name = account.split(' ').next().unwrap_or("");
-        agrees = agrees && account_of(alloc, sections, name)?.as_str() == *account;
-        let heading = heading_of(alloc, account)?;
-        agrees = agrees
-            && (picture.find(heading.as_str()).is_some() || account.split(' ').nth(2) == Some("0"));
-    }
-    Ok(agrees)
+    let name = account.split(' ').next().unwrap_or("");
+    let told = account_of(alloc, summary, name)?;
+    let heading = heading_of(alloc, account)?;
+    let is_drawn = picture.contains(heading.as_str()) || account.split(' ').nth(2) == Some("0");
+    Ok(is_drawn && told.as_str() == account)
 }
 
 /// JSON is read back.
@@ -77,18 +66,14 @@ fn is_json(alloc: Global, text: &str) -> bool {
 /// Summary and picture say what the accounts say.
 fn agrees(alloc: Global, text: &str) -> Result<bool, Fault> {
     let trace = read(alloc, text)?;
-    let sections = summary(alloc, &trace)?;
+    let summary = summary(alloc, &trace)?;
     let picture = picture(alloc, &trace)?;
-    let json = json_of(alloc, sections.as_slice())?;
-    let told = are_told(
-        alloc,
-        trace.accounts.as_slice(),
-        sections.as_slice(),
-        picture.as_str(),
-    );
-    drop(trace);
-    drop(sections);
-    Ok(told? && is_json(alloc, json.as_str()))
+    let json = json_of(alloc, &summary)?;
+    let mut agrees = trace.accounts.len() == 4 && is_json(alloc, json.as_str());
+    for account in trace.accounts.iter() {
+        agrees = is_told(alloc, account, &summary, picture.as_str())? && agrees;
+    }
+    Ok(agrees)
 }
 
 #[test]
