@@ -1,32 +1,14 @@
 -- The lines of a text up to the first that ends a script, and those behind it.
-use Rattle.std.proofs.Common.{◌≡◌, ℕ, suc, ◌+◌, ◌<◌, ◌≤◌, Bool, true, false, eqb, cond, List, [], ◌∷◌, ◌++◌, length, take, drop, refl, ap, sym, ◌∙◌, arith, append_assoc, drop-drop, length-drop}
-use Rattle.std.specs.Prelude.{flat_map}
+use Rattle.std.proofs.Common.{◌≡◌, ℕ, ◌+◌, ◌<◌, ◌≤◌, Bool, true, false, cond, List, [], ◌∷◌, ◌++◌, length, take, drop, refl, ap, sym, ◌∙◌, arith, append_assoc, drop-drop, length-drop}
 use Rattle.std.proofs.Math.Seq.{take-add}
 use Rattle.std.proofs.lemmas.List.{append-nil, drop_all, length-take-le}
 use Rattle.std.proofs.lemmas.List.Concat.{flat_map-cons}
 use Rattle.journal_model.specs.Words.{Text}
-use Rattle.journal_model.specs.Cut.{lines_of, onto}
+use Rattle.journal_model.specs.Cut.{lines_of}
 use Rattle.journal_model.specs.Verdict.{ends_script, report_lines, report_part, script_lines, script_part}
+use Rattle.law_verdict.proofs.Passes.{joined, lines_are}
 use Rattle.script_words.specs.Lines.{line_len}
 use Rattle.script_text.proofs.Lines.{first_line, line_len-within, line_len-some}
-
--- ---- lines
-
-abbrev joined : List Text → Text
-joined lines = flat_map (λ text. text) lines
-
-onto_joined : (b : ℕ) (lines : List Text) → joined (onto b lines) ≡ b ∷ joined lines
-onto_joined b [] = refl
-onto_joined b (part ∷ parts) = flat_map-cons (λ text. text) (b ∷ part) parts ∙ ap (λ t. b ∷ t) (sym (flat_map-cons (λ text. text) part parts))
-
-lines_by : (t : Bool) (b : ℕ) (bs : Text) → joined (lines_of bs) ≡ bs → joined (cond t ((b ∷ []) ∷ lines_of bs) (onto b (lines_of bs))) ≡ b ∷ bs
-lines_by true b bs h = flat_map-cons (λ text. text) (b ∷ []) (lines_of bs) ∙ ap (λ t. b ∷ t) h
-lines_by false b bs h = onto_joined b (lines_of bs) ∙ ap (λ t. b ∷ t) h
-
--- the lines of a text are the text
-lines_are : (text : Text) → joined (lines_of text) ≡ text
-lines_are [] = refl
-lines_are (b ∷ bs) = lines_by (eqb b 10) b bs (lines_are bs)
 
 -- ---- both parts, by the first line
 

@@ -1,6 +1,5 @@
-use Rattle.std.proofs.Common.{◌∙◌, sym, ap}
+use Rattle.std.proofs.Common.{◌∙◌}
 use Rattle.std.proofs.lemmas.Result.{IfOk-weaker}
-use Rattle.journal_model.specs.FirstFault.{first_fault}
 use Rattle.check_program.specs.Finds.{FindsIn, FindsReport}
 use Rattle.check_program.proofs.FindLaws.{found}
 use Rattle.check_program.proofs.finding.finding_in.Goals as goal

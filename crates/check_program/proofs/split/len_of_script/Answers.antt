@@ -1,5 +1,5 @@
-use Rattle.std.proofs.Common.{◌≡◌, ◌<◌, ◌+◌, ◌∙◌, sym, length, arith}
-use Rattle.check_program.proofs.SplitLaws.{IsLineAt, goes_on, line_is, longer, report_is, script_is}
+use Rattle.std.proofs.Common.{◌<◌, ◌∙◌, sym, length, arith}
+use Rattle.check_program.proofs.SplitLaws.{goes_on, line_is, longer, report_is, script_is}
 use Rattle.check_program.proofs.split.len_of_script.Goals as goal
 
 pub returns-then-is-clause-script : goal.returns-then-is-clause-script

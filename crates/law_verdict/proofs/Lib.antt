@@ -1,0 +1,10 @@
+pub mod Heads
+pub mod Fronts
+pub mod Stops
+pub mod Actors
+pub mod Lines
+pub mod Reports
+pub mod ScriptWords
+pub mod Passes
+pub mod ScriptLines
+pub mod Law
