@@ -7,8 +7,8 @@ ORACLE is a program with the words `random SEED [--v2]`, which prints a valid sc
 yet are left out. On N scripts (2,000) of each version the turns are those of the script's schedule and then the simulator's own; N times
 (500) they are those of actors drawn at random, until about all is done, and then the simulator's own. The program compare_devices takes
 them on both devices and compares the answer of each turn, the entry, whether all is over and how far each context is; and at the end all
-entries, all bytes of VRAM, frames and slots, and the accounts. The first case that differs is printed, with its line, and ends the
-comparison with status 1.
+entries, all bytes of VRAM, frames and slots, the accounts, and what parts tell that were given the plain device's entries. The first case
+that differs is printed, with its line, and ends the comparison with status 1.
 
 FILE is a built compare_devices; without it tools/build_unproved.sh builds one, which takes some minutes and proves nothing.
 """
@@ -58,7 +58,7 @@ def drawn(text, entries, seed):
 def case_of(name, text, steps):
     """A case of the table that the program reads."""
     lines = [b"steps " + b" ".join(steps[at : at + 1000]) for at in range(0, len(steps), 1000)]
-    return b"\n".join([b"case " + name, *lines, b"to the end", b"text", text.rstrip(b"\n"), b"end case"]) + b"\n"
+    return b"\n".join([b"case " + name + b" at-the-end", *lines, b"to the end", b"text", text.rstrip(b"\n"), b"end case"]) + b"\n"
 
 
 def run(program, cases):

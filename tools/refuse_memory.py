@@ -31,7 +31,7 @@ import compare_devices
 
 TOP = pathlib.Path(__file__).resolve().parent.parent
 EXAMPLES = ("read_crosses_a_page", "one_page_eviction", "swap_out_and_in")
-TESTED = "crossing_jobs_without_schedule"  # a case of crates/test_simulator
+TESTED = "crossing_jobs_without_schedule"  # a case of crates/test_device
 KINDS = {"memory": 6, "reads": 4, "writes": 5}  # the status where such a call fails
 Row = collections.namedtuple("Row", "name script report")
 Ended = collections.namedtuple("Ended", "status out err")
@@ -41,7 +41,7 @@ def rows():
     """The four scripts with their stored reports."""
     for name in EXAMPLES:
         yield Row(name, *((TOP / "examples" / (name + kind)).read_bytes() for kind in (".ttm", ".report")))
-    given, wanted = ((TOP / "crates/test_simulator" / it).read_bytes() for it in ("stdin", "stdout"))
+    given, wanted = ((TOP / "crates/test_device" / it).read_bytes() for it in ("stdin", "stdout"))
     script = re.search(rb"^case %s sim\ntext\n(.*?)^end case$" % TESTED.encode(), given, re.M | re.S)[1]
     head = re.search(rb"^case %s, status 0, (\d+) bytes\n" % TESTED.encode(), wanted, re.M)
     yield Row(TESTED, script, wanted[head.end() : head.end() + int(head[1])])

@@ -1,33 +1,43 @@
-use crate::bytes::bytes_that_differ;
-use crate::difference::Difference;
+ghost use Rattle.std.specs.Prelude.{OnOk, IfOk, IfSome};
+ghost use Rattle.compare_devices.specs.Steps.{AreInStep};
+
+use crate::bytes::compare_bytes;
+use crate::difference::{Difference, Stop, agree};
+use crate::parts::compare_parts;
+use crate::replay::Replay;
 use crate::report::{line_that_differs, report_of};
 use device_core::Device;
-use device_end::discard;
 use page_accounts::accounts_of;
-use plain_device::{Device as PlainDevice, discard as discard_plain};
 use script_text::{ScriptFault, read_script};
 use std::alloc::Global;
 use ttm_base::{Actor, Logged, NoMemory, Turn};
 
-/// A device on its parts, and one by the definitions, of the same script. It has to be discarded.
-pub struct Pair {
-    pub alloc: Global,
+/// When the parts that are given the entries are compared.
+#[derive(Clone, Copy)]
+pub enum When {
+    /// At the start, and behind each entry.
+    EachEntry,
+    /// Once, behind all turns.
+    AtTheEnd,
+}
+
+/// A device on its parts that is asked once more where memory was short.
+#[derive(Drop)]
+pub struct Asked {
     pub device: Device,
-    pub plain: PlainDevice,
-    /// How many turns were taken on both.
-    pub turns: u64,
-    /// How many turns the device on its parts couldn't take for want of memory, and took when it was asked again.
+    /// How many turns it couldn't take for want of memory, and took when it was asked again.
     pub refused: u64,
 }
 
-/// What came of a turn in the simulator's order.
-#[derive(Clone, Copy)]
-pub enum Taken {
-    /// Both devices made an entry, of the same actor.
-    Same,
-    /// Nobody has an entry.
-    Nothing,
-    Differs(Difference),
+/// A device on its parts and a plain one, of the same script, and parts that are given the plain one's entries.
+#[derive(Drop)]
+pub struct Pair {
+    pub alloc: Global,
+    pub when: When,
+    pub asked: Asked,
+    pub replay: Replay,
+    /// How many turns were taken on both.
+    pub turns: u64,
 }
 
 /// The device on its parts for a text; none, where that is no script.
@@ -39,101 +49,9 @@ fn device_for(alloc: Global, text: &[u8]) -> Result<Option<Device>, NoMemory> {
     }
 }
 
-/// The device by the definitions.
-fn plain_for(alloc: Global, text: &[u8]) -> Result<Option<PlainDevice>, NoMemory> {
-    match read_script(alloc, text) {
-        Ok(script) => Ok(Some(PlainDevice::new(alloc, script)?)),
-        Err(ScriptFault::NoMemory) => Err(NoMemory),
-        Err(ScriptFault::Bad { .. }) => Ok(None),
-    }
-}
-
-/// A turn of an actor on the plain device. Where memory was short it is asked once more.
-fn step_plain(plain: &mut PlainDevice, who: Actor) -> Result<Turn, NoMemory> {
-    match plain.step(who) {
-        Ok(turn) => Ok(turn),
-        Err(NoMemory) => plain.step(who),
-    }
-}
-
-/// The entry of the actor that the definitions find next, on the plain device.
-fn step_next_plain(plain: &mut PlainDevice) -> Result<Option<Actor>, NoMemory> {
-    let found = match plain.next_actor() {
-        Ok(found) => found,
-        Err(NoMemory) => plain.next_actor()?,
-    };
-    if let Some(who) = found {
-        step_plain(plain, who)?;
-    }
-    Ok(found)
-}
-
-impl Pair {
-    /// Both devices of a text; none, where that is no script.
-    ///
-    /// # Errors
-    ///
-    /// Want of memory.
-    pub fn of(alloc: Global, text: &[u8]) -> Result<Option<Pair>, NoMemory> {
-        let Some(device) = device_for(alloc, text)? else {
-            return Ok(None);
-        };
-        match plain_for(alloc, text) {
-            Ok(Some(plain)) => Ok(Some(Pair {
-                alloc,
-                device,
-                plain,
-                turns: 0,
-                refused: 0,
-            })),
-            Ok(None) => {
-                discard(device);
-                Ok(None)
-            }
-            Err(NoMemory) => {
-                discard(device);
-                Err(NoMemory)
-            }
-        }
-    }
-
-    /// Lets both go.
-    pub fn discard(self) {
-        let Pair {
-            alloc: _,
-            device,
-            plain,
-            turns: _,
-            refused: _,
-        } = self;
-        discard(device);
-        discard_plain(plain);
-    }
-
-    /// The first context of which the devices tell another last job that is done.
-    fn done_that_differs(&self) -> Option<Difference> {
-        for ctx in 0..=self.device.script().sizes.engines {
-            if self.device.done(ctx) != self.plain.done(ctx) {
-                return Some(Difference::Done(ctx));
-            }
-        }
-        None
-    }
-
-    /// What differs behind a turn: the number of entries, whether all is over, how far the contexts are.
-    fn behind_a_turn(&self) -> Option<Difference> {
-        let count = self.device.journal().len();
-        if count != self.plain.journal().len() {
-            return Some(Difference::Length(count));
-        }
-        if self.device.over() != self.plain.over() {
-            return Some(Difference::Over(self.turns));
-        }
-        self.done_that_differs()
-    }
-
-    /// A turn of an actor on the device on its parts. Where memory was short it is asked once more.
-    fn step_here(&mut self, who: Actor) -> Result<Turn, NoMemory> {
+impl Asked {
+    /// A turn of an actor.
+    fn step(&mut self, who: Actor) -> Result<Turn, NoMemory> {
         match self.device.step(who) {
             Ok(turn) => Ok(turn),
             Err(NoMemory) => {
@@ -143,8 +61,8 @@ impl Pair {
         }
     }
 
-    /// The same of a turn in the simulator's order.
-    fn step_next_here(&mut self) -> Result<Option<Actor>, NoMemory> {
+    /// A turn in the simulator's order.
+    fn step_next(&mut self) -> Result<Option<Actor>, NoMemory> {
         match self.device.step_next() {
             Ok(found) => Ok(found),
             Err(NoMemory) => {
@@ -153,48 +71,115 @@ impl Pair {
             }
         }
     }
+}
 
-    /// A turn of an actor on both devices, and what differs behind it.
+impl Pair {
+    /// All of a text; none, where that is no script.
     ///
     /// # Errors
     ///
     /// Want of memory.
-    pub fn step(&mut self, who: Actor) -> Result<Option<Difference>, NoMemory> {
-        self.turns = self.turns.saturating_add(1);
-        let plain = step_plain(&mut self.plain, who)?;
-        if self.step_here(who)? != plain {
-            return Ok(Some(Difference::Answer(self.turns)));
+    pub fn of(alloc: Global, text: &[u8], when: When) -> Result<Option<Pair>, NoMemory>
+        ensures { IfOk result (λ found. IfSome found (λ pair. AreInStep pair.replay.plain pair.replay.rooms)) }
+    {
+        let Some(device) = device_for(alloc, text)? else {
+            return Ok(None);
+        };
+        match Replay::of(alloc, text)? {
+            Some(replay) => Ok(Some(Pair {
+                alloc,
+                when,
+                asked: Asked { device, refused: 0 },
+                replay,
+                turns: 0,
+            })),
+            None => Ok(None),
         }
-        Ok(self.behind_a_turn())
     }
 
-    /// A turn in the simulator's order on both devices, and what differs behind it.
+    /// The last job of each context that is done.
+    fn compare_done(&self) -> Result<(), Stop> {
+        let device = &self.asked.device;
+        for ctx in 0..=device.script().sizes.engines {
+            agree(
+                device.done(ctx) == self.replay.plain.done(ctx),
+                Difference::Done(ctx),
+            )?;
+        }
+        Ok(())
+    }
+
+    /// What is to be the same behind a turn: the number of entries, whether all is over, how far the contexts are.
+    fn compare_turn(&self) -> Result<(), Stop> {
+        let device = &self.asked.device;
+        let plain = &self.replay.plain;
+        agree(
+            device.journal().len() == plain.journal().len(),
+            Difference::Length,
+        )?;
+        agree(device.over() == plain.over(), Difference::Over)?;
+        self.compare_done()
+    }
+
+    /// What is to be the same at the start and behind an entry: beside that, what the parts tell, if they are compared then.
     ///
     /// # Errors
     ///
-    /// Want of memory.
-    pub fn step_next(&mut self) -> Result<Taken, NoMemory> {
-        let plain = step_next_plain(&mut self.plain)?;
-        let here = self.step_next_here()?;
-        if here != plain {
-            return Ok(Taken::Differs(Difference::Next(self.turns)));
+    /// A difference, or want of memory.
+    pub fn compare_entry(&self) -> Result<(), Stop>
+        requires { AreInStep self.now.replay.plain self.now.replay.rooms }
+    {
+        self.compare_turn()?;
+        match self.when {
+            When::EachEntry => compare_parts(&self.replay, self.alloc),
+            When::AtTheEnd => Ok(()),
         }
-        if here.is_some() {
+    }
+
+    /// A turn of an actor on both devices.
+    ///
+    /// # Errors
+    ///
+    /// A difference, or want of memory.
+    pub fn step(&mut self, who: Actor) -> Result<(), Stop>
+        requires { AreInStep self.old.replay.plain self.old.replay.rooms }
+        ensures { OnOk result (AreInStep self.new.replay.plain self.new.replay.rooms) }
+    {
+        self.turns = self.turns.saturating_add(1);
+        let turn = self.replay.step(who)?;
+        let here = self.asked.step(who)?;
+        agree(here == turn, Difference::Answer)?;
+        match turn {
+            Turn::Made(_) => self.compare_entry(),
+            Turn::Blocked(_) | Turn::Over => self.compare_turn(),
+        }
+    }
+
+    /// A turn in the simulator's order on both devices: whose it was, if somebody has an entry.
+    ///
+    /// # Errors
+    ///
+    /// A difference, or want of memory.
+    pub fn step_next(&mut self) -> Result<Option<Actor>, Stop>
+        requires { AreInStep self.old.replay.plain self.old.replay.rooms }
+        ensures { OnOk result (AreInStep self.new.replay.plain self.new.replay.rooms) }
+    {
+        let who = self.replay.step_next()?;
+        let here = self.asked.step_next()?;
+        agree(here == who, Difference::Next)?;
+        if who.is_some() {
             self.turns = self.turns.saturating_add(1);
         }
-        match self.behind_a_turn() {
-            Some(found) => Ok(Taken::Differs(found)),
-            None if here.is_none() => Ok(Taken::Nothing),
-            None => Ok(Taken::Same),
-        }
+        self.compare_entry()?;
+        Ok(who)
     }
 
-    /// The first line of the reports in which the devices differ: all entries, results and accounts.
-    fn report_that_differs(&self) -> Result<Option<Difference>, NoMemory> {
-        let plain = &self.plain;
-        let wanted = accounts_of(self.alloc, plain.script(), plain.state())?;
-        let wanted = report_of(self.alloc, plain.script(), plain.journal(), &wanted)?;
-        let device = &self.device;
+    /// All entries, results and accounts.
+    fn compare_told(&self) -> Result<(), Stop> {
+        let plain = &self.replay.plain;
+        let accounts = accounts_of(self.alloc, plain.script(), plain.state())?;
+        let wanted = report_of(self.alloc, plain.script(), plain.journal(), &accounts)?;
+        let device = &self.asked.device;
         let here = report_of(
             self.alloc,
             device.script(),
@@ -202,21 +187,21 @@ impl Pair {
             &device.accounts(),
         )?;
         match line_that_differs(here.bytes(), wanted.bytes()) {
-            Some(line) => Ok(Some(Difference::Line(line))),
-            None => Ok(None),
+            Some(line) => Err(Stop::Differs(Difference::Line(line))),
+            None => Ok(()),
         }
     }
 
-    /// What differs first of all entries, results, accounts and bytes.
+    /// What is to be the same behind all turns: all entries, results, accounts and bytes, and what the parts tell.
     ///
     /// # Errors
     ///
-    /// Want of memory.
-    pub fn first_difference(&self) -> Result<Option<Difference>, NoMemory> {
-        let found = self.report_that_differs()?;
-        if found.is_some() {
-            return Ok(found);
-        }
-        Ok(bytes_that_differ(&self.device, self.plain.stores()))
+    /// A difference, or want of memory.
+    pub fn compare_end(&self) -> Result<(), Stop>
+        requires { AreInStep self.now.replay.plain self.now.replay.rooms }
+    {
+        self.compare_told()?;
+        compare_bytes(&self.asked.device, self.replay.plain.stores())?;
+        compare_parts(&self.replay, self.alloc)
     }
 }

@@ -1,143 +1,21 @@
-//! Steps a device by named actors, and prints what came of each turn, and the report.
+//! Runs cases, and prints what came of each: of the simulator what it wrote and its status, of a device that named actors step the answer
+//! to each turn, and the report.
 #![tactic(auto)]
 
-ghost use Rattle.std.specs.Prelude.{◌≡◌, []};
+mod simulated;
+mod stepped;
 
-use device_core::Device;
-use io_edge::{Sink, StdSink};
-use report_text::{WriteFault, write_report};
-use script_text::read_script;
 use std::alloc::Global;
 use std::io;
 use std::io::{BufRead, BufReader};
-use test_cases::{Case, Table, no_memory};
-use ttm_base::{Actor, JobId, Need, Turn};
+use test_cases::{Case, Table};
 
-/// How many turns follow the steps of a case at most.
-const MOST_TURNS: u32 = 100_000;
-
-fn print_actor(rt: &impl Print, who: Actor) -> io::Result<()> {
-    match who {
-        Actor::Thread(n) => print!(rt; "t{n} "),
-        Actor::Engine(n) => print!(rt; "e{n} "),
-        Actor::Reaper => print!(rt; "r "),
-    }
-}
-
-fn print_need(rt: &impl Print, need: Need) -> io::Result<()> {
-    match need {
-        Need::Fence(JobId { ctx, num }) => println!(rt; "blocked by job {num} of {ctx}"),
-        Need::Holder(stamp) => {
-            let stamp = stamp.0;
-            println!(rt; "blocked by ticket {stamp}")
-        }
-        Need::Ghost(num) => println!(rt; "blocked by ghost {num}"),
-        Need::NoCommand => println!(rt; "without a command"),
-        Need::NoJob => println!(rt; "without a job"),
-        Need::NoGhost => println!(rt; "without a ghost"),
-    }
-}
-
-fn print_turn(rt: &impl Print, turn: Turn) -> io::Result<()> {
-    match turn {
-        Turn::Made(number) => println!(rt; "made {number}"),
-        Turn::Blocked(need) => print_need(rt, need),
-        Turn::Over => println!(rt; "over"),
-    }
-}
-
-/// Takes a turn of an actor, and prints what came of it.
-fn take_step(rt: &impl Print, device: &mut Device, who: Actor) -> io::Result<()> {
-    let turn = device.step(who).map_err(no_memory)?;
-    print_actor(rt, who)?;
-    print_turn(rt, turn)
-}
-
-/// Takes the turns of a case, and prints what came of each.
-fn take_steps(rt: &impl Print, device: &mut Device, steps: &[Actor]) -> io::Result<()> {
-    for who in steps {
-        take_step(rt, device, *who)?;
-    }
-    Ok(())
-}
-
-/// Takes the next turn in the simulator's order, if somebody has an entry.
-fn take_next(device: &mut Device) -> io::Result<bool> {
-    Ok(device.step_next().map_err(no_memory)?.is_some())
-}
-
-/// Takes turns in the simulator's order until nobody has an entry.
-fn go_to_the_end(device: &mut Device) -> io::Result<()> {
-    for _ in 0..MOST_TURNS {
-        if !take_next(device)? {
-            break;
-        }
-    }
-    Ok(())
-}
-
-fn print_frame(rt: &impl Print, frame: Option<u32>) -> io::Result<()> {
-    match frame {
-        Some(frame) => print!(rt; " {frame}"),
-        None => print!(rt; " -"),
-    }
-}
-
-/// Prints the frame that each page of TT stands for.
-fn print_aperture(rt: &impl Print, device: &Device) -> io::Result<()> {
-    print!(rt; "aperture")?;
-    for page in 0..device.script().sizes.tt {
-        print_frame(rt, device.rooms().parts().stores.aper.get(page))?;
-    }
-    println!(rt; "")
-}
-
-/// Writes the report of a device.
-fn write_device<K: Sink>(alloc: Global, device: &Device, sink: &mut K) -> Result<(), WriteFault>
-    requires { device.now.script.marks ≡ [] }
-{
-    let accounts = device.accounts();
-    write_report(alloc, device.script(), device.journal(), &accounts, sink)
-}
-
-/// Prints the report of what was done. A script that was read has no marks.
-fn print_report(rt: &HostRuntime, alloc: Global, device: &Device) {
-    if device.script().marks.items().is_empty() {
-        let _ = write_device(alloc, device, &mut StdSink::new(rt.stdout()));
-    }
-}
-
-/// A device that runs this script.
-fn device_for(alloc: Global, text: &[u8]) -> io::Result<Option<Device>> {
-    match read_script(alloc, text) {
-        Ok(script) => Ok(Some(Device::new(alloc, script).map_err(no_memory)?)),
-        Err(_) => Ok(None),
-    }
-}
-
-/// Takes the turns of a case, and prints what it asks for.
-fn run_on(rt: &HostRuntime, alloc: Global, case: &Case, device: &mut Device) -> io::Result<()> {
-    take_steps(rt, device, case.steps.as_slice())?;
-    if case.to_the_end {
-        go_to_the_end(device)?;
-    }
-    if case.shows_aperture {
-        print_aperture(rt, device)?;
-    }
-    print_report(rt, alloc, device);
-    Ok(())
-}
-
+/// A case that names actors steps a device, any other runs the simulator.
 fn run(rt: &HostRuntime, alloc: Global, case: &Case) -> io::Result<()> {
-    let name = case.name.as_str();
-    println!(rt; "case {name}")?;
-    match device_for(alloc, case.text.as_slice())? {
-        Some(mut device) => {
-            let ran = run_on(rt, alloc, case, &mut device);
-            drop(device);
-            ran
-        }
-        None => println!(rt; "no script"),
+    if case.steps.is_empty() {
+        simulated::run(rt, alloc, case)
+    } else {
+        stepped::run(rt, alloc, case)
     }
 }
 

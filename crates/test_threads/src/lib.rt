@@ -1,4 +1,4 @@
-//! Gates that look at workers, and tests of the turn lock, of workers and of the program on threads with them.
+//! Gates that look at workers, and tests of the turn lock, of workers and of the program on threads with them; and verdicts on reports.
 #![tactic(auto)]
 
 #[cfg(test)]
@@ -9,6 +9,8 @@ mod gates;
 mod program;
 #[cfg(test)]
 mod tests;
+#[cfg(test)]
+mod verdicts;
 #[cfg(test)]
 mod watch;
 #[cfg(test)]

@@ -1,19 +1,15 @@
-//! Runs cases of the simulator, and prints what each wrote and its status.
-#![tactic(auto)]
-
 use command_words::Words;
 use io_edge::{MemSink, MemSource};
 use simulator::sim_top;
 use std::alloc::Global;
 use std::io;
-use std::io::{BufRead, BufReader};
-use test_cases::{Case, Table, no_memory};
+use test_cases::{Case, no_memory};
 
 /// Room for the output of a case, in bytes.
 const ROOM: usize = 1 << 20;
 
 /// What came of a run.
-#[derive(PartialEq, Eq, Drop)]
+#[derive(Drop)]
 struct Outcome {
     status: u8,
     output: Vec<u8>,
@@ -52,28 +48,25 @@ fn print_outcome(rt: &impl Print, name: &str, outcome: &Outcome) -> io::Result<(
     }
 }
 
-/// Runs a case with each number of bytes a read or a write. Prints the first outcome, and any that isn't as the one before.
-fn run(rt: &impl Print, alloc: Global, case: &Case) -> io::Result<()> {
-    let mut before = None;
-    for chunk in &case.chunks {
-        let outcome = Some(outcome_of(alloc, case, *chunk as usize)?);
-        if outcome != before {
-            if let Some(outcome) = &outcome {
-                print_outcome(rt, case.name.as_str(), outcome)?;
-            }
+/// An outcome is as that of the run before it.
+fn is_known(before: &Option<Outcome>, outcome: &Outcome) -> bool {
+    match before {
+        Some(before) => {
+            before.status == outcome.status && before.output.as_slice() == outcome.output.as_slice()
         }
-        before = outcome;
+        None => false,
     }
-    Ok(())
 }
 
-fn main(rt: HostRuntime) -> io::Result<()> {
-    let alloc = rt.alloc();
-    let mut table = Table::new(alloc);
-    for line in BufReader::new(alloc, rt.reader())?.lines(alloc) {
-        if let Some(case) = table.take(line?.as_str())? {
-            run(&rt, alloc, &case)?;
+/// Runs a case with each number of bytes a read or a write. Prints the first outcome, and any that isn't as the one before.
+pub fn run(rt: &impl Print, alloc: Global, case: &Case) -> io::Result<()> {
+    let mut before = None;
+    for chunk in &case.chunks {
+        let outcome = outcome_of(alloc, case, *chunk as usize)?;
+        if !is_known(&before, &outcome) {
+            print_outcome(rt, case.name.as_str(), &outcome)?;
         }
+        before = Some(outcome);
     }
     Ok(())
 }

@@ -1,5 +1,5 @@
 use Rattle.test_device.proofs.ReportLaws.{same_accounts}
-use Rattle.test_device.proofs.write_device.Goals as goal
+use Rattle.test_device.proofs.stepped.write_device.Goals as goal
 
 pub write_report-requires-clause-accounts : goal.write_report-requires-clause-accounts
 write_report-requires-clause-accounts g c =

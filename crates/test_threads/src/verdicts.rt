@@ -1,11 +1,10 @@
-ghost use Rattle.std.specs.Prelude.{◌≤◌};
-
-use check_program::check_top;
-use io_edge::{MemSink, MemSource};
-use simulator::Status;
+//! Verdicts on reports, right ones and ones that are broken in one place.
+use crate::program::{ONE_THREAD, WHOLE};
+use crate::tests::{Edges, run_by};
 use std::alloc::Global;
-use std::process::Abort;
 use std::test::Fail;
+use thread_program::Status;
+use worker_pool::IdleGate;
 
 /// No buffer and no thread.
 const EMPTY: &str = "ttm 1
@@ -29,46 +28,6 @@ swap size 2 free 2 live 0 target 0 ghost 0
 end
 ";
 
-/// A buffer of two pages; two bytes are written across their border, and read.
-const ACROSS: &str = "ttm 1
-vram range 0
-tt 0
-frames 2
-swap 0
-engines 0
-buffer a 2 prio 1 group - align 1 want sys busy sys
-thread
-new a
-write a 4094 0102
-read a 4093 4
-end
-";
-
-/// Its report.
-const ACROSS_REPORT: &str = "report 1
-journal 10
-1 t1 new a
-2 t1 result ok
-3 t1 ticket 1
-4 t1 reserve a
-5 t1 populate a 0 0
-6 t1 populate a 1 1
-7 t1 result ok
-8 t1 ticket 2
-9 t1 reserve a
-10 t1 result read 00010200
-results
-t1 1 ok
-t1 2 ok
-t1 3 read 00010200
-accounts
-vram size 0 free 0 live 0 target 0 ghost 0
-tt size 0 free 0 live 0 target 0 ghost 0
-frames size 2 free 0 live 2 target 0 ghost 0
-swap size 0 free 0 live 0 target 0 ghost 0
-end
-";
-
 /// A script, its report, the lines of the report that are others, up to two, and what stands in their place.
 type Input = (
     &'static str,
@@ -82,11 +41,11 @@ const AS_IT_IS: [(&str, &str); 2] = [("", ""), ("", "")];
 /// An input, the status, and what is written.
 const ROWS: [(Input, Status, &str); 12] = [
     ((EMPTY, EMPTY_REPORT, AS_IT_IS), Status::Done, "valid\n"),
-    ((ACROSS, ACROSS_REPORT, AS_IT_IS), Status::Done, "valid\n"),
+    ((ONE_THREAD, WHOLE, AS_IT_IS), Status::Done, "valid\n"),
     (
         (
-            ACROSS,
-            ACROSS_REPORT,
+            ONE_THREAD,
+            WHOLE,
             [
                 ("10 t1 result read 00010200", "10 t1 result read 00010201\n"),
                 ("", ""),
@@ -97,8 +56,8 @@ const ROWS: [(Input, Status, &str); 12] = [
     ),
     (
         (
-            ACROSS,
-            ACROSS_REPORT,
+            ONE_THREAD,
+            WHOLE,
             [("5 t1 populate a 0 0", "5 t1 populate a 0 1\n"), ("", "")],
         ),
         Status::Rejected,
@@ -106,8 +65,8 @@ const ROWS: [(Input, Status, &str); 12] = [
     ),
     (
         (
-            ACROSS,
-            ACROSS_REPORT,
+            ONE_THREAD,
+            WHOLE,
             [("5 t1 populate a 0 0", "5 t2 populate a 0 0\n"), ("", "")],
         ),
         Status::Rejected,
@@ -115,8 +74,8 @@ const ROWS: [(Input, Status, &str); 12] = [
     ),
     (
         (
-            ACROSS,
-            ACROSS_REPORT,
+            ONE_THREAD,
+            WHOLE,
             [
                 ("journal 10", "journal 9\n"),
                 ("10 t1 result read 00010200", ""),
@@ -127,8 +86,8 @@ const ROWS: [(Input, Status, &str); 12] = [
     ),
     (
         (
-            ACROSS,
-            ACROSS_REPORT,
+            ONE_THREAD,
+            WHOLE,
             [
                 (
                     "frames size 2 free 0 live 2 target 0 ghost 0",
@@ -141,21 +100,21 @@ const ROWS: [(Input, Status, &str); 12] = [
         "rejected: entry 11, rule 6\n",
     ),
     (
-        (ACROSS, "", AS_IT_IS),
+        (ONE_THREAD, "", AS_IT_IS),
         Status::Rejected,
         "rejected: entry 0, rule 1\n",
     ),
     (
         (
-            ACROSS,
-            ACROSS_REPORT,
+            ONE_THREAD,
+            WHOLE,
             [("journal 10", "journal 12\n"), ("", "")],
         ),
         Status::Rejected,
         "rejected: entry 11, rule 2\n",
     ),
     (
-        (ACROSS, ACROSS_REPORT, [("end", "end\nend\n"), ("", "")]),
+        (ONE_THREAD, WHOLE, [("end", "end\nend\n"), ("", "")]),
         Status::Rejected,
         "rejected: entry 11, rule 6\n",
     ),
@@ -171,6 +130,7 @@ const ROWS: [(Input, Status, &str); 12] = [
     ),
 ];
 
+/// Puts a text at the end of bytes.
 fn push(bytes: &mut Vec<u8>, text: &str) -> Result<(), Fail> {
     bytes.extend_from_slice(text.as_bytes())?;
     Ok(())
@@ -193,31 +153,20 @@ fn bytes_of(alloc: Global, input: Input) -> Result<Vec<u8>, Fail> {
     Ok(bytes)
 }
 
-/// A row, read and written in pieces of so many bytes at most.
-fn assert_row<R: Abort>(
-    rt: &R,
-    alloc: Global,
-    row: usize,
-    case: &(Input, Status, &str),
-    chunk: usize,
-) -> Result<(), Fail>
-    requires { 1 ≤ chunk }
-{
-    let (input, want, text) = case;
-    let mut source = MemSource::new(bytes_of(alloc, *input)?, chunk, Vec::new(alloc));
-    let mut sink = MemSink::new(alloc, 100, chunk, Vec::new(alloc))?;
-    let status = check_top(alloc, &mut source, &mut sink);
-    assert!(rt; status == *want, "row {row}");
-    assert!(rt; sink.bytes() == text.as_bytes(), "row {row}");
-    Ok(())
-}
-
 #[test]
 fn verdicts_on_reports(rt: HostRuntime) -> Result<(), Fail> {
-    let alloc = rt.alloc();
-    for (row, case) in ROWS.iter().enumerate() {
-        assert_row(&rt, alloc, row, case, 1)?;
-        assert_row(&rt, alloc, row, case, 4096)?;
+    for (row, (input, want, text)) in ROWS.iter().enumerate() {
+        let bytes = bytes_of(rt.alloc(), *input)?;
+        for chunk in [1, 4096] {
+            let edges = Edges {
+                chunk,
+                read: 0,
+                write: 0,
+            };
+            let (status, sink) = run_by(&rt, rt.alloc(), &["check"], &bytes, &IdleGate, edges)?;
+            assert!(rt; status == *want, "row {row}");
+            assert!(rt; sink.bytes() == text.as_bytes(), "row {row}");
+        }
     }
     Ok(())
 }
@@ -225,16 +174,18 @@ fn verdicts_on_reports(rt: HostRuntime) -> Result<(), Fail> {
 /// A source and a sink that fail.
 #[test]
 fn reads_and_writes_that_fail(rt: HostRuntime) -> Result<(), Fail> {
-    let alloc = rt.alloc();
-    for (reads, writes, want, text) in [
+    let bytes = bytes_of(rt.alloc(), (EMPTY, EMPTY_REPORT, AS_IT_IS))?;
+    for (read, write, want, text) in [
         (2, 9, Status::ReadFault, "read fault\n"),
         (9, 1, Status::WriteFault, ""),
         (1, 1, Status::WriteFault, ""),
     ] {
-        let bytes = bytes_of(alloc, (EMPTY, EMPTY_REPORT, AS_IT_IS))?;
-        let mut source = MemSource::new(bytes, 4096, vec![in alloc; reads]?);
-        let mut sink = MemSink::new(alloc, 100, 4096, vec![in alloc; writes]?)?;
-        let status = check_top(alloc, &mut source, &mut sink);
+        let edges = Edges {
+            chunk: 4096,
+            read,
+            write,
+        };
+        let (status, sink) = run_by(&rt, rt.alloc(), &["check"], &bytes, &IdleGate, edges)?;
         assert!(rt; status == want);
         assert!(rt; sink.bytes() == text.as_bytes());
     }
