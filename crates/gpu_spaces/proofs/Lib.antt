@@ -1,0 +1,6 @@
+pub mod Around
+pub mod Changing
+pub mod Cutting
+pub mod Kept
+pub mod Meeting
+pub mod Small

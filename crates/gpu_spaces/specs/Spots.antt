@@ -1,0 +1,13 @@
+-- Spots and pieces as the definitions have them.
+use Rattle.journal_model.specs.ByName as name
+use Rattle.journal_model.specs.ByName.{Part}
+use Rattle.gpu_spaces.specs.declared.spot.Spot.{Spot}
+use Rattle.gpu_spaces.specs.declared.pieces.Piece.{Piece}
+
+-- where an address stands
+abbrev pub spot_of : Spot → name.Spot
+spot_of s = record { b = s.b; off = s.off; room = s.room }
+
+-- bytes that stand side by side
+abbrev pub part_of : Piece → Part
+part_of p = record { b = p.b; off = p.off; len = p.len }

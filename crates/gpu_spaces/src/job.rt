@@ -1,0 +1,123 @@
+//! The job by name: operations with addresses, cut at the borders of mappings.
+ghost use Rattle.std.specs.Prelude.{◌≡◌, ◌+◌, ◌-◌, ◌≤◌, ◌++◌, true, false, Some, None, IfOk, option_map, if◌then◌else◌};
+ghost use Rattle.std.specs.List.{list_all};
+ghost use Rattle.journal_model.specs.ByName as name;
+ghost use Rattle.journal_model.specs.ByName.{job_by_name, op_in_names};
+ghost use Rattle.journal_model.specs.MarkRules.{is_vop};
+ghost use Rattle.gpu_spaces.specs.Kept.{regions_in};
+ghost use Rattle.gpu_spaces.specs.Regions.{IsKept};
+ghost use Rattle.gpu_spaces.specs.Spots.{spot_of};
+
+use crate::mappings::Mappings;
+use crate::spot::{Spot, spot_at};
+use journal_model::{Ops, VOp};
+use std::alloc::Global;
+use ttm_base::{NoMemory, Op};
+
+/// How many bytes an operation takes.
+fn vop_len(op: VOp) -> u32
+    ensures { result ≡ name.vop_len op }
+{
+    match op {
+        VOp::Fill { len, .. }
+        | VOp::Copy { len, .. }
+        | VOp::Xor { len, .. }
+        | VOp::Probe { len, .. } => len,
+    }
+}
+
+/// The address that is written, or that a probe reads.
+fn first_address(op: VOp) -> u64
+    ensures { result ≡ name.first_address op }
+{
+    match op {
+        VOp::Fill { addr, .. }
+        | VOp::Copy { addr, .. }
+        | VOp::Xor { addr, .. }
+        | VOp::Probe { addr, .. } => addr,
+    }
+}
+
+/// The address that is read beside it.
+fn second_address(op: VOp) -> u64
+    ensures { result ≡ name.second_address op }
+{
+    match op {
+        VOp::Copy { from, .. } | VOp::Xor { from, .. } => from,
+        VOp::Fill { addr, .. } | VOp::Probe { addr, .. } => addr,
+    }
+}
+
+/// `n` bytes of an operation, from one spot and, where it has two, from the other.
+fn op_by_name(op: VOp, first: Spot, second: Spot, n: u32) -> Op
+    ensures { result ≡ name.op_by_name op (spot_of first) (spot_of second) n }
+{
+    match op {
+        VOp::Fill { byte, .. } => Op::Fill {
+            dst: first.b,
+            off: first.off,
+            len: n,
+            byte,
+        },
+        VOp::Copy { .. } => Op::Copy {
+            dst: first.b,
+            doff: first.off,
+            src: second.b,
+            soff: second.off,
+            len: n,
+        },
+        VOp::Xor { .. } => Op::Xor {
+            dst: first.b,
+            doff: first.off,
+            src: second.b,
+            soff: second.off,
+            len: n,
+        },
+        VOp::Probe { .. } => Op::Probe {
+            src: first.b,
+            off: first.off,
+            len: n,
+        },
+    }
+}
+
+/// Puts an operation by name behind others. False where a page isn't mapped.
+fn push_ops(mappings: &Mappings, op: VOp, job: &mut Ops) -> Result<bool, NoMemory>
+    requires kept { IsKept (regions_in mappings.now) }
+    requires inside { is_vop op ≡ true }
+    ensures { IfOk result (λ mapped. option_map (λ ops. job.old ++ ops) (op_in_names (regions_in mappings.now) op) ≡ (if mapped then Some job.new else None)) }
+{
+    let len = vop_len(op);
+    let mut at = 0;
+    while at < len {
+        let Some(first) = spot_at(mappings, first_address(op) + u64::from(at)) else {
+            return Ok(false);
+        };
+        let Some(second) = spot_at(mappings, second_address(op) + u64::from(at)) else {
+            return Ok(false);
+        };
+        let n = u64::from(len - at).min(first.room.min(second.room)) as u32;
+        job.push(op_by_name(op, first, second, n))?;
+        at += n;
+    }
+    Ok(true)
+}
+
+/// The job by name. None where a page isn't mapped.
+pub(crate) fn job_of(
+    alloc: Global,
+    mappings: &Mappings,
+    ops: &[VOp],
+) -> Result<Option<Ops>, NoMemory>
+    requires kept { IsKept (regions_in mappings.now) }
+    requires inside { list_all is_vop ops.now ≡ true }
+    ensures { IfOk result (λ job. job ≡ job_by_name (regions_in mappings.now) ops.now) }
+{
+    let mut job = Ops::new(alloc);
+    for op in ops {
+        if !push_ops(mappings, *op, &mut job)? {
+            return Ok(None);
+        }
+    }
+    Ok(Some(job))
+}

@@ -1,0 +1,13 @@
+//! The address space of a GPU thread: which page of a buffer stands at each of its pages (drm_gpuvm).
+#![tactic(auto)]
+
+mod change;
+mod job;
+mod mappings;
+mod pieces;
+mod space;
+mod spot;
+mod steps;
+
+pub use pieces::{Piece, Pieces};
+pub use space::{SPACE_PAGES, Space};
