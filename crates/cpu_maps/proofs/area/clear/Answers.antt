@@ -1,0 +1,11 @@
+use Rattle.std.proofs.Common.{◌<◌, length, arith, ◌∙◌, None}
+use Rattle.std.proofs.Math.ListN.{length-set}
+use Rattle.std.proofs.lemmas.Option.{slice_get-get_or}
+use Rattle.journal_model.proofs.ListSteps.{map_over_step}
+use Rattle.cpu_maps.proofs.area.clear.Goals as goal
+
+pub loop-i-preserved : goal.loop-i-preserved
+loop-i-preserved c =
+    let within : c.loop-i.i < length c.args.entries.now = omega arith in
+    let here : c.loop-i.i < length c.loop-i.entries = omega (arith, c.loop-i.invariant.1) in
+    rw c.set.ensures (map_over_step (λ entry. None) _ _ _ _ within c.loop-i.invariant.0 (slice_get-get_or _ _ None here), length-set _ _ _ ∙ c.loop-i.invariant.1)

@@ -1,0 +1,100 @@
+use cpu_maps::CpuMaps;
+use journal_model::{
+    CommandLists, Decl, Decls, Mark, MarkKind, Marks, Name, Script, Sizes, TurnLines,
+};
+use std::alloc::Global;
+use std::process::Abort;
+use ttm_base::{BufId, FlaggedPlaces, Placement};
+
+pub const A: BufId = BufId(0);
+
+pub const B: BufId = BufId(1);
+
+const SIZES: Sizes = Sizes {
+    buddy: false,
+    vram: 2,
+    tt: 8,
+    frames: 8,
+    swap: 0,
+    engines: 0,
+};
+
+/// A line of a thread that maps a buffer, or that unmaps it.
+#[derive(Clone, Copy)]
+pub enum MapLine {
+    Map(u32, BufId),
+    Unmap(u32, BufId),
+}
+
+/// A buffer of two pages.
+fn two_pages(alloc: Global) -> Decl {
+    Decl {
+        name: Name::new(alloc),
+        pages: 2,
+        prio: 1,
+        group: None,
+        align: 1,
+        placement: Placement {
+            list: FlaggedPlaces::new(alloc),
+        },
+    }
+}
+
+/// The mark of a line.
+fn mark_of(line: MapLine) -> Mark {
+    let (thread, kind) = match line {
+        MapLine::Map(thread, b) => (thread, MarkKind::Map { b }),
+        MapLine::Unmap(thread, b) => (thread, MarkKind::Unmap { b }),
+    };
+    Mark {
+        thread,
+        after: 0,
+        kind,
+    }
+}
+
+/// The mappings of a script with two buffers and these lines.
+pub fn maps_of(rt: &impl Abort, alloc: Global, lines: &[MapLine]) -> CpuMaps {
+    let mut buffers = Decls::new(alloc);
+    buffers.push(two_pages(alloc)).expect(rt, "a buffer");
+    buffers.push(two_pages(alloc)).expect(rt, "a buffer");
+    let mut marks = Marks::new(alloc);
+    for line in lines {
+        marks.push(mark_of(*line)).expect(rt, "a line");
+    }
+    let script = Script {
+        version: 2,
+        sizes: SIZES,
+        buffers,
+        threads: CommandLists::new(alloc),
+        turns: TurnLines::new(alloc),
+        marks,
+    };
+    CpuMaps::new(alloc, &script).expect(rt, "mappings")
+}
+
+/// The mappings are of these threads and buffers, with two pages each.
+fn assert_areas(rt: &impl Abort, maps: &CpuMaps, want: &[(u32, BufId)]) {
+    let areas = maps.areas();
+    assert!(rt; areas.len() == want.len());
+    for (area, (thread, b)) in areas.iter().zip(want.iter()) {
+        assert!(rt; area.thread == *thread && area.b == *b);
+        assert!(rt; area.entries.items() == [None, None].as_slice());
+    }
+}
+
+/// A buffer that a thread maps again has the same mapping; that of another thread is another.
+#[test]
+fn one_mapping_for_each_buffer_of_a_thread(rt: HostRuntime) {
+    let alloc = rt.alloc();
+    assert_areas(&rt, &maps_of(&rt, alloc, &[]), &[]);
+    let lines = [
+        MapLine::Map(1, B),
+        MapLine::Map(1, A),
+        MapLine::Unmap(1, B),
+        MapLine::Map(1, B),
+        MapLine::Map(3, B),
+    ];
+    let maps = maps_of(&rt, alloc, &lines);
+    assert_areas(&rt, &maps, &[(1, B), (1, A), (3, B)]);
+}
