@@ -47,40 +47,62 @@ fn print_speed(rt: &impl Print, way: Way, nanos: u64, plain: u64) -> io::Result<
     println!(rt; "{name}: {speed} MB/s, {part} % of plain")
 }
 
-/// Prints how fast each way is in its fastest round.
-fn print_speeds(rt: &(impl Print + Clock), pages: &mut Pages) -> io::Result<()> {
-    let mut least = [u64::MAX; WAYS.len()];
-    for _turn in 0..TURNS {
-        for (way, least) in WAYS.iter().zip(least.iter_mut()) {
-            *least = least_nanos(rt, pages, *way)?.min(*least);
-        }
-    }
-    let mut plain = 0;
-    for (way, nanos) in WAYS.iter().zip(least.iter()) {
-        if way.is_plain() {
-            plain = *nanos;
-        }
-        print_speed(rt, *way, *nanos, plain)?;
+/// Gives each way a turn, after which these are the nanoseconds of its fastest round so far.
+fn take_turns(rt: &impl Clock, pages: &mut Pages, least: &mut [u64; WAYS.len()]) -> io::Result<()> {
+    for i in 0..WAYS.len() {
+        least[i] = least_nanos(rt, pages, WAYS[i])?.min(least[i]);
     }
     Ok(())
 }
 
-/// Makes one round of each way, and prints whether the bytes are as they should be.
-fn print_bytes(rt: &impl Print, pages: &mut Pages) -> io::Result<()> {
-    for way in WAYS {
-        pages.clear();
-        pages.round(way);
-        let name = way.name();
-        let word = if pages.is_done(way) { "same" } else { "other" };
-        println!(rt; "{name}: {word}")?;
+/// Prints how fast each way is, compared with the plain way before it.
+fn print_least(rt: &impl Print, least: &[u64; WAYS.len()]) -> io::Result<()> {
+    let mut plain = 0;
+    for i in 0..WAYS.len() {
+        if WAYS[i].is_plain() {
+            plain = least[i];
+        }
+        print_speed(rt, WAYS[i], least[i], plain)?;
     }
     Ok(())
+}
+
+/// Prints how fast each way is in its fastest round.
+fn print_speeds(rt: &(impl Print + Clock), alloc: Global) -> io::Result<()> {
+    let mut pages = Pages::new(alloc).map_err(no_memory)?;
+    let mut least = [u64::MAX; WAYS.len()];
+    for _turn in 0..TURNS {
+        take_turns(rt, &mut pages, &mut least)?;
+    }
+    print_least(rt, &least)
+}
+
+/// Prints whether a measured thing is as it should be.
+fn print_word(rt: &impl Print, name: &str, is_right: bool) -> io::Result<()> {
+    let word = if is_right { "same" } else { "other" };
+    println!(rt; "{name}: {word}")
+}
+
+/// Makes one round of each way, and prints whether the bytes are as they should be.
+fn print_rounds(rt: &impl Print, pages: &mut Pages) -> io::Result<()> {
+    for way in &WAYS {
+        pages.clear();
+        pages.round(*way);
+        print_word(rt, way.name(), pages.is_done(*way))?;
+    }
+    Ok(())
+}
+
+/// Prints of each way whether it leaves the bytes that it should.
+fn print_bytes(rt: &impl Print, alloc: Global) -> io::Result<()> {
+    let mut pages = Pages::new(alloc).map_err(no_memory)?;
+    print_rounds(rt, &mut pages)
 }
 
 /// Prints the time of a push and a finish in rings of several sizes.
 fn print_ring_times(rt: &(impl Print + Clock), alloc: Global) -> io::Result<()> {
-    for jobs in RINGS {
-        let nanos = rings::pair_nanos(rt, alloc, jobs)?;
+    for jobs in &RINGS {
+        let nanos = rings::pair_nanos(rt, alloc, *jobs)?;
         println!(rt; "push and finish, {jobs} jobs in the ring: {nanos} ns")?;
     }
     Ok(())
@@ -88,22 +110,28 @@ fn print_ring_times(rt: &(impl Print + Clock), alloc: Global) -> io::Result<()> 
 
 /// Prints whether jobs leave rings of several sizes in order.
 fn print_order(rt: &impl Print, alloc: Global) -> io::Result<()> {
-    for jobs in RINGS {
-        let in_order = rings::is_in_order(alloc, jobs).map_err(no_memory)?;
+    for jobs in &RINGS {
+        let in_order = rings::is_in_order(alloc, *jobs).map_err(no_memory)?;
         let word = if in_order { "same" } else { "other" };
         println!(rt; "order of {jobs} jobs: {word}")?;
     }
     Ok(())
 }
 
-fn main(rt: HostRuntime) -> io::Result<()> {
-    let mut pages = Pages::new(rt.alloc()).map_err(no_memory)?;
-    for word in env::args(&rt)?.skip(1) {
-        if word.as_str() == "--time" {
-            print_speeds(&rt, &mut pages)?;
-            return print_ring_times(&rt, rt.alloc());
-        }
+/// Whether the words ask for times.
+fn wants_times(rt: &(impl Env + Alloc)) -> io::Result<bool> {
+    let mut wants = false;
+    for word in env::args(rt)?.skip(1) {
+        wants = wants || word.as_str() == "--time";
     }
-    print_bytes(&rt, &mut pages)?;
+    Ok(wants)
+}
+
+fn main(rt: HostRuntime) -> io::Result<()> {
+    if wants_times(&rt)? {
+        print_speeds(&rt, rt.alloc())?;
+        return print_ring_times(&rt, rt.alloc());
+    }
+    print_bytes(&rt, rt.alloc())?;
     print_order(&rt, rt.alloc())
 }

@@ -24,7 +24,7 @@ pub const SIZE: usize = LEN * PAGES as usize;
 const FILL: u8 = 0x5a;
 
 /// A way to copy or to fill pages.
-#[derive(Clone, Copy, PartialEq, Eq)]
+#[derive(Clone, Copy)]
 pub enum Way {
     PlainCopy,
     StoreCopy,
@@ -58,7 +58,10 @@ impl Way {
 
     /// Whether it is a plain way, with which those behind it are compared.
     pub fn is_plain(self) -> bool {
-        matches!(&self, Way::PlainCopy | Way::PlainFill)
+        match self {
+            Way::PlainCopy | Way::PlainFill => true,
+            Way::StoreCopy | Way::PacketCopy | Way::ApertureCopy | Way::StoreFill => false,
+        }
     }
 }
 
@@ -92,15 +95,37 @@ fn map_all(aper: &mut Aperture)
     }
 }
 
+/// The byte behind one of those by which pages differ: they go from 0 to 250, and again.
+fn next_byte(byte: u8) -> u8 {
+    if byte < 250 { byte + 1 } else { 0 }
+}
+
 /// So many bytes, by which pages differ.
 fn numbered(alloc: Global, len: usize) -> Result<Vec<u8>, NoMemory>
     ensures { IfOk result (λ bytes. length bytes.items ≡ len) }
 {
     let mut bytes = Vec::with_capacity(alloc, len)?;
-    for i in 0..len {
-        bytes.push((i % 251) as u8)?;
+    let mut byte = 0;
+    for _i in 0..len {
+        bytes.push(byte)?;
+        byte = next_byte(byte);
     }
     Ok(bytes)
+}
+
+/// Stores whose frames have these bytes, and an aperture that maps all of them.
+fn new_stores(alloc: Global, bytes: &[u8]) -> Result<Stores, NoMemory>
+    requires { length bytes.now ≡ 4194304 }
+    ensures vram { IfOk result (λ stores. length stores.vram ≡ 4194304) }
+    ensures frames { IfOk result (λ stores. length stores.frames ≡ 4194304) }
+    ensures aper { IfOk result (λ stores. IsMapped stores.aper) }
+{
+    let vram = ByteStore::new(alloc, PAGES)?;
+    let mut frames = ByteStore::new(alloc, PAGES)?;
+    frames.copy_page_part(0, bytes);
+    let mut aper = Aperture::new(alloc, PAGES)?;
+    map_all(&mut aper);
+    Ok(Stores { vram, frames, aper })
 }
 
 /// The packet that copies a page to VRAM.
@@ -116,20 +141,27 @@ fn copy_packet(from: PagePlace, page: u32) -> Packet
     }
 }
 
+/// Whether each byte is the one that is filled in.
+fn are_filled(bytes: &[u8]) -> bool {
+    for byte in bytes {
+        if *byte != FILL {
+            return false;
+        }
+    }
+    true
+}
+
 impl Pages {
     pub fn new(alloc: Global) -> Result<Pages, NoMemory> {
         let from = numbered(alloc, SIZE)?;
         let to = Vec::from_slice(alloc, from.as_slice())?;
-        let vram = ByteStore::new(alloc, PAGES)?;
-        let mut frames = ByteStore::new(alloc, PAGES)?;
-        frames.copy_page_part(0, from.as_slice());
-        let mut aper = Aperture::new(alloc, PAGES)?;
-        map_all(&mut aper);
+        let stores = new_stores(alloc, from.as_slice())?;
+        let out = ProbeBytes::new(alloc)?;
         Ok(Pages {
             from,
             to,
-            stores: Stores { vram, frames, aper },
-            out: ProbeBytes::new(alloc)?,
+            stores,
+            out,
         })
     }
 
@@ -181,8 +213,8 @@ impl Pages {
         match way {
             Way::PlainCopy => self.to == self.from,
             Way::StoreCopy | Way::PacketCopy | Way::ApertureCopy => vram == self.from.as_slice(),
-            Way::PlainFill => self.to.iter().all(|byte| *byte == FILL),
-            Way::StoreFill => vram.iter().all(|byte| *byte == FILL),
+            Way::PlainFill => are_filled(self.to.as_slice()),
+            Way::StoreFill => are_filled(vram),
         }
     }
 }

@@ -7,7 +7,7 @@ use std::io;
 use std::marker::Model;
 use std::rt::Clock;
 use std::time::Instant;
-use ttm_base::{JobId, NoMemory, Packet};
+use ttm_base::{JobId, NoMemory};
 
 /// How many jobs are pushed, and as many finished, between two looks at the clock.
 const PAIRS: u32 = 1000;
@@ -15,28 +15,26 @@ const PAIRS: u32 = 1000;
 /// How many times the clock is looked at.
 const ROUNDS: u32 = 50;
 
-/// A job that is ready to be pushed: it waits for none, and has no packet.
+/// A job that is ready to be pushed: it has no packet, and waits for none.
 #[derive(Drop)]
 struct IdleJob {
     waits: FenceSet,
-    packets: Vec<Packet>,
 }
 
 impl Model for IdleJob {
-    ghost use Rattle.std.specs.Prelude.{◌≡◌, [], ℕ, length};
+    ghost use Rattle.std.specs.Prelude.{◌≡◌, ℕ, length};
 
     ghost Value = { ℕ };
 
     ghost view = { λ j. length j.waits };
 
-    ghost invariant = { λ j. (length j.waits ≡ 1) × (j.packets.items ≡ []) };
+    ghost invariant = { λ j. length j.waits ≡ 1 };
 }
 
 impl IdleJob {
     fn new(alloc: Global) -> Result<IdleJob, NoMemory> {
         let waits = FenceSet::new(alloc, 1)?;
-        let packets = Vec::new(alloc);
-        Ok(IdleJob { waits, packets })
+        Ok(IdleJob { waits })
     }
 }
 
@@ -63,16 +61,17 @@ impl OneRing {
         let rings = Rings::new(alloc, 1)?;
         let mut ring = OneRing { rings };
         for num in 0..jobs {
-            ring.push(num, IdleJob::new(alloc)?)?;
+            ring.push(alloc, num, IdleJob::new(alloc)?)?;
         }
         Ok(ring)
     }
 
-    /// Puts a job last.
-    fn push(&mut self, before: u32, job: IdleJob) -> Result<(), NoMemory> {
-        let IdleJob { waits, packets } = job;
+    /// Puts a job with no packet last.
+    fn push(&mut self, alloc: Global, before: u32, job: IdleJob) -> Result<(), NoMemory> {
+        let IdleJob { waits } = job;
         let num = before as u64 + 1;
-        self.rings.push(JobId { ctx: 0, num }, waits, packets)
+        self.rings
+            .push(JobId { ctx: 0, num }, waits, Vec::new(alloc))
     }
 
     /// Drops the first job, and names it.
@@ -95,18 +94,29 @@ fn idle_jobs(alloc: Global, count: u32) -> Result<Vec<IdleJob>, NoMemory> {
     Ok(jobs)
 }
 
+/// Pushes each of some jobs, and finishes one behind each.
+fn push_and_finish(alloc: Global, ring: &mut OneRing, jobs: Vec<IdleJob>) -> Result<(), NoMemory> {
+    for job in jobs {
+        ring.push(alloc, 0, job)?;
+        ring.finish();
+    }
+    Ok(())
+}
+
+/// The nanoseconds of a round of pushes and finishes.
+fn round_nanos(rt: &impl Clock, alloc: Global, ring: &mut OneRing) -> io::Result<u64> {
+    let jobs = idle_jobs(alloc, PAIRS).map_err(no_memory)?;
+    let start = Instant::now(rt)?;
+    push_and_finish(alloc, ring, jobs).map_err(no_memory)?;
+    nanos_since(rt, start)
+}
+
 /// The nanoseconds of a push and a finish with so many jobs in the ring, in the fastest round.
 pub fn pair_nanos(rt: &impl Clock, alloc: Global, jobs: u32) -> io::Result<u64> {
     let mut ring = OneRing::new(alloc, jobs).map_err(no_memory)?;
     let mut least = u64::MAX;
     for _round in 0..ROUNDS {
-        let idle = idle_jobs(alloc, PAIRS).map_err(no_memory)?;
-        let start = Instant::now(rt)?;
-        for job in idle {
-            ring.push(0, job).map_err(no_memory)?;
-            ring.finish();
-        }
-        least = nanos_since(rt, start)?.min(least);
+        least = round_nanos(rt, alloc, &mut ring)?.min(least);
     }
     Ok(least / PAIRS as u64)
 }
@@ -114,11 +124,10 @@ pub fn pair_nanos(rt: &impl Clock, alloc: Global, jobs: u32) -> io::Result<u64> 
 /// Whether so many jobs leave a ring in the order in which they came.
 pub fn is_in_order(alloc: Global, jobs: u32) -> Result<bool, NoMemory> {
     let mut ring = OneRing::new(alloc, jobs)?;
+    let mut in_order = true;
     for before in 0..jobs {
         let num = before as u64 + 1;
-        if ring.finish() != Some(JobId { ctx: 0, num }) {
-            return Ok(false);
-        }
+        in_order = in_order && ring.finish() == Some(JobId { ctx: 0, num });
     }
-    Ok(ring.finish().is_none())
+    Ok(in_order && ring.finish().is_none())
 }

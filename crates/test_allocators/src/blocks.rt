@@ -48,32 +48,21 @@ fn got(
     }
 }
 
-/// A request for pages anywhere gets these blocks.
-fn gets(
-    rt: &impl Abort,
-    alloc: Global,
-    manager: &mut BuddyManager,
-    pages: u32,
-    flags: BuddyFlags,
-    want: &[Span],
-) {
-    let blocks = got(rt, alloc, manager, pages, ALL, flags);
-    assert!(rt; blocks.items() == want);
-}
+/// A request for pages anywhere, and the block that it is to get.
+type Row = (u32, BuddyFlags, Span);
 
-/// The answer to each case is the one that is wanted.
-fn answers(rt: &impl Abort, alloc: Global, cases: &[Case]) {
-    for case in cases {
-        let mut manager = BuddyManager::new(alloc, 12).expect(rt, "a manager");
-        let blocks = got(rt, alloc, &mut manager, case.pages, case.range, case.flags);
-        assert!(rt; blocks.items() == case.want);
-        assert!(rt; manager.lengths() == case.lengths);
-        drop(manager);
+/// Each request gets its block.
+fn get(rt: &impl Abort, alloc: Global, manager: &mut BuddyManager, rows: &[Row]) {
+    for (pages, flags, want) in rows {
+        let blocks = got(rt, alloc, manager, *pages, ALL, *flags);
+        assert!(rt; blocks.items() == [*want].as_slice());
+        drop(blocks);
     }
 }
 
-/// Requests in all pages.
-const ANYWHERE: [Case; 4] = [
+/// Requests, and their answers.
+const CASES: [Case; 9] = [
+    // in all pages
     Case {
         pages: 3,
         range: ALL,
@@ -102,15 +91,7 @@ const ANYWHERE: [Case; 4] = [
         want: &[],
         lengths: (12, 0),
     },
-];
-
-#[test]
-fn buddy_manager_answers(rt: HostRuntime) {
-    answers(&rt, rt.alloc(), &ANYWHERE);
-}
-
-/// Requests in a range.
-const IN_RANGES: [Case; 5] = [
+    // in a range
     Case {
         pages: 2,
         range: Span { start: 0, end: 7 },
@@ -149,28 +130,40 @@ const IN_RANGES: [Case; 5] = [
 ];
 
 #[test]
-fn buddy_manager_answers_in_ranges(rt: HostRuntime) {
-    answers(&rt, rt.alloc(), &IN_RANGES);
+fn buddy_manager_answers(rt: HostRuntime) {
+    let alloc = rt.alloc();
+    for case in &CASES {
+        let mut manager = BuddyManager::new(alloc, 12).expect(&rt, "a manager");
+        let blocks = got(&rt, alloc, &mut manager, case.pages, case.range, case.flags);
+        assert!(rt; blocks.items() == case.want);
+        drop(blocks);
+        assert!(rt; manager.lengths() == case.lengths);
+        drop(manager);
+    }
 }
+
+const LAST_FOUR: Span = Span { start: 8, end: 12 };
+
+const FIRST_EIGHT: Span = Span { start: 0, end: 8 };
+
+const HELD: [Row; 1] = [(4, PLAIN, LAST_FOUR)];
+
+/// The pages that a trim left free.
+const TRIMMED: [Row; 1] = [(2, PLAIN, Span { start: 10, end: 12 })];
 
 #[test]
 fn trimmed_pages_are_free(rt: HostRuntime) {
     let alloc = rt.alloc();
     let mut manager = BuddyManager::new(alloc, 12).expect(&rt, "a manager");
-    let block = Span { start: 8, end: 12 };
-    gets(&rt, alloc, &mut manager, 4, PLAIN, &[block]);
-    assert!(rt; manager.is_held(block));
-    manager.trim(block, 1);
-    gets(
-        &rt,
-        alloc,
-        &mut manager,
-        2,
-        PLAIN,
-        &[Span { start: 10, end: 12 }],
-    );
+    get(&rt, alloc, &mut manager, &HELD);
+    assert!(rt; manager.is_held(LAST_FOUR));
+    manager.trim(LAST_FOUR, 1);
+    get(&rt, alloc, &mut manager, &TRIMMED);
     drop(manager);
 }
+
+/// The blocks that were split for three pages are whole again.
+const MERGED: [Row; 2] = [(4, CONTIG, LAST_FOUR), (8, CONTIG, FIRST_EIGHT)];
 
 #[test]
 fn buddy_splits_and_merges(rt: HostRuntime) {
@@ -180,22 +173,8 @@ fn buddy_splits_and_merges(rt: HostRuntime) {
     let held = manager.are_held(&three);
     assert!(rt; held);
     manager.release(&three);
-    gets(
-        &rt,
-        alloc,
-        &mut manager,
-        4,
-        CONTIG,
-        &[Span { start: 8, end: 12 }],
-    );
-    gets(
-        &rt,
-        alloc,
-        &mut manager,
-        8,
-        CONTIG,
-        &[Span { start: 0, end: 8 }],
-    );
+    drop(three);
+    get(&rt, alloc, &mut manager, &MERGED);
     drop(manager);
 }
 
@@ -207,30 +186,19 @@ fn named(rt: &impl Abort, alloc: Global, span: Span) -> Spans
 }
 
 /// The blocks beside the pages that are named, by the number of pages for which each is asked.
-const BESIDE: [(u32, Span); 4] = [
-    (4, Span { start: 0, end: 4 }),
-    (4, Span { start: 8, end: 12 }),
-    (1, Span { start: 4, end: 5 }),
-    (1, Span { start: 7, end: 8 }),
+const BESIDE: [Row; 4] = [
+    (4, PLAIN, Span { start: 0, end: 4 }),
+    (4, PLAIN, LAST_FOUR),
+    (1, PLAIN, Span { start: 4, end: 5 }),
+    (1, PLAIN, Span { start: 7, end: 8 }),
 ];
-
-/// All other pages are given out.
-fn takes_the_rest(rt: &impl Abort, alloc: Global, manager: &mut BuddyManager) {
-    for (pages, block) in &BESIDE {
-        gets(rt, alloc, manager, *pages, PLAIN, &[*block]);
-    }
-}
-
-/// Whether blocks are held that are named twice.
-fn are_held_twice(rt: &impl Abort, manager: &mut BuddyManager, spans: &Spans) -> bool {
-    let mut twice = spans.copy().expect(rt, "spans");
-    twice.extend(spans.items()).expect(rt, "spans");
-    manager.are_held(&twice)
-}
 
 /// The blocks are held, but not twice, and are given back.
 fn gives_back_once(rt: &impl Abort, manager: &mut BuddyManager, spans: &Spans) {
-    assert!(rt; !are_held_twice(rt, manager, spans));
+    let mut twice = spans.copy().expect(rt, "spans");
+    twice.extend(spans.items()).expect(rt, "spans");
+    assert!(rt; !manager.are_held(&twice));
+    drop(twice);
     let held = manager.are_held(spans);
     assert!(rt; held);
     manager.release(spans);
@@ -243,8 +211,9 @@ fn named_pages_are_held(rt: HostRuntime) {
     let spans = named(&rt, alloc, Span { start: 5, end: 7 });
     manager.hold(&spans);
     assert!(rt; manager.lengths() == (10, 2));
-    takes_the_rest(&rt, alloc, &mut manager);
+    get(&rt, alloc, &mut manager, &BESIDE);
     gives_back_once(&rt, &mut manager, &spans);
+    drop(spans);
     assert!(rt; manager.lengths() == (2, 10));
     drop(manager);
 }

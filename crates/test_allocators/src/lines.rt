@@ -18,6 +18,7 @@ fn put_answers<T: Table>(
         let spans = table.spans(operation.id());
         put_answer(alloc, out, answer, spans).expect(rt, "a line");
     }
+    drop(table);
 }
 
 /// Puts the lines that answer the operations of a whole list behind a text.
@@ -42,26 +43,28 @@ fn assert_answers(rt: &impl Abort, alloc: Global, text: &str, lines: &str) {
     let mut out = String::new(alloc);
     put_lines(rt, alloc, &load, &mut out);
     assert!(rt; out.as_str() == lines);
+    drop(out);
+    drop(load);
 }
 
-#[test]
-fn buddy_splits_and_merges(rt: HostRuntime) {
-    assert_answers(
-        &rt,
-        rt.alloc(),
+/// A list of operations on blocks that are split and merged, and one on ranges that are held and let go, each with the lines
+/// that answer it.
+const LISTS: [(&str, &str); 2] = [
+    (
         "buddy 12\nalloc 1 3 0 12 - -\nfree 1\nalloc 2 4 0 12 - contig\nalloc 3 8 0 12 - contig\nalloc 4 1 0 12 - -\nfree 1\nalloc 2 1 0 12 topdown -\n",
         "8-10,10-11\nok\n8-12\n0-8\nnone\nbad\nbad\n",
-    );
-}
-
-#[test]
-fn ranges_are_held_and_let_go(rt: HostRuntime) {
-    assert_answers(
-        &rt,
-        rt.alloc(),
+    ),
+    (
         "mm 12\ninsert 1 4 1 0 12 low\ninsert 2 4 1 0 12 high\nremove 1\nreserve 3 1 2\nreserve 4 1 3\ninsert 4 1 1 0 12 best\ninsert 5 6 2 0 12 best\ninsert 6 1 1 0 12 low\nremove 9\n",
         "0-4\n8-12\nok\nok\nnone\n0-1\n2-8\nnone\nbad\n",
-    );
+    ),
+];
+
+#[test]
+fn lists_are_answered(rt: HostRuntime) {
+    for (text, lines) in &LISTS {
+        assert_answers(&rt, rt.alloc(), text, lines);
+    }
 }
 
 /// The list has so many operations, and is whole or not.

@@ -57,6 +57,7 @@ fn spans_in_a_reach(rt: HostRuntime) {
     for (within, met) in &MEETINGS {
         assert!(rt; intersects(&spans, *within) == *met);
     }
+    drop(spans);
 }
 
 /// Where a resource of two spans stands, a place, and whether it fits.
@@ -110,7 +111,9 @@ fn resources_that_fit(rt: HostRuntime) {
         };
         let placement = placement(&rt, rt.alloc(), &[unflagged]);
         assert!(rt; compatible(*mem, &spans, &placement, 8) == *fits);
+        drop(placement);
     }
+    drop(spans);
 }
 
 /// The list `vram+desired, tt+fallback, sys`.
@@ -144,14 +147,10 @@ fn places_by_their_flags(rt: HostRuntime) {
     assert!(rt; first_count(&placement) == 2);
     assert!(rt; first_at(&placement, 0).mem == Mem::Vram);
     assert!(rt; first_at(&placement, 1).mem == Mem::System);
-}
-
-#[test]
-fn forced_places_by_their_flags(rt: HostRuntime) {
-    let placement = placement(&rt, rt.alloc(), &FLAGGED);
     assert!(rt; forced_count(&placement) == 2);
     assert!(rt; forced_at(&placement, 0).mem == Mem::Tt);
     assert!(rt; forced_at(&placement, 1).mem == Mem::System);
+    drop(placement);
 }
 
 /// Three spans, of which one is empty.
@@ -161,16 +160,23 @@ const SPANS: [Span; 3] = [
     Span { start: 0, end: 3 },
 ];
 
-/// Their pages, in order.
-const PAGES: [u32; 5] = [7, 8, 0, 1, 2];
+/// How many of their pages are skipped, and the pages behind those, in order.
+const WALKS: [(u32, &[u32]); 6] = [
+    (0, &[7, 8, 0, 1, 2]),
+    (1, &[8, 0, 1, 2]),
+    (2, &[0, 1, 2]),
+    (4, &[2]),
+    (5, &[]),
+    (9, &[]),
+];
 
-/// The pages are walked from each of them and from behind them.
 #[test]
 fn pages_of_spans_in_order(rt: HostRuntime) {
-    for (skipped, left) in [(0, 0), (1, 1), (2, 2), (4, 4), (5, 5), (9, 5)] {
+    for (skipped, pages) in &WALKS {
         let mut cursor = PageCursor::new(&SPANS);
-        cursor.skip_pages(skipped);
+        cursor.skip_pages(*skipped);
         let walked: Vec<u32> = cursor.collect(rt.alloc()).expect(&rt, "pages");
-        assert!(rt; walked.as_slice() == &PAGES[left..]);
+        assert!(rt; walked.as_slice() == *pages);
+        drop(walked);
     }
 }

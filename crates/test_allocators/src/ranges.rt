@@ -53,19 +53,9 @@ fn answer(rt: &impl Abort, manager: &mut RangeManager, case: &Case) {
     assert!(rt; choice == got.ok());
 }
 
-/// Each case is answered as is wanted.
-fn answers(rt: &impl Abort, alloc: Global, cases: &[Case]) {
-    for case in cases {
-        let mut manager = sixteen_pages(rt, alloc);
-        hold(rt, &mut manager, case.held);
-        let_go(rt, &mut manager, case.gone);
-        answer(rt, &mut manager, case);
-        drop(manager);
-    }
-}
-
-/// Requests in each mode.
-const BY_MODE: [Case; 4] = [
+/// Requests, and their answers.
+const CASES: [Case; 13] = [
+    // in each mode
     Case {
         held: &FIVE,
         gone: &[4, 10],
@@ -102,15 +92,7 @@ const BY_MODE: [Case; 4] = [
         mode: Mode::Best,
         want: Err(InsertFault::NoHole),
     },
-];
-
-#[test]
-fn range_manager_answers(rt: HostRuntime) {
-    answers(&rt, rt.alloc(), &BY_MODE);
-}
-
-/// Requests for a part of a hole.
-const RESTS: [Case; 4] = [
+    // the rest of a hole is free
     Case {
         held: &[Span { start: 5, end: 7 }],
         gone: &[],
@@ -151,15 +133,7 @@ const RESTS: [Case; 4] = [
         mode: Mode::Low,
         want: Err(InsertFault::NoHole),
     },
-];
-
-#[test]
-fn rest_of_a_hole_is_free(rt: HostRuntime) {
-    answers(&rt, rt.alloc(), &RESTS);
-}
-
-/// Requests for holes of several spans.
-const JOINED: [Case; 5] = [
+    // holes that touch are joined
     Case {
         held: &FIVE,
         gone: &[4],
@@ -208,8 +182,14 @@ const JOINED: [Case; 5] = [
 ];
 
 #[test]
-fn holes_that_touch_are_joined(rt: HostRuntime) {
-    answers(&rt, rt.alloc(), &JOINED);
+fn range_manager_answers(rt: HostRuntime) {
+    for case in &CASES {
+        let mut manager = sixteen_pages(&rt, rt.alloc());
+        hold(&rt, &mut manager, case.held);
+        let_go(&rt, &mut manager, case.gone);
+        answer(&rt, &mut manager, case);
+        drop(manager);
+    }
 }
 
 /// A request for pages anywhere gets a span.

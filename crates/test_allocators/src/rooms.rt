@@ -111,6 +111,7 @@ fn keeps<M: Manager>(room: &M, owner: Owner, want: &[Span]) -> bool {
 /// The owner got the spans that it was to get, and keeps them.
 fn got<M: Manager>(rt: &impl Abort, room: &M, owner: Owner, spans: Spans, want: &[Span]) {
     assert!(rt; spans.items() == want);
+    drop(spans);
     assert!(rt; keeps(room, owner, want));
 }
 
@@ -137,6 +138,7 @@ fn run<M: Manager>(rt: &impl Abort, alloc: Global, room: &mut M, step: &Step) {
         Step::Choose(pages, place, want) => {
             let spans = chosen(rt, alloc, room, *pages, place);
             assert!(rt; spans.items() == *want);
+            drop(spans);
         }
         Step::Hold(owner, pages, place, want) => {
             let spans = held(rt, alloc, room, *owner, *pages, place);
@@ -159,6 +161,7 @@ fn ends_with<M: Manager + Drop>(
         run(rt, alloc, &mut room, step);
     }
     assert!(rt; room.lengths() == want);
+    drop(room);
 }
 
 /// Calls on 12 pages of blocks.
@@ -353,17 +356,16 @@ fn vram_room_answers(rt: HostRuntime) {
     ends_with(&rt, alloc, room, &VRAM_BLOCKS, VRAM_BLOCKS_HELD);
 }
 
-/// The room tells the last of two move fences.
-fn tells_the_last<M: Manager + Drop>(rt: &impl Abort, mut room: M) {
-    assert!(rt; room.move_fence().is_none());
-    for num in [1, 2] {
-        room.set_move_fence(JobId { ctx: 0, num });
-    }
-    assert!(rt; room.move_fence() == Some(JobId { ctx: 0, num: 2 }));
-}
+const FENCE: JobId = JobId { ctx: 0, num: 1 };
+
+const LAST_FENCE: JobId = JobId { ctx: 0, num: 2 };
 
 #[test]
 fn move_fence_is_the_last(rt: HostRuntime) {
-    let room = BuddyRoom::new(rt.alloc(), 12).expect(&rt, "a room");
-    tells_the_last(&rt, room);
+    let mut room = BuddyRoom::new(rt.alloc(), 12).expect(&rt, "a room");
+    assert!(rt; room.move_fence().is_none());
+    room.set_move_fence(FENCE);
+    room.set_move_fence(LAST_FENCE);
+    assert!(rt; room.move_fence() == Some(LAST_FENCE));
+    drop(room);
 }

@@ -2,15 +2,15 @@ ghost use Rattle.std.specs.Prelude.{◌≡◌, [], None};
 
 use io_edge::MemSink;
 use journal_model::{
-    Bytes, Cause, CauseRow, CommandLists, Decl, Decls, DryWhy, Entry, Kind, Left, Script, Shown,
-    Sizes,
+    Bytes, Cause, CauseRow, Decls, DryWhy, Entry, Kind, Left, Script, Shown, Sizes,
 };
 use report_text::report::{write_journal, write_outcome};
 use report_text::{Account, Accounts, WriteFault, write_report};
+use script_text::read_script;
 use std::alloc::Global;
 use std::process::Abort;
 use text_line::Line;
-use ttm_base::{Actor, BufId, Deny, FlaggedPlaces, ItemList, Mem, Placement, Span, Stamp};
+use ttm_base::{Actor, BufId, Deny, ItemList, Mem, Span, Stamp};
 
 const SIZES: Sizes = Sizes {
     buddy: false,
@@ -77,10 +77,13 @@ fn write_empty(alloc: Global, sink: &mut MemSink) -> Result<(), WriteFault> {
     written
 }
 
+/// How many bytes a write takes at most.
+const CHUNKS: &[usize] = &[1, 7, 1000];
+
 #[test]
 fn report_of_an_empty_script(rt: HostRuntime) {
-    for chunk in [1, 7, 1000] {
-        let mut sink = sink(&rt, rt.alloc(), chunk, &[]);
+    for chunk in CHUNKS {
+        let mut sink = sink(&rt, rt.alloc(), *chunk, &[]);
         assert!(rt; write_empty(rt.alloc(), &mut sink).is_ok());
         assert!(rt; sink.bytes() == EMPTY_REPORT);
     }
@@ -102,7 +105,7 @@ fn lines_in(text: &[u8]) -> u64 {
 fn failing_writes(rt: HostRuntime) {
     for k in 1..=9 {
         let mut sink = sink(&rt, rt.alloc(), 1000, &[k]);
-        assert!(rt; write_empty(rt.alloc(), &mut sink) == Err(WriteFault::Failed));
+        assert!(rt; matches!(write_empty(rt.alloc(), &mut sink), Err(WriteFault::Failed)));
         assert!(rt; lines_in(sink.bytes()) == k - 1);
         assert!(rt; EMPTY_REPORT.starts_with(sink.bytes()));
     }
@@ -113,48 +116,19 @@ fn list<T: Copy>(rt: &impl Abort, alloc: Global, items: &[T]) -> ItemList<T> {
     ItemList::from_slice(alloc, items).expect(rt, "items")
 }
 
-fn decl(rt: &impl Abort, alloc: Global, name: &[u8]) -> Decl {
-    Decl {
-        name: list(rt, alloc, name),
-        pages: 4,
-        prio: 0,
-        group: None,
-        align: 1,
-        placement: Placement {
-            list: FlaggedPlaces::new(alloc),
-        },
-    }
-}
-
-/// The buffers `a` and `buf10`.
-fn two_buffers(rt: &impl Abort, alloc: Global) -> Decls {
-    let mut buffers = Decls::new(alloc);
-    buffers.push(decl(rt, alloc, b"a")).expect(rt, "a buffer");
-    buffers
-        .push(decl(rt, alloc, b"buf10"))
-        .expect(rt, "a buffer");
-    buffers
-}
-
-/// Two threads without commands.
-fn two_threads(rt: &impl Abort, alloc: Global) -> CommandLists {
-    let mut threads = CommandLists::new(alloc);
-    threads.push(ItemList::new(alloc)).expect(rt, "a thread");
-    threads.push(ItemList::new(alloc)).expect(rt, "a thread");
-    threads
-}
-
-/// A script with both buffers and threads.
-fn script(rt: &impl Abort, alloc: Global) -> Script {
-    Script {
-        version: 1,
-        sizes: SIZES,
-        buffers: two_buffers(rt, alloc),
-        threads: two_threads(rt, alloc),
-        turns: ItemList::new(alloc),
-        marks: ItemList::new(alloc),
-    }
-}
+/// The buffers `a` and `buf10`, and two threads without commands.
+const SCRIPT: &[u8] = b"ttm 1
+vram range 8
+tt 4
+frames 4
+swap 2
+engines 0
+buffer a 4 prio 0 group - align 1 want sys busy sys
+buffer buf10 4 prio 0 group - align 1 want sys busy sys
+thread
+thread
+end
+";
 
 const A: BufId = BufId(0);
 
@@ -227,7 +201,8 @@ fn three_results(rt: &impl Abort, alloc: Global) -> Vec<Entry> {
 #[test]
 fn results_and_accounts(rt: HostRuntime) {
     let alloc = rt.alloc();
-    let (script, journal) = (script(&rt, alloc), three_results(&rt, alloc));
+    let script = read_script(alloc, SCRIPT).expect(&rt, "a script");
+    let journal = three_results(&rt, alloc);
     let mut line = Line::new(alloc);
     let mut sink = sink(&rt, alloc, 1000, &[]);
     let written = write_outcome(&mut line, &script, &journal, &ACCOUNTS, &mut sink);
@@ -249,14 +224,14 @@ journal 8
 8 t1 dry a 1 a:pinned,buf10:reserved:5,a:outside
 ";
 
-const SPANS: [Span; 2] = [Span { start: 0, end: 8 }, Span { start: 10, end: 11 }];
+const SPANS: &[Span] = &[Span { start: 0, end: 8 }, Span { start: 10, end: 11 }];
 
 /// Targets are taken and given back, and a buffer is moved.
 fn put_moves(rt: &impl Abort, alloc: Global, journal: &mut Vec<Entry>) {
     let take = Kind::Take {
         b: A,
         mem: Mem::Vram,
-        spans: list(rt, alloc, &SPANS),
+        spans: list(rt, alloc, SPANS),
     };
     put(rt, journal, Actor::Thread(12), take);
     let untake = Kind::Untake {
@@ -290,7 +265,7 @@ fn put_packets(rt: &impl Abort, alloc: Global, journal: &mut Vec<Entry>) {
     put(rt, journal, Actor::Reaper, Kind::Reap { g: u64::MAX });
 }
 
-const CAUSES: [CauseRow; 3] = [
+const CAUSES: &[CauseRow] = &[
     CauseRow {
         b: A,
         cause: Cause::Pinned,
@@ -316,7 +291,7 @@ fn put_dry_places(rt: &impl Abort, alloc: Global, journal: &mut Vec<Entry>) {
     let of = Kind::Dry {
         b: A,
         k: 1,
-        why: DryWhy::Of(list(rt, alloc, &CAUSES)),
+        why: DryWhy::Of(list(rt, alloc, CAUSES)),
     };
     put(rt, journal, FIRST, of);
 }
@@ -328,7 +303,7 @@ fn lines_of_entries(rt: HostRuntime) {
     put_moves(&rt, alloc, &mut journal);
     put_packets(&rt, alloc, &mut journal);
     put_dry_places(&rt, alloc, &mut journal);
-    let script = script(&rt, alloc);
+    let script = read_script(alloc, SCRIPT).expect(&rt, "a script");
     let mut line = Line::new(alloc);
     let mut sink = sink(&rt, alloc, 1000, &[]);
     let written = write_journal(&mut line, &script, &journal, &mut sink);

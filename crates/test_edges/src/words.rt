@@ -12,7 +12,7 @@ fn asks(rt: &impl Abort, alloc: Global, words: &[&str], want: Option<Form>) -> b
 }
 
 /// Words, and what they ask for.
-const ROWS: [(&[&str], Option<Form>); 10] = [
+const ROWS: &[(&[&str], Option<Form>)] = &[
     (&["sim"], Some(Form::Sim(None))),
     (&["sim", "--turns", "12"], Some(Form::Sim(Some(12)))),
     (

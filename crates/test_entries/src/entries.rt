@@ -7,6 +7,7 @@ use journal_model::Script;
 use script_text::read_script;
 use script_words::names::Names;
 use std::alloc::Global;
+use std::process::Abort;
 
 const SCRIPT: &str = "ttm 1
 vram range 11
@@ -28,7 +29,7 @@ end
 ";
 
 /// Lines with their numbers, each the text of an entry: one of each kind as reports of examples have it, and more.
-const ENTRIES: [(u64, &str); 50] = [
+const ENTRIES: &[(u64, &str)] = &[
     (3, "3 t1 ticket 1\n"),
     (4, "4 t1 reserve a\n"),
     (9, "9 t2 backoff a 1\n"),
@@ -85,7 +86,7 @@ const ENTRIES: [(u64, &str); 50] = [
 ];
 
 /// Lines with numbers, none of them the text of the entry of that number.
-const OTHERS: [(u64, &str); 40] = [
+const OTHERS: &[(u64, &str)] = &[
     (1, ""),
     (1, "\n"),
     (1, "1\n"),
@@ -128,14 +129,41 @@ const OTHERS: [(u64, &str); 40] = [
     (1, "1 t1 refused NoBuffers\n"),
 ];
 
-/// Whether the line is read, or none where memory runs out.
-fn is_read(alloc: Global, script: &Script, names: &Names, n: u64, line: &str) -> Option<bool>
+/// What a line is read as.
+#[derive(Clone, Copy)]
+enum Reading {
+    Entry,
+    NoEntry,
+}
+
+/// The line is read as told.
+fn reads(alloc: Global, script: &Script, names: &Names, n: u64, line: &str, want: Reading) -> bool
     requires script { is_script script.now ≡ true }
     requires declared { names.now ≡ names_of script.now.buffers }
 {
     match read_entry(alloc, script, names, n, line.as_bytes()) {
-        Ok(entry) => Some(entry.is_some()),
-        Err(_) => None,
+        Ok(entry) => match want {
+            Reading::Entry => entry.is_some(),
+            Reading::NoEntry => entry.is_none(),
+        },
+        Err(_) => false,
+    }
+}
+
+/// Each line of a table is read as told.
+fn all_read(
+    rt: &impl Abort,
+    alloc: Global,
+    script: &Script,
+    names: &Names,
+    rows: &[(u64, &str)],
+    want: Reading,
+)
+    requires script { is_script script.now ≡ true }
+    requires declared { names.now ≡ names_of script.now.buffers }
+{
+    for (n, line) in rows {
+        assert!(rt; reads(alloc, script, names, *n, line, want), "{line}");
     }
 }
 
@@ -144,16 +172,6 @@ fn lines_of_entries(rt: HostRuntime) {
     let alloc = rt.alloc();
     let script = read_script(alloc, SCRIPT.as_bytes()).expect(&rt, "a script");
     let names = names_of_script(alloc, &script).expect(&rt, "names");
-    for (n, line) in ENTRIES {
-        assert!(rt;
-            is_read(alloc, &script, &names, n, line) == Some(true),
-            "{line}"
-        );
-    }
-    for (n, line) in OTHERS {
-        assert!(rt;
-            is_read(alloc, &script, &names, n, line) == Some(false),
-            "{line}"
-        );
-    }
+    all_read(&rt, alloc, &script, &names, ENTRIES, Reading::Entry);
+    all_read(&rt, alloc, &script, &names, OTHERS, Reading::NoEntry);
 }

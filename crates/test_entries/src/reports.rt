@@ -1,5 +1,11 @@
+ghost use Rattle.std.specs.Prelude.{◌≡◌, true};
+ghost use Rattle.journal_model.specs.ScriptRules.{is_script};
+
 use entry_reader::{ReportFault, read_report};
+use journal_model::Script;
 use script_text::read_script;
+use std::alloc::Global;
+use std::process::Abort;
 
 const SCRIPT: &str = "ttm 1
 vram range 0
@@ -14,7 +20,7 @@ end
 ";
 
 /// Reports, how many entries are read, the place behind them, and why there are no more.
-const REPORTS: [(&str, usize, usize, Option<ReportFault>); 14] = [
+const REPORTS: &[(&str, usize, usize, Option<ReportFault>)] = &[
     (
         "report 1\njournal 2\n1 t1 new a\n2 t1 result ok\nresults\n",
         2,
@@ -66,14 +72,30 @@ const REPORTS: [(&str, usize, usize, Option<ReportFault>); 14] = [
     ("report 1\njournal 0", 0, 0, Some(ReportFault::Head)),
 ];
 
+/// The report is read up to where it is told.
+fn reads(
+    rt: &impl Abort,
+    alloc: Global,
+    script: &Script,
+    text: &str,
+    entries: usize,
+    rest: usize,
+    fault: Option<ReportFault>,
+) -> bool
+    requires { is_script script.now ≡ true }
+{
+    let parsed = read_report(alloc, script, text.as_bytes()).expect(rt, "memory");
+    parsed.entries.len() == entries && parsed.rest == rest && parsed.fault == fault
+}
+
 #[test]
 fn reports_up_to_a_fault(rt: HostRuntime) {
     let alloc = rt.alloc();
     let script = read_script(alloc, SCRIPT.as_bytes()).expect(&rt, "a script");
     for (text, entries, rest, fault) in REPORTS {
-        let parsed = read_report(alloc, &script, text.as_bytes()).expect(&rt, "memory");
-        assert!(rt; parsed.entries.len() == entries, "{text}");
-        assert!(rt; parsed.rest == rest, "{text}");
-        assert!(rt; parsed.fault == fault, "{text}");
+        assert!(rt;
+            reads(&rt, alloc, &script, text, *entries, *rest, *fault),
+            "{text}"
+        );
     }
 }

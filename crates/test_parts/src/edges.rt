@@ -52,21 +52,21 @@ fn reads_fail_where_listed(rt: HostRuntime) {
 }
 
 /// How many bytes a read or a write moves at most.
-const CHUNKS: [usize; 4] = [1, 3, 10, 5000];
+const CHUNKS: &[usize] = &[1, 3, 10, 5000];
 
 #[test]
 fn quiet_source_never_faults(rt: HostRuntime) {
     let alloc = rt.alloc();
-    for chunk in &CHUNKS {
+    for chunk in CHUNKS {
         let mut source = source(&rt, alloc, *chunk, &[]);
         assert!(rt; gives(alloc, &mut source, 5000, TEXT));
-        assert!(rt; source.read(&mut [0]) == Ok(0));
+        assert!(rt; matches!(source.read(&mut [0]), Ok(0)));
     }
 }
 
 #[test]
 fn quiet_sink_never_faults(rt: HostRuntime) {
-    for chunk in &CHUNKS {
+    for chunk in CHUNKS {
         let mut sink = sink(&rt, rt.alloc(), 2 * TEXT.len(), *chunk, &[]);
         assert!(rt; write_all(&mut sink, TEXT).is_ok());
         assert!(rt; write_all(&mut sink, TEXT).is_ok());
@@ -75,12 +75,12 @@ fn quiet_sink_never_faults(rt: HostRuntime) {
 }
 
 /// Limits, and the bytes that are left behind a text that is longer.
-const TOO_LOW: [(u32, &[u8]); 2] = [(9, b""), (0, b"tm 1\nend\n")];
+const TOO_LOW: &[(u32, &[u8])] = &[(9, b""), (0, b"tm 1\nend\n")];
 
 #[test]
 fn one_byte_more_than_the_limit(rt: HostRuntime) {
     let alloc = rt.alloc();
-    for (limit, left) in &TOO_LOW {
+    for (limit, left) in TOO_LOW {
         let mut source = source(&rt, alloc, 1, &[]);
         assert!(rt;
             faults(alloc, &mut source, *limit, ReadFault::TooLong),
@@ -95,7 +95,7 @@ fn one_byte_more_than_the_limit(rt: HostRuntime) {
 
 /// The room of a sink, how many bytes a write moves, the write that fails, and what goes out before: at a listed call, or for
 /// want of room.
-const FAILING: [(usize, usize, u64, &[u8]); 5] = [
+const FAILING: &[(usize, usize, u64, &[u8])] = &[
     (10, 1, 1, b""),
     (10, 1, 4, b"ttm"),
     (10, 4, 3, b"ttm 1\nen"),
@@ -105,9 +105,9 @@ const FAILING: [(usize, usize, u64, &[u8]); 5] = [
 
 #[test]
 fn writes_fail_where_listed(rt: HostRuntime) {
-    for (room, chunk, fail, want) in &FAILING {
+    for (room, chunk, fail, want) in FAILING {
         let mut sink = sink(&rt, rt.alloc(), *room, *chunk, &[*fail]);
-        assert!(rt; write_all(&mut sink, TEXT) == Err(Failed));
+        assert!(rt; write_all(&mut sink, TEXT).is_err());
         assert!(rt; sink.bytes() == *want);
     }
 }
@@ -166,7 +166,7 @@ fn faults_of_a_reader(rt: HostRuntime) {
 }
 
 /// How many calls go well, whether nothing is taken, and what comes of a write. Each piece is written and flushed: two calls.
-const WRITES: [(u32, bool, Result<usize, Failed>); 4] = [
+const WRITES: &[(u32, bool, Result<usize, Failed>)] = &[
     (2, false, Ok(4)),
     (1, false, Err(Failed)),
     (0, false, Err(Failed)),
@@ -175,7 +175,7 @@ const WRITES: [(u32, bool, Result<usize, Failed>); 4] = [
 
 #[test]
 fn faults_of_a_writer(rt: HostRuntime) {
-    for (good, full, want) in &WRITES {
+    for (good, full, want) in WRITES {
         let mut output = StdSink::new(Flaky {
             calls: 0,
             good: *good,

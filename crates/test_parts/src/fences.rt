@@ -58,7 +58,7 @@ fn two_contexts(rt: &impl Abort, alloc: Global) -> Timeline {
 }
 
 /// Jobs in the order in which they are emitted, and whether each is done at the end.
-const JOBS: [(JobId, bool); 3] = [
+const JOBS: &[(JobId, bool)] = &[
     (JobId { ctx: 0, num: 1 }, true),
     (JobId { ctx: 0, num: 2 }, false),
     (JobId { ctx: 1, num: 1 }, false),
@@ -67,12 +67,12 @@ const JOBS: [(JobId, bool); 3] = [
 #[test]
 fn jobs_are_done_in_order(rt: HostRuntime) {
     let mut line = Timeline::new(rt.alloc(), 2).expect(&rt, "contexts");
-    for (job, _done) in &JOBS {
+    for (job, _done) in JOBS {
         assert!(&rt; emitted(&mut line, job.ctx) == Some(*job));
     }
     let marked = finished(&mut line, 0);
     assert!(&rt; marked);
-    for (job, done) in &JOBS {
+    for (job, done) in JOBS {
         assert!(&rt; is_done(&line, *job) == *done);
     }
 }
@@ -82,18 +82,18 @@ const WRITE: JobId = JobId { ctx: 0, num: 2 };
 const KERNEL: JobId = JobId { ctx: 1, num: 1 };
 
 /// No job is waited for.
-const NONE: [(Usage, Option<JobId>); 1] = [(Usage::Read, None)];
+const NONE: &[(Usage, Option<JobId>)] = &[(Usage::Read, None)];
 
 /// The write is waited for, but not before the kernel's own use.
-const WRITTEN: [(Usage, Option<JobId>); 3] = [
+const WRITTEN: &[(Usage, Option<JobId>)] = &[
     (Usage::Kernel, Some(KERNEL)),
     (Usage::Write, Some(WRITE)),
     (Usage::Read, Some(WRITE)),
 ];
 
-const READ_BEHIND_WRITE: [(Usage, Option<JobId>); 1] = [(Usage::Read, Some(WRITE))];
+const READ_BEHIND_WRITE: &[(Usage, Option<JobId>)] = &[(Usage::Read, Some(WRITE))];
 
-const READ_BEHIND_KERNEL: [(Usage, Option<JobId>); 1] = [(Usage::Read, Some(KERNEL))];
+const READ_BEHIND_KERNEL: &[(Usage, Option<JobId>)] = &[(Usage::Read, Some(KERNEL))];
 
 /// A write, and a use by the kernel.
 fn two_fences(rt: &impl Abort, alloc: Global) -> FenceSet {
@@ -116,14 +116,14 @@ fn copied(rt: &impl Abort, alloc: Global, set: &FenceSet) -> FenceSet {
 fn usages_and_what_they_wait_for(rt: HostRuntime) {
     let mut line = two_contexts(&rt, rt.alloc());
     let empty = FenceSet::new(rt.alloc(), 2).expect(&rt, "contexts");
-    assert_need(&rt, &empty, &line, &NONE);
+    assert_need(&rt, &empty, &line, NONE);
     let mut set = two_fences(&rt, rt.alloc());
-    assert_need(&rt, &set, &line, &WRITTEN);
+    assert_need(&rt, &set, &line, WRITTEN);
     let other = copied(&rt, rt.alloc(), &set);
-    assert_need(&rt, &other, &line, &READ_BEHIND_KERNEL);
+    assert_need(&rt, &other, &line, READ_BEHIND_KERNEL);
     finished(&mut line, 1);
-    assert_need(&rt, &other, &line, &NONE);
-    assert_need(&rt, &set, &line, &READ_BEHIND_WRITE);
+    assert_need(&rt, &other, &line, NONE);
+    assert_need(&rt, &set, &line, READ_BEHIND_WRITE);
     set.clear();
-    assert_need(&rt, &set, &line, &NONE);
+    assert_need(&rt, &set, &line, NONE);
 }

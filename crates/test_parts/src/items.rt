@@ -1,6 +1,5 @@
 use item_queue::ItemQueue;
 use std::process::Abort;
-use std::test::Fail;
 use ttm_base::ItemList;
 
 fn assert_items(rt: &impl Abort, list: &ItemList<u8>, want: &[u8]) {
@@ -28,31 +27,36 @@ fn list_grows_and_is_cut_back(rt: HostRuntime) {
     assert_items(&rt, &list, &[6]);
 }
 
-/// A queue that gives up its first items, also more than are left, while others come. Each row: what comes, how many of the first leave
-/// then, to how many it is cut back, and what is left.
-#[test]
-fn queue_gives_up_its_first_items(rt: HostRuntime) -> Result<(), Fail> {
-    let mut queue = ItemQueue::new(rt.alloc());
-    let rows: [(&[u32], u32, usize, &[u32]); 7] = [
-        (&[0, 1, 2, 3, 4], 1, 9, &[1, 2, 3, 4]),
-        (&[], 2, 9, &[3, 4]),
-        (&[5, 6, 7], 1, 9, &[4, 5, 6, 7]),
-        (&[], 0, 2, &[4, 5]),
-        (&[8], 2, 9, &[8]),
-        (&[], 1, 9, &[]),
-        (&[9, 10], 0, 1, &[9]),
-    ];
-    for (come, leave, kept, left) in rows {
-        for item in come {
-            queue.push(*item)?;
-        }
-        for _i in 0..leave {
-            if queue.len() > 0 {
-                queue.drop_first();
-            }
-        }
-        queue.truncate(kept);
-        assert!(rt; queue.items() == left);
+/// What comes, how many of the first leave then, to how many the queue is cut back, and what is left.
+const ROWS: &[(&[u32], u32, usize, &[u32])] = &[
+    (&[0, 1, 2, 3, 4], 1, 9, &[1, 2, 3, 4]),
+    (&[], 2, 9, &[3, 4]),
+    (&[5, 6, 7], 1, 9, &[4, 5, 6, 7]),
+    (&[], 0, 2, &[4, 5]),
+    (&[8], 2, 9, &[8]),
+    (&[], 1, 9, &[]),
+    (&[9, 10], 0, 1, &[9]),
+];
+
+/// Items come, and the first ones leave.
+fn turn_over(rt: &impl Abort, queue: &mut ItemQueue<u32>, come: &[u32], leave: u32) {
+    for item in come {
+        queue.push(*item).expect(rt, "an item");
     }
-    Ok(())
+    for _i in 0..leave {
+        if queue.len() > 0 {
+            queue.drop_first();
+        }
+    }
+}
+
+/// A queue that gives up its first items, also more than are left, while others come.
+#[test]
+fn queue_gives_up_its_first_items(rt: HostRuntime) {
+    let mut queue = ItemQueue::new(rt.alloc());
+    for (come, leave, kept, left) in ROWS {
+        turn_over(&rt, &mut queue, come, *leave);
+        queue.truncate(*kept);
+        assert!(rt; queue.items() == *left);
+    }
 }

@@ -1,4 +1,4 @@
-//! Tests of smaller parts: lists of items, jobs by usage, reservations, tickets, lists in eviction order, edges that fail, and words of texts.
+//! Tests of smaller parts: lists of items, jobs by usage, reservations, tickets, lists in eviction order, and edges that fail.
 #![tactic(auto)]
 
 #[cfg(test)]
@@ -11,7 +11,5 @@ mod items;
 mod lists;
 #[cfg(test)]
 mod reservations;
-#[cfg(test)]
-mod texts;
 #[cfg(test)]
 mod tickets;

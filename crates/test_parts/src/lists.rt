@@ -88,18 +88,18 @@ fn moved<L: Ledger>(lru: &mut Lru, blank: Blank)
     lru.bulk_tail_counted(0, &mut steps);
 }
 
-const THREE: [(u32, Option<u32>); 3] = [(0, Some(0)), (1, None), (2, Some(0))];
+const THREE: &[(u32, Option<u32>)] = &[(0, Some(0)), (1, None), (2, Some(0))];
 
 /// The victims in order, and the buffer that is listed behind each, with its priority.
-const VICTIMS: [(u32, u32, u32); 5] = [(1, 3, 1), (0, 4, 1), (2, 5, 1), (3, 6, 0), (6, 7, 1)];
+const VICTIMS: &[(u32, u32, u32)] = &[(1, 3, 1), (0, 4, 1), (2, 5, 1), (3, 6, 0), (6, 7, 1)];
 
 #[test]
 fn victims_in_priority_and_bulk_order(rt: HostRuntime) {
     let mut lru = Lru::new(rt.alloc(), 8, 1).expect(&rt, "lists");
-    list_all(&rt, &mut lru, 1, &THREE);
+    list_all(&rt, &mut lru, 1, THREE);
     assert!(&rt; lru.can_add(BufId(7), Some(0)));
     lru.bulk_tail(0);
-    for (victim, next, prio) in &VICTIMS {
+    for (victim, next, prio) in VICTIMS {
         let evicted = evict(&mut lru);
         assert!(&rt; evicted == Some(BufId(*victim)));
         list(&rt, &mut lru, *next, *prio, None);
@@ -126,12 +126,12 @@ fn bulk_of_two_hundred(rt: HostRuntime) {
     drop(lru);
 }
 
-const FOUR: [(u32, Option<u32>); 4] = [(0, Some(0)), (1, None), (2, Some(0)), (3, None)];
+const FOUR: &[(u32, Option<u32>)] = &[(0, Some(0)), (1, None), (2, Some(0)), (3, None)];
 
 #[test]
 fn touched_and_relisted(rt: HostRuntime) {
     let mut lru = Lru::new(rt.alloc(), 4, 1).expect(&rt, "lists");
-    list_all(&rt, &mut lru, 2, &FOUR);
+    list_all(&rt, &mut lru, 2, FOUR);
     touch(&rt, &mut lru, BufId(0));
     assert_order(&rt, &lru, 2, &[2, 0, 1, 3]);
     relist(&rt, &mut lru, BufId(2), Mem::Tt);

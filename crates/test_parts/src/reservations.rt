@@ -30,7 +30,7 @@ fn one_ticket_holds_it(rt: HostRuntime) {
 const JOB: JobId = JobId { ctx: 0, num: 1 };
 
 /// Of each usage the job to wait for, where a job writes.
-const WRITTEN: [(Usage, Option<JobId>); 3] = [
+const WRITTEN: &[(Usage, Option<JobId>)] = &[
     (Usage::Kernel, None),
     (Usage::Write, Some(JOB)),
     (Usage::Read, Some(JOB)),
@@ -39,7 +39,7 @@ const WRITTEN: [(Usage, Option<JobId>); 3] = [
 /// The write is waited for until the reservation is cleared.
 fn assert_waits(rt: &impl Abort, resv: &mut Resv, line: &Timeline) {
     assert!(rt; resv.fences().contexts() == line.contexts());
-    for (usage, wanted) in &WRITTEN {
+    for (usage, wanted) in WRITTEN {
         assert!(rt; resv.need(*usage, line) == *wanted);
     }
     resv.clear();

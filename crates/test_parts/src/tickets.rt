@@ -2,7 +2,7 @@ use ttm_base::Stamp;
 use ww_ticket::{Decision, Tickets, decide};
 
 /// Who asks, whether it holds something, who holds what it asks for, and what comes of it.
-const ROWS: [(Stamp, bool, Option<Stamp>, Decision); 4] = [
+const ROWS: &[(Stamp, bool, Option<Stamp>, Decision)] = &[
     (Stamp(1), false, None, Decision::Take),
     (Stamp(1), true, Some(Stamp(2)), Decision::Wait(Stamp(2))),
     (Stamp(2), true, Some(Stamp(1)), Decision::Backoff(Stamp(1))),
@@ -11,7 +11,7 @@ const ROWS: [(Stamp, bool, Option<Stamp>, Decision); 4] = [
 
 #[test]
 fn younger_backs_off_and_older_waits(rt: HostRuntime) {
-    for (mine, holds, holder, wanted) in &ROWS {
+    for (mine, holds, holder, wanted) in ROWS {
         assert!(&rt; *holder != Some(*mine));
         assert!(&rt; decide(*mine, *holds, *holder) == *wanted);
     }

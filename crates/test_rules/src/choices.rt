@@ -1,18 +1,9 @@
-use crate::making::{core_of, decl_of, ghost_in_vram, list, one, script_of, sizes_of};
-use journal_model::{Buffers, CommandLists, Core, Jobs, Script};
+use crate::making::{core_of, ghost_in_vram, list, one, script_of};
+use journal_model::{Buffers, Core, Jobs, Script};
 use rules_choice::choice;
 use std::alloc::Global;
 use std::process::Abort;
 use ttm_base::{BufId, Mem, NoMemory, Place, Span};
-
-/// A script with the buffer of a case.
-fn script_for(rt: &impl Abort, alloc: Global, case: &Case) -> Script {
-    let mut decl = decl_of(alloc, case.pages);
-    decl.align = case.align;
-    let mut sizes = sizes_of(case.size, 0, 0);
-    sizes.buddy = case.buddy;
-    script_of(alloc, sizes, one(rt, alloc, decl), CommandLists::new(alloc))
-}
 
 /// A core in which a ghost holds pages of VRAM.
 fn core_with(rt: &impl Abort, alloc: Global, held: &[Span]) -> Core {
@@ -23,10 +14,7 @@ fn core_with(rt: &impl Abort, alloc: Global, held: &[Span]) -> Core {
 /// A request for pages of VRAM, what of it is held, and the pages that are to be found.
 #[derive(Clone, Copy)]
 struct Case {
-    buddy: bool,
-    size: u32,
-    pages: u32,
-    align: u32,
+    buffer: BufId,
     held: &'static [Span],
     place: Place,
     want: &'static [Span],
@@ -53,38 +41,49 @@ const CONTIG: Place = Place {
 
 /// The place has the pages for a case that are wanted: none where it has no choice.
 fn has_choice(alloc: Global, script: &Script, core: &Core, case: &Case) -> bool {
-    match choice(alloc, script, core, BufId(0), case.place) {
+    match choice(alloc, script, core, case.buffer, case.place) {
         Ok(Some(pages)) => pages.items() == case.want,
         Ok(None) => case.want.is_empty(),
         Err(NoMemory) => false,
     }
 }
 
-/// The answer to each case is the one that is wanted.
-fn answers(rt: &impl Abort, alloc: Global, cases: &[Case]) {
+/// The answer to each case of a script is the one that is wanted.
+fn answers(rt: &impl Abort, alloc: Global, script: &str, cases: &[Case]) {
+    let script = script_of(rt, alloc, script);
     for (i, case) in cases.iter().enumerate() {
-        let script = script_for(rt, alloc, case);
         let core = core_with(rt, alloc, case.held);
         assert!(rt; has_choice(alloc, &script, &core, case), "case {i}");
-        drop(script);
         drop(core);
     }
+    drop(script);
 }
+
+/// A range manager of 16 pages, and buffers by pages and alignment.
+const RANGE_SCRIPT: &str = "ttm 1
+vram range 16
+tt 0
+frames 0
+swap 0
+engines 1
+buffer a 4 prio 0 group - align 1 want vram busy vram
+buffer b 1 prio 0 group - align 1 want vram busy vram
+buffer c 4 prio 0 group - align 4 want vram busy vram
+buffer d 4 prio 0 group - align 8 want vram busy vram
+end
+";
 
 /// Four of 16 free pages.
 const RANGE: Case = Case {
-    buddy: false,
-    size: 16,
-    pages: 4,
-    align: 1,
+    buffer: BufId(0),
     held: &[],
     place: ANYWHERE,
     want: &[],
 };
 
-const RANGES: [Case; 5] = [
+const RANGES: &[Case] = &[
     Case {
-        pages: 1,
+        buffer: BufId(1),
         held: &[
             Span { start: 0, end: 4 },
             Span { start: 6, end: 10 },
@@ -94,7 +93,7 @@ const RANGES: [Case; 5] = [
         ..RANGE
     },
     Case {
-        pages: 1,
+        buffer: BufId(1),
         held: &[
             Span { start: 0, end: 4 },
             Span { start: 6, end: 10 },
@@ -106,13 +105,13 @@ const RANGES: [Case; 5] = [
         ..RANGE
     },
     Case {
-        align: 4,
+        buffer: BufId(2),
         held: &[Span { start: 0, end: 3 }],
         want: &[Span { start: 4, end: 8 }],
         ..RANGE
     },
     Case {
-        align: 8,
+        buffer: BufId(3),
         place: TOPDOWN,
         want: &[Span { start: 8, end: 12 }],
         ..RANGE
@@ -129,21 +128,32 @@ const RANGES: [Case; 5] = [
 
 #[test]
 fn range_manager_answers(rt: HostRuntime) {
-    answers(&rt, rt.alloc(), &RANGES);
+    answers(&rt, rt.alloc(), RANGE_SCRIPT, RANGES);
 }
+
+/// A buddy manager of 12 pages, and buffers by pages.
+const BLOCK_SCRIPT: &str = "ttm 1
+vram buddy 12
+tt 0
+frames 0
+swap 0
+engines 1
+buffer a 3 prio 0 group - align 1 want vram busy vram
+buffer b 1 prio 0 group - align 1 want vram busy vram
+buffer c 9 prio 0 group - align 1 want vram busy vram
+buffer d 2 prio 0 group - align 1 want vram busy vram
+end
+";
 
 /// Three of 12 free pages, which are a block of 8 and one of 4.
 const BLOCK: Case = Case {
-    buddy: true,
-    size: 12,
-    pages: 3,
-    align: 1,
+    buffer: BufId(0),
     held: &[],
     place: ANYWHERE,
     want: &[],
 };
 
-const BLOCKS: [Case; 5] = [
+const BLOCKS: &[Case] = &[
     Case {
         want: &[Span { start: 8, end: 10 }, Span { start: 10, end: 11 }],
         ..BLOCK
@@ -154,18 +164,18 @@ const BLOCKS: [Case; 5] = [
         ..BLOCK
     },
     Case {
-        pages: 1,
+        buffer: BufId(1),
         place: TOPDOWN,
         want: &[Span { start: 11, end: 12 }],
         ..BLOCK
     },
     Case {
-        pages: 9,
+        buffer: BufId(2),
         place: CONTIG,
         ..BLOCK
     },
     Case {
-        pages: 2,
+        buffer: BufId(3),
         held: &[Span { start: 8, end: 9 }],
         want: &[Span { start: 10, end: 12 }],
         ..BLOCK
@@ -174,5 +184,5 @@ const BLOCKS: [Case; 5] = [
 
 #[test]
 fn buddy_manager_answers(rt: HostRuntime) {
-    answers(&rt, rt.alloc(), &BLOCKS);
+    answers(&rt, rt.alloc(), BLOCK_SCRIPT, BLOCKS);
 }

@@ -1,12 +1,16 @@
 //! Scripts, jobs and states for tests, with nothing in them but what is told.
 
+ghost use Rattle.std.specs.Prelude.{◌≡◌, true};
+ghost use Rattle.journal_model.specs.ScriptRules.{is_script};
+
 use journal_model::{
-    Buffers, CommandLists, Core, Courses, Decl, Decls, Frames, Ghost, Ghosts, Grips, Job, JobIds,
-    Jobs, Lists, Marks, Name, Numbers, Packets, Script, Sizes, State, TurnLines,
+    Buffer, Buffers, Core, Courses, Frames, Ghost, Ghosts, Grips, Job, JobIds, Jobs, Lists,
+    Numbers, Script, State, Targets,
 };
+use script_text::read_script;
 use std::alloc::Global;
 use std::process::Abort;
-use ttm_base::{FlaggedPlaces, ItemList, JobId, Placement, Spans};
+use ttm_base::{Fence, ItemList, JobId, Loc, Mem, Packet, Spans};
 
 /// A list of one item.
 pub fn one<T: Drop>(rt: &impl Abort, alloc: Global, item: T) -> ItemList<T> {
@@ -20,63 +24,43 @@ pub fn list<T: Copy>(rt: &impl Abort, alloc: Global, items: &[T]) -> ItemList<T>
     ItemList::from_slice(alloc, items).expect(rt, "items")
 }
 
-/// Ranges in VRAM and TT of so many pages, so many frames and slots, and one engine.
-pub fn sizes_of(pages: u32, frames: u32, swap: u32) -> Sizes {
-    Sizes {
-        buddy: false,
-        vram: pages,
-        tt: pages,
-        frames,
-        swap,
-        engines: 1,
-    }
-}
-
-/// A script of these buffers and threads.
-pub fn script_of(alloc: Global, sizes: Sizes, buffers: Decls, threads: CommandLists) -> Script {
-    Script {
-        version: 1,
-        sizes,
-        buffers,
-        threads,
-        turns: TurnLines::new(alloc),
-        marks: Marks::new(alloc),
-    }
-}
-
-/// A script without buffers and threads.
-pub fn empty_script(alloc: Global, sizes: Sizes) -> Script {
-    script_of(alloc, sizes, Decls::new(alloc), CommandLists::new(alloc))
-}
-
-/// A buffer of so many pages, with no place.
-pub fn decl_of(alloc: Global, pages: u32) -> Decl {
-    Decl {
-        name: Name::new(alloc),
-        pages,
-        prio: 0,
-        group: None,
-        align: 1,
-        placement: Placement {
-            list: FlaggedPlaces::new(alloc),
-        },
-    }
+/// The script of a text.
+pub fn script_of(rt: &impl Abort, alloc: Global, text: &str) -> Script
+    ensures { is_script result ≡ true }
+{
+    read_script(alloc, text.as_bytes()).expect(rt, "a script")
 }
 
 /// A job of these packets that waits for these, and isn't done.
-pub fn job_of(id: JobId, waits: JobIds, packets: Packets) -> Job {
+pub fn job_of(
+    rt: &impl Abort,
+    alloc: Global,
+    id: JobId,
+    waits: &[JobId],
+    packets: &[Packet],
+) -> Job {
     Job {
         id,
-        waits,
-        packets,
+        waits: list(rt, alloc, waits),
+        packets: list(rt, alloc, packets),
         ran: 0,
         finished: false,
     }
 }
 
-/// A job without packets, which waits for no other and isn't done.
-pub fn empty_job(alloc: Global, id: JobId) -> Job {
-    job_of(id, JobIds::new(alloc), Packets::new(alloc))
+/// A buffer in SYSTEM with these places and fences.
+pub fn buffer_of(rt: &impl Abort, alloc: Global, places: &[Loc], fences: &[Fence]) -> Buffer {
+    Buffer {
+        mem: Mem::System,
+        spans: Spans::new(alloc),
+        table: list(rt, alloc, places),
+        targets: Targets {
+            system: None,
+            tt: None,
+            vram: None,
+        },
+        fences: list(rt, alloc, fences),
+    }
 }
 
 /// A ghost that holds pages of VRAM.

@@ -1,5 +1,5 @@
-use crate::making::{core_of, empty_job, empty_script, list, one, sizes_of, state_of};
-use journal_model::{Buffer, Command, Core, Course, Ghost, JobIds, Jobs, Script, State, Targets};
+use crate::making::{buffer_of, core_of, job_of, list, one, script_of, state_of};
+use journal_model::{Buffer, Command, Core, Course, Ghost, JobIds, Jobs, Script, State};
 use rules_holds::{
     free_frame, free_slot, held_frames, held_slots, held_spans, jobs_before_read,
     jobs_before_target, jobs_before_use, jobs_before_write, packets_of, unfinished,
@@ -21,7 +21,7 @@ const B: BufId = BufId(1);
 const JOB: JobId = JobId { ctx: 1, num: 1 };
 
 /// A frame, a page of zeros and a slot.
-const PLACES: [Loc; 3] = [Loc::Frame(0), Loc::Zero, Loc::Slot(0)];
+const PLACES: &[Loc] = &[Loc::Frame(0), Loc::Zero, Loc::Slot(0)];
 
 const READ: Fence = Fence {
     job: JOB,
@@ -29,18 +29,8 @@ const READ: Fence = Fence {
 };
 
 /// A buffer of three pages, whose last job read it.
-fn buffer_of(rt: &impl Abort, alloc: Global) -> Buffer {
-    Buffer {
-        mem: Mem::System,
-        spans: Spans::new(alloc),
-        table: list(rt, alloc, &PLACES),
-        targets: Targets {
-            system: None,
-            tt: None,
-            vram: None,
-        },
-        fences: list(rt, alloc, &[READ]),
-    }
+fn read_buffer(rt: &impl Abort, alloc: Global) -> Buffer {
+    buffer_of(rt, alloc, PLACES, &[READ])
 }
 
 /// A ghost that holds two pages of TT and a frame.
@@ -56,19 +46,18 @@ fn ghost_of(rt: &impl Abort, alloc: Global) -> Ghost {
 
 /// The buffer, its job, which isn't done, and the ghost.
 fn read_core(rt: &impl Abort, alloc: Global) -> Core {
-    let buffers = one(rt, alloc, Some(buffer_of(rt, alloc)));
+    let buffers = one(rt, alloc, Some(read_buffer(rt, alloc)));
     let ghosts = one(rt, alloc, ghost_of(rt, alloc));
     let mut jobs = Jobs::new(alloc);
-    jobs.push(empty_job(alloc, JOB)).expect(rt, "a job");
+    jobs.push(job_of(rt, alloc, JOB, &[], &[]))
+        .expect(rt, "a job");
     let mut core = core_of(buffers, jobs, ghosts);
     core.move_fence = Some(JOB);
     core
 }
 
 /// Three frames and a slot.
-fn small_script(alloc: Global) -> Script {
-    empty_script(alloc, sizes_of(4, 3, 1))
-}
+const SCRIPT: &str = "ttm 1\nvram range 4\ntt 4\nframes 3\nswap 1\nengines 1\nend\n";
 
 /// A state with one list, which has the buffer.
 fn listed_state(rt: &impl Abort, alloc: Global) -> State {
@@ -86,57 +75,52 @@ fn are<T: Copy + PartialEq>(rt: &impl Abort, items: Result<ItemList<T>, NoMemory
 }
 
 #[test]
-fn buffers_of_commands(rt: HostRuntime) {
+fn buffers_and_places_of_commands(rt: HostRuntime) {
     let alloc = rt.alloc();
     are(&rt, without_buffer(alloc, &[A, B, A], A), &[B]);
     are(&rt, first_mentions(alloc, &[B, A, B]), &[B, A]);
     are(&rt, named(alloc, &Command::Pin { b: B }), &[B]);
-}
-
-#[test]
-fn places_of_a_command(rt: HostRuntime) {
-    let script = small_script(rt.alloc());
-    let places = asked_places(rt.alloc(), &script, &Command::SwapOut { b: A }, A);
+    let script = script_of(&rt, alloc, SCRIPT);
+    let places = asked_places(alloc, &script, &Command::SwapOut { b: A }, A).expect(&rt, "places");
     drop(script);
-    let places = places.expect(&rt, "places");
     assert!(rt; places.len() == 1);
 }
 
 #[test]
-fn pages_of_a_buffer(rt: HostRuntime) {
+fn pages_and_jobs_of_a_buffer(rt: HostRuntime) {
     let alloc = rt.alloc();
     let spans = [Span { start: 0, end: 2 }, Span { start: 5, end: 6 }];
     are(&rt, pages_of(alloc, &spans), &[0, 1, 5]);
-    let buffer = buffer_of(&rt, alloc);
+    let buffer = read_buffer(&rt, alloc);
     are(&rt, frames_of(alloc, &buffer), &[0]);
     are(&rt, slots_of(alloc, &buffer), &[0]);
+    are(&rt, jobs_before_write(alloc, &buffer), &[JOB]);
+    are(&rt, jobs_before_read(alloc, &buffer), &[]);
     drop(buffer);
 }
 
-/// The packet of a look at some bytes of frame 0.
-const fn piece(off: u32, len: u32) -> Packet {
+/// The packets of a look at some bytes, which end at a page.
+const PIECES: &[Packet] = &[
     Packet::Probe {
         from: PagePlace::Frame(0),
-        off,
-        len,
-    }
-}
-
-#[test]
-fn packets_end_at_pages(rt: HostRuntime) {
-    let probe = Op::Probe {
-        src: A,
         off: 4090,
-        len: 10,
-    };
-    let core = read_core(&rt, rt.alloc());
-    let packets = packets_of(rt.alloc(), &core, &[probe]);
-    drop(core);
-    are(&rt, packets, &[piece(4090, 6), piece(0, 4)]);
-}
+        len: 6,
+    },
+    Packet::Probe {
+        from: PagePlace::Frame(0),
+        off: 0,
+        len: 4,
+    },
+];
+
+const PROBE: Op = Op::Probe {
+    src: A,
+    off: 4090,
+    len: 10,
+};
 
 #[test]
-fn what_is_held(rt: HostRuntime) {
+fn what_is_held_and_what_is_free(rt: HostRuntime) {
     let alloc = rt.alloc();
     let core = read_core(&rt, alloc);
     are(
@@ -146,29 +130,13 @@ fn what_is_held(rt: HostRuntime) {
     );
     are(&rt, held_frames(alloc, &core), &[0, 2]);
     are(&rt, held_slots(alloc, &core), &[0]);
-    drop(core);
-}
-
-#[test]
-fn what_is_free(rt: HostRuntime) {
-    let alloc = rt.alloc();
-    let script = small_script(alloc);
-    let core = read_core(&rt, alloc);
+    let script = script_of(&rt, alloc, SCRIPT);
     let frame = free_frame(alloc, &script, &core).expect(&rt, "a look");
     let slot = free_slot(alloc, &script, &core).expect(&rt, "a look");
     drop(script);
     drop(core);
     assert!(rt; frame == Some(1));
-    assert!(rt; slot == None);
-}
-
-#[test]
-fn jobs_of_a_buffer(rt: HostRuntime) {
-    let alloc = rt.alloc();
-    let buffer = buffer_of(&rt, alloc);
-    are(&rt, jobs_before_write(alloc, &buffer), &[JOB]);
-    are(&rt, jobs_before_read(alloc, &buffer), &[]);
-    drop(buffer);
+    assert!(rt; slot.is_none());
 }
 
 const FILL: Op = Op::Fill {
@@ -178,21 +146,16 @@ const FILL: Op = Op::Fill {
     byte: 7,
 };
 
+/// Packets end at pages, and a job is waited for.
 #[test]
-fn jobs_to_wait_for(rt: HostRuntime) {
+fn packets_and_jobs_to_wait_for(rt: HostRuntime) {
     let alloc = rt.alloc();
     let core = read_core(&rt, alloc);
+    are(&rt, packets_of(alloc, &core, &[PROBE]), PIECES);
     are(&rt, unfinished(alloc, &core, &[JOB]), &[JOB]);
     are(&rt, jobs_before_target(alloc, &core, Mem::Vram), &[JOB]);
     are(&rt, jobs_before_use(alloc, &core, &[FILL], A), &[JOB]);
     drop(core);
-}
-
-#[test]
-fn eviction_order(rt: HostRuntime) {
-    let state = listed_state(&rt, rt.alloc());
-    are(&rt, in_order(rt.alloc(), &state, Mem::System), &[A]);
-    drop(state);
 }
 
 /// The search at work of a move to VRAM has one place, and no pressure.
@@ -208,10 +171,11 @@ fn has_one_place(alloc: Global, script: &Script, state: &State, course: &Course)
 }
 
 #[test]
-fn search_of_a_state(rt: HostRuntime) {
+fn eviction_order_and_search_of_a_state(rt: HostRuntime) {
     let alloc = rt.alloc();
     let state = listed_state(&rt, alloc);
-    let script = small_script(alloc);
+    are(&rt, in_order(alloc, &state, Mem::System), &[A]);
+    let script = script_of(&rt, alloc, SCRIPT);
     let course = new_course(alloc, 0);
     assert!(rt; has_one_place(alloc, &script, &state, &course));
     drop(state);

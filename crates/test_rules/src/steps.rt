@@ -1,36 +1,28 @@
-use crate::making::{core_of, decl_of, job_of, list, one, script_of, sizes_of, state_of};
-use journal_model::{
-    BufIds, Command, CommandLists, Core, Course, Decls, Frames, Ghost, Job, Jobs, Kind, Script,
-    State,
-};
+use crate::making::{core_of, job_of, list, one, script_of, state_of};
+use journal_model::{BufIds, Core, Course, Frames, Ghost, Jobs, Kind, Script, State};
 use rules_next::next;
 use rules_search::has_room;
-use rules_state::{new_buffer, new_course, no_grip, unflagged, whole};
+use rules_state::{new_buffer, new_course, no_grip};
 use std::alloc::Global;
 use std::process::Abort;
 use ttm_base::{Actor, BufId, JobId, Mem, Need, NoMemory, Packet, PagePlace, Span, Spans, Stamp};
 
 const A: BufId = BufId(0);
 
-/// The one buffer: a page, in VRAM.
-fn page_in_vram(rt: &impl Abort, alloc: Global) -> Decls {
-    let mut decl = decl_of(alloc, 1);
-    let places = list(rt, alloc, &[unflagged(whole(Mem::Vram))]);
-    decl.placement.list = places;
-    one(rt, alloc, decl)
-}
+const THREAD: Actor = Actor::Thread(1);
 
-/// One thread, which looks for the buffer.
-fn finding_thread(rt: &impl Abort, alloc: Global) -> CommandLists {
-    one(rt, alloc, one(rt, alloc, Command::Find { b: A }))
-}
-
-/// The buffer and the thread.
-fn finding_script(rt: &impl Abort, alloc: Global) -> Script {
-    let buffers = page_in_vram(rt, alloc);
-    let threads = finding_thread(rt, alloc);
-    script_of(alloc, sizes_of(4, 2, 1), buffers, threads)
-}
+/// A buffer of one page in VRAM, and a thread that looks for it.
+const SCRIPT: &str = "ttm 2
+vram range 4
+tt 4
+frames 2
+swap 1
+engines 1
+buffer a 1 prio 0 group - align 1 place vram
+thread
+find a
+end
+";
 
 /// The first job of the manager's own context.
 const FIRST: JobId = JobId { ctx: 0, num: 1 };
@@ -42,18 +34,15 @@ const FILL: Packet = Packet::Fill {
     byte: 7,
 };
 
-/// The first job of a context, with one packet, which waits for these jobs.
-fn filling_job(rt: &impl Abort, alloc: Global, ctx: u32, waits: &[JobId]) -> Job {
-    let id = JobId { ctx, num: 1 };
-    job_of(id, list(rt, alloc, waits), list(rt, alloc, &[FILL]))
-}
+/// A job of engine 1.
+const SECOND: JobId = JobId { ctx: 1, num: 1 };
 
 /// A job of engine 1 waits for the first job.
 fn waiting_jobs(rt: &impl Abort, alloc: Global) -> Jobs {
     let mut jobs = Jobs::new(alloc);
-    jobs.push(filling_job(rt, alloc, 0, &[]))
+    jobs.push(job_of(rt, alloc, FIRST, &[], &[FILL]))
         .expect(rt, "a job");
-    jobs.push(filling_job(rt, alloc, 1, &[FIRST]))
+    jobs.push(job_of(rt, alloc, SECOND, &[FIRST], &[FILL]))
         .expect(rt, "a job");
     jobs
 }
@@ -147,45 +136,30 @@ fn comes(alloc: Global, script: &Script, state: &State, who: Actor, want: Seen) 
     }
 }
 
-/// The thread's stamp, the buffers that it holds, and its next step.
-const STEPS: [(Option<Stamp>, &[BufId], Seen); 3] = [
-    (None, &[], Seen::Ticket(Stamp(1))),
-    (Some(Stamp(1)), &[], Seen::Reserve(A)),
+/// The thread's stamp, the buffers that it holds, an actor, and its next step.
+const STEPS: &[(Option<Stamp>, &[BufId], Actor, Seen)] = &[
+    (None, &[], THREAD, Seen::Ticket(Stamp(1))),
+    (Some(Stamp(1)), &[], THREAD, Seen::Reserve(A)),
     (
         Some(Stamp(1)),
         &[A],
+        THREAD,
         Seen::Take(A, Mem::Vram, Span { start: 0, end: 1 }),
     ),
+    (None, &[], Actor::Engine(0), Seen::Packet(1, 0)),
+    (None, &[], Actor::Engine(1), Seen::Waits(FIRST)),
+    (None, &[], Actor::Reaper, Seen::Waits(FIRST)),
 ];
 
 #[test]
-fn steps_of_a_thread(rt: HostRuntime) {
+fn steps_of_threads_engines_and_reaper(rt: HostRuntime) {
     let alloc = rt.alloc();
-    let script = finding_script(&rt, alloc);
-    for (stamp, held, want) in &STEPS {
+    let script = script_of(&rt, alloc, SCRIPT);
+    for (stamp, held, who, want) in STEPS {
         let course = course_with(alloc, *stamp, list(&rt, alloc, held));
         let state = state_with(&rt, alloc, course);
-        assert!(rt; comes(alloc, &script, &state, Actor::Thread(1), *want));
+        assert!(rt; comes(alloc, &script, &state, *who, *want));
         drop(state);
     }
-    drop(script);
-}
-
-/// The actors that work on jobs, and the next step of each.
-const ACTORS: [(Actor, Seen); 3] = [
-    (Actor::Engine(0), Seen::Packet(1, 0)),
-    (Actor::Engine(1), Seen::Waits(FIRST)),
-    (Actor::Reaper, Seen::Waits(FIRST)),
-];
-
-#[test]
-fn engines_and_reaper_wait(rt: HostRuntime) {
-    let alloc = rt.alloc();
-    let script = finding_script(&rt, alloc);
-    let state = state_with(&rt, alloc, new_course(alloc, 0));
-    for (who, want) in &ACTORS {
-        assert!(rt; comes(alloc, &script, &state, *who, *want));
-    }
-    drop(state);
     drop(script);
 }

@@ -1,18 +1,21 @@
-use crate::making::{core_of, empty_script, job_of, list, one, sizes_of, state_of};
-use journal_model::{
-    Buffer, Bytes, Core, Entry, Fences, Ghosts, Job, JobIds, Jobs, Kind, Script, State, Targets,
-};
+use crate::making::{buffer_of, core_of, job_of, one, script_of, state_of};
+use journal_model::{Bytes, Core, Entry, Ghosts, Jobs, Kind, Script, State};
 use rules_stores::{PlainStores, can_store};
 use std::alloc::Global;
 use std::process::Abort;
-use ttm_base::{Actor, BufId, JobId, Loc, Mem, Packet, PagePlace, Spans};
+use ttm_base::{Actor, BufId, JobId, Loc, Packet, PagePlace};
+
+/// Sizes alone.
+const SCRIPT: &str = "ttm 1\nvram range 1\ntt 1\nframes 2\nswap 1\nengines 1\nend\n";
 
 const ENGINE: Actor = Actor::Engine(1);
 
 const B: BufId = BufId(0);
 
+const JOB: JobId = JobId { ctx: 1, num: 1 };
+
 /// A fill of the last bytes of a frame, and a look at another frame.
-const PACKETS: [Packet; 2] = [
+const PACKETS: &[Packet] = &[
     Packet::Fill {
         to: PagePlace::Frame(0),
         off: 4090,
@@ -26,31 +29,13 @@ const PACKETS: [Packet; 2] = [
     },
 ];
 
-fn filling_job(rt: &impl Abort, alloc: Global) -> Job {
-    let id = JobId { ctx: 1, num: 1 };
-    job_of(id, JobIds::new(alloc), list(rt, alloc, &PACKETS))
-}
-
-/// A buffer of one page in SYSTEM.
-fn buffer_of(rt: &impl Abort, alloc: Global) -> Buffer {
-    Buffer {
-        mem: Mem::System,
-        spans: Spans::new(alloc),
-        table: list(rt, alloc, &[Loc::Frame(0)]),
-        targets: Targets {
-            system: None,
-            tt: None,
-            vram: None,
-        },
-        fences: Fences::new(alloc),
-    }
-}
-
-/// The buffer and the job.
+/// A buffer of one page, and the job.
 fn filled_core(rt: &impl Abort, alloc: Global) -> Core {
-    let buffers = one(rt, alloc, Some(buffer_of(rt, alloc)));
+    let buffer = buffer_of(rt, alloc, &[Loc::Frame(0)], &[]);
+    let buffers = one(rt, alloc, Some(buffer));
     let mut jobs = Jobs::new(alloc);
-    jobs.push(filling_job(rt, alloc)).expect(rt, "a job");
+    jobs.push(job_of(rt, alloc, JOB, &[], PACKETS))
+        .expect(rt, "a job");
     core_of(buffers, jobs, Ghosts::new(alloc))
 }
 
@@ -106,7 +91,7 @@ fn has_shown(shown: &Kind, want: &[u8]) -> bool {
 #[test]
 fn filled_page_goes_through_swap(rt: HostRuntime) {
     let alloc = rt.alloc();
-    let script = empty_script(alloc, sizes_of(1, 2, 1));
+    let script = script_of(&rt, alloc, SCRIPT);
     let state = state_of(alloc, filled_core(&rt, alloc));
     let mut stores = PlainStores::new(alloc, script.sizes).expect(&rt, "stores");
     swap_the_page(&rt, alloc, &script, &state, &mut stores);

@@ -1,7 +1,5 @@
-use crate::making::{core_of, empty_job, script_of, sizes_of, state_of};
-use journal_model::{
-    Buffers, CommandLists, Commands, Course, Courses, Decls, Ghosts, Jobs, Script, State,
-};
+use crate::making::{core_of, job_of, script_of, state_of};
+use journal_model::{Buffers, Courses, Ghosts, Jobs, Script, State};
 use rules_schedule::{is_over, next_actor, own_order};
 use rules_search::has_room;
 use rules_state::new_course;
@@ -12,26 +10,18 @@ use ttm_base::{Actor, JobId, NoMemory, Stamp};
 const JOB: JobId = JobId { ctx: 1, num: 1 };
 
 /// Three threads without commands, and one engine.
-fn idle_script(rt: &impl Abort, alloc: Global) -> Script {
-    let mut threads = CommandLists::new(alloc);
-    for _thread in 0..3u32 {
-        threads.push(Commands::new(alloc)).expect(rt, "a thread");
-    }
-    script_of(alloc, sizes_of(4, 2, 1), Decls::new(alloc), threads)
-}
-
-/// A thread with a ticket, or with none.
-fn course_of(alloc: Global, stamp: Option<Stamp>) -> Course {
-    let mut course = new_course(alloc, 0);
-    course.stamp = stamp;
-    course
-}
+const SCRIPT: &str =
+    "ttm 1\nvram range 4\ntt 4\nframes 2\nswap 1\nengines 1\nthread\nthread\nthread\nend\n";
 
 /// The first thread has no ticket, the third an older one than the second.
+const TICKETS: &[Option<Stamp>] = &[None, Some(Stamp(7)), Some(Stamp(3))];
+
 fn three_courses(rt: &impl Abort, alloc: Global) -> Courses {
     let mut courses = Courses::new(alloc);
-    for stamp in [None, Some(Stamp(7)), Some(Stamp(3))] {
-        courses.push(course_of(alloc, stamp)).expect(rt, "a thread");
+    for stamp in TICKETS {
+        let mut course = new_course(alloc, 0);
+        course.stamp = *stamp;
+        courses.push(course).expect(rt, "a thread");
     }
     courses
 }
@@ -39,7 +29,8 @@ fn three_courses(rt: &impl Abort, alloc: Global) -> Courses {
 /// A job of engine 1 has run.
 fn state_with_tickets(rt: &impl Abort, alloc: Global) -> State {
     let mut jobs = Jobs::new(alloc);
-    jobs.push(empty_job(alloc, JOB)).expect(rt, "a job");
+    jobs.push(job_of(rt, alloc, JOB, &[], &[]))
+        .expect(rt, "a job");
     let core = core_of(Buffers::new(alloc), jobs, Ghosts::new(alloc));
     let mut state = state_of(alloc, core);
     let courses = three_courses(rt, alloc);
@@ -49,7 +40,7 @@ fn state_with_tickets(rt: &impl Abort, alloc: Global) -> State {
     state
 }
 
-const ORDER: [Actor; 6] = [
+const ORDER: &[Actor] = &[
     Actor::Reaper,
     Actor::Engine(0),
     Actor::Engine(1),
@@ -83,10 +74,10 @@ fn goes_next(alloc: Global, script: &Script, state: &State, who: Actor) -> bool 
 #[test]
 fn engines_go_before_threads_and_elders_before_others(rt: HostRuntime) {
     let alloc = rt.alloc();
-    let script = idle_script(&rt, alloc);
+    let script = script_of(&rt, alloc, SCRIPT);
     let mut state = state_with_tickets(&rt, alloc);
     assert!(rt; has_room(&script, &state));
-    assert!(rt; has_order(alloc, &script, &state, &ORDER));
+    assert!(rt; has_order(alloc, &script, &state, ORDER));
     assert!(rt; goes_next(alloc, &script, &state, Actor::Engine(1)));
     assert!(rt; !is_over(&script, &state));
     state.core.jobs.finish(JOB);
