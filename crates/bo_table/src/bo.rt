@@ -70,7 +70,6 @@ fn leave_frames(mem: Mem, table: &mut PageTable)
 }
 
 /// A buffer (ttm_buffer_object). Where it is dead, all that counts is how many pages and contexts it has.
-#[derive(Drop)]
 pub struct Bo {
     pub alive: bool,
     /// The memory type in which it stands.
@@ -85,6 +84,21 @@ pub struct Bo {
     pub pins: u8,
     /// Its holder, and the jobs that use it (dma_resv).
     pub resv: Resv,
+}
+
+/// By hand, so that no crate above proves how each part goes.
+impl Drop for Bo {
+    fn drop(self) {
+        let Self {
+            alive: _,
+            mem: _,
+            spans: _,
+            table: _,
+            targets: _,
+            pins: _,
+            resv: _,
+        } = self;
+    }
 }
 
 impl Bo {

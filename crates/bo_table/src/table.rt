@@ -17,9 +17,15 @@ use ttm_base::{BufId, ItemList, JobId, Loc, Mem, NoMemory, Spans, Stamp, Usage};
 /// Buffers by number, seen as the lists of buffers, of grips, of the jobs that use them, and of their numbers of pages. A change of a buffer that
 /// isn't there changes nothing. Only `new` takes memory. `make`, `drop_frames` and a `carry` out of TT take time by the pages of the buffer, `make`
 /// and `kill` by contexts, `set_page` at most up to the next page without a frame; all other calls take constant time.
-#[derive(Drop)]
 pub struct BoTable {
     bos: ItemList<Bo>,
+}
+
+/// By hand, so that no crate above proves how each part goes.
+impl Drop for BoTable {
+    fn drop(self) {
+        let Self { bos: _ } = self;
+    }
 }
 
 impl Model for BoTable {

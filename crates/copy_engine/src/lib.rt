@@ -22,9 +22,15 @@ use ring_job::RingJob;
 
 /// One ring of jobs for each context. The head of a ring is its oldest job: its packets run when the jobs that it waits for
 /// are done. Only `new` and `push` take memory.
-#[derive(Drop)]
 pub struct Rings {
     rings: Vec<Ring>,
+}
+
+/// By hand, so that no crate above proves how each part goes.
+impl Drop for Rings {
+    fn drop(self) {
+        let Self { rings: _ } = self;
+    }
 }
 
 impl Model for Rings {

@@ -9,11 +9,21 @@ use byte_store::{ByteStore, PAGE};
 use ttm_base::PagePlace;
 
 /// The bytes that engines reach, and the aperture through which they reach the pages of TT.
-#[derive(Drop)]
 pub struct Stores {
     pub vram: ByteStore,
     pub frames: ByteStore,
     pub aper: Aperture,
+}
+
+/// By hand, so that no crate above proves how each part goes.
+impl Drop for Stores {
+    fn drop(self) {
+        let Self {
+            vram: _,
+            frames: _,
+            aper: _,
+        } = self;
+    }
 }
 
 /// A place of a byte: in VRAM, or in frames.

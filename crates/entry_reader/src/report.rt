@@ -37,7 +37,6 @@ pub struct Head {
 }
 
 /// A report as far as it can be read.
-#[derive(Drop)]
 pub struct Parsed {
     /// The entries up to the first line that isn't one.
     pub entries: Entries,
@@ -45,6 +44,17 @@ pub struct Parsed {
     pub rest: usize,
     /// Why reading ended before all entries that the report counts.
     pub fault: Option<ReportFault>,
+}
+
+/// By hand, so that no crate above proves how each part goes.
+impl Drop for Parsed {
+    fn drop(self) {
+        let Self {
+            entries: _,
+            rest: _,
+            fault: _,
+        } = self;
+    }
 }
 
 /// The first line, with its line feed where it has one.

@@ -21,9 +21,15 @@ use ttm_base::{BufId, NoMemory, Span};
 pub const SPACE_PAGES: u32 = 1_048_576;
 
 /// The address space of a thread: its mappings, in rising order, of which no two have a page in common.
-#[derive(Drop)]
 pub struct Space {
     mappings: Mappings,
+}
+
+/// By hand, so that no crate above proves how each part goes.
+impl Drop for Space {
+    fn drop(self) {
+        let Self { mappings: _ } = self;
+    }
 }
 
 impl Model for Space {

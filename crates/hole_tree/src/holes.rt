@@ -19,12 +19,23 @@ use ttm_base::{Mode, NoMemory, Span};
 
 /// Holes of which no two overlap or touch, in two balanced trees: by start, and by length. The nodes of holes to come
 /// are kept beside them.
-#[derive(Drop)]
 pub struct Holes {
     by_start: Tree,
     by_length: Tree,
     count: usize,
     spare: Vec<Nodes>,
+}
+
+/// By hand, so that no crate above proves how each part goes.
+impl Drop for Holes {
+    fn drop(self) {
+        let Self {
+            by_start: _,
+            by_length: _,
+            count: _,
+            spare: _,
+        } = self;
+    }
 }
 
 /// The nodes of a hole in both trees.

@@ -15,7 +15,6 @@ use std::marker::Model;
 use ttm_base::{Mode, NoMemory, Span};
 
 /// The pages of a memory type by ranges, seen as the number of pages and the spans that are held. The other pages are free.
-#[derive(Drop)]
 pub struct RangeManager {
     holes: Holes,
     /// For each page the end of the span that begins there, or else 0.
@@ -24,6 +23,18 @@ pub struct RangeManager {
     used: u32,
     /// How many spans are held.
     count: u32,
+}
+
+/// By hand, so that no crate above proves how each part goes.
+impl Drop for RangeManager {
+    fn drop(self) {
+        let Self {
+            holes: _,
+            ends: _,
+            used: _,
+            count: _,
+        } = self;
+    }
 }
 
 impl Model for RangeManager {

@@ -17,7 +17,7 @@ use std::alloc::Global;
 use ttm_base::NoMemory;
 
 /// Why an entry isn't legal next.
-#[derive(Clone, Copy, Debug, PartialEq, Eq)]
+#[derive(Clone, Copy)]
 pub enum Fault {
     /// Its actor has no such entry, whatever it shows.
     NoStep,
@@ -26,7 +26,7 @@ pub enum Fault {
 }
 
 /// What is to be said of a journal.
-#[derive(Clone, Copy, Debug, PartialEq, Eq)]
+#[derive(Clone, Copy)]
 pub enum Verdict {
     /// It is legal and complete.
     Valid,

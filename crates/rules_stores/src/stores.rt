@@ -12,12 +12,23 @@ use std::marker::Model;
 use ttm_base::NoMemory;
 
 /// The bytes of VRAM, of frames and of swap slots, page after page. Nothing but `new` takes memory.
-#[derive(Drop)]
 pub struct PlainStores {
     sizes: Sizes,
     vram: Room,
     frames: Room,
     slots: Room,
+}
+
+/// By hand, so that no crate above proves how each part goes.
+impl Drop for PlainStores {
+    fn drop(self) {
+        let Self {
+            sizes: _,
+            vram: _,
+            frames: _,
+            slots: _,
+        } = self;
+    }
 }
 
 impl Model for PlainStores {

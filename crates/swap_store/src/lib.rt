@@ -12,10 +12,16 @@ use std::marker::Model;
 use ttm_base::NoMemory;
 
 /// For each slot whether it is held, and the bytes of all slots. A slot keeps its bytes when it is given back.
-#[derive(Drop)]
 pub struct SwapStore {
     held: FreeMap,
     bytes: ByteStore,
+}
+
+/// By hand, so that no crate above proves how each part goes.
+impl Drop for SwapStore {
+    fn drop(self) {
+        let Self { held: _, bytes: _ } = self;
+    }
 }
 
 impl Model for SwapStore {

@@ -7,7 +7,6 @@ use std::io::{Error, ErrorKind, Result};
 use ttm_base::Actor;
 
 /// What a program is given, and how.
-#[derive(Drop)]
 pub struct Case {
     pub name: String,
     /// The words after the program's name.
@@ -25,6 +24,23 @@ pub struct Case {
     /// At the end, which frame each page of TT stands for.
     pub shows_aperture: bool,
     pub text: Vec<u8>,
+}
+
+/// By hand, so that no crate above proves how each part goes.
+impl Drop for Case {
+    fn drop(self) {
+        let Self {
+            name: _,
+            words: _,
+            chunks: _,
+            read_fails: _,
+            write_fails: _,
+            steps: _,
+            to_the_end: _,
+            shows_aperture: _,
+            text: _,
+        } = self;
+    }
 }
 
 /// The line says nothing of a case, or comes where it may not.
