@@ -1,4 +1,5 @@
--- Statements that nothing proves yet: on mappings and versions. They were tried on random scripts alone.
+-- Laws of mappings by the CPU and of versions, as statements. A crate `law_*` that proves one cites it by its name here; the README says
+-- which those are.
 use Rattle.std.specs.Prelude.{◌≡◌, ◌↔◌, ℕ, List, Some, Contains, drop, length}
 use Rattle.journal_model.specs.declared.script.Script.{Script}
 use Rattle.journal_model.specs.declared.entry.Entry.{Entry}
