@@ -15,7 +15,7 @@ use std::alloc::Global;
 use ttm_base::NoMemory;
 
 /// What a script and a report come to.
-#[derive(Clone, Copy, Debug, PartialEq, Eq)]
+#[derive(Clone, Copy)]
 pub enum Finding {
     /// A read failed.
     ReadFault,

@@ -14,7 +14,7 @@ use std::alloc::Global;
 use ttm_base::NoMemory;
 
 /// What comes of a report.
-#[derive(Clone, Copy, Debug, PartialEq, Eq)]
+#[derive(Clone, Copy)]
 pub enum Ending {
     /// It is that of a legal, complete journal.
     Accepted,
