@@ -28,9 +28,9 @@ pub struct Form {
     first: &'static str,
     pub text: &'static str,
     /// The roles of the words behind the first.
-    pub roles: &'static [Role],
+    roles: &'static [Role],
     /// The role of each word behind these.
-    pub others: Role,
+    others: Role,
 }
 
 const NAME: &[Role] = &[Role::Name];
@@ -224,6 +224,14 @@ fn form_among(forms: &'static [Form], first: &str) -> Option<&'static Form> {
         }
     }
     None
+}
+
+/// The roles of the words behind a line's first word, and of each word behind these.
+pub fn roles_of_line(line: &str) -> (&'static [Role], Role) {
+    match form_of(line) {
+        Some(form) => (form.roles, form.others),
+        None => (&[], Role::Fixed),
+    }
 }
 
 /// The roles of the words behind the name of an operation.

@@ -21,25 +21,46 @@ use std::rt::Env;
 const USAGE: &str =
     "usage: explain_script LINE RULE < SCRIPT\nas `bad script: line LINE, rule RULE` has them\n";
 
-/// What the words ask for.
+/// What the words so far ask for.
 #[derive(Clone, Copy)]
 enum Asked {
-    Help,
+    Nothing,
+    Line(usize),
     Explain(usize, &'static Told),
+    Help,
+    Other,
 }
 
-fn words_ask(rt: &(impl Env + Alloc)) -> Option<Asked> {
-    let mut words = env::args(rt).ok()?.skip(1);
-    let first = words.next()?;
-    if first.as_str() == "--help" {
-        return Some(Asked::Help);
+impl Asked {
+    /// What is asked for with one more word.
+    fn with(self, word: &str) -> Asked {
+        match (self, number_of(word)) {
+            (Asked::Nothing, Some(line)) => Asked::Line(line),
+            (Asked::Nothing, None) if word == "--help" => Asked::Help,
+            (Asked::Help, _) => Asked::Help,
+            (Asked::Line(line), Some(number)) => match rule_of(number) {
+                Some(told) => Asked::Explain(line, told),
+                None => Asked::Other,
+            },
+            _ => Asked::Other,
+        }
     }
-    let line = first.as_str().parse::<usize>().ok()?;
-    let told = rule_of(words.next()?.as_str().parse::<usize>().ok()?)?;
-    match words.next() {
-        None => Some(Asked::Explain(line, told)),
-        Some(_) => None,
+}
+
+fn number_of(word: &str) -> Option<usize> {
+    word.parse::<usize>().ok()
+}
+
+fn words_ask(rt: &(impl Env + Alloc)) -> Asked {
+    let Ok(mut words) = env::args(rt) else {
+        return Asked::Other;
+    };
+    let _ = words.next();
+    let mut asked = Asked::Nothing;
+    for word in words {
+        asked = asked.with(word.as_str());
     }
+    asked
 }
 
 /// The input as text: what no script has becomes `ALIEN`.
@@ -52,82 +73,107 @@ fn text_of(alloc: Global, bytes: &[u8]) -> Result<String, AllocError> {
     Ok(text)
 }
 
+/// Puts a character behind a text so many times.
+fn put_many(out: &mut String, c: char, count: usize) -> Result<(), AllocError> {
+    for _ in 0..count {
+        out.push(c)?;
+    }
+    Ok(())
+}
+
+/// Puts a line behind a text, with a question mark for each byte that no script has.
+fn put_plain(out: &mut String, text: &str) -> Result<(), AllocError> {
+    for c in text.chars() {
+        out.push(if c == ALIEN { '?' } else { c })?;
+    }
+    out.push('\n')
+}
+
 /// Puts the line behind a text that is empty, and below it marks its place.
 fn put_line(out: &mut String, rule: Rule, line: Line<'_>) -> Result<(), AllocError> {
     let number = line.number;
     write!(out, "line {number}: ")?;
     let head = out.len();
-    for c in line.text.chars() {
-        out.push(if c == ALIEN { '?' } else { c })?;
-    }
-    if let Some(place) = line.place_of(rule) {
-        out.push('\n')?;
-        for _ in 0..head.saturating_add(place.column) {
-            out.push(' ')?;
+    put_plain(out, line.text)?;
+    match line.place_of(rule) {
+        Some(place) => {
+            put_many(out, ' ', head.saturating_add(place.column))?;
+            put_many(out, '^', place.length)?;
+            out.push('\n')
         }
-        for _ in 0..place.length {
-            out.push('^')?;
-        }
+        None => Ok(()),
     }
-    out.push('\n')
 }
 
-/// Why the line of this number breaks the rule.
-fn explanation(
-    alloc: Global,
+/// Puts what is said of a rule behind a text.
+fn put_told(out: &mut String, told: &Told) -> Result<(), AllocError> {
+    let (broken, right) = (told.broken, told.right);
+    write!(out, "broken: {broken}\nright: {right}\n")
+}
+
+/// Puts why the line breaks the rule behind a text that is empty.
+fn put_explained(out: &mut String, line: Line<'_>, told: &Told) -> Result<(), AllocError> {
+    put_line(out, told.rule, line)?;
+    put_told(out, told)?;
+    match form_of(line.text) {
+        Some(form) => {
+            let form = form.text;
+            write!(out, "form: {form}\n")
+        }
+        None => Ok(()),
+    }
+}
+
+/// Puts why the line of this number breaks the rule behind a text that is empty.
+fn put_explanation(
+    out: &mut String,
     script: &str,
     number: usize,
     told: &Told,
+) -> Result<(), AllocError> {
+    if let Rule::Size = told.rule {
+        return put_told(out, told);
+    }
+    match script.split('\n').nth(number.saturating_sub(1)) {
+        Some(text) => {
+            let line = Line {
+                script,
+                number,
+                text,
+            };
+            put_explained(out, line, told)
+        }
+        None => {
+            write!(out, "line {number}: the input ends before it\n")?;
+            put_told(out, told)
+        }
+    }
+}
+
+/// Why the line of this number of the input breaks the rule.
+fn explanation(
+    alloc: Global,
+    bytes: &[u8],
+    number: usize,
+    told: &Told,
 ) -> Result<String, AllocError> {
-    let Told {
-        rule,
-        broken,
-        right,
-    } = *told;
+    let script = text_of(alloc, bytes)?;
     let mut out = String::new(alloc);
-    if let Rule::Size = rule {
-        write!(out, "broken: {broken}\nright: {right}\n")?;
-        return Ok(out);
-    }
-    let Some(text) = script.split('\n').nth(number.saturating_sub(1)) else {
-        write!(
-            out,
-            "line {number}: the input ends before it\nbroken: {broken}\nright: {right}\n"
-        )?;
-        return Ok(out);
-    };
-    let line = Line {
-        script,
-        number,
-        text,
-    };
-    put_line(&mut out, rule, line)?;
-    write!(out, "broken: {broken}\nright: {right}\n")?;
-    if let Some(form) = form_of(text) {
-        let form = form.text;
-        write!(out, "form: {form}\n")?;
-    }
+    put_explanation(&mut out, script.as_str(), number, told)?;
     Ok(out)
 }
 
 fn main(rt: HostRuntime) -> ExitCode {
-    let Some(asked) = words_ask(&rt) else {
-        return ExitCode::from(2);
-    };
-    let Asked::Explain(number, told) = asked else {
-        return ExitCode::from(if rt.print(USAGE).is_ok() { 0 } else { 5 });
+    let (number, told) = match words_ask(&rt) {
+        Asked::Explain(number, told) => (number, told),
+        Asked::Help => return ExitCode::from(if rt.print(USAGE).is_ok() { 0 } else { 5 }),
+        _ => return ExitCode::from(2),
     };
     let mut bytes = Vec::new(rt.alloc());
     if rt.stdin().read_to_end(&mut bytes).is_err() {
         return ExitCode::from(4);
     }
-    let text = text_of(rt.alloc(), bytes.as_slice()).and_then(|script| explanation(
-        rt.alloc(),
-        script.as_str(),
-        number,
-        told,
-    ));
-    match text {
+    match explanation(rt.alloc(), bytes.as_slice(), number, told) {
         Ok(text) => ExitCode::from(if rt.print(text.as_str()).is_ok() {
             0
         } else {

@@ -1,6 +1,6 @@
 //! Where in a line a rule is broken, as far as the line and the lines above tell.
 
-use crate::form::{Role, form_of, roles_of_operation};
+use crate::form::{Role, roles_of_line, roles_of_operation};
 use crate::rule::Rule;
 
 /// What stands for a byte that no script has.
@@ -24,7 +24,7 @@ pub struct Line<'a> {
 /// A number in plain decimals.
 fn value_of(word: &str) -> Option<u64> {
     let is_padded = word.len() > 1 && word.starts_with('0');
-    if is_padded || !word.bytes().all(|byte| byte.is_ascii_digit()) {
+    if is_padded || word.starts_with('+') {
         return None;
     }
     word.parse::<u64>().ok()
@@ -84,7 +84,7 @@ impl Line<'_> {
         for line in self.script.split('\n') {
             let mut words = line.split(' ');
             match words.next() {
-                Some("engines") => engines = words.next().and_then(value_of).unwrap_or(0),
+                Some("engines") => engines = value_of(words.next().unwrap_or("")).unwrap_or(0),
                 Some("thread") => threads = threads.saturating_add(1),
                 _ => {}
             }
@@ -127,9 +127,7 @@ impl Line<'_> {
             let column = line.find(ALIEN).unwrap_or(line.len());
             return Some(Place { column, length: 1 });
         }
-        let form = form_of(line);
-        let others = form.map(|form| form.others).unwrap_or(Role::Fixed);
-        let mut roles = form.map(|form| form.roles).unwrap_or(&[]);
+        let (mut roles, others) = roles_of_line(line);
         let mut column = 0usize;
         for word in line.split(' ') {
             let role = match roles.split_first() {
