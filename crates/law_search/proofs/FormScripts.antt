@@ -23,7 +23,6 @@ use Rattle.journal_model.specs.MarkRules.{Desk, empty_desk, desk_after, is_mark,
 use Rattle.journal_model.specs.ScriptRules.{is_script, is_decl, is_name, is_group, is_flagged, is_old_list, is_new_list, is_place_list, is_actor, is_turn_line, has_sizes, has_distinct_names}
 use Rattle.journal_model.specs.OldSearch.{one_list}
 use Rattle.journal_model.specs.Marks.{marks_at}
-use Rattle.law_search.proofs.FormSearches.{in_version}
 use Rattle.law_search.proofs.TwoLists.{two_lists}
 
 length-map : {X Y : Type 0} (f : X → Y) (xs : List X) → length (map f xs) ≡ length xs
@@ -59,6 +58,10 @@ new_decls [] h = refl
 new_decls (d ∷ ds) h = let p = and_parts (is_decl 1 d) (list_all (is_decl 1) ds) h in and_from (is_decl 2 d) (list_all (is_decl 2) ds) (new_decl d p.0) (new_decls ds p.1)
 
 -- ---- commands, turns and marks
+
+-- a script in another version
+abbrev in_version : ℕ → Script → Script
+in_version version script = record script { version = version }
 
 module _ (v : ℕ) (script : Script) where
   op_same : (o : Op) → is_op (in_version v script) o ≡ is_op script o
