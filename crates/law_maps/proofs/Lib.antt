@@ -1,2 +1,5 @@
 pub mod Entries
 pub mod Following
+mod Stays
+mod Tells
+mod Right

@@ -1,6 +1,7 @@
-//! The law that mappings of buffers by the CPU forget the pages that leave.
+//! Laws on mappings of buffers by the CPU: what they know is so, since they forget the pages that leave.
 #![tactic(auto)]
 
+ghost use Rattle.journal_model.specs.MarkLaws.{LegalMapsAreRight};
 ghost use Rattle.law_maps.specs.Following.{EntriesGoWithTheirPages, EntriesGoWithTheirMapping};
 
 /// Where areas have the entries that a journal gives a mapping, they have them behind one more entry that isn't an answer, once the call
@@ -12,4 +13,9 @@ pub fn entries_go_with_their_pages()
 /// Once a mapping has ended, and was unmapped, its area has the entries that the journal gives it: none.
 pub fn entries_go_with_their_mapping()
     ensures { EntriesGoWithTheirMapping }
+{}
+
+/// After every legal journal of a script an entry of a mapping names the place that its buffer's page has.
+pub fn legal_maps_are_right()
+    ensures { LegalMapsAreRight }
 {}
