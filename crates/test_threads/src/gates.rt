@@ -134,3 +134,39 @@ impl Gate for Steering {
         }
     }
 }
+
+/// Holds worker 1 in its second turn until another comes to its third, and the others in their first until worker 1 is held.
+#[derive(Drop)]
+pub struct Holding {
+    held: Flag,
+    third: Flag,
+}
+
+impl Holding {
+    pub fn new() -> Holding {
+        Holding {
+            held: Flag::new(),
+            third: Flag::new(),
+        }
+    }
+
+    /// Whether others went on while worker 1 was held.
+    pub fn has_held(&self) -> bool {
+        self.held.is_met() && self.third.is_met()
+    }
+}
+
+impl Gate for Holding {
+    fn before_turn(&self, worker: u32, turn: u64) {
+        match (worker, turn) {
+            (1, 2) => {
+                self.held.raise();
+                self.third.wait();
+            }
+            (1, _) => {}
+            (_, 1) => self.held.wait(),
+            (_, 3) => self.third.raise(),
+            _ => {}
+        }
+    }
+}

@@ -3,7 +3,7 @@ ghost use Rattle.turn_lock.specs.Locks.{lock_id, context_count};
 ghost use Rattle.turn_lock.specs.Turning.{IsFree, IsOnward};
 
 use crate::counter::Counter;
-use crate::gates::Meeting;
+use crate::gates::{Holding, Meeting};
 use std::sync::Wait;
 use std::test::Fail;
 use ttm_base::{Actor, Logged, Stepper};
@@ -57,6 +57,21 @@ fn two_workers_are_at_work_at_once(rt: HostRuntime) -> Result<(), Fail> {
     let (answer, pass) = work_all(&rt, rt.alloc(), &turns, pass, &meeting, &actors);
     let counter = turns.close(&rt, pass);
     assert!(rt; answer.is_ok() && meeting.have_met());
+    assert!(rt; counter.journal().len() == 20);
+    Ok(())
+}
+
+/// Behind its first turn worker 1 has the floor.
+#[test]
+fn a_worker_that_is_held_stops_nobody(rt: HostRuntime) -> Result<(), Fail> {
+    let (turns, pass) = Turns::new(rt.alloc(), Counter::new(rt.alloc(), 10), 1)
+        .ok()
+        .ok_or("memory")?;
+    let gate = Holding::new();
+    let actors = [Actor::Thread(1), Actor::Thread(2), Actor::Engine(0)];
+    let (answer, pass) = work_all(&rt, rt.alloc(), &turns, pass, &gate, &actors);
+    let counter = turns.close(&rt, pass);
+    assert!(rt; answer.is_ok() && gate.has_held());
     assert!(rt; counter.journal().len() == 20);
     Ok(())
 }

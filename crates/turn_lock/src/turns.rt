@@ -6,9 +6,10 @@ ghost use Rattle.turn_lock.specs.declared.Stage.TheVariants.{Idle, Waiting, Call
 ghost use Rattle.turn_lock.specs.Turning.{staged, fenced, told, joined, longer, start, Once, Took, IsDone, IsFree, IsHolder, IsSame};
 
 use super::plays::{Advance, Call, Draw, Look, Merge, Peek, Publish, Raise, Settle, Tell};
-use super::{Lanes, Pass};
+use super::{Floor, Lanes, Pass};
 use atomic_table::{Refused, Table};
 use std::alloc::{AllocError, Global};
+use std::hint::spin_loop;
 use std::snapshot::Snapshot;
 use std::sync::Wait;
 use ttm_base::{Logged, NoMemory};
@@ -19,11 +20,15 @@ const SERVED: usize = 1;
 
 const LENGTH: usize = 2;
 
+/// How often a caller looks whether its number is served before it sleeps.
+const LOOKS: u64 = 200;
+
 /// A value that callers hold in turn.
 #[derive(Drop)]
 pub struct Turns<V: Logged> {
     table: Lanes<V>,
     contexts: u32,
+    floor: Floor,
     ghost sized: { (table.shared.table_id.words ≡ contexts + 3) × (table.shared.table_id.slots ≡ 1) × (table.shared.key.1 ≡ contexts) },
 }
 
@@ -62,7 +67,14 @@ impl<V: Logged> Turns<V> {
             return Err(NoMemory);
         }
         match Table::new(alloc, words.as_slice(), slots, &about) {
-            Ok((table, pass)) => Ok((Turns { table, contexts }, pass)),
+            Ok((table, pass)) => Ok((
+                Turns {
+                    table,
+                    contexts,
+                    floor: Floor::new(),
+                },
+                pass,
+            )),
             Err(_) => Err(NoMemory),
         }
     }
@@ -72,6 +84,11 @@ impl<V: Logged> Turns<V> {
         ensures { result ≡ context_count self.now }
     {
         self.contexts
+    }
+
+    /// Who goes on with turns.
+    pub fn floor(&self) -> &Floor {
+        &self.floor
     }
 
     /// A second pass, which has seen the same.
@@ -119,19 +136,29 @@ impl<V: Logged> Turns<V> {
         unreachable!()
     }
 
+    // Between two looks at the number served. Behind some looks it sleeps for as long as this number is served.
+    fn rest<R: Wait>(&self, rt: &R, served: u64, looks: u64) {
+        if looks < LOOKS {
+            spin_loop();
+        } else {
+            let low = (served % (1 << 32)) as u32;
+            self.table.shared.park(rt, SERVED, low);
+        }
+    }
+
     fn look<R: Wait>(&self, rt: &R, pass: &mut Pass<V>, number: u64)
         requires own { pass.old.table_id ≡ lock_id self.now }
         requires waits { (pass.old.me.0.stage ≡ Waiting number) × (pass.old.me.1 ≡ []) }
         ensures { IsSame pass.old pass.new × Took V.list V.root V.done number pass.old.me pass.new.me }
     {
+        let mut looks = 0u64;
         for _ in rt.forever() {
             let served = self.table.shared.load::<Look>(pass, SERVED);
             if served == number {
                 return;
             }
-            self.table
-                .shared
-                .park(rt, SERVED, (served % (1 << 32)) as u32);
+            looks = looks.saturating_add(1);
+            self.rest(rt, served, looks);
         }
         unreachable!()
     }
@@ -173,8 +200,11 @@ impl<V: Logged> Turns<V> {
         let lent = self.table.shared.exchange(pass, 0, Some(value));
         let None = lent else { unreachable!() };
         self.table.shared.store::<Publish>(pass, LENGTH, count);
-        self.table.shared.fetch_add::<Advance>(pass, SERVED, 1);
-        self.table.shared.wake_all(SERVED);
+        let number = self.table.shared.fetch_add::<Advance>(pass, SERVED, 1);
+        // Who draws a number behind this look finds it served.
+        if self.table.shared.peek(TICKET) != number.wrapping_add(1) {
+            self.table.shared.wake_all(SERVED);
+        }
     }
 
     fn call<R: Wait>(&self, rt: &R, pass: &mut Pass<V>, number: u64)
@@ -187,9 +217,7 @@ impl<V: Logged> Turns<V> {
             if number == served {
                 return;
             }
-            self.table
-                .shared
-                .park(rt, SERVED, (served % (1 << 32)) as u32);
+            self.rest(rt, served, LOOKS);
         }
         unreachable!()
     }
@@ -203,7 +231,11 @@ impl<V: Logged> Turns<V> {
     {
         let number = self.draw(rt, &mut pass);
         self.call(rt, &mut pass, number);
-        let Turns { table, contexts: _ } = self;
+        let Turns {
+            table,
+            contexts: _,
+            floor: _,
+        } = self;
         let mut closed = table.close_with(pass);
         let slot = closed.take(0);
         closed.free();

@@ -5,7 +5,7 @@ ghost use Rattle.std.specs.Prelude.{◌≡◌, ℕ, ◌<◌, ◌≤◌, Some, If
 ghost use Rattle.turn_lock.specs.Growing.{Grows};
 ghost use Rattle.turn_lock.specs.Locks.{lock_id, context_count};
 ghost use Rattle.turn_lock.specs.Turning.{IsFree, IsOnward, IsSame};
-ghost use Rattle.worker_pool.specs.Offers.{SaysOver};
+ghost use Rattle.worker_pool.specs.Offers.{SaysOver, cost_of};
 
 mod crew;
 mod crowd;
@@ -14,7 +14,7 @@ pub use crew::Back;
 pub use crowd::work_all;
 use std::sync::Wait;
 use ttm_base::{Actor, JobId, Need, NoMemory, Stepper, Turn};
-use turn_lock::{Held, Pass, Turns};
+use turn_lock::{Held, Pass, Spell, Turns};
 
 /// Called by a worker before each of its turns, while it holds none.
 pub trait Gate {
@@ -28,10 +28,23 @@ impl Gate for IdleGate {
 }
 
 enum Offered {
-    /// Who made the entry, and what blocked the worker's own actor.
-    Made(Actor, Option<JobId>),
+    /// The worker's own actor made the entry.
+    Own,
+    /// Who made it, and what blocked the worker's own actor.
+    Other(Actor, Option<JobId>),
     Idle(Option<JobId>),
     Over,
+}
+
+// What a turn takes of the worker's spell. An entry of another actor takes more, since that actor's own worker makes it sooner.
+fn cost_of(offered: &Result<Offered, NoMemory>) -> u64
+    ensures { result ≡ cost_of offered.now }
+{
+    match offered {
+        Ok(Offered::Own) => 1,
+        Ok(Offered::Other(_, _)) => 8,
+        _ => u64::MAX,
+    }
 }
 
 fn fence_of(need: Need) -> Option<JobId> {
@@ -56,7 +69,7 @@ fn offer<V: Stepper>(
     let mut need = left_out;
     if left_out.is_none() {
         match value.step(actors[own])? {
-            Turn::Made(_) => return Ok(Offered::Made(actors[own], None)),
+            Turn::Made(_) => return Ok(Offered::Own),
             Turn::Over => return Ok(Offered::Over),
             Turn::Blocked(why) => need = fence_of(why),
         }
@@ -64,7 +77,7 @@ fn offer<V: Stepper>(
     for i in 0..actors.len() {
         if i != own {
             match value.step(actors[i])? {
-                Turn::Made(_) => return Ok(Offered::Made(actors[i], need)),
+                Turn::Made(_) => return Ok(Offered::Other(actors[i], need)),
                 Turn::Over => return Ok(Offered::Over),
                 Turn::Blocked(_) => {}
             }
@@ -74,13 +87,21 @@ fn offer<V: Stepper>(
 }
 
 // Where the turn's entry was an engine's, the number that is done in its context.
-fn reached<V: Stepper>(value: &V, offered: &Offered, contexts: u32) -> Option<(u32, u64)>
+fn reached<V: Stepper>(
+    value: &V,
+    offered: &Offered,
+    own: Actor,
+    contexts: u32,
+) -> Option<(u32, u64)>
     ensures { IfSome result (λ f. (f.0 < contexts) × (f.1 ≡ V.done (V.list value.now) f.0)) }
 {
-    match offered {
-        Offered::Made(Actor::Engine(engine), _) if *engine < contexts => {
-            Some((*engine, value.done(*engine)))
-        }
+    let maker = match offered {
+        Offered::Own => own,
+        Offered::Other(who, _) => *who,
+        _ => return None,
+    };
+    match maker {
+        Actor::Engine(engine) if engine < contexts => Some((engine, value.done(engine))),
         _ => None,
     }
 }
@@ -115,7 +136,7 @@ fn turn<R: Wait, V: Stepper>(
     let value = held.value();
     let offered = offer(value, actors, own, left_out);
     let raise = match &offered {
-        Ok(made) => reached(value, made, turns.contexts()),
+        Ok(made) => reached(value, made, actors[own], turns.contexts()),
         Err(_) => None,
     };
     turns.give(pass, held);
@@ -161,12 +182,17 @@ pub fn work<R: Wait, V: Stepper, G: Gate>(
     let own = worker as usize - 1;
     let mut blocked: Option<JobId> = None;
     let mut number = 0u64;
+    let mut spell: Option<Spell> = None;
     for _ in rt.forever() {
         number = number.saturating_add(1);
         gate.before_turn(worker, number);
+        let going = turns.floor().go_on(rt, spell);
         blocked = still_blocked(turns, pass, blocked);
-        match turn(rt, turns, pass, actors, own, blocked)? {
-            Offered::Made(_, need) => blocked = need,
+        let offered = turn(rt, turns, pass, actors, own, blocked);
+        spell = Some(turns.floor().spend(going, cost_of(&offered)));
+        match offered? {
+            Offered::Own => blocked = None,
+            Offered::Other(_, need) => blocked = need,
             Offered::Idle(need) => blocked = need,
             Offered::Over => return Ok(()),
         }

@@ -15,8 +15,8 @@ store-requires g c = let e = c.exchange-lent.ensures.3 in let y = c.args.held.va
       c.count-count.ensures,
 )
 
-pub fetch_add-requires : goal.fetch_add-requires
-fetch_add-requires g c = let e = c.exchange-lent.ensures.3 in let y = c.args.held.value in
+pub fetch_add-number-requires : goal.fetch_add-number-requires
+fetch_add-number-requires g c = let e = c.exchange-lent.ensures.3 in let y = c.args.held.value in
     let carries = ap (λ m. m.1) e ∙ ap (λ q. (0, Some y) ∷ rest q) c.requires.holder.1 in
     let p = (c.store.ensures.2 y carries).1 in (
       search rules,
