@@ -9,7 +9,7 @@ use Rattle.journal_model.specs.Words.{Text}
 use Rattle.journal_model.specs.Verdict.{IsAccepted, IsRejected, check_limit, report_part, script_part}
 use Rattle.law_script.specs.ScriptLaws.{IsPlainScript}
 use Rattle.simulator.specs.Edges.{Edge, WasReadWhole}
-use Rattle.simulator.specs.Plain.{status_after}
+use Rattle.simulator.specs.Written.{status_after}
 use Rattle.check_program.specs.declared.finding.Finding.{Finding}
 use Rattle.check_program.specs.declared.finding.Finding.TheVariants as finding
 use Rattle.check_program.specs.Finds.{Finds, FindsIn, FindsReport, status_of, text_of}

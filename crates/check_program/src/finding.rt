@@ -1,6 +1,6 @@
 //! What an input comes to.
 
-ghost use Rattle.std.specs.Prelude.{◌≡◌, [], IfOk, IsTrue, OnErr};
+ghost use Rattle.std.specs.Prelude.{◌≡◌, IfOk, IsTrue, OnErr};
 ghost use Rattle.journal_model.specs.ScriptRules.{is_script};
 ghost use Rattle.simulator.specs.Edges.{Edge};
 ghost use Rattle.check_program.specs.Finds.{Finds, FindsIn, FindsReport, status_of};
@@ -47,7 +47,6 @@ const MOST_BYTES: usize = 68_157_440;
 /// What the report of a script comes to.
 fn judged(alloc: Global, script: &Script, report: &[u8]) -> Result<Finding, NoMemory>
     requires fits { IsTrue (is_script script.now) }
-    requires plain { script.now.marks ≡ [] }
     ensures { IfOk result (FindsReport script.now report.now) }
 {
     match judge(alloc, script, report)? {

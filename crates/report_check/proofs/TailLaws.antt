@@ -1,11 +1,9 @@
 -- What follows the entries of a report, as it is written and compared.
-use Rattle.std.proofs.Common.{◌≡◌, ℕ, Bool, true, List, [], ◌∷◌, ◌++◌, length, take, Option, Some, Result, sym, subst, ◌∙◌, ap, append_assoc}
-use Rattle.std.specs.Prelude.{IsErr, codes}
+use Rattle.std.proofs.Common.{◌≡◌, ℕ, Bool, true, List, [], ◌∷◌, ◌++◌, length, take, Some, sym, subst, ◌∙◌, ap, append_assoc}
+use Rattle.std.specs.Prelude.{codes}
 use Rattle.std.specs.Io.KnownBytes.{append_known}
 use Rattle.std.proofs.Math.Seq.{take-length}
 use Rattle.std.proofs.lemmas.List.{append_cancel_left}
-use Rattle.io_edge.specs.Written.{AppendsFront, Writes}
-use Rattle.io_edge.proofs.Told.{front_of_first, front_of_next, writes_refused}
 use Rattle.journal_model.specs.declared.script.Script.{Script}
 use Rattle.journal_model.specs.declared.entry.Entry.{Entry}
 use Rattle.journal_model.specs.declared.state.State.{State}
@@ -14,32 +12,27 @@ use Rattle.journal_model.specs.Legal.{state_of}
 use Rattle.journal_model.specs.ReportText.{report}
 use Rattle.report_text.specs.declared.accounts.Accounts.{Accounts}
 use Rattle.report_text.specs.Accounts.{AreAccountsOf}
-use Rattle.report_text.specs.Parts.{journal_part, outcome_part}
+use Rattle.report_text.specs.Parts.{journal_part, mappings_part, outcome_part}
 use Rattle.report_text.proofs.Parts.{report_by_parts}
 
 -- all of a piece
 pub whole_piece : (piece : List ℕ) → take (length piece) piece ≡ piece
 whole_piece piece = take-length piece
 
--- ---- two parts
-
-pub first_of_two : {T E : Type 0} (r : Result T E) (o n : Option (List ℕ)) (a b : Text) → IsErr r → AppendsFront o n a → Writes r o n (a ++ b)
-first_of_two r o n a b h front = writes_refused r o n (a ++ b) h (front_of_first b front)
-
-pub next_of_two : {T E : Type 0} (r : Result T E) (o m n : Option (List ℕ)) (a b : Text) → IsErr r → m ≡ append_known o a → AppendsFront m n b → Writes r o n (a ++ b)
-next_of_two r o m n a b h one front = writes_refused r o n (a ++ b) h (front_of_next a one front)
-
--- ---- the tail
-
 -- what was written is what follows the entries
-pub written_tail : (script : Script) (journal : List Entry) (s : State) (a : Accounts) (start tail : Text) → script.marks ≡ [] → s ≡ state_of script journal → AreAccountsOf script s.core a →
-    start ≡ [] → Some tail ≡ append_known (Some start) (outcome_part script journal a ++ line (codes "end" ∷ [])) → journal_part script journal ++ tail ≡ report script journal
-written_tail script journal s a start tail none at h empty w =
-    let told : tail ≡ start ++ (outcome_part script journal a ++ line (codes "end" ∷ [])) = cc in
-    let it : tail ≡ outcome_part script journal a ++ line (codes "end" ∷ []) = told ∙ ap (λ (x : Text). x ++ (outcome_part script journal a ++ line (codes "end" ∷ []))) empty in
+pub written_tail : (script : Script) (journal : List Entry) (s : State) (a : Accounts) (start tail : Text) → s ≡ state_of script journal → AreAccountsOf script s.core a → start ≡ []
+    → Some tail ≡ append_known (Some start) ((outcome_part script journal a ++ mappings_part script journal) ++ line (codes "end" ∷ [])) → journal_part script journal ++ tail ≡ report script journal
+written_tail script journal s a start tail at h empty w =
+    let front = journal_part script journal in
+    let outcome = outcome_part script journal a in
+    let maps = mappings_part script journal in
+    let end = line (codes "end" ∷ []) in
+    let told : tail ≡ start ++ ((outcome ++ maps) ++ end) = cc in
+    let it : tail ≡ (outcome ++ maps) ++ end = told ∙ ap (λ (x : Text). x ++ ((outcome ++ maps) ++ end)) empty in
     let accounts : AreAccountsOf script (state_of script journal).core a = subst (λ (x : State). AreAccountsOf script x.core a) at h in
-    ap (λ (t : Text). journal_part script journal ++ t) it ∙ sym (append_assoc (journal_part script journal) (outcome_part script journal a) (line (codes "end" ∷ [])))
-    ∙ sym (report_by_parts script journal a none accounts)
+    ap (λ (t : Text). front ++ t) it ∙ sym (append_assoc front (outcome ++ maps) end)
+    ∙ ap (λ (t : Text). t ++ end) (sym (append_assoc front outcome maps))
+    ∙ sym (report_by_parts script journal a accounts)
 
 -- another tail is that of the report where it is the same
 pub same_tail : (front right tail whole : Text) (r : Bool) → (r ≡ true → right ≡ tail) × (right ≡ tail → r ≡ true) → front ++ right ≡ whole →

@@ -7,14 +7,16 @@ ghost use Rattle.io_edge.specs.Written.{Writes};
 ghost use Rattle.journal_model.specs.Legal.{state_of};
 ghost use Rattle.journal_model.specs.ReportText.{report};
 ghost use Rattle.journal_model.specs.Words.{line as line_of};
+ghost use Rattle.report_mappings.specs.Faults.{IsLegalIfMapped};
+ghost use Rattle.report_mappings.specs.Requests.{are_in_spaces};
 ghost use Rattle.report_text.specs.Accounts.{AreAccountsOf};
-ghost use Rattle.report_text.specs.Parts.{journal_part, outcome_part};
+ghost use Rattle.report_text.specs.Parts.{journal_part, mappings_part, outcome_part};
 
 use crate::parts::same_bytes;
 use io_edge::{Failed, Sink, write_all};
 use journal_model::{Entry, Script, State};
 use page_accounts::accounts_of;
-use report_text::report::write_outcome;
+use report_text::report::{write_mappings, write_outcome};
 use report_text::{Accounts, WriteFault};
 use std::alloc::Global;
 use text_line::Line;
@@ -54,10 +56,13 @@ fn write_tail<K: Sink>(
     accounts: &Accounts,
     sink: &mut K,
 ) -> Result<(), WriteFault>
-    ensures { Writes result (K.written sink.old) (K.written sink.new) (outcome_part script.now journal.now accounts.now ++ line_of (codes "end" ∷ [])) }
+    requires requests { IsTrue (are_in_spaces script.now) }
+    requires legal { IsLegalIfMapped script.now journal.now }
+    ensures { Writes result (K.written sink.old) (K.written sink.new) ((outcome_part script.now journal.now accounts.now ++ mappings_part script.now journal.now) ++ line_of (codes "end" ∷ [])) }
 {
     let mut line = Line::new(alloc);
     write_outcome(&mut line, script, journal, accounts, sink)?;
+    write_mappings(&mut line, alloc, script, journal, sink)?;
     write_all(sink, b"end\n")?;
     Ok(())
 }
@@ -69,7 +74,8 @@ fn tail_of(
     journal: &[Entry],
     state: &State,
 ) -> Result<Vec<u8>, NoMemory>
-    requires marks { script.now.marks ≡ [] }
+    requires requests { IsTrue (are_in_spaces script.now) }
+    requires legal { IsLegalIfMapped script.now journal.now }
     requires state { state.now ≡ state_of script.now journal.now }
     ensures { IfOk result (λ tail. journal_part script.now journal.now ++ tail.items ≡ report script.now journal.now) }
 {
@@ -94,7 +100,8 @@ pub fn tail_is(
     state: &State,
     tail: &[u8],
 ) -> Result<bool, NoMemory>
-    requires marks { script.now.marks ≡ [] }
+    requires requests { IsTrue (are_in_spaces script.now) }
+    requires legal { IsLegalIfMapped script.now journal.now }
     requires state { state.now ≡ state_of script.now journal.now }
     ensures { IfOk result (λ is. IsTrue is ↔ (journal_part script.now journal.now ++ tail.now ≡ report script.now journal.now)) }
 {

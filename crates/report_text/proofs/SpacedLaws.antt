@@ -1,18 +1,9 @@
--- Lists and lines as they are put: the first word, and then the others.
-use Rattle.std.proofs.Common.{◌≡◌, List, [], ◌∷◌, ◌++◌, map, drop, Some, ap, ◌∙◌, sym, append_assoc}
+-- Lines as they are put: the first word, and then the others.
+use Rattle.std.proofs.Common.{◌≡◌, List, [], ◌∷◌, ◌++◌, drop, Some, ap, ◌∙◌, sym, append_assoc}
 use Rattle.std.specs.Prelude.{slice_get}
-use Rattle.journal_model.specs.Words.{Text, line, listed, spaced}
-use Rattle.text_line.specs.Spaced.{behind_each, spaced_out}
+use Rattle.journal_model.specs.Words.{Text, line, spaced}
+use Rattle.text_line.specs.Spaced.{spaced_out}
 use Rattle.text_line.proofs.SpacedLaws.{join_with_byte-cons}
-
--- a list of items: the first, and then the others behind a comma
-pub listed_after : {X : Type 0} (word : X → Text) (old mid new : Text) (xs : List X) (x : X) (more : List X) → xs ≡ x ∷ more → mid ≡ old ++ word x
-    → new ≡ mid ++ behind_each 44 (map word more) → new ≡ old ++ listed (map word xs)
-listed_after word old mid new xs x more whole first rest =
-    rest ∙ ap (λ t. t ++ behind_each 44 (map word more)) first
-    ∙ append_assoc old (word x) (behind_each 44 (map word more))
-    ∙ ap (λ t. old ++ t) (sym (join_with_byte-cons 44 (word x) (map word more)))
-    ∙ ap (λ ys. old ++ listed (map word ys)) (sym whole)
 
 -- words by the first and the others
 pub words_by_first : (ws : List Text) (w : Text) → slice_get ws 0 ≡ Some w → ws ≡ w ∷ drop 1 ws

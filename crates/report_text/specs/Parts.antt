@@ -7,7 +7,7 @@ use Rattle.journal_model.specs.declared.entry.Entry.{Entry}
 use Rattle.journal_model.specs.Complete.{thread_numbers}
 use Rattle.journal_model.specs.Words.{Text, line}
 use Rattle.journal_model.specs.EntryText.{entry_line}
-use Rattle.journal_model.specs.ReportText.{account_line, thread_results}
+use Rattle.journal_model.specs.ReportText.{account_line, maps_part, spaces_part, thread_results}
 use Rattle.report_text.specs.declared.accounts.Accounts.{Accounts}
 use Rattle.report_text.specs.Accounts.{told}
 
@@ -33,3 +33,7 @@ outcome_part script journal accounts =
     ++ flat_map (thread_results journal) (thread_numbers script)
     ++ line (codes "accounts" ∷ [])
     ++ four_lines script.sizes accounts
+
+-- the parts on mappings
+abbrev pub mappings_part : Script → List Entry → Text
+mappings_part script journal = maps_part script journal ++ spaces_part script

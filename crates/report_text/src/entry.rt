@@ -4,8 +4,8 @@ ghost use Rattle.journal_model.specs.Words.{actor_word, hex, listed, mem_word, n
 ghost use Rattle.journal_model.specs.ReportText.{answer_words};
 ghost use Rattle.text_line.specs.Spaced.{behind_each, spaced_out};
 
-use crate::words::put_spans;
 use journal_model::{Cause, CauseRow, DryWhy, Entry, Kind, Left, Script, Shown, Why};
+use report_mappings::spans::put_spans;
 use text_line::{Line, mem_word, name_of, put_actor, put_hex, put_numbered};
 use ttm_base::{BufId, Deny, Mem, NoMemory, Span};
 

@@ -1,10 +1,9 @@
-//! The report of a journal: its entries, the results, and the accounts.
+//! The report of a journal: its entries, the results, the accounts, and what mappings come to.
 #![tactic(auto)]
 
 pub mod accounts;
 mod entry;
 pub mod report;
-mod words;
 
 pub use accounts::{Account, Accounts};
 pub use report::{WriteFault, write_report};

@@ -1,13 +1,16 @@
-ghost use Rattle.std.specs.Prelude.{◌≡◌, ◌+◌, ◌++◌, ◌∷◌, [], codes, decimal, drop, flat_map, filter_map, is_some, length, unwrap_or, OnOk};
-ghost use Rattle.std.specs.List.{enumerate_from};
+ghost use Rattle.std.specs.Prelude.{◌≡◌, ◌+◌, ◌++◌, ◌∷◌, ◌||◌, [], codes, decimal, drop, flat_map, filter_map, is_some, length, unwrap_or, IsTrue, OnOk};
+ghost use Rattle.std.specs.List.{enumerate_from, list_any};
 ghost use Rattle.io_edge.specs.Written.{Writes};
+ghost use Rattle.journal_model.specs.Marks.{is_map, is_vmap};
 ghost use Rattle.journal_model.specs.Words.{line as line_of, thread_word};
 ghost use Rattle.journal_model.specs.EntryText.{entry_line};
 ghost use Rattle.journal_model.specs.ReportText.{account_line, account_lines, answer_line, answer_of, answer_words, report, thread_results};
 ghost use Rattle.journal_model.specs.Complete.{is_by_thread, thread_numbers};
 ghost use Rattle.journal_model.specs.Legal.{state_of};
 ghost use Rattle.report_text.specs.Accounts.{AreAccountsOf, told};
-ghost use Rattle.report_text.specs.Parts.{four_lines, journal_part, outcome_part};
+ghost use Rattle.report_mappings.specs.Faults.{IsLegalIfMapped};
+ghost use Rattle.report_mappings.specs.Requests.{are_in_spaces};
+ghost use Rattle.report_text.specs.Parts.{four_lines, journal_part, mappings_part, outcome_part};
 ghost use Rattle.text_line.specs.Spaced.{spaced_out};
 ghost use Rattle.report_text.specs.WriteFault.{faults_after_writing};
 
@@ -15,6 +18,7 @@ use crate::accounts::{Account, Accounts};
 use crate::entry::{make_entry_line, put_answer};
 use io_edge::{Failed, Sink, write_all};
 use journal_model::{Entry, Kind, Script, Sizes};
+use report_mappings::{has_map, has_vmap, put_maps, put_spaces};
 use std::alloc::Global;
 use text_line::{Line, put_numbered};
 use ttm_base::{Actor, NoMemory};
@@ -292,8 +296,52 @@ pub fn write_outcome<K: Sink>(
     write_accounts(line, &script.sizes, accounts, sink)
 }
 
-/// Writes the report of a journal, each line as a piece of its own. The accounts are those of the state after the journal.
-/// After a refusal a front of the report was written, and not all.
+/// The script maps a buffer, or pages of an address space.
+fn has_mappings(script: &Script) -> bool
+    ensures { result ≡ (list_any (λ m. is_map m.kind) script.now.marks || list_any (λ m. is_vmap m.kind) script.now.marks) }
+{
+    has_map(script) || has_vmap(script)
+}
+
+/// Makes the parts on mappings.
+fn make_mappings(
+    line: &mut Line,
+    alloc: Global,
+    script: &Script,
+    journal: &[Entry],
+) -> Result<(), NoMemory>
+    requires requests { IsTrue (are_in_spaces script.now) }
+    requires legal { IsLegalIfMapped script.now journal.now }
+    ensures { OnOk result (line.new ≡ mappings_part script.now journal.now) }
+{
+    line.clear();
+    put_maps(line, alloc, script, journal)?;
+    put_spaces(line, alloc, script)
+}
+
+/// Writes the parts of a report behind the accounts, if the script has mappings: the faults of those by the CPU, and the steps of address spaces.
+/// They are one piece.
+pub fn write_mappings<K: Sink>(
+    line: &mut Line,
+    alloc: Global,
+    script: &Script,
+    journal: &[Entry],
+    sink: &mut K,
+) -> Result<(), WriteFault>
+    requires requests { IsTrue (are_in_spaces script.now) }
+    requires legal { IsLegalIfMapped script.now journal.now }
+    ensures text { Writes result (K.written sink.old) (K.written sink.new) (mappings_part script.now journal.now) }
+    ensures faults { K.faults sink.new ≡ faults_after_writing result (K.faults sink.old) }
+{
+    if !has_mappings(script) {
+        return Ok(());
+    }
+    make_mappings(line, alloc, script, journal)?;
+    write_line(line, sink)
+}
+
+/// Writes the report of a journal, each line as a piece of its own, and the parts on mappings as one. The accounts are those of the state after
+/// the journal. After a refusal a front of the report was written, and not all.
 pub fn write_report<K: Sink>(
     alloc: Global,
     script: &Script,
@@ -301,7 +349,8 @@ pub fn write_report<K: Sink>(
     accounts: &Accounts,
     sink: &mut K,
 ) -> Result<(), WriteFault>
-    requires marks { script.now.marks ≡ [] }
+    requires requests { IsTrue (are_in_spaces script.now) }
+    requires legal { IsLegalIfMapped script.now journal.now }
     requires accounts { AreAccountsOf script.now (state_of script.now journal.now).core accounts.now }
     ensures text { Writes result (K.written sink.old) (K.written sink.new) (report script.now journal.now) }
     ensures faults { K.faults sink.new ≡ faults_after_writing result (K.faults sink.old) }
@@ -309,5 +358,6 @@ pub fn write_report<K: Sink>(
     let mut line = Line::new(alloc);
     write_journal(&mut line, script, journal, sink)?;
     write_outcome(&mut line, script, journal, accounts, sink)?;
+    write_mappings(&mut line, alloc, script, journal, sink)?;
     write_heading(&mut line, b"end", sink)
 }

@@ -1,6 +1,6 @@
 //! What comes of a report.
 
-ghost use Rattle.std.specs.Prelude.{◌≡◌, [], IfOk, IsTrue, drop};
+ghost use Rattle.std.specs.Prelude.{◌≡◌, IfOk, IsTrue, drop};
 ghost use Rattle.journal_model.specs.ScriptRules.{is_script};
 ghost use Rattle.entry_reader.specs.Parsing.{IsCut, IsWhole};
 ghost use Rattle.report_check.specs.Judged.{IsLegalTo};
@@ -49,7 +49,6 @@ fn end_of(
     state: &State,
 ) -> Result<Ending, NoMemory>
     requires fits { IsTrue (is_script script.now) }
-    requires plain { script.now.marks ≡ [] }
     requires read { IsWhole script.now text.now parsed.now.rest parsed.now.entries }
     requires leads { IsLegalTo script.now parsed.now.entries state.now }
     ensures { IfOk result (Ends script.now text.now) }
@@ -74,7 +73,6 @@ fn judge_whole(
     parsed: &Parsed,
 ) -> Result<Ending, NoMemory>
     requires fits { IsTrue (is_script script.now) }
-    requires plain { script.now.marks ≡ [] }
     requires read { IsWhole script.now text.now parsed.now.rest parsed.now.entries }
     ensures { IfOk result (Ends script.now text.now) }
 {
@@ -122,7 +120,6 @@ fn judge_front(
 #[tactic(auto, using(crate::proofs::EndLaws::head_rejects))]
 pub fn judge(alloc: Global, script: &Script, text: &[u8]) -> Result<Ending, NoMemory>
     requires fits { IsTrue (is_script script.now) }
-    requires plain { script.now.marks ≡ [] }
     ensures { IfOk result (Ends script.now text.now) }
 {
     let parsed = read_report(alloc, script, text)?;

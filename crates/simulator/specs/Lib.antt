@@ -2,5 +2,5 @@ pub mod Edges
 pub mod Outcomes
 pub mod Inputs
 pub mod Ends
-pub mod Plain
+pub mod Written
 pub mod Lawful

@@ -4,7 +4,6 @@ ghost use Rattle.journal_model.specs.Words.{line as line_of};
 ghost use Rattle.journal_model.specs.ReportText.{report};
 ghost use Rattle.report_text.specs.WriteFault.{faults_after_writing};
 ghost use Rattle.simulator.specs.Outcomes.{bad_script_text, help_text, run_text, text_of};
-ghost use Rattle.simulator.specs.Plain.{IsPlain};
 
 use crate::outcome::Outcome;
 use io_edge::{Sink, write_all};
@@ -75,11 +74,11 @@ fn write_unfinished<K: Sink>(alloc: Global, turns: u64, sink: &mut K) -> Result<
 
 /// Writes the report of a device.
 fn write_device<K: Sink>(alloc: Global, device: &Device, sink: &mut K) -> Result<(), WriteFault>
-    requires { device.now.script.marks ≡ [] }
     ensures text { Writes result (K.written sink.old) (K.written sink.new) (report device.now.script device.now.journal) }
     ensures faults { K.faults sink.new ≡ faults_after_writing result (K.faults sink.old) }
 {
     let accounts = device.accounts();
+    let _held = device.rooms().parts();
     write_report(alloc, device.script(), device.journal(), &accounts, sink)
 }
 
@@ -89,7 +88,6 @@ fn write_unfinished_run<K: Sink>(
     turns: u64,
     sink: &mut K,
 ) -> Result<(), WriteFault>
-    requires { device.now.script.marks ≡ [] }
     ensures text { Writes result (K.written sink.old) (K.written sink.new) (line_of (codes "unfinished" ∷ decimal turns ∷ []) ++ report device.now.script device.now.journal) }
     ensures faults { K.faults sink.new ≡ faults_after_writing result (K.faults sink.old) }
 {
@@ -103,7 +101,6 @@ fn write_run<K: Sink>(
     turns: u64,
     sink: &mut K,
 ) -> Result<(), WriteFault>
-    requires { device.now.script.marks ≡ [] }
     ensures text { Writes result (K.written sink.old) (K.written sink.new) (run_text device.now turns) }
     ensures faults { K.faults sink.new ≡ faults_after_writing result (K.faults sink.old) }
 {
@@ -120,7 +117,6 @@ pub fn write_outcome<K: Sink>(
     outcome: &Outcome,
     sink: &mut K,
 ) -> Result<(), WriteFault>
-    requires { IsPlain outcome.now }
     ensures text { Writes result (K.written sink.old) (K.written sink.new) (text_of outcome.now) }
     ensures faults { K.faults sink.new ≡ faults_after_writing result (K.faults sink.old) }
 {

@@ -1,4 +1,4 @@
-ghost use Rattle.std.specs.Prelude.{◌≡◌, [], IfOk, IsTrue, OnErr};
+ghost use Rattle.std.specs.Prelude.{◌≡◌, IfOk, IsTrue, OnErr};
 ghost use Rattle.journal_model.specs.ScriptRules.{is_script};
 ghost use Rattle.io_edge.specs.Written.{Writes};
 ghost use Rattle.command_words.specs.Forms.{form_of};
@@ -6,7 +6,7 @@ ghost use Rattle.report_text.specs.WriteFault.{faults_after_writing};
 ghost use Rattle.simulator.specs.Edges.{Edge, IsUntouched};
 ghost use Rattle.simulator.specs.Ends.{Comes, ComesSim, ComesRun, Ends};
 ghost use Rattle.simulator.specs.Outcomes.{text_of};
-ghost use Rattle.simulator.specs.Plain.{IsPlain, status_after};
+ghost use Rattle.simulator.specs.Written.{status_after};
 
 use crate::input::{Input, read_input};
 use crate::outcome::{Outcome, Status};
@@ -22,9 +22,7 @@ use ttm_base::NoMemory;
 /// Runs a script for the turns that were asked for, or up to its limit.
 fn run_script(alloc: Global, turns: Option<u64>, script: Script) -> Result<Outcome, NoMemory>
     requires fits { IsTrue (is_script script) }
-    requires plain { script.marks ≡ [] }
     ensures ran { IfOk result (ComesRun script turns) }
-    ensures plain { IfOk result IsPlain }
 {
     let mut device = Device::new(alloc, script)?;
     let allowed = turns.unwrap_or(turn_limit(device.script()));
@@ -40,7 +38,6 @@ fn simulate<S: Source>(
     source: &mut S,
 ) -> Result<Outcome, NoMemory>
     ensures comes { IfOk result (ComesSim turns (record { before = S.left source.old; after = S.left source.new; faults_before = S.faults source.old; faults_after = S.faults source.new })) }
-    ensures plain { IfOk result IsPlain }
     ensures faults { OnErr result (S.faults source.new ≡ S.faults source.old) }
 {
     match read_input(alloc, source)? {
@@ -53,7 +50,6 @@ fn simulate<S: Source>(
 /// What the words and the source come to.
 fn outcome_of<S: Source>(alloc: Global, words: &Words, source: &mut S) -> Result<Outcome, NoMemory>
     ensures comes { IfOk result (Comes (form_of words.now) (record { before = S.left source.old; after = S.left source.new; faults_before = S.faults source.old; faults_after = S.faults source.new })) }
-    ensures plain { IfOk result IsPlain }
     ensures faults { OnErr result (S.faults source.new ≡ S.faults source.old) }
 {
     match read_words(words) {

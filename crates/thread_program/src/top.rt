@@ -2,7 +2,6 @@ ghost use Rattle.std.specs.Prelude.{◌≡◌, IfOk, OnErr};
 ghost use Rattle.command_words.specs.Forms.{form_of};
 ghost use Rattle.simulator.specs.Edges.{Edge};
 ghost use Rattle.simulator.specs.Ends.{EndsWith};
-ghost use Rattle.simulator.specs.Plain.{IsPlain};
 ghost use Rattle.thread_program.specs.Counted.{EndsCounted, HasRunLoad};
 ghost use Rattle.thread_program.specs.Launches.{launch_of};
 ghost use Rattle.thread_program.specs.Threaded.{ComesThreaded, Launched};
@@ -29,7 +28,6 @@ fn outcome_of<R: Threads + Wait + Sync, S: Source, G: Gate + Sync>(
     gate: &G,
 ) -> Result<Outcome, NoMemory>
     ensures comes { IfOk result (ComesThreaded (record { before = S.left source.old; after = S.left source.new; faults_before = S.faults source.old; faults_after = S.faults source.new })) }
-    ensures plain { IfOk result IsPlain }
     ensures faults { OnErr result (S.faults source.new ≡ S.faults source.old) }
 {
     match read_input(alloc, source)? {

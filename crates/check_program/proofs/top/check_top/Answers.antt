@@ -1,7 +1,7 @@
 use Rattle.std.proofs.Common.{refl, sym, ◌∙◌, ap, subst}
 use Rattle.simulator.specs.declared.outcome.Status.{Status}
 use Rattle.simulator.specs.Edges.{Edge}
-use Rattle.simulator.specs.Plain.{status_after}
+use Rattle.simulator.specs.Written.{status_after}
 use Rattle.check_program.specs.Ends.{EndsChecked, nothing}
 use Rattle.check_program.proofs.FindLaws.{ends_after}
 use Rattle.check_program.proofs.top.check_top.Goals as goal

@@ -1,6 +1,6 @@
 use Rattle.std.proofs.lemmas.Result.{on_ok_weaker}
 use Rattle.journal_model.specs.EntryText.{cause_row_word}
-use Rattle.report_text.proofs.SpacedLaws.{listed_after}
+use Rattle.report_mappings.proofs.SpacedLaws.{listed_after}
 use Rattle.report_text.proofs.entry.put_causes.Goals as goal
 
 pub returns-in_ok-put_cause-in-Some : goal.returns-in_ok-put_cause-in-Some

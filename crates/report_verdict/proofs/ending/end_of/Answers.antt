@@ -2,12 +2,20 @@ use Rattle.std.proofs.Common.{◌≡◌, ◌++◌, List, true, false, sym, subst
 use Rattle.journal_model.specs.declared.entry.Entry.{Entry}
 use Rattle.journal_model.specs.Words.{Text}
 use Rattle.journal_model.specs.Complete.{is_over}
+use Rattle.journal_model.specs.Legal.{IsLegal}
 use Rattle.journal_model.specs.ReportText.{report}
 use Rattle.journal_model.specs.Verdict.{IsRejected}
 use Rattle.std.specs.Prelude.{drop, length, ◌+◌}
+use Rattle.report_mappings.proofs.Fits.{fits_spaces}
 use Rattle.report_text.specs.Parts.{journal_part}
 use Rattle.report_verdict.proofs.EndLaws.{accepted, incomplete, other_end}
 use Rattle.report_verdict.proofs.ending.end_of.Goals as goal
+
+pub tail_is-requires-clause-requests : goal.tail_is-requires-clause-requests
+tail_is-requires-clause-requests c = fits_spaces c.args.script.now c.requires.fits
+
+pub tail_is-requires-clause-legal : goal.tail_is-requires-clause-legal
+tail_is-requires-clause-legal c = λ _. subst (λ (es : List Entry). IsLegal c.args.script.now es) (sym c.items-journal.ensures) c.requires.leads.legal
 
 pub returns-then-not-is_over : goal.returns-then-not-is_over
 returns-then-not-is_over c =

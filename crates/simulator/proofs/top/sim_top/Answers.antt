@@ -3,7 +3,7 @@ use Rattle.command_words.specs.Forms.{form_of}
 use Rattle.simulator.specs.declared.outcome.Status.{Status}
 use Rattle.simulator.specs.Edges.{Edge}
 use Rattle.simulator.specs.Ends.{ComesWell, Ends, nothing}
-use Rattle.simulator.specs.Plain.{status_after}
+use Rattle.simulator.specs.Written.{status_after}
 use Rattle.simulator.proofs.EndLaws.{ends_after}
 use Rattle.simulator.proofs.RunLaws.{well, ends_well}
 use Rattle.simulator.proofs.top.sim_top.Goals as goal

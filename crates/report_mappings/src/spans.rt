@@ -5,7 +5,7 @@ ghost use Rattle.text_line.specs.Spaced.{behind_each};
 use text_line::Line;
 use ttm_base::{NoMemory, Span};
 
-pub(crate) fn put_span(line: &mut Line, span: Span) -> Result<(), NoMemory>
+pub fn put_span(line: &mut Line, span: Span) -> Result<(), NoMemory>
     ensures { OnOk result (line.new ≡ line.old ++ span_word span) }
 {
     line.put_number(u64::from(span.start))?;
@@ -13,7 +13,7 @@ pub(crate) fn put_span(line: &mut Line, span: Span) -> Result<(), NoMemory>
     line.put_number(u64::from(span.end))
 }
 
-pub(crate) fn put_spans(line: &mut Line, spans: &[Span]) -> Result<(), NoMemory>
+pub fn put_spans(line: &mut Line, spans: &[Span]) -> Result<(), NoMemory>
     ensures { OnOk result (line.new ≡ line.old ++ spans_word spans.now) }
 {
     match spans.split_first() {

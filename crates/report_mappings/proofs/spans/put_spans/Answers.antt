@@ -1,7 +1,7 @@
 use Rattle.std.proofs.lemmas.Result.{on_ok_weaker}
 use Rattle.journal_model.specs.Words.{span_word}
-use Rattle.report_text.proofs.SpacedLaws.{listed_after}
-use Rattle.report_text.proofs.words.put_spans.Goals as goal
+use Rattle.report_mappings.proofs.SpacedLaws.{listed_after}
+use Rattle.report_mappings.proofs.spans.put_spans.Goals as goal
 
 pub returns-in_ok-put_span-in-Some : goal.returns-in_ok-put_span-in-Some
 returns-in_ok-put_span-in-Some c =

@@ -1,0 +1,8 @@
+pub mod SpacedLaws
+pub mod Requests
+pub mod Threads
+pub mod Fits
+pub mod Pages
+pub mod Accesses
+pub mod Numbered
+pub mod Following

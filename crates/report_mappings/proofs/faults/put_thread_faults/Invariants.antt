@@ -1,0 +1,13 @@
+use Rattle.std.proofs.Common.{◌≡◌, ◌≤◌, [], ◌++◌}
+use Rattle.journal_model.specs.Legal.{IsLegal, made_of}
+use Rattle.journal_model.specs.ReportText.{thread_faults}
+use Rattle.report_mappings.proofs.Following.{Follows, front, text_from}
+use Rattle.report_mappings.proofs.faults.put_thread_faults.Given as goal
+
+-- the text so far, and that of the entries that are left
+abbrev pub invariant-loop-entry : goal.invariant-loop-entry
+invariant-loop-entry l = record {
+  few : l.answered ≤ l.entry-index;
+  follows : IsLegal l.script l.journal → Follows l.script l.thread (front l.script l.thread l.journal l.entry-index) l.answered l.seen;
+  text : IsLegal l.script l.journal → l.line ++ text_from l.script l.thread l.journal l.entry-index ≡ l.fn.line ++ thread_faults l.script l.thread [] (made_of l.script l.journal);
+}

@@ -1,0 +1,181 @@
+//! Which entries are results of peeks and pokes, and the mappings through which they go.
+ghost use Rattle.std.specs.Prelude.{◌≡◌, ◌+◌, ◌/◌, ◌<◌, find, option_copied, option_map, slice_get};
+ghost use Rattle.std.specs.List.{list_any};
+ghost use Rattle.journal_model.specs.Commands.{commands_of};
+ghost use Rattle.journal_model.specs.Complete as complete;
+ghost use Rattle.journal_model.specs.Marks as marks;
+ghost use Rattle.journal_model.specs.Mapped as words;
+ghost use Rattle.journal_model.specs.Mapped.{is_through, mapping_of};
+ghost use Rattle.report_mappings.specs.Accesses.{has_ended_by, is_way_of};
+ghost use Rattle.report_mappings.specs.Faults.{access_in, mapped_from, paged};
+
+use journal_model::{Command, Entry, Kind, Mark, MarkKind, Script};
+use ttm_base::{Actor, BufId};
+
+/// The bytes of a page.
+const PAGE: u64 = 4096;
+
+/// Pages of a buffer that a command reads or writes: the first, and the one behind the last.
+#[derive(Clone, Copy)]
+pub(crate) struct Access {
+    pub b: BufId,
+    pub first: u64,
+    pub end: u64,
+}
+
+/// The page behind the last one of a range.
+#[tactic(auto, using(crate::proofs::Pages::end_by_parts))]
+fn end_of_range(off: u64, len: u64) -> u64
+    requires { off < 4294967296 }
+    ensures { result ≡ (off + len + 4095) / 4096 }
+{
+    off / PAGE + len / PAGE + (off % PAGE + len % PAGE + PAGE - 1) / PAGE
+}
+
+/// The pages of a range.
+fn paged(b: BufId, off: u32, len: u64) -> Access
+    ensures { result ≡ paged (record { b = b; off = off; len = len }) }
+{
+    let off = u64::from(off);
+    Access {
+        b,
+        first: off / PAGE,
+        end: end_of_range(off, len),
+    }
+}
+
+/// The pages that a command reads or writes.
+fn access_of(command: &Command) -> Option<Access>
+    ensures { result ≡ option_map paged (words.access_of command.now) }
+{
+    match command {
+        Command::Read { b, off, len } => Some(paged(*b, *off, u64::from(*len))),
+        Command::Write { b, off, bytes } => Some(paged(*b, *off, bytes.len() as u64)),
+        _ => None,
+    }
+}
+
+/// The command of a thread that stands behind so many.
+fn command_at(script: &Script, thread: u64, n: u64) -> Option<&Command>
+    ensures { option_copied result ≡ slice_get (commands_of script.now thread) n }
+{
+    if thread == 0 {
+        return None;
+    }
+    let commands = script.threads.items().get((thread - 1) as usize)?;
+    commands.items().get(n as usize)
+}
+
+/// The line above the command makes it a peek or poke.
+fn is_way_of(thread: u64, n: u64, mark: &Mark) -> bool
+    ensures { result ≡ is_way_of thread n mark.now }
+{
+    u64::from(mark.thread) == thread
+        && u64::from(mark.after) == n
+        && matches!(mark.kind, MarkKind::Mapped)
+}
+
+/// A line above the command makes it a peek or poke.
+fn has_way(all: &[Mark], thread: u64, n: u64) -> bool
+    ensures { result ≡ list_any (is_way_of thread n) all.now }
+{
+    all.iter().any(|mark| is_way_of(thread, n, mark))
+}
+
+fn is_mapped_at(script: &Script, thread: u64, n: u64) -> bool
+    ensures { result ≡ marks.is_mapped_at script.now thread n }
+{
+    has_way(script.marks.items(), thread, n)
+}
+
+/// The pages of a command, if it is a peek or poke.
+fn peek_or_poke(script: &Script, thread: u64, n: u64) -> Option<Access>
+    ensures { result ≡ option_map paged (words.peek_or_poke script.now thread n) }
+{
+    if !is_mapped_at(script, thread, n) {
+        return None;
+    }
+    access_of(command_at(script, thread, n)?)
+}
+
+pub(crate) fn is_by_thread(thread: u64, who: Actor) -> bool
+    ensures { result ≡ complete.is_by_thread thread who }
+{
+    match who {
+        Actor::Thread(t) => u64::from(t) == thread,
+        Actor::Engine(_) | Actor::Reaper => false,
+    }
+}
+
+/// The pages of a peek or poke of the thread, which has answered `n` commands, if the entry is its result.
+pub(crate) fn access_in(script: &Script, thread: u64, n: u64, entry: &Entry) -> Option<Access>
+    ensures { result ≡ option_map paged (access_in script.now thread n entry.now) }
+{
+    match entry.kind {
+        Kind::Result { .. } => {
+            if is_by_thread(thread, entry.who) {
+                peek_or_poke(script, thread, n)
+            } else {
+                None
+            }
+        }
+        _ => None,
+    }
+}
+
+// ---- mappings
+
+/// The line ends the thread's mapping of the buffer.
+fn unmaps(thread: u32, b: BufId, mark: &Mark) -> bool
+    ensures { result ≡ words.unmaps thread b mark.now }
+{
+    match mark.kind {
+        MarkKind::Unmap { b: other } => mark.thread == thread && b.0 == other.0,
+        _ => false,
+    }
+}
+
+/// The first such line.
+fn unmap_line(behind: &[Mark], thread: u32, b: BufId) -> Option<&Mark>
+    ensures { option_copied result ≡ find (words.unmaps thread b) behind.now }
+{
+    behind.iter().find(|mark| unmaps(thread, b, mark))
+}
+
+/// A mapping has ended before the command that stands behind `n` others.
+fn has_ended(behind: &[Mark], thread: u32, b: BufId, n: u64) -> bool
+    ensures { result ≡ has_ended_by (words.end_of thread b behind.now) n }
+{
+    match unmap_line(behind, thread, b) {
+        Some(mark) => u64::from(mark.after) <= n,
+        None => false,
+    }
+}
+
+/// The line begins a mapping of the buffer through which the command goes.
+fn begins(mark: &Mark, behind: &[Mark], thread: u64, n: u64, b: BufId) -> bool
+    ensures { result ≡ list_any (λ m. is_through m thread n (record { b = b; off = 0; len = 0 })) (mapping_of mark.now behind.now mark.now.kind) }
+{
+    match mark.kind {
+        MarkKind::Map { b: mapped } => {
+            u64::from(mark.thread) == thread
+                && mapped.0 == b.0
+                && u64::from(mark.after) <= n
+                && !has_ended(behind, mark.thread, mapped, n)
+        }
+        _ => false,
+    }
+}
+
+/// The command behind which the mapping stands through which a command goes, if there is one.
+pub(crate) fn mapped_from(script: &Script, thread: u64, n: u64, b: BufId) -> Option<u64>
+    ensures { result ≡ mapped_from script.now thread n b }
+{
+    let marks = script.marks.items();
+    for (i, mark) in marks.iter().enumerate() {
+        if begins(mark, &marks[i + 1..], thread, n, b) {
+            return Some(u64::from(mark.after));
+        }
+    }
+    None
+}

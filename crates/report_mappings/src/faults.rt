@@ -1,0 +1,185 @@
+//! The part on mappings by the CPU: of each peek and poke the pages that it faults.
+ghost use Rattle.std.specs.Prelude.{◌≡◌, ℕ, ◌<◌, ◌++◌, ◌&&◌, [], IfOk, OnOk, decimal, flat_map, map, option_map};
+ghost use Rattle.std.specs.List.{list_any};
+ghost use Rattle.journal_model.specs.Complete.{is_answer, thread_numbers};
+ghost use Rattle.journal_model.specs.Complete as complete;
+ghost use Rattle.journal_model.specs.Legal.{IsLegal, made_of};
+ghost use Rattle.journal_model.specs.Marks as marks;
+ghost use Rattle.journal_model.specs.ReportText.{faults_line, maps_part, thread_faults};
+ghost use Rattle.journal_model.specs.Words.{numbers_word};
+ghost use Rattle.text_line.specs.Spaced.{behind_each};
+ghost use Rattle.report_mappings.specs.Faults as words;
+ghost use Rattle.report_mappings.specs.Faults.{IsLegalIfMapped, access_in, faults_in, faults_text, mapped_from, paged, seen_after};
+
+use crate::access::{Access, access_in, is_by_thread, mapped_from};
+use crate::seen::{Seen, leave, meet_pages, seen_at};
+use journal_model::{Entry, Kind, MarkKind, Script};
+use std::alloc::Global;
+use text_line::{Line, put_numbered};
+use ttm_base::{ItemList, NoMemory};
+
+/// A page has no entry, which the command of a number met last.
+fn is_fault(from: Option<u64>, last: u64) -> bool
+    ensures { result ≡ words.is_fault from last }
+{
+    match from {
+        None => true,
+        Some(from) => last <= from,
+    }
+}
+
+/// The pages of an access that have no entry, in rising order.
+fn faults_in(
+    alloc: Global,
+    seen: &Seen,
+    from: Option<u64>,
+    access: Access,
+) -> Result<ItemList<u64>, NoMemory>
+    ensures { IfOk result (λ pages. pages ≡ faults_in seen.now from access) }
+{
+    let mut pages = ItemList::new(alloc);
+    for page in access.first..access.end {
+        if is_fault(from, seen_at(seen, access.b, page)) {
+            pages.push(page)?;
+        }
+    }
+    Ok(pages)
+}
+
+/// Puts each number behind a comma.
+fn put_more_numbers(line: &mut Line, numbers: &[u64]) -> Result<(), NoMemory>
+    ensures { OnOk result (line.new ≡ line.old ++ behind_each 44 (map decimal numbers.now)) }
+{
+    for number in numbers {
+        line.put_byte(b',')?;
+        line.put_number(*number)?;
+    }
+    Ok(())
+}
+
+fn put_numbers(line: &mut Line, numbers: &[u64]) -> Result<(), NoMemory>
+    ensures { OnOk result (line.new ≡ line.old ++ numbers_word numbers.now) }
+{
+    match numbers.split_first() {
+        None => line.put_byte(b'-'),
+        Some((first, rest)) => {
+            line.put_number(*first)?;
+            put_more_numbers(line, rest)
+        }
+    }
+}
+
+/// Puts the faults of a thread's command, behind which `n` others stand.
+fn put_line(line: &mut Line, thread: u64, n: u64, faults: &[u64]) -> Result<(), NoMemory>
+    requires { n < 18446744073709551615 }
+    ensures { OnOk result (line.new ≡ line.old ++ faults_line thread n faults.now) }
+{
+    put_numbered(line, b't', thread)?;
+    line.number(n + 1)?;
+    line.word(b"faults")?;
+    line.put_byte(b' ')?;
+    put_numbers(line, faults)?;
+    line.end_line()
+}
+
+/// Puts the faults of an entry of the thread, which has answered `n` commands, and does what it does to the entries of its mappings.
+fn put_entry(
+    line: &mut Line,
+    alloc: Global,
+    script: &Script,
+    thread: u64,
+    n: u64,
+    seen: &mut Seen,
+    entry: &Entry,
+) -> Result<(), NoMemory>
+    requires { n < 18446744073709551615 }
+    ensures text { OnOk result (line.new ≡ line.old ++ faults_text script.now thread n seen.old (option_map paged (access_in script.now thread n entry.now))) }
+    ensures seen { OnOk result ((c i : ℕ) → words.seen_at seen.new c i ≡ seen_after (option_map paged (access_in script.now thread n entry.now)) n entry.now.kind c i (words.seen_at seen.old c i)) }
+{
+    match access_in(script, thread, n, entry) {
+        None => {
+            leave(seen, &entry.kind);
+            Ok(())
+        }
+        Some(access) => {
+            let from = mapped_from(script, thread, n, access.b);
+            let faults = faults_in(alloc, seen, from, access)?;
+            put_line(line, thread, n, faults.items())?;
+            meet_pages(seen, alloc, access, n + 1)
+        }
+    }
+}
+
+/// Whether an entry answers a command of the thread.
+fn answers(thread: u64, entry: &Entry) -> bool
+    ensures { result ≡ (complete.is_by_thread thread entry.now.who && is_answer entry.now.kind) }
+{
+    is_by_thread(thread, entry.who)
+        && matches!(entry.kind, Kind::Result { .. } | Kind::Refused { .. })
+}
+
+/// Puts the faults of a thread.
+fn put_thread_faults(
+    line: &mut Line,
+    alloc: Global,
+    script: &Script,
+    journal: &[Entry],
+    thread: u64,
+) -> Result<(), NoMemory>
+    ensures { OnOk result (IsLegal script.now journal.now → line.new ≡ line.old ++ thread_faults script.now thread [] (made_of script.now journal.now)) }
+{
+    let mut seen = Seen::new(alloc);
+    let mut answered = 0;
+    for entry in journal {
+        put_entry(line, alloc, script, thread, answered, &mut seen, entry)?;
+        if answers(thread, entry) {
+            answered += 1;
+        }
+    }
+    Ok(())
+}
+
+/// Puts the faults of all threads.
+fn put_all_faults(
+    line: &mut Line,
+    alloc: Global,
+    script: &Script,
+    journal: &[Entry],
+) -> Result<(), NoMemory>
+    ensures { OnOk result (IsLegal script.now journal.now → line.new ≡ line.old ++ flat_map (λ t. thread_faults script.now t [] (made_of script.now journal.now)) (thread_numbers script.now)) }
+{
+    for index in 0..script.threads.len() {
+        put_thread_faults(line, alloc, script, journal, index as u64 + 1)?;
+    }
+    Ok(())
+}
+
+fn is_map(kind: &MarkKind) -> bool
+    ensures { result ≡ marks.is_map kind.now }
+{
+    matches!(kind, MarkKind::Map { .. })
+}
+
+/// The script has a line that maps a buffer.
+pub fn has_map(script: &Script) -> bool
+    ensures { result ≡ list_any (λ m. marks.is_map m.kind) script.now.marks }
+{
+    script.marks.items().iter().any(|mark| is_map(&mark.kind))
+}
+
+/// Puts the report's part on mappings by the CPU, which is empty where no line maps a buffer. Of a journal that isn't legal it puts some text. For
+/// each thread the journal is gone through; each of its peeks and pokes costs a search of the marks.
+pub fn put_maps(
+    line: &mut Line,
+    alloc: Global,
+    script: &Script,
+    journal: &[Entry],
+) -> Result<(), NoMemory>
+    ensures { OnOk result (IsLegalIfMapped script.now journal.now → line.new ≡ line.old ++ maps_part script.now journal.now) }
+{
+    if !has_map(script) {
+        return Ok(());
+    }
+    line.put(b"maps\n")?;
+    put_all_faults(line, alloc, script, journal)
+}
