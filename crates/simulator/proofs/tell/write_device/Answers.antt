@@ -9,7 +9,7 @@ use Rattle.simulator.proofs.tell.write_device.Goals as goal
 
 pub write_report-requires-clause-requests : goal.write_report-requires-clause-requests
 write_report-requires-clause-requests g c =
-    answerable c.rooms.result.now c.args.device.now c.script.result.now c.parts-_held.result.now c.rooms.ensures c.script.ensures c.parts-_held.ensures
+    answerable c.rooms.result.now c.args.device.now c.script.result.now c.parts-held.result.now c.rooms.ensures c.script.ensures c.parts-held.ensures
 
 pub write_report-requires-clause-legal : goal.write_report-requires-clause-legal
 write_report-requires-clause-legal g c = λ _.
