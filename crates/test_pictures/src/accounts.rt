@@ -3,7 +3,7 @@ use crate::reports::{
     FREE_LEAVES_A_GHOST, ONE_PAGE_EVICTION, PIPELINED_EVICTION,
 };
 use report_drawing::{picture, put_escaped};
-use report_summary::{Name, Summary, json_of, summary};
+use report_summary::{Name, Section, Summary, json_of, summary};
 use report_trace::{Fault, read};
 use serde_json::Value;
 use std::alloc::{AllocError, Global};
@@ -12,7 +12,7 @@ use std::alloc::{AllocError, Global};
 fn account_of(alloc: Global, summary: &Summary<'_>, name: &str) -> Result<String, AllocError> {
     let mut line = String::from_str(alloc, name)?;
     for row in summary.rows.iter() {
-        if row.section == "pages" && row.name == Name::Word(name) {
+        if row.section == Section::Pages && row.name == Name::Word(name) {
             for (of, value) in row.values.iter() {
                 if *of != "most" {
                     write!(line, " {of} {value}")?;
