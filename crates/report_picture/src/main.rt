@@ -18,9 +18,10 @@ const USAGE: &str = "usage: cat SCRIPT REPORT | report_picture picture > FILE.sv
        cat SCRIPT REPORT | report_picture stats [json]
 ";
 
-/// What the words ask for.
+/// What the words so far ask for.
 #[derive(Clone, Copy)]
 enum Form {
+    Nothing,
     Picture,
     Text,
     Json,
@@ -28,36 +29,40 @@ enum Form {
     Other,
 }
 
+impl Form {
+    /// What is asked for with one more word.
+    fn with(self, word: &str) -> Form {
+        match (self, word) {
+            (Form::Nothing, "picture") => Form::Picture,
+            (Form::Nothing, "stats") => Form::Text,
+            (Form::Text, "json") => Form::Json,
+            (Form::Nothing | Form::Text | Form::Picture, "--help") => Form::Help,
+            _ => Form::Other,
+        }
+    }
+}
+
 fn words_ask(rt: &(impl Env + Alloc)) -> Form {
     let Ok(mut words) = env::args(rt) else {
         return Form::Other;
     };
     let _ = words.next();
-    let mut form = match words.next() {
-        Some(word) => match word.as_str() {
-            "picture" => Form::Picture,
-            "stats" => Form::Text,
-            "--help" => Form::Help,
-            _ => Form::Other,
-        },
-        None => Form::Other,
-    };
+    let mut form = Form::Nothing;
     for word in words {
-        form = match (form, word.as_str()) {
-            (Form::Text, "json") => Form::Json,
-            (Form::Text | Form::Picture, "--help") => Form::Help,
-            _ => Form::Other,
-        };
+        form = form.with(word.as_str());
     }
     form
 }
 
 /// What a trace is shown as.
 fn shown(alloc: Global, form: Form, trace: &Trace<'_>) -> Result<String, AllocError> {
+    if let Form::Picture = form {
+        return picture(alloc, trace);
+    }
+    let all = summary(alloc, trace)?;
     match form {
-        Form::Text => text_of(alloc, &summary(alloc, trace)?),
-        Form::Json => json_of(alloc, &summary(alloc, trace)?),
-        _ => picture(alloc, trace),
+        Form::Json => json_of(alloc, &all),
+        _ => text_of(alloc, &all),
     }
 }
 
@@ -86,7 +91,7 @@ fn main(rt: HostRuntime) -> ExitCode {
     match form {
         Form::Picture | Form::Text | Form::Json => {}
         Form::Help => return print(&rt, USAGE, 0),
-        Form::Other => return print(&rt, USAGE, 2),
+        Form::Nothing | Form::Other => return print(&rt, USAGE, 2),
     }
     let mut bytes = Vec::new(alloc);
     if rt.stdin().read_to_end(&mut bytes).is_err() {
