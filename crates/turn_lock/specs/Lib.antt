@@ -1,3 +1,4 @@
 pub mod Growing
 pub mod Turning
 pub mod Locks
+pub mod Spells

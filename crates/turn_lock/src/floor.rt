@@ -1,5 +1,6 @@
 //! Who goes on with turns, while others sleep. No turn needs the floor: whoever waits for it too long takes it.
-ghost use Rattle.std.specs.Prelude.{◌≡◌, ◌-◌};
+ghost use Rattle.std.specs.Prelude.{◌≡◌, ◌-◌, IfSome};
+ghost use Rattle.turn_lock.specs.Spells.{Begins, GoesOn};
 
 use std::sync::Wait;
 use std::sync::atomic::AtomicU64;
@@ -36,7 +37,9 @@ impl Floor {
     }
 
     /// The same spell, if the floor is still its own. Else it waits for the floor, and begins one.
-    pub fn go_on<R: Wait>(&self, rt: &R, spell: Option<Spell>) -> Spell {
+    pub fn go_on<R: Wait>(&self, rt: &R, spell: Option<Spell>) -> Spell
+        ensures { GoesOn spell result }
+    {
         match spell {
             Some(spell) if self.word.load(SeqCst) | 1 == spell.word | 1 => spell,
             _ => self.enter(rt),
@@ -68,7 +71,9 @@ impl Floor {
     }
 
     /// Takes the floor as soon as it is offered, or stays with one spell while the caller sleeps its time.
-    fn enter<R: Wait>(&self, rt: &R) -> Spell {
+    fn enter<R: Wait>(&self, rt: &R) -> Spell
+        ensures { Begins result }
+    {
         let mut before = None;
         for _ in rt.forever() {
             let word = self.word.load(SeqCst);
@@ -84,7 +89,9 @@ impl Floor {
     }
 
     /// Takes the floor, if its word is still this one. Spells differ in length, so that it changes hands at ever other places.
-    fn begin(&self, word: u64) -> Option<Spell> {
+    fn begin(&self, word: u64) -> Option<Spell>
+        ensures { IfSome result Begins }
+    {
         let next = (word | 1).wrapping_add(1);
         let taken = self.word.compare_exchange(word, next, SeqCst, SeqCst);
         taken.ok().map(|_| Spell {
