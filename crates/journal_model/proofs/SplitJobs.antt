@@ -8,7 +8,7 @@ use Rattle.ttm_base.specs.declared.JobId.{JobId}
 use Rattle.journal_model.specs.declared.state.Job.{Job}
 use Rattle.journal_model.specs.Waits.{same_job}
 use Rattle.journal_model.specs.ApplyJobs.{changed_job}
-use Rattle.journal_model.specs.Jobs.{ArePending, AreClosed, IsSplit, closes}
+use Rattle.journal_model.specs.Jobs.{ArePending, AreClosed, IsSplit, AreBounded, AreKept, closes, is_bounded, is_past, has_packets_left}
 
 -- ---- names
 
@@ -243,3 +243,89 @@ pub split_dropped : (jobs : List Job) (n : ℕ) → 0 < length jobs → IsSplit 
 split_dropped jobs n l s h =
     let last : length jobs ≡ suc (length jobs - 1) = omega arith in
     subst (λ xs. IsSplit xs n) (sym (remove_at_end jobs (length jobs - 1) last)) (split_front jobs n (length jobs - 1) s h)
+
+-- ---- the greatest numbers
+
+past_apart : (greatest : List ℕ) (id : JobId) (j : Job) → is_past greatest id ≡ true → is_bounded greatest j.id ≡ true → same_job id j.id ≡ false
+past_apart greatest id j p b = by (same_job id j.id) refl
+  where
+    by : (same : Bool) → same_job id j.id ≡ same → same ≡ false
+    by false e = refl
+    by true e =
+        let one : is_bounded greatest id ≡ true = subst (λ i. is_bounded greatest i ≡ true) (sym (same_is id j.id e)) b in
+        grind (arith, nat_tests)
+
+none_past : (greatest : List ℕ) (id : JobId) (jobs : List Job) (n : ℕ) → is_past greatest id ≡ true → list_all (λ j. is_bounded greatest j.id) jobs ≡ true → list_any (λ j. same_job id j.id) (take n jobs) ≡ false
+none_past greatest id jobs zero p b = refl
+none_past greatest id [] (suc n) p b = refl
+none_past greatest id (j ∷ js) (suc n) p b =
+    let bound : is_bounded greatest j.id ≡ true = grind (arith, common_steps) in
+    let here = past_apart greatest id j p bound in
+    let rest = none_past greatest id js n p (grind (arith, common_steps)) in
+    grind (arith, common_steps)
+
+-- a job with a greater number has a name of its own
+pub past_named_apart : (greatest : List ℕ) (id : JobId) (jobs : List Job) (n : ℕ) → is_past greatest id ≡ true → AreBounded greatest jobs → list_any (λ j. same_job id j.id) (take n jobs) ≡ false
+past_named_apart greatest id jobs n p b = none_past greatest id jobs n p b.all
+
+bounded_then : (old new : List ℕ) (jobs : List Job) (job : Job) → ((i : JobId) → is_bounded old i ≡ true → is_bounded new i ≡ true) → is_bounded new job.id ≡ true → list_all (λ j. is_bounded old j.id) jobs ≡ true → list_all (λ j. is_bounded new j.id) (jobs ++ job ∷ []) ≡ true
+bounded_then old new [] job others own b = grind (arith, common_steps)
+bounded_then old new (j ∷ js) job others own b =
+    let here = others j.id (grind (arith, common_steps)) in
+    let rest = bounded_then old new js job others own (grind (arith, common_steps)) in
+    grind (arith, common_steps)
+
+-- a job comes behind them
+pub bounded_pushed : (old new : List ℕ) (jobs : List Job) (job : Job) → ((i : JobId) → is_bounded old i ≡ true → is_bounded new i ≡ true) → is_bounded new job.id ≡ true → AreBounded old jobs → AreBounded new (jobs ++ job ∷ [])
+bounded_pushed old new jobs job others own b = record { all = bounded_then old new jobs job others own b.all }
+
+bounded_take : (greatest : List ℕ) (jobs : List Job) (n : ℕ) → list_all (λ j. is_bounded greatest j.id) jobs ≡ true → list_all (λ j. is_bounded greatest j.id) (take n jobs) ≡ true
+bounded_take greatest jobs zero b = refl
+bounded_take greatest [] (suc n) b = refl
+bounded_take greatest (j ∷ js) (suc n) b =
+    let rest = bounded_take greatest js n (grind (arith, common_steps)) in
+    grind (arith, common_steps)
+
+-- the last job is taken out
+pub bounded_dropped : (greatest : List ℕ) (jobs : List Job) → 0 < length jobs → AreBounded greatest jobs → AreBounded greatest (remove jobs (length jobs - 1))
+bounded_dropped greatest jobs l b =
+    let last : length jobs ≡ suc (length jobs - 1) = omega arith in
+    subst (λ xs. AreBounded greatest xs) (sym (remove_at_end jobs (length jobs - 1) last)) (record { all = bounded_take greatest jobs (length jobs - 1) b.all })
+
+module _ (g : Job → Job) (named : (j : Job) → (g j).id ≡ j.id) where
+  all_bounded_after : (greatest : List ℕ) (jobs : List Job) → list_all (λ j. is_bounded greatest j.id) jobs ≡ true → list_all (λ j. is_bounded greatest j.id) (map g jobs) ≡ true
+  all_bounded_after greatest [] b = refl
+  all_bounded_after greatest (j ∷ js) b =
+      let here : is_bounded greatest (g j).id ≡ true = subst (λ i. is_bounded greatest i ≡ true) (sym (named j)) (grind (arith, common_steps)) in
+      let rest = all_bounded_after greatest js (grind (arith, common_steps)) in
+      grind (arith, common_steps)
+
+  bounded_after : (greatest : List ℕ) (jobs : List Job) → AreBounded greatest jobs → AreBounded greatest (map g jobs)
+  bounded_after greatest jobs b = record { all = all_bounded_after greatest jobs b.all }
+
+pub bounded_finished : (jobs : List Job) (greatest : List ℕ) (id : JobId) → AreBounded greatest jobs → AreBounded greatest (changed_job (λ j. record j { finished = true }) id jobs)
+bounded_finished jobs greatest id b = bounded_after (finish_if id) (finish_named id) greatest jobs b
+
+pub kept_counted : (jobs : List Job) (n : ℕ) (greatest : List ℕ) (id : JobId) → AreKept jobs n greatest → AreKept (changed_job (λ j. record j { ran = j.ran + 1 }) id jobs) n greatest
+kept_counted jobs n greatest id k = record { split = split_counted jobs n id k.split; bounded = bounded_after (count_if id) (count_named id) greatest jobs k.bounded }
+
+-- ---- counts of packets
+
+-- others than the one stand at nothing
+others_left : (jobs : List Job) (id : JobId) → list_any (λ j. same_job id j.id) jobs ≡ false → list_all (has_packets_left id) jobs ≡ true
+others_left [] id h = refl
+others_left (j ∷ js) id h =
+    let other : same_job id j.id ≡ false = grind (arith, common_steps) in
+    let rest = others_left js id (grind (arith, common_steps)) in
+    grind (arith, common_steps)
+
+all_behind : {X : Type 0} (p : X → Bool) (xs : List X) (n : ℕ) → list_all p (take n xs) ≡ true → list_all p (drop n xs) ≡ list_all p xs
+all_behind p xs zero h = refl
+all_behind p [] (suc n) h = refl
+all_behind p (x ∷ xs) (suc n) h =
+    let rest = all_behind p xs n (grind (arith, common_steps)) in
+    grind (arith, common_steps)
+
+-- so one more packet can be counted where it can among those behind
+pub left_behind : (jobs : List Job) (n : ℕ) (id : JobId) → list_any (λ j. same_job id j.id) (take n jobs) ≡ false → list_all (has_packets_left id) (drop n jobs) ≡ list_all (has_packets_left id) jobs
+left_behind jobs n id h = all_behind (has_packets_left id) jobs n (others_left (take n jobs) id h)

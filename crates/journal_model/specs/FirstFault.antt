@@ -1,5 +1,4 @@
--- The first broken line of bytes, and on it the least broken rule. Lines that map buffers or speak of addresses are
--- no lines here: they break rule 3, so the scripts that are read have no marks.
+-- The first broken line of bytes, and on it the least broken rule.
 use Rattle.std.specs.Prelude.{ℕ, ◌+◌, ◌-◌, Bool, true, false, List, [], ◌∷◌, ◌++◌, Option, Some, None, Result, Ok, Err, length, take, map, unwrap_or, slice_get, slice_set, ◌==◌, ◌||◌, not, nat_lt, if◌then◌else◌}
 use Rattle.std.specs.List.{list_any}
 use Rattle.ttm_base.specs.declared.BufId.{BufId}
@@ -14,11 +13,16 @@ use Rattle.journal_model.specs.declared.script.Sizes.{Sizes}
 use Rattle.journal_model.specs.declared.script.Decl.{Decl}
 use Rattle.journal_model.specs.declared.script.Command.{Command}
 use Rattle.journal_model.specs.declared.script.Command.TheVariants as command
+use Rattle.journal_model.specs.declared.script.Mark.{Mark}
+use Rattle.journal_model.specs.declared.script.MarkKind.{MarkKind}
+use Rattle.journal_model.specs.declared.script.MarkKind.TheVariants as mark
 use Rattle.journal_model.specs.declared.line.Progress.{Progress}
 use Rattle.journal_model.specs.declared.line.Phase.{Phase}
 use Rattle.journal_model.specs.declared.line.Phase.TheVariants as phase
 use Rattle.journal_model.specs.declared.line.Line.{Line}
 use Rattle.journal_model.specs.declared.line.Line.TheVariants as line
+use Rattle.journal_model.specs.declared.line.Access.{Access}
+use Rattle.journal_model.specs.declared.line.Access.TheVariants as access
 use Rattle.journal_model.specs.declared.line.Verb.{Verb}
 use Rattle.journal_model.specs.declared.line.Verb.TheVariants as verb
 use Rattle.journal_model.specs.declared.line.BufferHead.{BufferHead}
@@ -30,10 +34,13 @@ use Rattle.journal_model.specs.declared.line.EngineWord.{EngineWord}
 use Rattle.journal_model.specs.declared.line.EngineWord.TheVariants as engine_word
 use Rattle.journal_model.specs.declared.line.OpWord.{OpWord}
 use Rattle.journal_model.specs.declared.line.OpWord.TheVariants as op_word
+use Rattle.journal_model.specs.declared.line.VOpWord.{VOpWord}
 use Rattle.journal_model.specs.Words.{Text}
 use Rattle.journal_model.specs.Cut.{cut_at, lines_of}
 use Rattle.journal_model.specs.LineWords.{keyword_of, may_come, line_of}
-use Rattle.journal_model.specs.LineRules.{rule_broken, lens_of_line}
+use Rattle.journal_model.specs.LineRules.{rule_broken, lens_of_line, vop_in, named_job}
+use Rattle.journal_model.specs.Commands.{commands_of}
+use Rattle.journal_model.specs.MarkRules.{desk_at_end}
 use Rattle.journal_model.specs.CommandRules.{is_between}
 
 -- ---- the parts of a line
@@ -117,9 +124,31 @@ onto_last x lists = elim (slice_get lists (length lists - 1)) [ Some xs ↦ slic
 abbrev pub with_command : Progress → Command → Progress
 with_command p c = record p { script = record (p.script) { threads = onto_last c p.script.threads }; lines = p.lines + 1 }
 
+-- a mark behind the commands so far of the thread at work
+abbrev pub mark_here : Script → MarkKind → Mark
+mark_here script kind =
+    record { thread = length script.threads; after = length (commands_of script (length script.threads)); kind = kind }
+
+-- one more mark
+abbrev pub with_mark : Progress → MarkKind → Progress
+with_mark p kind = record p { script = record (p.script) { marks = p.script.marks ++ mark_here p.script kind ∷ [] } }
+
+-- one more mark, which has a line of its own
+abbrev pub with_mark_line : Progress → MarkKind → Progress
+with_mark_line p kind = record (with_mark p kind) { lines = p.lines + 1 }
+
+-- the mark of a peek or poke
+abbrev pub with_access : Progress → Access → Progress
+with_access p access.Direct = p
+with_access p access.Mapped = with_mark p mark.Mapped
+
 -- one more job of the thread at work, and its lengths
 abbrev pub with_submit : Progress → Command → ℕ → Progress
 with_submit p c lens = record p { script = record (p.script) { threads = onto_last c p.script.threads }; lines = p.lines + 1; lens = p.lens + lens }
+
+-- the operations of the job by name
+abbrev pub named_ops : Script → List VOpWord → List Op
+named_ops script ops = unwrap_or (named_job (desk_at_end script) ops) []
 
 -- what the lines say, with a line that breaks no rule
 abbrev pub with_line : Progress → Line → Progress
@@ -135,11 +164,17 @@ with_line p line.Thread = record p { phase = phase.Threads; script = record (p.s
 with_line p (line.Turn actors) = record p { phase = phase.Turns; script = record (p.script) { turns = p.script.turns ++ map actor_in actors ∷ [] } }
 with_line p line.End = record p { phase = phase.After }
 with_line p (line.Plain verb b) = with_command p (plain_command verb (or_first b))
-with_line p (line.Write b off bytes) = with_command p (command.Write (or_first b) (or_zero off) (unwrap_or bytes []))
-with_line p (line.Read b off len) = with_command p (command.Read (or_first b) (or_zero off) (or_zero len))
+with_line p (line.Write how b off bytes) = with_command (with_access p how) (command.Write (or_first b) (or_zero off) (unwrap_or bytes []))
+with_line p (line.Read how b off len) = with_command (with_access p how) (command.Read (or_first b) (or_zero off) (or_zero len))
 with_line p (line.Move b mem) = with_command p (command.Move (or_first b) mem)
 with_line p (line.Touch group) = with_command p (command.Touch (or_zero group))
 with_line p (line.Submit engine ops) = with_submit p (command.Submit (engine_in engine) (map op_in ops)) (lens_of_line (line.Submit engine ops))
+with_line p (line.Map b) = with_mark_line p (mark.Map (or_first b))
+with_line p (line.Unmap b) = with_mark_line p (mark.Unmap (or_first b))
+with_line p (line.Vmap va n b off) = with_mark_line p (mark.Vmap (or_zero va) (or_zero n) (or_first b) (or_zero off))
+with_line p (line.Vunmap va n) = with_mark_line p (mark.Vunmap (or_zero va) (or_zero n))
+with_line p (line.Vsubmit engine ops) =
+    with_submit (with_mark p (mark.Vsubmit (map vop_in ops))) (command.Submit (engine_in engine) (named_ops p.script ops)) (lens_of_line (line.Vsubmit engine ops))
 
 -- ---- a line: rule 2 is on its bytes, rule 3 on its first word, rule 4 on its number of words and fixed words
 
@@ -182,7 +217,7 @@ fault_of_parts p (Some l) = unless_broken (rule_broken p l) (with_line p l)
 -- the lines so far with this line, or the least rule that it breaks
 abbrev pub after_words : Progress → List Text → Result Progress ℕ
 after_words p ws =
-    if not (may_come p.phase (keyword_of (first_word ws))) then Err 3
+    if not (may_come p.script.version p.phase (keyword_of (first_word ws))) then Err 3
     else fault_of_parts p (line_of p.script (keyword_of (first_word ws)) ws)
 
 -- the same for the text of a line

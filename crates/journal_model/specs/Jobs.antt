@@ -1,5 +1,5 @@
 -- Jobs that are done and that nobody looks for: those at the front of the list, as far as they share no name with a later one.
-use Rattle.std.specs.Prelude.{◌≡◌, ℕ, ◌+◌, ◌^◌, ◌≤◌, ◌++◌, ◌||◌, ◌&&◌, Bool, false, List, [], ◌∷◌, IsTrue, length, take, drop, not, nat_lt}
+use Rattle.std.specs.Prelude.{◌≡◌, ℕ, ◌+◌, ◌^◌, ◌≤◌, ◌++◌, ◌||◌, ◌&&◌, Bool, false, List, [], ◌∷◌, IsTrue, length, take, drop, not, nat_lt, nat_le, slice_index_or}
 use Rattle.std.specs.List.{list_all, list_any}
 use Rattle.ttm_base.specs.declared.JobId.{JobId}
 use Rattle.journal_model.specs.declared.state.Job.{Job}
@@ -24,6 +24,23 @@ pub record AreClosed (closed pending : List Job) : Type 0 where
 pub record IsSplit (jobs : List Job) (count : ℕ) : Type 0 where
   pub within : count ≤ length jobs
   pub parts : AreClosed (take count jobs) (drop count jobs)
+
+-- the job's number is no greater than the one that is kept for its context, if one is
+abbrev pub is_bounded : List ℕ → JobId → Bool
+is_bounded greatest i = nat_le (length greatest) i.ctx || nat_le i.num (slice_index_or greatest i.ctx 0)
+
+-- it is greater
+abbrev pub is_past : List ℕ → JobId → Bool
+is_past greatest i = nat_lt i.ctx (length greatest) && nat_lt (slice_index_or greatest i.ctx 0) i.num
+
+-- no job's number is greater than the one that is kept for its context
+pub record AreBounded (greatest : List ℕ) (jobs : List Job) : Type 0 where
+  pub all : IsTrue (list_all (λ j. is_bounded greatest j.id) jobs)
+
+-- what is kept of the jobs: how many are closed, and greatest numbers
+pub record AreKept (jobs : List Job) (closed : ℕ) (greatest : List ℕ) : Type 0 where
+  pub split : IsSplit jobs closed
+  pub bounded : AreBounded greatest jobs
 
 -- the first of these jobs can be closed: it is done, and no later one has its name
 abbrev pub closes : List Job → Bool

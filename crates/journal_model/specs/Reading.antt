@@ -1,6 +1,6 @@
 -- What a word says: a number, a name, bytes, a place, an actor.
 use Rattle.std.specs.Prelude.{ℕ, ◌+◌, ◌-◌, ◌*◌, Bool, true, false, List, [], ◌∷◌, Option, Some, None, option_map, length, map, position, bytes_eq, codes, ◌==◌, ◌&&◌, ◌||◌, not, nat_lt, if◌then◌else◌}
-use Rattle.std.specs.List.{list_all}
+use Rattle.std.specs.List.{list_all, join_with_byte}
 use Rattle.ttm_base.specs.declared.Mem.{Mem}
 use Rattle.ttm_base.specs.declared.Mem.TheVariants.{System, Tt, Vram}
 use Rattle.ttm_base.specs.declared.BufId.{BufId}
@@ -48,6 +48,10 @@ group_of word = if bytes_eq word (codes "-") then Some None else option_map Some
 -- an offset or a length
 abbrev pub offset_of : Text → Option ℕ
 offset_of word = number_in 0 16777216 word
+
+-- an address of a space
+abbrev pub address_of : Text → Option ℕ
+address_of word = number_in 0 4294967295 word
 
 -- ---- names
 
@@ -137,16 +141,21 @@ abbrev pub reach_place : Mem → List Text → Flags → PlaceWord
 reach_place mem (first ∷ last ∷ []) f = two_numbers_place mem first last f
 reach_place mem _ f = place_word.Malformed
 
--- a memory type, and behind an @ its reach
-abbrev pub based_place : Option Mem → List Text → Option Flags → PlaceWord
-based_place (Some mem) [] (Some f) = flagged mem 0 0 f
-based_place (Some mem) (reach ∷ []) (Some f) = reach_place mem (cut_at 45 reach) f
+-- a memory type, and the reach where there is one
+abbrev pub based_place : Option Mem → Option Text → Option Flags → PlaceWord
+based_place (Some mem) None (Some f) = flagged mem 0 0 f
+based_place (Some mem) (Some reach) (Some f) = reach_place mem (cut_at 45 reach) f
 based_place _ _ _ = place_word.Malformed
 
--- the word before the flags, cut at each @
+-- what stands behind the first @, by the words behind it
+abbrev pub reach_of : List Text → Option Text
+reach_of [] = None
+reach_of (word ∷ words) = Some (join_with_byte 64 (word ∷ words))
+
+-- the word before the flags, cut at each @; only the first stands before the reach
 abbrev pub at_place : List Text → Option Flags → PlaceWord
 at_place [] f = place_word.Malformed
-at_place (mem ∷ reach) f = based_place (mem_of mem) reach f
+at_place (mem ∷ words) f = based_place (mem_of mem) (reach_of words) f
 
 -- a place, cut at each plus
 abbrev pub plus_place : Bool → List Text → PlaceWord

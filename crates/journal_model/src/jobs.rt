@@ -5,22 +5,26 @@ pub use list::same_job;
 use std::marker::Model;
 use ttm_base::ItemList;
 
+/// The contexts of jobs: 0, that of the moves, and those of the eight engines that there can be.
+const CONTEXTS: usize = 9;
+
 /// Jobs in order of emission. Of those at the front that are done it keeps the number, so that who looks for a job that isn't
-/// done doesn't pass them each time.
+/// done doesn't pass them each time; and of each context the greatest number, so that one with a new name isn't looked for.
 #[derive(Drop)]
 pub struct Jobs {
     all: ItemList<Job>,
     closed: usize,
+    greatest: [u64; CONTEXTS],
 }
 
 impl Model for Jobs {
     ghost use Rattle.std.specs.Prelude.{List};
     ghost use Rattle.journal_model.specs.declared.state.Job.{Job};
-    ghost use Rattle.journal_model.specs.Jobs.{IsSplit};
+    ghost use Rattle.journal_model.specs.Jobs.{AreKept};
 
     ghost Value = { List Job };
 
     ghost view = { λ s. s.all };
 
-    ghost invariant = { λ s. IsSplit s.all s.closed };
+    ghost invariant = { λ s. AreKept s.all s.closed s.greatest };
 }

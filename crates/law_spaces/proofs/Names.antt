@@ -1,9 +1,9 @@
 -- A job by name does to each memory what the job with addresses does, and its probes show the same bytes.
 use mathlib.Core.Path.{fun_ext}
-use Rattle.std.proofs.Common.{◌≡◌, ℕ, zero, suc, ◌+◌, ◌-◌, ◌*◌, ◌/◌, ◌%◌, ◌<◌, ◌≤◌, min, true, false, List, [], ◌∷◌, ◌++◌, Option, Some, None, refl, ap, ap₂, sym, ◌∙◌, subst, arith, inl, inr, append_assoc}
-use Rattle.std.specs.Prelude.{map, flat_map, fold, find, option_map, unwrap_or, bit_xor, not, nat_le, nat_lt, ◌==◌, ◌&&◌, if◌then◌else◌}
-use Rattle.std.specs.List.{list_all}
-use Rattle.std.proofs.lemmas.Bool.{cases_Bool, and_parts, ltb-true, le-leb, lt-ltb, eqb-false, ne_eqb}
+use Rattle.std.proofs.Common.{◌≡◌, ℕ, zero, suc, ◌+◌, ◌-◌, ◌*◌, ◌/◌, ◌%◌, ◌<◌, ◌≤◌, min, max, true, false, List, [], ◌∷◌, ◌++◌, Option, Some, None, refl, ap, ap₂, sym, ◌∙◌, subst, arith, inl, inr, append_assoc}
+use Rattle.std.specs.Prelude.{map, flat_map, fold, find, option_map, bit_xor, not, nat_le, nat_lt, ◌==◌, ◌&&◌, ◌||◌, if◌then◌else◌}
+use Rattle.std.specs.List.{list_all, list_any}
+use Rattle.std.proofs.lemmas.Bool.{cases_Bool, and_parts, ltb-true, le-leb, lt-ltb, eqb-true, eq-eqb}
 use Rattle.std.proofs.lemmas.Bool.Decides.{nat_tests}
 use Rattle.std.proofs.lemmas.Grind.{fold-append, flat_map-append}
 use Rattle.std.proofs.lemmas.List.{map-append}
@@ -18,13 +18,13 @@ use Rattle.journal_model.specs.declared.space.VOp.{VOp}
 use Rattle.journal_model.specs.declared.space.VOp.TheVariants as vop
 use Rattle.journal_model.specs.PlainMemory.{Memory, with_range, after_op, after_ops, piece_shown, pieces_shown}
 use Rattle.journal_model.specs.State.{has_buffer}
-use Rattle.journal_model.specs.MarkRules.{changed_by, read_by, are_apart, has_apart_ranges}
+use Rattle.journal_model.specs.MarkRules.{are_apart, has_apart_ranges}
 use Rattle.journal_model.specs.Spaces.{Space, Region, regions_space}
-use Rattle.journal_model.specs.ByName.{Spot, spot_in, spot_at, vop_len, first_address, second_address, op_by_name, ops_from, op_in_names, joined, job_by_name, with_byte_at, byte_there, after_byte, after_vop, after_vops, vop_shown, vops_shown}
+use Rattle.journal_model.specs.ByName.{Spot, spot_in, spot_at, vop_len, first_address, second_address, op_by_name, ops_from, op_in_names, joined, job_by_name, has_byte_of, buffers_between, with_byte_at, byte_there, after_byte, after_vop, after_vops, vop_shown, vops_shown}
 use Rattle.law_cutting.specs.Parts.{part_of}
 use Rattle.law_cutting.proofs.Whole.{IsApart, shortened, after_none, after_more, after_ops-append, joined_is_shown, Each}
 use Rattle.law_spaces.specs.Rising.{IsRising}
-use Rattle.law_spaces.proofs.Found.{cases_option, found_past, found_passes, has_parts}
+use Rattle.law_spaces.proofs.Found.{cases_option, found_past, found_passes, has_parts, spot_has_room}
 
 -- ---- where bytes stand
 
@@ -288,31 +288,86 @@ shown_whole space m (vop.Probe addr len) = refl
 
 -- ---- no buffer in both ranges
 
--- the list lacks a buffer that stands in its middle only if it is another
-lacks : (pre post : List BufId) (d s : BufId) → not (has_buffer (pre ++ d ∷ post) s) ≡ true → (d.0 == s.0) ≡ false
-lacks [] post d s e = elim (cases_Bool (s.0 == d.0)) [
-  | inl t ↦ let no : not (has_buffer (d ∷ post) s) ≡ false = rw t refl in absurd (cc)
-  | inr f ↦ let apart : s.0 ≡ d.0 → ⊥ = eqb-false s.0 d.0 f in ne_eqb d.0 s.0 (λ k. apart (sym k))
-]
-lacks (x ∷ pre) post d s e = elim (cases_Bool (s.0 == x.0)) [
-  | inl t ↦ let no : not (has_buffer ((x ∷ pre) ++ d ∷ post) s) ≡ false = rw t refl in absurd (cc)
-  | inr f ↦ let rest = rw f at e in lacks pre post d s rest
+-- the test looks at the number alone
+same_seen : (bs : List BufId) (b c : BufId) → b.0 ≡ c.0 → has_buffer bs b ≡ has_buffer bs c
+same_seen [] b c e = refl
+same_seen (x ∷ bs) b c e = ap₂ (λ p q. p || q) (ap (λ n. n == x.0) e) (same_seen bs b c e)
+
+in_both : (bs cs : List BufId) (b c : BufId) → has_buffer bs b ≡ true → has_buffer cs c ≡ true → b.0 ≡ c.0 → list_any (has_buffer bs) cs ≡ true
+in_both bs [] b c h k e = absurd (cc)
+in_both bs (y ∷ ys) b c h k e = elim (cases_Bool (c.0 == y.0)) [
+  | inl t ↦
+      let here : has_buffer bs y ≡ true = sym (same_seen bs b y (e ∙ eqb-true c.0 y.0 t)) ∙ h in
+      rw here refl
+  | inr f ↦
+      let rest : list_any (has_buffer bs) ys ≡ true = in_both bs ys b c h (rw f at k) e in
+      elim (cases_Bool (has_buffer bs y)) [ inl t ↦ rw t refl | inr g ↦ rw g rest ]
 ]
 
-all_apart : (pre : List BufId) (ops : List Op) → list_all (λ b. not (has_buffer (pre ++ flat_map changed_by ops) b)) (flat_map read_by ops) ≡ true → Each IsApart ops
-all_apart pre [] e = tt
-all_apart pre (op.Fill dst off len byte ∷ ops) e = (tt, all_apart pre ops e)
-all_apart pre (op.Copy dst doff src soff len ∷ ops) e =
-    let all : List BufId = pre ++ dst ∷ flat_map changed_by ops in
-    let parts = and_parts (not (has_buffer all src)) (list_all (λ b. not (has_buffer all b)) (flat_map read_by ops)) e in
-    let same : all ≡ (pre ++ dst ∷ []) ++ flat_map changed_by ops = sym (append_assoc pre (dst ∷ []) (flat_map changed_by ops)) in
-    (lacks pre (flat_map changed_by ops) dst src parts.0, all_apart (pre ++ dst ∷ []) ops (subst (λ bs. list_all (λ b. not (has_buffer bs b)) (flat_map read_by ops) ≡ true) same parts.1))
-all_apart pre (op.Xor dst doff src soff len ∷ ops) e =
-    let all : List BufId = pre ++ dst ∷ flat_map changed_by ops in
-    let parts = and_parts (not (has_buffer all src)) (list_all (λ b. not (has_buffer all b)) (flat_map read_by ops)) e in
-    let same : all ≡ (pre ++ dst ∷ []) ++ flat_map changed_by ops = sym (append_assoc pre (dst ∷ []) (flat_map changed_by ops)) in
-    (lacks pre (flat_map changed_by ops) dst src parts.0, all_apart (pre ++ dst ∷ []) ops (subst (λ bs. list_all (λ b. not (has_buffer bs b)) (flat_map read_by ops) ≡ true) same parts.1))
-all_apart pre (op.Probe src off len ∷ ops) e = (tt, all_apart pre ops e)
+apart_buffers : (bs cs : List BufId) (b c : BufId) → are_apart bs cs ≡ true → has_buffer bs b ≡ true → has_buffer cs c ≡ true → (b.0 == c.0) ≡ false
+apart_buffers bs cs b c a h k = elim (cases_Bool (b.0 == c.0)) [
+  | inl t ↦
+      let both : list_any (has_buffer bs) cs ≡ true = in_both bs cs b c h k (eqb-true b.0 c.0 t) in
+      let no : not (list_any (has_buffer bs) cs) ≡ false = rw both refl in
+      let yes : not (list_any (has_buffer bs) cs) ≡ true = a in
+      absurd (cc)
+  | inr f ↦ f
+]
+
+-- a mapping with a byte of the range has one of its buffers
+has_byte_there : (addr at len : ℕ) (r : Region) → at < len → has_page ((addr + at) / 4096) r.span ≡ true → has_byte_of addr len r ≡ true
+has_byte_there addr at len r l e =
+    let parts = has_parts ((addr + at) / 4096) r.span e in
+    let low = parts.0 in
+    let high = parts.1 in
+    let both : max addr (4096 * r.span.start) < min (addr + len) (4096 * r.span.end) = omega (arith, l, low, high) in
+    lt-ltb (max addr (4096 * r.span.start)) (min (addr + len) (4096 * r.span.end)) both
+
+-- the buffer where an address stands is one of its range
+stands_between : (rs : List Region) (addr at len : ℕ) (s : Spot) → at < len → spot_at rs (addr + at) ≡ Some s → has_buffer (buffers_between rs addr len) s.b ≡ true
+stands_between [] addr at len s l e = absurd (cc)
+stands_between (x ∷ rs) addr at len s l e = elim (cases_Bool (has_page ((addr + at) / 4096) x.span)) [
+  | inl t ↦
+      let found : spot_at (x ∷ rs) (addr + at) ≡ Some (spot_in (addr + at) x) = rw (t, spot_at) refl in
+      let same : spot_in (addr + at) x ≡ s = cc in
+      let has : has_byte_of addr len x ≡ true = has_byte_there addr at len x l t in
+      let all : buffers_between (x ∷ rs) addr len ≡ x.b ∷ buffers_between rs addr len = rw (has, buffers_between) refl in
+      let b : x.b.0 ≡ s.b.0 = ap (λ (y : Spot). y.b.0) same in
+      let here : (s.b.0 == x.b.0) ≡ true = eq-eqb s.b.0 x.b.0 (sym b) in
+      rw (all, here) refl
+  | inr f ↦
+      let past : spot_at (x ∷ rs) (addr + at) ≡ spot_at rs (addr + at) = rw (f, spot_at) refl in
+      let rest : has_buffer (buffers_between rs addr len) s.b ≡ true = stands_between rs addr at len s l (sym past ∙ e) in
+      elim (cases_Bool (has_byte_of addr len x)) [
+        | inl t ↦
+            let all : buffers_between (x ∷ rs) addr len ≡ x.b ∷ buffers_between rs addr len = rw (t, buffers_between) refl in
+            elim (cases_Bool (s.b.0 == x.b.0)) [ inl g ↦ rw (all, g) refl | inr g ↦ rw (all, g) rest ]
+        | inr g ↦
+            let all : buffers_between (x ∷ rs) addr len ≡ buffers_between rs addr len = rw (g, buffers_between) refl in
+            rw all rest
+      ]
+]
+
+op_apart : (rs : List Region) (v : VOp) (at n : ℕ) (d s : Spot) → has_apart_ranges rs v ≡ true → at < vop_len v → spot_at rs (first_address v + at) ≡ Some d → spot_at rs (second_address v + at) ≡ Some s →
+    IsApart (op_by_name v d s n)
+op_apart rs (vop.Fill addr len byte) at n d s a l e f = tt
+op_apart rs (vop.Copy addr from len) at n d s a l e f =
+    apart_buffers (buffers_between rs addr len) (buffers_between rs from len) d.b s.b a (stands_between rs addr at len d l e) (stands_between rs from at len s l f)
+op_apart rs (vop.Xor addr from len) at n d s a l e f =
+    apart_buffers (buffers_between rs addr len) (buffers_between rs from len) d.b s.b a (stands_between rs addr at len d l e) (stands_between rs from at len s l f)
+op_apart rs (vop.Probe addr len) at n d s a l e f = tt
+
+-- no part of an operation has one buffer twice
+ops_apart : (rs : List Region) (v : VOp) (at len fuel : ℕ) (ops : List Op) → has_apart_ranges rs v ≡ true → at + len ≤ vop_len v → ops_from rs v at len fuel ≡ Some ops → Each IsApart ops
+ops_apart rs v at zero fuel ops a l e = let none : [] ≡ ops = cc in subst (Each IsApart) none tt
+ops_apart rs v at (suc len) zero ops a l e = absurd (cc)
+ops_apart rs v at (suc len) (suc fuel) ops a l e =
+    let x = next_of rs v at len fuel ops e in
+    let n : ℕ = min (suc len) (min x.d.room x.s.room) in
+    let here : IsApart (op_by_name v x.d x.s n) = op_apart rs v at n x.d x.s a (omega (arith, l)) x.first x.second in
+    let one : 1 ≤ n = omega (arith, spot_has_room rs (first_address v + at) x.d x.first, spot_has_room rs (second_address v + at) x.s x.second) in
+    let within : (at + n) + (suc len - n) ≤ vop_len v = omega (arith, l, one) in
+    subst (Each IsApart) x.cut.all (here, ops_apart rs v (at + n) (suc len - n) fuel x.cut.others a within x.cut.rest_is)
 
 -- ---- the job
 
@@ -346,8 +401,8 @@ job_is_meant rs (v ∷ vs) ops m h a e =
     let space : Space = regions_space rs in
     let parts = and_parts (has_apart_ranges rs v) (list_all (has_apart_ranges rs) vs) a in
     let x = joined_of (op_in_names rs v) (job_by_name rs vs) ops e in
-    let apart : are_apart x.first ≡ true = ap (λ o. are_apart (unwrap_or o [])) (sym x.first_is) ∙ parts.0 in
-    let here : after_ops m x.first ≡ after_vop space m v = ops_make rs v 0 (vop_len v) (vop_len v) x.first m h x.first_is (all_apart [] x.first apart) in
+    let apart : Each IsApart x.first = ops_apart rs v 0 (vop_len v) (vop_len v) x.first parts.0 (omega arith) x.first_is in
+    let here : after_ops m x.first ≡ after_vop space m v = ops_make rs v 0 (vop_len v) (vop_len v) x.first m h x.first_is apart in
     let seen : flat_map (λ piece. piece) (pieces_shown m x.first) ≡ vop_shown space m v = ops_show rs v 0 (vop_len v) (vop_len v) x.first m h x.first_is ∙ shown_whole space m v in
     let rest : IsMeant space (after_ops m x.first) vs x.others = job_is_meant rs vs x.others (after_ops m x.first) h parts.1 x.others_are in
     record {

@@ -2,9 +2,9 @@ ghost use Rattle.std.specs.Prelude.{◌≡◌, ◌-◌, ◌≤◌, ◌++◌, ◌
 ghost use Rattle.std.specs.List.{list_all, list_any};
 ghost use Rattle.journal_model.specs.Waits as waits;
 ghost use Rattle.journal_model.specs.ApplyJobs.{changed_job};
-ghost use Rattle.journal_model.specs.Jobs.{ArePending, IsSplit, closes, has_packets_left};
+ghost use Rattle.journal_model.specs.Jobs.{ArePending, AreBounded, IsSplit, closes, has_packets_left, is_bounded, is_past};
 
-use crate::jobs::Jobs;
+use crate::jobs::{CONTEXTS, Jobs};
 use crate::state::Job;
 use std::alloc::Global;
 use ttm_base::{ItemList, JobId, NoMemory};
@@ -93,17 +93,53 @@ fn closed_from(jobs: &[Job], start: usize) -> usize
     count
 }
 
+/// The job's number is greater than the greatest of its context.
+fn is_past(greatest: &[u64; CONTEXTS], id: JobId) -> bool
+    ensures { result ≡ is_past greatest.now id }
+{
+    let at = id.ctx as usize;
+    at < CONTEXTS && greatest[at] < id.num
+}
+
+/// Makes the number of a job the greatest of its context, unless there is a greater one.
+fn raise(greatest: &mut [u64; CONTEXTS], id: JobId)
+    ensures new { is_bounded greatest.new id ≡ true }
+    ensures others { (i : JobId) → is_bounded greatest.old i ≡ true → is_bounded greatest.new i ≡ true }
+{
+    let at = id.ctx as usize;
+    if at < CONTEXTS && greatest[at] < id.num {
+        greatest[at] = id.num;
+    }
+}
+
 /// How many jobs stay closed when one with this name is to come: none, if a closed one has it.
-fn closed_apart(jobs: &[Job], closed: usize, id: JobId) -> usize
-    requires { IsSplit jobs.now closed }
+fn closed_apart(jobs: &[Job], closed: usize, greatest: &[u64; CONTEXTS], id: JobId) -> usize
+    requires split { IsSplit jobs.now closed }
+    requires bounded { AreBounded greatest.now jobs.now }
     ensures split { IsSplit jobs.now result }
     ensures apart { list_any (λ j. waits.same_job id j.id) (take result jobs.now) ≡ false }
 {
-    if is_among(&jobs[..closed], id) {
+    if is_past(greatest, id) {
+        closed
+    } else if is_among(&jobs[..closed], id) {
         0
     } else {
         closed
     }
+}
+
+/// The job is another, or one more packet of it can be counted.
+fn has_packets_left(job: &Job, id: JobId) -> bool
+    ensures { result ≡ has_packets_left id job.now }
+{
+    !same_job(id, job.id) || job.ran < u32::MAX
+}
+
+/// Each of these jobs is another, or one more packet of it can be counted.
+fn have_packets_left(jobs: &[Job], id: JobId) -> bool
+    ensures { result ≡ list_all (has_packets_left id) jobs.now }
+{
+    jobs.iter().all(|job| has_packets_left(job, id))
 }
 
 /// How many jobs stay closed when the last one is to go: none, if it is closed.
@@ -136,6 +172,7 @@ impl Jobs {
         Jobs {
             all: ItemList::new(alloc),
             closed: 0,
+            greatest: [0; CONTEXTS],
         }
     }
 
@@ -173,8 +210,10 @@ impl Jobs {
         ensures ok { OnOk result (self.new ≡ self.old ++ job ∷ []) }
         ensures err { OnErr result (self.new ≡ self.old) }
     {
-        self.closed = closed_apart(self.all.items(), self.closed, job.id);
+        let id = job.id;
+        self.closed = closed_apart(self.all.items(), self.closed, &self.greatest, id);
         self.all.push(job)?;
+        raise(&mut self.greatest, id);
         Ok(())
     }
 
@@ -195,6 +234,14 @@ impl Jobs {
     {
         finish_from(&mut self.all, self.closed, id);
         self.closed = closed_from(self.all.items(), self.closed);
+    }
+
+    /// One more packet of the job can be counted.
+    pub fn can_count(&self, id: JobId) -> bool
+        ensures { result ≡ list_all (has_packets_left id) self.now }
+    {
+        let start = start_of(self.all.items(), self.closed, id);
+        have_packets_left(&self.all.items()[start..], id)
     }
 
     /// One more packet of the job has run.
