@@ -1,5 +1,5 @@
 -- An operation with addresses is cut piece by piece.
-use Rattle.std.proofs.Common.{◌≡◌, ℕ, zero, suc, ◌+◌, ◌-◌, ◌<◌, ◌≤◌, min, List, [], ◌∷◌, ◌++◌, Option, Some, None, refl, ap, sym, ◌∙◌, arith, append_assoc, inl, inr, subst, ap₂}
+use Rattle.std.proofs.Common.{◌≡◌, ℕ, zero, suc, ◌+◌, ◌-◌, ◌<◌, ◌≤◌, min, List, [], ◌∷◌, ◌++◌, Option, Some, None, refl, ap, sym, ◌∙◌, arith, append_assoc, length, length-append, inl, inr, subst, ap₂}
 use Rattle.std.specs.Prelude.{option_map}
 use Rattle.ttm_base.specs.declared.Op.{Op}
 use Rattle.journal_model.specs.declared.space.VOp.{VOp}
@@ -101,3 +101,58 @@ joined_on a (Some b) (Some d) = ap Some (sym (append_assoc a b d))
 pub jobs_go_on : (rs : List Region) (v : VOp) (vs : List VOp) (put put' : List Op) (whole : Option (List Op)) →
     whole ≡ joined (Some put) (job_by_name rs (v ∷ vs)) → option_map (λ ops. put ++ ops) (op_in_names rs v) ≡ Some put' → whole ≡ joined (Some put') (job_by_name rs vs)
 jobs_go_on rs v vs put put' whole h e = h ∙ joined_on put (op_in_names rs v) (job_by_name rs vs) ∙ ap (λ o. joined o (job_by_name rs vs)) e
+
+-- ---- how many there are
+
+count_behind : (count count' most : ℕ) (x : Op) (o : Option (List Op)) → count ≤ most → count' ≡ min (count + 1) most →
+    option_map (λ ops. min (count + length ops) most) (option_map (λ ops. x ∷ ops) o) ≡ option_map (λ ops. min (count' + length ops) most) o
+count_behind count count' most x None k e = refl
+count_behind count count' most x (Some ys) k e =
+    let same : min (count + length (x ∷ ys)) most ≡ min (count' + length ys) most = omega (arith, k, e) in
+    ap Some same
+
+pub counts_go_on : (rs : List Region) (v : VOp) (at len n first second count count' most : ℕ) (d s : Spot) (whole : Option ℕ) →
+    at < len → first ≡ first_address v + at → second ≡ second_address v + at → spot_at rs first ≡ Some d → spot_at rs second ≡ Some s → n ≡ min (len - at) (min d.room s.room) →
+    count ≤ most → count' ≡ min (count + 1) most →
+    whole ≡ option_map (λ ops. min (count + length ops) most) (ops_from rs v at (len - at) (len - at)) →
+    whole ≡ option_map (λ ops. min (count' + length ops) most) (ops_from rs v (at + n) (len - (at + n)) (len - (at + n)))
+counts_go_on rs v at len n first second count count' most d s whole w a b e f m i j h =
+    let step = ops_step rs v at (len - at) d s (omega (arith, w)) (subst (λ y. spot_at rs y ≡ Some d) a e) (subst (λ y. spot_at rs y ≡ Some s) b f) in
+    let k : ℕ = min (len - at) (min d.room s.room) in
+    let there : at + min (len - at) (min d.room s.room) ≡ at + n = omega (arith, m) in
+    let left : (len - at) - min (len - at) (min d.room s.room) ≡ len - (at + n) = omega (arith, m) in
+    h
+    ∙ ap (option_map (λ ops. min (count + length ops) most)) (step ∙ ap₂ (λ y l. option_map (λ ops. op_by_name v d s k ∷ ops) (ops_from rs v y l l)) there left)
+    ∙ count_behind count count' most (op_by_name v d s k) (ops_from rs v (at + n) (len - (at + n)) (len - (at + n))) i j
+
+some_is : {x y : ℕ} → Some x ≡ Some y → x ≡ y
+some_is e = cc
+
+-- operations counted, with those of another list behind them
+counts_joined : (count count' most : ℕ) (o p : Option (List Op)) → Some count' ≡ option_map (λ ops. min (count + length ops) most) o →
+    option_map (λ ops. min (count + length ops) most) (joined o p) ≡ option_map (λ ops. min (count' + length ops) most) p
+counts_joined count count' most None p e = absurd (cc)
+counts_joined count count' most (Some xs) None e = refl
+counts_joined count count' most (Some xs) (Some ys) e =
+    let here : count' ≡ min (count + length xs) most = some_is e in
+    let both : length (xs ++ ys) ≡ length xs + length ys = length-append xs ys in
+    let same : min (count + length (xs ++ ys)) most ≡ min (count' + length ys) most = omega (arith, here, both) in
+    ap Some same
+
+pub job_counts_go_on : (rs : List Region) (v : VOp) (vs : List VOp) (count count' most : ℕ) (whole : Option ℕ) →
+    whole ≡ option_map (λ ops. min (count + length ops) most) (job_by_name rs (v ∷ vs)) → Some count' ≡ option_map (λ ops. min (count + length ops) most) (op_in_names rs v) →
+    whole ≡ option_map (λ ops. min (count' + length ops) most) (job_by_name rs vs)
+job_counts_go_on rs v vs count count' most whole h e = h ∙ counts_joined count count' most (op_in_names rs v) (job_by_name rs vs) e
+
+pub job_counts_end : (rs : List Region) (v : VOp) (vs : List VOp) (count most : ℕ) (whole : Option ℕ) →
+    whole ≡ option_map (λ ops. min (count + length ops) most) (job_by_name rs (v ∷ vs)) → None ≡ option_map (λ ops. min (count + length ops) most) (op_in_names rs v) → None ≡ whole
+job_counts_end rs v vs count most whole h e = elim (cases_option (op_in_names rs v)) [
+  | inl n ↦
+      let none : job_by_name rs (v ∷ vs) ≡ None = rw (n, job_by_name) refl in
+      sym (h ∙ ap (option_map (λ ops. min (count + length ops) most)) none)
+  | inr (xs, s) ↦ let e' = rw s at e in absurd (cc)
+]
+
+pub counted_few : (count count' most : ℕ) (o : Option (List Op)) → Some count' ≡ option_map (λ ops. min (count + length ops) most) o → count' ≤ most
+counted_few count count' most None e = absurd (cc)
+counted_few count count' most (Some xs) e = let same : count' ≡ min (count + length xs) most = some_is e in omega (arith, same)

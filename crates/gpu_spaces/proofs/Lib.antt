@@ -1,4 +1,5 @@
 pub mod Around
+pub mod Buffers
 pub mod Changing
 pub mod Cutting
 pub mod Kept

@@ -1,3 +1,5 @@
 pub mod Kept
 pub mod Regions
 pub mod Spots
+pub mod Sets
+pub mod Inside

@@ -1,9 +1,9 @@
 //! The job by name: operations with addresses, cut at the borders of mappings.
-ghost use Rattle.std.specs.Prelude.{◌≡◌, ◌+◌, ◌-◌, ◌≤◌, ◌++◌, true, false, Some, None, IfOk, option_map, if◌then◌else◌};
+ghost use Rattle.std.specs.Prelude.{◌≡◌, ◌+◌, ◌-◌, ◌≤◌, ◌++◌, true, false, Some, None, IfOk, length, min, option_map, if◌then◌else◌};
 ghost use Rattle.std.specs.List.{list_all};
 ghost use Rattle.journal_model.specs.ByName as name;
 ghost use Rattle.journal_model.specs.ByName.{job_by_name, op_in_names};
-ghost use Rattle.journal_model.specs.MarkRules.{is_vop};
+ghost use Rattle.gpu_spaces.specs.Inside.{is_inside};
 ghost use Rattle.gpu_spaces.specs.Kept.{regions_in};
 ghost use Rattle.gpu_spaces.specs.Regions.{IsKept};
 ghost use Rattle.gpu_spaces.specs.Spots.{spot_of};
@@ -84,7 +84,7 @@ fn op_by_name(op: VOp, first: Spot, second: Spot, n: u32) -> Op
 /// Puts an operation by name behind others. False where a page isn't mapped.
 fn push_ops(mappings: &Mappings, op: VOp, job: &mut Ops) -> Result<bool, NoMemory>
     requires kept { IsKept (regions_in mappings.now) }
-    requires inside { is_vop op ≡ true }
+    requires inside { is_inside op ≡ true }
     ensures { IfOk result (λ mapped. option_map (λ ops. job.old ++ ops) (op_in_names (regions_in mappings.now) op) ≡ (if mapped then Some job.new else None)) }
 {
     let len = vop_len(op);
@@ -110,7 +110,7 @@ pub(crate) fn job_of(
     ops: &[VOp],
 ) -> Result<Option<Ops>, NoMemory>
     requires kept { IsKept (regions_in mappings.now) }
-    requires inside { list_all is_vop ops.now ≡ true }
+    requires inside { list_all is_inside ops.now ≡ true }
     ensures { IfOk result (λ job. job ≡ job_by_name (regions_in mappings.now) ops.now) }
 {
     let mut job = Ops::new(alloc);
@@ -120,4 +120,44 @@ pub(crate) fn job_of(
         }
     }
     Ok(Some(job))
+}
+
+/// How many operations by name there are with those of an operation, counted up to `most`. None where a page isn't mapped.
+fn count_ops(mappings: &Mappings, op: VOp, before: u32, most: u32) -> Option<u32>
+    requires kept { IsKept (regions_in mappings.now) }
+    requires inside { is_inside op ≡ true }
+    requires few { before ≤ most }
+    ensures { result ≡ option_map (λ ops. min (before + length ops) most) (op_in_names (regions_in mappings.now) op) }
+{
+    let len = vop_len(op);
+    let mut at = 0;
+    let mut count = before;
+    while at < len {
+        let Some(first) = spot_at(mappings, first_address(op) + u64::from(at)) else {
+            return None;
+        };
+        let Some(second) = spot_at(mappings, second_address(op) + u64::from(at)) else {
+            return None;
+        };
+        let n = first.room.min(second.room).min(u64::from(len - at)) as u32;
+        at += n;
+        count = count.saturating_add(1).min(most);
+    }
+    Some(count)
+}
+
+/// How many operations the job by name has, counted up to `most`. None where a page isn't mapped.
+pub(crate) fn job_len(mappings: &Mappings, ops: &[VOp], most: u32) -> Option<u32>
+    requires kept { IsKept (regions_in mappings.now) }
+    requires inside { list_all is_inside ops.now ≡ true }
+    ensures { result ≡ option_map (λ job. min (length job) most) (job_by_name (regions_in mappings.now) ops.now) }
+{
+    let mut count = 0;
+    for op in ops {
+        let Some(more) = count_ops(mappings, *op, count, most) else {
+            return None;
+        };
+        count = more;
+    }
+    Some(count)
 }

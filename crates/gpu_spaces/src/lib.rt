@@ -1,6 +1,7 @@
 //! The address space of a GPU thread: which page of a buffer stands at each of its pages (drm_gpuvm).
 #![tactic(auto)]
 
+mod apart;
 mod change;
 mod job;
 mod mappings;

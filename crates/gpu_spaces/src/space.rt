@@ -1,13 +1,15 @@
-ghost use Rattle.std.specs.Prelude.{◌≡◌, ◌+◌, ◌≤◌, [], true, IfOk, OnOk, OnErr, map, option_map};
+ghost use Rattle.std.specs.Prelude.{◌≡◌, ◌+◌, ◌≤◌, [], true, IfOk, OnOk, OnErr, length, min, map, option_map};
 ghost use Rattle.std.specs.List.{list_all};
 ghost use Rattle.journal_model.specs.declared.script.MarkKind.TheVariants as mark;
 ghost use Rattle.journal_model.specs.ByName.{parts_of_range, job_by_name};
-ghost use Rattle.journal_model.specs.MarkRules.{is_vop};
+ghost use Rattle.journal_model.specs.MarkRules.{has_apart_ranges};
+ghost use Rattle.gpu_spaces.specs.Inside.{is_inside};
 ghost use Rattle.gpu_spaces.specs.Spots.{part_of};
 ghost use Rattle.journal_model.specs.Spaces.{regions_after, regions_space, steps_of};
 
+use crate::apart::is_apart;
 use crate::change::change;
-use crate::job::job_of;
+use crate::job::{job_len, job_of};
 use crate::mappings::{Mapping, Mappings, around};
 use crate::pieces::{Pieces, pieces_of};
 use crate::steps::list_steps;
@@ -117,10 +119,26 @@ impl Space {
 
     /// The job by name of operations with addresses, each cut at the borders of mappings. None where a page isn't mapped.
     pub fn job(&self, alloc: Global, ops: &[VOp]) -> Result<Option<Ops>, NoMemory>
-        requires { list_all is_vop ops.now ≡ true }
+        requires { list_all is_inside ops.now ≡ true }
         ensures { IfOk result (λ job. job ≡ job_by_name self.now ops.now) }
     {
         job_of(alloc, &self.mappings, ops)
+    }
+
+    /// How many operations that job has, counted up to `most`. None where a page isn't mapped.
+    pub fn job_len(&self, ops: &[VOp], most: u32) -> Option<u32>
+        requires { list_all is_inside ops.now ≡ true }
+        ensures { result ≡ option_map (λ job. min (length job) most) (job_by_name self.now ops.now) }
+    {
+        job_len(&self.mappings, ops, most)
+    }
+
+    /// No buffer stands in both ranges of an operation, as far as their pages are mapped.
+    pub fn is_apart(&self, alloc: Global, op: VOp) -> Result<bool, NoMemory>
+        requires { is_inside op ≡ true }
+        ensures { IfOk result (λ apart. apart ≡ has_apart_ranges self.now op) }
+    {
+        is_apart(alloc, &self.mappings, op)
     }
 }
 

@@ -26,7 +26,7 @@ use Rattle.journal_model.specs.FirstFault.{with_buffer, place_in, wanted, taken_
 use Rattle.law_script.proofs.NumberLaws.{number_again, between}
 use Rattle.law_script.proofs.LineLaws.{made, Breaks_none}
 use Rattle.law_script.proofs.HeadSteps.{at}
-use Rattle.law_script.proofs.ListFacts.{length_map}
+use Rattle.law_items.proofs.ListFacts.{length_map}
 use Rattle.law_script.proofs.NamesAgain.{group_again, group_solid}
 use Rattle.law_script.proofs.ListAgain.{there, unflagged_place, new_list_again, old_list_again}
 use Rattle.law_script.proofs.LineRuns.{Runs, line_runs, says, keeps_all}
@@ -268,6 +268,8 @@ old_runs s n m d one h =
       actors = refl;
       counts = room_left (length s.buffers) h.few;
       lens = let a = h.short in not_long (m + 0) (omega (arith, a));
+      maps = refl;
+      pages = refl;
     } in
     let text : buffer_line 1 d ≡ line (codes "buffer" ∷ head_words d rest) =
     ap (λ ps. line (codes "buffer" ∷ head_words d (codes "want" ∷ words_of_places (map place_word ps) ∷ codes "busy" ∷ words_of_places (map place_word (forced_places list)) ∷ []))) o.first_ones
@@ -314,6 +316,8 @@ new_runs s n m d two h =
       actors = refl;
       counts = room_left (length s.buffers) h.few;
       lens = let b = h.short in not_long (m + 0) (omega (arith, b));
+      maps = refl;
+      pages = refl;
     } in
     let parts = ap (λ v. buffer_line_of (eqb v 2) (codes "buffer" ∷ head_words d rest)) two
     ∙ ap (λ x. list_of_version_two true x (codes "place") lt) (head_again s.version d h.decl) ∙ ap (λ x. made (line_of.Placed head x)) a.0 in

@@ -12,7 +12,7 @@ use Rattle.journal_model.specs.Cut.{cut_at}
 use Rattle.journal_model.specs.Spelling.{flag, place_word, words_of_places, placement_words}
 use Rattle.ttm_base.specs.declared.Place.{Place}
 use Rattle.ttm_base.specs.Placement.{first_places, forced_places}
-use Rattle.journal_model.specs.Reading.{number_in, mem_of, last_flags_of, contig_flags_of, flags_of, flagged, ranged, is_system, reach_place, based_place, at_place, plus_place, place_word_of, places_of}
+use Rattle.journal_model.specs.Reading.{number_in, mem_of, last_flags_of, contig_flags_of, flags_of, flagged, ranged, is_system, reach_place, based_place, reach_of, at_place, plus_place, place_word_of, places_of}
 use Rattle.journal_model.specs.LineRules.{is_no_place, is_broken_place}
 use Rattle.journal_model.specs.FirstFault.{place_in, wanted, taken_under_pressure}
 use Rattle.law_script.proofs.CutLaws.{joined}
@@ -71,18 +71,16 @@ bare_reach mem (first ∷ last ∷ []) f place none h =
     bare_ranged mem (number_in 0 16384 first) (number_in 0 16384 last) f place none (unless (is_system mem || (eqb (length first) 0) || (eqb (length last) 0)) _ place h)
 bare_reach mem (first ∷ last ∷ x ∷ xs) f place none h = absurd cc
 
-bare_based : (reach flags : List Text) (mo : Option Mem) (fo : Option Flags) (place : FlaggedPlace) → flags_of false flags ≡ fo → based_place mo reach fo ≡ is place → IsBare place
+bare_based : (words flags : List Text) (mo : Option Mem) (fo : Option Flags) (place : FlaggedPlace) → flags_of false flags ≡ fo → based_place mo (reach_of words) fo ≡ is place → IsBare place
 bare_based [] flags (Some mem) (Some f) place q h = bare_flagged mem 0 0 f place (none_flags flags f q) h
-bare_based (r ∷ []) flags (Some mem) (Some f) place q h = bare_reach mem (cut_at 45 r) f place (none_flags flags f q) h
-bare_based (r ∷ s ∷ rs) flags (Some mem) (Some f) place q h = absurd cc
+bare_based (r ∷ rs) flags (Some mem) (Some f) place q h = bare_reach mem (cut_at 45 (join_with_byte 64 (r ∷ rs))) f place (none_flags flags f q) h
 bare_based [] flags (Some mem) None place q h = absurd cc
-bare_based (r ∷ []) flags (Some mem) None place q h = absurd cc
-bare_based (r ∷ s ∷ rs) flags (Some mem) None place q h = absurd cc
-bare_based reach flags None fo place q h = absurd cc
+bare_based (r ∷ rs) flags (Some mem) None place q h = absurd cc
+bare_based words flags None fo place q h = absurd cc
 
 bare_at : (parts flags : List Text) (place : FlaggedPlace) → at_place parts (flags_of false flags) ≡ is place → IsBare place
 bare_at [] flags place h = absurd cc
-bare_at (m ∷ reach) flags place h = bare_based reach flags (mem_of m) (flags_of false flags) place refl h
+bare_at (m ∷ words) flags place h = bare_based words flags (mem_of m) (flags_of false flags) place refl h
 
 bare_plus : (parts : List Text) (place : FlaggedPlace) → plus_place false parts ≡ is place → IsBare place
 bare_plus [] place h = absurd cc

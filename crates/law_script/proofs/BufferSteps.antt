@@ -16,7 +16,7 @@ use Rattle.journal_model.specs.declared.line.Line.TheVariants as says
 use Rattle.journal_model.specs.declared.line.BufferHead.{BufferHead}
 use Rattle.journal_model.specs.Words.{Text, line}
 use Rattle.journal_model.specs.Spelling.{buffer_line, turn_line, group_word, placement_words}
-use Rattle.journal_model.specs.CommandRules.{is_between, is_command}
+use Rattle.journal_model.specs.CommandRules.{is_between}
 use Rattle.journal_model.specs.ScriptRules.{is_name, same_text, has_distinct_names, is_group, is_decl, is_place_list, is_turn_line}
 use Rattle.journal_model.specs.Reading.{names_of, number_in, group_of, places_of}
 use Rattle.journal_model.specs.LineWords.{buffer_line_of, lists_line, two_lists, list_of_version_two, has_head_words, buffer_head_of}
@@ -32,8 +32,10 @@ use Rattle.law_script.proofs.AgainLaws.{turned}
 use Rattle.law_script.proofs.CommandFits.{number_small}
 use Rattle.law_script.proofs.CommandSteps.{not_false}
 use Rattle.law_script.proofs.PlaceFits.{old_lists_fit, new_list_fits, not_no_list}
-use Rattle.law_script.proofs.ListFacts.{all_nil, all_more, length_more}
-use Rattle.law_script.proofs.Sound.{frame, seats, six, thread_text, Sound, text_of, Grows}
+use Rattle.law_items.specs.Items.{Item, items_text, items_fit}
+use Rattle.law_items.proofs.ListFacts.{all_nil, all_more, length_more}
+use Rattle.law_items.proofs.Puts.{no_lists}
+use Rattle.law_script.proofs.Sound.{frame, seats, six, is_asked, Sound, text_of, Grows}
 use Rattle.law_script.proofs.HeadSteps.{at, number_there}
 use Rattle.law_script.proofs.Tests.{not_true, either, both, joint, three_facts, is_le}
 
@@ -80,35 +82,37 @@ grown a b d x g k h [] [] p q r =
 grown a b d x g k h (y ∷ bs) cs p q r = absurd cc
 grown a b d x g k h [] (y ∷ cs) p q r = absurd cc
 
-with_one : (s : Script) (n m : ℕ) (d : Decl) → Sound (at phase.Buffers s n m) → is_decl s.version d ≡ true → list_any (bytes_eq d.name) (names_of s.buffers) ≡ false → length s.buffers < 256 → Sound (with_buffer (at phase.Buffers s n m) d)
-with_one s n m d h fit free few = record {
+with_one : (s : Script) (lists : List (List Item)) (n m : ℕ) (d : Decl) → Sound (at phase.Buffers s n m) lists → is_decl s.version d ≡ true → list_any (bytes_eq d.name) (names_of s.buffers) ≡ false → length s.buffers < 256 → Sound (with_buffer (at phase.Buffers s n m) d) lists
+with_one s lists n m d h fit free few = let none = no_lists s lists h.comes h.stage.0 in record {
   version = h.version;
   sizes = h.sizes;
   few_buffers = let e = length_more s.buffers d in omega (arith, e, few);
   decls = all_more (is_decl s.version) s.buffers d h.decls fit;
   names = distinct_more s.buffers d h.names free;
+  comes = record { threads = h.comes.threads; marks = h.comes.marks };
   few_threads = h.few_threads;
-  commands = all_nil (list_all (is_command (frame (record s { buffers = s.buffers ++ d ∷ [] })))) s.threads h.stage.0;
+  commands = all_nil (list_all (is_asked (frame (record s { buffers = s.buffers ++ d ∷ [] })))) lists none;
   few_lines = h.few_lines;
   lines = h.lines;
   lens = h.lens;
   short = h.short;
+  marks = all_nil (items_fit (frame (record s { buffers = s.buffers ++ d ∷ [] }))) lists none;
   turns = all_nil (is_turn_line (seats (record s { buffers = s.buffers ++ d ∷ [] }))) s.turns h.stage.1;
-  marks = h.marks;
   stage = h.stage;
 }
 
 -- a buffer line
-pub buffer_step : (s : Script) (n m : ℕ) (ws : List Text) (l : Line) → Declares s n m ws l → Sound (at phase.Buffers s n m) → Grows (at phase.Buffers s n m) l ws
-buffer_step s n m ws l t h =
+pub buffer_step : {lists : List (List Item)} (s : Script) (n m : ℕ) (ws : List Text) (l : Line) → Declares s n m ws l → Sound (at phase.Buffers s n m) lists → Grows (at phase.Buffers s n m) lists l ws
+buffer_step {lists = lists} s n m ws l t h =
     let p = at phase.Buffers s n m in
     let q = with_buffer p t.d in
-    let more : text_of q ≡ text_of p ++ line ws =
-    grown (six s) (flat_map (buffer_line s.version) s.buffers) (flat_map (buffer_line s.version) (s.buffers ++ t.d ∷ [])) (line ws) (thread_text (frame q.script)) (thread_text (frame s)) turn_line s.threads s.turns h.stage.0 h.stage.1
+    let more : text_of q lists ≡ text_of p lists ++ line ws =
+    grown (six s) (flat_map (buffer_line s.version) s.buffers) (flat_map (buffer_line s.version) (s.buffers ++ t.d ∷ [])) (line ws) (items_text (frame q.script)) (items_text (frame s)) turn_line lists s.turns (no_lists s lists h.comes h.stage.0) h.stage.1
     (flat_map-append (buffer_line s.version) s.buffers (t.d ∷ []) ∙ ap (λ x. flat_map (buffer_line s.version) s.buffers ++ x) (flat_map-cons (buffer_line s.version) t.d [] ∙ append-nil (buffer_line s.version t.d) ∙ sym t.words)) in
     record {
-      sound = subst Sound (sym t.taken) (with_one s n m t.d h t.fits t.free t.few);
-      more = ap text_of t.taken ∙ more;
+      next = lists;
+      sound = subst (λ x. Sound x lists) (sym t.taken) (with_one s lists n m t.d h t.fits t.free t.few);
+      more = ap (λ x. text_of x lists) t.taken ∙ more;
     }
 
 -- ---- a buffer line

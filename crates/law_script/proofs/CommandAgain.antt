@@ -1,5 +1,5 @@
 -- Commands that were written are read.
-use Rattle.std.proofs.Common.{◌≡◌, ℕ, ◌+◌, ◌<◌, ◌≤◌, ◌^◌, true, false, cond, List, [], ◌∷◌, length, map, Some, None, Ok, refl, ap, ◌∙◌, arith}
+use Rattle.std.proofs.Common.{◌≡◌, ℕ, ◌+◌, ◌<◌, ◌≤◌, ◌^◌, true, false, cond, eqb, List, [], ◌∷◌, length, map, Some, None, Ok, refl, ap, subst, ◌∙◌, arith}
 use Rattle.std.specs.Prelude.{not, codes, decimal, flat_map, sum_by, option_map, nat_lt, nat_le}
 use Rattle.std.specs.List.{list_any, list_all}
 use Rattle.std.proofs.lemmas.Bool.Decides.{nat_tests}
@@ -19,28 +19,36 @@ use Rattle.journal_model.specs.declared.line.Line.{Line}
 use Rattle.journal_model.specs.declared.line.Line.TheVariants as line_of
 use Rattle.journal_model.specs.declared.line.Verb.{Verb}
 use Rattle.journal_model.specs.declared.line.Verb.TheVariants as verb
+use Rattle.journal_model.specs.declared.line.Access.{Access}
+use Rattle.journal_model.specs.declared.line.Access.TheVariants as access
 use Rattle.journal_model.specs.declared.line.EngineWord.TheVariants as engine_as
 use Rattle.journal_model.specs.Words.{Text, line, name_of, hex, mem_word}
+use Rattle.journal_model.specs.State.{has_buffer}
 use Rattle.journal_model.specs.Commands.{named, first_mentions}
-use Rattle.journal_model.specs.Spelling.{op_words, parted}
+use Rattle.journal_model.specs.MarkRules.{desk_at_end}
+use Rattle.journal_model.specs.Spelling.{op_words, parted, command_words}
 use Rattle.journal_model.specs.CommandRules.{is_between, is_declared, is_command, is_op, is_byte, is_range_of, command_len}
 use Rattle.journal_model.specs.Reading.{known, names_of, offset_of, bytes_in_hex}
-use Rattle.journal_model.specs.LineWords.{is_no_op, op_words_of, submit_of_ops}
-use Rattle.journal_model.specs.LineRules.{lacks_number_in_op, lacks_name_in_op, lacks_byte_in_op, names_one_twice, is_big_job, buffers_of_word, len_of_word, has_wrong_range}
+use Rattle.journal_model.specs.LineWords.{keyword_of, may_come, is_no_op, op_words_of, submit_of_ops}
+use Rattle.journal_model.specs.LineRules.{lacks_number_in_op, lacks_name_in_op, lacks_byte_in_op, names_one_twice, is_big_job, buffers_of_word, len_of_word, has_wrong_range, has_map_fault}
 use Rattle.journal_model.specs.FirstFault.{with_line, with_submit, plain_command, after_words}
 use Rattle.law_script.proofs.NumberLaws.{number_again, between, is_in}
 use Rattle.law_script.proofs.WordLaws.{verb_word, keyword_again, mem_again}
 use Rattle.law_script.proofs.LineLaws.{made, Breaks_none}
 use Rattle.law_script.proofs.AgainLaws.{offset_again, bytes_again}
-use Rattle.law_script.proofs.CommandSteps.{no_len, plain_len}
+use Rattle.law_items.specs.Items.{Asks, item_text}
+use Rattle.law_script.proofs.CommandSteps.{no_len, plain_len, with_item, read_word, write_word, ways_of, read_text, write_text, read_taken, write_taken}
 use Rattle.law_script.proofs.HeadSteps.{at}
-use Rattle.law_script.proofs.Sound.{command_text}
-use Rattle.law_script.proofs.ListFacts.{length_map}
+use Rattle.law_items.proofs.ListFacts.{length_map}
 use Rattle.law_script.proofs.NamesAgain.{IsNamed, known_again, name_word_small, engine_again}
 use Rattle.law_script.proofs.OpsAgain.{whole_op, range_is, right_range, ops_again, ops_words, none_of, ops_inside, names_again, lens_again, ops_said}
 use Rattle.law_script.proofs.LineRuns.{Runs, line_runs, says, keeps_all}
 use Rattle.law_script.proofs.Solid.{is_word, small_word, number_small_word, hex_word}
 use Rattle.law_script.proofs.Tests.{neither, both, joint, three_facts, four_facts, le_is, at_most, not_long}
+
+-- the line of a command
+abbrev pub command_text : Script → Command → Text
+command_text s c = line (command_words s c)
 
 -- what holds where a command is read
 pub record IsRoom (s : Script) (n m : ℕ) (c : Command) : Type 0 where
@@ -48,22 +56,26 @@ pub record IsRoom (s : Script) (n m : ℕ) (c : Command) : Type 0 where
   pub few : n < 4096
   pub short : m + command_len c ≤ 67108864
 
-not_more : (n : ℕ) → n < 4096 → nat_le 4096 n ≡ false
+-- there is room for one more
+pub not_more : (n : ℕ) → n < 4096 → nat_le 4096 n ≡ false
 not_more n h = grind (arith, nat_tests)
 
 -- a line that says a command
-told : (s : Script) (n m : ℕ) (c : Command) (w : Text) (ws : List Text) (l : Line) → list_all is_word (w ∷ ws) ≡ true
-    → after_words (at phase.Threads s n m) (w ∷ ws) ≡ Ok (with_line (at phase.Threads s n m) l) → with_line (at phase.Threads s n m) l ≡ with_submit (at phase.Threads s n m) c (command_len c)
-    → Runs (at phase.Threads s n m) (line (w ∷ ws)) (with_submit (at phase.Threads s n m) c (command_len c))
-told s n m c w ws l words e made_is = line_runs (at phase.Threads s n m) _ w ws words (e ∙ ap (λ (p : Progress). Ok p) made_is)
+pub told : (s : Script) (n m : ℕ) (q : Progress) (w : Text) (ws : List Text) (l : Line) → list_all is_word (w ∷ ws) ≡ true
+    → after_words (at phase.Threads s n m) (w ∷ ws) ≡ Ok (with_line (at phase.Threads s n m) l) → with_line (at phase.Threads s n m) l ≡ q
+    → Runs (at phase.Threads s n m) (line (w ∷ ws)) q
+told s n m q w ws l words e made_is = line_runs (at phase.Threads s n m) _ w ws words (e ∙ ap (λ (p : Progress). Ok p) made_is)
 
-name_solid : (s : Script) (b : BufId) → IsNamed s → is_declared s b ≡ true → is_word (name_of s b) ≡ true
+-- the name of a buffer is a word
+pub name_solid : (s : Script) (b : BufId) → IsNamed s → is_declared s b ≡ true → is_word (name_of s b) ≡ true
 name_solid s b h d = small_word (name_of s b) (name_word_small s b h d)
 
-offset_solid : (n : ℕ) → n ≤ 16777216 → is_word (decimal n) ≡ true
+-- an offset is a word
+pub offset_solid : (n : ℕ) → n ≤ 16777216 → is_word (decimal n) ≡ true
 offset_solid n h = small_word (decimal n) (number_small_word n (omega (arith, h)))
 
-not_over : (most n : ℕ) → n ≤ most → nat_lt most n ≡ false
+-- not above the most
+pub not_over : (most n : ℕ) → n ≤ most → nat_lt most n ≡ false
 not_over most n h = grind (arith, nat_tests)
 
 no_number : (o : Op) → lacks_number_in_op (whole_op o) ≡ false
@@ -106,45 +118,88 @@ plain_runs s n m v b h few short d =
     let p = at phase.Threads s n m in
     let l = line_of.Plain v (Some b) in
     let words = joint (is_word (verb_word v)) _ (verb_solid v) (joint (is_word (name_of s b)) true (name_solid s b h d) refl) in
-    let r : Breaks_none p l = record { numbers = refl; names = refl; places = refl; ranges = refl; bytes = refl; jobs = refl; actors = refl; counts = not_more n few; lens = not_long (m + 0) (omega (arith, short)) } in
-    told s n m (plain_command v b) (verb_word v) (name_of s b ∷ []) l words
+    let r : Breaks_none p l = record { numbers = refl; names = refl; places = refl; ranges = refl; bytes = refl; jobs = refl; actors = refl; counts = not_more n few; lens = not_long (m + 0) (omega (arith, short)); maps = refl; pages = refl } in
+    told s n m (with_submit p (plain_command v b) (command_len (plain_command v b))) (verb_word v) (name_of s b ∷ []) l words
     (says p (key.Plain v) (verb_word v ∷ name_of s b ∷ []) l (keyword_again v) refl words (ap (λ x. made (line_of.Plain v x)) (known_again s b h d)) (keeps_all p l r))
     (no_len p (plain_command v b) (plain_len v b))
 
 -- ---- the other commands
 
-write_runs : (s : Script) (n m : ℕ) (b : BufId) (off : ℕ) (bytes : List ℕ) → IsRoom s n m (command.Write b off bytes) → is_command s (command.Write b off bytes) ≡ true
-    → Runs (at phase.Threads s n m) (command_text s (command.Write b off bytes)) (with_submit (at phase.Threads s n m) (command.Write b off bytes) 0)
-write_runs s n m b off bytes room k =
+-- where a read or write may be a peek or poke
+abbrev pub Reaches : Access → Script → BufId → Type 0
+Reaches access.Direct s b = Unit {0}
+Reaches access.Mapped s b = (eqb s.version 2 ≡ true) × (has_buffer (desk_at_end s).mapped b ≡ true)
+
+read_keyword : (how : Access) → keyword_of (read_word how) ≡ key.Read how
+read_keyword access.Direct = refl
+read_keyword access.Mapped = refl
+
+write_keyword : (how : Access) → keyword_of (write_word how) ≡ key.Write how
+write_keyword access.Direct = refl
+write_keyword access.Mapped = refl
+
+read_solid : (how : Access) → is_word (read_word how) ≡ true
+read_solid access.Direct = refl
+read_solid access.Mapped = refl
+
+write_solid : (how : Access) → is_word (write_word how) ≡ true
+write_solid access.Direct = refl
+write_solid access.Mapped = refl
+
+read_comes : (how : Access) (s : Script) (b : BufId) → Reaches how s b → may_come s.version phase.Threads (key.Read how) ≡ true
+read_comes access.Direct s b r = refl
+read_comes access.Mapped s b r = r.0
+
+write_comes : (how : Access) (s : Script) (b : BufId) → Reaches how s b → may_come s.version phase.Threads (key.Write how) ≡ true
+write_comes access.Direct s b r = refl
+write_comes access.Mapped s b r = r.0
+
+read_mapped : (how : Access) (s : Script) (b : BufId) (off len : ℕ) → Reaches how s b → has_map_fault (desk_at_end s) (line_of.Read how (Some b) (Some off) (Some len)) ≡ false
+read_mapped access.Direct s b off len r = refl
+read_mapped access.Mapped s b off len r = ap not r.1
+
+write_mapped : (how : Access) (s : Script) (b : BufId) (off : ℕ) (bytes : List ℕ) → Reaches how s b → has_map_fault (desk_at_end s) (line_of.Write how (Some b) (Some off) (Some bytes)) ≡ false
+write_mapped access.Direct s b off bytes r = refl
+write_mapped access.Mapped s b off bytes r = ap not r.1
+
+-- a write or poke
+pub write_runs : (how : Access) (s : Script) (n m : ℕ) (b : BufId) (off : ℕ) (bytes : List ℕ) → IsRoom s n m (command.Write b off bytes) → Reaches how s b → is_command s (command.Write b off bytes) ≡ true
+    → Runs (at phase.Threads s n m) (item_text s (Asks (ways_of how) (command.Write b off bytes))) (with_item (at phase.Threads s n m) (Asks (ways_of how) (command.Write b off bytes)))
+write_runs how s n m b off bytes room reach k =
     let p = at phase.Threads s n m in
+    let q = with_item p (Asks (ways_of how) (command.Write b off bytes)) in
     let h = room.named_ones in
     let short = room.short in
     let f = three_facts (is_range_of s b off (length bytes)) (nat_le (length bytes) 256) (list_all is_byte bytes) k in
     let g = range_is s b off (length bytes) f.0 in
     let some = g.some in
-    let l = line_of.Write (Some b) (Some off) (Some bytes) in
-    let words = joint true _ refl (joint (is_word (name_of s b)) _ (name_solid s b h g.there) (joint (is_word (decimal off)) _ (offset_solid off g.off_small) (joint (is_word (hex bytes)) true (small_word (hex bytes) (hex_word bytes (omega (arith, some)) f.2)) refl))) in
-    let r : Breaks_none p l = record { numbers = refl; names = refl; places = refl; ranges = g.inside; bytes = ap not (is_in 1 256 (length bytes) g.some (le_is (length bytes) 256 f.1)); jobs = refl; actors = refl; counts = not_more n room.few; lens = not_long (m + 0) short } in
-    told s n m (command.Write b off bytes) (codes "write") (name_of s b ∷ decimal off ∷ hex bytes ∷ []) l words
-    (says p key.Write (codes "write" ∷ name_of s b ∷ decimal off ∷ hex bytes ∷ []) l refl refl words
-    (ap (λ x. made (line_of.Write x (offset_of (decimal off)) (bytes_in_hex (hex bytes)))) (known_again s b h g.there) ∙ ap (λ x. made (line_of.Write (Some b) x (bytes_in_hex (hex bytes)))) (offset_again off g.off_small) ∙ ap (λ x. made (line_of.Write (Some b) (Some off) x)) (bytes_again bytes f.2)) (keeps_all p l r))
-    (no_len p (command.Write b off bytes) refl)
+    let l = line_of.Write how (Some b) (Some off) (Some bytes) in
+    let words = joint (is_word (write_word how)) _ (write_solid how) (joint (is_word (name_of s b)) _ (name_solid s b h g.there) (joint (is_word (decimal off)) _ (offset_solid off g.off_small) (joint (is_word (hex bytes)) true (small_word (hex bytes) (hex_word bytes (omega (arith, some)) f.2)) refl))) in
+    let r : Breaks_none p l = record { numbers = refl; names = refl; places = refl; ranges = g.inside; bytes = ap not (is_in 1 256 (length bytes) g.some (le_is (length bytes) 256 f.1)); jobs = refl; actors = refl; counts = not_more n room.few; lens = not_long (m + 0) short; maps = write_mapped how s b off bytes reach; pages = refl } in
+    subst (λ t. Runs p t q) (write_text how s b off bytes)
+    (told s n m q (write_word how) (name_of s b ∷ decimal off ∷ hex bytes ∷ []) l words
+    (says p (key.Write how) (write_word how ∷ name_of s b ∷ decimal off ∷ hex bytes ∷ []) l (write_keyword how) (write_comes how s b reach) words
+    (ap (λ x. made (line_of.Write how x (offset_of (decimal off)) (bytes_in_hex (hex bytes)))) (known_again s b h g.there) ∙ ap (λ x. made (line_of.Write how (Some b) x (bytes_in_hex (hex bytes)))) (offset_again off g.off_small) ∙ ap (λ x. made (line_of.Write how (Some b) (Some off) x)) (bytes_again bytes f.2)) (keeps_all p l r))
+    (write_taken how p (Some b) (Some off) (Some bytes)))
 
-read_runs : (s : Script) (n m : ℕ) (b : BufId) (off len : ℕ) → IsRoom s n m (command.Read b off len) → is_command s (command.Read b off len) ≡ true
-    → Runs (at phase.Threads s n m) (command_text s (command.Read b off len)) (with_submit (at phase.Threads s n m) (command.Read b off len) 0)
-read_runs s n m b off len room k =
+-- a read or peek
+pub read_runs : (how : Access) (s : Script) (n m : ℕ) (b : BufId) (off len : ℕ) → IsRoom s n m (command.Read b off len) → Reaches how s b → is_command s (command.Read b off len) ≡ true
+    → Runs (at phase.Threads s n m) (item_text s (Asks (ways_of how) (command.Read b off len))) (with_item (at phase.Threads s n m) (Asks (ways_of how) (command.Read b off len)))
+read_runs how s n m b off len room reach k =
     let p = at phase.Threads s n m in
+    let q = with_item p (Asks (ways_of how) (command.Read b off len)) in
     let h = room.named_ones in
     let short = room.short in
     let f = both (is_range_of s b off len) (nat_le len 256) k in
     let g = range_is s b off len f.0 in
-    let l = line_of.Read (Some b) (Some off) (Some len) in
-    let words = joint true _ refl (joint (is_word (name_of s b)) _ (name_solid s b h g.there) (joint (is_word (decimal off)) _ (offset_solid off g.off_small) (joint (is_word (decimal len)) true (offset_solid len g.len_small) refl))) in
-    let r : Breaks_none p l = record { numbers = refl; names = refl; places = refl; ranges = neither (has_wrong_range s (Some b) (Some off) (Some len)) (nat_lt 256 len) (right_range s b off len g) (at_most len f.1); bytes = refl; jobs = refl; actors = refl; counts = not_more n room.few; lens = not_long (m + 0) short } in
-    told s n m (command.Read b off len) (codes "read") (name_of s b ∷ decimal off ∷ decimal len ∷ []) l words
-    (says p key.Read (codes "read" ∷ name_of s b ∷ decimal off ∷ decimal len ∷ []) l refl refl words
-    (ap (λ x. made (line_of.Read x (offset_of (decimal off)) (offset_of (decimal len)))) (known_again s b h g.there) ∙ ap (λ x. made (line_of.Read (Some b) x (offset_of (decimal len)))) (offset_again off g.off_small) ∙ ap (λ x. made (line_of.Read (Some b) (Some off) x)) (offset_again len g.len_small)) (keeps_all p l r))
-    (no_len p (command.Read b off len) refl)
+    let l = line_of.Read how (Some b) (Some off) (Some len) in
+    let words = joint (is_word (read_word how)) _ (read_solid how) (joint (is_word (name_of s b)) _ (name_solid s b h g.there) (joint (is_word (decimal off)) _ (offset_solid off g.off_small) (joint (is_word (decimal len)) true (offset_solid len g.len_small) refl))) in
+    let r : Breaks_none p l = record { numbers = refl; names = refl; places = refl; ranges = neither (has_wrong_range s (Some b) (Some off) (Some len)) (nat_lt 256 len) (right_range s b off len g) (at_most len f.1); bytes = refl; jobs = refl; actors = refl; counts = not_more n room.few; lens = not_long (m + 0) short; maps = read_mapped how s b off len reach; pages = refl } in
+    subst (λ t. Runs p t q) (read_text how s b off len)
+    (told s n m q (read_word how) (name_of s b ∷ decimal off ∷ decimal len ∷ []) l words
+    (says p (key.Read how) (read_word how ∷ name_of s b ∷ decimal off ∷ decimal len ∷ []) l (read_keyword how) (read_comes how s b reach) words
+    (ap (λ x. made (line_of.Read how x (offset_of (decimal off)) (offset_of (decimal len)))) (known_again s b h g.there) ∙ ap (λ x. made (line_of.Read how (Some b) x (offset_of (decimal len)))) (offset_again off g.off_small) ∙ ap (λ x. made (line_of.Read how (Some b) (Some off) x)) (offset_again len g.len_small)) (keeps_all p l r))
+    (read_taken how p (Some b) (Some off) (Some len)))
 
 mem_solid : (mem : Mem) → is_word (mem_word mem) ≡ true
 mem_solid System = refl
@@ -158,8 +213,8 @@ move_runs s n m b mem room d =
     let h = room.named_ones in
     let l = line_of.Move (Some b) mem in
     let words = joint true _ refl (joint (is_word (name_of s b)) _ (name_solid s b h d) (joint (is_word (mem_word mem)) true (mem_solid mem) refl)) in
-    let r : Breaks_none p l = record { numbers = refl; names = refl; places = refl; ranges = refl; bytes = refl; jobs = refl; actors = refl; counts = not_more n room.few; lens = not_long (m + 0) room.short } in
-    told s n m (command.Move b mem) (codes "move") (name_of s b ∷ mem_word mem ∷ []) l words
+    let r : Breaks_none p l = record { numbers = refl; names = refl; places = refl; ranges = refl; bytes = refl; jobs = refl; actors = refl; counts = not_more n room.few; lens = not_long (m + 0) room.short; maps = refl; pages = refl } in
+    told s n m (with_submit p (command.Move b mem) (command_len (command.Move b mem))) (codes "move") (name_of s b ∷ mem_word mem ∷ []) l words
     (says p key.Move (codes "move" ∷ name_of s b ∷ mem_word mem ∷ []) l refl refl words
     (ap (λ x. option_map (λ y. line_of.Move (known (names_of s.buffers) (name_of s b)) y) x) (mem_again mem) ∙ ap (λ x. made (line_of.Move x mem)) (known_again s b h d)) (keeps_all p l r))
     (no_len p (command.Move b mem) refl)
@@ -171,8 +226,8 @@ touch_runs s n m group room k =
     let small = le_is group 15 k in
     let l = line_of.Touch (Some group) in
     let words = joint true _ refl (joint (is_word (decimal group)) true (offset_solid group (omega (arith, small))) refl) in
-    let r : Breaks_none p l = record { numbers = refl; names = refl; places = refl; ranges = refl; bytes = refl; jobs = refl; actors = refl; counts = not_more n room.few; lens = not_long (m + 0) room.short } in
-    told s n m (command.Touch group) (codes "touch") (decimal group ∷ []) l words
+    let r : Breaks_none p l = record { numbers = refl; names = refl; places = refl; ranges = refl; bytes = refl; jobs = refl; actors = refl; counts = not_more n room.few; lens = not_long (m + 0) room.short; maps = refl; pages = refl } in
+    told s n m (with_submit p (command.Touch group) (command_len (command.Touch group))) (codes "touch") (decimal group ∷ []) l words
     (says p key.Touch (codes "touch" ∷ decimal group ∷ []) l refl refl words (ap (λ x. made (line_of.Touch x)) (number_again 0 15 group (omega arith) (omega arith) small)) (keeps_all p l r))
     (no_len p (command.Touch group) refl)
 
@@ -202,8 +257,10 @@ submit_runs s n m engine ops room small k =
       actors = refl;
       counts = not_more n room.few;
       lens = ap (λ x. nat_lt 67108864 (m + x)) (lens_again ops) ∙ not_long (m + sum_by op_len ops) room.short;
+      maps = refl;
+      pages = refl;
     } in
-    told s n m (command.Submit engine ops) (codes "submit") (decimal engine ∷ parted (map (op_words s) ops)) l words
+    told s n m (with_submit p (command.Submit engine ops) (command_len (command.Submit engine ops))) (codes "submit") (decimal engine ∷ parted (map (op_words s) ops)) l words
     (says p key.Submit (codes "submit" ∷ decimal engine ∷ parted (map (op_words s) ops)) l refl refl words
     (ap (λ x. submit_of_ops x (op_words_of (names_of s.buffers) (parted (map (op_words s) ops)))) (engine_again s.sizes.engines engine small f.0)
     ∙ ap (submit_of_ops (engine_as.Is engine)) (ops_again s ops some h f.2)
@@ -218,8 +275,8 @@ command_runs s n m (command.Pin b) room small k = plain_runs s n m verb.Pin b ro
 command_runs s n m (command.Unpin b) room small k = plain_runs s n m verb.Unpin b room.named_ones room.few (let a = room.short in omega (arith, a)) k
 command_runs s n m (command.Find b) room small k = plain_runs s n m verb.Find b room.named_ones room.few (let a = room.short in omega (arith, a)) k
 command_runs s n m (command.SwapOut b) room small k = plain_runs s n m verb.SwapOut b room.named_ones room.few (let a = room.short in omega (arith, a)) k
-command_runs s n m (command.Write b off bytes) room small k = write_runs s n m b off bytes room k
-command_runs s n m (command.Read b off len) room small k = read_runs s n m b off len room k
+command_runs s n m (command.Write b off bytes) room small k = write_runs access.Direct s n m b off bytes room tt k
+command_runs s n m (command.Read b off len) room small k = read_runs access.Direct s n m b off len room tt k
 command_runs s n m (command.Move b mem) room small k = move_runs s n m b mem room k
 command_runs s n m (command.Touch group) room small k = touch_runs s n m group room k
 command_runs s n m (command.Submit engine ops) room small k = submit_runs s n m engine ops room small k

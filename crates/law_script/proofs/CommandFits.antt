@@ -106,7 +106,8 @@ byte_choice c d true true p q = pair_small c d p q
 byte_choice c d true false p q = refl
 byte_choice c d false b p q = refl
 
-byte_small : (w : Text) → is_byte (or_zero (byte_in_hex w)) ≡ true
+-- what is read of a byte is one
+pub byte_small : (w : Text) → is_byte (or_zero (byte_in_hex w)) ≡ true
 byte_small [] = refl
 byte_small (c ∷ []) = refl
 byte_small (c ∷ d ∷ []) = byte_choice c d (is_hex c) (is_hex d) refl refl

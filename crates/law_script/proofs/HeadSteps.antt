@@ -14,7 +14,7 @@ use Rattle.journal_model.specs.declared.line.Line.TheVariants as says
 use Rattle.journal_model.specs.Words.{Text, line}
 use Rattle.journal_model.specs.Spelling.{buffer_line, turn_line}
 use Rattle.journal_model.specs.ScriptRules.{has_sizes, is_decl, is_turn_line}
-use Rattle.journal_model.specs.CommandRules.{is_between, is_command}
+use Rattle.journal_model.specs.CommandRules.{is_between}
 use Rattle.journal_model.specs.Reading.{number_in}
 use Rattle.journal_model.specs.LineWords.{size_line, version_line, vram_line}
 use Rattle.journal_model.specs.FirstFault.{or_zero, first_word, with_line, with_sizes}
@@ -22,8 +22,10 @@ use Rattle.law_script.proofs.NumberLaws.{number_takes}
 use Rattle.law_script.proofs.WordLaws.{bytes_are}
 use Rattle.law_script.proofs.LineLaws.{made, Breaks_none}
 use Rattle.law_script.proofs.KindLaws.{version_said}
-use Rattle.law_script.proofs.ListFacts.{all_nil}
-use Rattle.law_script.proofs.Sound.{frame, seats, six, thread_text, IsEarly, Stage, Sound, text_of, Grows}
+use Rattle.law_items.specs.Items.{Item, items_text, items_fit}
+use Rattle.law_items.proofs.ListFacts.{all_nil}
+use Rattle.law_items.proofs.Puts.{no_lists}
+use Rattle.law_script.proofs.Sound.{frame, seats, six, is_asked, IsEarly, Stage, Sound, text_of, Grows}
 use Rattle.law_script.proofs.Tests.{is_le}
 
 -- ---- a size
@@ -92,23 +94,25 @@ fit_sizes s f =
     five_joint (nat_le s.sizes.vram 16384) (nat_le s.sizes.tt 16384) (nat_le s.sizes.frames 16384) (nat_le s.sizes.swap 32768) (nat_le s.sizes.engines 8) f.vram f.tt_pages f.frames f.swap f.engines
 
 -- other sizes, where nothing else has come
-sized : (p : Progress) (next : Phase) (sizes : Sizes) → Sound p → IsEarly p.script → SizesFit sizes → Stage next (with_sizes p next sizes).script → Sound (with_sizes p next sizes)
-sized p next sizes h early fit stage = record {
-  version = h.version;
-  sizes = fit_sizes (with_sizes p next sizes).script fit;
-  few_buffers = h.few_buffers;
-  decls = h.decls;
-  names = h.names;
-  few_threads = h.few_threads;
-  commands = all_nil (list_all (is_command (frame (with_sizes p next sizes).script))) p.script.threads early.threads;
-  few_lines = h.few_lines;
-  lines = h.lines;
-  lens = h.lens;
-  short = h.short;
-  turns = all_nil (is_turn_line (seats (with_sizes p next sizes).script)) p.script.turns early.turns;
-  marks = h.marks;
-  stage = stage;
-}
+sized : {lists : List (List Item)} (p : Progress) (next : Phase) (sizes : Sizes) → Sound p lists → IsEarly p.script → SizesFit sizes → Stage next (with_sizes p next sizes).script → Sound (with_sizes p next sizes) lists
+sized {lists = lists} p next sizes h early fit stage =
+    let none = no_lists p.script lists h.comes early.threads in record {
+      version = h.version;
+      sizes = fit_sizes (with_sizes p next sizes).script fit;
+      few_buffers = h.few_buffers;
+      decls = h.decls;
+      names = h.names;
+      comes = record { threads = h.comes.threads; marks = h.comes.marks };
+      few_threads = h.few_threads;
+      commands = all_nil (list_all (is_asked (frame (with_sizes p next sizes).script))) lists none;
+      few_lines = h.few_lines;
+      lines = h.lines;
+      lens = h.lens;
+      short = h.short;
+      marks = all_nil (items_fit (frame (with_sizes p next sizes).script)) lists none;
+      turns = all_nil (is_turn_line (seats (with_sizes p next sizes).script)) p.script.turns early.turns;
+      stage = stage;
+    }
 
 -- ---- the lines
 
@@ -117,42 +121,45 @@ abbrev pub at : Phase → Script → ℕ → ℕ → Progress
 at ph s n m = record { phase = ph; script = s; lines = n; lens = m }
 
 -- the line of TT
-pub tt_step : (s : Script) (n m : ℕ) (ws : List Text) (l : Line) → first_word ws ≡ codes "tt" → size_line says.Tt 16384 ws ≡ made l → Breaks_none (at phase.Tt s n m) l → Sound (at phase.Tt s n m) → Grows (at phase.Tt s n m) l ws
-tt_step s n m ws l k e r h =
+pub tt_step : {lists : List (List Item)} (s : Script) (n m : ℕ) (ws : List Text) (l : Line) → first_word ws ≡ codes "tt" → size_line says.Tt 16384 ws ≡ made l → Breaks_none (at phase.Tt s n m) l → Sound (at phase.Tt s n m) lists → Grows (at phase.Tt s n m) lists l ws
+tt_step {lists = lists} s n m ws l k e r h =
     let p = at phase.Tt s n m in
     let z = size_says says.Tt 16384 (codes "tt") ws l (omega arith) k e in
-    subst (λ (x : Line). Breaks_none p x → Grows p x ws) z.is (λ b.
+    subst (λ (x : Line). Breaks_none p x → Grows p lists x ws) z.is (λ b.
     let g = z.good b.numbers in
     let f = sizes_fit s h.sizes in
     record {
+      next = lists;
       sound = sized p phase.Frames (record (s.sizes) { tt = or_zero z.n }) h h.stage (record { vram = f.vram; tt_pages = is_le (or_zero z.n) 16384 g.1; frames = f.frames; swap = f.swap; engines = f.engines }) (record { buffers = h.stage.buffers; threads = h.stage.threads; turns = h.stage.turns });
-      more = ap (λ x. text_of p ++ line x) (sym g.0);
+      more = ap (λ x. text_of p lists ++ line x) (sym g.0);
     }) r
 
 -- the line of the frames
-pub frames_step : (s : Script) (n m : ℕ) (ws : List Text) (l : Line) → first_word ws ≡ codes "frames" → size_line says.Frames 16384 ws ≡ made l → Breaks_none (at phase.Frames s n m) l → Sound (at phase.Frames s n m) → Grows (at phase.Frames s n m) l ws
-frames_step s n m ws l k e r h =
+pub frames_step : {lists : List (List Item)} (s : Script) (n m : ℕ) (ws : List Text) (l : Line) → first_word ws ≡ codes "frames" → size_line says.Frames 16384 ws ≡ made l → Breaks_none (at phase.Frames s n m) l → Sound (at phase.Frames s n m) lists → Grows (at phase.Frames s n m) lists l ws
+frames_step {lists = lists} s n m ws l k e r h =
     let p = at phase.Frames s n m in
     let z = size_says says.Frames 16384 (codes "frames") ws l (omega arith) k e in
-    subst (λ (x : Line). Breaks_none p x → Grows p x ws) z.is (λ b.
+    subst (λ (x : Line). Breaks_none p x → Grows p lists x ws) z.is (λ b.
     let g = z.good b.numbers in
     let f = sizes_fit s h.sizes in
     record {
+      next = lists;
       sound = sized p phase.Swap (record (s.sizes) { frames = or_zero z.n }) h h.stage (record { vram = f.vram; tt_pages = f.tt_pages; frames = is_le (or_zero z.n) 16384 g.1; swap = f.swap; engines = f.engines }) (record { buffers = h.stage.buffers; threads = h.stage.threads; turns = h.stage.turns });
-      more = ap (λ x. text_of p ++ line x) (sym g.0);
+      more = ap (λ x. text_of p lists ++ line x) (sym g.0);
     }) r
 
 -- the line of the slots
-pub swap_step : (s : Script) (n m : ℕ) (ws : List Text) (l : Line) → first_word ws ≡ codes "swap" → size_line says.Swap 32768 ws ≡ made l → Breaks_none (at phase.Swap s n m) l → Sound (at phase.Swap s n m) → Grows (at phase.Swap s n m) l ws
-swap_step s n m ws l k e r h =
+pub swap_step : {lists : List (List Item)} (s : Script) (n m : ℕ) (ws : List Text) (l : Line) → first_word ws ≡ codes "swap" → size_line says.Swap 32768 ws ≡ made l → Breaks_none (at phase.Swap s n m) l → Sound (at phase.Swap s n m) lists → Grows (at phase.Swap s n m) lists l ws
+swap_step {lists = lists} s n m ws l k e r h =
     let p = at phase.Swap s n m in
     let z = size_says says.Swap 32768 (codes "swap") ws l (omega arith) k e in
-    subst (λ (x : Line). Breaks_none p x → Grows p x ws) z.is (λ b.
+    subst (λ (x : Line). Breaks_none p x → Grows p lists x ws) z.is (λ b.
     let g = z.good b.numbers in
     let f = sizes_fit s h.sizes in
     record {
+      next = lists;
       sound = sized p phase.Engines (record (s.sizes) { swap = or_zero z.n }) h h.stage (record { vram = f.vram; tt_pages = f.tt_pages; frames = f.frames; swap = is_le (or_zero z.n) 32768 g.1; engines = f.engines }) (record { buffers = h.stage.buffers; threads = h.stage.threads; turns = h.stage.turns });
-      more = ap (λ x. text_of p ++ line x) (sym g.0);
+      more = ap (λ x. text_of p lists ++ line x) (sym g.0);
     }) r
 
 -- nothing stands behind the head yet
@@ -164,17 +171,18 @@ bare_body t f g k [] (b ∷ bs) cs p q r = absurd cc
 bare_body t f g k [] [] (c ∷ cs) p q r = absurd cc
 
 -- the line of the engines
-pub engines_step : (s : Script) (n m : ℕ) (ws : List Text) (l : Line) → first_word ws ≡ codes "engines" → size_line says.Engines 8 ws ≡ made l → Breaks_none (at phase.Engines s n m) l → Sound (at phase.Engines s n m) → Grows (at phase.Engines s n m) l ws
-engines_step s n m ws l k e r h =
+pub engines_step : {lists : List (List Item)} (s : Script) (n m : ℕ) (ws : List Text) (l : Line) → first_word ws ≡ codes "engines" → size_line says.Engines 8 ws ≡ made l → Breaks_none (at phase.Engines s n m) l → Sound (at phase.Engines s n m) lists → Grows (at phase.Engines s n m) lists l ws
+engines_step {lists = lists} s n m ws l k e r h =
     let p = at phase.Engines s n m in
     let z = size_says says.Engines 8 (codes "engines") ws l (omega arith) k e in
-    subst (λ (x : Line). Breaks_none p x → Grows p x ws) z.is (λ b.
+    subst (λ (x : Line). Breaks_none p x → Grows p lists x ws) z.is (λ b.
     let g = z.good b.numbers in
     let f = sizes_fit s h.sizes in
     let t = with_line p (says.Engines z.n) in
     record {
+      next = lists;
       sound = sized p phase.Buffers (record (s.sizes) { engines = or_zero z.n }) h h.stage (record { vram = f.vram; tt_pages = f.tt_pages; frames = f.frames; swap = f.swap; engines = is_le (or_zero z.n) 8 g.1 }) (h.stage.threads, h.stage.turns);
-      more = bare_body (six t.script) (buffer_line s.version) (thread_text (frame t.script)) turn_line s.buffers s.threads s.turns h.stage.buffers h.stage.threads h.stage.turns ∙ ap (λ x. text_of p ++ line x) (sym g.0);
+      more = bare_body (six t.script) (buffer_line s.version) (items_text (frame t.script)) turn_line s.buffers lists s.turns h.stage.buffers (no_lists s lists h.comes h.stage.threads) h.stage.turns ∙ ap (λ x. text_of p lists ++ line x) (sym g.0);
     }) r
 
 -- ---- the first two lines
@@ -189,34 +197,36 @@ pub two : decimal 2 ≡ codes "2"
 unfolding digits
 two = refl
 
-versioned : (s : Script) (n m : ℕ) (ws : List Text) (v : ℕ) → is_between 1 2 v ≡ true → ws ≡ codes "ttm" ∷ decimal v ∷ [] → Sound (at phase.Version s n m) → Grows (at phase.Version s n m) (says.Version v) ws
-versioned s n m ws v between e h = record {
+versioned : {lists : List (List Item)} (s : Script) (n m : ℕ) (ws : List Text) (v : ℕ) → is_between 1 2 v ≡ true → ws ≡ codes "ttm" ∷ decimal v ∷ [] → Sound (at phase.Version s n m) lists → Grows (at phase.Version s n m) lists (says.Version v) ws
+versioned {lists = lists} s n m ws v between e h = record {
+  next = lists;
   sound = record {
     version = between;
     sizes = h.sizes;
     few_buffers = h.few_buffers;
     decls = all_nil (is_decl v) s.buffers h.stage.buffers;
     names = h.names;
+    comes = record { threads = h.comes.threads; marks = h.comes.marks };
     few_threads = h.few_threads;
-    commands = all_nil (list_all (is_command (frame (record s { version = v })))) s.threads h.stage.threads;
+    commands = all_nil (list_all (is_asked (frame (record s { version = v })))) lists (no_lists s lists h.comes h.stage.threads);
     few_lines = h.few_lines;
     lines = h.lines;
     lens = h.lens;
     short = h.short;
+    marks = all_nil (items_fit (frame (record s { version = v }))) lists (no_lists s lists h.comes h.stage.threads);
     turns = all_nil (is_turn_line (seats (record s { version = v }))) s.turns h.stage.turns;
-    marks = h.marks;
     stage = record { buffers = h.stage.buffers; threads = h.stage.threads; turns = h.stage.turns };
   };
   more = ap line (sym e);
 }
 
 -- the first line
-pub version_step : (s : Script) (n m : ℕ) (ws : List Text) (l : Line) → first_word ws ≡ codes "ttm" → version_line ws ≡ made l → Sound (at phase.Version s n m) → Grows (at phase.Version s n m) l ws
-version_step s n m ws l k e h =
+pub version_step : {lists : List (List Item)} (s : Script) (n m : ℕ) (ws : List Text) (l : Line) → first_word ws ≡ codes "ttm" → version_line ws ≡ made l → Sound (at phase.Version s n m) lists → Grows (at phase.Version s n m) lists l ws
+version_step {lists = lists} s n m ws l k e h =
     let p = at phase.Version s n m in
     elim (version_said ws l k e) [
-      | inl a ↦ subst (λ (x : Line). Grows p x ws) (sym a.1) (versioned s n m ws 1 refl (a.0 ∙ ap (λ t. codes "ttm" ∷ t ∷ []) (sym one)) h)
-      | inr a ↦ subst (λ (x : Line). Grows p x ws) (sym a.1) (versioned s n m ws 2 refl (a.0 ∙ ap (λ t. codes "ttm" ∷ t ∷ []) (sym two)) h)
+      | inl a ↦ subst (λ (x : Line). Grows p lists x ws) (sym a.1) (versioned s n m ws 1 refl (a.0 ∙ ap (λ t. codes "ttm" ∷ t ∷ []) (sym one)) h)
+      | inr a ↦ subst (λ (x : Line). Grows p lists x ws) (sym a.1) (versioned s n m ws 2 refl (a.0 ∙ ap (λ t. codes "ttm" ∷ t ∷ []) (sym two)) h)
     ]
 
 -- the word of a manager
@@ -254,14 +264,15 @@ vram_says (w ∷ v ∷ size ∷ []) l k h = vram_chosen (bytes_eq v (codes "rang
 vram_says (w ∷ v ∷ size ∷ x ∷ xs) l k h = absurd cc
 
 -- the line of VRAM
-pub vram_step : (s : Script) (n m : ℕ) (ws : List Text) (l : Line) → first_word ws ≡ codes "vram" → vram_line ws ≡ made l → Breaks_none (at phase.Vram s n m) l → Sound (at phase.Vram s n m) → Grows (at phase.Vram s n m) l ws
-vram_step s n m ws l k e r h =
+pub vram_step : {lists : List (List Item)} (s : Script) (n m : ℕ) (ws : List Text) (l : Line) → first_word ws ≡ codes "vram" → vram_line ws ≡ made l → Breaks_none (at phase.Vram s n m) l → Sound (at phase.Vram s n m) lists → Grows (at phase.Vram s n m) lists l ws
+vram_step {lists = lists} s n m ws l k e r h =
     let p = at phase.Vram s n m in
     let z = vram_says ws l k e in
-    subst (λ (x : Line). Breaks_none p x → Grows p x ws) z.is (λ b.
+    subst (λ (x : Line). Breaks_none p x → Grows p lists x ws) z.is (λ b.
     let g = z.good b.numbers in
     let f = sizes_fit s h.sizes in
     record {
+      next = lists;
       sound = sized p phase.Tt (record (s.sizes) { buddy = z.buddy; vram = or_zero z.n }) h h.stage (record { vram = is_le (or_zero z.n) 16384 g.1; tt_pages = f.tt_pages; frames = f.frames; swap = f.swap; engines = f.engines }) (record { buffers = h.stage.buffers; threads = h.stage.threads; turns = h.stage.turns });
-      more = ap (λ x. text_of p ++ line x) (sym g.0);
+      more = ap (λ x. text_of p lists ++ line x) (sym g.0);
     }) r

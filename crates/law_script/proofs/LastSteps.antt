@@ -17,7 +17,7 @@ use Rattle.journal_model.specs.declared.line.ActorWord.{ActorWord}
 use Rattle.journal_model.specs.declared.line.ActorWord.TheVariants as read_as
 use Rattle.journal_model.specs.Words.{Text, line, actor_word}
 use Rattle.journal_model.specs.Spelling.{buffer_line, turn_line}
-use Rattle.journal_model.specs.CommandRules.{is_between, is_command, command_len}
+use Rattle.journal_model.specs.CommandRules.{is_between}
 use Rattle.journal_model.specs.ScriptRules.{is_actor, is_turn_line}
 use Rattle.journal_model.specs.Reading.{is_plain, read_on, actor_of, thread_actor, engine_actor}
 use Rattle.journal_model.specs.LineWords.{alone, turn_line_of, is_no_actor}
@@ -28,8 +28,10 @@ use Rattle.law_script.proofs.LineLaws.{made, Breaks_none}
 use Rattle.law_script.proofs.HeadLaws.{an_actor, numbered}
 use Rattle.law_script.proofs.KindLaws.{actors_take, good_actor}
 use Rattle.law_script.proofs.CommandSteps.{grown}
-use Rattle.law_script.proofs.ListFacts.{all_nil, all_more, length_more, last_new, sum_more, length_map, has_few}
-use Rattle.law_script.proofs.Sound.{frame, seats, six, thread_text, body, Sound, text_of, Grows}
+use Rattle.law_items.specs.Items.{Item, items_text, items_fit}
+use Rattle.law_items.proofs.Puts.{thread_comes}
+use Rattle.law_items.proofs.ListFacts.{all_nil, all_more, length_more, last_new, sum_more, length_map, has_few}
+use Rattle.law_script.proofs.Sound.{frame, seats, six, body, is_asked, item_len, Sound, text_of, Grows}
 use Rattle.law_script.proofs.HeadSteps.{at, sizes_fit}
 use Rattle.law_script.proofs.Tests.{not_true, either, both, joint, le_is, is_le}
 use Rattle.law_script.proofs.BufferSteps.{some_if}
@@ -49,46 +51,49 @@ less_16 n h = grind (arith, nat_tests, h)
 abbrev with_thread : Script → Script
 with_thread s = record s { threads = s.threads ++ [] ∷ [] }
 
-new_thread : (ph : Phase) (s : Script) (n m : ℕ) → s.turns ≡ [] → nat_le 16 (length s.threads) ≡ false → Sound (at ph s n m) → Sound (at phase.Threads (with_thread s) 0 m)
-new_thread ph s n m none few h = record {
+new_thread : (ph : Phase) (s : Script) (lists : List (List Item)) (n m : ℕ) → s.turns ≡ [] → nat_le 16 (length s.threads) ≡ false → Sound (at ph s n m) lists → Sound (at phase.Threads (with_thread s) 0 m) (lists ++ [] ∷ [])
+new_thread ph s lists n m none few h = record {
   version = h.version;
   sizes = h.sizes;
   few_buffers = h.few_buffers;
   decls = h.decls;
   names = h.names;
+  comes = thread_comes s lists h.comes;
   few_threads = let e = length_more s.threads [] in let f = less_16 (length s.threads) few in omega (arith, e, f);
-  commands = all_more (list_all (is_command (frame s))) s.threads [] h.commands refl;
-  few_lines = all_more has_few s.threads [] h.few_lines refl;
-  lines = sym (last_new s.threads);
-  lens = h.lens ∙ sym (sum_more (sum_by command_len) s.threads [] ∙ omega arith);
+  commands = all_more (list_all (is_asked (frame s))) lists [] h.commands refl;
+  few_lines = all_more has_few lists [] h.few_lines refl;
+  lines = sym (last_new lists);
+  lens = h.lens ∙ sym (sum_more (sum_by item_len) lists [] ∙ omega arith);
   short = h.short;
+  marks = all_more (items_fit (frame s)) lists [] h.marks refl;
   turns = all_nil (is_turn_line (seats (with_thread s))) s.turns none;
-  marks = h.marks;
   stage = (let e = length_more s.threads [] in omega (arith, e), none);
 }
 
-thread_text_more : (s : Script) → s.turns ≡ [] → body (with_thread s) ≡ body s ++ line (codes "thread" ∷ [])
-thread_text_more s none =
-    let f = thread_text (frame s) in
-    grown (six s ++ flat_map (buffer_line s.version) s.buffers) (flat_map f s.threads) _ (line (codes "thread" ∷ [])) turn_line s.turns none
-    (flat_map-append f s.threads ([] ∷ []) ∙ ap (λ x. flat_map f s.threads ++ x) (flat_map-cons f [] [] ∙ append-nil (f []) ∙ append-nil (line (codes "thread" ∷ []))))
+thread_text_more : (s : Script) (lists : List (List Item)) → s.turns ≡ [] → body (with_thread s) (lists ++ [] ∷ []) ≡ body s lists ++ line (codes "thread" ∷ [])
+thread_text_more s lists none =
+    let f = items_text (frame s) in
+    grown (six s ++ flat_map (buffer_line s.version) s.buffers) (flat_map f lists) _ (line (codes "thread" ∷ [])) turn_line s.turns none
+    (flat_map-append f lists ([] ∷ []) ∙ ap (λ x. flat_map f lists ++ x) (flat_map-cons f [] [] ∙ append-nil (f []) ∙ append-nil (line (codes "thread" ∷ []))))
 
 -- the first thread
-pub thread_from_buffers : (s : Script) (n m : ℕ) (ws : List Text) (l : Line) → first_word ws ≡ codes "thread" → alone says.Thread ws ≡ made l → Breaks_none (at phase.Buffers s n m) l → Sound (at phase.Buffers s n m) → Grows (at phase.Buffers s n m) l ws
-thread_from_buffers s n m ws l k e r h =
+pub thread_from_buffers : {lists : List (List Item)} (s : Script) (n m : ℕ) (ws : List Text) (l : Line) → first_word ws ≡ codes "thread" → alone says.Thread ws ≡ made l → Breaks_none (at phase.Buffers s n m) l → Sound (at phase.Buffers s n m) lists → Grows (at phase.Buffers s n m) lists l ws
+thread_from_buffers {lists = lists} s n m ws l k e r h =
     let z = alone_says says.Thread l (codes "thread") ws k e in
-    subst (λ (x : Line). Breaks_none (at phase.Buffers s n m) x → Grows (at phase.Buffers s n m) x ws) z.1 (λ b. record {
-      sound = new_thread phase.Buffers s n m h.stage.1 b.counts h;
-      more = thread_text_more s h.stage.1 ∙ ap (λ x. body s ++ line x) (sym z.0);
+    subst (λ (x : Line). Breaks_none (at phase.Buffers s n m) x → Grows (at phase.Buffers s n m) lists x ws) z.1 (λ b. record {
+      next = lists ++ [] ∷ [];
+      sound = new_thread phase.Buffers s lists n m h.stage.1 b.counts h;
+      more = thread_text_more s lists h.stage.1 ∙ ap (λ x. body s lists ++ line x) (sym z.0);
     }) r
 
 -- another thread
-pub thread_from_threads : (s : Script) (n m : ℕ) (ws : List Text) (l : Line) → first_word ws ≡ codes "thread" → alone says.Thread ws ≡ made l → Breaks_none (at phase.Threads s n m) l → Sound (at phase.Threads s n m) → Grows (at phase.Threads s n m) l ws
-thread_from_threads s n m ws l k e r h =
+pub thread_from_threads : {lists : List (List Item)} (s : Script) (n m : ℕ) (ws : List Text) (l : Line) → first_word ws ≡ codes "thread" → alone says.Thread ws ≡ made l → Breaks_none (at phase.Threads s n m) l → Sound (at phase.Threads s n m) lists → Grows (at phase.Threads s n m) lists l ws
+thread_from_threads {lists = lists} s n m ws l k e r h =
     let z = alone_says says.Thread l (codes "thread") ws k e in
-    subst (λ (x : Line). Breaks_none (at phase.Threads s n m) x → Grows (at phase.Threads s n m) x ws) z.1 (λ b. record {
-      sound = new_thread phase.Threads s n m h.stage.1 b.counts h;
-      more = thread_text_more s h.stage.1 ∙ ap (λ x. body s ++ line x) (sym z.0);
+    subst (λ (x : Line). Breaks_none (at phase.Threads s n m) x → Grows (at phase.Threads s n m) lists x ws) z.1 (λ b. record {
+      next = lists ++ [] ∷ [];
+      sound = new_thread phase.Threads s lists n m h.stage.1 b.counts h;
+      more = thread_text_more s lists h.stage.1 ∙ ap (λ x. body s lists ++ line x) (sym z.0);
     }) r
 
 -- ---- schedules
@@ -155,13 +160,14 @@ turn_says s (w ∷ ws) l t e k h =
 abbrev with_turn : Script → List Actor → Script
 with_turn s x = record s { turns = s.turns ++ x ∷ [] }
 
-new_turn : (ph : Phase) (s : Script) (n m : ℕ) (x : List Actor) → is_turn_line s x ≡ true → Sound (at ph s n m) → Sound (at phase.Turns (with_turn s x) n m)
-new_turn ph s n m x fit h = record {
+new_turn : (ph : Phase) (s : Script) (lists : List (List Item)) (n m : ℕ) (x : List Actor) → is_turn_line s x ≡ true → Sound (at ph s n m) lists → Sound (at phase.Turns (with_turn s x) n m) lists
+new_turn ph s lists n m x fit h = record {
   version = h.version;
   sizes = h.sizes;
   few_buffers = h.few_buffers;
   decls = h.decls;
   names = h.names;
+  comes = record { threads = h.comes.threads; marks = h.comes.marks };
   few_threads = h.few_threads;
   commands = h.commands;
   few_lines = h.few_lines;
@@ -173,51 +179,52 @@ new_turn ph s n m x fit h = record {
   stage = tt;
 }
 
-turn_text_more : (s : Script) (x : List Actor) → body (with_turn s x) ≡ body s ++ turn_line x
-turn_text_more s x =
-    let a = six s ++ flat_map (buffer_line s.version) s.buffers ++ flat_map (thread_text (frame s)) s.threads in
+turn_text_more : (s : Script) (lists : List (List Item)) (x : List Actor) → body (with_turn s x) lists ≡ body s lists ++ turn_line x
+turn_text_more s lists x =
+    let a = six s ++ flat_map (buffer_line s.version) s.buffers ++ flat_map (items_text (frame s)) lists in
     ap (λ t. a ++ t) (flat_map-append turn_line s.turns (x ∷ []) ∙ ap (λ t. flat_map turn_line s.turns ++ t) (flat_map-cons turn_line x [] ∙ append-nil (turn_line x)))
     ∙ sym (append_assoc a (flat_map turn_line s.turns) (turn_line x))
 
 -- there are few threads and engines
-pub few_seats : (ph : Phase) (s : Script) (n m : ℕ) → Sound (at ph s n m) → (length s.threads < 2 ^ 64) × (s.sizes.engines < 2 ^ 64)
+pub few_seats : {lists : List (List Item)} (ph : Phase) (s : Script) (n m : ℕ) → Sound (at ph s n m) lists → (length s.threads < 2 ^ 64) × (s.sizes.engines < 2 ^ 64)
 few_seats ph s n m h =
     let a = h.few_threads in
     let b = le_is s.sizes.engines 8 (sizes_fit s h.sizes).engines in
     (omega (arith, a), omega (arith, b))
 
-steered : (ph : Phase) (s : Script) (n m : ℕ) (ws : List Text) (l : Line) → first_word ws ≡ codes "schedule" → turn_line_of (length s.threads) s.sizes.engines ws ≡ made l → Breaks_none (at ph s n m) l → Sound (at ph s n m)
-    → Sound (with_line (at ph s n m) l) × (text_of (with_line (at ph s n m) l) ≡ body s ++ line ws)
-steered ph s n m ws l k e r h =
+steered : {lists : List (List Item)} (ph : Phase) (s : Script) (n m : ℕ) (ws : List Text) (l : Line) → first_word ws ≡ codes "schedule" → turn_line_of (length s.threads) s.sizes.engines ws ≡ made l → Breaks_none (at ph s n m) l → Sound (at ph s n m) lists
+    → Sound (with_line (at ph s n m) l) lists × (text_of (with_line (at ph s n m) l) lists ≡ body s lists ++ line ws)
+steered {lists = lists} ph s n m ws l k e r h =
     let f = few_seats ph s n m h in
     let z = turn_says s ws l f.0 f.1 k e in
-    subst (λ (x : Line). Breaks_none (at ph s n m) x → Sound (with_line (at ph s n m) x) × (text_of (with_line (at ph s n m) x) ≡ body s ++ line ws)) z.is (λ b.
+    subst (λ (x : Line). Breaks_none (at ph s n m) x → Sound (with_line (at ph s n m) x) lists × (text_of (with_line (at ph s n m) x) lists ≡ body s lists ++ line ws)) z.is (λ b.
     let g = z.good b.numbers b.actors in (
-      new_turn ph s n m (map actor_in z.actors) g.1 h,
-      turn_text_more s (map actor_in z.actors) ∙ ap (λ x. body s ++ line x) (sym g.0),
+      new_turn ph s lists n m (map actor_in z.actors) g.1 h,
+      turn_text_more s lists (map actor_in z.actors) ∙ ap (λ x. body s lists ++ line x) (sym g.0),
     )) r
 
 -- a schedule where there are no threads
-pub turn_from_buffers : (s : Script) (n m : ℕ) (ws : List Text) (l : Line) → first_word ws ≡ codes "schedule" → turn_line_of (length s.threads) s.sizes.engines ws ≡ made l → Breaks_none (at phase.Buffers s n m) l → Sound (at phase.Buffers s n m) → Grows (at phase.Buffers s n m) l ws
-turn_from_buffers s n m ws l k e r h = let g = steered phase.Buffers s n m ws l k e r h in record { sound = g.0; more = g.1 }
+pub turn_from_buffers : {lists : List (List Item)} (s : Script) (n m : ℕ) (ws : List Text) (l : Line) → first_word ws ≡ codes "schedule" → turn_line_of (length s.threads) s.sizes.engines ws ≡ made l → Breaks_none (at phase.Buffers s n m) l → Sound (at phase.Buffers s n m) lists → Grows (at phase.Buffers s n m) lists l ws
+turn_from_buffers {lists = lists} s n m ws l k e r h = let g = steered phase.Buffers s n m ws l k e r h in record { next = lists; sound = g.0; more = g.1 }
 
 -- the first schedule
-pub turn_from_threads : (s : Script) (n m : ℕ) (ws : List Text) (l : Line) → first_word ws ≡ codes "schedule" → turn_line_of (length s.threads) s.sizes.engines ws ≡ made l → Breaks_none (at phase.Threads s n m) l → Sound (at phase.Threads s n m) → Grows (at phase.Threads s n m) l ws
-turn_from_threads s n m ws l k e r h = let g = steered phase.Threads s n m ws l k e r h in record { sound = g.0; more = g.1 }
+pub turn_from_threads : {lists : List (List Item)} (s : Script) (n m : ℕ) (ws : List Text) (l : Line) → first_word ws ≡ codes "schedule" → turn_line_of (length s.threads) s.sizes.engines ws ≡ made l → Breaks_none (at phase.Threads s n m) l → Sound (at phase.Threads s n m) lists → Grows (at phase.Threads s n m) lists l ws
+turn_from_threads {lists = lists} s n m ws l k e r h = let g = steered phase.Threads s n m ws l k e r h in record { next = lists; sound = g.0; more = g.1 }
 
 -- another schedule
-pub turn_from_turns : (s : Script) (n m : ℕ) (ws : List Text) (l : Line) → first_word ws ≡ codes "schedule" → turn_line_of (length s.threads) s.sizes.engines ws ≡ made l → Breaks_none (at phase.Turns s n m) l → Sound (at phase.Turns s n m) → Grows (at phase.Turns s n m) l ws
-turn_from_turns s n m ws l k e r h = let g = steered phase.Turns s n m ws l k e r h in record { sound = g.0; more = g.1 }
+pub turn_from_turns : {lists : List (List Item)} (s : Script) (n m : ℕ) (ws : List Text) (l : Line) → first_word ws ≡ codes "schedule" → turn_line_of (length s.threads) s.sizes.engines ws ≡ made l → Breaks_none (at phase.Turns s n m) l → Sound (at phase.Turns s n m) lists → Grows (at phase.Turns s n m) lists l ws
+turn_from_turns {lists = lists} s n m ws l k e r h = let g = steered phase.Turns s n m ws l k e r h in record { next = lists; sound = g.0; more = g.1 }
 
 -- ---- the last line
 
-ended : (ph : Phase) (s : Script) (n m : ℕ) → Sound (at ph s n m) → Sound (at phase.After s n m)
-ended ph s n m h = record {
+ended : (ph : Phase) (s : Script) (lists : List (List Item)) (n m : ℕ) → Sound (at ph s n m) lists → Sound (at phase.After s n m) lists
+ended ph s lists n m h = record {
   version = h.version;
   sizes = h.sizes;
   few_buffers = h.few_buffers;
   decls = h.decls;
   names = h.names;
+  comes = record { threads = h.comes.threads; marks = h.comes.marks };
   few_threads = h.few_threads;
   commands = h.commands;
   few_lines = h.few_lines;
@@ -229,20 +236,20 @@ ended ph s n m h = record {
   stage = tt;
 }
 
-last_line : (ph : Phase) (s : Script) (n m : ℕ) (ws : List Text) (l : Line) → first_word ws ≡ codes "end" → alone says.End ws ≡ made l → Sound (at ph s n m)
-    → Sound (with_line (at ph s n m) l) × (text_of (with_line (at ph s n m) l) ≡ body s ++ line ws)
-last_line ph s n m ws l k e h =
+last_line : {lists : List (List Item)} (ph : Phase) (s : Script) (n m : ℕ) (ws : List Text) (l : Line) → first_word ws ≡ codes "end" → alone says.End ws ≡ made l → Sound (at ph s n m) lists
+    → Sound (with_line (at ph s n m) l) lists × (text_of (with_line (at ph s n m) l) lists ≡ body s lists ++ line ws)
+last_line {lists = lists} ph s n m ws l k e h =
     let z = alone_says says.End l (codes "end") ws k e in
-    subst (λ (x : Line). Sound (with_line (at ph s n m) x) × (text_of (with_line (at ph s n m) x) ≡ body s ++ line ws)) z.1 (ended ph s n m h, ap (λ x. body s ++ line x) (sym z.0))
+    subst (λ (x : Line). Sound (with_line (at ph s n m) x) lists × (text_of (with_line (at ph s n m) x) lists ≡ body s lists ++ line ws)) z.1 (ended ph s lists n m h, ap (λ x. body s lists ++ line x) (sym z.0))
 
 -- the end behind the buffers
-pub end_from_buffers : (s : Script) (n m : ℕ) (ws : List Text) (l : Line) → first_word ws ≡ codes "end" → alone says.End ws ≡ made l → Sound (at phase.Buffers s n m) → Grows (at phase.Buffers s n m) l ws
-end_from_buffers s n m ws l k e h = let g = last_line phase.Buffers s n m ws l k e h in record { sound = g.0; more = g.1 }
+pub end_from_buffers : {lists : List (List Item)} (s : Script) (n m : ℕ) (ws : List Text) (l : Line) → first_word ws ≡ codes "end" → alone says.End ws ≡ made l → Sound (at phase.Buffers s n m) lists → Grows (at phase.Buffers s n m) lists l ws
+end_from_buffers {lists = lists} s n m ws l k e h = let g = last_line phase.Buffers s n m ws l k e h in record { next = lists; sound = g.0; more = g.1 }
 
 -- the end behind the threads
-pub end_from_threads : (s : Script) (n m : ℕ) (ws : List Text) (l : Line) → first_word ws ≡ codes "end" → alone says.End ws ≡ made l → Sound (at phase.Threads s n m) → Grows (at phase.Threads s n m) l ws
-end_from_threads s n m ws l k e h = let g = last_line phase.Threads s n m ws l k e h in record { sound = g.0; more = g.1 }
+pub end_from_threads : {lists : List (List Item)} (s : Script) (n m : ℕ) (ws : List Text) (l : Line) → first_word ws ≡ codes "end" → alone says.End ws ≡ made l → Sound (at phase.Threads s n m) lists → Grows (at phase.Threads s n m) lists l ws
+end_from_threads {lists = lists} s n m ws l k e h = let g = last_line phase.Threads s n m ws l k e h in record { next = lists; sound = g.0; more = g.1 }
 
 -- the end behind the schedules
-pub end_from_turns : (s : Script) (n m : ℕ) (ws : List Text) (l : Line) → first_word ws ≡ codes "end" → alone says.End ws ≡ made l → Sound (at phase.Turns s n m) → Grows (at phase.Turns s n m) l ws
-end_from_turns s n m ws l k e h = let g = last_line phase.Turns s n m ws l k e h in record { sound = g.0; more = g.1 }
+pub end_from_turns : {lists : List (List Item)} (s : Script) (n m : ℕ) (ws : List Text) (l : Line) → first_word ws ≡ codes "end" → alone says.End ws ≡ made l → Sound (at phase.Turns s n m) lists → Grows (at phase.Turns s n m) lists l ws
+end_from_turns {lists = lists} s n m ws l k e h = let g = last_line phase.Turns s n m ws l k e h in record { next = lists; sound = g.0; more = g.1 }

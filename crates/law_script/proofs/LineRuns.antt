@@ -10,7 +10,8 @@ use Rattle.journal_model.specs.declared.line.Line.{Line}
 use Rattle.journal_model.specs.Words.{Text, spaced, line}
 use Rattle.journal_model.specs.Cut.{onto, cut_at, lines_of}
 use Rattle.journal_model.specs.LineWords.{keyword_of, may_come, parts_of, line_of}
-use Rattle.journal_model.specs.LineRules.{rule_broken, lacks_number, lacks_name, lacks_place, has_range_fault, has_byte_fault, has_job_fault, lacks_actor, is_one_too_many, is_too_long}
+use Rattle.journal_model.specs.LineRules.{rule_broken, lacks_number, lacks_name, lacks_place, has_range_fault, has_byte_fault, has_job_fault, lacks_actor, is_one_too_many, is_too_long, has_map_fault, lacks_page}
+use Rattle.journal_model.specs.MarkRules.{desk_at_end}
 use Rattle.journal_model.specs.FirstFault.{first_word, with_line, unless_broken, fault_of_parts, after_words, after_line, breaks_text, ends_line, is_line_feed, is_shown, without_end, script_from}
 use Rattle.law_script.proofs.CutLaws.{cut_again}
 use Rattle.law_script.proofs.LineLaws.{made, Breaks_none}
@@ -105,10 +106,10 @@ line_runs p q w ws words e n rest s k =
     ∙ ap (λ (a : Result Progress ℕ). led a n (lines_of rest)) read ∙ k (n + 1)
 
 -- what the words of a line say
-pub says : (p : Progress) (k : Keyword) (ws : List Text) (l : Line) → keyword_of (first_word ws) ≡ k → may_come p.phase k ≡ true → list_all is_word ws ≡ true → parts_of p.script k ws ≡ made l → rule_broken p l ≡ None
+pub says : (p : Progress) (k : Keyword) (ws : List Text) (l : Line) → keyword_of (first_word ws) ≡ k → may_come p.script.version p.phase k ≡ true → list_all is_word ws ≡ true → parts_of p.script k ws ≡ made l → rule_broken p l ≡ None
     → after_words p ws ≡ Ok (with_line p l)
 says p k ws l e c words parts rule =
-    ap (λ (x : Keyword). cond (not (may_come p.phase x)) (Err 3) (fault_of_parts p (line_of p.script x ws))) e
+    ap (λ (x : Keyword). cond (not (may_come p.script.version p.phase x)) (Err 3) (fault_of_parts p (line_of p.script x ws))) e
     ∙ ap (λ b. cond (not b) (Err 3) (fault_of_parts p (line_of p.script k ws))) c
     ∙ ap (λ b. fault_of_parts p (cond b None (parts_of p.script k ws))) (none_empty ws words)
     ∙ ap (fault_of_parts p) parts
@@ -127,4 +128,4 @@ skip true n rest h k = absurd cc
 pub keeps_all : (p : Progress) (l : Line) → Breaks_none p l → rule_broken p l ≡ no_rule
 keeps_all p l r =
     skip (lacks_number l) 5 _ r.numbers (skip (lacks_name p.script l) 6 _ r.names (skip (lacks_place l) 7 _ r.places (skip (has_range_fault p.script l) 8 _ r.ranges
-    (skip (has_byte_fault l) 9 _ r.bytes (skip (has_job_fault l) 10 _ r.jobs (skip (lacks_actor l) 11 _ r.actors (skip (is_one_too_many p l) 12 _ r.counts (skip (is_too_long p l) 13 None r.lens refl))))))))
+    (skip (has_byte_fault l) 9 _ r.bytes (skip (has_job_fault (desk_at_end p.script) l) 10 _ r.jobs (skip (lacks_actor l) 11 _ r.actors (skip (is_one_too_many p l) 12 _ r.counts (skip (is_too_long p l) 13 _ r.lens (skip (has_map_fault (desk_at_end p.script) l) 14 _ r.maps (skip (lacks_page (desk_at_end p.script) l) 15 None r.pages refl))))))))))

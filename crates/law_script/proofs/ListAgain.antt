@@ -1,5 +1,5 @@
 -- Places and lists of places that were written are read.
-use Rattle.std.proofs.Common.{◌≡◌, ℕ, ◌<◌, ◌≤◌, ◌^◌, Bool, true, false, cond, eqb, ltb, List, [], ◌∷◌, ◌++◌, length, map, Some, refl, sym, ap, ◌∙◌, append_assoc, arith}
+use Rattle.std.proofs.Common.{◌≡◌, ℕ, ◌<◌, ◌≤◌, ◌^◌, Bool, true, false, cond, eqb, ltb, List, [], ◌∷◌, ◌++◌, length, map, Some, None, refl, sym, ap, ◌∙◌, append_assoc, arith}
 use Rattle.std.specs.Prelude.{◌&&◌, ◌||◌, not, codes, decimal, nat_le, nat_lt}
 use Rattle.std.specs.List.{list_any, list_all}
 use Rattle.std.proofs.lemmas.Bool.Decides.{nat_tests}
@@ -27,7 +27,7 @@ use Rattle.law_script.proofs.PlaceAgain.{lacks_by, flag_list, flags_again, fallb
 use Rattle.law_script.proofs.Solid.{is_solid, is_word}
 use Rattle.law_script.proofs.Tests.{either, both, joint, three_facts, three_false, le_is}
 use Rattle.law_script.proofs.Solid.{not_empty}
-use Rattle.law_script.proofs.ListFacts.{length_map}
+use Rattle.law_items.proofs.ListFacts.{length_map}
 
 -- ---- the bytes of a place
 
@@ -102,7 +102,7 @@ cut_mem_reach Vram r h = cut_append (λ b. eqb b 64) (mem_word Vram) 64 r refl r
 -- a place without a reach
 whole_again : (mem : Mem) (f : Flags) → at_place (cut_at 64 (mem_word mem ++ [])) (Some f) ≡ flagged mem 0 0 f
 whole_again mem f =
-    ap (λ t. at_place (cut_at 64 t) (Some f)) (append-nil (mem_word mem)) ∙ ap (λ ps. at_place ps (Some f)) (cut_mem mem) ∙ ap (λ m. based_place m [] (Some f)) (mem_again mem)
+    ap (λ t. at_place (cut_at 64 t) (Some f)) (append-nil (mem_word mem)) ∙ ap (λ ps. at_place ps (Some f)) (cut_mem mem) ∙ ap (λ m. based_place m None (Some f)) (mem_again mem)
 
 some_pages : (w : Text) → 0 < length w → eqb (length w) 0 ≡ false
 some_pages w h = grind (arith, nat_tests, h)
@@ -114,7 +114,7 @@ reach_again mem x y f s h k right =
     let a : x < 2 ^ 64 = omega (arith, h) in
     let b : y < 2 ^ 64 = omega (arith, k) in
     ap (λ ps. at_place ps (Some f)) (cut_mem_reach mem (pages_word x y) (pages_lack_at x y a b))
-    ∙ ap (λ m. based_place m (pages_word x y ∷ []) (Some f)) (mem_again mem)
+    ∙ ap (λ m. based_place m (Some (pages_word x y)) (Some f)) (mem_again mem)
     ∙ ap (λ ps. reach_place mem ps f) (cut_pages x y a b)
     ∙ ap (λ t. cond t read_as.Malformed (ranged mem (number_in 0 16384 (decimal x)) (number_in 0 16384 (decimal y)) f))
     (three_false (is_system mem) (eqb (length (decimal x)) 0) (eqb (length (decimal y)) 0) s (some_pages (decimal x) (decimal_nonempty x a)) (some_pages (decimal y) (decimal_nonempty y b)))

@@ -37,7 +37,8 @@ byte_chosen c d b true true p q e = ap (λ (n : ℕ). Some n) e
 byte_chosen c d b false y p q e = absurd cc
 byte_chosen c d b true false p q e = absurd cc
 
-byte_again : (b : ℕ) → is_byte b ≡ true → byte_in_hex (hex_byte b) ≡ Some b
+-- a byte is read
+pub byte_again : (b : ℕ) → is_byte b ≡ true → byte_in_hex (hex_byte b) ≡ Some b
 byte_again b h =
     let small = le_is b 255 h in
     let high = digit_again (b / 16) (omega (arith, small)) in
@@ -149,7 +150,7 @@ none_sign (w ∷ ws) h =
     ap (λ b. b || list_any is_semicolon ws) (small_no_sign w f.0) ∙ none_sign ws f.1
 
 -- groups of small words are cut again
-parted_cut : (g : List Text) (gs : List (List Text)) → list_all (list_all is_small) (g ∷ gs) ≡ true → cut_by is_semicolon (parted (g ∷ gs)) ≡ g ∷ gs
+pub parted_cut : (g : List Text) (gs : List (List Text)) → list_all (list_all is_small) (g ∷ gs) ≡ true → cut_by is_semicolon (parted (g ∷ gs)) ≡ g ∷ gs
 parted_cut g [] h = cut_free is_semicolon g (none_sign g (both (list_all is_small g) true h).0)
 parted_cut g (k ∷ gs) h =
     let f = both (list_all is_small g) (list_all (list_all is_small) (k ∷ gs)) h in
@@ -159,7 +160,8 @@ all_words : (ws : List Text) → list_all is_small ws ≡ true → list_all is_w
 all_words [] h = refl
 all_words (w ∷ ws) h = let f = both (is_small w) (list_all is_small ws) h in joint (is_word w) (list_all is_word ws) (small_word w f.0) (all_words ws f.1)
 
-parted_words : (gs : List (List Text)) → list_all (list_all is_small) gs ≡ true → list_all is_word (parted gs) ≡ true
+-- groups of small words are words
+pub parted_words : (gs : List (List Text)) → list_all (list_all is_small) gs ≡ true → list_all is_word (parted gs) ≡ true
 parted_words [] h = refl
 parted_words (g ∷ []) h = all_words g (both (list_all is_small g) true h).0
 parted_words (g ∷ k ∷ gs) h =

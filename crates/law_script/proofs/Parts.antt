@@ -20,13 +20,16 @@ use Rattle.journal_model.specs.declared.line.EngineWord.{EngineWord}
 use Rattle.journal_model.specs.declared.line.EngineWord.TheVariants as engine_word
 use Rattle.journal_model.specs.declared.line.OpWord.{OpWord}
 use Rattle.journal_model.specs.declared.line.OpWord.TheVariants as op_word
+use Rattle.journal_model.specs.declared.line.VOpWord.{VOpWord}
+use Rattle.journal_model.specs.declared.line.VOpWord.TheVariants as vop_word
+use Rattle.journal_model.specs.declared.line.Access.{Access}
 use Rattle.journal_model.specs.Words.{Text}
 use Rattle.journal_model.specs.CommandRules.{is_between}
 use Rattle.journal_model.specs.Reading.{known, mem_of, names_of, actor_of, engine_word_of}
-use Rattle.journal_model.specs.LineWords.{keyword_of, version_line, vram_line, size_line, has_head_words, buffer_head_of, lists_line, buffer_line_of, alone, is_no_actor, turn_line_of, plain_line, write_line, read_line, move_line, touch_line, is_no_op, op_words_of, submit_line, parts_of, is_empty, line_of}
-use Rattle.journal_model.specs.LineRules.{is_broken_place, is_no_place, is_no_list, may_force, is_broken_actor, is_missing_actor, is_broken_engine, is_missing_engine, lacks_number_in_head, lacks_number_in_op, lacks_name_in_op, lacks_byte_in_op, are_wrong_bytes}
+use Rattle.journal_model.specs.LineWords.{keyword_of, version_line, vram_line, size_line, has_head_words, buffer_head_of, lists_line, buffer_line_of, alone, is_no_actor, turn_line_of, plain_line, write_line, read_line, move_line, touch_line, is_no_op, op_words_of, submit_line, named_line, vmap_line, vunmap_line, is_no_vop, vop_words_of, vsubmit_line, parts_of, is_empty, line_of}
+use Rattle.journal_model.specs.LineRules.{is_broken_place, is_no_place, is_no_list, may_force, is_broken_actor, is_missing_actor, is_broken_engine, is_missing_engine, lacks_number_in_head, lacks_number_in_op, lacks_name_in_op, lacks_byte_in_op, lacks_number_in_vop, lacks_byte_in_vop, are_wrong_bytes}
 use Rattle.journal_model.specs.FirstFault.{first_word}
-use Rattle.law_script.specs.LineParts.{says_place, says_actor, says_engine, has_head_parts, has_op_parts, has_all_parts, LinesHaveAllParts}
+use Rattle.law_script.specs.LineParts.{says_place, says_actor, says_engine, has_head_parts, has_op_parts, has_vop_parts, has_all_parts, LinesHaveAllParts}
 use Rattle.law_script.proofs.LineLaws.{made, Breaks_none, breaks_none}
 use Rattle.law_script.proofs.SubmitLaws.{IsGood, AreGood, first_good, others_good}
 use Rattle.law_script.proofs.Tests.{not_true, either, joint}
@@ -37,6 +40,7 @@ use Rattle.law_script.proofs.Tests.{not_true, either, joint}
 abbrev is_formed : Line → Bool
 is_formed (says.Turn actors) = not (list_any is_no_actor actors)
 is_formed (says.Submit engine ops) = not (list_any is_no_op ops)
+is_formed (says.Vsubmit engine ops) = not (list_any is_no_vop ops)
 is_formed _ = true
 
 -- where there is a line
@@ -88,13 +92,13 @@ plain_formed : (names : List Text) (v : Verb) (ws : List Text) → makes_formed 
 plain_formed names v (w ∷ b ∷ []) = refl
 plain_formed names v _ = refl
 
-write_formed : (names ws : List Text) → makes_formed (write_line names ws) ≡ true
-write_formed names (w ∷ b ∷ off ∷ bytes ∷ []) = refl
-write_formed names _ = refl
+write_formed : (how : Access) (names ws : List Text) → makes_formed (write_line how names ws) ≡ true
+write_formed how names (w ∷ b ∷ off ∷ bytes ∷ []) = refl
+write_formed how names _ = refl
 
-read_formed : (names ws : List Text) → makes_formed (read_line names ws) ≡ true
-read_formed names (w ∷ b ∷ off ∷ len ∷ []) = refl
-read_formed names _ = refl
+read_formed : (how : Access) (names ws : List Text) → makes_formed (read_line how names ws) ≡ true
+read_formed how names (w ∷ b ∷ off ∷ len ∷ []) = refl
+read_formed how names _ = refl
 
 moved : (b : Option BufId) (mem : Option Mem) → makes_formed (option_map (λ m. says.Move b m) mem) ≡ true
 moved b (Some mem) = refl
@@ -116,6 +120,26 @@ submit_formed : (names : List Text) (engines : ℕ) (ws : List Text) → makes_f
 submit_formed names engines (w ∷ engine ∷ ws) = let ops = op_words_of names ws in ops_formed (list_any is_no_op ops) (engine_word_of engines engine) ops refl
 submit_formed names engines _ = refl
 
+named_formed : (sized : Option BufId → Line) (names ws : List Text) → ((b : Option BufId) → is_formed (sized b) ≡ true) → makes_formed (named_line sized names ws) ≡ true
+named_formed sized names (w ∷ b ∷ []) h = h _
+named_formed sized names _ h = refl
+
+vmap_formed : (names ws : List Text) → makes_formed (vmap_line names ws) ≡ true
+vmap_formed names (w ∷ va ∷ n ∷ b ∷ off ∷ []) = refl
+vmap_formed names _ = refl
+
+vunmap_formed : (ws : List Text) → makes_formed (vunmap_line ws) ≡ true
+vunmap_formed (w ∷ va ∷ n ∷ []) = refl
+vunmap_formed _ = refl
+
+vops_formed : (bad : Bool) (engine : EngineWord) (ops : List VOpWord) → list_any is_no_vop ops ≡ bad → makes_formed (cond bad None (made (says.Vsubmit engine ops))) ≡ true
+vops_formed true engine ops h = refl
+vops_formed false engine ops h = ap not h
+
+vsubmit_formed : (engines : ℕ) (ws : List Text) → makes_formed (vsubmit_line engines ws) ≡ true
+vsubmit_formed engines (w ∷ engine ∷ ws) = let ops = vop_words_of ws in vops_formed (list_any is_no_vop ops) (engine_word_of engines engine) ops refl
+vsubmit_formed engines _ = refl
+
 parts_formed : (s : Script) (k : Keyword) (ws : List Text) → makes_formed (parts_of s k ws) ≡ true
 parts_formed s key.Ttm ws = version_formed ws
 parts_formed s key.Vram ws = vram_formed ws
@@ -128,11 +152,16 @@ parts_formed s key.Thread ws = alone_formed says.Thread ws refl
 parts_formed s key.Schedule ws = turn_formed (length s.threads) s.sizes.engines ws
 parts_formed s key.End ws = alone_formed says.End ws refl
 parts_formed s (key.Plain v) ws = plain_formed (names_of s.buffers) v ws
-parts_formed s key.Write ws = write_formed (names_of s.buffers) ws
-parts_formed s key.Read ws = read_formed (names_of s.buffers) ws
+parts_formed s (key.Write how) ws = write_formed how (names_of s.buffers) ws
+parts_formed s (key.Read how) ws = read_formed how (names_of s.buffers) ws
 parts_formed s key.Move ws = move_formed (names_of s.buffers) ws
 parts_formed s key.Touch ws = touch_formed ws
 parts_formed s key.Submit ws = submit_formed (names_of s.buffers) s.sizes.engines ws
+parts_formed s key.Map ws = named_formed says.Map (names_of s.buffers) ws (λ b. refl)
+parts_formed s key.Unmap ws = named_formed says.Unmap (names_of s.buffers) ws (λ b. refl)
+parts_formed s key.Vmap ws = vmap_formed (names_of s.buffers) ws
+parts_formed s key.Vunmap ws = vunmap_formed ws
+parts_formed s key.Vsubmit ws = vsubmit_formed s.sizes.engines ws
 parts_formed s key.Other ws = refl
 
 line_formed : (s : Script) (k : Keyword) (ws : List Text) → makes_formed (line_of s k ws) ≡ true
@@ -205,6 +234,21 @@ bytes_there None h = absurd cc
 list_whole : (most : ℕ) (xs : List PlaceWord) → list_any is_broken_place xs ≡ false → is_no_list most xs ≡ false → list_all says_place xs ≡ true
 list_whole most xs a b = places_whole xs a (either (list_any is_no_place xs) (not (is_between 1 most (length xs))) b).0
 
+vop_tested : (x : VOpWord) → is_no_vop x ≡ false → lacks_number_in_vop x ≡ false → lacks_byte_in_vop x ≡ false → has_vop_parts x ≡ true
+vop_tested (vop_word.Fill (Some addr) (Some len) (Some byte)) a b d = refl
+vop_tested (vop_word.Copy (Some addr) (Some from) (Some len)) a b d = refl
+vop_tested (vop_word.Xor (Some addr) (Some from) (Some len)) a b d = refl
+vop_tested (vop_word.Probe (Some addr) (Some len)) a b d = refl
+vop_tested _ a b d = absurd cc
+
+vops_whole : (xs : List VOpWord) → list_any is_no_vop xs ≡ false → list_any lacks_number_in_vop xs ≡ false → list_any lacks_byte_in_vop xs ≡ false → list_all has_vop_parts xs ≡ true
+vops_whole [] a b d = refl
+vops_whole (x ∷ xs) a b d =
+    let e = either (is_no_vop x) (list_any is_no_vop xs) a in
+    let f = either (lacks_number_in_vop x) (list_any lacks_number_in_vop xs) b in
+    let g = either (lacks_byte_in_vop x) (list_any lacks_byte_in_vop xs) d in
+    joint (has_vop_parts x) (list_all has_vop_parts xs) (vop_tested x e.0 f.0 g.0) (vops_whole xs e.1 f.1 g.1)
+
 -- ---- a line
 
 whole : (p : Progress) (l : Line) → is_formed l ≡ true → Breaks_none p l → has_all_parts l ≡ true
@@ -228,14 +272,24 @@ whole p says.Thread f b = refl
 whole p (says.Turn actors) f b = actors_whole actors (not_true (list_any is_no_actor actors) f) b.numbers b.actors
 whole p says.End f b = refl
 whole p (says.Plain verb c) f b = there c b.names
-whole p (says.Write c off bytes) f b = three_parts c off bytes b.names b.numbers (bytes_there bytes b.bytes)
-whole p (says.Read c off len) f b = let n = either (is_none off) (is_none len) b.numbers in three_parts c off len b.names n.0 n.1
+whole p (says.Write how c off bytes) f b = three_parts c off bytes b.names b.numbers (bytes_there bytes b.bytes)
+whole p (says.Read how c off len) f b = let n = either (is_none off) (is_none len) b.numbers in three_parts c off len b.names n.0 n.1
 whole p (says.Move c mem) f b = there c b.names
 whole p (says.Touch group) f b = there group b.numbers
 whole p (says.Submit engine ops) f b =
     let n = either (is_broken_engine engine) (list_any lacks_number_in_op ops) b.numbers in
     let good : AreGood ops = record { shape = not_true (list_any is_no_op ops) f; numbers = n.1; names = b.names; bytes = b.bytes } in
     joint (says_engine engine) (list_all has_op_parts ops) (engine_whole engine n.0 b.actors) (ops_whole ops good)
+whole p (says.Map c) f b = there c b.names
+whole p (says.Unmap c) f b = there c b.names
+whole p (says.Vmap va n c off) f b =
+    let k = either (is_none va || is_none n) (is_none off) b.numbers in
+    let m = either (is_none va) (is_none n) k.0 in
+    joint (is_some va && is_some n && is_some c) (is_some off) (three_parts va n c m.0 m.1 b.names) (there off k.1)
+whole p (says.Vunmap va n) f b = let m = either (is_none va) (is_none n) b.numbers in two_parts va n m.0 m.1
+whole p (says.Vsubmit engine ops) f b =
+    let n = either (is_broken_engine engine) (list_any lacks_number_in_vop ops) b.numbers in
+    joint (says_engine engine) (list_all has_vop_parts ops) (engine_whole engine n.0 b.actors) (vops_whole ops (not_true (list_any is_no_vop ops) f) n.1 b.bytes)
 
 -- a line that breaks no rule has all its parts
 pub lines_have_all_parts : LinesHaveAllParts

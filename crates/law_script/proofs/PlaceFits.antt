@@ -1,7 +1,7 @@
 -- Places that were read keep their rules.
 use Rattle.std.proofs.Common.{◌≡◌, ℕ, ◌<◌, ◌≤◌, Bool, true, false, cond, eqb, ltb, List, [], ◌∷◌, ◌++◌, length, map, filter, take, drop, Option, Some, None, refl, sym, ap, subst, ◌∙◌, arith, bytes_eq}
 use Rattle.std.specs.Prelude.{◌&&◌, ◌||◌, not, codes, nat_le, nat_lt}
-use Rattle.std.specs.List.{list_any, list_all}
+use Rattle.std.specs.List.{list_any, list_all, join_with_byte}
 use Rattle.std.proofs.lemmas.Bool.Decides.{nat_tests}
 use Rattle.std.proofs.lemmas.List.Folds.{list_all-append}
 use Rattle.ttm_base.specs.declared.Mem.{Mem}
@@ -15,7 +15,7 @@ use Rattle.journal_model.specs.Words.{Text}
 use Rattle.journal_model.specs.Cut.{cut_at}
 use Rattle.journal_model.specs.CommandRules.{is_between}
 use Rattle.journal_model.specs.ScriptRules.{is_place_of, is_place, is_flagged, is_old_list, is_new_list, is_place_list}
-use Rattle.journal_model.specs.Reading.{number_in, mem_of, last_flags_of, contig_flags_of, flags_of, flagged, ranged, is_system, reach_place, based_place, at_place, plus_place, place_word_of, places_of}
+use Rattle.journal_model.specs.Reading.{number_in, mem_of, last_flags_of, contig_flags_of, flags_of, flagged, ranged, is_system, reach_place, based_place, reach_of, at_place, plus_place, place_word_of, places_of}
 use Rattle.journal_model.specs.LineRules.{is_no_place, is_broken_place, may_force, is_no_list}
 use Rattle.journal_model.specs.FirstFault.{or_zero, place_in, wanted, taken_under_pressure}
 use Rattle.law_script.proofs.PlaceLaws.{is, some_flags, flag_made, chosen}
@@ -23,7 +23,7 @@ use Rattle.law_script.proofs.HeadLaws.{good_place}
 use Rattle.law_script.proofs.BufferLaws.{bare, first_of, forced_of}
 use Rattle.law_script.proofs.CommandFits.{number_small}
 use Rattle.law_script.proofs.CommandSteps.{not_false}
-use Rattle.law_script.proofs.ListFacts.{length_map}
+use Rattle.law_items.proofs.ListFacts.{length_map}
 use Rattle.law_script.proofs.Tests.{either, both, joint, three, four, is_le, lt_is}
 
 -- ---- at most one flag
@@ -102,18 +102,16 @@ reach_fits mem (first ∷ last ∷ []) f place one h =
     ranged_fits mem (number_in 0 16384 first) (number_in 0 16384 last) f place one (either (is_system mem) (eqb (length first) 0) s.0).0 (number_small 0 16384 first) (number_small 0 16384 last) o.1
 reach_fits mem (first ∷ last ∷ x ∷ xs) f place one h = absurd cc
 
-based_fits : (two : Bool) (reach flags : List Text) (mo : Option Mem) (fo : Option Flags) (place : FlaggedPlace) → flags_of two flags ≡ fo → based_place mo reach fo ≡ is place → is_flagged place ≡ true
+based_fits : (two : Bool) (words flags : List Text) (mo : Option Mem) (fo : Option Flags) (place : FlaggedPlace) → flags_of two flags ≡ fo → based_place mo (reach_of words) fo ≡ is place → is_flagged place ≡ true
 based_fits two [] flags (Some mem) (Some f) place q h = flagged_fits mem 0 0 f place (one_flags two flags f q) (whole_fits mem f.topdown f.contig) h
-based_fits two (r ∷ []) flags (Some mem) (Some f) place q h = reach_fits mem (cut_at 45 r) f place (one_flags two flags f q) h
-based_fits two (r ∷ s ∷ rs) flags (Some mem) (Some f) place q h = absurd cc
+based_fits two (r ∷ rs) flags (Some mem) (Some f) place q h = reach_fits mem (cut_at 45 (join_with_byte 64 (r ∷ rs))) f place (one_flags two flags f q) h
 based_fits two [] flags (Some mem) None place q h = absurd cc
-based_fits two (r ∷ []) flags (Some mem) None place q h = absurd cc
-based_fits two (r ∷ s ∷ rs) flags (Some mem) None place q h = absurd cc
-based_fits two reach flags None fo place q h = absurd cc
+based_fits two (r ∷ rs) flags (Some mem) None place q h = absurd cc
+based_fits two words flags None fo place q h = absurd cc
 
 at_fits : (two : Bool) (parts flags : List Text) (place : FlaggedPlace) → at_place parts (flags_of two flags) ≡ is place → is_flagged place ≡ true
 at_fits two [] flags place h = absurd cc
-at_fits two (m ∷ reach) flags place h = based_fits two reach flags (mem_of m) (flags_of two flags) place refl h
+at_fits two (m ∷ words) flags place h = based_fits two words flags (mem_of m) (flags_of two flags) place refl h
 
 plus_fits : (two : Bool) (parts : List Text) (place : FlaggedPlace) → plus_place two parts ≡ is place → is_flagged place ≡ true
 plus_fits two [] place h = absurd cc

@@ -12,7 +12,7 @@ use Rattle.journal_model.specs.declared.line.PlaceWord.TheVariants as place_word
 use Rattle.journal_model.specs.Words.{Text, mem_word}
 use Rattle.journal_model.specs.Cut.{cut_at}
 use Rattle.journal_model.specs.Spelling.{flag, reach_word, flagged_word}
-use Rattle.journal_model.specs.Reading.{number_in, mem_of, last_flags_of, contig_flags_of, flags_of, flagged, ranged, is_system, reach_place, based_place, at_place, plus_place, place_word_of}
+use Rattle.journal_model.specs.Reading.{number_in, mem_of, last_flags_of, contig_flags_of, flags_of, flagged, ranged, is_system, reach_place, based_place, reach_of, at_place, plus_place, place_word_of}
 use Rattle.law_script.proofs.CutLaws.{joined}
 use Rattle.law_script.proofs.NumberLaws.{number_takes}
 use Rattle.law_script.proofs.WordLaws.{bytes_are, mem_is, IsMemOf}
@@ -159,23 +159,22 @@ reach_is mem (first ∷ last ∷ []) f place h =
     ranged_is mem first last (number_in 0 16384 first) (number_in 0 16384 last) f place refl refl (unless (is_system mem || (eqb (length first) 0) || (eqb (length last) 0)) _ place h)
 reach_is mem (first ∷ last ∷ x ∷ xs) f place h = absurd cc
 
-based_is : (two : Bool) (m : Text) (reach flags : List Text) (mo : Option Mem) (fo : Option Flags) (place : FlaggedPlace) → mem_of m ≡ mo → flags_of two flags ≡ fo → based_place mo reach fo ≡ is place
-    → flagged_word place ≡ join_with_byte 64 (m ∷ reach) ++ tail flags
+based_is : (two : Bool) (m : Text) (words flags : List Text) (mo : Option Mem) (fo : Option Flags) (place : FlaggedPlace) → mem_of m ≡ mo → flags_of two flags ≡ fo → based_place mo (reach_of words) fo ≡ is place
+    → flagged_word place ≡ join_with_byte 64 (m ∷ words) ++ tail flags
 based_is two m [] flags (Some mem) (Some f) place p q h =
     let word : m ≡ mem_word mem = subst (IsMemOf m) p (mem_is m) in
     regroup mem 0 0 f place h ∙ ap (λ t. t ++ all_flags f) (append-nil (mem_word mem) ∙ sym word) ∙ ap (λ t. m ++ t) (sym (flags_are two flags f q))
-based_is two m (r ∷ []) flags (Some mem) (Some f) place p q h =
+based_is two m (r ∷ rs) flags (Some mem) (Some f) place p q h =
     let word : m ≡ mem_word mem = subst (IsMemOf m) p (mem_is m) in
-    reach_is mem (cut_at 45 r) f place h ∙ ap (λ t. (mem_word mem ++ 64 ∷ t) ++ all_flags f) (joined 45 r) ∙ ap (λ t. (t ++ 64 ∷ r) ++ all_flags f) (sym word) ∙ ap (λ t. (m ++ 64 ∷ r) ++ t) (sym (flags_are two flags f q))
-based_is two m (r ∷ s ∷ rs) flags (Some mem) (Some f) place p q h = absurd cc
+    let reach = join_with_byte 64 (r ∷ rs) in
+    reach_is mem (cut_at 45 reach) f place h ∙ ap (λ t. (mem_word mem ++ 64 ∷ t) ++ all_flags f) (joined 45 reach) ∙ ap (λ t. (t ++ 64 ∷ reach) ++ all_flags f) (sym word) ∙ ap (λ t. (m ++ 64 ∷ reach) ++ t) (sym (flags_are two flags f q))
 based_is two m [] flags (Some mem) None place p q h = absurd cc
-based_is two m (r ∷ []) flags (Some mem) None place p q h = absurd cc
-based_is two m (r ∷ s ∷ rs) flags (Some mem) None place p q h = absurd cc
-based_is two m reach flags None fo place p q h = absurd cc
+based_is two m (r ∷ rs) flags (Some mem) None place p q h = absurd cc
+based_is two m words flags None fo place p q h = absurd cc
 
 at_is : (two : Bool) (parts flags : List Text) (place : FlaggedPlace) → at_place parts (flags_of two flags) ≡ is place → flagged_word place ≡ join_with_byte 64 parts ++ tail flags
 at_is two [] flags place h = absurd cc
-at_is two (m ∷ reach) flags place h = based_is two m reach flags (mem_of m) (flags_of two flags) place refl refl h
+at_is two (m ∷ words) flags place h = based_is two m words flags (mem_of m) (flags_of two flags) place refl refl h
 
 plus_is : (two : Bool) (parts : List Text) (place : FlaggedPlace) → plus_place two parts ≡ is place → flagged_word place ≡ join_with_byte 43 parts
 plus_is two [] place h = absurd cc

@@ -1,6 +1,6 @@
 -- The bytes of a script say that script.
-use Rattle.std.proofs.Common.{◌≡◌, ℕ, suc, ◌+◌, ◌<◌, ◌≤◌, ◌^◌, Bool, true, false, cond, eqb, List, [], ◌∷◌, ◌++◌, length, Option, Some, Ok, Err, refl, sym, ap, subst, ◌∙◌, append_assoc, arith, bytes_eq, inl, inr}
-use Rattle.std.specs.Prelude.{◌&&◌, ◌||◌, ◌-◌, not, codes, decimal, flat_map, sum_by, nat_le, nat_lt, IsTrue, unwrap_or, slice_get}
+use Rattle.std.proofs.Common.{◌≡◌, ℕ, ◌<◌, ◌≤◌, ◌^◌, Bool, true, false, cond, List, [], ◌∷◌, ◌++◌, length, map, Option, Some, Ok, Err, refl, sym, ap, subst, ◌∙◌, append_assoc, arith, bytes_eq, inl, inr}
+use Rattle.std.specs.Prelude.{◌&&◌, ◌||◌, not, codes, decimal, flat_map, sum_by, nat_le, nat_lt, IsTrue}
 use Rattle.std.specs.List.{list_any, list_all}
 use Rattle.std.proofs.lemmas.Bool.Decides.{nat_tests}
 use Rattle.std.proofs.lemmas.List.{append-nil}
@@ -9,7 +9,6 @@ use Rattle.ttm_base.specs.declared.Actor.{Actor}
 use Rattle.journal_model.specs.declared.script.Script.{Script}
 use Rattle.journal_model.specs.declared.script.Sizes.{Sizes}
 use Rattle.journal_model.specs.declared.script.Decl.{Decl}
-use Rattle.journal_model.specs.declared.script.Command.{Command}
 use Rattle.journal_model.specs.declared.line.Progress.{Progress}
 use Rattle.journal_model.specs.declared.line.Phase.TheVariants as phase
 use Rattle.journal_model.specs.declared.line.Keyword.{Keyword}
@@ -20,10 +19,7 @@ use Rattle.journal_model.specs.Words.{Text, line}
 use Rattle.journal_model.specs.Cut.{lines_of}
 use Rattle.journal_model.specs.Spelling.{buffer_line, turn_line}
 use Rattle.journal_model.specs.CommandRules.{is_between, is_command, command_len}
-use Rattle.journal_model.specs.MarkRules.{have_marks, has_few_lines, are_in_order, is_in_thread}
-use Rattle.journal_model.specs.Commands.{commands_of}
-use Rattle.ttm_base.specs.ListWords.{count_from}
-use Rattle.journal_model.specs.Complete.{thread_numbers}
+use Rattle.journal_model.specs.MarkRules.{have_marks}
 use Rattle.journal_model.specs.ScriptRules.{has_sizes, is_decl, has_distinct_names, same_text, is_turn_line, is_script}
 use Rattle.journal_model.specs.Reading.{names_of, number_in}
 use Rattle.journal_model.specs.LineWords.{keyword_of, may_come, parts_of}
@@ -34,12 +30,16 @@ use Rattle.law_script.proofs.LineLaws.{made, Breaks_none}
 use Rattle.law_script.proofs.AgainLaws.{turned}
 use Rattle.law_script.proofs.BufferSteps.{same_is}
 use Rattle.law_script.proofs.HeadSteps.{at, kind_word, sizes_fit}
-use Rattle.law_script.proofs.Sound.{frame, first, second, third, fourth, fifth, sixth, six, thread_text, body}
-use Rattle.law_script.proofs.ListFacts.{has_few}
+use Rattle.law_items.specs.Items.{Item, ComesFrom, commands_in, numbered, with_items, items_text, items_fit}
+use Rattle.law_items.proofs.Puts.{comes_is, lists_len}
+use Rattle.law_items.proofs.ListFacts.{has_few}
+use Rattle.law_items.proofs.FromMarks.{items_of_marks}
+use Rattle.law_script.proofs.Asked.{fit_asked, asked_long}
+use Rattle.law_script.proofs.Sound.{frame, first, second, third, fourth, fifth, sixth, six, body}
 use Rattle.law_script.proofs.ThreadsAgain.{threads_run, turns_run, end_runs}
 use Rattle.law_script.proofs.BufferAgain.{MayDeclare, decl_is, buffer_runs, one_or_two}
 use Rattle.law_script.proofs.LineRuns.{Runs, runs_none, runs_both, line_runs, says, keeps_all}
-use Rattle.law_script.proofs.Unmarked.{plain_spelling}
+use Rattle.law_script.proofs.TakesScript.{spelled_by}
 use Rattle.law_script.proofs.Solid.{is_word, small_word, number_small_word}
 use Rattle.law_script.proofs.Tests.{not_true, either, both, joint, le_is}
 use Rattle.law_script.proofs.HeadSteps.{one}
@@ -48,8 +48,8 @@ use Rattle.law_script.proofs.ThreadsAgain.{shorter}
 
 -- ---- a script by its parts
 
-abbrev made_of : ℕ → Sizes → List Decl → List (List Command) → List (List Actor) → Script
-made_of v sizes buffers threads turns = record { version = v; sizes = sizes; buffers = buffers; threads = threads; turns = turns; marks = [] }
+abbrev made_of : ℕ → Sizes → List Decl → List (List Item) → List (List Actor) → Script
+made_of v sizes buffers lists turns = record { version = v; sizes = sizes; buffers = buffers; threads = map commands_in lists; turns = turns; marks = numbered 1 lists }
 
 -- ---- the head
 
@@ -74,7 +74,7 @@ number_solid : (n high : ℕ) → high < 2 ^ 64 → n ≤ high → is_word (deci
 number_solid n high small h = small_word (decimal n) (number_small_word n (omega (arith, small, h)))
 
 -- a keyword and a number
-size_runs : (p : Progress) (k : Keyword) (w : Text) (n high : ℕ) (sized : Option ℕ → Line) → high < 2 ^ 64 → n ≤ high → keyword_of w ≡ k → may_come p.phase k ≡ true → is_word w ≡ true
+size_runs : (p : Progress) (k : Keyword) (w : Text) (n high : ℕ) (sized : Option ℕ → Line) → high < 2 ^ 64 → n ≤ high → keyword_of w ≡ k → may_come p.script.version p.phase k ≡ true → is_word w ≡ true
     → ((x : Text) → parts_of p.script k (w ∷ x ∷ []) ≡ made (sized (number_in 0 high x))) → Breaks_none p (sized (Some n)) → Runs p (line (w ∷ decimal n ∷ [])) (with_line p (sized (Some n)))
 size_runs p k w n high sized small h e c solid parts r =
     let words = joint (is_word w) _ solid (joint (is_word (decimal n)) true (number_solid n high small h) refl) in
@@ -86,36 +86,36 @@ vram_runs s true n h =
     let p = at phase.Vram s 0 0 in
     let l = line_of.Vram true (Some n) in
     let words = joint true _ refl (joint true _ refl (joint (is_word (decimal n)) true (number_solid n 16384 (omega arith) h) refl)) in
-    let r : Breaks_none p l = record { numbers = refl; names = refl; places = refl; ranges = refl; bytes = refl; jobs = refl; actors = refl; counts = refl; lens = refl } in
+    let r : Breaks_none p l = record { numbers = refl; names = refl; places = refl; ranges = refl; bytes = refl; jobs = refl; actors = refl; counts = refl; lens = refl; maps = refl; pages = refl } in
     line_runs p (with_line p l) (codes "vram") (codes "buddy" ∷ decimal n ∷ []) words
     (says p key.Vram (codes "vram" ∷ codes "buddy" ∷ decimal n ∷ []) l refl refl words (ap (λ x. made (line_of.Vram true x)) (number_again 0 16384 n (omega arith) (omega arith) h)) (keeps_all p l r))
 vram_runs s false n h =
     let p = at phase.Vram s 0 0 in
     let l = line_of.Vram false (Some n) in
     let words = joint true _ refl (joint true _ refl (joint (is_word (decimal n)) true (number_solid n 16384 (omega arith) h) refl)) in
-    let r : Breaks_none p l = record { numbers = refl; names = refl; places = refl; ranges = refl; bytes = refl; jobs = refl; actors = refl; counts = refl; lens = refl } in
+    let r : Breaks_none p l = record { numbers = refl; names = refl; places = refl; ranges = refl; bytes = refl; jobs = refl; actors = refl; counts = refl; lens = refl; maps = refl; pages = refl } in
     line_runs p (with_line p l) (codes "vram") (codes "range" ∷ decimal n ∷ []) words
     (says p key.Vram (codes "vram" ∷ codes "range" ∷ decimal n ∷ []) l refl refl words (ap (λ x. made (line_of.Vram false x)) (number_again 0 16384 n (omega arith) (omega arith) h)) (keeps_all p l r))
 
 tt_runs : (s : Script) (n : ℕ) → n ≤ 16384 → Runs (at phase.Tt s 0 0) (line (codes "tt" ∷ decimal n ∷ [])) (at phase.Frames (record s { sizes = record (s.sizes) { tt = n } }) 0 0)
 tt_runs s n h =
     size_runs (at phase.Tt s 0 0) key.Tt (codes "tt") n 16384 (λ x. line_of.Tt x) (omega arith) h refl refl refl (λ x. refl)
-    (record { numbers = refl; names = refl; places = refl; ranges = refl; bytes = refl; jobs = refl; actors = refl; counts = refl; lens = refl })
+    (record { numbers = refl; names = refl; places = refl; ranges = refl; bytes = refl; jobs = refl; actors = refl; counts = refl; lens = refl; maps = refl; pages = refl })
 
 frames_runs : (s : Script) (n : ℕ) → n ≤ 16384 → Runs (at phase.Frames s 0 0) (line (codes "frames" ∷ decimal n ∷ [])) (at phase.Swap (record s { sizes = record (s.sizes) { frames = n } }) 0 0)
 frames_runs s n h =
     size_runs (at phase.Frames s 0 0) key.Frames (codes "frames") n 16384 (λ x. line_of.Frames x) (omega arith) h refl refl refl (λ x. refl)
-    (record { numbers = refl; names = refl; places = refl; ranges = refl; bytes = refl; jobs = refl; actors = refl; counts = refl; lens = refl })
+    (record { numbers = refl; names = refl; places = refl; ranges = refl; bytes = refl; jobs = refl; actors = refl; counts = refl; lens = refl; maps = refl; pages = refl })
 
 swap_runs : (s : Script) (n : ℕ) → n ≤ 32768 → Runs (at phase.Swap s 0 0) (line (codes "swap" ∷ decimal n ∷ [])) (at phase.Engines (record s { sizes = record (s.sizes) { swap = n } }) 0 0)
 swap_runs s n h =
     size_runs (at phase.Swap s 0 0) key.Swap (codes "swap") n 32768 (λ x. line_of.Swap x) (omega arith) h refl refl refl (λ x. refl)
-    (record { numbers = refl; names = refl; places = refl; ranges = refl; bytes = refl; jobs = refl; actors = refl; counts = refl; lens = refl })
+    (record { numbers = refl; names = refl; places = refl; ranges = refl; bytes = refl; jobs = refl; actors = refl; counts = refl; lens = refl; maps = refl; pages = refl })
 
 engines_runs : (s : Script) (n : ℕ) → n ≤ 8 → Runs (at phase.Engines s 0 0) (line (codes "engines" ∷ decimal n ∷ [])) (at phase.Buffers (record s { sizes = record (s.sizes) { engines = n } }) 0 0)
 engines_runs s n h =
     size_runs (at phase.Engines s 0 0) key.Engines (codes "engines") n 8 (λ x. line_of.Engines x) (omega arith) h refl refl refl (λ x. refl)
-    (record { numbers = refl; names = refl; places = refl; ranges = refl; bytes = refl; jobs = refl; actors = refl; counts = refl; lens = refl })
+    (record { numbers = refl; names = refl; places = refl; ranges = refl; bytes = refl; jobs = refl; actors = refl; counts = refl; lens = refl; maps = refl; pages = refl })
 
 head_runs : (s : Script) → is_between 1 2 s.version ≡ true → has_sizes s ≡ true → Runs nothing_read (six s) (at phase.Buffers (made_of s.version s.sizes [] [] []) 0 0)
 head_runs s v h =
@@ -205,44 +205,11 @@ facts_of s h =
     (nat_le (length s.threads) 16) (list_all (list_all (is_command s)) s.threads) (nat_le (sum_by (sum_by command_len) s.threads) 67108864) (list_all (is_turn_line s) s.turns) (have_marks s) h in
     record { version = f.0; sizes = f.1; few_buffers = f.2; decls = f.3; names = f.4; few_threads = f.5; commands = f.6; short = f.7; turns = f.8; marks = f.9 }
 
--- ---- each thread has few lines
-
-few_from : (ts : List (List Command)) (k : ℕ) (p : ℕ → Bool) → ((i : ℕ) → p (k + i) ≡ true → has_few (unwrap_or (slice_get ts i) []) ≡ true) → list_all p (count_from 1 (length ts) k) ≡ true → list_all has_few ts ≡ true
-few_from [] k p f h = refl
-few_from (cs ∷ ts) k p f h =
-    let g = both (p k) (list_all p (count_from 1 (length ts) (1 + k))) h in
-    let zero_more : k ≡ k + 0 = omega arith in
-    let next : (i : ℕ) → 1 + k + i ≡ k + suc i = λ i. omega arith in
-    joint (has_few cs) (list_all has_few ts) (f 0 (sym (ap p zero_more) ∙ g.0)) (few_from ts (1 + k) p (λ i e. f (suc i) (sym (ap p (next i)) ∙ e)) g.1)
-
-not_zero : (i : ℕ) → eqb (1 + i) 0 ≡ false
-not_zero i = grind (arith, nat_tests)
-
-less_in : (a b : ℕ) → nat_le (a + b) 4096 ≡ true → nat_le a 4096 ≡ true
-less_in a b h = grind (arith, nat_tests, h)
-
-few_at : (s : Script) (i : ℕ) → has_few_lines s (1 + i) ≡ true → has_few (unwrap_or (slice_get s.threads i) []) ≡ true
-few_at s i h =
-    let before : 1 + i - 1 ≡ i = omega arith in
-    let commands : commands_of s (1 + i) ≡ unwrap_or (slice_get s.threads i) [] =
-    ap (λ b. cond b [] (unwrap_or (slice_get s.threads (1 + i - 1)) [])) (not_zero i) ∙ ap (λ n. unwrap_or (slice_get s.threads n) []) before in
-    sym (ap has_few commands) ∙ less_in (length (commands_of s (1 + i))) _ h
-
-five : (a b c d e : Bool) → (a && b && c && d && e) ≡ true → d ≡ true
-five true true true true e h = refl
-five false b c d e h = absurd cc
-five true false c d e h = absurd cc
-five true true false d e h = absurd cc
-five true true true false e h = absurd cc
-
-few_each : (s : Script) → have_marks s ≡ true → list_all has_few s.threads ≡ true
-few_each s h =
-    few_from s.threads 1 (has_few_lines s) (few_at s) (five (eqb s.version 2 || eqb (length s.marks) 0) (are_in_order s.marks) (list_all (is_in_thread s) s.marks) (list_all (has_few_lines s) (thread_numbers s)) _ h)
-
 -- ---- the law
 
-all_runs : (s : Script) → Facts s → (n : ℕ) × (m : ℕ) × Runs nothing_read (body s ++ line (codes "end" ∷ [])) (at phase.After (record s { marks = [] }) n m)
-all_runs s f =
+all_runs : (s : Script) (lists : List (List Item)) → Facts s → ComesFrom s lists → list_all has_few lists ≡ true → list_all (items_fit s) lists ≡ true
+    → (n : ℕ) × (m : ℕ) × Runs nothing_read (body s lists ++ line (codes "end" ∷ [])) (at phase.After (with_items s lists) n m)
+all_runs s lists f comes each fit =
     let v = s.version in
     let z = s.sizes in
     let p0 = at phase.Buffers (made_of v z [] [] []) 0 0 in
@@ -252,15 +219,20 @@ all_runs s f =
     let few = le_is z.engines 8 (sizes_fit s f.sizes).engines in
     let small : z.engines < 2 ^ 64 = omega (arith, few) in
     let short = le_is (sum_by (sum_by command_len) s.threads) 67108864 f.short in
-    let threads = threads_run s.threads (made_of v z s.buffers [] []) [] phase.Buffers 0 0 refl refl refl (record { decls = f.decls; distinct_ones = f.names }) small
-    (le_is (length s.threads) 16 f.few_threads) (few_each s f.marks) f.commands (omega (arith, short)) in
-    let p2 = at threads.ph (made_of v z s.buffers s.threads []) threads.n threads.m in
-    let r2 = runs_both nothing_read p1 p2 (six s ++ flat_map (buffer_line v) s.buffers) (flat_map (thread_text (frame s)) s.threads) r1 threads.runs in
+    let long = asked_long lists ∙ ap (sum_by (sum_by command_len)) (sym comes.threads) in
     let count = le_is (length s.threads) 16 f.few_threads in
-    let turns = turns_run s.turns (made_of v z s.buffers s.threads []) [] threads.ph threads.n threads.m threads.schedule threads.last (omega (arith, count)) small f.turns threads.short in
-    let p3 = at turns.ph (made_of v z s.buffers s.threads s.turns) turns.n turns.m in
-    let r3 = runs_both nothing_read p2 p3 (six s ++ flat_map (buffer_line v) s.buffers ++ flat_map (thread_text (frame s)) s.threads) (flat_map turn_line s.turns) r2 turns.runs in
-    (turns.n, turns.m, runs_both nothing_read p3 (at phase.After (record s { marks = [] }) turns.n turns.m) (body s) (line (codes "end" ∷ [])) r3 (end_runs turns.ph (made_of v z s.buffers s.threads s.turns) turns.n turns.m turns.last turns.short))
+    let same = lists_len s lists comes in
+    let asked = fit_asked s lists (ap (list_all (list_all (is_command s))) (sym comes.threads) ∙ f.commands) in
+    let threads = threads_run lists (made_of v z s.buffers [] []) [] phase.Buffers 0 0 refl refl refl (record { decls = f.decls; distinct_ones = f.names }) small
+    (omega (arith, count, same)) each asked fit (omega (arith, short, long)) in
+    let p2 = at threads.ph (made_of v z s.buffers lists []) threads.n threads.m in
+    let r2 = runs_both nothing_read p1 p2 (six s ++ flat_map (buffer_line v) s.buffers) (flat_map (items_text (frame s)) lists) r1 threads.runs in
+    let turned_to = ap length comes.threads in
+    let turns = turns_run s.turns (made_of v z s.buffers lists []) [] threads.ph threads.n threads.m threads.schedule threads.last (omega (arith, count, turned_to)) small
+    (ap (λ ts. list_all (is_turn_line (record s { threads = ts })) s.turns) (sym comes.threads) ∙ f.turns) threads.short in
+    let p3 = at turns.ph (made_of v z s.buffers lists s.turns) turns.n turns.m in
+    let r3 = runs_both nothing_read p2 p3 (six s ++ flat_map (buffer_line v) s.buffers ++ flat_map (items_text (frame s)) lists) (flat_map turn_line s.turns) r2 turns.runs in
+    (turns.n, turns.m, runs_both nothing_read p3 (at phase.After (with_items s lists) turns.n turns.m) (body s lists) (line (codes "end" ∷ [])) r3 (end_runs turns.ph (made_of v z s.buffers lists s.turns) turns.n turns.m turns.last turns.short))
 
 not_more : (n m : ℕ) → m ≤ n → nat_lt n m ≡ false
 not_more n m h = grind (arith, nat_tests)
@@ -271,10 +243,12 @@ true_of b h = h
 -- the spelling of a script says that script
 pub reads_scripts : ReadsScripts
 reads_scripts bytes s h =
-    let f = facts_of s (true_of (is_script s) h.is.fits) in
-    let r = all_runs s f in
-    let text : bytes ≡ (body s ++ line (codes "end" ∷ [])) ++ [] = h.is.spelled ∙ plain_spelling s h.plain ∙ sym (append-nil (body s ++ line (codes "end" ∷ []))) in
-    let read : script_from nothing_read 0 (lines_of ((body s ++ line (codes "end" ∷ [])) ++ [])) ≡ Ok (record s { marks = [] }) = r.2 0 [] (record s { marks = [] }) (λ k. refl) in
-    ap (λ b. cond b (Err (0, 1)) (script_from nothing_read 0 (lines_of bytes))) (not_more 1048576 (length bytes) h.is.short)
+    let f = facts_of s (true_of (is_script s) h.fits) in
+    let i = items_of_marks s f.marks in
+    let r = all_runs s i.lists f i.comes i.few i.fit in
+    let all = body s i.lists ++ line (codes "end" ∷ []) in
+    let text : bytes ≡ all ++ [] = h.spelled ∙ spelled_by s i.lists i.comes i.fit ∙ sym (append-nil all) in
+    let read : script_from nothing_read 0 (lines_of (all ++ [])) ≡ Ok (with_items s i.lists) = r.2 0 [] (with_items s i.lists) (λ k. refl) in
+    ap (λ b. cond b (Err (0, 1)) (script_from nothing_read 0 (lines_of bytes))) (not_more 1048576 (length bytes) h.short)
     ∙ ap (λ t. script_from nothing_read 0 (lines_of t)) text
-    ∙ read ∙ ap (λ ms. Ok (record s { marks = ms })) (sym h.plain)
+    ∙ read ∙ ap (λ x. Ok x) (sym (comes_is s i.lists i.comes))

@@ -48,7 +48,8 @@ byte_pair c d true true p q h = sym (two_digits c d p q)
 byte_pair c d true false p q h = absurd cc
 byte_pair c d false b p q h = absurd cc
 
-byte_word : (w : Text) → is_none (byte_in_hex w) ≡ false → w ≡ hex_byte (or_zero (byte_in_hex w))
+-- a byte is spelled as it was read
+pub byte_word : (w : Text) → is_none (byte_in_hex w) ≡ false → w ≡ hex_byte (or_zero (byte_in_hex w))
 byte_word [] h = absurd cc
 byte_word (c ∷ []) h = absurd cc
 byte_word (c ∷ d ∷ []) h = byte_pair c d (is_hex c) (is_hex d) refl refl h

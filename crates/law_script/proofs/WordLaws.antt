@@ -16,8 +16,9 @@ use Rattle.journal_model.specs.declared.line.Verb.TheVariants as verb
 use Rattle.journal_model.specs.Words.{Text, mem_word, name_of}
 use Rattle.journal_model.specs.Commands.{undeclared}
 use Rattle.journal_model.specs.Reading.{known, names_of, mem_of}
-use Rattle.journal_model.specs.LineWords.{keyword_of, command_keyword_of, verb_of, or_other}
-use Rattle.law_script.proofs.ListFacts.{length_map}
+use Rattle.journal_model.specs.LineWords.{keyword_of, command_keyword_of, mapping_keyword_of, verb_of, or_other}
+use Rattle.journal_model.specs.declared.line.Access.TheVariants as access
+use Rattle.law_items.proofs.ListFacts.{length_map}
 
 -- equal texts are one
 pub bytes_are : (a b : Text) → bytes_eq a b ≡ true → a ≡ b
@@ -51,11 +52,18 @@ IsWordOf w key.Thread = w ≡ codes "thread"
 IsWordOf w key.Schedule = w ≡ codes "schedule"
 IsWordOf w key.End = w ≡ codes "end"
 IsWordOf w (key.Plain v) = w ≡ verb_word v
-IsWordOf w key.Write = w ≡ codes "write"
-IsWordOf w key.Read = w ≡ codes "read"
+IsWordOf w (key.Write access.Direct) = w ≡ codes "write"
+IsWordOf w (key.Write access.Mapped) = w ≡ codes "poke"
+IsWordOf w (key.Read access.Direct) = w ≡ codes "read"
+IsWordOf w (key.Read access.Mapped) = w ≡ codes "peek"
 IsWordOf w key.Move = w ≡ codes "move"
 IsWordOf w key.Touch = w ≡ codes "touch"
 IsWordOf w key.Submit = w ≡ codes "submit"
+IsWordOf w key.Map = w ≡ codes "map"
+IsWordOf w key.Unmap = w ≡ codes "unmap"
+IsWordOf w key.Vmap = w ≡ codes "vmap"
+IsWordOf w key.Vunmap = w ≡ codes "vunmap"
+IsWordOf w key.Vsubmit = w ≡ codes "vsubmit"
 IsWordOf w key.Other = Unit {0}
 
 abbrev IsVerbOf : Text → Option Verb → Type 0
@@ -70,13 +78,23 @@ verb_is w =
     (pick (IsVerbOf w) (bytes_eq w (codes "find")) (Some verb.Find) _ (bytes_are w (codes "find"))
     (pick (IsVerbOf w) (bytes_eq w (codes "swapout")) (Some verb.SwapOut) None (bytes_are w (codes "swapout")) tt)))))
 
+mapping_keyword_is : (w : Text) → IsWordOf w (mapping_keyword_of w)
+mapping_keyword_is w =
+    pick (IsWordOf w) (bytes_eq w (codes "map")) key.Map _ (bytes_are w (codes "map"))
+    (pick (IsWordOf w) (bytes_eq w (codes "unmap")) key.Unmap _ (bytes_are w (codes "unmap"))
+    (pick (IsWordOf w) (bytes_eq w (codes "peek")) (key.Read access.Mapped) _ (bytes_are w (codes "peek"))
+    (pick (IsWordOf w) (bytes_eq w (codes "poke")) (key.Write access.Mapped) _ (bytes_are w (codes "poke"))
+    (pick (IsWordOf w) (bytes_eq w (codes "vmap")) key.Vmap _ (bytes_are w (codes "vmap"))
+    (pick (IsWordOf w) (bytes_eq w (codes "vunmap")) key.Vunmap _ (bytes_are w (codes "vunmap"))
+    (pick (IsWordOf w) (bytes_eq w (codes "vsubmit")) key.Vsubmit _ (bytes_are w (codes "vsubmit")) (verb_is w)))))))
+
 command_keyword_is : (w : Text) → IsWordOf w (command_keyword_of w)
 command_keyword_is w =
-    pick (IsWordOf w) (bytes_eq w (codes "write")) key.Write _ (bytes_are w (codes "write"))
-    (pick (IsWordOf w) (bytes_eq w (codes "read")) key.Read _ (bytes_are w (codes "read"))
+    pick (IsWordOf w) (bytes_eq w (codes "write")) (key.Write access.Direct) _ (bytes_are w (codes "write"))
+    (pick (IsWordOf w) (bytes_eq w (codes "read")) (key.Read access.Direct) _ (bytes_are w (codes "read"))
     (pick (IsWordOf w) (bytes_eq w (codes "move")) key.Move _ (bytes_are w (codes "move"))
     (pick (IsWordOf w) (bytes_eq w (codes "touch")) key.Touch _ (bytes_are w (codes "touch"))
-    (pick (IsWordOf w) (bytes_eq w (codes "submit")) key.Submit _ (bytes_are w (codes "submit")) (verb_is w)))))
+    (pick (IsWordOf w) (bytes_eq w (codes "submit")) key.Submit _ (bytes_are w (codes "submit")) (mapping_keyword_is w)))))
 
 -- a keyword is spelled in one way
 pub keyword_is : (w : Text) → IsWordOf w (keyword_of w)

@@ -14,6 +14,8 @@ use Rattle.journal_model.specs.declared.line.EngineWord.{EngineWord}
 use Rattle.journal_model.specs.declared.line.EngineWord.TheVariants as engine_word
 use Rattle.journal_model.specs.declared.line.OpWord.{OpWord}
 use Rattle.journal_model.specs.declared.line.OpWord.TheVariants as op_word
+use Rattle.journal_model.specs.declared.line.VOpWord.{VOpWord}
+use Rattle.journal_model.specs.declared.line.VOpWord.TheVariants as vop_word
 use Rattle.journal_model.specs.Words.{Text}
 use Rattle.journal_model.specs.LineWords.{keyword_of, line_of}
 use Rattle.journal_model.specs.LineRules.{rule_broken}
@@ -46,6 +48,14 @@ has_op_parts (op_word.Xor dst doff src soff len) = is_some dst && is_some doff &
 has_op_parts (op_word.Probe src off len) = is_some src && is_some off && is_some len
 has_op_parts op_word.Malformed = false
 
+-- the addresses and numbers of an operation with addresses
+abbrev pub has_vop_parts : VOpWord → Bool
+has_vop_parts (vop_word.Fill addr len byte) = is_some addr && is_some len && is_some byte
+has_vop_parts (vop_word.Copy addr from len) = is_some addr && is_some from && is_some len
+has_vop_parts (vop_word.Xor addr from len) = is_some addr && is_some from && is_some len
+has_vop_parts (vop_word.Probe addr len) = is_some addr && is_some len
+has_vop_parts vop_word.Malformed = false
+
 -- nothing is missing in the line
 abbrev pub has_all_parts : Line → Bool
 has_all_parts (line.Version version) = true
@@ -60,11 +70,16 @@ has_all_parts line.Thread = true
 has_all_parts (line.Turn actors) = list_all says_actor actors
 has_all_parts line.End = true
 has_all_parts (line.Plain verb b) = is_some b
-has_all_parts (line.Write b off bytes) = is_some b && is_some off && is_some bytes
-has_all_parts (line.Read b off len) = is_some b && is_some off && is_some len
+has_all_parts (line.Write how b off bytes) = is_some b && is_some off && is_some bytes
+has_all_parts (line.Read how b off len) = is_some b && is_some off && is_some len
 has_all_parts (line.Move b mem) = is_some b
 has_all_parts (line.Touch group) = is_some group
 has_all_parts (line.Submit engine ops) = says_engine engine && list_all has_op_parts ops
+has_all_parts (line.Map b) = is_some b
+has_all_parts (line.Unmap b) = is_some b
+has_all_parts (line.Vmap va n b off) = is_some va && is_some n && is_some b && is_some off
+has_all_parts (line.Vunmap va n) = is_some va && is_some n
+has_all_parts (line.Vsubmit engine ops) = says_engine engine && list_all has_vop_parts ops
 
 -- the line of any words, behind any lines, has all its parts where it breaks no rule
 abbrev pub LinesHaveAllParts : Type 0

@@ -1,23 +1,17 @@
--- The laws that make the spelling of a script and the first fault of its bytes one story. They speak of scripts without
--- marks, as the first fault does.
-use Rattle.std.specs.Prelude.{◌≡◌, ◌↔◌, [], None, Ok}
+-- The laws that make the spelling of a script and the first fault of its bytes one story.
+use Rattle.std.specs.Prelude.{◌≡◌, ◌↔◌, None, Ok}
 use Rattle.journal_model.specs.declared.script.Script.{Script}
 use Rattle.journal_model.specs.Words.{Text}
 use Rattle.journal_model.specs.ScriptRules.{IsScript}
 use Rattle.journal_model.specs.FirstFault.{script_of, first_fault}
 
--- the bytes are those of the script, which has no marks
-pub record IsPlainScript (bytes : Text) (script : Script) : Type 0 where
-  pub is : IsScript bytes script
-  pub plain : script.marks ≡ []
-
 -- what the lines say is a script with these bytes
 abbrev pub TakesScripts : Type 0
-TakesScripts = (bytes : Text) (script : Script) → script_of bytes ≡ Ok script → IsPlainScript bytes script
+TakesScripts = (bytes : Text) (script : Script) → script_of bytes ≡ Ok script → IsScript bytes script
 
 -- the bytes of a script say that script
 abbrev pub ReadsScripts : Type 0
-ReadsScripts = (bytes : Text) (script : Script) → IsPlainScript bytes script → script_of bytes ≡ Ok script
+ReadsScripts = (bytes : Text) (script : Script) → IsScript bytes script → script_of bytes ≡ Ok script
 
 -- a value has one spelling
 abbrev pub OneSpelling : Type 0
@@ -25,8 +19,8 @@ OneSpelling = (a b : Text) (script : Script) → IsScript a script → IsScript 
 
 -- a spelling has one value
 abbrev pub OneValue : Type 0
-OneValue = (bytes : Text) (s t : Script) → IsPlainScript bytes s → IsPlainScript bytes t → s ≡ t
+OneValue = (bytes : Text) (s t : Script) → IsScript bytes s → IsScript bytes t → s ≡ t
 
 -- bytes have a first fault exactly where they are the spelling of no script
 abbrev pub FaultWhereNoScript : Type 0
-FaultWhereNoScript = (bytes : Text) → (first_fault bytes ≡ None) ↔ ((script : Script) × IsPlainScript bytes script)
+FaultWhereNoScript = (bytes : Text) → (first_fault bytes ≡ None) ↔ ((script : Script) × IsScript bytes script)

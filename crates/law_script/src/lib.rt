@@ -1,5 +1,5 @@
-//! The laws that tie the value of a script to its bytes, each as the contract of a function that does nothing. The first
-//! speaks of all scripts, the last of lines, and the others of scripts without marks.
+//! The laws that tie the value of a script to its bytes, each as the contract of a function that does nothing. The last speaks
+//! of lines.
 #![tactic(auto)]
 
 ghost use Rattle.law_script.specs.LineParts.{LinesHaveAllParts};

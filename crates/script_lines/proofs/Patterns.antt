@@ -1,18 +1,22 @@
 -- A pattern on a slice, and the same on its list.
 use Rattle.std.proofs.Common.{◌≡◌, ℕ, suc, ◌≤◌, List, [], ◌∷◌, length, get_or, drop, Some, ap, ◌∙◌, Bool, arith, zero, take, ◌-◌, length-drop}
 use Rattle.std.proofs.lemmas.Grind.{common_steps}
+use Rattle.journal_model.specs.declared.line.Access.{Access}
+use Rattle.journal_model.specs.declared.line.Line.{Line}
+use Rattle.journal_model.specs.declared.line.Line.TheVariants as line
 use Rattle.journal_model.specs.declared.line.BufferHead.{BufferHead}
 use Rattle.journal_model.specs.Words.{Text}
-use Rattle.journal_model.specs.LineWords.{read_line, read_parts, buffer_line_of, lists_line, has_head_words, buffer_head_of}
+use Rattle.journal_model.specs.LineWords.{read_line, read_parts, buffer_line_of, lists_line, has_head_words, buffer_head_of, vmap_line, vunmap_line}
+use Rattle.journal_model.specs.Reading.{number_in, known}
 
-pub read_is : (names : List Text) (xs : List Text) (b off len : Text) → length xs ≡ 4 → b ≡ get_or xs 1 b → off ≡ get_or xs 2 off → len ≡ get_or xs 3 len
-    → Some (read_parts names b off len) ≡ read_line names xs
-read_is names [] b off len h p q r = absurd (omega (arith, h))
-read_is names (w ∷ []) b off len h p q r = absurd (omega (arith, h))
-read_is names (w ∷ x ∷ []) b off len h p q r = absurd (omega (arith, h))
-read_is names (w ∷ x ∷ y ∷ []) b off len h p q r = absurd (omega (arith, h))
-read_is names (w ∷ x ∷ y ∷ z ∷ []) b off len h p q r = ap (λ t. Some (read_parts names t off len)) p ∙ ap (λ t. Some (read_parts names x t len)) q ∙ ap (λ t. Some (read_parts names x y t)) r
-read_is names (w ∷ x ∷ y ∷ z ∷ v ∷ vs) b off len h p q r = absurd (omega (arith, h))
+pub read_is : (how : Access) (names : List Text) (xs : List Text) (b off len : Text) → length xs ≡ 4 → b ≡ get_or xs 1 b → off ≡ get_or xs 2 off → len ≡ get_or xs 3 len
+    → Some (read_parts how names b off len) ≡ read_line how names xs
+read_is how names [] b off len h p q r = absurd (omega (arith, h))
+read_is how names (w ∷ []) b off len h p q r = absurd (omega (arith, h))
+read_is how names (w ∷ x ∷ []) b off len h p q r = absurd (omega (arith, h))
+read_is how names (w ∷ x ∷ y ∷ []) b off len h p q r = absurd (omega (arith, h))
+read_is how names (w ∷ x ∷ y ∷ z ∷ []) b off len h p q r = ap (λ t. Some (read_parts how names t off len)) p ∙ ap (λ t. Some (read_parts how names x t len)) q ∙ ap (λ t. Some (read_parts how names x y t)) r
+read_is how names (w ∷ x ∷ y ∷ z ∷ v ∷ vs) b off len h p q r = absurd (omega (arith, h))
 
 pub buffer_is : (two fits : Bool) (head : BufferHead) (xs : List Text) (n p a r b g c e : Text) → 9 ≤ length xs
     → n ≡ get_or xs 1 n → p ≡ get_or xs 2 p → a ≡ get_or xs 3 a → r ≡ get_or xs 4 r → b ≡ get_or xs 5 b → g ≡ get_or xs 6 g → c ≡ get_or xs 7 c → e ≡ get_or xs 8 e
@@ -40,3 +44,25 @@ take_whole (x ∷ xs) (suc n) h = ap (λ ys. x ∷ ys) (take_whole xs n (omega (
 -- what is left of a slice behind a front
 pub rest_whole : {X : Type 0} (n : ℕ) (xs : List X) → take (length xs - n) (drop n xs) ≡ drop n xs
 rest_whole n xs = take_whole (drop n xs) (length xs - n) (omega (arith, length-drop n xs))
+
+pub vunmap_is : (xs : List Text) (va n : Text) → length xs ≡ 3 → va ≡ get_or xs 1 va → n ≡ get_or xs 2 n → Some (line.Vunmap (number_in 0 1048575 va) (number_in 1 4096 n)) ≡ vunmap_line xs
+vunmap_is [] va n h p q = absurd (omega (arith, h))
+vunmap_is (w ∷ []) va n h p q = absurd (omega (arith, h))
+vunmap_is (w ∷ x ∷ []) va n h p q = absurd (omega (arith, h))
+vunmap_is (w ∷ x ∷ y ∷ []) va n h p q = ap (λ t. Some (line.Vunmap (number_in 0 1048575 t) (number_in 1 4096 n))) p ∙ ap (λ t. Some (line.Vunmap (number_in 0 1048575 x) (number_in 1 4096 t))) q
+vunmap_is (w ∷ x ∷ y ∷ z ∷ zs) va n h p q = absurd (omega (arith, h))
+
+-- a vmap by its words
+abbrev vmap_parts : List Text → Text → Text → Text → Text → Line
+vmap_parts names va n b off = line.Vmap (number_in 0 1048575 va) (number_in 1 4096 n) (known names b) (number_in 0 4095 off)
+
+pub vmap_is : (names xs : List Text) (va n b off : Text) → length xs ≡ 5 → va ≡ get_or xs 1 va → n ≡ get_or xs 2 n → b ≡ get_or xs 3 b → off ≡ get_or xs 4 off
+    → Some (line.Vmap (number_in 0 1048575 va) (number_in 1 4096 n) (known names b) (number_in 0 4095 off)) ≡ vmap_line names xs
+vmap_is names [] va n b off h p q r s = absurd (omega (arith, h))
+vmap_is names (w ∷ []) va n b off h p q r s = absurd (omega (arith, h))
+vmap_is names (w ∷ x ∷ []) va n b off h p q r s = absurd (omega (arith, h))
+vmap_is names (w ∷ x ∷ y ∷ []) va n b off h p q r s = absurd (omega (arith, h))
+vmap_is names (w ∷ x ∷ y ∷ z ∷ []) va n b off h p q r s = absurd (omega (arith, h))
+vmap_is names (w ∷ x ∷ y ∷ z ∷ v ∷ []) va n b off h p q r s =
+    ap (λ t. Some (vmap_parts names t n b off)) p ∙ ap (λ t. Some (vmap_parts names x t b off)) q ∙ ap (λ t. Some (vmap_parts names x y t off)) r ∙ ap (λ t. Some (vmap_parts names x y z t)) s
+vmap_is names (w ∷ x ∷ y ∷ z ∷ v ∷ u ∷ us) va n b off h p q r s = absurd (omega (arith, h))

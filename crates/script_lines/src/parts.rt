@@ -3,11 +3,12 @@
 ghost use Rattle.std.specs.Prelude.{◌≡◌, ◌≤◌, ◌==◌, IfOk, length, map};
 ghost use Rattle.std.specs.List.{list_any};
 ghost use Rattle.journal_model.specs.Reading.{names_of, actor_of};
-ghost use Rattle.journal_model.specs.LineWords.{version_line, vram_line, size_line, alone, is_no_actor, turn_of_actors, turn_line_of, plain_line, write_line, read_parts, read_line, move_line, touch_line, parts_of, is_empty, line_of};
+ghost use Rattle.journal_model.specs.LineWords.{version_line, vram_line, size_line, alone, is_no_actor, turn_of_actors, turn_line_of, plain_line, write_line, read_parts, read_line, move_line, touch_line, named_line, parts_of, is_empty, line_of};
 
+use crate::addresses::{vmap, vsubmit, vunmap};
 use crate::buffers::buffer;
 use crate::jobs::submit;
-use journal_model::line::{ActorWord, ActorWords, Keyword, Line, Verb};
+use journal_model::line::{Access, ActorWord, ActorWords, Keyword, Line, Verb};
 use journal_model::{Bytes, Script};
 use script_words::names::Names;
 use script_words::words::{actor, bytes, is, memory, number, offset};
@@ -172,14 +173,20 @@ fn plain(names: &Names, verb: Verb, words: &[Bytes]) -> Option<Line>
     }
 }
 
-fn write(alloc: Global, names: &Names, words: &[Bytes]) -> Result<Option<Line>, NoMemory>
+fn write(
+    alloc: Global,
+    access: Access,
+    names: &Names,
+    words: &[Bytes],
+) -> Result<Option<Line>, NoMemory>
     requires { length names.now ≤ 256 }
-    ensures { IfOk result (λ line. line ≡ write_line names.now words.now) }
+    ensures { IfOk result (λ line. line ≡ write_line access names.now words.now) }
 {
     match words {
         [_, b, off, text] => {
             let bytes = bytes(alloc, text.items())?;
             Ok(Some(Line::Write {
+                access,
                 b: names.find(b.items()),
                 off: offset(off.items()),
                 bytes,
@@ -189,23 +196,24 @@ fn write(alloc: Global, names: &Names, words: &[Bytes]) -> Result<Option<Line>, 
     }
 }
 
-fn read_with(names: &Names, b: &[u8], off: &[u8], len: &[u8]) -> Line
+fn read_with(access: Access, names: &Names, b: &[u8], off: &[u8], len: &[u8]) -> Line
     requires { length names.now ≤ 256 }
-    ensures { result ≡ read_parts names.now b.now off.now len.now }
+    ensures { result ≡ read_parts access names.now b.now off.now len.now }
 {
     Line::Read {
+        access,
         b: names.find(b),
         off: offset(off),
         len: offset(len),
     }
 }
 
-fn read(names: &Names, words: &[Bytes]) -> Option<Line>
+fn read(access: Access, names: &Names, words: &[Bytes]) -> Option<Line>
     requires { length names.now ≤ 256 }
-    ensures { result ≡ read_line names.now words.now }
+    ensures { result ≡ read_line access names.now words.now }
 {
     match words {
-        [_, b, off, len] => Some(read_with(names, b.items(), off.items(), len.items())),
+        [_, b, off, len] => Some(read_with(access, names, b.items(), off.items(), len.items())),
         _ => None,
     }
 }
@@ -232,6 +240,30 @@ fn touch(words: &[Bytes]) -> Option<Line>
     match words {
         [_, group] => Some(Line::Touch {
             group: number(0, 15, group.items()),
+        }),
+        _ => None,
+    }
+}
+
+fn map(names: &Names, words: &[Bytes]) -> Option<Line>
+    requires { length names.now ≤ 256 }
+    ensures { result ≡ named_line (λ b. Line.Map b) names.now words.now }
+{
+    match words {
+        [_, b] => Some(Line::Map {
+            b: names.find(b.items()),
+        }),
+        _ => None,
+    }
+}
+
+fn unmap(names: &Names, words: &[Bytes]) -> Option<Line>
+    requires { length names.now ≤ 256 }
+    ensures { result ≡ named_line (λ b. Line.Unmap b) names.now words.now }
+{
+    match words {
+        [_, b] => Some(Line::Unmap {
+            b: names.find(b.items()),
         }),
         _ => None,
     }
@@ -267,11 +299,16 @@ fn parts(
         ),
         Keyword::End => Ok(alone_of(Line::End, words)),
         Keyword::Plain(verb) => Ok(plain(names, verb, words)),
-        Keyword::Write => write(alloc, names, words),
-        Keyword::Read => Ok(read(names, words)),
+        Keyword::Write(access) => write(alloc, access, names, words),
+        Keyword::Read(access) => Ok(read(access, names, words)),
         Keyword::Move => Ok(move_of(names, words)),
         Keyword::Touch => Ok(touch(words)),
         Keyword::Submit => submit(alloc, names, script.sizes.engines, words),
+        Keyword::Map => Ok(map(names, words)),
+        Keyword::Unmap => Ok(unmap(names, words)),
+        Keyword::Vmap => Ok(vmap(names, words)),
+        Keyword::Vunmap => Ok(vunmap(words)),
+        Keyword::Vsubmit => vsubmit(alloc, script.sizes.engines, words),
         Keyword::Other => Ok(None),
     }
 }

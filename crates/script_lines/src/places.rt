@@ -1,6 +1,6 @@
 //! Places and lists of places by their words.
 
-ghost use Rattle.std.specs.Prelude.{◌≡◌, ◌==◌, IfOk, map};
+ghost use Rattle.std.specs.Prelude.{◌≡◌, ◌==◌, ◌≤◌, ◌+◌, length, drop, IfOk, map, option_map};
 ghost use Rattle.journal_model.specs.Cut.{cut_at};
 ghost use Rattle.journal_model.specs.Reading.{last_flags_of, contig_flags_of, flags_of, flagged, ranged, is_system, two_numbers_place, reach_place, based_place, at_place, plus_place, place_word_of, places_of};
 
@@ -134,30 +134,47 @@ fn with_reach(mem: Mem, words: &[Bytes], flags: Flags) -> PlaceWord
 fn with_base(
     alloc: Global,
     mem: Option<Mem>,
-    reach: &[Bytes],
+    reach: Option<&[u8]>,
     flags: Option<Flags>,
 ) -> Result<PlaceWord, NoMemory>
-    ensures { IfOk result (λ place. place ≡ based_place mem reach.now flags) }
+    ensures { IfOk result (λ place. place ≡ based_place mem (option_map (λ r. r.now) reach.entry) flags) }
 {
     let (Some(mem), Some(flags)) = (mem, flags) else {
         return Ok(PlaceWord::Malformed);
     };
     match reach {
-        [] => Ok(with_flags(mem, 0, 0, flags)),
-        [reach] => {
-            let words = cut(alloc, b'-', reach.items())?;
+        None => Ok(with_flags(mem, 0, 0, flags)),
+        Some(reach) => {
+            let words = cut(alloc, b'-', reach)?;
             Ok(with_reach(mem, words.items(), flags))
         }
-        _ => Ok(PlaceWord::Malformed),
     }
 }
 
-fn with_mem(alloc: Global, words: &[Bytes], flags: Option<Flags>) -> Result<PlaceWord, NoMemory>
+// What stands behind a first word of `first` bytes and the byte that ends it.
+fn behind(base: &[u8], first: usize) -> &[u8]
+    requires inside { first + 1 ≤ length base.now }
+    ensures { result.now ≡ drop (first + 1) base.now }
+{
+    &base[first + 1..]
+}
+
+fn with_mem(
+    alloc: Global,
+    base: &[u8],
+    words: &[Bytes],
+    flags: Option<Flags>,
+) -> Result<PlaceWord, NoMemory>
+    requires parts { words.now ≡ cut_at 64 base.now }
     ensures { IfOk result (λ place. place ≡ at_place words.now flags) }
 {
     match words {
         [] => Ok(PlaceWord::Malformed),
-        [mem, reach @ ..] => with_base(alloc, memory(mem.items()), reach, flags),
+        [mem] => with_base(alloc, memory(mem.items()), None, flags),
+        [mem, _, ..] => {
+            let reach = behind(base, mem.items().len());
+            with_base(alloc, memory(mem.items()), Some(reach), flags)
+        }
     }
 }
 
@@ -167,8 +184,8 @@ fn with_plus(alloc: Global, two: bool, words: &[Bytes]) -> Result<PlaceWord, NoM
     match words {
         [] => Ok(PlaceWord::Malformed),
         [base, rest @ ..] => {
-            let base = cut(alloc, b'@', base.items())?;
-            with_mem(alloc, base.items(), flags(two, rest))
+            let parts = cut(alloc, b'@', base.items())?;
+            with_mem(alloc, base.items(), parts.items(), flags(two, rest))
         }
     }
 }

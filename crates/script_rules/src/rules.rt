@@ -1,19 +1,32 @@
 //! The rules that a line may break, from the fifth on.
 
-ghost use Rattle.std.specs.Prelude.{◌≡◌, ◌+◌, ◌*◌, ◌≤◌, [], ◌∷◌, ◌++◌, Some, None, OnOk, IfOk, if◌then◌else◌, length, is_none, sum_by, fold, map, flat_map, option_to_list, bytes_eq, nat_lt, unwrap_or};
+ghost use Rattle.std.specs.Prelude.{◌≡◌, ◌+◌, ◌*◌, ◌≤◌, [], ◌∷◌, ◌++◌, Some, None, false, OnOk, IfOk, if◌then◌else◌, length, is_none, sum_by, fold, map, flat_map, option_to_list, bytes_eq, nat_lt, unwrap_or};
 ghost use Rattle.std.specs.List.{list_any, list_all};
 ghost use Rattle.journal_model.specs.Commands.{decl, first_mentions};
 ghost use Rattle.journal_model.specs.Reading.{names_of};
 ghost use Rattle.journal_model.specs.ScriptRules.{is_name, is_letter, is_letter_or_digit};
 ghost use Rattle.journal_model.specs.State.{same_buffer};
 ghost use Rattle.script_rules.specs.Mentions.{mentioned};
-ghost use Rattle.journal_model.specs.LineRules.{lacks_number_in_head, is_broken_place, is_broken_actor, is_broken_engine, lacks_number_in_op, lacks_number, lacks_name_in_op, has_wrong_name, lacks_name, is_no_place, may_force, is_no_list, lacks_place, is_zero, is_more_than, passes, has_wrong_range, passes_in_op, bytes_pass, has_range_fault, lacks_byte_in_op, are_wrong_bytes, has_byte_fault, same_known, names_one_twice, buffers_of_word, is_big_job, has_job_fault, is_missing_actor, is_missing_engine, lacks_actor, is_one_too_many, len_of_word, lens_of_line, is_too_long, rule_broken};
+ghost use Rattle.journal_model.specs.LineRules.{lacks_number_in_head, is_broken_place, is_broken_actor, is_broken_engine, lacks_number_in_op, lacks_number, lacks_name_in_op, has_wrong_name, lacks_name, is_no_place, may_force, is_no_list, lacks_place, is_zero, is_more_than, passes, has_wrong_range, passes_in_op, bytes_pass, has_range_fault, lacks_byte_in_op, are_wrong_bytes, has_byte_fault, same_known, names_one_twice, buffers_of_word, is_big_job, has_job_fault, is_missing_actor, is_missing_engine, lacks_actor, is_one_too_many, len_of_word, lens_of_line, is_too_long, passes_pages, passes_end, has_mapped, has_map_fault, rule_broken};
+ghost use Rattle.journal_model.specs.MarkRules as marks;
+ghost use Rattle.journal_model.specs.MarkRules.{desk_at_end};
+ghost use Rattle.script_desk.specs.Desks.{IsDesk};
 
-use journal_model::line::{ActorWord, BufferHead, EngineWord, Line, OpWord, PlaceWord, Progress};
+use crate::addresses::{
+    addressed_lens_within, breaks_addressed_job, breaks_page, does_pass_end, lack_address,
+    lack_byte_at_address, some_address_passes,
+};
+use journal_model::line::{
+    Access, ActorWord, BufferHead, EngineWord, Line, OpWord, PlaceWord, Progress,
+};
 use journal_model::{Bytes, Script};
+use script_desk::Desk;
 use script_words::names::Names;
 use std::alloc::Global;
 use ttm_base::{BufId, ItemList, NoMemory};
+
+/// The pages of an address space.
+const SPACE_PAGES: u64 = 1_048_576;
 
 fn lacks_head_number(head: &BufferHead) -> bool
     ensures { result ≡ lacks_number_in_head head.now }
@@ -101,8 +114,16 @@ fn breaks_number(line: &Line) -> bool
         Line::Read { off, len, .. } => off.is_none() || len.is_none(),
         Line::Touch { group } => group.is_none(),
         Line::Submit { engine, ops } => has_broken_engine(*engine) || lack_number(ops.items()),
-        Line::Version { .. } | Line::Thread | Line::End | Line::Plain { .. } | Line::Move { .. } =>
-            false,
+        Line::Vmap { va, n, off, .. } => va.is_none() || n.is_none() || off.is_none(),
+        Line::Vunmap { va, n } => va.is_none() || n.is_none(),
+        Line::Vsubmit { engine, ops } => has_broken_engine(*engine) || lack_address(ops.items()),
+        Line::Version { .. }
+        | Line::Thread
+        | Line::End
+        | Line::Plain { .. }
+        | Line::Move { .. }
+        | Line::Map { .. }
+        | Line::Unmap { .. } => false,
     }
 }
 
@@ -165,6 +186,9 @@ fn breaks_name(names: &Names, script: &Script, line: &Line) -> bool
         Line::Read { b, .. } => b.is_none(),
         Line::Move { b, .. } => b.is_none(),
         Line::Submit { ops, .. } => lack_name(ops.items()),
+        Line::Map { b } => b.is_none(),
+        Line::Unmap { b } => b.is_none(),
+        Line::Vmap { b, .. } => b.is_none(),
         _ => false,
     }
 }
@@ -215,7 +239,7 @@ fn breaks_place(line: &Line) -> bool
     }
 }
 
-fn is_nothing(len: Option<u32>) -> bool
+pub(crate) fn is_nothing(len: Option<u32>) -> bool
     ensures { result ≡ is_zero len }
 {
     match len {
@@ -224,7 +248,7 @@ fn is_nothing(len: Option<u32>) -> bool
     }
 }
 
-fn is_above(most: u32, len: Option<u32>) -> bool
+pub(crate) fn is_above(most: u32, len: Option<u32>) -> bool
     ensures { result ≡ is_more_than most len }
 {
     match len {
@@ -316,16 +340,30 @@ fn do_bytes_pass(script: &Script, b: Option<BufId>, off: Option<u32>, bytes: &Op
     }
 }
 
-/// An offset and a length pass the buffer, a length is 0, or too many bytes would be shown.
+fn pages_pass(script: &Script, b: Option<BufId>, off: Option<u32>, n: Option<u32>) -> bool
+    ensures { result ≡ passes_pages script.now b off n }
+{
+    match b {
+        Some(b) => does_pass_end(u64::from(pages_of(script, b)), off, n),
+        None => false,
+    }
+}
+
+/// A range passes its buffer or its space, a length is 0, or too many bytes would be shown.
 fn breaks_range(script: &Script, line: &Line) -> bool
     ensures { result ≡ has_range_fault script.now line.now }
 {
     match line {
-        Line::Write { b, off, bytes } => do_bytes_pass(script, *b, *off, bytes),
-        Line::Read { b, off, len } => {
+        Line::Write { b, off, bytes, .. } => do_bytes_pass(script, *b, *off, bytes),
+        Line::Read { b, off, len, .. } => {
             is_wrong_range(script, *b, *off, *len) || is_above(256, *len)
         }
         Line::Submit { ops, .. } => some_op_passes(script, ops.items()),
+        Line::Vmap { va, n, b, off } => {
+            does_pass_end(SPACE_PAGES, *va, *n) || pages_pass(script, *b, *off, *n)
+        }
+        Line::Vunmap { va, n } => does_pass_end(SPACE_PAGES, *va, *n),
+        Line::Vsubmit { ops, .. } => some_address_passes(ops.items()),
         _ => false,
     }
 }
@@ -361,6 +399,7 @@ fn breaks_bytes(line: &Line) -> bool
     match line {
         Line::Write { bytes, .. } => are_bad_bytes(bytes),
         Line::Submit { ops, .. } => lack_byte(ops.items()),
+        Line::Vsubmit { ops, .. } => lack_byte_at_address(ops.items()),
         _ => false,
     }
 }
@@ -396,7 +435,7 @@ fn has(seen: &[BufId], b: BufId) -> bool
     seen.iter().any(|c| b.0 == c.0)
 }
 
-fn mention(seen: &mut ItemList<BufId>, b: Option<BufId>) -> Result<(), NoMemory>
+pub(crate) fn mention(seen: &mut ItemList<BufId>, b: Option<BufId>) -> Result<(), NoMemory>
     ensures { OnOk result (seen.new ≡ fold mentioned seen.old (option_to_list b)) }
 {
     if let Some(b) = b {
@@ -444,14 +483,17 @@ fn is_too_big(alloc: Global, ops: &[OpWord]) -> Result<bool, NoMemory>
 }
 
 /// One buffer twice in a copy or xor, or too many buffers or operations in a job.
-fn breaks_job(alloc: Global, line: &Line) -> Result<bool, NoMemory>
-    ensures { IfOk result (λ broken. broken ≡ has_job_fault line.now) }
+fn breaks_job(alloc: Global, script: &Script, desk: &Desk, line: &Line) -> Result<bool, NoMemory>
+    requires numbers { lacks_number line.now ≡ false }
+    requires ranges { has_range_fault script.now line.now ≡ false }
+    ensures { IfOk result (λ broken. (d : marks.Desk) → IsDesk desk.now d → broken ≡ has_job_fault d line.now) }
 {
     match line {
         Line::Submit { ops, .. } => {
             let big = is_too_big(alloc, ops.items())?;
             Ok(some_is_named_twice(ops.items()) || big)
         }
+        Line::Vsubmit { ops, .. } => breaks_addressed_job(alloc, desk, ops.items()),
         _ => Ok(false),
     }
 }
@@ -481,6 +523,7 @@ fn breaks_actor(line: &Line) -> bool
     match line {
         Line::Turn { actors } => has_missing(actors.items()),
         Line::Submit { engine, .. } => is_engine_missing(*engine),
+        Line::Vsubmit { engine, .. } => is_engine_missing(*engine),
         _ => false,
     }
 }
@@ -497,7 +540,12 @@ fn breaks_count(progress: &Progress, line: &Line) -> bool
         | Line::Read { .. }
         | Line::Move { .. }
         | Line::Touch { .. }
-        | Line::Submit { .. } => 4096 <= progress.lines,
+        | Line::Submit { .. }
+        | Line::Map { .. }
+        | Line::Unmap { .. }
+        | Line::Vmap { .. }
+        | Line::Vunmap { .. }
+        | Line::Vsubmit { .. } => 4096 <= progress.lines,
         _ => false,
     }
 }
@@ -536,6 +584,39 @@ fn breaks_lens(progress: &Progress, line: &Line) -> bool
 {
     match line {
         Line::Submit { ops, .. } => lens_within(67_108_864 - progress.lens, ops.items()).is_none(),
+        Line::Vsubmit { ops, .. } => {
+            addressed_lens_within(67_108_864 - progress.lens, ops.items()).is_none()
+        }
+        _ => false,
+    }
+}
+
+fn is_mapped(desk: &Desk, b: Option<BufId>) -> bool
+    ensures { (d : marks.Desk) → IsDesk desk.now d → result ≡ has_mapped d b }
+{
+    match b {
+        Some(b) => desk.has(b),
+        None => false,
+    }
+}
+
+/// A map of a buffer that the thread has mapped, or an unmap, peek or poke of one that it hasn't.
+fn breaks_mapping(desk: &Desk, line: &Line) -> bool
+    ensures { (d : marks.Desk) → IsDesk desk.now d → result ≡ has_map_fault d line.now }
+{
+    match line {
+        Line::Map { b } => is_mapped(desk, *b),
+        Line::Unmap { b } => !is_mapped(desk, *b),
+        Line::Read {
+            access: Access::Mapped,
+            b,
+            ..
+        } => !is_mapped(desk, *b),
+        Line::Write {
+            access: Access::Mapped,
+            b,
+            ..
+        } => !is_mapped(desk, *b),
         _ => false,
     }
 }
@@ -544,11 +625,13 @@ fn breaks_lens(progress: &Progress, line: &Line) -> bool
 pub fn broken(
     alloc: Global,
     names: &Names,
+    desk: &Desk,
     progress: &Progress,
     line: &Line,
 ) -> Result<Option<u32>, NoMemory>
     requires names { names.now ≡ names_of progress.now.script.buffers }
     requires lens { progress.now.lens ≤ 67108864 }
+    requires desk { IsDesk desk.now (desk_at_end progress.now.script) }
     ensures { IfOk result (λ rule. rule ≡ rule_broken progress.now line.now) }
 {
     if breaks_number(line) {
@@ -566,7 +649,7 @@ pub fn broken(
     if breaks_bytes(line) {
         return Ok(Some(9));
     }
-    if breaks_job(alloc, line)? {
+    if breaks_job(alloc, &progress.script, desk, line)? {
         return Ok(Some(10));
     }
     if breaks_actor(line) {
@@ -577,6 +660,12 @@ pub fn broken(
     }
     if breaks_lens(progress, line) {
         return Ok(Some(13));
+    }
+    if breaks_mapping(desk, line) {
+        return Ok(Some(14));
+    }
+    if breaks_page(alloc, &progress.script, desk, line)? {
+        return Ok(Some(15));
     }
     Ok(None)
 }

@@ -1,10 +1,14 @@
--- The parts of a script without marks.
-use Rattle.std.specs.Prelude.{List, [], ◌∷◌, ◌++◌, codes, decimal, flat_map, if◌then◌else◌}
+-- The parts of a script.
+use Rattle.std.specs.Prelude.{true, false, List, [], ◌∷◌, ◌++◌, Some, None, codes, decimal, filter_map, flat_map, map, slice_get, if◌then◌else◌}
+use Rattle.std.specs.List.{list_any}
 use Rattle.journal_model.specs.declared.script.Script.{Script}
 use Rattle.journal_model.specs.declared.script.Command.{Command}
+use Rattle.journal_model.specs.declared.script.Mark.{Mark}
+use Rattle.journal_model.specs.declared.script.MarkKind.{MarkKind}
+use Rattle.journal_model.specs.Marks.{addressed, is_mapped}
 use Rattle.journal_model.specs.Words.{Text, line}
 use Rattle.journal_model.specs.declared.script.Decl.{Decl}
-use Rattle.journal_model.specs.Spelling.{command_words, group_word}
+use Rattle.journal_model.specs.Spelling.{addressed_words, command_words, group_word, mapped_words}
 
 -- the line of VRAM
 abbrev pub vram_line : Script → Text
@@ -25,9 +29,17 @@ head_lines script =
 abbrev pub command_text : Script → Command → Text
 command_text script command = line (command_words script command)
 
--- the lines of a thread
-abbrev pub thread_text : Script → List Command → Text
-thread_text script commands = line (codes "thread" ∷ []) ++ flat_map (command_text script) commands
+-- a command as the marks above it say that it is written
+abbrev pub written : Script → List MarkKind → Command → Text
+written script ms c =
+    line (elim (slice_get (filter_map addressed ms) 0) [
+      | Some vs ↦ addressed_words script vs c
+      | None ↦ elim (list_any is_mapped ms) [ true ↦ mapped_words script c | false ↦ command_words script c ]
+    ])
+
+-- the kinds of marks
+abbrev pub kinds : List Mark → List MarkKind
+kinds ms = map (λ m. m.kind) ms
 
 -- what stands between the first word of a buffer's line and its places
 abbrev pub shape_words : Decl → List Text

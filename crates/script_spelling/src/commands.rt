@@ -23,8 +23,15 @@ pub(crate) fn put_command(
         Command::Unpin { b } => put_named(text, script, b"unpin", *b),
         Command::Find { b } => put_named(text, script, b"find", *b),
         Command::SwapOut { b } => put_named(text, script, b"swapout", *b),
-        Command::Write { b, off, bytes } => put_write(text, script, *b, *off, bytes.items()),
-        Command::Read { b, off, len } => put_read(text, script, *b, *off, *len),
+        Command::Write { b, off, bytes } => put_write(
+            text,
+            script,
+            b"write",
+            *b,
+            *off,
+            bytes.items(),
+        ),
+        Command::Read { b, off, len } => put_read(text, script, b"read", *b, *off, *len),
         Command::Move { b, mem } => put_move(text, script, *b, *mem),
         Command::Touch { group } => put_touch(text, *group),
         Command::Submit { engine, ops } => put_submit(text, script, *engine, ops.items()),
@@ -32,7 +39,12 @@ pub(crate) fn put_command(
 }
 
 /// Puts the line of a command that names a buffer and no more.
-fn put_named(text: &mut Line, script: &Script, word: &[u8], b: BufId) -> Result<(), NoMemory>
+pub(crate) fn put_named(
+    text: &mut Line,
+    script: &Script,
+    word: &[u8],
+    b: BufId,
+) -> Result<(), NoMemory>
     ensures { OnOk result (text.new ≡ text.old ++ line (word.now ∷ name_of script.now b ∷ [])) }
 {
     text.put(word)?;
@@ -40,16 +52,17 @@ fn put_named(text: &mut Line, script: &Script, word: &[u8], b: BufId) -> Result<
     text.end_line()
 }
 
-fn put_write(
+pub(crate) fn put_write(
     text: &mut Line,
     script: &Script,
+    word: &[u8],
     b: BufId,
     off: u32,
     bytes: &[u8],
 ) -> Result<(), NoMemory>
-    ensures { OnOk result (text.new ≡ text.old ++ line (codes "write" ∷ name_of script.now b ∷ decimal off ∷ hex bytes.now ∷ [])) }
+    ensures { OnOk result (text.new ≡ text.old ++ line (word.now ∷ name_of script.now b ∷ decimal off ∷ hex bytes.now ∷ [])) }
 {
-    text.put(b"write")?;
+    text.put(word)?;
     text.word(name_of(script, b))?;
     text.number(u64::from(off))?;
     text.put_byte(b' ')?;
@@ -57,10 +70,17 @@ fn put_write(
     text.end_line()
 }
 
-fn put_read(text: &mut Line, script: &Script, b: BufId, off: u32, len: u32) -> Result<(), NoMemory>
-    ensures { OnOk result (text.new ≡ text.old ++ line (codes "read" ∷ name_of script.now b ∷ decimal off ∷ decimal len ∷ [])) }
+pub(crate) fn put_read(
+    text: &mut Line,
+    script: &Script,
+    word: &[u8],
+    b: BufId,
+    off: u32,
+    len: u32,
+) -> Result<(), NoMemory>
+    ensures { OnOk result (text.new ≡ text.old ++ line (word.now ∷ name_of script.now b ∷ decimal off ∷ decimal len ∷ [])) }
 {
-    text.put(b"read")?;
+    text.put(word)?;
     text.word(name_of(script, b))?;
     text.number(u64::from(off))?;
     text.number(u64::from(len))?;

@@ -2,6 +2,7 @@
 #![tactic(auto)]
 
 mod commands;
+mod marks;
 mod places;
 pub mod script;
 

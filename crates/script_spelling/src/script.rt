@@ -1,19 +1,22 @@
-ghost use Rattle.std.specs.Prelude.{◌≡◌, ◌++◌, ◌∷◌, [], IfOk, OnOk, codes, decimal, flat_map, map};
+ghost use Rattle.std.specs.Prelude.{◌≡◌, ◌++◌, ◌∷◌, ◌+◌, [], true, IfOk, OnOk, codes, decimal, flat_map, length, map};
+ghost use Rattle.std.specs.List.{enumerate_from};
+ghost use Rattle.journal_model.specs.MarkRules.{are_in_order};
+ghost use Rattle.script_spelling.specs.Cursors.{ArePlaced, marks_from};
 ghost use Rattle.journal_model.specs.Words.{actor_word, line};
-ghost use Rattle.journal_model.specs.Spelling.{buffer_line, group_word, spelling, turn_line};
-ghost use Rattle.script_spelling.specs.Parts.{command_text, head_lines, shape_words, thread_text, vram_line};
+ghost use Rattle.journal_model.specs.Spelling.{buffer_line, command_lines, group_word, spelling, thread_lines, turn_line};
+ghost use Rattle.script_spelling.specs.Parts.{head_lines, shape_words, vram_line};
 ghost use Rattle.text_line.specs.Spaced.{spaced_out};
 
-use crate::commands::put_command;
+use crate::marks::{put_marks, put_written, split_at_place};
 use crate::places::put_placement;
-use journal_model::{Command, Decl, Script};
+use journal_model::{Command, Decl, Mark, Script};
 use std::alloc::Global;
 use text_line::{Line, put_actor};
 use ttm_base::{Actor, NoMemory};
 
-/// The bytes of a script without marks.
+/// The bytes of a script.
 pub fn write_script(alloc: Global, script: &Script) -> Result<Vec<u8>, NoMemory>
-    requires marks { script.now.marks ≡ [] }
+    requires placed { ArePlaced script.now }
     ensures { IfOk result (λ bytes. bytes.items ≡ spelling script.now) }
 {
     let mut text = Line::new(alloc);
@@ -109,28 +112,57 @@ fn put_group(text: &mut Line, group: Option<u32>) -> Result<(), NoMemory>
 }
 
 fn put_threads(text: &mut Line, script: &Script) -> Result<(), NoMemory>
-    ensures { OnOk result (text.new ≡ text.old ++ flat_map (thread_text script.now) script.now.threads) }
+    requires placed { ArePlaced script.now }
+    ensures { OnOk result (text.new ≡ text.old ++ flat_map (thread_lines script.now) (enumerate_from 1 script.now.threads)) }
 {
-    for commands in script.threads.items() {
-        put_thread(text, script, commands.items())?;
+    let threads = script.threads.items();
+    let mut marks = script.marks.items();
+    for i in 0..threads.len() {
+        marks = put_thread(text, script, i + 1, threads[i].items(), marks)?;
     }
     Ok(())
 }
 
-fn put_thread(text: &mut Line, script: &Script, commands: &[Command]) -> Result<(), NoMemory>
-    ensures { OnOk result (text.new ≡ text.old ++ thread_text script.now commands.now) }
+/// Puts the lines of a thread, whose marks come first. Answers the marks behind them.
+fn put_thread<'a>(
+    text: &mut Line,
+    script: &Script,
+    thread: usize,
+    commands: &[Command],
+    marks: &'a [Mark],
+) -> Result<&'a [Mark], NoMemory>
+    requires order { are_in_order script.now.marks ≡ true }
+    requires marks { marks.now ≡ marks_from script.now.marks thread 0 }
+    ensures text { OnOk result (text.new ≡ text.old ++ thread_lines script.now (thread, commands.now)) }
+    ensures behind { IfOk result (λ behind. behind.now ≡ marks_from script.now.marks thread (length commands.now + 1)) }
 {
     put_heading(text, b"thread")?;
-    put_commands(text, script, commands)
+    put_commands(text, script, thread, commands, marks)
 }
 
-fn put_commands(text: &mut Line, script: &Script, commands: &[Command]) -> Result<(), NoMemory>
-    ensures { OnOk result (text.new ≡ text.old ++ flat_map (command_text script.now) commands.now) }
+/// Puts the commands of a thread, each behind the marks above it, and the marks behind them.
+fn put_commands<'a>(
+    text: &mut Line,
+    script: &Script,
+    thread: usize,
+    commands: &[Command],
+    marks: &'a [Mark],
+) -> Result<&'a [Mark], NoMemory>
+    requires order { are_in_order script.now.marks ≡ true }
+    requires marks { marks.now ≡ marks_from script.now.marks thread 0 }
+    ensures text { OnOk result (text.new ≡ text.old ++ command_lines script.now thread 0 commands.now) }
+    ensures behind { IfOk result (λ behind. behind.now ≡ marks_from script.now.marks thread (length commands.now + 1)) }
 {
-    for command in commands {
-        put_command(text, script, command)?;
+    let mut rest = marks;
+    for n in 0..commands.len() {
+        let (here, behind) = split_at_place(script, rest, thread, n);
+        put_marks(text, script, here)?;
+        put_written(text, script, here, &commands[n])?;
+        rest = behind;
     }
-    Ok(())
+    let (here, behind) = split_at_place(script, rest, thread, commands.len());
+    put_marks(text, script, here)?;
+    Ok(behind)
 }
 
 fn put_turns(text: &mut Line, script: &Script) -> Result<(), NoMemory>

@@ -6,7 +6,7 @@ use Rattle.script_text.specs.declared.ScriptFault.{ScriptFault}
 use Rattle.script_text.specs.declared.ScriptFault.TheVariants as fault
 use Rattle.journal_model.specs.Words.{Text}
 use Rattle.journal_model.specs.FirstFault.{script_of}
-use Rattle.law_script.specs.ScriptLaws.{IsPlainScript}
+use Rattle.journal_model.specs.ScriptRules.{IsScript}
 use Rattle.law_script.proofs.TakesScript.{takes_scripts}
 use Rattle.law_script.proofs.ReadsScript.{reads_scripts}
 use Rattle.script_text.specs.Steps.{Gives}
@@ -50,7 +50,7 @@ takes (Err (fault.Bad l k)) (Err f) h e = absurd cc
 
 -- ---- the spelling
 
-pub spells : (bytes : Text) (r : Result Script ScriptFault) → Gives r (script_of bytes) → IfOk r (λ script. IsPlainScript bytes script)
+pub spells : (bytes : Text) (r : Result Script ScriptFault) → Gives r (script_of bytes) → IfOk r (λ script. IsScript bytes script)
 spells bytes (Ok script) h = takes_scripts bytes script h
 spells bytes (Err e) h = tt
 
@@ -62,12 +62,12 @@ no_fault : (read : Result Script (ℕ × ℕ)) (s : Script) (l k : ℕ) → read
 no_fault (Ok x) s l k h e = absurd cc
 no_fault (Err x) s l k h e = absurd cc
 
-pub reads_spelling : (bytes : Text) (r : Result Script ScriptFault) (s : Script) → Gives r (script_of bytes) → IsPlainScript bytes s → (r ≡ Ok s) ⊎ (r ≡ Err fault.NoMemory)
+pub reads_spelling : (bytes : Text) (r : Result Script ScriptFault) (s : Script) → Gives r (script_of bytes) → IsScript bytes s → (r ≡ Ok s) ⊎ (r ≡ Err fault.NoMemory)
 reads_spelling bytes (Ok t) s h k = inl (ap (λ x. Ok x) (same_script (script_of bytes) t s h (reads_scripts bytes s k)))
 reads_spelling bytes (Err fault.NoMemory) s h k = inr refl
 reads_spelling bytes (Err (fault.Bad line rule)) s h k = absurd (no_fault (script_of bytes) s line rule (reads_scripts bytes s k) h)
 
-pub no_spelling : (bytes : Text) (r : Result Script ScriptFault) (line rule : ℕ) (s : Script) → Gives r (script_of bytes) → r ≡ Err (fault.Bad line rule) → IsPlainScript bytes s → ⊥
+pub no_spelling : (bytes : Text) (r : Result Script ScriptFault) (line rule : ℕ) (s : Script) → Gives r (script_of bytes) → r ≡ Err (fault.Bad line rule) → IsScript bytes s → ⊥
 no_spelling bytes (Ok t) line rule s h e k = absurd cc
 no_spelling bytes (Err fault.NoMemory) line rule s h e k = absurd cc
 no_spelling bytes (Err (fault.Bad l j)) line rule s h e k = no_fault (script_of bytes) s l j (reads_scripts bytes s k) h

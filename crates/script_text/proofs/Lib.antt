@@ -1,3 +1,6 @@
 pub mod Answered
 pub mod Clean
+pub mod Known
 pub mod Lines
+pub mod Mapped
+pub mod Ranges

@@ -4,19 +4,21 @@
 ghost use Rattle.std.specs.Prelude.{◌≡◌, ◌≤◌, ℕ, ◌⊎◌, Some, None, Ok, Err, IfOk, IsOk, length};
 ghost use Rattle.journal_model.specs.FirstFault.{script_of, first_fault, script_from, nothing_read};
 ghost use Rattle.journal_model.specs.Cut.{lines_of};
-ghost use Rattle.law_script.specs.ScriptLaws.{IsPlainScript};
+ghost use Rattle.journal_model.specs.ScriptRules.{IsScript};
 ghost use Rattle.script_text.specs.Steps.{Gives};
 
 use journal_model::Script;
+use script_desk::Desk;
 use script_words::cut::len_of_line;
 use script_words::names::Names;
 use std::alloc::Global;
 use ttm_base::NoMemory;
 
+mod marks;
 mod reader;
 mod values;
 
-use crate::reader::{is_done, start, take_line};
+use crate::reader::{Known, is_done, start, take_line};
 
 /// Why bytes weren't read: their first broken line, counted from 1, and on it the least broken rule, or want of memory.
 /// Line 0 is the whole text, where it has more than 1,048,576 bytes (rule 1).
@@ -30,14 +32,17 @@ fn read_lines(alloc: Global, bytes: &[u8]) -> Result<Script, ScriptFault>
     requires { length bytes.now ≤ 1048576 }
     ensures { Gives result (script_from nothing_read 0 (lines_of bytes.now)) }
 {
-    let mut names = Names::new(alloc);
+    let mut known = Known {
+        names: Names::new(alloc),
+        desk: Desk::new(alloc),
+    };
     let mut progress = start(alloc);
     let mut line = 0;
     let mut rest = bytes;
     while !rest.is_empty() {
         let (text, after) = rest.split_at(len_of_line(rest));
         line += 1;
-        match take_line(alloc, &mut names, &mut progress, text) {
+        match take_line(alloc, &mut known, &mut progress, text) {
             Ok(None) => rest = after,
             Ok(Some(rule)) => return Err(ScriptFault::Bad { line, rule }),
             Err(NoMemory) => return Err(ScriptFault::NoMemory),
@@ -62,17 +67,16 @@ fn read_all(alloc: Global, bytes: &[u8]) -> Result<Script, ScriptFault>
     read_lines(alloc, bytes)
 }
 
-/// Reads a script, or finds its first broken line and on it the least broken rule. Lines that map buffers or speak of
-/// addresses aren't read yet: they break rule 3.
+/// Reads a script, or finds its first broken line and on it the least broken rule.
 pub fn read_script(alloc: Global, bytes: &[u8]) -> Result<Script, ScriptFault>
     // What is read is what the lines say, and the bytes are its spelling.
     ensures ok { IfOk result (λ script. script_of bytes.now ≡ Ok script) }
-    ensures spelled { IfOk result (λ script. IsPlainScript bytes.now script) }
+    ensures spelled { IfOk result (λ script. IsScript bytes.now script) }
     // The spelling of a script is read, unless memory runs out.
-    ensures reads { (script : Script) → IsPlainScript bytes.now script → (result ≡ Ok script) ⊎ (result ≡ Err ScriptFault.NoMemory) }
+    ensures reads { (script : Script) → IsScript bytes.now script → (result ≡ Ok script) ⊎ (result ≡ Err ScriptFault.NoMemory) }
     // A fault is the first one, and on its line the least; then the bytes are the spelling of no script.
     ensures bad { (line rule : ℕ) → result ≡ Err (ScriptFault.Bad line rule) → first_fault bytes.now ≡ Some (line, rule) }
-    ensures no_script { (line rule : ℕ) (script : Script) → result ≡ Err (ScriptFault.Bad line rule) → ¬ IsPlainScript bytes.now script }
+    ensures no_script { (line rule : ℕ) (script : Script) → result ≡ Err (ScriptFault.Bad line rule) → ¬ IsScript bytes.now script }
     // Bytes with a fault aren't read, unless memory runs out first.
     ensures found { (line rule : ℕ) → first_fault bytes.now ≡ Some (line, rule)
         → (result ≡ Err (ScriptFault.Bad line rule)) ⊎ (result ≡ Err ScriptFault.NoMemory) }

@@ -5,25 +5,44 @@ ghost use Rattle.std.specs.List.{list_any};
 ghost use Rattle.journal_model.specs.LineWords.{keyword_of};
 ghost use Rattle.journal_model.specs.FirstFault.{with_sizes, with_buffer, with_command, with_submit, with_line, is_shown, without_end, ends_line, breaks_text, first_word, after_words, after_line, nothing_read, is_behind_end};
 ghost use Rattle.journal_model.specs.LineRules.{len_of_word, is_too_long};
-ghost use Rattle.script_text.specs.Steps.{IsSteady, IsClean, Leads};
+ghost use Rattle.journal_model.specs.Commands.{commands_of};
+ghost use Rattle.journal_model.specs.MarkRules.{desk_at_end};
+ghost use Rattle.script_desk.specs.Desks.{IsDesk};
+ghost use Rattle.script_text.specs.Steps.{IsSteady, IsKnown, IsClean, Leads, desk_next};
 
+use crate::marks::{follow, put_access, put_mark_line, put_vsubmit};
 use crate::values::{
     actors_of, declared, engine_of, first_of, list_of, move_of, ops_of, plain_of, put_command,
     read_of, touch_of, two_lists_of, write_of, zero_of,
 };
 use journal_model::line::{
-    ActorWords, EngineWord, Keyword, Line, OpWord, OpWords, Phase, Progress,
+    Access, ActorWords, BufferHead, EngineWord, Keyword, Line, OpWord, OpWords, Phase, PlaceWords,
+    Progress,
 };
 use journal_model::{
-    Bytes, Command, CommandLists, Commands, Decl, Decls, Marks, Script, Sizes, TurnLines,
+    Bytes, Command, CommandLists, Commands, Decl, Decls, MarkKind, Marks, Script, Sizes, TurnLines,
 };
+use script_desk::Desk;
 use script_lines::line;
 use script_rules::{broken, lens_within};
 use script_words::cut::cut;
 use script_words::keywords::{can_come, keyword};
 use script_words::names::Names;
 use std::alloc::Global;
-use ttm_base::NoMemory;
+use ttm_base::{BufId, NoMemory};
+
+/// What the lines so far have declared, and what the thread at work has mapped.
+pub struct Known {
+    pub names: Names,
+    pub desk: Desk,
+}
+
+/// By hand, so that no function here proves how each part goes.
+impl Drop for Known {
+    fn drop(self) {
+        let Self { names: _, desk: _ } = self;
+    }
+}
 
 fn set_sizes(progress: &mut Progress, next: Phase, sizes: Sizes)
     ensures { progress.new ≡ with_sizes progress.old next sizes }
@@ -105,7 +124,7 @@ fn put_buffer(
     Ok(())
 }
 
-fn put(progress: &mut Progress, command: Command) -> Result<(), NoMemory>
+pub fn put(progress: &mut Progress, command: Command) -> Result<(), NoMemory>
     requires { progress.old.lines < 4096 }
     ensures { OnOk result (progress.new ≡ with_command progress.old command) }
 {
@@ -114,7 +133,7 @@ fn put(progress: &mut Progress, command: Command) -> Result<(), NoMemory>
     Ok(())
 }
 
-fn put_job(progress: &mut Progress, command: Command, lens: u64) -> Result<(), NoMemory>
+pub fn put_job(progress: &mut Progress, command: Command, lens: u64) -> Result<(), NoMemory>
     requires lines { progress.old.lines < 4096 }
     requires lens { progress.old.lens + lens ≤ 67108864 }
     ensures { OnOk result (progress.new ≡ with_submit progress.old command lens) }
@@ -171,15 +190,134 @@ fn put_submit(
     put_job(progress, Command::Submit { engine, ops }, lens)
 }
 
-/// Takes a line that breaks no rule.
+fn put_two_lists(
+    alloc: Global,
+    names: &mut Names,
+    progress: &mut Progress,
+    head: BufferHead,
+    want: PlaceWords,
+    busy: PlaceWords,
+) -> Result<(), NoMemory>
+    requires { list_any (bytes_eq head.name) names.old ≡ false }
+    ensures ok { OnOk result (progress.new ≡ with_line progress.old (Line.Buffer head want busy)) }
+    ensures names { OnOk result (names.new ≡ names.old ++ head.name ∷ []) }
+{
+    let list = two_lists_of(alloc, want.items(), busy.items())?;
+    put_buffer(alloc, names, progress, declared(head, list))
+}
+
+fn put_one_list(
+    alloc: Global,
+    names: &mut Names,
+    progress: &mut Progress,
+    head: BufferHead,
+    list: PlaceWords,
+) -> Result<(), NoMemory>
+    requires { list_any (bytes_eq head.name) names.old ≡ false }
+    ensures ok { OnOk result (progress.new ≡ with_line progress.old (Line.Placed head list)) }
+    ensures names { OnOk result (names.new ≡ names.old ++ head.name ∷ []) }
+{
+    let list = list_of(alloc, list.items())?;
+    put_buffer(alloc, names, progress, declared(head, list))
+}
+
+fn put_write(
+    alloc: Global,
+    progress: &mut Progress,
+    access: Access,
+    b: Option<BufId>,
+    off: Option<u32>,
+    bytes: Option<Bytes>,
+) -> Result<(), NoMemory>
+    requires threads { length progress.old.script.threads ≤ 16 }
+    requires commands { length (commands_of progress.old.script (length progress.old.script.threads)) ≤ 4096 }
+    requires lines { progress.old.lines < 4096 }
+    ensures { OnOk result (progress.new ≡ with_line progress.old (Line.Write access b off bytes)) }
+{
+    put_access(progress, access)?;
+    put(progress, write_of(alloc, b, off, bytes))
+}
+
+fn put_read(
+    progress: &mut Progress,
+    access: Access,
+    b: Option<BufId>,
+    off: Option<u32>,
+    len: Option<u32>,
+) -> Result<(), NoMemory>
+    requires threads { length progress.old.script.threads ≤ 16 }
+    requires commands { length (commands_of progress.old.script (length progress.old.script.threads)) ≤ 4096 }
+    requires lines { progress.old.lines < 4096 }
+    ensures { OnOk result (progress.new ≡ with_line progress.old (Line.Read access b off len)) }
+{
+    put_access(progress, access)?;
+    put(progress, read_of(b, off, len))
+}
+
+fn put_map(progress: &mut Progress, b: Option<BufId>) -> Result<(), NoMemory>
+    requires threads { length progress.old.script.threads ≤ 16 }
+    requires commands { length (commands_of progress.old.script (length progress.old.script.threads)) ≤ 4096 }
+    requires lines { progress.old.lines < 4096 }
+    ensures { OnOk result (progress.new ≡ with_line progress.old (Line.Map b)) }
+{
+    put_mark_line(progress, MarkKind::Map { b: first_of(b) })
+}
+
+fn put_unmap(progress: &mut Progress, b: Option<BufId>) -> Result<(), NoMemory>
+    requires threads { length progress.old.script.threads ≤ 16 }
+    requires commands { length (commands_of progress.old.script (length progress.old.script.threads)) ≤ 4096 }
+    requires lines { progress.old.lines < 4096 }
+    ensures { OnOk result (progress.new ≡ with_line progress.old (Line.Unmap b)) }
+{
+    put_mark_line(progress, MarkKind::Unmap { b: first_of(b) })
+}
+
+fn put_vmap(
+    progress: &mut Progress,
+    va: Option<u32>,
+    n: Option<u32>,
+    b: Option<BufId>,
+    off: Option<u32>,
+) -> Result<(), NoMemory>
+    requires threads { length progress.old.script.threads ≤ 16 }
+    requires commands { length (commands_of progress.old.script (length progress.old.script.threads)) ≤ 4096 }
+    requires lines { progress.old.lines < 4096 }
+    ensures { OnOk result (progress.new ≡ with_line progress.old (Line.Vmap va n b off)) }
+{
+    let kind = MarkKind::Vmap {
+        va: zero_of(va),
+        n: zero_of(n),
+        b: first_of(b),
+        off: zero_of(off),
+    };
+    put_mark_line(progress, kind)
+}
+
+fn put_vunmap(progress: &mut Progress, va: Option<u32>, n: Option<u32>) -> Result<(), NoMemory>
+    requires threads { length progress.old.script.threads ≤ 16 }
+    requires commands { length (commands_of progress.old.script (length progress.old.script.threads)) ≤ 4096 }
+    requires lines { progress.old.lines < 4096 }
+    ensures { OnOk result (progress.new ≡ with_line progress.old (Line.Vunmap va n)) }
+{
+    let kind = MarkKind::Vunmap {
+        va: zero_of(va),
+        n: zero_of(n),
+    };
+    put_mark_line(progress, kind)
+}
+
+/// Takes a line that breaks no rule, beside what it maps.
 fn accept(
     alloc: Global,
     names: &mut Names,
+    desk: &Desk,
     progress: &mut Progress,
     line: Line,
 ) -> Result<(), NoMemory>
     requires steady { IsSteady names.old progress.old }
     requires clean { IsClean progress.old line }
+    requires commands { length (commands_of progress.old.script (length progress.old.script.threads)) ≤ progress.old.lines }
+    requires desk { IsDesk desk.now (desk_next (desk_at_end progress.old.script) line) }
     ensures ok { OnOk result (progress.new ≡ with_line progress.old line) }
     ensures steady { OnOk result (IsSteady names.new progress.new) }
 {
@@ -191,22 +329,33 @@ fn accept(
         Line::Swap { size } => set_swap(progress, size),
         Line::Engines { size } => set_engines(progress, size),
         Line::Buffer { head, want, busy } => {
-            let list = two_lists_of(alloc, want.items(), busy.items())?;
-            put_buffer(alloc, names, progress, declared(head, list))?;
+            put_two_lists(alloc, names, progress, head, want, busy)?
         }
-        Line::Placed { head, list } => {
-            let list = list_of(alloc, list.items())?;
-            put_buffer(alloc, names, progress, declared(head, list))?;
-        }
+        Line::Placed { head, list } => put_one_list(alloc, names, progress, head, list)?,
         Line::Thread => put_thread(alloc, progress)?,
         Line::Turn { actors } => put_turn(alloc, progress, actors)?,
         Line::End => progress.phase = Phase::After,
         Line::Plain { verb, b } => put(progress, plain_of(verb, first_of(b)))?,
-        Line::Write { b, off, bytes } => put(progress, write_of(alloc, b, off, bytes))?,
-        Line::Read { b, off, len } => put(progress, read_of(b, off, len))?,
+        Line::Write {
+            access,
+            b,
+            off,
+            bytes,
+        } => put_write(alloc, progress, access, b, off, bytes)?,
+        Line::Read {
+            access,
+            b,
+            off,
+            len,
+        } => put_read(progress, access, b, off, len)?,
         Line::Move { b, mem } => put(progress, move_of(b, mem))?,
         Line::Touch { group } => put(progress, touch_of(group))?,
         Line::Submit { engine, ops } => put_submit(alloc, progress, engine, ops)?,
+        Line::Map { b } => put_map(progress, b)?,
+        Line::Unmap { b } => put_unmap(progress, b)?,
+        Line::Vmap { va, n, b, off } => put_vmap(progress, va, n, b, off)?,
+        Line::Vunmap { va, n } => put_vunmap(progress, va, n)?,
+        Line::Vsubmit { engine, ops } => put_vsubmit(alloc, desk, progress, engine, ops)?,
     }
     Ok(())
 }
@@ -251,44 +400,49 @@ fn keyword_of_line(words: &[Bytes]) -> Keyword
 /// Takes the words of a line, or answers the least rule that they break.
 fn take_words(
     alloc: Global,
-    names: &mut Names,
+    known: &mut Known,
     progress: &mut Progress,
     words: &[Bytes],
 ) -> Result<Option<u32>, NoMemory>
-    requires { IsSteady names.old progress.old }
+    requires steady { IsSteady known.old.names progress.old }
+    requires known { IsKnown known.old.desk progress.old }
     ensures leads { IfOk result (λ rule. Leads rule progress.new (after_words progress.old words.now)) }
-    ensures steady { OnOk result (IsSteady names.new progress.new) }
+    ensures steady { OnOk result (IsSteady known.new.names progress.new) }
+    ensures known { OnOk result (IsKnown known.new.desk progress.new) }
 {
     let keyword = keyword_of_line(words);
-    if !can_come(progress.phase, keyword) {
+    if !can_come(progress.script.version, progress.phase, keyword) {
         return Ok(Some(3));
     }
-    let Some(line) = line(alloc, names, &progress.script, keyword, words)? else {
+    let Some(line) = line(alloc, &known.names, &progress.script, keyword, words)? else {
         return Ok(Some(4));
     };
-    if let Some(rule) = broken(alloc, names, progress, &line)? {
+    if let Some(rule) = broken(alloc, &known.names, &known.desk, progress, &line)? {
         return Ok(Some(rule));
     }
-    accept(alloc, names, progress, line)?;
+    follow(alloc, &mut known.desk, progress, &line)?;
+    accept(alloc, &mut known.names, &known.desk, progress, line)?;
     Ok(None)
 }
 
 /// Takes a line, or answers the least rule that it breaks.
 pub fn take_line(
     alloc: Global,
-    names: &mut Names,
+    known: &mut Known,
     progress: &mut Progress,
     text: &[u8],
 ) -> Result<Option<u32>, NoMemory>
-    requires { IsSteady names.old progress.old }
+    requires steady { IsSteady known.old.names progress.old }
+    requires known { IsKnown known.old.desk progress.old }
     ensures leads { IfOk result (λ rule. Leads rule progress.new (after_line progress.old text.now)) }
-    ensures steady { OnOk result (IsSteady names.new progress.new) }
+    ensures steady { OnOk result (IsSteady known.new.names progress.new) }
+    ensures known { OnOk result (IsKnown known.new.desk progress.new) }
 {
     if breaks_line(text) {
         return Ok(Some(2));
     }
     let words = cut(alloc, b' ', front_of(text))?;
-    take_words(alloc, names, progress, words.items())
+    take_words(alloc, known, progress, words.items())
 }
 
 /// Before the first line.

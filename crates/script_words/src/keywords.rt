@@ -1,10 +1,10 @@
 //! The first word of a line, and where a line may stand.
 
 ghost use Rattle.std.specs.Prelude.{◌≡◌};
-ghost use Rattle.journal_model.specs.LineWords.{verb_of, command_keyword_of, keyword_of, may_come};
+ghost use Rattle.journal_model.specs.LineWords.{verb_of, mapping_keyword_of, command_keyword_of, keyword_of, may_follow, needs_version_two, may_come};
 
 use crate::words::is;
-use journal_model::line::{Keyword, Phase, Verb};
+use journal_model::line::{Access, Keyword, Phase, Verb};
 
 fn verb(word: &[u8]) -> Option<Verb>
     ensures { result ≡ verb_of word.now }
@@ -26,13 +26,38 @@ fn verb(word: &[u8]) -> Option<Verb>
     }
 }
 
+fn mapping_keyword(word: &[u8]) -> Keyword
+    ensures { result ≡ mapping_keyword_of word.now }
+{
+    if is(word, b"map") {
+        Keyword::Map
+    } else if is(word, b"unmap") {
+        Keyword::Unmap
+    } else if is(word, b"peek") {
+        Keyword::Read(Access::Mapped)
+    } else if is(word, b"poke") {
+        Keyword::Write(Access::Mapped)
+    } else if is(word, b"vmap") {
+        Keyword::Vmap
+    } else if is(word, b"vunmap") {
+        Keyword::Vunmap
+    } else if is(word, b"vsubmit") {
+        Keyword::Vsubmit
+    } else {
+        match verb(word) {
+            Some(verb) => Keyword::Plain(verb),
+            None => Keyword::Other,
+        }
+    }
+}
+
 fn command_keyword(word: &[u8]) -> Keyword
     ensures { result ≡ command_keyword_of word.now }
 {
     if is(word, b"write") {
-        Keyword::Write
+        Keyword::Write(Access::Direct)
     } else if is(word, b"read") {
-        Keyword::Read
+        Keyword::Read(Access::Direct)
     } else if is(word, b"move") {
         Keyword::Move
     } else if is(word, b"touch") {
@@ -40,10 +65,7 @@ fn command_keyword(word: &[u8]) -> Keyword
     } else if is(word, b"submit") {
         Keyword::Submit
     } else {
-        match verb(word) {
-            Some(verb) => Keyword::Plain(verb),
-            None => Keyword::Other,
-        }
+        mapping_keyword(word)
     }
 }
 
@@ -76,9 +98,8 @@ pub fn keyword(word: &[u8]) -> Keyword
     }
 }
 
-/// A line with this keyword may come in this phase of a script.
-pub fn can_come(phase: Phase, keyword: Keyword) -> bool
-    ensures { result ≡ may_come phase keyword }
+fn can_follow(phase: Phase, keyword: Keyword) -> bool
+    ensures { result ≡ may_follow phase keyword }
 {
     match phase {
         Phase::Version => matches!(keyword, Keyword::Ttm),
@@ -97,13 +118,40 @@ pub fn can_come(phase: Phase, keyword: Keyword) -> bool
                 | Keyword::Schedule
                 | Keyword::End
                 | Keyword::Plain(_)
-                | Keyword::Write
-                | Keyword::Read
+                | Keyword::Write(_)
+                | Keyword::Read(_)
                 | Keyword::Move
                 | Keyword::Touch
                 | Keyword::Submit
+                | Keyword::Map
+                | Keyword::Unmap
+                | Keyword::Vmap
+                | Keyword::Vunmap
+                | Keyword::Vsubmit
         ),
         Phase::Turns => matches!(keyword, Keyword::Schedule | Keyword::End),
         Phase::After => false,
     }
+}
+
+fn is_of_version_two(keyword: Keyword) -> bool
+    ensures { result ≡ needs_version_two keyword }
+{
+    matches!(
+        keyword,
+        Keyword::Write(Access::Mapped)
+            | Keyword::Read(Access::Mapped)
+            | Keyword::Map
+            | Keyword::Unmap
+            | Keyword::Vmap
+            | Keyword::Vunmap
+            | Keyword::Vsubmit
+    )
+}
+
+/// A line with this keyword may come in this phase of a script of this version.
+pub fn can_come(version: u32, phase: Phase, keyword: Keyword) -> bool
+    ensures { result ≡ may_come version phase keyword }
+{
+    can_follow(phase, keyword) && (!is_of_version_two(keyword) || version == 2)
 }

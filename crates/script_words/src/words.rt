@@ -3,7 +3,7 @@
 ghost use Rattle.std.specs.Prelude.{◌≡◌, ◌<◌, ◌^◌, ◌*◌, ◌+◌, ◌-◌, ◌==◌, min, IfOk, bytes_eq, length, Some, true, false};
 ghost use Rattle.std.specs.List.{list_all};
 ghost use Rattle.journal_model.specs.Cut.{is_semicolon};
-ghost use Rattle.journal_model.specs.Reading.{is_digit, has_no_leading_zero, is_plain, read_on, number_in, group_of, offset_of, is_hex, hex_value, bytes_in_hex, byte_in_hex, mem_of, engine_word_of, actor_of, thread_actor, engine_actor};
+ghost use Rattle.journal_model.specs.Reading.{is_digit, has_no_leading_zero, is_plain, read_on, number_in, group_of, offset_of, address_of, is_hex, hex_value, bytes_in_hex, byte_in_hex, mem_of, engine_word_of, actor_of, thread_actor, engine_actor};
 
 use hex::FromHexError;
 use journal_model::Bytes;
@@ -101,6 +101,16 @@ pub fn offset(word: &[u8]) -> Option<u32>
     ensures { result ≡ offset_of word.now }
 {
     number(0, MOST_LEN, word)
+}
+
+/// An address of a space.
+pub fn address(word: &[u8]) -> Option<u64>
+    ensures { result ≡ address_of word.now }
+{
+    match number(0, u32::MAX, word) {
+        Some(n) => Some(u64::from(n)),
+        None => None,
+    }
 }
 
 fn is_hex_digit(c: u8) -> bool

@@ -2,7 +2,7 @@ use Rattle.std.proofs.Common.{◌≡◌, ◌^◌, ◌<◌, ◌∙◌, Option, ap
 use Rattle.std.proofs.lemmas.Result.{IfOk-weaker}
 use Rattle.journal_model.specs.declared.entry.Entry.{Entry}
 use Rattle.journal_model.specs.declared.script.Decl.{Decl}
-use Rattle.law_script.proofs.ListFacts.{length_map}
+use Rattle.std.proofs.lemmas.List.{length-map}
 use Rattle.entry_reader.specs.EntryReading.{entry_of}
 use Rattle.entry_reader.specs.Read.{IsRead}
 use Rattle.entry_reader.proofs.EntryLaws.{entry_read}
@@ -13,7 +13,7 @@ pub entry_by_line-requires : goal.entry_by_line-requires
 entry_by_line-requires c =
     let script = c.args.script.now in
     let few = few_buffers script c.requires.script in
-    let len : length c.args.names.now ≡ length script.buffers = ap length c.requires.declared ∙ length_map (λ (d : Decl). d.name) script.buffers in
+    let len : length c.args.names.now ≡ length script.buffers = ap length c.requires.declared ∙ length-map script.buffers (λ (d : Decl). d.name) in
     record { few = omega (arith, few, len); threads = few_threads script c.requires.script; declared = c.requires.declared }
 
 pub returns : goal.returns

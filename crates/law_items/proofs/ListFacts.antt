@@ -1,13 +1,37 @@
 -- Lists that grow at their end, and the last of a list of lists.
-use Rattle.std.proofs.Common.{◌≡◌, ℕ, suc, ◌+◌, ◌-◌, ◌<◌, Bool, true, List, [], ◌∷◌, ◌++◌, length, map, Option, Some, None, refl, sym, ap, ◌∙◌, append_assoc, arith}
-use Rattle.std.specs.Prelude.{sum_by, flat_map, slice_get, slice_set, nat_le}
+use Rattle.std.proofs.Common.{◌≡◌, ℕ, suc, ◌+◌, ◌-◌, ◌<◌, ◌≤◌, Bool, true, false, List, [], ◌∷◌, ◌++◌, length, map, Option, Some, None, refl, sym, ap, ◌∙◌, append_assoc, arith}
+use Rattle.std.specs.Prelude.{◌&&◌, sum_by, flat_map, slice_get, slice_set, nat_le}
 use Rattle.std.specs.List.{list_all}
+use Rattle.std.proofs.lemmas.Bool.Decides.{nat_tests}
 use Rattle.std.proofs.lemmas.List.{append-nil}
 use Rattle.std.proofs.lemmas.List.Concat.{flat_map-cons}
 use Rattle.std.proofs.lemmas.List.Sums.{sum_by-append, sum_by-cons}
 use Rattle.std.proofs.lemmas.Grind.{flat_map-append}
 use Rattle.journal_model.specs.FirstFault.{onto_last}
-use Rattle.law_script.proofs.Tests.{both, joint, and_true, is_le}
+
+-- ---- tests
+
+-- each of two
+pub both : (a b : Bool) → (a && b) ≡ true → (a ≡ true) × (b ≡ true)
+both true true h = (refl, refl)
+both true false h = absurd cc
+both false b h = absurd cc
+
+-- two that hold
+pub joint : (a b : Bool) → a ≡ true → b ≡ true → (a && b) ≡ true
+joint true true p q = refl
+joint true false p q = absurd cc
+joint false b p q = absurd cc
+
+-- a test that holds, and another
+pub and_true : (a : Bool) → a ≡ true → (a && true) ≡ true
+and_true true h = refl
+and_true false h = absurd cc
+
+pub is_le : (n m : ℕ) → n ≤ m → nat_le n m ≡ true
+is_le n m h = grind (arith, nat_tests)
+
+-- ---- one more at the end
 
 -- nothing fails in an empty list
 pub all_nil : {X : Type 0} (p : X → Bool) (xs : List X) → xs ≡ [] → list_all p xs ≡ true
@@ -128,3 +152,29 @@ text_put {X = X} head f c (xs ∷ ys ∷ rest) h =
     let g : List X → List ℕ = λ ys. head ++ flat_map f ys in
     flat_map-cons g xs (put_last c (ys ∷ rest)) ∙ ap (λ t. g xs ++ t) (text_put head f c (ys ∷ rest) (omega arith))
     ∙ sym (append_assoc (g xs) (flat_map g (ys ∷ rest)) (f c)) ∙ ap (λ t. t ++ f c) (sym (flat_map-cons g xs (ys ∷ rest)))
+
+-- ---- the last list
+
+-- the last list, or none
+abbrev pub last_list : {X : Type 0} → List (List X) → List X
+last_list [] = []
+last_list (xs ∷ []) = xs
+last_list (xs ∷ ys ∷ lists) = last_list (ys ∷ lists)
+
+-- as long as the last list
+pub last_len_is : {X : Type 0} (lists : List (List X)) → last_len lists ≡ length (last_list lists)
+last_len_is [] = refl
+last_len_is (xs ∷ []) = refl
+last_len_is (xs ∷ ys ∷ lists) = last_len_is (ys ∷ lists)
+
+-- where the last list is known
+pub last_end : {X : Type 0} (done : List (List X)) (xs : List X) → last_list (done ++ xs ∷ []) ≡ xs
+last_end [] xs = refl
+last_end (ys ∷ []) xs = refl
+last_end (ys ∷ zs ∷ done) xs = last_end (zs ∷ done) xs
+
+-- one more behind it
+pub put_end : {X : Type 0} (c : X) (done : List (List X)) (xs : List X) → put_last c (done ++ xs ∷ []) ≡ done ++ (xs ++ c ∷ []) ∷ []
+put_end c [] xs = refl
+put_end c (ys ∷ []) xs = refl
+put_end c (ys ∷ zs ∷ done) xs = ap (λ ts. ys ∷ ts) (put_end c (zs ∷ done) xs)

@@ -1,0 +1,11 @@
+use Rattle.std.proofs.Common.{◌≡◌, ◌+◌, ◌≤◌, min, drop, length}
+use Rattle.std.specs.Prelude.{option_map}
+use Rattle.journal_model.specs.ByName.{job_by_name}
+use Rattle.gpu_spaces.specs.Kept.{regions_in}
+use Rattle.gpu_spaces.proofs.job.job_len.Given as goal
+
+abbrev pub invariant-loop-op : goal.invariant-loop-op
+invariant-loop-op l = record {
+  few : l.count ≤ l.most;
+  made : option_map (λ job. min (length job) l.most) (job_by_name (regions_in l.mappings) l.ops) ≡ option_map (λ job. min (l.count + length job) l.most) (job_by_name (regions_in l.mappings) (drop l.op-index l.ops));
+}

@@ -1,0 +1,7 @@
+use Rattle.std.proofs.Common.{◌≡◌, ◌≤◌, take}
+use Rattle.std.specs.Prelude.{sum_by}
+use Rattle.journal_model.specs.LineRules.{len_of_vop_word}
+use Rattle.script_rules.proofs.addresses.addressed_lens_within.Given as goal
+
+abbrev pub invariant-loop-op : goal.invariant-loop-op
+invariant-loop-op l = record { so_far : l.sum ≡ sum_by len_of_vop_word (take l.op-index l.ops); within : l.sum ≤ l.left }

@@ -1,0 +1,29 @@
+use Rattle.std.proofs.Common.{◌≡◌, Bool, map, ap, sym, ◌∙◌}
+use Rattle.std.specs.Prelude.{IfOk, not}
+use Rattle.std.specs.List.{list_any}
+use Rattle.std.proofs.Common.{subst}
+use Rattle.journal_model.specs.ByName.{job_by_name}
+use Rattle.journal_model.specs.MarkRules.{has_apart_ranges}
+use Rattle.journal_model.specs.LineRules.{vop_in, is_big_named_job}
+use Rattle.script_rules.proofs.AddressLaws.{ops_inside, twice_told, big_told}
+use Rattle.script_rules.proofs.addresses.breaks_addressed_job.Goals as goal
+
+pub some_buffer_is_twice-requires : goal.some_buffer_is_twice-requires
+some_buffer_is_twice-requires c = rw (c.items.ensures, c.in_ok-ops.ensures) (ops_inside c.args.words.now c.requires.numbers c.requires.ranges)
+
+pub returns-then-branch : goal.returns-then-branch
+returns-then-branch c =
+    let rs = c.args.desk.now.regions in
+    let ops = c.items.ensures ∙ c.in_ok-ops.ensures in
+    twice_told rs c.args.words.now c.in_ok-some_buffer_is_twice.field-0 (c.in_ok-some_buffer_is_twice.ensures ∙ ap (list_any (λ v. not (has_apart_ranges rs v))) ops) c.if-branch.true
+
+pub is_big-requires : goal.is_big-requires
+is_big-requires c = rw (c.items-2.ensures, c.in_ok-ops.ensures) (ops_inside c.args.words.now c.requires.numbers c.requires.ranges)
+
+pub returns : goal.returns
+returns c =
+    let rs = c.args.desk.now.regions in
+    let ops = c.items.ensures ∙ c.in_ok-ops.ensures in
+    let told = big_told rs c.args.words.now c.in_ok-some_buffer_is_twice.field-0 (c.in_ok-some_buffer_is_twice.ensures ∙ ap (list_any (λ v. not (has_apart_ranges rs v))) ops) c.if-branch.false in
+    let named = ap (λ vs. is_big_named_job (job_by_name rs vs)) (c.items-2.ensures ∙ c.in_ok-ops.ensures) in
+    subst (λ (b : Bool). IfOk c.is_big.result (λ broken. broken ≡ b)) (named ∙ told) c.is_big.ensures
