@@ -1,6 +1,6 @@
 -- Of each context the greatest number that entries end is how many of its jobs are done behind them, as the timeline tells.
 use Rattle.std.proofs.Common.{◌≡◌, ℕ, zero, suc, ◌+◌, ◌-◌, ◌<◌, ◌≤◌, Bool, true, false, cond, List, [], ◌∷◌, ◌++◌, length, Some, Ok, IsTrue, refl, sym, subst, ◌∙◌, ap, ap₂, arith, ⊎_elim}
-use Rattle.std.specs.Prelude.{◌==◌, ◌&&◌, fold, map, max, slice_get, if◌then◌else◌}
+use Rattle.std.specs.Prelude.{◌==◌, ◌&&◌, map, max, slice_get, if◌then◌else◌}
 use Rattle.std.proofs.lemmas.Grind.{common_steps}
 use Rattle.std.proofs.lemmas.Bool.{cases_eq, eq-eqb, ne_eqb}
 use Rattle.std.proofs.lemmas.List.Sums.{fold-append, sum_by-cons, sum_by_push}
@@ -32,7 +32,7 @@ use Rattle.law_state.specs.GoodState.{last_number}
 use Rattle.law_state.proofs.JournalCourses.{is_of_reaper, of_reaper}
 use Rattle.law_state.proofs.Moves.{thread_step, is_made_by, made_by_task}
 use Rattle.law_state.proofs.Shown.{legal_step}
-use Rattle.law_jobs.specs.JobLines.{IsLine, done_of as done_among, numbers_of, unfinished_of}
+use Rattle.law_jobs.specs.JobLines.{done_of as done_among, numbers_of, unfinished_of}
 use Rattle.law_jobs.proofs.Law.{line_law}
 use Rattle.room_ties.specs.Lines.{AreInLine, IsTimeline}
 use Rattle.lemma_room_jobs.proofs.Heads.{IsEnd, end_of}

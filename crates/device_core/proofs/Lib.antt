@@ -1,1 +1,2 @@
+mod Mappings
 pub mod DoneLaws

@@ -1,7 +1,6 @@
 -- Of each context the greatest number that is done after some entries.
-use Rattle.std.proofs.Common.{◌≡◌, ℕ, ◌≤◌, List, [], ◌∷◌, ◌++◌, arith}
-use Rattle.std.specs.Prelude.{Bool, ◌==◌, fold, max, if◌then◌else◌}
-use Rattle.ttm_base.specs.declared.Actor.{Actor}
+use Rattle.std.proofs.Common.{ℕ, ◌≤◌, List, [], ◌∷◌, ◌++◌, arith}
+use Rattle.std.specs.Prelude.{◌==◌, fold, max, if◌then◌else◌}
 use Rattle.ttm_base.specs.declared.Actor.TheVariants as actor
 use Rattle.journal_model.specs.declared.entry.Entry.{Entry}
 use Rattle.journal_model.specs.declared.entry.Kind.{Kind}

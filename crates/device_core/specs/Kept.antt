@@ -1,5 +1,5 @@
 -- What a device is: a script and a journal, as the rooms are. And what a turn of an actor makes of it.
-use Rattle.std.specs.Prelude.{ℕ, ◌+◌, true, false, Bool, List, Option, Some, None, Result, Ok, Err, find, length}
+use Rattle.std.specs.Prelude.{◌+◌, true, false, Bool, List, Option, Some, None, Result, Ok, Err, find, length}
 use Rattle.ttm_base.specs.declared.Actor.{Actor}
 use Rattle.ttm_base.specs.declared.Need.{Need}
 use Rattle.ttm_base.specs.declared.Turn.{Turn}

@@ -1,16 +1,20 @@
 ghost use Rattle.std.specs.Prelude.{◌≡◌, ◌↔◌, [], false, IfOk, OnOk, OnErr, IsTrue, find};
 ghost use Rattle.journal_model.specs.ScriptRules.{is_script};
 ghost use Rattle.journal_model.specs.Complete.{is_complete};
-ghost use Rattle.journal_model.specs.Legal.{IsLegal, state_of};
+ghost use Rattle.journal_model.specs.Legal.{IsLegal, made_of, state_of};
+ghost use Rattle.map_follow.specs.Follows.{KnowExactly};
+ghost use Rattle.room_turns.specs.Turns.{step_of};
 ghost use Rattle.law_sound.specs.Sound.{SomeGoesOn};
 ghost use Rattle.report_text.specs.Accounts.{AreAccountsOf};
 ghost use Rattle.device_core.specs.Done.{done_of};
 ghost use Rattle.device_core.specs.Kept.{entry_of, after_step, turn_of, after_turn, goes_on, order_of, next_actor, after_found};
 
+use cpu_maps::CpuMaps;
 use journal_model::{Entry, Script};
 use report_text::Accounts;
 use room_accounts::accounts_of;
 use room_device::turn;
+use room_maps::follow;
 use room_turns::{Rooms, Step};
 use std::alloc::Global;
 use std::marker::Model;
@@ -21,21 +25,30 @@ use turn_order::own_order;
 pub struct Device {
     alloc: Global,
     rooms: Rooms,
+    maps: CpuMaps,
 }
 
 /// By hand, so that no crate above has to prove how each part goes.
 impl Drop for Device {
     fn drop(self) {
-        let Self { alloc: _, rooms: _ } = self;
+        let Self {
+            alloc: _,
+            rooms: _,
+            maps: _,
+        } = self;
     }
 }
 
 impl Model for Device {
     ghost use Rattle.device_core.specs.Kept.{Kept};
+    ghost use Rattle.journal_model.specs.Legal.{made_of};
+    ghost use Rattle.map_follow.specs.Follows.{Follows};
 
     ghost Value = { Kept };
 
     ghost view = { λ d. d.rooms };
+
+    ghost invariant = { λ d. Follows d.rooms.script (made_of d.rooms.script d.rooms.journal) d.maps };
 }
 
 impl Device {
@@ -48,8 +61,9 @@ impl Device {
         requires { IsTrue (is_script script) }
         ensures { IfOk result (λ d. d ≡ record { script = script; journal = [] }) }
     {
+        let maps = CpuMaps::new(alloc, &script)?;
         let rooms = Rooms::new(alloc, script)?;
-        Ok(Device { alloc, rooms })
+        Ok(Device { alloc, rooms, maps })
     }
 
     /// The script that is run.
@@ -72,6 +86,13 @@ impl Device {
         ensures { result.now ≡ self.now }
     {
         &self.rooms
+    }
+
+    /// What mappings of buffers by the CPU know: of each page the entry that the journal gives the mapping that stands, and no other.
+    pub fn maps(&self) -> &CpuMaps
+        ensures { KnowExactly self.now.script (made_of self.now.script self.now.journal) result.now }
+    {
+        &self.maps
     }
 
     /// How the pages, frames and slots are held.
@@ -104,6 +125,20 @@ impl Device {
         }
     }
 
+    /// Has an actor make its entry, if it has one, and mappings follow it.
+    fn turn(&mut self, who: Actor) -> Result<Step, NoMemory>
+        ensures step { IfOk result (λ step. step ≡ step_of (entry_of self.old who)) }
+        ensures made { OnOk result (self.new ≡ after_step self.old (entry_of self.old who)) }
+        ensures err { OnErr result (self.new ≡ self.old) }
+    {
+        let step = turn(self.alloc, &mut self.rooms, who)?;
+        let _legal = self.rooms.journal();
+        if let Step::Made = step {
+            follow(&mut self.maps, &self.rooms);
+        }
+        Ok(step)
+    }
+
     /// A turn of an actor.
     ///
     /// # Errors
@@ -117,7 +152,7 @@ impl Device {
         if self.over() {
             return Ok(Turn::Over);
         }
-        match turn(self.alloc, &mut self.rooms, who)? {
+        match self.turn(who)? {
             Step::Made => Ok(Turn::Made(self.rooms.journal().len() as u64)),
             Step::Need(need) => Ok(Turn::Blocked(need)),
         }
@@ -129,7 +164,7 @@ impl Device {
         ensures made { OnOk result (self.new ≡ after_step self.old (entry_of self.old who)) }
         ensures err { OnErr result (self.new ≡ self.old) }
     {
-        match turn(self.alloc, &mut self.rooms, who)? {
+        match self.turn(who)? {
             Step::Made => Ok(true),
             Step::Need(_) => Ok(false),
         }

@@ -48,15 +48,15 @@ taken_at (e ∷ es) (suc page) (suc i) = let rest = taken_at es page i in grind 
 its_buffer : (t : ℕ) (c b : BufId) (a : Area) → is_of t c a ≡ true → same_buffer a.b b ≡ same_buffer c b
 its_buffer t c b a h = let e : a.b.0 ≡ c.0 = grind (arith, nat_tests, h) in ap (λ n. n == b.0) e
 
-emptied_is_of : (t : ℕ) (c : BufId) (x : Bool) (a : Area) → is_of t c (if x then emptied a else a) ≡ is_of t c a
+pub emptied_is_of : (t : ℕ) (c : BufId) (x : Bool) (a : Area) → is_of t c (if x then emptied a else a) ≡ is_of t c a
 emptied_is_of t c true a = refl
 emptied_is_of t c false a = refl
 
-emptied_entry : (i : ℕ) (x : Bool) (a : Area) → entry_of i (if x then emptied a else a) ≡ (if x then None else entry_of i a)
+pub emptied_entry : (i : ℕ) (x : Bool) (a : Area) → entry_of i (if x then emptied a else a) ≡ (if x then None else entry_of i a)
 emptied_entry i true a = none_at a.entries i
 emptied_entry i false a = refl
 
-set_is_of : (t : ℕ) (c : BufId) (page : ℕ) (x : Bool) (a : Area) → is_of t c (if x then with_entry page None a else a) ≡ is_of t c a
+pub set_is_of : (t : ℕ) (c : BufId) (page : ℕ) (x : Bool) (a : Area) → is_of t c (if x then with_entry page None a else a) ≡ is_of t c a
 set_is_of t c page true a = refl
 set_is_of t c page false a = refl
 

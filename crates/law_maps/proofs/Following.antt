@@ -34,7 +34,7 @@ same_paged true false o = refl
 same_paged false x o = refl
 
 -- one entry, kind by kind
-step : (script : Script) (m : Mapping) (i : ℕ) (e : Made) (areas : List Area) (k : Kind) → is_answer k ≡ false →
+pub step : (script : Script) (m : Mapping) (i : ℕ) (e : Made) (areas : List Area) (k : Kind) → is_answer k ≡ false →
     option_map page_there (entry_in (areas_behind k areas) m.thread m.b i) ≡ entry_after script m i e k (option_map page_there (entry_in areas m.thread m.b i))
 step script m i e areas (kind.Result r) h = cc
 step script m i e areas (kind.Refused d) h = cc
@@ -46,7 +46,7 @@ step script m i e areas (kind.SwapOut b page k) h = ap (option_map page_there) (
 step script m i e areas _ h = refl
 
 -- what has no entry gets none
-none_after : (script : Script) (m : Mapping) (i : ℕ) (e : Made) (k : Kind) → is_answer k ≡ false → entry_after script m i e k None ≡ None
+pub none_after : (script : Script) (m : Mapping) (i : ℕ) (e : Made) (k : Kind) → is_answer k ≡ false → entry_after script m i e k None ≡ None
 none_after script m i e (kind.Result r) h = cc
 none_after script m i e (kind.Refused d) h = cc
 none_after script m i e (kind.Free b g) h = sym (same_either (same_buffer m.b b) None)
@@ -57,7 +57,7 @@ none_after script m i e (kind.SwapOut b page k) h = same_paged (page == i) (same
 none_after script m i e _ h = refl
 
 -- no answer more
-same_count : (thread : ℕ) (made : List Made) (e : Made) → is_answer e.entry.kind ≡ false → count_answers thread (made ++ e ∷ []) ≡ count_answers thread made
+pub same_count : (thread : ℕ) (made : List Made) (e : Made) → is_answer e.entry.kind ≡ false → count_answers thread (made ++ e ∷ []) ≡ count_answers thread made
 same_count thread [] e h = grind (arith, common_steps, h)
 same_count thread (x ∷ made) e h = let rest = same_count thread made e h in grind (arith, common_steps)
 

@@ -1,5 +1,5 @@
 pub mod Entries
 pub mod Following
-mod Stays
-mod Tells
-mod Right
+pub mod Stays
+pub mod Tells
+pub mod Right

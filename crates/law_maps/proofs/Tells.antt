@@ -88,7 +88,7 @@ fill_open x h =
         flip true k = cc
 
 -- in a table with all frames each page has one
-framed_at : (table : List Loc) (i : ℕ) → list_all is_frame table ≡ true → i < length table → is_frame (unwrap_or (slice_get table i) loc.Zero) ≡ true
+pub framed_at : (table : List Loc) (i : ℕ) → list_all is_frame table ≡ true → i < length table → is_frame (unwrap_or (slice_get table i) loc.Zero) ≡ true
 framed_at [] i h l = absurd (omega (arith, l))
 framed_at (x ∷ table) zero h l = (and_parts (is_frame x) (list_all is_frame table) h).0
 framed_at (x ∷ table) (suc i) h l = framed_at table i (and_parts (is_frame x) (list_all is_frame table) h).1 (omega (arith, l))
@@ -142,7 +142,7 @@ range_inside script b off len h =
     leb-true (off + len) (4096 * (decl script b).pages) p.1
 
 -- so does the access of a command
-inside : (script : Script) (cmd : Command) (a : Access) → is_command script cmd ≡ true → access_of cmd ≡ Some a → a.off + a.len ≤ 4096 * (decl script a.b).pages
+pub inside : (script : Script) (cmd : Command) (a : Access) → is_command script cmd ≡ true → access_of cmd ≡ Some a → a.off + a.len ≤ 4096 * (decl script a.b).pages
 inside script (command.Read b off len) a h e =
     let p = and_parts (is_range_of script b off len) (nat_le len 256) h in
     let it : (record { b = b; off = off; len = len }) ≡ a = cc in
@@ -239,7 +239,7 @@ module _ (script : Script) (s : State) (t : ℕ) (cmd : Command) (o : Owned scri
   acted_ready (act on w f u) = (on, u)
 
 -- the command of an access
-access_is : (script : Script) (thread n : ℕ) (a : Access) (cmd : Command) → slice_get (commands_of script thread) n ≡ Some cmd → peek_or_poke script thread n ≡ Some a → access_of cmd ≡ Some a
+pub access_is : (script : Script) (thread n : ℕ) (a : Access) (cmd : Command) → slice_get (commands_of script thread) n ≡ Some cmd → peek_or_poke script thread n ≡ Some a → access_of cmd ≡ Some a
 access_is script thread n a cmd e h = by (is_mapped_at script thread n) h
   where
     by : (q : Bool) → (if q then option_and_then access_of (slice_get (commands_of script thread) n) else None) ≡ Some a → access_of cmd ≡ Some a

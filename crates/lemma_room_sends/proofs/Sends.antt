@@ -20,6 +20,7 @@ use Rattle.resource_core.specs.contracts.holdings.Holdings as Holdings
 use Rattle.resource_core.specs.contracts.vram.VramRoom as VramRoom
 use Rattle.bo_table.specs.contracts.table.BoTable as BoTable
 use Rattle.copy_engine.specs.contracts.Rings as Rings
+use Rattle.cpu_maps.specs.contracts.maps.CpuMaps as CpuMaps
 use Rattle.copy_packet.specs.contracts.stores.Stores as Stores
 use Rattle.fence_core.specs.contracts.timeline.Timeline as Timeline
 use Rattle.lru_bulk.specs.contracts.Lru as Lru
@@ -142,3 +143,7 @@ inner = declared_send inside.the_type (search (sendable, crosses) depth 30, (sea
 -- the parts with script and journal
 pub rooms : IsSend Rooms.the_row
 rooms = search (sendable, inner) depth 6
+
+-- what mappings by the CPU know
+pub mappings : IsSend CpuMaps.the_row
+mappings = search (sendable, crosses) depth 60 fits 20000

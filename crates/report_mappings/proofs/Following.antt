@@ -3,7 +3,7 @@ use Rattle.std.proofs.Common.{◌≡◌, ℕ, zero, suc, ◌+◌, ◌≤◌, Boo
 use Rattle.std.specs.Prelude.{◌==◌, ◌&&◌, filter, fold, is_none, map, nat_le, nat_lt, not, option_map, slice_get, if◌then◌else◌}
 use Rattle.std.proofs.lemmas.Bool.{and_parts, cases_lt, eq-eqb, eqb-true, le-leb, lt-leb, leb-true, not-true}
 use Rattle.std.proofs.lemmas.List.{drop_all}
-use Rattle.std.proofs.lemmas.List.Sums.{fold-append, sum_by-cons}
+use Rattle.std.proofs.lemmas.List.Sums.{fold-append}
 use Rattle.ttm_base.specs.declared.Actor.{Actor}
 use Rattle.ttm_base.specs.Pages.{Page}
 use Rattle.journal_model.specs.declared.script.Script.{Script}
@@ -20,9 +20,9 @@ use Rattle.journal_model.specs.Mapped.{Access, Mapping, answered_before, count_a
 use Rattle.journal_model.specs.ReportText.{fault_lines, faults_line, thread_faults}
 use Rattle.law_state.proofs.Counted.{counted_law}
 use Rattle.report_mappings.specs.Faults.{access_in, faults_in, faults_text, is_fault, left_by, mapped_from, paged, seen_after, seen_at}
-use Rattle.report_mappings.proofs.Accesses.{found_does}
-use Rattle.report_mappings.proofs.Pages.{meets_is, pages_are}
-use Rattle.report_mappings.proofs.Requests.{drop_at}
+use Rattle.map_access.proofs.Accesses.{drop_at, found_does}
+use Rattle.map_access.proofs.Counts.{count_next}
+use Rattle.map_access.proofs.Pages.{meets_is, pages_are}
 
 -- the entry of a page, of a mapping that hasn't ended
 abbrev pub entry_of : Script → Mapping → ℕ → List Made → Option Page
@@ -103,21 +103,6 @@ one_page script before who _ m i old s on low h = h
 
 -- ---- all pages after one entry
 
--- one more answer, or none
-answers_next : (thread : ℕ) (es : List Entry) (e : Entry) → answers_of thread (es ++ e ∷ []) ≡ answers_of thread es + cond (is_by_thread thread e.who && is_answer e.kind) 1 0
-answers_next thread [] e =
-    let one = sum_by-cons (λ x. cond (is_by_thread thread x.who && is_answer x.kind) 1 0) e [] in
-    omega (arith, one)
-answers_next thread (x ∷ es) e =
-    let whole = sum_by-cons (λ y. cond (is_by_thread thread y.who && is_answer y.kind) 1 0) x (es ++ e ∷ []) in
-    let part = sum_by-cons (λ y. cond (is_by_thread thread y.who && is_answer y.kind) 1 0) x es in
-    let rest = answers_next thread es e in
-    omega (arith, whole, part, rest)
-
-entries_next : (made : List Made) (e : Made) → map (λ m. m.entry) (made ++ e ∷ []) ≡ map (λ m. m.entry) made ++ e.entry ∷ []
-entries_next [] e = refl
-entries_next (m ∷ made) e = ap (λ es. m.entry ∷ es) (entries_next made e)
-
 pub one_or_none : (b : Bool) → cond b 1 0 ≤ 1
 one_or_none true = omega arith
 one_or_none false = omega arith
@@ -184,7 +169,7 @@ pub follows_next : (script : Script) (thread : ℕ) (made : List Made) (e : Made
     → Follows script thread (made ++ e ∷ []) after new
 follows_next script thread made e n after seen new f at more changed = record {
   counted =
-      ap (answers_of thread) (entries_next made e) ∙ answers_next thread (map (λ m. m.entry) made) e.entry
+      count_next thread made e
       ∙ ap (λ k. k + cond (is_by_thread thread e.entry.who && is_answer e.entry.kind) 1 0) f.counted ∙ sym more;
   low = λ c i.
       let one = after_low (access_in script thread n e.entry) e.entry.kind (is_by_thread thread e.entry.who && is_answer e.entry.kind) c i (seen_at seen c i) n

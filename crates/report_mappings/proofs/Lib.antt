@@ -2,7 +2,5 @@ pub mod SpacedLaws
 pub mod Requests
 pub mod Threads
 pub mod Fits
-pub mod Pages
-pub mod Accesses
 pub mod Numbered
 pub mod Following

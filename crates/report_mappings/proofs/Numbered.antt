@@ -4,7 +4,7 @@ use Rattle.std.specs.Prelude.{◌==◌, ◌&&◌, nat_le, nat_lt, slice_get, sli
 use Rattle.std.proofs.lemmas.Bool.{and_from, and_parts, cases_eq, cases_lt, eq-eqb, eqb-true, ne_eqb, lt-ltb, le-ltb, le-leb, lt-leb}
 use Rattle.std.proofs.lemmas.Option.{slice_get_past}
 use Rattle.report_mappings.specs.Faults.{met_by, number_at, seen_at}
-use Rattle.report_mappings.specs.declared.access.Access.{Access}
+use Rattle.map_access.specs.declared.access.Access.{Access}
 
 -- ---- lists
 

@@ -9,15 +9,8 @@ use Rattle.journal_model.specs.Marks.{is_request}
 use Rattle.journal_model.specs.Words.{Text}
 use Rattle.journal_model.specs.Spaces.{Region, regions_after, steps_along, steps_of}
 use Rattle.journal_model.specs.ReportText.{request_lines}
+use Rattle.map_access.proofs.Accesses.{drop_at}
 use Rattle.report_mappings.specs.Requests.{is_asked_by, requests_among}
-
--- the items from one on
-pub drop_at : {X : Type 0} (xs : List X) (i : ℕ) (x : X) → slice_get xs i ≡ Some x → drop i xs ≡ x ∷ drop (i + 1) xs
-drop_at [] i x h = cc
-drop_at (y ∷ xs) zero x h = let e : y ≡ x = cc in ap (λ z. z ∷ xs) e
-drop_at (y ∷ xs) (suc i) x h =
-    let n : suc (i + 1) ≡ suc i + 1 = omega arith in
-    drop_at xs i x h ∙ ap (λ m. x ∷ drop m (y ∷ xs)) n
 
 -- ---- the requests among marks
 

@@ -9,15 +9,11 @@ use Rattle.journal_model.specs.declared.entry.Kind.{Kind}
 use Rattle.journal_model.specs.declared.entry.Kind.TheVariants as kind
 use Rattle.journal_model.specs.Words.{Text}
 use Rattle.journal_model.specs.Legal.{IsLegal}
-use Rattle.journal_model.specs.Complete.{is_by_thread}
 use Rattle.journal_model.specs.Marks.{is_map}
-use Rattle.journal_model.specs.Mapped.{Access, mapping_at, peek_or_poke}
+use Rattle.journal_model.specs.Mapped.{Access}
 use Rattle.journal_model.specs.ReportText.{faults_line}
-use Rattle.report_mappings.specs.declared.access.Access as rust
-
--- the pages that a range has a byte of: the first, and the one behind the last
-abbrev pub paged : Access → rust.Access
-paged a = record { b = a.b; first = a.off / 4096; end = (a.off + a.len + 4095) / 4096 }
+use Rattle.map_access.specs.declared.access.Access as rust
+pub use Rattle.map_access.specs.Accesses.{access_in, mapped_from, paged}
 
 -- the number of a page, or 0
 abbrev pub number_at : List ℕ → ℕ → ℕ
@@ -26,15 +22,6 @@ number_at pages page = unwrap_or (slice_get pages page) 0
 -- the number of a page of a buffer, or 0
 abbrev pub seen_at : List (List ℕ) → ℕ → ℕ → ℕ
 seen_at seen b page = number_at (unwrap_or (slice_get seen b) []) page
-
--- the access of an entry, if it is the result of a peek or poke of the thread, which has answered so many commands
-abbrev pub access_in : Script → ℕ → ℕ → Entry → Option Access
-access_in script thread n e =
-    elim (e.kind) [ kind.Result r ↦ if is_by_thread thread e.who then peek_or_poke script thread n else None | _ ↦ None ]
-
--- the command behind which the mapping of a buffer stands through which a command goes
-abbrev pub mapped_from : Script → ℕ → ℕ → BufId → Option ℕ
-mapped_from script thread n b = option_map (λ m. m.from) (mapping_at script thread n (record { b = b; off = 0; len = 0 }))
 
 -- a page has no entry, where the mapping stands before that command and the page was last met by the command of a number
 abbrev pub is_fault : Option ℕ → ℕ → Bool

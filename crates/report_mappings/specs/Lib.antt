@@ -1,3 +1,2 @@
 pub mod Requests
-pub mod Accesses
 pub mod Faults

@@ -11,9 +11,9 @@ ghost use Rattle.text_line.specs.Spaced.{behind_each};
 ghost use Rattle.report_mappings.specs.Faults as words;
 ghost use Rattle.report_mappings.specs.Faults.{IsLegalIfMapped, access_in, faults_in, faults_text, mapped_from, paged, seen_after};
 
-use crate::access::{Access, access_in, is_by_thread, mapped_from};
 use crate::seen::{Seen, leave, meet_pages, seen_at};
 use journal_model::{Entry, Kind, MarkKind, Script};
+use map_access::{Access, access_in, is_by_thread, mapped_from};
 use std::alloc::Global;
 use text_line::{Line, put_numbered};
 use ttm_base::{ItemList, NoMemory};

@@ -1,7 +1,6 @@
 //! The report's parts on mappings: the faults of mappings by the CPU, and the steps of address spaces.
 #![tactic(auto)]
 
-mod access;
 pub mod faults;
 mod seen;
 pub mod spaces;

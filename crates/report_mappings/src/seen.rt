@@ -3,8 +3,8 @@ ghost use Rattle.std.specs.Prelude.{◌≡◌, ℕ, ◌<◌, ◌≤◌, ◌==◌
 ghost use Rattle.report_mappings.specs.Faults as words;
 ghost use Rattle.report_mappings.specs.Faults.{left_by, met_by};
 
-use crate::access::Access;
 use journal_model::Kind;
+use map_access::Access;
 use std::alloc::Global;
 use ttm_base::{BufId, ItemList, NoMemory};
 

@@ -1,6 +1,6 @@
 use Rattle.std.proofs.Common.{◌≡◌, ℕ, Bool, ◌∙◌, ap, sym, arith}
 use Rattle.report_mappings.specs.Faults.{faults_in, is_fault, seen_at}
-use Rattle.report_mappings.proofs.Pages.{page_kept, page_left}
+use Rattle.map_access.proofs.Pages.{page_kept, page_left}
 use Rattle.report_mappings.proofs.faults.faults_in.Goals as goal
 use Rattle.report_mappings.proofs.faults.faults_in.Goals.{then-is_fault+in_ok-push, else-is_fault}
 

@@ -1,5 +1,5 @@
 -- Marks above a command, and the mapping through which a command goes.
-use Rattle.std.proofs.Common.{◌≡◌, ℕ, ◌+◌, Bool, true, false, cond, List, [], ◌∷◌, ◌++◌, drop, Option, Some, None, ap, refl, sym, ◌∙◌}
+use Rattle.std.proofs.Common.{◌≡◌, ℕ, zero, suc, ◌+◌, Bool, true, false, cond, List, [], ◌∷◌, ◌++◌, drop, Option, Some, None, ap, refl, sym, ◌∙◌, arith}
 use Rattle.std.specs.Prelude.{◌==◌, ◌&&◌, ◌||◌, filter, find, map, nat_le, option_map, slice_get}
 use Rattle.std.specs.List.{list_any}
 use Rattle.journal_model.specs.declared.script.Mark.{Mark}
@@ -7,8 +7,15 @@ use Rattle.journal_model.specs.declared.script.MarkKind.{MarkKind}
 use Rattle.journal_model.specs.declared.script.MarkKind.TheVariants as mark
 use Rattle.journal_model.specs.Marks.{is_mapped}
 use Rattle.journal_model.specs.Mapped.{Mapping, has_ended, mapping_of, mappings_in}
-use Rattle.report_mappings.specs.Accesses.{has_ended_by, is_way_of}
-use Rattle.report_mappings.proofs.Requests.{drop_at}
+use Rattle.map_access.specs.Accesses.{has_ended_by, is_way_of}
+
+-- the items from one on
+pub drop_at : {X : Type 0} (xs : List X) (i : ℕ) (x : X) → slice_get xs i ≡ Some x → drop i xs ≡ x ∷ drop (i + 1) xs
+drop_at [] i x h = cc
+drop_at (y ∷ xs) zero x h = let e : y ≡ x = cc in ap (λ z. z ∷ xs) e
+drop_at (y ∷ xs) (suc i) x h =
+    let n : suc (i + 1) ≡ suc i + 1 = omega arith in
+    drop_at xs i x h ∙ ap (λ m. x ∷ drop m (y ∷ xs)) n
 
 -- ---- a mark makes the command a peek or poke
 

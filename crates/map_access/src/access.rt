@@ -6,8 +6,7 @@ ghost use Rattle.journal_model.specs.Complete as complete;
 ghost use Rattle.journal_model.specs.Marks as marks;
 ghost use Rattle.journal_model.specs.Mapped as words;
 ghost use Rattle.journal_model.specs.Mapped.{is_through, mapping_of};
-ghost use Rattle.report_mappings.specs.Accesses.{has_ended_by, is_way_of};
-ghost use Rattle.report_mappings.specs.Faults.{access_in, mapped_from, paged};
+ghost use Rattle.map_access.specs.Accesses.{access_in, has_ended_by, is_way_of, mapped_from, paged};
 
 use journal_model::{Command, Entry, Kind, Mark, MarkKind, Script};
 use ttm_base::{Actor, BufId};
@@ -17,7 +16,7 @@ const PAGE: u64 = 4096;
 
 /// Pages of a buffer that a command reads or writes: the first, and the one behind the last.
 #[derive(Clone, Copy)]
-pub(crate) struct Access {
+pub struct Access {
     pub b: BufId,
     pub first: u64,
     pub end: u64,
@@ -98,7 +97,7 @@ fn peek_or_poke(script: &Script, thread: u64, n: u64) -> Option<Access>
     access_of(command_at(script, thread, n)?)
 }
 
-pub(crate) fn is_by_thread(thread: u64, who: Actor) -> bool
+pub fn is_by_thread(thread: u64, who: Actor) -> bool
     ensures { result ≡ complete.is_by_thread thread who }
 {
     match who {
@@ -108,7 +107,7 @@ pub(crate) fn is_by_thread(thread: u64, who: Actor) -> bool
 }
 
 /// The pages of a peek or poke of the thread, which has answered `n` commands, if the entry is its result.
-pub(crate) fn access_in(script: &Script, thread: u64, n: u64, entry: &Entry) -> Option<Access>
+pub fn access_in(script: &Script, thread: u64, n: u64, entry: &Entry) -> Option<Access>
     ensures { result ≡ option_map paged (access_in script.now thread n entry.now) }
 {
     match entry.kind {
@@ -168,7 +167,7 @@ fn begins(mark: &Mark, behind: &[Mark], thread: u64, n: u64, b: BufId) -> bool
 }
 
 /// The command behind which the mapping stands through which a command goes, if there is one.
-pub(crate) fn mapped_from(script: &Script, thread: u64, n: u64, b: BufId) -> Option<u64>
+pub fn mapped_from(script: &Script, thread: u64, n: u64, b: BufId) -> Option<u64>
     ensures { result ≡ mapped_from script.now thread n b }
 {
     let marks = script.marks.items();

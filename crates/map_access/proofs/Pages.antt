@@ -4,7 +4,7 @@ use Rattle.std.specs.Prelude.{◌&&◌, filter, nat_le, nat_lt}
 use Rattle.std.proofs.lemmas.Bool.{cases_lt, lt-ltb, le-ltb, le-leb, lt-leb}
 use Rattle.ttm_base.specs.ListWords.{count_from}
 use Rattle.journal_model.specs.Mapped.{Access, meets_page, pages_of_access}
-use Rattle.report_mappings.specs.Faults.{paged}
+use Rattle.map_access.specs.Accesses.{paged}
 
 -- the page behind a range, by its parts
 pub end_by_parts : (off len : ℕ) → off / 4096 + len / 4096 + (off % 4096 + len % 4096 + 4096 - 1) / 4096 ≡ (off + len + 4095) / 4096

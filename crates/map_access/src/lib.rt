@@ -1,0 +1,6 @@
+//! Peeks and pokes: which entries are their results, the pages that they meet, and the mappings through which they go.
+#![tactic(auto)]
+
+mod access;
+
+pub use access::{Access, access_in, is_by_thread, mapped_from};

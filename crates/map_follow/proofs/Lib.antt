@@ -1,0 +1,8 @@
+mod Standing
+mod Areas
+mod Step
+mod Answered
+pub mod Stands
+pub mod Law
+mod Pages
+pub mod First

@@ -1,0 +1,4 @@
+pub mod Founds
+pub mod Ends
+pub mod Follows
+pub mod Laws

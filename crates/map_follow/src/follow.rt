@@ -1,0 +1,49 @@
+//! What entries of a journal do to mappings.
+ghost use Rattle.std.specs.Prelude.{◌≡◌, ◌<◌, ◌^◌, fold};
+ghost use Rattle.law_maps.specs.Following.{areas_behind};
+ghost use Rattle.map_follow.specs.Founds.{with_found};
+ghost use Rattle.map_follow.specs.Ends as words;
+
+use crate::found::{Found, place_of};
+use cpu_maps::CpuMaps;
+use journal_model::{Kind, MarkKind, Script};
+use ttm_base::{Loc, Mem, Span};
+
+/// Gives the thread's mapping an entry for each page that its access found, of a buffer that stands in this memory type, with these spans and
+/// this page table.
+pub fn fault_in(maps: &mut CpuMaps, found: Found, mem: Mem, spans: &[Span], table: &[Loc])
+    requires { found.pages.end < 2 ^ 32 }
+    ensures { maps.new ≡ with_found found mem spans.now table.now maps.old }
+{
+    for page in found.pages.first..found.pages.end {
+        let page = page as u32;
+        if let Some(place) = place_of(mem, spans, table, page) {
+            maps.fault_in(found.thread, found.pages.b, page, place);
+        }
+    }
+}
+
+/// Takes out the entries of those pages that leave by an entry.
+pub fn leave(maps: &mut CpuMaps, kind: &Kind)
+    ensures { maps.new ≡ areas_behind kind.now maps.old }
+{
+    match kind {
+        Kind::Free { b, .. } | Kind::Move { b, .. } => maps.drop_buffer(*b),
+        Kind::Bind { b } | Kind::Unbind { b } => maps.drop_buffer(*b),
+        Kind::SwapOut { b, page, .. } => maps.drop_page(*b, *page),
+        _ => {}
+    }
+}
+
+/// Takes out the entries of those mappings that end once the thread has answered so many commands.
+pub fn end_mappings(maps: &mut CpuMaps, script: &Script, thread: u32, answered: u64)
+    ensures { maps.new ≡ fold (words.with_end thread answered) maps.old script.now.marks }
+{
+    for mark in script.marks.items() {
+        if mark.thread == thread && u64::from(mark.after) == answered {
+            if let MarkKind::Unmap { b } = mark.kind {
+                maps.unmap(thread, b);
+            }
+        }
+    }
+}

@@ -1,0 +1,58 @@
+//! What the result of a peek or poke finds, and where.
+ghost use Rattle.std.specs.Prelude.{◌≡◌};
+ghost use Rattle.map_follow.specs.Follows as follows;
+ghost use Rattle.map_follow.specs.Founds as words;
+
+use journal_model::{Entry, Kind, Script};
+use map_access::{Access, access_in, mapped_from};
+use state_words::page_at;
+use ttm_base::{Actor, Loc, Mem, PagePlace, Span};
+
+/// Pages that a thread's peek or poke has met through a mapping that stands.
+#[derive(Clone, Copy)]
+pub struct Found {
+    pub thread: u32,
+    pub pages: Access,
+}
+
+/// The thread that an entry answers.
+pub fn answerer(entry: &Entry) -> Option<u32>
+    ensures { result ≡ follows.answerer entry.now }
+{
+    match (entry.who, &entry.kind) {
+        (Actor::Thread(thread), Kind::Result { .. } | Kind::Refused { .. }) => Some(thread),
+        _ => None,
+    }
+}
+
+/// The pages that an entry's access finds, if the entry is the result of a peek or poke. Its thread has answered so many commands before.
+pub fn found_by(script: &Script, answered: u64, entry: &Entry) -> Option<Found>
+    ensures { result ≡ words.found_by script.now answered entry.now }
+{
+    let Actor::Thread(thread) = entry.who else {
+        return None;
+    };
+    let pages = access_in(script, u64::from(thread), answered, entry)?;
+    mapped_from(script, u64::from(thread), answered, pages.b)?;
+    Some(Found { thread, pages })
+}
+
+/// A frame, as it is named.
+fn framed(place: Loc) -> Option<PagePlace>
+    ensures { result ≡ words.framed place }
+{
+    match place {
+        Loc::Frame(frame) => Some(PagePlace::Frame(frame)),
+        Loc::Slot(_) | Loc::Zero => None,
+    }
+}
+
+/// The page of VRAM or the frame at which a page of a buffer stands.
+pub(crate) fn place_of(mem: Mem, spans: &[Span], table: &[Loc], page: u32) -> Option<PagePlace>
+    ensures { result ≡ words.place_of mem spans.now table.now page }
+{
+    match mem {
+        Mem::Vram => Some(PagePlace::Vram(page_at(spans, page)?)),
+        Mem::System | Mem::Tt => framed(*table.get(page as usize)?),
+    }
+}

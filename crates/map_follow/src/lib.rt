@@ -1,0 +1,20 @@
+//! What mappings of buffers by the CPU know, entry by entry of a journal.
+#![tactic(auto)]
+
+mod follow;
+mod found;
+
+ghost use Rattle.map_follow.specs.Laws.{EntriesAreFollowed, NewAreasFollow};
+
+pub use follow::{end_mappings, fault_in, leave};
+pub use found::{Found, answerer, found_by};
+
+/// Areas that follow a legal journal follow it by one more entry.
+pub fn entries_are_followed()
+    ensures { EntriesAreFollowed }
+{}
+
+/// The areas of a script follow a journal without an entry.
+pub fn new_areas_follow()
+    ensures { NewAreasFollow }
+{}

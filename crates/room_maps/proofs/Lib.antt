@@ -1,0 +1,4 @@
+mod Accessed
+mod Behind
+mod Bos
+mod Empty
