@@ -8,8 +8,7 @@ the script on its standard input) and `check` (judges a script with a report beh
 version of scripts, the reports of `sim`, of `run` and of `play` must be valid, and N random edits of each (20 where none is named)
 must get the same verdict from both, status and every byte: a byte changed, taken out or put in, a line less, a line twice, two lines
 that stand beside each other swapped, a number one higher, another actor. The first difference is printed and ends the comparison with
-status 1. FILE is run in place of `./ttm` (`tools/build_unproved.sh FILE` makes one). Of scripts of version 2 the lines that this
-program doesn't read yet are taken out; where what is left is no script, it is left out.
+status 1. FILE is run in place of `./ttm` (`tools/build_unproved.sh FILE` makes one).
 """
 import argparse
 import collections
@@ -19,17 +18,12 @@ import re
 import subprocess
 import sys
 
-MARKS = (b"map", b"unmap", b"peek", b"poke", b"vmap", b"vunmap", b"vsubmit")
 TTM = pathlib.Path(__file__).resolve().parent.parent / "ttm"
 
 
 def run(words, text=b""):
     done = subprocess.run(words, input=text, stdout=subprocess.PIPE, stderr=subprocess.PIPE, check=False)
     return done.returncode, done.stdout
-
-
-def without_marks(script):
-    return b"".join(line for line in script.splitlines(keepends=True) if line.split()[:1] and line.split()[0] not in MARKS)
 
 
 # ---- edits: each takes a text that isn't empty and gives another
@@ -133,15 +127,12 @@ def main():
     parser.add_argument("--program", default=str(TTM))
     asked = parser.parse_args()
     verdicts = collections.Counter()
-    scripts = reports = edited = left_out = 0
+    scripts = reports = edited = 0
     for seed in range(asked.first, asked.first + asked.count):
         rng = random.Random(seed)
         for flags in ([], ["--v2"]):
-            script = without_marks(run([asked.oracle, "random", str(seed), *flags])[1])
+            script = run([asked.oracle, "random", str(seed), *flags])[1]
             made = [run([asked.program, word], script) for word in ("sim", "run")] + [run([asked.oracle, "play", str(seed)], script)]
-            if made[0][0] == 3:
-                left_out += 1
-                continue
             scripts += 1
             for status, report in made:
                 whole = script + report
@@ -157,7 +148,7 @@ def main():
                         differ(f"seed {seed}, {change.__name__}", text, ours, theirs)
                     verdicts[re.sub(rb".*rule ", b"rule ", ours[1]).decode().strip()] += 1
                     edited += 1
-    print(f"{scripts} scripts, {left_out} left out; {reports} valid reports and {edited} edits agree: {dict(sorted(verdicts.items()))}")
+    print(f"{scripts} scripts; {reports} valid reports and {edited} edits agree: {dict(sorted(verdicts.items()))}")
 
 
 if __name__ == "__main__":

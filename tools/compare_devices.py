@@ -3,8 +3,8 @@
 
 usage: tools/compare_devices.py ORACLE [--program FILE] [--scripts N] [--interleavings N] [--seed N]
 
-ORACLE is a program with the words `random SEED [--v2]`, which prints a valid script. Scripts with lines that this program doesn't read
-yet are left out. On N scripts (2,000) of each version the turns are those of the script's schedule and then the simulator's own; N times
+ORACLE is a program with the words `random SEED [--v2]`, which prints a valid script.
+On N scripts (2,000) of each version the turns are those of the script's schedule and then the simulator's own; N times
 (500) they are those of actors drawn at random, until about all is done, and then the simulator's own. The program compare_devices takes
 them on both devices and compares the answer of each turn, the entry, whether all is over and how far each context is; and at the end all
 entries, all bytes of VRAM, frames and slots, the accounts, and what parts tell that were given the plain device's entries. The first case
@@ -21,17 +21,15 @@ import subprocess
 import sys
 import tempfile
 
-MARKS = (b"map", b"unmap", b"peek", b"poke", b"vmap", b"vunmap", b"vsubmit")
 TOP = pathlib.Path(__file__).resolve().parent.parent
 BATCH = 200  # how many cases go through one run of the program
 AGREES = re.compile(rb"(\S+): agree, (\d+) turns, (\d+) entries\n")
 
 
 def script_of(oracle, version, seed):
-    """A random script that this program reads, or none."""
+    """A random script."""
     words = [oracle, "random", str(seed), *["--v2"] * (version == 2)]
-    text = subprocess.run(words, stdout=subprocess.PIPE, check=True).stdout
-    return None if any(line.split(b" ")[0] in MARKS for line in text.split(b"\n")) else text
+    return subprocess.run(words, stdout=subprocess.PIPE, check=True).stdout
 
 
 def scheduled(text):
@@ -81,24 +79,17 @@ def compare(program, cases):
         yield from run(program, batch)
 
 
-def scripts(oracle, version, count, seed, counts):
-    """So many random scripts that are read, each with its name."""
+def scripts(oracle, version, count, seed):
+    """So many random scripts, each with its name."""
     with concurrent.futures.ThreadPoolExecutor() as pool:
-        while count:
-            for text in pool.map(lambda at: script_of(oracle, version, at), range(seed, seed + BATCH)):
-                if text is None:
-                    counts["left out"] += 1
-                elif count:
-                    yield b"v%d_%d" % (version, seed), text
-                    count -= 1
-                if not count:
-                    break
-                seed += 1
+        seeds = range(seed, seed + count)
+        for at, text in zip(seeds, pool.map(lambda at: script_of(oracle, version, at), seeds)):
+            yield b"v%d_%d" % (version, at), text
 
 
-def said(what, found, more=""):
+def said(what, found):
     turns, entries = sum(it[0] for it in found), sum(it[1] for it in found)
-    print(f"{len(found):,} {what} agree: {turns:,} turns, {entries:,} entries, {turns - entries:,} turns without one{more}", flush=True)
+    print(f"{len(found):,} {what} agree: {turns:,} turns, {entries:,} entries, {turns - entries:,} turns without one", flush=True)
 
 
 def main():
@@ -115,10 +106,9 @@ def main():
             subprocess.run([TOP / "tools/build_unproved.sh", "--crate", "compare_devices", program], check=True)
         kept = []
         for version in (1, 2):
-            counts = {"left out": 0}
-            cases = [(name, text, scheduled(text)) for name, text in scripts(words.oracle, version, words.scripts, words.seed, counts)]
+            cases = [(name, text, scheduled(text)) for name, text in scripts(words.oracle, version, words.scripts, words.seed)]
             found = list(compare(program, cases))
-            said(f"scripts of version {version}", found, f"; {counts['left out']:,} scripts left out")
+            said(f"scripts of version {version}", found)
             kept += [(name, text, entries) for (name, text, _steps), (_turns, entries) in zip(cases, found)]
         source = random.Random(words.seed)
         kept = [case for case in kept if len(actors_of(case[1])) > 3 and case[2] > 20] or kept

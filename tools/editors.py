@@ -27,13 +27,16 @@ LETTERS = {"NUMBER": "n", "GROUP": "n", "NAME": "b", "PLACES": "p", "BYTES": "h"
 
 class Table:
     def __init__(self):
-        self.classes, self.lines, self.jobs, self.calls = {}, [], [], []
+        self.classes, self.lines, self.jobs, self.calls = {}, [], {}, []
         for row in (EDITORS / "words.txt").read_text().splitlines():
             kind, _, words = row.partition(" ")
             if kind == "class":
                 name, _, pattern = words.partition(" ")
                 self.classes[name] = pattern.replace("(", "(?:")
-            elif kind in ("line", "job", "call"):
+            elif kind == "job":
+                first, _, words = words.partition(" ")
+                self.jobs.setdefault(first, []).append(words.split(" "))
+            elif kind in ("line", "call"):
                 getattr(self, kind + "s").append(words.split(" "))
 
     def parts(self, words):
@@ -46,22 +49,28 @@ def whole_lines(table):
     return [table.parts(words) for words in table.lines]
 
 
+def jobs_of(table):
+    """Of each line with operations its first word, the patterns and letters of their words, and the pattern of one."""
+    for first, rows in table.jobs.items():
+        jobs = [table.parts(words) for words in rows]
+        yield first, jobs, "(?:" + "|".join(" ".join(pattern for pattern, _ in parts) for parts in jobs) + ")"
+
+
 def vscode(table):
     def rule(parts, start, end):
         scopes = {str(i + 1): {"name": SCOPES[letter]} for i, (_, letter) in enumerate(parts)}
         return {"match": start + " ".join(f"({pattern})" for pattern, _ in parts) + end, "captures": scopes}
 
-    jobs = [table.parts(words) for words in table.jobs]
-    one = "(?:" + "|".join(" ".join(pattern for pattern, _ in parts) for parts in jobs) + ")"
     number, actor = table.classes["NUMBER"], table.classes["ACTOR"]
     return {
         "$schema": "https://raw.githubusercontent.com/martinring/tmlanguage/master/tmlanguage.json",
         "name": "TTM script",
         "scopeName": "source.ttm",
         "patterns": [rule(parts, "^", "$") for parts in whole_lines(table)] + [
-            {"match": f"^(submit) ({number}) ({one}(?: ; {one})*)$",
+            {"match": f"^({first}) ({number}) ({one}(?: ; {one})*)$",
              "captures": {"1": {"name": SCOPES["k"]}, "2": {"name": SCOPES["n"]}, "3": {"patterns": [
-                 *[rule(parts, "(?:^|(?<= ))", "(?= ;|$)") for parts in jobs], {"match": ";", "name": SCOPES["k"]}]}}},
+                 *[rule(parts, "(?:^|(?<= ))", "(?= ;|$)") for parts in jobs], {"match": ";", "name": SCOPES["k"]}]}}}
+            for first, jobs, one in jobs_of(table)] + [
             {"match": f"^(schedule)((?: {actor})+)$",
              "captures": {"1": {"name": SCOPES["k"]}, "2": {"patterns": [{"match": actor, "name": SCOPES["a"]}]}}},
             {"match": "^.+$", "name": SCOPES["!"]},
@@ -76,8 +85,6 @@ def vim(table):
     text = ["\" Vim syntax file for scripts of ttm. Made by tools/editors.py of editors/words.txt.",
             "if exists(\"b:current_syntax\")", "  finish", "endif", "",
             "syntax match ttmError /^.\\+$/"]
-    jobs = [table.parts(words) for words in table.jobs]
-    one = "(?:" + "|".join(" ".join(p for p, _ in parts) for parts in jobs) + ")"
     number, actor = table.classes["NUMBER"], table.classes["ACTOR"]
     for i, parts in enumerate(whole_lines(table)):
         pattern = " ".join(vim_of(word) for word, _ in parts)
@@ -86,16 +93,19 @@ def vim(table):
             then = f" nextgroup=ttmWord{i}_{j + 1} skipwhite" if j + 1 < len(parts) else ""
             text.append(f"syntax match ttmWord{i}_{j} /\\v{vim_of(word)}/ contained{then}")
             text.append(f"highlight default link ttmWord{i}_{j} {GROUPS[letter][0]}")
-    text.append(f"syntax match ttmSubmit /\\v^submit {number} {vim_of(one)}%( ; {vim_of(one)})*$/ contains=ttmSubmitWord,ttmJobWord,ttmJobEnd")
-    text.append("syntax match ttmSubmitWord /\\v^submit/ contained nextgroup=ttmSubmitEngine skipwhite")
-    text.append(f"syntax match ttmSubmitEngine /\\v{number}/ contained nextgroup={','.join(f'ttmJob{i}_0' for i in range(len(jobs)))} skipwhite")
-    text.append(f"syntax match ttmJobEnd /;/ contained nextgroup={','.join(f'ttmJob{i}_0' for i in range(len(jobs)))} skipwhite")
-    text += ["highlight default link ttmSubmitWord ttmKeyword", "highlight default link ttmSubmitEngine ttmNumber", "highlight default link ttmJobEnd ttmKeyword"]
-    for i, parts in enumerate(jobs):
-        for j, (word, letter) in enumerate(parts):
-            then = f"ttmJob{i}_{j + 1}" if j + 1 < len(parts) else "ttmJobEnd"
-            text.append(f"syntax match ttmJob{i}_{j} /\\v{vim_of(word)}/ contained nextgroup={then} skipwhite")
-            text.append(f"highlight default link ttmJob{i}_{j} {GROUPS[letter][0]}")
+    for first, jobs, one in jobs_of(table):
+        own = f"ttm{first.capitalize()}"
+        firsts = ",".join(f"{own}Job{i}_0" for i in range(len(jobs)))
+        text.append(f"syntax match {own} /\\v^{first} {number} {vim_of(one)}%( ; {vim_of(one)})*$/ contains={own}Word,{own}End")
+        text.append(f"syntax match {own}Word /\\v^{first}/ contained nextgroup={own}Engine skipwhite")
+        text.append(f"syntax match {own}Engine /\\v{number}/ contained nextgroup={firsts} skipwhite")
+        text.append(f"syntax match {own}End /;/ contained nextgroup={firsts} skipwhite")
+        text += [f"highlight default link {own}Word ttmKeyword", f"highlight default link {own}Engine ttmNumber", f"highlight default link {own}End ttmKeyword"]
+        for i, parts in enumerate(jobs):
+            for j, (word, letter) in enumerate(parts):
+                then = f"{own}Job{i}_{j + 1}" if j + 1 < len(parts) else f"{own}End"
+                text.append(f"syntax match {own}Job{i}_{j} /\\v{vim_of(word)}/ contained nextgroup={then} skipwhite")
+                text.append(f"highlight default link {own}Job{i}_{j} {GROUPS[letter][0]}")
     text.append(f"syntax match ttmSchedule /\\v^schedule%( {vim_of(actor)})+$/ contains=ttmScheduleWord,ttmActor")
     text.append("syntax match ttmScheduleWord /\\v^schedule/ contained")
     text.append(f"syntax match ttmActor /\\v {vim_of(actor)}/hs=s+1 contained")
@@ -209,9 +219,10 @@ def faults():
             yield f"vim shows a line of {path.name} as wrong: {line}"
     print("editors: the files are what the table makes" + ("" if by_vim else "; there is no vim that could be asked"))
     sources = "".join(path.read_text() for path in (TOP / "crates").glob("script_*/src/*.rt"))
-    for words in [*table.lines, *table.jobs, ["submit"], ["schedule"]]:
-        if f'"{words[0]}"' not in sources:
-            yield f"the word {words[0]} isn't one that scripts are read by"
+    firsts = [words[0] for words in [*table.lines, *(words for rows in table.jobs.values() for words in rows)]]
+    for first in [*firsts, *table.jobs, "schedule"]:
+        if f'"{first}"' not in sources:
+            yield f"the word {first} isn't one that scripts are read by"
 
 
 def main(words):

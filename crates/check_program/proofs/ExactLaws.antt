@@ -6,7 +6,7 @@ use Rattle.journal_model.specs.Words.{Text}
 use Rattle.journal_model.specs.FirstFault.{first_fault}
 use Rattle.journal_model.specs.Verdict.{IsAccepted, IsRejected, check_limit, report_part, script_part}
 use Rattle.journal_model.specs.ReportText.{report}
-use Rattle.law_script.specs.ScriptLaws.{IsPlainScript}
+use Rattle.journal_model.specs.ScriptRules.{IsScript}
 use Rattle.law_script.proofs.Story.{fault_where_no_script, one_value}
 use Rattle.law_verdict.proofs.Law.{accepted_is_not_rejected, cut_reports_are_accepted, rejected_once}
 use Rattle.law_verdict.proofs.ScriptLines.{scripts_are_cut_off}
@@ -24,13 +24,13 @@ use Rattle.check_program.specs.Exact.{AreInvalid, AreScriptAndReport, HaveScript
 never_both : (bytes : Text) (entry rule : ℕ) → AreAccepted bytes → AreRejected bytes entry rule → ⊥
 never_both bytes entry rule a r =
     let same = one_value (script_part bytes) a.script r.script a.spelled r.spelled in
-    accepted_is_not_rejected (script_part bytes) (report_part bytes) r.script entry rule r.spelled.is
+    accepted_is_not_rejected (script_part bytes) (report_part bytes) r.script entry rule r.spelled
     (subst (λ (s : Script). IsAccepted s (report_part bytes)) same a.accepted) r.rejected
 
 once : (bytes : Text) (entry rule other_entry other_rule : ℕ) → AreRejected bytes entry rule → AreRejected bytes other_entry other_rule → (entry ≡ other_entry) × (rule ≡ other_rule)
 once bytes entry rule other_entry other_rule a b =
     let same = one_value (script_part bytes) a.script b.script a.spelled b.spelled in
-    rejected_once b.script (report_part bytes) entry rule other_entry other_rule b.spelled.is.fits
+    rejected_once b.script (report_part bytes) entry rule other_entry other_rule b.spelled.fits
     (subst (λ (s : Script). IsRejected s (report_part bytes) entry rule) same a.rejected) b.rejected
 
 no_script : (bytes : Text) (fault : ℕ × ℕ) → first_fault (script_part bytes) ≡ Some fault → HaveScript bytes → ⊥
@@ -147,12 +147,12 @@ verdicts_are_exact source sink s bytes left ends v = exact bytes sink s (tells s
 
 are_accepted : (bytes : Text) → AreScriptAndReport bytes → AreAccepted bytes
 are_accepted bytes h =
-    let cut = scripts_are_cut_off h.script_bytes (report h.script h.journal) h.script h.spelled.is in
+    let cut = scripts_are_cut_off h.script_bytes (report h.script h.journal) h.script h.spelled in
     subst AreAccepted (sym h.are)
     (record {
       script = h.script;
-      spelled = subst (λ (b : Text). IsPlainScript b h.script) (sym cut.0) h.spelled;
-      accepted = cut_reports_are_accepted h.script_bytes h.script h.journal h.spelled.is h.legal h.complete;
+      spelled = subst (λ (b : Text). IsScript b h.script) (sym cut.0) h.spelled;
+      accepted = cut_reports_are_accepted h.script_bytes h.script h.journal h.spelled h.legal h.complete;
     })
 
 pub reports_are_valid : ReportsAreValid

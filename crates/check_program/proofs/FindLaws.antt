@@ -7,7 +7,7 @@ use Rattle.report_text.specs.WriteFault.{faults_after_writing}
 use Rattle.journal_model.specs.declared.script.Script.{Script}
 use Rattle.journal_model.specs.Words.{Text}
 use Rattle.journal_model.specs.Verdict.{IsAccepted, IsRejected, check_limit, report_part, script_part}
-use Rattle.law_script.specs.ScriptLaws.{IsPlainScript}
+use Rattle.journal_model.specs.ScriptRules.{IsScript}
 use Rattle.simulator.specs.Edges.{Edge, WasReadWhole}
 use Rattle.simulator.specs.Written.{status_after}
 use Rattle.check_program.specs.declared.finding.Finding.{Finding}
@@ -16,14 +16,14 @@ use Rattle.check_program.specs.Finds.{Finds, FindsIn, FindsReport, status_of, te
 use Rattle.check_program.specs.Ends.{EndsChecked, told, broken, cut}
 
 -- what is found in both parts is found in the bytes
-pub found : (bytes front behind : Text) (script : Script) → front ≡ script_part bytes → behind ≡ report_part bytes → IsPlainScript front script →
+pub found : (bytes front behind : Text) (script : Script) → front ≡ script_part bytes → behind ≡ report_part bytes → IsScript front script →
     (f : Finding) → FindsReport script behind f → FindsIn bytes f
 found bytes front behind script a b spelled finding.ReadFault h = h
 found bytes front behind script a b spelled (finding.BadScript n rule) h = absurd h
 found bytes front behind script a b spelled finding.Accepted h =
-    record { script = script; spelled = subst (λ (t : Text). IsPlainScript t script) a spelled; accepted = subst (λ (t : Text). IsAccepted script t) b h }
+    record { script = script; spelled = subst (λ (t : Text). IsScript t script) a spelled; accepted = subst (λ (t : Text). IsAccepted script t) b h }
 found bytes front behind script a b spelled (finding.Rejected entry rule) h =
-    record { script = script; spelled = subst (λ (t : Text). IsPlainScript t script) a spelled; rejected = subst (λ (t : Text). IsRejected script t entry rule) b h }
+    record { script = script; spelled = subst (λ (t : Text). IsScript t script) a spelled; rejected = subst (λ (t : Text). IsRejected script t entry rule) b h }
 
 -- and that of the source, where the bytes are all that it had
 pub found_whole : (source : Edge) (bytes : Text) → WasReadWhole source bytes → length bytes ≤ check_limit → (f : Finding) → FindsIn bytes f → Finds source f

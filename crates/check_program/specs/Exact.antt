@@ -7,7 +7,7 @@ use Rattle.journal_model.specs.Legal.{IsLegal}
 use Rattle.journal_model.specs.Complete.{is_complete}
 use Rattle.journal_model.specs.ReportText.{report}
 use Rattle.journal_model.specs.Verdict.{check_limit, script_part}
-use Rattle.law_script.specs.ScriptLaws.{IsPlainScript}
+use Rattle.journal_model.specs.ScriptRules.{IsScript}
 use Rattle.simulator.specs.declared.outcome.Status.{Status}
 use Rattle.simulator.specs.declared.outcome.Status.TheVariants as status
 use Rattle.simulator.specs.Edges.{Edge, IsWritten}
@@ -24,7 +24,7 @@ is_verdict _ = false
 -- what stands up to the first line `end` is a script
 pub record HaveScript (bytes : Text) : Type 0 where
   pub script : Script
-  pub spelled : IsPlainScript (script_part bytes) script
+  pub spelled : IsScript (script_part bytes) script
 
 -- a script without a report of a legal, complete journal behind it
 pub record AreInvalid (bytes : Text) : Type 0 where
@@ -50,7 +50,7 @@ pub record AreScriptAndReport (bytes : Text) : Type 0 where
   pub script_bytes : Text
   pub script : Script
   pub journal : List Entry
-  pub spelled : IsPlainScript script_bytes script
+  pub spelled : IsScript script_bytes script
   pub legal : IsLegal script journal
   pub complete : IsTrue (is_complete script journal)
   pub are : bytes ≡ script_bytes ++ report script journal

@@ -4,7 +4,7 @@ use Rattle.journal_model.specs.declared.script.Script.{Script}
 use Rattle.journal_model.specs.Words.{Text, line}
 use Rattle.journal_model.specs.FirstFault.{first_fault}
 use Rattle.journal_model.specs.Verdict.{IsAccepted, IsRejected, check_limit, report_part, script_part}
-use Rattle.law_script.specs.ScriptLaws.{IsPlainScript}
+use Rattle.journal_model.specs.ScriptRules.{IsScript}
 use Rattle.simulator.specs.declared.outcome.Status.{Status}
 use Rattle.simulator.specs.declared.outcome.Status.TheVariants as status
 use Rattle.simulator.specs.Edges.{Edge, WasCutOff, WasReadTo, WasReadWhole}
@@ -17,13 +17,13 @@ use Rattle.check_program.specs.declared.finding.Finding.TheVariants as finding
 -- the bytes are a script and the report of a legal, complete, transparent journal of it
 pub record AreAccepted (bytes : Text) : Type 0 where
   pub script : Script
-  pub spelled : IsPlainScript (script_part bytes) script
+  pub spelled : IsScript (script_part bytes) script
   pub accepted : IsAccepted script (report_part bytes)
 
 -- they are a script and no such report: this entry is the first that isn't as it should be, by this rule
 pub record AreRejected (bytes : Text) (entry rule : ℕ) : Type 0 where
   pub script : Script
-  pub spelled : IsPlainScript (script_part bytes) script
+  pub spelled : IsScript (script_part bytes) script
   pub rejected : IsRejected script (report_part bytes) entry rule
 
 -- what was found in a report of a script

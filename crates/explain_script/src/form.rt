@@ -19,9 +19,17 @@ pub enum Role {
     Actor,
     /// The name of an operation, or what stands between two.
     Operation,
+    /// The same of a job with addresses.
+    AddressedOperation,
 }
 
 const MOST_LENGTH: u64 = 16_777_216;
+
+/// The last byte of an address space.
+const LAST_ADDRESS: u64 = 4_294_967_295;
+
+/// The last page of an address space.
+const LAST_PAGE: u64 = 1_048_575;
 
 /// What a line with a first word looks like.
 pub struct Form {
@@ -68,6 +76,29 @@ const COPY: &[Role] = &[
     Role::Length(MOST_LENGTH),
 ];
 
+const MAPPED_PAGES: &[Role] = &[
+    Role::Number(LAST_PAGE),
+    Role::Number(4096),
+    Role::Name,
+    Role::Number(4095),
+];
+
+const UNMAPPED_PAGES: &[Role] = &[Role::Number(LAST_PAGE), Role::Number(4096)];
+
+const ADDRESSED_FILL: &[Role] = &[
+    Role::Number(LAST_ADDRESS),
+    Role::Length(MOST_LENGTH),
+    Role::Bytes,
+];
+
+const ADDRESSED_COPY: &[Role] = &[
+    Role::Number(LAST_ADDRESS),
+    Role::Number(LAST_ADDRESS),
+    Role::Length(MOST_LENGTH),
+];
+
+const ADDRESSED_PROBE: &[Role] = &[Role::Number(LAST_ADDRESS), Role::Length(256)];
+
 const BUFFER: &[Role] = &[
     Role::NewName,
     Role::Number(4096),
@@ -83,7 +114,7 @@ const BUFFER: &[Role] = &[
     Role::Places,
 ];
 
-static FORMS: [Form; 21] = [
+static FORMS: [Form; 28] = [
     Form {
         first: "ttm",
         text: "ttm 1 or ttm 2",
@@ -193,6 +224,48 @@ static FORMS: [Form; 21] = [
         others: Role::Operation,
     },
     Form {
+        first: "map",
+        text: "map NAME",
+        roles: NAME,
+        others: Role::Fixed,
+    },
+    Form {
+        first: "unmap",
+        text: "unmap NAME",
+        roles: NAME,
+        others: Role::Fixed,
+    },
+    Form {
+        first: "peek",
+        text: "peek NAME OFFSET LENGTH, 1 to 256 bytes",
+        roles: READ,
+        others: Role::Fixed,
+    },
+    Form {
+        first: "poke",
+        text: "poke NAME OFFSET BYTES",
+        roles: WRITE,
+        others: Role::Fixed,
+    },
+    Form {
+        first: "vmap",
+        text: "vmap FIRST PAGES NAME PAGE: FIRST 0 to 1048575, PAGES 1 to 4096, PAGE of the buffer 0 to 4095",
+        roles: MAPPED_PAGES,
+        others: Role::Fixed,
+    },
+    Form {
+        first: "vunmap",
+        text: "vunmap FIRST PAGES: FIRST 0 to 1048575, PAGES 1 to 4096",
+        roles: UNMAPPED_PAGES,
+        others: Role::Fixed,
+    },
+    Form {
+        first: "vsubmit",
+        text: "vsubmit ENGINE OPERATION ; OPERATION ..: fill ADDRESS LENGTH BYTE, copy or xor ADDRESS ADDRESS LENGTH, probe ADDRESS LENGTH; an ADDRESS 0 to 4294967295",
+        roles: SUBMIT,
+        others: Role::AddressedOperation,
+    },
+    Form {
         first: "schedule",
         text: "schedule ACTOR .., 1 to 64 of them: tN, eN or r",
         roles: &[],
@@ -242,12 +315,28 @@ static OPERATIONS: [(&str, &[Role]); 4] = [
     ("probe", READ),
 ];
 
-/// The roles of the words behind this word of a job.
-pub fn roles_of_operation(name: &str) -> &'static [Role] {
-    for (operation, roles) in OPERATIONS.iter() {
+/// The same of a job with addresses.
+static ADDRESSED_OPERATIONS: [(&str, &[Role]); 4] = [
+    ("fill", ADDRESSED_FILL),
+    ("copy", ADDRESSED_COPY),
+    ("xor", ADDRESSED_COPY),
+    ("probe", ADDRESSED_PROBE),
+];
+
+fn roles_among(operations: &[(&str, &'static [Role])], name: &str) -> &'static [Role] {
+    for (operation, roles) in operations {
         if *operation == name {
             return roles;
         }
     }
     &[]
+}
+
+/// The roles of the words behind a word of this role.
+pub fn roles_behind(role: Role, word: &str) -> Option<&'static [Role]> {
+    match role {
+        Role::Operation => Some(roles_among(&OPERATIONS, word)),
+        Role::AddressedOperation => Some(roles_among(&ADDRESSED_OPERATIONS, word)),
+        _ => None,
+    }
 }

@@ -1,6 +1,6 @@
 //! Where in a line a rule is broken, as far as the line and the lines above tell.
 
-use crate::form::{Role, roles_of_line, roles_of_operation};
+use crate::form::{Role, roles_behind, roles_of_line};
 use crate::rule::Rule;
 
 /// What stands for a byte that no script has.
@@ -110,6 +110,7 @@ impl Line<'_> {
             (Rule::Number, Role::Number(most)) => is_outside(0, word, most),
             (Rule::Number, Role::Length(_) | Role::Engine) => value_of(word).is_none(),
             (Rule::Name, Role::Name) => !self.is_declared(word),
+            (Rule::Mapping, Role::Name) => true,
             (Rule::Name, Role::NewName) => !is_name(word) || self.is_declared(word),
             (Rule::Place, Role::Places) => !are_places(word),
             (Rule::Range, Role::Length(most)) => is_outside(1, word, most),
@@ -142,8 +143,8 @@ impl Line<'_> {
                 let length = word.len().max(1);
                 return Some(Place { column, length });
             }
-            if let Role::Operation = role {
-                roles = roles_of_operation(word);
+            if let Some(behind) = roles_behind(role, word) {
+                roles = behind;
             }
             column = column.saturating_add(word.len()).saturating_add(1);
         }

@@ -18,6 +18,8 @@ pub enum Rule {
     Existence,
     Count,
     Total,
+    Mapping,
+    Address,
 }
 
 /// What is said of a rule: what is wrong where it is broken, and what would be right.
@@ -28,7 +30,7 @@ pub struct Told {
 }
 
 /// The rules by their numbers, from 1.
-static RULES: [Told; 13] = [
+static RULES: [Told; 15] = [
     Told {
         rule: Rule::Size,
         broken: "the input has more than 1048576 bytes",
@@ -42,7 +44,7 @@ static RULES: [Told; 13] = [
     Told {
         rule: Rule::Order,
         broken: "the first word may not come here, or the input ends where a line must come",
-        right: "ttm, vram, tt, frames, swap, engines, then buffers, then each thread with its commands, then schedule lines, then end",
+        right: "ttm, vram, tt, frames, swap, engines, then buffers, then each thread with its commands, then schedule lines, then end; lines that map buffers or speak of addresses in version 2 alone",
     },
     Told {
         rule: Rule::Shape,
@@ -66,8 +68,8 @@ static RULES: [Told; 13] = [
     },
     Told {
         rule: Rule::Range,
-        broken: "an offset and a length pass the buffer's size, a length is 0, or a read or probe has more than 256 bytes",
-        right: "a length of 1 at least, which with its offset stays in the buffer's pages of 4096 bytes; of a read or probe 256 at most",
+        broken: "an offset and a length pass the buffer's size or the address space, a length is 0, or a read, peek or probe has more than 256 bytes",
+        right: "a length of 1 at least, which with its offset stays in the buffer's pages of 4096 bytes, or in the 1048576 pages of the space; of a read, peek or probe 256 at most",
     },
     Told {
         rule: Rule::Bytes,
@@ -76,8 +78,8 @@ static RULES: [Told; 13] = [
     },
     Told {
         rule: Rule::Operations,
-        broken: "a copy or xor names one buffer twice, or a job has more than 16 buffers or 64 operations",
-        right: "two buffers in a copy or xor, and at most 16 buffers and 64 operations in a job",
+        broken: "a copy or xor has one buffer on both sides, or a job has more than 16 buffers or 64 operations",
+        right: "two buffers in a copy or xor, and at most 16 buffers and 64 operations in a job; with addresses each operation is cut at the borders of mappings, and counts so often",
     },
     Told {
         rule: Rule::Existence,
@@ -87,18 +89,28 @@ static RULES: [Told; 13] = [
     Told {
         rule: Rule::Count,
         broken: "one line too many of its sort",
-        right: "at most 256 buffers, 16 threads, and 4096 commands in a thread",
+        right: "at most 256 buffers, 16 threads, and 4096 lines in a thread",
     },
     Told {
         rule: Rule::Total,
         broken: "the lengths of all operations so far pass 67108864",
         right: "operations of at most 67108864 bytes in all",
     },
+    Told {
+        rule: Rule::Mapping,
+        broken: "a map of a buffer that the thread has mapped, or an unmap, peek or poke of one that it hasn't",
+        right: "map before peek, poke and unmap, and once: a mapping lasts until its unmap, also past free and new",
+    },
+    Told {
+        rule: Rule::Address,
+        broken: "a page of an operation's range isn't mapped at this line",
+        right: "each page of a range has been mapped by a vmap above in the same thread, and not unmapped since",
+    },
 ];
 
 /// The rule of a number, as a report of a broken line has it.
 pub fn rule_of(number: usize) -> Option<&'static Told>
-    ensures { IsSome result ↔ (1 ≤ number) × (number ≤ 13) }
+    ensures { IsSome result ↔ (1 ≤ number) × (number ≤ 15) }
 {
     RULES.get(number.checked_sub(1)?)
 }

@@ -1,9 +1,8 @@
 -- The buffers of a generated script keep the rules.
-use Rattle.std.proofs.Common.{◌≡◌, ℕ, zero, suc, ◌+◌, ◌*◌, ◌%◌, ◌<◌, ◌≤◌, Bool, true, false, List, [], ◌∷◌, ◌++◌, Some, length, map, refl, sym, ap, ◌∙◌, subst, add-one, arith}
+use Rattle.std.proofs.Common.{◌≡◌, ℕ, zero, suc, ◌+◌, ◌*◌, ◌%◌, ◌<◌, ◌≤◌, Bool, true, List, [], ◌∷◌, ◌++◌, Some, length, map, refl, sym, ap, ◌∙◌, subst, add-one, arith}
 use Rattle.std.specs.Prelude.{nat_le, nat_lt, not, ◌&&◌, unwrap_or, slice_get, sum_by, codes, decimal}
 use Rattle.std.specs.List.{list_all, list_any}
 use Rattle.std.proofs.lemmas.Bool.Decides.{nat_tests}
-use Rattle.std.proofs.lemmas.Grind.{common_steps}
 use Rattle.std.proofs.lemmas.List.{length-map}
 use Rattle.rand_pcg.specs.Lcg.{Lcg}
 use Rattle.ttm_base.specs.declared.BufId.{BufId}
@@ -16,7 +15,7 @@ use Rattle.journal_model.specs.Commands.{decl, undeclared}
 use Rattle.journal_model.specs.CommandRules.{is_between, is_range_of}
 use Rattle.journal_model.specs.ScriptRules.{is_decl, is_name, is_group, is_place_list, same_text, has_distinct_names}
 use Rattle.law_script.proofs.Tests.{both, joint, is_le}
-use Rattle.law_script.proofs.ListFacts.{all_more, sum_more}
+use Rattle.law_items.proofs.ListFacts.{all_more, sum_more}
 use Rattle.generated_load.specs.Draws.{draw}
 use Rattle.generated_load.specs.Buffers.{load_name, load_pages, load_placement, load_buffer, load_buffers}
 use Rattle.generated_load.proofs.DrawLaws.{draw_below}

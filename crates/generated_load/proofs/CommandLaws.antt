@@ -1,6 +1,6 @@
 -- The commands of a generated script keep the rules.
-use Rattle.std.proofs.Common.{◌≡◌, ℕ, zero, suc, ◌+◌, ◌*◌, ◌%◌, ◌<◌, ◌≤◌, ◌≢◌, Bool, true, false, List, [], ◌∷◌, ◌++◌, length, map, refl, sym, ap, ◌∙◌, subst, add-one, arith}
-use Rattle.std.specs.Prelude.{nat_le, nat_lt, not, ◌&&◌, ◌==◌, replicate, sum_by, flat_map, codes, decimal}
+use Rattle.std.proofs.Common.{◌≡◌, ℕ, zero, suc, ◌+◌, ◌*◌, ◌<◌, ◌≤◌, ◌≢◌, Bool, true, List, [], ◌∷◌, ◌++◌, length, map, refl, sym, ap, ◌∙◌, subst, add-one, arith}
+use Rattle.std.specs.Prelude.{not, ◌==◌, replicate, sum_by, flat_map, codes, decimal}
 use Rattle.std.specs.List.{list_all}
 use Rattle.std.proofs.lemmas.Bool.Decides.{nat_tests}
 use Rattle.std.proofs.lemmas.List.{length-append}
@@ -13,12 +13,11 @@ use Rattle.journal_model.specs.declared.script.Script.{Script}
 use Rattle.journal_model.specs.declared.script.Command.{Command}
 use Rattle.journal_model.specs.declared.script.Command.TheVariants as command
 use Rattle.journal_model.specs.Commands.{named, first_mentions, buffers_of_op}
-use Rattle.journal_model.specs.State.{has_buffer}
 use Rattle.journal_model.specs.Words.{Text, line, name_of}
 use Rattle.journal_model.specs.Spelling.{command_words, op_words}
 use Rattle.journal_model.specs.CommandRules.{is_between, is_range_of, is_op, is_byte, is_command, command_len}
 use Rattle.law_script.proofs.Tests.{and_true, both, is_le, joint}
-use Rattle.law_script.proofs.ListFacts.{all_more, length_more, sum_more}
+use Rattle.law_items.proofs.ListFacts.{all_more, length_more, sum_more}
 use Rattle.generated_load.specs.declared.choices.Choice.{Choice}
 use Rattle.generated_load.specs.declared.choices.ChoiceKind.{ChoiceKind}
 use Rattle.generated_load.specs.declared.choices.ChoiceKind.TheVariants as kind

@@ -1,5 +1,5 @@
 -- What is drawn is below its bound.
-use Rattle.std.proofs.Common.{ℕ, ◌<◌, ◌%◌, arith}
+use Rattle.std.proofs.Common.{ℕ, ◌<◌, arith}
 use Rattle.rand_pcg.specs.Lcg.{Lcg}
 use Rattle.rand_pcg.specs.Pcg.{pcg32}
 use Rattle.generated_load.specs.Draws.{draw}

@@ -1,31 +1,28 @@
 -- What was drawn is a script.
-use Rattle.std.proofs.Common.{◌≡◌, ℕ, zero, suc, ◌+◌, ◌*◌, ◌<◌, ◌≤◌, Bool, true, false, List, [], ◌∷◌, ◌++◌, length, map, refl, sym, ap, ◌∙◌, subst, arith}
-use Rattle.std.specs.Prelude.{IsTrue, nat_le, ◌&&◌, sum_by, replicate, codes, decimal, flat_map}
+use Rattle.std.proofs.Common.{◌≡◌, ℕ, zero, suc, ◌+◌, ◌*◌, ◌≤◌, true, List, [], ◌∷◌, ◌++◌, length, map, refl, sym, ap, ◌∙◌, arith}
+use Rattle.std.specs.Prelude.{IsTrue, nat_le, sum_by, replicate, codes, decimal, flat_map}
 use Rattle.std.specs.List.{list_all}
 use Rattle.std.proofs.lemmas.List.{length-append, length-map}
 use Rattle.std.proofs.lemmas.List.Concat.{length-flat_map}
 use Rattle.std.proofs.lemmas.List.Sums.{sum_by-cons}
-use Rattle.ttm_base.specs.declared.Actor.{Actor}
-use Rattle.journal_model.specs.declared.script.Mark.{Mark}
 use Rattle.journal_model.specs.declared.script.Script.{Script}
 use Rattle.journal_model.specs.declared.script.Decl.{Decl}
 use Rattle.journal_model.specs.declared.script.Command.{Command}
 use Rattle.journal_model.specs.Words.{Text, line}
 use Rattle.journal_model.specs.Spelling.{buffer_line, spelling}
-use Rattle.journal_model.specs.CommandRules.{is_between, is_command, command_len}
-use Rattle.journal_model.specs.MarkRules.{have_marks}
-use Rattle.journal_model.specs.ScriptRules.{has_sizes, is_decl, has_distinct_names, is_turn_line, is_script}
+use Rattle.journal_model.specs.CommandRules.{command_len}
+use Rattle.journal_model.specs.ScriptRules.{is_script}
 use Rattle.law_script.proofs.Tests.{joint, is_le}
-use Rattle.law_script.proofs.ListFacts.{has_few}
-use Rattle.law_script.proofs.Unmarked.{no_marks_fit, plain_spelling}
-use Rattle.law_script.proofs.Sound.{frame, command_text, thread_text, body, six}
-use Rattle.law_script.specs.ScriptLaws.{IsPlainScript}
+use Rattle.law_items.proofs.ListFacts.{has_few}
+use Rattle.law_script.proofs.Sound.{frame, six}
+use Rattle.journal_model.specs.ScriptRules.{IsScript}
 use Rattle.generated_load.specs.Draws.{seeded}
 use Rattle.generated_load.specs.Buffers.{load_sizes, load_buffers}
 use Rattle.generated_load.specs.Commands.{load_threads}
 use Rattle.generated_load.specs.Loads.{IsLoad, load_script}
 use Rattle.generated_load.proofs.LineLaws.{few_digits, line_len}
 use Rattle.generated_load.proofs.BufferLaws.{AreLoadBuffers, HasLoadBuffers, buffer_len, holds, buffer_count, names_differ, buffers_fit}
+use Rattle.generated_load.proofs.PlainLaws.{command_text, thread_text, body, no_marks_fit, plain_spelling}
 use Rattle.generated_load.proofs.CommandLaws.{AreLoadThreads, line_of_command, threads_fit}
 
 -- these buffers and threads
@@ -132,9 +129,9 @@ load_len n =
     text_len buffers.0 (load_threads 3 buffers.1).0 (buffers_fit 24 (omega arith) (seeded n)) (threads_fit 3 (omega arith) buffers.1)
 
 -- its spelling is that of a script without marks
-pub spells : (n : ℕ) (bytes : List ℕ) → bytes ≡ spelling (load_script n) → IsPlainScript bytes (load_script n)
+pub spells : (n : ℕ) (bytes : List ℕ) → bytes ≡ spelling (load_script n) → IsScript bytes (load_script n)
 spells n bytes h =
     let load = is_load n in
     let len = load_len n in
     let same : length bytes ≡ length (spelling (load_script n)) = ap length h in
-    record { is = record { spelled = h; fits = load.fits; short = omega (arith, len, same) }; plain = load.plain }
+    record { spelled = h; fits = load.fits; short = omega (arith, len, same) }

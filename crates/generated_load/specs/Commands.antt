@@ -1,5 +1,5 @@
 -- The commands of a generated script.
-use Rattle.std.specs.Prelude.{ℕ, zero, suc, ◌+◌, List, [], ◌∷◌, ◌++◌, replicate}
+use Rattle.std.specs.Prelude.{ℕ, zero, suc, List, [], ◌∷◌, ◌++◌, replicate}
 use Rattle.rand_pcg.specs.Lcg.{Lcg}
 use Rattle.ttm_base.specs.declared.Op.TheVariants as op
 use Rattle.journal_model.specs.declared.script.Command.{Command}

@@ -1,5 +1,5 @@
 -- The script that is drawn from a number, and what is promised of it.
-use Rattle.std.specs.Prelude.{◌≡◌, ℕ, List, [], ◌∷◌, IsTrue, length, map}
+use Rattle.std.specs.Prelude.{◌≡◌, ℕ, [], ◌∷◌, IsTrue, length, map}
 use Rattle.journal_model.specs.declared.script.Script.{Script}
 use Rattle.journal_model.specs.ScriptRules.{is_script}
 use Rattle.generated_load.specs.Draws.{seeded}

@@ -1,5 +1,5 @@
 ghost use Rattle.std.specs.Prelude.{◌≡◌, IfOk};
-ghost use Rattle.law_script.specs.ScriptLaws.{IsPlainScript};
+ghost use Rattle.journal_model.specs.ScriptRules.{IsScript};
 ghost use Rattle.generated_load.specs.Commands.{load_threads};
 ghost use Rattle.generated_load.specs.Loads.{IsLoad, load_script};
 
@@ -55,7 +55,7 @@ fn draw_script(alloc: Global, number: u64) -> Result<Script, NoMemory>
 /// Want of memory.
 #[tactic(auto, using(crate::proofs::LoadLaws::is_load, crate::proofs::LoadLaws::spells))]
 pub fn generated(alloc: Global, number: u64) -> Result<Vec<u8>, NoMemory>
-    ensures text { IfOk result (λ text. IsPlainScript text.items (load_script number)) }
+    ensures text { IfOk result (λ text. IsScript text.items (load_script number)) }
     ensures load { IsLoad (load_script number) }
 {
     let script = draw_script(alloc, number)?;

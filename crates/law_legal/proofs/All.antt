@@ -19,6 +19,8 @@ use Rattle.law_causes.proofs.Reasons.{dry_explained}
 use Rattle.law_transparent.proofs.Law.{transparent_given}
 use Rattle.law_transparent.proofs.Ways.{have_ways}
 use Rattle.law_readable.proofs.Law.{readable_law, texts_differ}
+use Rattle.law_maps.proofs.Right.{maps_right}
+use Rattle.law_addresses.proofs.Jobs.{jobs_mean}
 use Rattle.law_legal.specs.KeepsLaws.{KeepsLaws, DryPlacesAreExplained, RefusalsLeaveNothing}
 
 module _ (script : Script) (journal : List Entry) (fits : IsTrue (is_script script)) (h : IsLegal script journal) where
@@ -47,4 +49,6 @@ module _ (script : Script) (journal : List Entry) (fits : IsTrue (is_script scri
         short = journals_end script fits journal h;
         readable = readable_law script journal fits h;
         own_report = λ other legal same. texts_differ script journal other fits h legal same;
+        maps = maps_right script journal fits h;
+        addresses = jobs_mean script fits;
       }

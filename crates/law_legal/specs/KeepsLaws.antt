@@ -13,12 +13,14 @@ use Rattle.journal_model.specs.Scheduled.{turn_limit}
 use Rattle.journal_model.specs.Readable.{is_readable}
 use Rattle.journal_model.specs.ReportText.{report}
 use Rattle.journal_model.specs.Laws.{HasCauses}
+use Rattle.journal_model.specs.MarkLaws.{MapsAreRight}
 use Rattle.journal_model.specs.Transparent.{IsTransparent}
 use Rattle.law_owners.specs.Throughout.{HoldThroughout}
 use Rattle.law_lists.specs.NamedVictims.{NamesVictims}
 use Rattle.law_answers.specs.InOrder.{AreInOrder}
 use Rattle.law_causes.specs.Explains.{Explains}
 use Rattle.law_causes.specs.Refused.{LeavesNothing}
+use Rattle.law_addresses.specs.Addressed.{JobsMeanAddresses}
 
 -- each dry entry says `short`, or names each live buffer in the place's manager with its first cause
 abbrev pub DryPlacesAreExplained : Script → List Entry → Type 0
@@ -52,3 +54,5 @@ pub record KeepsLaws (script : Script) (journal : List Entry) : Type 0 where
   pub short : length journal < turn_limit script
   pub readable : IsTrue (list_all (is_readable script) journal)
   pub own_report : HasItsOwnReport script journal
+  pub maps : MapsAreRight script journal
+  pub addresses : JobsMeanAddresses script

@@ -1,9 +1,10 @@
 -- What holds of the journals that runs make, and that a run without a number of turns comes to its end.
-use Rattle.std.proofs.Common.{◌≡◌, ℕ, ◌<◌, List, true, Option, Some, None, sym, ap, ◌∙◌, subst, arith, ⊎_elim}
+use Rattle.std.proofs.Common.{◌≡◌, ℕ, ◌<◌, List, [], true, Option, Some, None, sym, ap, ◌∙◌, subst, arith, ⊎_elim}
 use Rattle.std.specs.Prelude.{if◌then◌else◌}
 use Rattle.journal_model.specs.declared.script.Script.{Script}
 use Rattle.journal_model.specs.ScriptRules.{IsScript}
 use Rattle.journal_model.specs.Complete.{is_complete}
+use Rattle.journal_model.specs.Legal.{IsLegal}
 use Rattle.journal_model.specs.Scheduled.{scheduled, turn_limit}
 use Rattle.command_words.specs.declared.Form.{Form}
 use Rattle.command_words.specs.declared.Form.TheVariants as form
@@ -17,7 +18,19 @@ use Rattle.simulator.specs.declared.outcome.Status.{Status}
 use Rattle.simulator.specs.declared.outcome.Status.TheVariants as status
 use Rattle.simulator.specs.Edges.{Edge}
 use Rattle.simulator.specs.Outcomes.{status_of}
-use Rattle.simulator.specs.Ends.{Comes, ComesWell, HasRun, IsWell, IsWellRun, allowed, EndsWith, told, broken, cut, nothing, Ends}
+use Rattle.simulator.specs.Ends.{Comes, ComesWell, HasRun, IsRunOf, IsWell, IsWellRun, allowed, EndsWith, told, broken, cut, nothing, Ends}
+
+-- what a device has done that was new
+pub is_run : (script : Script) (turns : Option ℕ) (old new : Kept) (asked n : ℕ) → old ≡ record { script = script; journal = [] } → asked ≡ allowed turns script
+    → EndsAfter old.script asked n → new ≡ record { script = old.script; journal = scheduled old.script n } → IsLegal new.script new.journal → IsRunOf script turns new n
+is_run script turns old new asked n begun most ends stands legal =
+    let of : old.script ≡ script = ap (λ (k : Kept). k.script) begun in
+    let run : new ≡ record { script = script; journal = scheduled script n } = stands ∙ ap (λ (s : Script). record { script = s; journal = scheduled s n }) of in
+    record {
+      run = run;
+      legal = subst (λ (k : Kept). IsLegal k.script k.journal) run legal;
+      ends = subst (λ a. EndsAfter script a n) most (subst (λ s. EndsAfter s asked n) of ends);
+    }
 
 -- within the limit of turns the journal is complete
 finished : (bytes : List ℕ) (script : Script) (n : ℕ) → IsScript bytes script → EndsAfter script (allowed None script) n → is_complete script (scheduled script n) ≡ true
@@ -30,10 +43,10 @@ well_run : (turns : Option ℕ) (source : Edge) (k : Kept) (taken : ℕ) → Has
 well_run turns source k taken h =
     subst (λ (j : Kept). IsWellRun (Some (form.Sim turns)) j) (sym h.ran.run)
     (record {
-      laws = keeps_laws h.script (scheduled h.script taken) h.gave.spelled.is.fits h.ran.legal;
+      laws = keeps_laws h.script (scheduled h.script taken) h.gave.spelled.fits h.ran.legal;
       complete = λ asked.
           let none : turns ≡ None = cc in
-          finished h.gave.bytes h.script taken h.gave.spelled.is (subst (λ u. EndsAfter h.script (allowed u h.script) taken) none h.ran.ends);
+          finished h.gave.bytes h.script taken h.gave.spelled (subst (λ u. EndsAfter h.script (allowed u h.script) taken) none h.ran.ends);
     })
 
 -- what comes out is as it should be

@@ -3,7 +3,7 @@ use Rattle.std.specs.Prelude.{◌≡◌, ℕ, ◌⊎◌, Some, Ok, length}
 use Rattle.journal_model.specs.declared.script.Script.{Script}
 use Rattle.journal_model.specs.Words.{Text}
 use Rattle.journal_model.specs.FirstFault.{script_of, first_fault}
-use Rattle.law_script.specs.ScriptLaws.{IsPlainScript}
+use Rattle.journal_model.specs.ScriptRules.{IsScript}
 use Rattle.simulator.specs.declared.input.Input.{Input}
 use Rattle.simulator.specs.declared.input.Input.TheVariants as input
 use Rattle.simulator.specs.Edges.{Edge, WasReadWhole, WasReadTo, WasCutOff}
@@ -13,7 +13,7 @@ pub record GaveScript (source : Edge) (script : Script) : Type 0 where
   pub bytes : Text
   pub read : WasReadWhole source bytes
   pub says : script_of bytes ≡ Ok script
-  pub spelled : IsPlainScript bytes script
+  pub spelled : IsScript bytes script
 
 -- All bytes were read, or of too many the first 1,048,577, and this is their first fault. The bytes of a source that tells none
 -- are those that it gave.
@@ -30,6 +30,6 @@ Gave source input.Failed = WasCutOff source 1048576
 
 -- what bytes say
 abbrev pub Says : Text → Input → Type 0
-Says bytes (input.Read script) = (script_of bytes ≡ Ok script) × IsPlainScript bytes script
+Says bytes (input.Read script) = (script_of bytes ≡ Ok script) × IsScript bytes script
 Says bytes (input.Bad n rule) = first_fault bytes ≡ Some (n, rule)
 Says bytes input.Failed = ⊥

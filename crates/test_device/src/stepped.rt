@@ -1,5 +1,3 @@
-ghost use Rattle.std.specs.Prelude.{◌≡◌, []};
-
 use device_core::Device;
 use io_edge::{Sink, StdSink};
 use report_text::{WriteFault, write_report};
@@ -89,18 +87,15 @@ fn print_aperture(rt: &impl Print, device: &Device) -> io::Result<()> {
 }
 
 /// Writes the report of a device.
-fn write_device<K: Sink>(alloc: Global, device: &Device, sink: &mut K) -> Result<(), WriteFault>
-    requires { device.now.script.marks ≡ [] }
-{
+fn write_device<K: Sink>(alloc: Global, device: &Device, sink: &mut K) -> Result<(), WriteFault> {
     let accounts = device.accounts();
+    let _held = device.rooms().parts();
     write_report(alloc, device.script(), device.journal(), &accounts, sink)
 }
 
-/// Prints the report of what was done. A script that was read has no marks.
+/// Prints the report of what was done.
 fn print_report(rt: &HostRuntime, alloc: Global, device: &Device) {
-    if device.script().marks.items().is_empty() {
-        let _ = write_device(alloc, device, &mut StdSink::new(rt.stdout()));
-    }
+    let _ = write_device(alloc, device, &mut StdSink::new(rt.stdout()));
 }
 
 /// A device that runs this script.

@@ -2,6 +2,8 @@
 #![tactic(auto)]
 
 #[cfg(test)]
+mod marks;
+#[cfg(test)]
 mod reports;
 #[cfg(test)]
 mod scripts;

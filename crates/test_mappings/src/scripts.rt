@@ -1,3 +1,5 @@
+ghost use Rattle.std.specs.Prelude.{◌≡◌, []};
+
 use journal_model::{Mark, MarkKind, Script, VOps};
 use script_text::read_script;
 use sim_drive::{Device, drive};
@@ -52,12 +54,19 @@ pub fn script_with(rt: &impl Abort, alloc: Global, text: &[u8], rows: &[Row]) ->
     script
 }
 
-/// A device that has run the script of a text.
-pub fn device_of(rt: &impl Abort, alloc: Global, text: &[u8]) -> Device {
+/// A device of the script of a text, which hasn't begun.
+pub fn start_device(rt: &impl Abort, alloc: Global, text: &[u8]) -> Device
+    ensures { result.journal ≡ [] }
+{
     let Ok(script) = read_script(alloc, text) else {
         panic!(rt; "no script");
     };
-    let mut device = Device::new(alloc, script).expect(rt, "memory");
+    Device::new(alloc, script).expect(rt, "memory")
+}
+
+/// A device that has run the script of a text.
+pub fn device_of(rt: &impl Abort, alloc: Global, text: &[u8]) -> Device {
+    let mut device = start_device(rt, alloc, text);
     drive(alloc, &mut device, 1000).expect(rt, "memory");
     device
 }

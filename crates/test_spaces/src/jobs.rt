@@ -1,6 +1,6 @@
 ghost use Rattle.std.specs.Prelude.{◌≡◌, ◌+◌, ◌≤◌, true};
 ghost use Rattle.std.specs.List.{list_all};
-ghost use Rattle.journal_model.specs.MarkRules.{is_vop};
+ghost use Rattle.gpu_spaces.specs.Inside.{is_inside};
 
 use crate::requests::Request::{self, Map, Unmap};
 use crate::requests::{A, B, C, answer};
@@ -21,7 +21,7 @@ fn space_of(rt: &impl Abort, alloc: Global, requests: &[Request]) -> Space {
 
 /// The operations with addresses are these by name.
 fn assert_job(rt: &impl Abort, alloc: Global, space: &Space, ops: &[VOp], want: &[Op])
-    requires { list_all is_vop ops.now ≡ true }
+    requires { list_all is_inside ops.now ≡ true }
 {
     match space.job(alloc, ops).expect(rt, "memory") {
         Some(job) => assert!(rt; job.items() == want),
@@ -31,7 +31,7 @@ fn assert_job(rt: &impl Abort, alloc: Global, space: &Space, ops: &[VOp], want: 
 
 /// A page of the operations isn't mapped.
 fn assert_no_job(rt: &impl Abort, alloc: Global, space: &Space, ops: &[VOp])
-    requires { list_all is_vop ops.now ≡ true }
+    requires { list_all is_inside ops.now ≡ true }
 {
     assert!(rt; space.job(alloc, ops).expect(rt, "memory").is_none());
 }

@@ -5,11 +5,11 @@ use Rattle.journal_model.specs.declared.script.Script.{Script}
 use Rattle.journal_model.specs.ScriptRules.{is_script}
 use Rattle.script_text.specs.declared.ScriptFault.{ScriptFault}
 use Rattle.script_text.specs.declared.ScriptFault.TheVariants as fault
-use Rattle.law_script.specs.ScriptLaws.{IsPlainScript}
+use Rattle.journal_model.specs.ScriptRules.{IsScript}
 use Rattle.generated_load.specs.Loads.{IsLoad, load_script}
 
-pub read_is : (n : ℕ) (bytes : List ℕ) (r : Result Script ScriptFault) (s : Script) → ((t : Script) → IsPlainScript bytes t → (r ≡ Ok t) ⊎ (r ≡ Err fault.NoMemory))
-    → IsPlainScript bytes (load_script n) → r ≡ Ok s → s ≡ load_script n
+pub read_is : (n : ℕ) (bytes : List ℕ) (r : Result Script ScriptFault) (s : Script) → ((t : Script) → IsScript bytes t → (r ≡ Ok t) ⊎ (r ≡ Err fault.NoMemory))
+    → IsScript bytes (load_script n) → r ≡ Ok s → s ≡ load_script n
 read_is n bytes r s reads plain is = ⊎_elim (λ e. cc) (λ e. absurd cc) (reads (load_script n) plain)
 
 -- and it keeps the rules of scripts

@@ -149,58 +149,141 @@ syntax match ttmWord18_0 /\v%(touch)/ contained nextgroup=ttmWord18_1 skipwhite
 highlight default link ttmWord18_0 ttmKeyword
 syntax match ttmWord18_1 /\v[0-9]+/ contained
 highlight default link ttmWord18_1 ttmNumber
-syntax match ttmLine19 /\v^%(end)$/ contains=ttmWord19_0
-syntax match ttmWord19_0 /\v%(end)/ contained
+syntax match ttmLine19 /\v^%(map) [a-z][a-z0-9]{0,7}$/ contains=ttmWord19_0
+syntax match ttmWord19_0 /\v%(map)/ contained nextgroup=ttmWord19_1 skipwhite
 highlight default link ttmWord19_0 ttmKeyword
-syntax match ttmSubmit /\v^submit [0-9]+ %(%(fill) [a-z][a-z0-9]{0,7} [0-9]+ [0-9]+ [0-9a-f][0-9a-f]|%(copy) [a-z][a-z0-9]{0,7} [0-9]+ [a-z][a-z0-9]{0,7} [0-9]+ [0-9]+|%(xor) [a-z][a-z0-9]{0,7} [0-9]+ [a-z][a-z0-9]{0,7} [0-9]+ [0-9]+|%(probe) [a-z][a-z0-9]{0,7} [0-9]+ [0-9]+)%( ; %(%(fill) [a-z][a-z0-9]{0,7} [0-9]+ [0-9]+ [0-9a-f][0-9a-f]|%(copy) [a-z][a-z0-9]{0,7} [0-9]+ [a-z][a-z0-9]{0,7} [0-9]+ [0-9]+|%(xor) [a-z][a-z0-9]{0,7} [0-9]+ [a-z][a-z0-9]{0,7} [0-9]+ [0-9]+|%(probe) [a-z][a-z0-9]{0,7} [0-9]+ [0-9]+))*$/ contains=ttmSubmitWord,ttmJobWord,ttmJobEnd
+syntax match ttmWord19_1 /\v[a-z][a-z0-9]{0,7}/ contained
+highlight default link ttmWord19_1 ttmName
+syntax match ttmLine20 /\v^%(unmap) [a-z][a-z0-9]{0,7}$/ contains=ttmWord20_0
+syntax match ttmWord20_0 /\v%(unmap)/ contained nextgroup=ttmWord20_1 skipwhite
+highlight default link ttmWord20_0 ttmKeyword
+syntax match ttmWord20_1 /\v[a-z][a-z0-9]{0,7}/ contained
+highlight default link ttmWord20_1 ttmName
+syntax match ttmLine21 /\v^%(peek) [a-z][a-z0-9]{0,7} [0-9]+ [0-9]+$/ contains=ttmWord21_0
+syntax match ttmWord21_0 /\v%(peek)/ contained nextgroup=ttmWord21_1 skipwhite
+highlight default link ttmWord21_0 ttmKeyword
+syntax match ttmWord21_1 /\v[a-z][a-z0-9]{0,7}/ contained nextgroup=ttmWord21_2 skipwhite
+highlight default link ttmWord21_1 ttmName
+syntax match ttmWord21_2 /\v[0-9]+/ contained nextgroup=ttmWord21_3 skipwhite
+highlight default link ttmWord21_2 ttmNumber
+syntax match ttmWord21_3 /\v[0-9]+/ contained
+highlight default link ttmWord21_3 ttmNumber
+syntax match ttmLine22 /\v^%(poke) [a-z][a-z0-9]{0,7} [0-9]+ %([0-9a-f][0-9a-f])+$/ contains=ttmWord22_0
+syntax match ttmWord22_0 /\v%(poke)/ contained nextgroup=ttmWord22_1 skipwhite
+highlight default link ttmWord22_0 ttmKeyword
+syntax match ttmWord22_1 /\v[a-z][a-z0-9]{0,7}/ contained nextgroup=ttmWord22_2 skipwhite
+highlight default link ttmWord22_1 ttmName
+syntax match ttmWord22_2 /\v[0-9]+/ contained nextgroup=ttmWord22_3 skipwhite
+highlight default link ttmWord22_2 ttmNumber
+syntax match ttmWord22_3 /\v%([0-9a-f][0-9a-f])+/ contained
+highlight default link ttmWord22_3 ttmBytes
+syntax match ttmLine23 /\v^%(vmap) [0-9]+ [0-9]+ [a-z][a-z0-9]{0,7} [0-9]+$/ contains=ttmWord23_0
+syntax match ttmWord23_0 /\v%(vmap)/ contained nextgroup=ttmWord23_1 skipwhite
+highlight default link ttmWord23_0 ttmKeyword
+syntax match ttmWord23_1 /\v[0-9]+/ contained nextgroup=ttmWord23_2 skipwhite
+highlight default link ttmWord23_1 ttmNumber
+syntax match ttmWord23_2 /\v[0-9]+/ contained nextgroup=ttmWord23_3 skipwhite
+highlight default link ttmWord23_2 ttmNumber
+syntax match ttmWord23_3 /\v[a-z][a-z0-9]{0,7}/ contained nextgroup=ttmWord23_4 skipwhite
+highlight default link ttmWord23_3 ttmName
+syntax match ttmWord23_4 /\v[0-9]+/ contained
+highlight default link ttmWord23_4 ttmNumber
+syntax match ttmLine24 /\v^%(vunmap) [0-9]+ [0-9]+$/ contains=ttmWord24_0
+syntax match ttmWord24_0 /\v%(vunmap)/ contained nextgroup=ttmWord24_1 skipwhite
+highlight default link ttmWord24_0 ttmKeyword
+syntax match ttmWord24_1 /\v[0-9]+/ contained nextgroup=ttmWord24_2 skipwhite
+highlight default link ttmWord24_1 ttmNumber
+syntax match ttmWord24_2 /\v[0-9]+/ contained
+highlight default link ttmWord24_2 ttmNumber
+syntax match ttmLine25 /\v^%(end)$/ contains=ttmWord25_0
+syntax match ttmWord25_0 /\v%(end)/ contained
+highlight default link ttmWord25_0 ttmKeyword
+syntax match ttmSubmit /\v^submit [0-9]+ %(%(fill) [a-z][a-z0-9]{0,7} [0-9]+ [0-9]+ [0-9a-f][0-9a-f]|%(copy) [a-z][a-z0-9]{0,7} [0-9]+ [a-z][a-z0-9]{0,7} [0-9]+ [0-9]+|%(xor) [a-z][a-z0-9]{0,7} [0-9]+ [a-z][a-z0-9]{0,7} [0-9]+ [0-9]+|%(probe) [a-z][a-z0-9]{0,7} [0-9]+ [0-9]+)%( ; %(%(fill) [a-z][a-z0-9]{0,7} [0-9]+ [0-9]+ [0-9a-f][0-9a-f]|%(copy) [a-z][a-z0-9]{0,7} [0-9]+ [a-z][a-z0-9]{0,7} [0-9]+ [0-9]+|%(xor) [a-z][a-z0-9]{0,7} [0-9]+ [a-z][a-z0-9]{0,7} [0-9]+ [0-9]+|%(probe) [a-z][a-z0-9]{0,7} [0-9]+ [0-9]+))*$/ contains=ttmSubmitWord,ttmSubmitEnd
 syntax match ttmSubmitWord /\v^submit/ contained nextgroup=ttmSubmitEngine skipwhite
-syntax match ttmSubmitEngine /\v[0-9]+/ contained nextgroup=ttmJob0_0,ttmJob1_0,ttmJob2_0,ttmJob3_0 skipwhite
-syntax match ttmJobEnd /;/ contained nextgroup=ttmJob0_0,ttmJob1_0,ttmJob2_0,ttmJob3_0 skipwhite
+syntax match ttmSubmitEngine /\v[0-9]+/ contained nextgroup=ttmSubmitJob0_0,ttmSubmitJob1_0,ttmSubmitJob2_0,ttmSubmitJob3_0 skipwhite
+syntax match ttmSubmitEnd /;/ contained nextgroup=ttmSubmitJob0_0,ttmSubmitJob1_0,ttmSubmitJob2_0,ttmSubmitJob3_0 skipwhite
 highlight default link ttmSubmitWord ttmKeyword
 highlight default link ttmSubmitEngine ttmNumber
-highlight default link ttmJobEnd ttmKeyword
-syntax match ttmJob0_0 /\v%(fill)/ contained nextgroup=ttmJob0_1 skipwhite
-highlight default link ttmJob0_0 ttmKeyword
-syntax match ttmJob0_1 /\v[a-z][a-z0-9]{0,7}/ contained nextgroup=ttmJob0_2 skipwhite
-highlight default link ttmJob0_1 ttmName
-syntax match ttmJob0_2 /\v[0-9]+/ contained nextgroup=ttmJob0_3 skipwhite
-highlight default link ttmJob0_2 ttmNumber
-syntax match ttmJob0_3 /\v[0-9]+/ contained nextgroup=ttmJob0_4 skipwhite
-highlight default link ttmJob0_3 ttmNumber
-syntax match ttmJob0_4 /\v[0-9a-f][0-9a-f]/ contained nextgroup=ttmJobEnd skipwhite
-highlight default link ttmJob0_4 ttmBytes
-syntax match ttmJob1_0 /\v%(copy)/ contained nextgroup=ttmJob1_1 skipwhite
-highlight default link ttmJob1_0 ttmKeyword
-syntax match ttmJob1_1 /\v[a-z][a-z0-9]{0,7}/ contained nextgroup=ttmJob1_2 skipwhite
-highlight default link ttmJob1_1 ttmName
-syntax match ttmJob1_2 /\v[0-9]+/ contained nextgroup=ttmJob1_3 skipwhite
-highlight default link ttmJob1_2 ttmNumber
-syntax match ttmJob1_3 /\v[a-z][a-z0-9]{0,7}/ contained nextgroup=ttmJob1_4 skipwhite
-highlight default link ttmJob1_3 ttmName
-syntax match ttmJob1_4 /\v[0-9]+/ contained nextgroup=ttmJob1_5 skipwhite
-highlight default link ttmJob1_4 ttmNumber
-syntax match ttmJob1_5 /\v[0-9]+/ contained nextgroup=ttmJobEnd skipwhite
-highlight default link ttmJob1_5 ttmNumber
-syntax match ttmJob2_0 /\v%(xor)/ contained nextgroup=ttmJob2_1 skipwhite
-highlight default link ttmJob2_0 ttmKeyword
-syntax match ttmJob2_1 /\v[a-z][a-z0-9]{0,7}/ contained nextgroup=ttmJob2_2 skipwhite
-highlight default link ttmJob2_1 ttmName
-syntax match ttmJob2_2 /\v[0-9]+/ contained nextgroup=ttmJob2_3 skipwhite
-highlight default link ttmJob2_2 ttmNumber
-syntax match ttmJob2_3 /\v[a-z][a-z0-9]{0,7}/ contained nextgroup=ttmJob2_4 skipwhite
-highlight default link ttmJob2_3 ttmName
-syntax match ttmJob2_4 /\v[0-9]+/ contained nextgroup=ttmJob2_5 skipwhite
-highlight default link ttmJob2_4 ttmNumber
-syntax match ttmJob2_5 /\v[0-9]+/ contained nextgroup=ttmJobEnd skipwhite
-highlight default link ttmJob2_5 ttmNumber
-syntax match ttmJob3_0 /\v%(probe)/ contained nextgroup=ttmJob3_1 skipwhite
-highlight default link ttmJob3_0 ttmKeyword
-syntax match ttmJob3_1 /\v[a-z][a-z0-9]{0,7}/ contained nextgroup=ttmJob3_2 skipwhite
-highlight default link ttmJob3_1 ttmName
-syntax match ttmJob3_2 /\v[0-9]+/ contained nextgroup=ttmJob3_3 skipwhite
-highlight default link ttmJob3_2 ttmNumber
-syntax match ttmJob3_3 /\v[0-9]+/ contained nextgroup=ttmJobEnd skipwhite
-highlight default link ttmJob3_3 ttmNumber
+highlight default link ttmSubmitEnd ttmKeyword
+syntax match ttmSubmitJob0_0 /\v%(fill)/ contained nextgroup=ttmSubmitJob0_1 skipwhite
+highlight default link ttmSubmitJob0_0 ttmKeyword
+syntax match ttmSubmitJob0_1 /\v[a-z][a-z0-9]{0,7}/ contained nextgroup=ttmSubmitJob0_2 skipwhite
+highlight default link ttmSubmitJob0_1 ttmName
+syntax match ttmSubmitJob0_2 /\v[0-9]+/ contained nextgroup=ttmSubmitJob0_3 skipwhite
+highlight default link ttmSubmitJob0_2 ttmNumber
+syntax match ttmSubmitJob0_3 /\v[0-9]+/ contained nextgroup=ttmSubmitJob0_4 skipwhite
+highlight default link ttmSubmitJob0_3 ttmNumber
+syntax match ttmSubmitJob0_4 /\v[0-9a-f][0-9a-f]/ contained nextgroup=ttmSubmitEnd skipwhite
+highlight default link ttmSubmitJob0_4 ttmBytes
+syntax match ttmSubmitJob1_0 /\v%(copy)/ contained nextgroup=ttmSubmitJob1_1 skipwhite
+highlight default link ttmSubmitJob1_0 ttmKeyword
+syntax match ttmSubmitJob1_1 /\v[a-z][a-z0-9]{0,7}/ contained nextgroup=ttmSubmitJob1_2 skipwhite
+highlight default link ttmSubmitJob1_1 ttmName
+syntax match ttmSubmitJob1_2 /\v[0-9]+/ contained nextgroup=ttmSubmitJob1_3 skipwhite
+highlight default link ttmSubmitJob1_2 ttmNumber
+syntax match ttmSubmitJob1_3 /\v[a-z][a-z0-9]{0,7}/ contained nextgroup=ttmSubmitJob1_4 skipwhite
+highlight default link ttmSubmitJob1_3 ttmName
+syntax match ttmSubmitJob1_4 /\v[0-9]+/ contained nextgroup=ttmSubmitJob1_5 skipwhite
+highlight default link ttmSubmitJob1_4 ttmNumber
+syntax match ttmSubmitJob1_5 /\v[0-9]+/ contained nextgroup=ttmSubmitEnd skipwhite
+highlight default link ttmSubmitJob1_5 ttmNumber
+syntax match ttmSubmitJob2_0 /\v%(xor)/ contained nextgroup=ttmSubmitJob2_1 skipwhite
+highlight default link ttmSubmitJob2_0 ttmKeyword
+syntax match ttmSubmitJob2_1 /\v[a-z][a-z0-9]{0,7}/ contained nextgroup=ttmSubmitJob2_2 skipwhite
+highlight default link ttmSubmitJob2_1 ttmName
+syntax match ttmSubmitJob2_2 /\v[0-9]+/ contained nextgroup=ttmSubmitJob2_3 skipwhite
+highlight default link ttmSubmitJob2_2 ttmNumber
+syntax match ttmSubmitJob2_3 /\v[a-z][a-z0-9]{0,7}/ contained nextgroup=ttmSubmitJob2_4 skipwhite
+highlight default link ttmSubmitJob2_3 ttmName
+syntax match ttmSubmitJob2_4 /\v[0-9]+/ contained nextgroup=ttmSubmitJob2_5 skipwhite
+highlight default link ttmSubmitJob2_4 ttmNumber
+syntax match ttmSubmitJob2_5 /\v[0-9]+/ contained nextgroup=ttmSubmitEnd skipwhite
+highlight default link ttmSubmitJob2_5 ttmNumber
+syntax match ttmSubmitJob3_0 /\v%(probe)/ contained nextgroup=ttmSubmitJob3_1 skipwhite
+highlight default link ttmSubmitJob3_0 ttmKeyword
+syntax match ttmSubmitJob3_1 /\v[a-z][a-z0-9]{0,7}/ contained nextgroup=ttmSubmitJob3_2 skipwhite
+highlight default link ttmSubmitJob3_1 ttmName
+syntax match ttmSubmitJob3_2 /\v[0-9]+/ contained nextgroup=ttmSubmitJob3_3 skipwhite
+highlight default link ttmSubmitJob3_2 ttmNumber
+syntax match ttmSubmitJob3_3 /\v[0-9]+/ contained nextgroup=ttmSubmitEnd skipwhite
+highlight default link ttmSubmitJob3_3 ttmNumber
+syntax match ttmVsubmit /\v^vsubmit [0-9]+ %(%(fill) [0-9]+ [0-9]+ [0-9a-f][0-9a-f]|%(copy) [0-9]+ [0-9]+ [0-9]+|%(xor) [0-9]+ [0-9]+ [0-9]+|%(probe) [0-9]+ [0-9]+)%( ; %(%(fill) [0-9]+ [0-9]+ [0-9a-f][0-9a-f]|%(copy) [0-9]+ [0-9]+ [0-9]+|%(xor) [0-9]+ [0-9]+ [0-9]+|%(probe) [0-9]+ [0-9]+))*$/ contains=ttmVsubmitWord,ttmVsubmitEnd
+syntax match ttmVsubmitWord /\v^vsubmit/ contained nextgroup=ttmVsubmitEngine skipwhite
+syntax match ttmVsubmitEngine /\v[0-9]+/ contained nextgroup=ttmVsubmitJob0_0,ttmVsubmitJob1_0,ttmVsubmitJob2_0,ttmVsubmitJob3_0 skipwhite
+syntax match ttmVsubmitEnd /;/ contained nextgroup=ttmVsubmitJob0_0,ttmVsubmitJob1_0,ttmVsubmitJob2_0,ttmVsubmitJob3_0 skipwhite
+highlight default link ttmVsubmitWord ttmKeyword
+highlight default link ttmVsubmitEngine ttmNumber
+highlight default link ttmVsubmitEnd ttmKeyword
+syntax match ttmVsubmitJob0_0 /\v%(fill)/ contained nextgroup=ttmVsubmitJob0_1 skipwhite
+highlight default link ttmVsubmitJob0_0 ttmKeyword
+syntax match ttmVsubmitJob0_1 /\v[0-9]+/ contained nextgroup=ttmVsubmitJob0_2 skipwhite
+highlight default link ttmVsubmitJob0_1 ttmNumber
+syntax match ttmVsubmitJob0_2 /\v[0-9]+/ contained nextgroup=ttmVsubmitJob0_3 skipwhite
+highlight default link ttmVsubmitJob0_2 ttmNumber
+syntax match ttmVsubmitJob0_3 /\v[0-9a-f][0-9a-f]/ contained nextgroup=ttmVsubmitEnd skipwhite
+highlight default link ttmVsubmitJob0_3 ttmBytes
+syntax match ttmVsubmitJob1_0 /\v%(copy)/ contained nextgroup=ttmVsubmitJob1_1 skipwhite
+highlight default link ttmVsubmitJob1_0 ttmKeyword
+syntax match ttmVsubmitJob1_1 /\v[0-9]+/ contained nextgroup=ttmVsubmitJob1_2 skipwhite
+highlight default link ttmVsubmitJob1_1 ttmNumber
+syntax match ttmVsubmitJob1_2 /\v[0-9]+/ contained nextgroup=ttmVsubmitJob1_3 skipwhite
+highlight default link ttmVsubmitJob1_2 ttmNumber
+syntax match ttmVsubmitJob1_3 /\v[0-9]+/ contained nextgroup=ttmVsubmitEnd skipwhite
+highlight default link ttmVsubmitJob1_3 ttmNumber
+syntax match ttmVsubmitJob2_0 /\v%(xor)/ contained nextgroup=ttmVsubmitJob2_1 skipwhite
+highlight default link ttmVsubmitJob2_0 ttmKeyword
+syntax match ttmVsubmitJob2_1 /\v[0-9]+/ contained nextgroup=ttmVsubmitJob2_2 skipwhite
+highlight default link ttmVsubmitJob2_1 ttmNumber
+syntax match ttmVsubmitJob2_2 /\v[0-9]+/ contained nextgroup=ttmVsubmitJob2_3 skipwhite
+highlight default link ttmVsubmitJob2_2 ttmNumber
+syntax match ttmVsubmitJob2_3 /\v[0-9]+/ contained nextgroup=ttmVsubmitEnd skipwhite
+highlight default link ttmVsubmitJob2_3 ttmNumber
+syntax match ttmVsubmitJob3_0 /\v%(probe)/ contained nextgroup=ttmVsubmitJob3_1 skipwhite
+highlight default link ttmVsubmitJob3_0 ttmKeyword
+syntax match ttmVsubmitJob3_1 /\v[0-9]+/ contained nextgroup=ttmVsubmitJob3_2 skipwhite
+highlight default link ttmVsubmitJob3_1 ttmNumber
+syntax match ttmVsubmitJob3_2 /\v[0-9]+/ contained nextgroup=ttmVsubmitEnd skipwhite
+highlight default link ttmVsubmitJob3_2 ttmNumber
 syntax match ttmSchedule /\v^schedule%( %(t[0-9]+|e[0-9]+|r))+$/ contains=ttmScheduleWord,ttmActor
 syntax match ttmScheduleWord /\v^schedule/ contained
 syntax match ttmActor /\v %(t[0-9]+|e[0-9]+|r)/hs=s+1 contained

@@ -2,7 +2,7 @@ use denote.Param.Send.{sendable}
 use Rattle.std.proofs.Crossing.{crosses}
 use Rattle.std.proofs.Common.{◌≡◌, ◌<◌, ◌≤◌, List, length, Some, sym, ◌∙◌, ap, subst}
 use Rattle.ttm_base.specs.declared.Actor.{Actor}
-use Rattle.lemma_room_sends.proofs.Sends.{rooms}
+use Rattle.lemma_room_sends.proofs.Sends.{mappings, rooms}
 use Rattle.simulator.specs.Ends.{Kept}
 use Rattle.thread_program.proofs.ThreadLaws.{at_ok, few_actors, finished}
 use Rattle.thread_program.proofs.crowd.run_threads.Goals as goal
@@ -12,7 +12,7 @@ work_all-answer-requires-clause-actors g c = λ κs lives.
     subst (λ (xs : List Actor). (1 ≤ length xs) × (length xs < 4294967296)) (sym (c.items.ensures ∙ c.in_ok-actors.ensures)) (few_actors c.args.script c.requires)
 
 pub work_all-answer-requires-send-V : goal.work_all-answer-requires-send-V
-work_all-answer-requires-send-V g c κs within = search (sendable, crosses, rooms) depth 60 fits 20000
+work_all-answer-requires-send-V g c κs within = search (sendable, crosses, rooms, mappings) depth 60 fits 20000
 
 pub returns-in-Ok : goal.returns-in-Ok
 returns-in-Ok g c =
