@@ -1,10 +1,13 @@
 #!/usr/bin/env bash
 # Builds a program, ttm where no other is named, without proving it, to be measured or tried, and optimized as a proved one is. The kit's `rt try` makes the program's LLVM
 # module, and of it a slow program that checks itself and isn't kept; the module is kept as soon as it is there, and compiled anew. It has
-# the checks of a run that isn't proved (of an index, of a sum), so it does a little more than the proved program. It takes some minutes.
+# the checks of a run that isn't proved (of an index, of a sum, of each bool of a slice that is passed), by which a tight loop takes up to
+# three times as long as the proved program's. With --no-checks a check that fails does nothing, so clang leaves the checks out, as a
+# proof does: to measure, and for nothing else. It takes some minutes.
 #
-# usage: tools/build_unproved.sh [--crate NAME] FILE [FLAG ..]     writes FILE and FILE.bc; a FLAG goes to clang, as
-#                                                                  `-mllvm -inline-threshold=-10000` where a profile is to show each function
+# usage: tools/build_unproved.sh [--crate NAME] [--no-checks] FILE [FLAG ..]     writes FILE and FILE.bc; a FLAG goes to clang, as
+#                                                                                `-mllvm -inline-threshold=-10000` where a profile is to
+#                                                                                show each function
 set -eu
 top=$(cd "$(dirname "$0")/.." && pwd)
 kit=$(dirname "$(rt doc)")
@@ -12,6 +15,11 @@ crate=ttm
 if [ "$1" = --crate ]; then
   crate=$2
   shift 2
+fi
+checks=yes
+if [ "$1" = --no-checks ]; then
+  checks=no
+  shift
 fi
 file=$(realpath -m "$1")
 shift
@@ -36,6 +44,12 @@ for flag in -no-trap-after-noreturn -trap-unreachable -no-x86-call-frame-opt -di
   -sink-common-insts=false; do
   flags+=(-mllvm "$flag")
 done
-"$kit/toolchain/bin/clang" "${flags[@]}" "$@" -c -x ir "$file.bc" -o "$work/ttm.o"
+given=$file.bc
+if [ $checks = no ]; then
+  "$kit/toolchain/bin/clang" --target=x86_64-unknown-linux-gnu -S -emit-llvm -O0 -Xclang -disable-llvm-passes -x ir "$given" -o "$work/all.ll"
+  given=$work/ttm.ll
+  grep -v 'call void @llvm.trap()' "$work/all.ll" >"$given"
+fi
+"$kit/toolchain/bin/clang" "${flags[@]}" "$@" -c -x ir "$given" -o "$work/ttm.o"
 "$kit/bin/rattle-link" --target x86_64-unknown-linux-gnu --toolchain "$kit/toolchain" -o "$file" "$work/ttm.o" \
   "$kit/c/libos_c.a" "$kit/c/liblibc_c.a"

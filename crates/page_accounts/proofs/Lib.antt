@@ -1,2 +1,1 @@
 pub mod HoldingLaws
-pub mod CountLaws

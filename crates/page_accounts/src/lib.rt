@@ -6,14 +6,16 @@ ghost use Rattle.ttm_base.specs.Holes.{is_free_beside as is_free};
 ghost use Rattle.ttm_base.specs.ListWords.{count_from};
 ghost use Rattle.ttm_base.specs.Reach.{length_of as length_in};
 ghost use Rattle.journal_model.specs.Account as words;
-ghost use Rattle.journal_model.specs.Holds.{has_number};
 ghost use Rattle.journal_model.specs.Places as places;
 ghost use Rattle.report_text.specs.Accounts.{AreAccountsOf, told};
 ghost use Rattle.page_accounts.specs.Holdings.{amount, amount_of_ghost, amount_where_live};
 
 use journal_model::{Buffer, Core, Ghost, Script, State};
 use report_text::{Account, Accounts};
-use rules_holds::{ghost_spans, held_frames, held_slots, held_spans, is_free_beside, spans_in};
+use rules_holds::{
+    count_free_frames, count_free_slots, ghost_spans, held_slots, held_spans, is_free_beside,
+    spans_in,
+};
 use rules_state::{frame_of, length_of, size_of, slot_of, target_spans};
 use std::alloc::Global;
 use ttm_base::{Loc, Mem, NoMemory, Span};
@@ -63,9 +65,8 @@ fn page_account(alloc: Global, script: &Script, mem: Mem, core: &Core) -> Result
 fn frame_account(alloc: Global, script: &Script, core: &Core) -> Result<Account, NoMemory>
     ensures { IfOk result (λ a. told a ≡ words.frame_account script.now core.now) }
 {
-    let held = held_frames(alloc, core)?;
     Ok(Account {
-        free: count_free(held.items(), script.sizes.frames),
+        free: count_free_frames(alloc, script, core)?,
         live: count_buffers(Holding::Frames, core.buffers.items()).ok_or(NoMemory)?,
         target: 0,
         ghosts: count_ghosts(Holding::Frames, core.ghosts.items()).ok_or(NoMemory)?,
@@ -77,7 +78,7 @@ fn slot_account(alloc: Global, script: &Script, core: &Core) -> Result<Account, 
 {
     let held = held_slots(alloc, core)?;
     Ok(Account {
-        free: count_free(held.items(), script.sizes.swap),
+        free: count_free_slots(alloc, script, core)?,
         live: held.len() as u64,
         target: 0,
         ghosts: 0,
@@ -85,7 +86,7 @@ fn slot_account(alloc: Global, script: &Script, core: &Core) -> Result<Account, 
 }
 
 /// How many pages below the size no span has.
-#[tactic(auto, using(crate::proofs::CountLaws::count_more))]
+#[tactic(auto, using(rules_holds::proofs::CountLaws::count_more))]
 fn count_free_pages(held: &[Span], size: u32) -> u64
     ensures { result ≡ length (filter (is_free held.now) (count_from 1 size 0)) }
 {
@@ -96,26 +97,6 @@ fn count_free_pages(held: &[Span], size: u32) -> u64
         }
     }
     count
-}
-
-/// How many numbers below the size aren't held.
-#[tactic(auto, using(crate::proofs::CountLaws::count_more))]
-fn count_free(held: &[u32], size: u32) -> u64
-    ensures { result ≡ words.count_free held.now size }
-{
-    let mut count = 0;
-    for number in 0..size {
-        if !has_number(held, number) {
-            count += 1;
-        }
-    }
-    count
-}
-
-fn has_number(numbers: &[u32], number: u32) -> bool
-    ensures { result ≡ has_number numbers.now number }
-{
-    numbers.iter().any(|n| number == *n)
 }
 
 fn count_buffers(what: Holding, buffers: &[Option<Buffer>]) -> Option<u64>

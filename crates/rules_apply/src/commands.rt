@@ -7,7 +7,7 @@ ghost use Rattle.rules_parts.specs.Pins.{HasPinsLeft};
 ghost use Rattle.rules_apply.specs.Ready.{IsThread, CanShowResult};
 
 use journal_model::{BufIds, Buffer, Command, Core, Ghost, Grip, Grips, Lists, Script, State};
-use rules_holds::{jobs_before_write, push_spans, spans_in, unfinished};
+use rules_holds::{push_spans, spans_in, unfinished_before_write};
 use rules_parts::buffers::put_buffer;
 use rules_parts::grips::{change_pins, put_grip, release_all};
 use rules_parts::lists::{listed_in, members_last, taken_off, touched_all};
@@ -49,8 +49,7 @@ fn ghost_of_freed(alloc: Global, core: &Core, buffer: &Buffer, num: u64) -> Resu
     let mut tt = Spans::new(alloc);
     push_spans(&mut tt, spans_in(Mem::Tt, buffer))?;
     let frames = frames_of(alloc, buffer)?;
-    let used_by = jobs_before_write(alloc, buffer)?;
-    let jobs = unfinished(alloc, core, used_by.items())?;
+    let jobs = unfinished_before_write(alloc, core, buffer)?;
     Ok(Ghost {
         num,
         vram,

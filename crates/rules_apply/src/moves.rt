@@ -10,7 +10,7 @@ use crate::jobs::set_last_job;
 use journal_model::{
     Buffer, Core, Frames, Ghost, Ghosts, Job, JobIds, Left, Packets, Script, State,
 };
-use rules_holds::{jobs_before_write, push_spans, spans_in, unfinished};
+use rules_holds::{push_spans, spans_in, unfinished_before_write};
 use rules_parts::buffers::carry;
 use rules_parts::lists::relisted;
 use rules_state::{buffer_in, dead_buffer, frames_of, name_in_spans, packet_place, target_spans};
@@ -55,10 +55,9 @@ fn move_job(
     requires { length buffer.now.table < 2 ^ 32 }
     ensures { IfOk result (λ job. job ≡ record { id = id; waits = waits.unfinished core.now (waits.jobs_before_write buffer.now); packets = rows.move_packets buffer.now mem; ran = 0; finished = false }) }
 {
-    let used_by = jobs_before_write(alloc, buffer)?;
     Ok(Job {
         id,
-        waits: unfinished(alloc, core, used_by.items())?,
+        waits: unfinished_before_write(alloc, core, buffer)?,
         packets: move_packets(alloc, buffer, mem)?,
         ran: 0,
         finished: false,

@@ -1,10 +1,9 @@
 ghost use Rattle.std.specs.Prelude.{◌≡◌, ◌+◌, ◌<◌, ◌^◌, ◌↔◌, IsTrue, Some, option_copied, length};
-ghost use Rattle.std.specs.List.{list_all};
 ghost use Rattle.journal_model.specs.State as words;
 ghost use Rattle.rules_apply.specs.Ready as facts;
 ghost use Rattle.rules_parts.specs.Pins.{CanPin, HasPinsLeft};
 
-use journal_model::{Command, Entry, Grip, Job, Kind, Script, State, same_job};
+use journal_model::{Command, Entry, Grip, Kind, Script, State};
 use rules_parts::actors::{engine_of, thread_of};
 use rules_state::{command_at_work, course_of, grip_in, live_in};
 use ttm_base::{BufId, JobId};
@@ -51,20 +50,6 @@ fn can_go_dry(state: &State, thread: u32, k: u32) -> bool
     has_thread(state, thread) && k < u32::MAX
 }
 
-/// The job is another, or one more packet of it can be counted.
-fn has_packets_left(id: JobId, job: &Job) -> bool
-    ensures { result ≡ facts.has_packets_left id job.now }
-{
-    !same_job(id, job.id) || job.ran < u32::MAX
-}
-
-/// One more packet of the job can be counted.
-fn can_run(jobs: &[Job], id: JobId) -> bool
-    ensures { result ≡ list_all (facts.has_packets_left id) jobs.now }
-{
-    jobs.iter().all(|job| has_packets_left(id, job))
-}
-
 /// The pages of a buffer can be counted.
 fn has_short_table(state: &State, b: BufId) -> bool
     ensures { IsTrue result ↔ facts.HasShortTable state.now b }
@@ -96,7 +81,7 @@ pub fn is_ready(script: &Script, state: &State, entry: &Entry) -> bool
                 ctx: engine_of(entry.who),
                 num: *num,
             };
-            can_run(state.core.jobs.items(), id)
+            state.core.jobs.can_count(id)
         }
         Kind::Result { .. } => can_show_result(script, state, thread),
         Kind::Refused { .. } => can_answer(state, thread),

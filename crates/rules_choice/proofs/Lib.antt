@@ -1,7 +1,8 @@
 pub mod HoleLaws
 pub mod FitLaws
-pub mod CountLaws
+pub mod RunLaws
 pub mod OrderLaws
 pub mod StartLaws
+pub mod NestLaws
 pub mod BuddyLaws
 pub mod BelowLaws

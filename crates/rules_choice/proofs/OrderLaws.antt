@@ -3,7 +3,7 @@ use Rattle.std.proofs.Common.{◌≡◌, ℕ, zero, suc, ◌+◌, ◌-◌, ◌<�
 use Rattle.ttm_base.specs.BuddyChoice.{is_free_block, block_around, free_order}
 
 -- the block of the next order is free
-free_order_suc : (is_free : ℕ → Bool) (size page k left : ℕ) → is_free_block is_free size (block_around (k + 1) page) ≡ true
+pub free_order_suc : (is_free : ℕ → Bool) (size page k left : ℕ) → is_free_block is_free size (block_around (k + 1) page) ≡ true
     → free_order is_free size page (k + 1) left ≡ free_order is_free size page k (suc left)
 free_order_suc is_free size page k left h = rw (h, free_order) refl
 

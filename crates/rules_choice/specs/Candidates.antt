@@ -1,6 +1,6 @@
 -- A free block, and what it would be split from, as the definitions have them.
 use Rattle.ttm_base.specs.BuddyChoice as buddy
-use Rattle.rules_choice.specs.declared.candidates.FreeBlock.{FreeBlock}
+use Rattle.rules_choice.specs.declared.blocks.FreeBlock.{FreeBlock}
 
 -- the same block and order
 abbrev pub candidate_of : FreeBlock → buddy.Candidate

@@ -1,33 +1,40 @@
 ghost use Rattle.std.specs.Prelude.{◌≡◌, ◌+◌, ◌-◌, ◌*◌, ◌/◌, ◌<◌, ◌≤◌, ◌^◌, IfOk, IfSome, Some, length, option_map};
 ghost use Rattle.ttm_base.specs.BuddyChoice as words;
-ghost use Rattle.rules_choice.specs.Marks.{marked, IsCounted};
+ghost use Rattle.rules_choice.specs.Marks.{marked, AreRuns, AreRunsBeside};
 
 use std::alloc::Global;
-use ttm_base::{NoMemory, log2};
+use ttm_base::{NoMemory, Span, log2};
 
-/// The free pages of a manager, and of each page, and of the end, how many of them are below it.
+/// The free pages of a manager, and of each page, and of the end, how many of them stand right before it.
 #[derive(Drop)]
 pub struct FreePages {
     pub marks: Vec<bool>,
-    pub counts: Vec<usize>,
-    ghost counted: { IsCounted marks.items counts.items },
+    pub runs: Vec<u32>,
+    ghost counted: { AreRuns marks.items runs.items },
     ghost small: { length marks.items < 2 ^ 32 },
 }
 
-/// How many of the marked pages are below each page.
-fn counts_of(alloc: Global, marks: &[bool]) -> Result<Vec<usize>, NoMemory>
-    ensures { IfOk result (λ counts. IsCounted marks.now counts.items) }
+/// A free block inside the range, and the order of the free block that it would be split from.
+#[derive(Clone, Copy)]
+pub struct FreeBlock {
+    pub block: Span,
+    pub whole: u32,
+    ghost small: { whole < 64 },
+}
+
+/// How many marked pages stand right before each page.
+fn runs_of(alloc: Global, marks: &[bool]) -> Result<Vec<u32>, NoMemory>
+    requires { length marks.now < 2 ^ 32 }
+    ensures { IfOk result (λ runs. AreRuns marks.now runs.items) }
 {
-    let mut counts = Vec::new(alloc);
-    let mut below = 0;
-    counts.push(below)?;
+    let mut runs = Vec::new(alloc);
+    let mut run = 0;
+    runs.push(run)?;
     for mark in marks {
-        if *mark {
-            below += 1;
-        }
-        counts.push(below)?;
+        run = if *mark { run + 1 } else { 0 };
+        runs.push(run)?;
     }
-    Ok(counts)
+    Ok(runs)
 }
 
 /// Counts the free pages that are marked.
@@ -35,8 +42,24 @@ pub fn counted(alloc: Global, marks: Vec<bool>) -> Result<FreePages, NoMemory>
     requires { length marks.items < 2 ^ 32 }
     ensures { IfOk result (λ free. free.marks.items ≡ marks.items) }
 {
-    let counts = counts_of(alloc, &marks)?;
-    Ok(FreePages { marks, counts })
+    let runs = runs_of(alloc, &marks)?;
+    Ok(FreePages { marks, runs })
+}
+
+/// Counts the marked pages anew that stand right before a page, from a span on whose marks changed, as far as that changes anything.
+pub fn count_anew(marks: &[bool], runs: &mut [u32], span: Span)
+    requires small { length marks.now < 2 ^ 32 }
+    requires beside { AreRunsBeside marks.now span runs.old }
+    ensures { AreRuns marks.now runs.new }
+{
+    let start = (span.start as usize).min(marks.len());
+    for page in start..marks.len() {
+        let run = if marks[page] { runs[page] + 1 } else { 0 };
+        if page >= span.end as usize && runs[page + 1] == run {
+            return;
+        }
+        runs[page + 1] = run;
+    }
 }
 
 /// The pages of a block of an order.
@@ -59,14 +82,15 @@ impl FreePages {
         let len = block_len(order);
         let start = page / len * len;
         let end = start + len;
-        end < self.counts.len() && self.counts[end] - self.counts[start] == len
+        end < self.runs.len() && self.runs[end] as usize >= len
     }
 
     /// The order of the largest free block around a free block.
     pub fn free_order(&self, order: u32, page: usize) -> u32
         requires order { order ≤ 32 }
         requires page { page < 2 ^ 32 }
-        ensures { result ≡ words.free_order (marked self.now.marks.items) (length self.now.marks.items) page order (words.log2 (length self.now.marks.items)) }
+        ensures small { result < 64 }
+        ensures order { result ≡ words.free_order (marked self.now.marks.items) (length self.now.marks.items) page order (words.log2 (length self.now.marks.items)) }
     {
         let mut whole = order;
         let mut left = log2(self.marks.len() as u32);

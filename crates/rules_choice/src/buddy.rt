@@ -2,7 +2,7 @@ ghost use Rattle.std.specs.Prelude.{◌≡◌, ◌+◌, ◌<◌, ◌≤◌, ◌^
 ghost use Rattle.ttm_base.specs.BuddyChoice as words;
 ghost use Rattle.rules_choice.specs.Marks.{marked, IsWithout};
 
-use crate::blocks::{FreePages, counted};
+use crate::blocks::{FreePages, count_anew, counted};
 use crate::candidates::{candidate, first_candidate};
 use crate::pages::take_span;
 use rules_places::length_of;
@@ -10,15 +10,16 @@ use std::alloc::Global;
 use ttm_base::{NoMemory, Span, Spans, log2, order_of};
 
 /// The free pages without those of a block that was taken.
-fn without(alloc: Global, free: FreePages, block: Span) -> Result<FreePages, NoMemory>
-    ensures { IfOk result (λ rest. IsWithout free.marks.items block rest.marks.items) }
+fn without(free: FreePages, block: Span) -> FreePages
+    ensures { IsWithout free.marks.items block result.marks.items }
 {
     let FreePages {
         mut marks,
-        counts: _,
+        mut runs,
     } = free;
     take_span(&mut marks, block);
-    counted(alloc, marks)
+    count_anew(&marks, &mut runs, block);
+    FreePages { marks, runs }
 }
 
 /// A list of one span.
@@ -52,7 +53,7 @@ fn scattered(
             Some(found) => {
                 spans.push(found.block)?;
                 left = left.saturating_sub(length_of(found.block));
-                rest = without(alloc, rest, found.block)?;
+                rest = without(rest, found.block);
             }
         }
     }

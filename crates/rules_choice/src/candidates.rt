@@ -2,19 +2,12 @@ ghost use Rattle.std.specs.Prelude.{◌≡◌, ◌+◌, ◌-◌, ◌*◌, ◌/�
 ghost use Rattle.ttm_base.specs.BuddyChoice as words;
 ghost use Rattle.ttm_base.specs.BlockStarts.{starts_of, candidate_at};
 ghost use Rattle.rules_choice.specs.Marks.{marked};
-ghost use Rattle.rules_choice.specs.Least.{lesser_by};
+ghost use Rattle.rules_choice.specs.Least.{best_with, has_key, lesser_by};
 ghost use Rattle.rules_choice.specs.Candidates.{candidate_of};
 
-use crate::blocks::{FreePages, block_len};
+use crate::blocks::{FreeBlock, FreePages, block_len};
 use rules_places::is_inside;
 use ttm_base::Span;
-
-/// A free block inside the range, and the order of the free block that it would be split from.
-#[derive(Clone, Copy)]
-pub struct FreeBlock {
-    pub block: Span,
-    pub whole: u32,
-}
 
 /// The block of this order at a start, if it is free and inside the range.
 fn candidate_at(free: &FreePages, range: Span, order: u32, start: usize) -> Option<FreeBlock>
@@ -75,6 +68,40 @@ fn start_at(topdown: bool, order: u32, size: usize, i: usize) -> usize
     block * block_len(order)
 }
 
+/// The candidate so far, or the block of this order at a start, if that is one and is split from a smaller block. None is where a
+/// block of the order that the candidate so far is split from is free.
+fn next_best(
+    free: &FreePages,
+    range: Span,
+    order: u32,
+    start: usize,
+    best: Option<FreeBlock>,
+) -> Option<FreeBlock>
+    requires order { order ≤ 32 }
+    requires start { start < 2 ^ 32 }
+    ensures { option_map candidate_of result ≡ best_with (λ c. c.whole) (option_map candidate_of best) (candidate_at (marked free.now.marks.items) (length free.now.marks.items) range order start) }
+{
+    if let Some(least) = best {
+        if free.is_free_block(least.whole, start) {
+            return best;
+        }
+    }
+    match candidate_at(free, range, order, start) {
+        Some(next) => Some(lesser(best, next)),
+        None => best,
+    }
+}
+
+/// The candidate is split from no greater block: no other is split from a smaller one.
+fn is_whole(best: Option<FreeBlock>, order: u32) -> bool
+    ensures { result ≡ has_key (λ c. c.whole) order (option_map candidate_of best) }
+{
+    match best {
+        Some(least) => least.whole == order,
+        None => false,
+    }
+}
+
 /// A free block of this order, split from the smallest one: among equals the lowest, or for topdown the highest.
 pub fn candidate(free: &FreePages, range: Span, topdown: bool, order: u32) -> Option<FreeBlock>
     requires { order ≤ 32 }
@@ -84,8 +111,9 @@ pub fn candidate(free: &FreePages, range: Span, topdown: bool, order: u32) -> Op
     let mut best = None;
     for i in 0..blocks_of(order, size) {
         let start = start_at(topdown, order, size, i);
-        if let Some(next) = candidate_at(free, range, order, start) {
-            best = Some(lesser(best, next));
+        best = next_best(free, range, order, start, best);
+        if is_whole(best, order) {
+            return best;
         }
     }
     best

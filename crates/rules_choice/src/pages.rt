@@ -9,10 +9,7 @@ use ttm_base::{NoMemory, Span, Spans};
 fn all_marked(alloc: Global, size: u32) -> Result<Vec<bool>, NoMemory>
     ensures { IfOk result (λ marks. marks.items ≡ replicate size true) }
 {
-    let mut marks = Vec::new(alloc);
-    for _page in 0..size {
-        marks.push(true)?;
-    }
+    let marks = vec![in alloc; true; size as usize]?;
     Ok(marks)
 }
 

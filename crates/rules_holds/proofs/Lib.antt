@@ -1,2 +1,5 @@
 pub mod NamedJobs
 pub mod HeldLaws
+pub mod OpenJobs
+pub mod MarkLaws
+pub mod CountLaws

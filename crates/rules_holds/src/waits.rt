@@ -1,5 +1,5 @@
-ghost use Rattle.std.specs.Prelude.{◌≡◌, ◌&&◌, IfOk, not};
-ghost use Rattle.std.specs.List.{list_any};
+ghost use Rattle.std.specs.Prelude.{◌≡◌, ◌&&◌, IfOk, IsTrue, filter, map, nat_le, not};
+ghost use Rattle.std.specs.List.{list_all, list_any};
 ghost use Rattle.journal_model.specs.State.{new_buffer};
 ghost use Rattle.ttm_base.specs.Fences as fences;
 ghost use Rattle.journal_model.specs.Waits as words;
@@ -18,6 +18,32 @@ fn has_unfinished(jobs: &[Job], i: JobId) -> bool
     jobs.iter().any(|j| same_job(i, j.id) && !j.finished)
 }
 
+/// The least number among these jobs.
+fn least_number(jobs: &[Job]) -> u64
+    ensures { IsTrue (list_all (λ j. nat_le result j.id.num) jobs.now) }
+{
+    let mut least = u64::MAX;
+    for job in jobs {
+        least = least.min(job.id.num);
+    }
+    least
+}
+
+/// One of these jobs, of which none has a number below the least, has the name and isn't done. Where their numbers follow one
+/// another, it stands where it is looked for first.
+#[tactic(auto, using(crate::proofs::OpenJobs::any_in_parts))]
+fn is_open(jobs: &[Job], least: u64, i: JobId) -> bool
+    requires { IsTrue (list_all (λ j. nat_le least j.id.num) jobs.now) }
+    ensures { result ≡ list_any (λ j. words.same_job i j.id && not j.finished) jobs.now }
+{
+    if i.num < least {
+        return false;
+    }
+    let at = ((i.num - least) as usize).min(jobs.len());
+    let (before, behind) = jobs.split_at(at);
+    has_unfinished(behind, i) || has_unfinished(before, i)
+}
+
 /// The job isn't done.
 pub fn is_unfinished(core: &Core, i: JobId) -> bool
     ensures { result ≡ words.is_unfinished core.now i }
@@ -29,9 +55,11 @@ pub fn is_unfinished(core: &Core, i: JobId) -> bool
 pub fn unfinished(alloc: Global, core: &Core, jobs: &[JobId]) -> Result<JobIds, NoMemory>
     ensures { IfOk result (λ left. left ≡ words.unfinished core.now jobs.now) }
 {
+    let pending = core.jobs.pending();
+    let least = least_number(pending);
     let mut left = JobIds::new(alloc);
     for i in jobs {
-        if is_unfinished(core, *i) {
+        if is_open(pending, least, *i) {
             left.push(*i)?;
         }
     }
@@ -59,9 +87,11 @@ fn named_last(named: Option<JobId>, i: JobId) -> JobId
 pub fn waited_for(core: &Core, jobs: &[JobId]) -> Option<JobId>
     ensures { result ≡ words.waited_for core.now jobs.now }
 {
+    let pending = core.jobs.pending();
+    let least = least_number(pending);
     let mut named = None;
     for i in jobs {
-        if is_unfinished(core, *i) {
+        if is_open(pending, least, *i) {
             named = Some(named_last(named, *i));
         }
     }
@@ -102,13 +132,68 @@ pub fn jobs_before_read(alloc: Global, buffer: &Buffer) -> Result<JobIds, NoMemo
     Ok(jobs)
 }
 
+/// The fences of a buffer that are to be looked at for jobs that aren't done: none, where no job is pending.
+fn fences_to_look_at<'a>(core: &Core, buffer: &'a Buffer) -> &'a [Fence]
+    ensures write { words.unfinished core.now (map (λ f. f.job) result.now) ≡ words.unfinished core.now (words.jobs_before_write buffer.now) }
+    ensures read { words.unfinished core.now (map (λ f. f.job) (filter words.changes result.now)) ≡ words.unfinished core.now (words.jobs_before_read buffer.now) }
+{
+    if core.jobs.pending().is_empty() {
+        &[]
+    } else {
+        buffer.fences.items()
+    }
+}
+
+/// Those of the jobs before the buffer is written, or moved, that aren't done.
+pub fn unfinished_before_write(
+    alloc: Global,
+    core: &Core,
+    buffer: &Buffer,
+) -> Result<JobIds, NoMemory>
+    ensures { IfOk result (λ jobs. jobs ≡ words.unfinished core.now (words.jobs_before_write buffer.now)) }
+{
+    let fences = fences_to_look_at(core, buffer);
+    let pending = core.jobs.pending();
+    let least = least_number(pending);
+    let mut jobs = JobIds::new(alloc);
+    for f in fences {
+        if is_open(pending, least, f.job) {
+            jobs.push(f.job)?;
+        }
+    }
+    Ok(jobs)
+}
+
+/// Those of the jobs before it is read that aren't done.
+pub fn unfinished_before_read(
+    alloc: Global,
+    core: &Core,
+    buffer: &Buffer,
+) -> Result<JobIds, NoMemory>
+    ensures { IfOk result (λ jobs. jobs ≡ words.unfinished core.now (words.jobs_before_read buffer.now)) }
+{
+    let fences = fences_to_look_at(core, buffer);
+    let pending = core.jobs.pending();
+    let least = least_number(pending);
+    let mut jobs = JobIds::new(alloc);
+    for f in fences {
+        if changes(*f) && is_open(pending, least, f.job) {
+            jobs.push(f.job)?;
+        }
+    }
+    Ok(jobs)
+}
+
 /// The unfinished job to wait for before the buffer is written, or moved. It takes no memory.
 pub fn waited_before_write(core: &Core, buffer: &Buffer) -> Option<JobId>
     ensures { result ≡ words.waited_for core.now (words.jobs_before_write buffer.now) }
 {
+    let fences = fences_to_look_at(core, buffer);
+    let pending = core.jobs.pending();
+    let least = least_number(pending);
     let mut named = None;
-    for f in buffer.fences.items() {
-        if is_unfinished(core, f.job) {
+    for f in fences {
+        if is_open(pending, least, f.job) {
             named = Some(named_last(named, f.job));
         }
     }
@@ -119,9 +204,12 @@ pub fn waited_before_write(core: &Core, buffer: &Buffer) -> Option<JobId>
 pub fn waited_before_read(core: &Core, buffer: &Buffer) -> Option<JobId>
     ensures { result ≡ words.waited_for core.now (words.jobs_before_read buffer.now) }
 {
+    let fences = fences_to_look_at(core, buffer);
+    let pending = core.jobs.pending();
+    let least = least_number(pending);
     let mut named = None;
-    for f in buffer.fences.items() {
-        if changes(*f) && is_unfinished(core, f.job) {
+    for f in fences {
+        if changes(*f) && is_open(pending, least, f.job) {
             named = Some(named_last(named, f.job));
         }
     }
@@ -154,10 +242,9 @@ pub fn jobs_before_use(alloc: Global, core: &Core, ops: &[Op], b: BufId) -> Resu
 {
     let dead = dead_buffer(alloc);
     let buffer = buffer_in(core, b, &dead);
-    let jobs = if is_written(ops, b) {
-        jobs_before_write(alloc, buffer)
+    if is_written(ops, b) {
+        unfinished_before_write(alloc, core, buffer)
     } else {
-        jobs_before_read(alloc, buffer)
-    };
-    unfinished(alloc, core, jobs?.items())
+        unfinished_before_read(alloc, core, buffer)
+    }
 }

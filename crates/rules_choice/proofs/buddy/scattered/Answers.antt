@@ -21,7 +21,7 @@ returns-in-None c =
 pub loop-block-preserved : goal.loop-block-preserved
 loop-block-preserved c =
     let marks = c.loop-block.rest.marks.items in
-    let rest = c.in_ok-rest-in-Some.rest.marks.items in
+    let rest = c.without-rest.result.marks.items in
     let block = c.in-Some.found.block in
     let fuel = c.args.pages - c.loop-block._block in
     let enough : 0 < c.args.pages - c.loop-block._block = omega arith in
@@ -30,7 +30,7 @@ loop-block-preserved c =
     let found : first_candidate (candidate (marked marks) (length marks) c.args.range c.args.topdown) (log2 c.loop-block.left + 1) ≡ Some (candidate_of c.in-Some.found)
     = ap (λ n. first_candidate (candidate (marked marks) (length marks) c.args.range c.args.topdown) (n + 1)) (sym orders) ∙ sym c.first_candidate.ensures
     ∙ ap (option_map candidate_of) c.in-Some.is in
-    let without : IsWithout marks block rest = c.in_ok-rest-in-Some.ensures in
+    let without : IsWithout marks block rest = c.without-rest.ensures in
     let behind : ℕ → ℕ → List Span → Option (List Span)
     = λ n left spans. option_map (λ more. spans ++ more) (scattered n (marked rest) (length rest) c.args.range c.args.topdown left) in
     let less : c.args.pages - (c.loop-block._block + 1) ≡ c.args.pages - c.loop-block._block - 1 = omega arith in

@@ -4,4 +4,4 @@ use Rattle.journal_model.specs.Waits.{waited_for}
 use Rattle.rules_holds.proofs.waits.waited_before_write.Given as goal
 
 abbrev pub invariant-loop-f : goal.invariant-loop-f
-invariant-loop-f l = l.named ≡ waited_for l.core (map (λ f. f.job) (take l.f-index l.f-items))
+invariant-loop-f l = l.named ≡ waited_for l.core (map (λ f. f.job) (take l.f-index l.fences))

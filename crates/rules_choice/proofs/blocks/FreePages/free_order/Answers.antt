@@ -14,8 +14,8 @@ loop-left-preserved c =
           ∙ c.loop-left.invariant.same;
     }
 
-pub returns-else-is_free_block : goal.returns-else-is_free_block
-returns-else-is_free_block c =
+pub returns-else-is_free_block-clause-order : goal.returns-else-is_free_block-clause-order
+returns-else-is_free_block-clause-order c =
     free_order_ends (marked c.args.self.now.marks.items) (length c.args.self.now.marks.items) c.args.page c.loop-left.whole c.loop-left.left
     (sym c.if-is_free_block.ensures)
     ∙ c.loop-left.invariant.same

@@ -1,0 +1,8 @@
+use Rattle.std.proofs.Common.{take}
+use Rattle.std.specs.Prelude.{filter_map}
+use Rattle.journal_model.specs.Places.{frame_of}
+use Rattle.rules_holds.specs.Marked.{AreMarked}
+use Rattle.rules_holds.proofs.free.mark_frames.Given as goal
+
+abbrev pub invariant-loop-loc : goal.invariant-loop-loc
+invariant-loop-loc l = AreMarked l.initial.marks.items (filter_map frame_of (take l.loc-index l.table)) l.marks.items
