@@ -1,31 +1,31 @@
 -- What is left of free pages while largest free blocks that were found stay unmarked.
-use Rattle.std.proofs.Common.{◌≡◌, ℕ, ◌+◌, ◌*◌, ◌/◌, ◌%◌, ◌^◌, ◌<◌, ◌≤◌, ◌⊎◌, ◌&&◌, inl, inr, Bool, true, false, Some, None, option_map, refl, ap, sym, ◌∙◌, subst, arith, not, nat_eq, nat_le, if◌then◌else◌, mul-div_cancel, mul-le-mul_right}
+use Rattle.std.proofs.Common.{◌≡◌, ℕ, suc, ◌+◌, ◌-◌, ◌*◌, ◌/◌, ◌%◌, ◌^◌, ◌<◌, ◌≤◌, ◌&&◌, inl, inr, Bool, true, false, List, Some, None, length, set, replicate, option_map, refl, ap, sym, ◌∙◌, subst, arith, not, nat_eq, nat_le, if◌then◌else◌, mul-div_cancel, mul-le-mul_right}
+use Rattle.std.proofs.lemmas.List.{get_or-set_same, get_or-set_other, get_or-replicate, length-set, length-replicate}
 use Rattle.std.proofs.lemmas.Bool.{and_parts, and_from, eqb-true, leb-true, le-leb, cases_lt, cases_eq, false_from_ne_true, both_ways}
 use Rattle.std.proofs.Math.Nat.{div-add-mod}
 use Rattle.ttm_base.specs.declared.Span.{Span}
 use Rattle.ttm_base.specs.Holes.{has_page}
 use Rattle.ttm_base.specs.Reach.{is_inside}
 use Rattle.ttm_base.specs.BuddyChoice.{block_around, is_free_block, candidate}
-use Rattle.block_tree.specs.Masks.{is_marked}
 use Rattle.block_tree.specs.Searching.{numbered, IsAhead}
 use Rattle.block_tree.specs.Pieces.{IsWhole, IsPiece, IsLeastWhole, LeastWholeOf, IsFirstPiece, FirstPieceOf}
-use Rattle.block_tree.proofs.Numbers.{some_pages, block_pages, block_end, in_block, same_at}
+use Rattle.block_tree.proofs.Numbers.{some_pages, small_pow, div_next, block_pages, block_end, in_block, same_at, as_smaller, less_number}
 use Rattle.block_tree.proofs.FreeLaws.{free_from, free_parts, smaller_free, around_number}
 use Rattle.block_tree.proofs.PieceLaws.{too_large, one_whole, piece_block, piece_within, piece_free, piece_around}
 use Rattle.block_tree.proofs.ChoiceLaws.{candidate_none, candidate_found}
 use Rattle.buddy_manager.specs.Taking.{less, CanTake}
-use Rattle.buddy_manager.specs.Finding.{IsPart, IsLeft, IsSource, IsAt, HasNoBlock, IsUnder, IsEven, behind}
+use Rattle.buddy_manager.specs.Finding.{IsPart, IsLeft, IsSource, IsAt, HasNoBlock, IsEven, IsBeside, behind, rest_of}
 use Rattle.buddy_manager.proofs.HeldLaws.{has_parts, has_from}
 
 -- ---- words
 
-inside_parts : (s b : Span) → is_inside s b ≡ true → (s.start ≤ b.start) × (b.end ≤ s.end)
+pub inside_parts : (s b : Span) → is_inside s b ≡ true → (s.start ≤ b.start) × (b.end ≤ s.end)
 inside_parts s b h = let p = and_parts (nat_le s.start b.start) (nat_le b.end s.end) h in (leb-true s.start b.start p.0, leb-true b.end s.end p.1)
 
-inside_from : (s b : Span) → s.start ≤ b.start → b.end ≤ s.end → is_inside s b ≡ true
+pub inside_from : (s b : Span) → s.start ≤ b.start → b.end ≤ s.end → is_inside s b ≡ true
 inside_from s b l u = and_from (nat_le s.start b.start) (nat_le b.end s.end) (le-leb s.start b.start l) (le-leb b.end s.end u)
 
-less_parts : (g : ℕ → Bool) (b : Span) (page : ℕ) → less g b page ≡ true → (g page ≡ true) × (has_page page b ≡ false)
+pub less_parts : (g : ℕ → Bool) (b : Span) (page : ℕ) → less g b page ≡ true → (g page ≡ true) × (has_page page b ≡ false)
 less_parts g b page h = two (g page) (has_page page b) h where
   two : (x y : Bool) → (x && not y) ≡ true → (x ≡ true) × (y ≡ false)
   two true true h = absurd cc
@@ -35,22 +35,16 @@ less_parts g b page h = two (g page) (has_page page b) h where
 less_from : (g : ℕ → Bool) (b : Span) (page : ℕ) → g page ≡ true → has_page page b ≡ false → less g b page ≡ true
 less_from g b page h n = and_from (g page) (not (has_page page b)) h (ap not n)
 
-marked_parts : (f : ℕ → Bool) (b : Span) (page : ℕ) → is_marked b false (f page) page ≡ true → (f page ≡ true) × (has_page page b ≡ false)
-marked_parts f b page h = two (has_page page b) (f page) h where
-  two : (t x : Bool) → (if t then false else x) ≡ true → (x ≡ true) × (t ≡ false)
-  two true x h = absurd cc
-  two false x h = (h, refl)
-
 in_number : (x k i : ℕ) → has_page x (numbered k i) ≡ true → x / 2 ^ k ≡ i
 in_number x k i h = let p = has_parts x (numbered k i) h in in_block x k i p.0 p.1
 
 not_number : (x k i : ℕ) → (x / 2 ^ k ≡ i → ⊥) → has_page x (numbered k i) ≡ false
 not_number x k i n = false_from_ne_true (has_page x (numbered k i)) (λ t. n (in_number x k i t))
 
-has_number : (x k i : ℕ) → x / 2 ^ k ≡ i → has_page x (numbered k i) ≡ true
+pub has_number : (x k i : ℕ) → x / 2 ^ k ≡ i → has_page x (numbered k i) ≡ true
 has_number x k i e = let p = block_pages x k i e in has_from x (numbered k i) p.0 p.1
 
-own_number : (k i : ℕ) → i * 2 ^ k / 2 ^ k ≡ i
+pub own_number : (k i : ℕ) → i * 2 ^ k / 2 ^ k ≡ i
 own_number k i = mul-div_cancel i (some_pages k)
 
 less_times : (a b n : ℕ) → a ≤ b → a * n ≤ b * n
@@ -67,14 +61,14 @@ sub_block g f size k p h t =
     let e = a.end in
     free_from f size k p e (λ x i. let u = (block_pages x k (p / 2 ^ k) i).1 in h x (omega (arith, u, e)) (a.free x i))
 
-whole_same : (f : ℕ → Bool) (size j p q : ℕ) → p / 2 ^ j ≡ q / 2 ^ j → IsWhole f size j p → IsWhole f size j q
+pub whole_same : (f : ℕ → Bool) (size j p q : ℕ) → p / 2 ^ j ≡ q / 2 ^ j → IsWhole f size j p → IsWhole f size j q
 whole_same f size j p q e w =
     record {
       free = subst (λ b. is_free_block f size b ≡ true) (around_same p q j e) w.free;
       largest = subst (λ b. is_free_block f size b ≡ false) (around_same p q (j + 1) (same_at p q j (j + 1) (omega arith) e)) w.largest;
     }
 
-own_page : (f : ℕ → Bool) (size j p : ℕ) → is_free_block f size (block_around j p) ≡ true → f p ≡ true
+pub own_page : (f : ℕ → Bool) (size j p : ℕ) → is_free_block f size (block_around j p) ≡ true → f p ≡ true
 own_page f size j p t = (free_parts f size j p t).free p refl
 
 whole_from : (g f : ℕ → Bool) (size j p : ℕ) → IsPart g f size → IsWhole g size j p → IsWhole f size j p
@@ -91,42 +85,21 @@ whole_in g f size j p h own w =
       largest = false_from_ne_true (is_free_block g size (block_around (j + 1) p)) (λ t. both_ways (is_free_block f size (block_around (j + 1) p)) w.largest (sub_block g f size (j + 1) p h.sub t));
     }
 
-piece_from : (g f : ℕ → Bool) (size : ℕ) (range : Span) (k j i : ℕ) → IsPart g f size → IsPiece g size range k j i → IsPiece f size range k j i
+pub piece_from : (g f : ℕ → Bool) (size : ℕ) (range : Span) (k j i : ℕ) → IsPart g f size → IsPiece g size range k j i → IsPiece f size range k j i
 piece_from g f size range k j i h x = record { order = x.order; inside = x.inside; whole = whole_from g f size j (i * 2 ^ k) h x.whole }
 
-piece_in : (g f : ℕ → Bool) (size : ℕ) (range : Span) (k j i : ℕ) → IsPart g f size → g (i * 2 ^ k) ≡ true → IsPiece f size range k j i → IsPiece g size range k j i
+pub piece_in : (g f : ℕ → Bool) (size : ℕ) (range : Span) (k j i : ℕ) → IsPart g f size → g (i * 2 ^ k) ≡ true → IsPiece f size range k j i → IsPiece g size range k j i
 piece_in g f size range k j i h own x = record { order = x.order; inside = x.inside; whole = whole_in g f size j (i * 2 ^ k) h own x.whole }
 
-piece_page : (g : ℕ → Bool) (size : ℕ) (range : Span) (k j i : ℕ) → IsPiece g size range k j i → g (i * 2 ^ k) ≡ true
+pub piece_page : (g : ℕ → Bool) (size : ℕ) (range : Span) (k j i : ℕ) → IsPiece g size range k j i → g (i * 2 ^ k) ≡ true
 piece_page g size range k j i x = own_page g size j (i * 2 ^ k) x.whole.free
 
-within_from : (f : ℕ → Bool) (size : ℕ) (range rest : Span) (k j i : ℕ) → range.start ≤ rest.start → rest.end ≤ range.end → IsPiece f size rest k j i → IsPiece f size range k j i
+pub within_from : (f : ℕ → Bool) (size : ℕ) (range rest : Span) (k j i : ℕ) → range.start ≤ rest.start → rest.end ≤ range.end → IsPiece f size rest k j i → IsPiece f size range k j i
 within_from f size range rest k j i s e x =
     let p = inside_parts rest (numbered k i) x.inside in
     record { order = x.order; inside = inside_from range (numbered k i) (let l = p.0 in omega (arith, s, l)) (let u = p.1 in omega (arith, e, u)); whole = x.whole }
 
 -- ---- where the next block is
-
-pub source_below : (g f : ℕ → Bool) (size : ℕ) (range : Span) (order : ℕ) (rest : Span) (k j : ℕ) → IsLeft g f size range order rest → IsLeastWhole f size range k j → j < order → IsSource g f size range k range j
-source_below g f size range order rest k j left least l =
-    record {
-      bound = λ i w x. least.bound i w (piece_from g f size range k w i left.part x);
-      ahead = λ i x. piece_from g f size range k j i left.part x;
-      back = λ i x. piece_in g f size range k j i left.part (left.below k j i l x) x;
-    }
-
-pub source_rest : (g f : ℕ → Bool) (size : ℕ) (range : Span) (order : ℕ) (rest : Span) (k : ℕ) → IsLeft g f size range order rest → ((i w : ℕ) → IsPiece f size range k w i → order ≤ w) → IsSource g f size range k rest order
-source_rest g f size range order rest k left bound =
-    record {
-      bound = λ i w x. bound i w (piece_from g f size range k w i left.part x);
-      ahead = λ i x.
-          let y = piece_from g f size range k order i left.part x in
-          record { order = y.order; inside = left.ahead k i y (piece_page g size range k order i x); whole = y.whole };
-      back = λ i x. piece_in g f size range k order i left.part (left.behind k i x) (within_from f size range rest k order i left.start left.end x);
-    }
-
-pub source_none : (g f : ℕ → Bool) (size : ℕ) (range : Span) (order : ℕ) (rest : Span) (k : ℕ) → IsLeft g f size range order rest → LeastWholeOf f size range k None → LeastWholeOf g size range k None
-source_none g f size range order rest k left none = λ i w x. none i w (piece_from g f size range k w i left.part x)
 
 -- the next block is the candidate
 pub next_choice : (g f : ℕ → Bool) (size : ℕ) (range : Span) (topdown : Bool) (k : ℕ) (source : Span) (j : ℕ) (b : Span) → IsSource g f size range k source j → IsFirstPiece f size source topdown k j b
@@ -134,39 +107,20 @@ pub next_choice : (g f : ℕ → Bool) (size : ℕ) (range : Span) (topdown : Bo
 next_choice g f size range topdown k source j b s first =
     ap (option_map (λ c. c.block)) (candidate_found g size range topdown k j first.number s.bound (s.back first.number first.is) (λ m x. first.first m (s.ahead m x))) ∙ ap Some (sym first.block)
 
--- where there is none, all blocks are split from orders above the run's
-pub none_beyond : (g f : ℕ → Bool) (size : ℕ) (range : Span) (topdown : Bool) (k : ℕ) (source : Span) (j order : ℕ) → IsSource g f size range k source j → (j ≡ order) ⊎ IsLeastWhole f size source k j → FirstPieceOf f size source topdown k j None
-    → (i w : ℕ) → IsPiece g size range k w i → order < w
-none_beyond g f size range topdown k source j order s there none i w x =
-    elim there [
-      | inr least ↦ absurd (none least.number least.is)
-      | inl o ↦
-          let l = s.bound i w x in
-          elim (cases_eq j w) [
-            | inl e ↦ absurd (none i (s.ahead i (subst (λ n. IsPiece g size range k n i) (sym e) x)))
-            | inr n ↦ omega (arith, o, l, n)
-          ]
-    ]
-
 pub first_len : (f : ℕ → Bool) (size : ℕ) (source : Span) (topdown : Bool) (k j : ℕ) (b : Span) → IsFirstPiece f size source topdown k j b → b.end ≡ b.start + 2 ^ k
 first_len f size source topdown k j b h =
     let e = ap (λ (b : Span). b.end) h.block in
     let s = ap (λ (b : Span). b.start) h.block in
     omega (arith, e, s)
 
-pub first_whole : (f : ℕ → Bool) (size : ℕ) (source : Span) (topdown : Bool) (k j : ℕ) (b : Span) → IsFirstPiece f size source topdown k j b → is_free_block f size (block_around j b.start) ≡ true
-first_whole f size source topdown k j b h = subst (λ (b : Span). is_free_block f size (block_around j b.start) ≡ true) (sym h.block) h.is.whole.free
-
-pub next_taken : (g f : ℕ → Bool) (size : ℕ) (range : Span) (topdown : Bool) (k : ℕ) (source : Span) (j : ℕ) (b : Span) → IsSource g f size range k source j → IsFirstPiece f size source topdown k j b → CanTake g size b
-next_taken g f size range topdown k source j b s first =
-    let x = s.back first.number first.is in
+pub piece_taken : (g : ℕ → Bool) (size : ℕ) (range : Span) (k j n : ℕ) → IsPiece g size range k j n → CanTake g size (numbered k n)
+piece_taken g size range k j n x =
     let p = some_pages k in
-    subst (CanTake g size) (sym first.block)
-    (record {
+    record {
       some = omega (arith, p);
-      within = piece_within g size range k j first.number x;
-      free = λ page t. let h = has_parts page (numbered k first.number) t in piece_free g size range k j first.number page x h.0 h.1;
-    })
+      within = piece_within g size range k j n x;
+      free = λ page t. let h = has_parts page (numbered k n) t in piece_free g size range k j n page x h.0 h.1;
+    }
 
 -- ---- a largest free block that stays unmarked
 
@@ -263,126 +217,229 @@ behind_within : (topdown : Bool) (source : Span) (k n : ℕ) → is_inside sourc
 behind_within false source k n h = let o = inside_parts source (numbered k n) h in let l = o.0 in record { start = omega (arith, l); end = omega arith }
 behind_within true source k n h = let o = inside_parts source (numbered k n) h in let u = o.1 in record { start = omega arith; end = omega (arith, u) }
 
-pub at_below : (g f : ℕ → Bool) (size : ℕ) (range : Span) (order : ℕ) (rest : Span) (k : ℕ) → IsLeft g f size range order rest → k < order → IsAt g f size range range k
-at_below g f size range order rest k left l = record { ahead = λ k' i x own. x; own = λ k' i x. left.below k' k i l x; start = omega arith; end = omega arith }
+-- a block is in the first of the free blocks of an order, if it is the first that is split from one
+first_of_whole : (f : ℕ → Bool) (size : ℕ) (source : Span) (topdown : Bool) (k w n m : ℕ) → IsPiece f size source k w n → ((i : ℕ) → IsPiece f size source k w i → IsAhead topdown n i) → IsPiece f size source w w m → IsAhead topdown (n * 2 ^ k / 2 ^ w) m
+first_of_whole f size source topdown k w n m is first x = by topdown (first i piece) where
+  i : ℕ
+  i = m * 2 ^ (w - k)
 
-pub at_rest : (g f : ℕ → Bool) (size : ℕ) (range : Span) (order : ℕ) (rest : Span) → IsLeft g f size range order rest → IsAt g f size range rest order
-at_rest g f size range order rest left =
-    record { ahead = λ k' i x own. record { order = x.order; inside = left.ahead k' i x own; whole = x.whole }; own = left.behind; start = left.start; end = left.end }
+  same : m * 2 ^ w ≡ i * 2 ^ k
+  same = as_smaller m w k is.order
 
-left_unmarked : (g f : ℕ → Bool) (size : ℕ) (range : Span) (order : ℕ) (rest : Span) (topdown : Bool) (k : ℕ) (source b : Span) → IsLeft g f size range order rest → k ≤ order → IsAt g f size range source k → IsEven topdown source size k
-    → IsFirstPiece f size source topdown k k b → IsLeft (less g b) f size range k (behind topdown source b)
-left_unmarked g f size range order rest topdown k source b left l at even first =
-    subst (λ b. IsLeft (less g b) f size range k (behind topdown source b)) (sym first.block)
-    (let n : ℕ = first.number in
-    let in_source = behind_within topdown source k n first.is.inside in
+  piece : IsPiece f size source k w i
+  piece =
+      let o = inside_parts source (numbered w m) x.inside in
+      let p = small_pow k w is.order in
+      record {
+        order = is.order;
+        inside = inside_from source (numbered k i) (let l = o.0 in let e = same in omega (arith, e, l)) (let u = o.1 in let e = same in omega (arith, e, u, p));
+        whole = subst (λ page. IsWhole f size w page) same x.whole;
+      }
+
+  by : (t : Bool) → IsAhead t n i → IsAhead t (n * 2 ^ k / 2 ^ w) m
+  by false l =
+      let t : n * 2 ^ k ≤ i * 2 ^ k = less_times n i (2 ^ k) l in
+      let b = (block_pages (n * 2 ^ k) w (n * 2 ^ k / 2 ^ w) refl).0 in
+      less_number (n * 2 ^ k / 2 ^ w) m w (let e = same in omega (arith, t, b, e))
+  by true l =
+      let t : i * 2 ^ k ≤ n * 2 ^ k = less_times i n (2 ^ k) l in
+      let b = (block_pages (n * 2 ^ k) w (n * 2 ^ k / 2 ^ w) refl).1 in
+      elim (cases_lt (n * 2 ^ k / 2 ^ w) m) [
+        | inl u ↦
+            let v : (n * 2 ^ k / 2 ^ w + 1) * 2 ^ w ≤ m * 2 ^ w = less_times (n * 2 ^ k / 2 ^ w + 1) m (2 ^ w) (omega (arith, u)) in
+            let e = same in
+            absurd (omega (arith, v, t, b, e))
+        | inr u ↦ u
+      ]
+
+-- the rest of an order, once that of one was replaced
+rest_same : (rests : List Span) (k : ℕ) (x : Span) → k < length rests → rest_of (set rests k x) k ≡ x
+rest_same rests k x l = get_or-set_same rests k x (record { start = 0; end = 0 }) l
+
+rest_other : (rests : List Span) (k j : ℕ) (x : Span) → (j ≡ k → ⊥) → rest_of (set rests k x) j ≡ rest_of rests j
+rest_other rests k j x d = get_or-set_other rests k j x (record { start = 0; end = 0 }) d
+
+-- a free block was found, or one that is split from it
+pub left_found : (h f : ℕ → Bool) (size : ℕ) (range : Span) (rests : List Span) (topdown : Bool) (k w n : ℕ) → IsLeft h f size range rests → w < 32 → IsEven topdown (rest_of rests w) size w → is_inside (rest_of rests w) (numbered w (n * 2 ^ k / 2 ^ w)) ≡ true
+    → IsPiece f size (rest_of rests w) k w n → ((i : ℕ) → IsPiece f size (rest_of rests w) k w i → IsAhead topdown n i)
+    → IsLeft (less h (numbered w (n * 2 ^ k / 2 ^ w))) f size range (set rests w (behind topdown (rest_of rests w) (numbered w (n * 2 ^ k / 2 ^ w))))
+left_found h f size range rests topdown k w n left small even inside is first =
     record {
-      part = part_unmarked g f size k n left.part first.is.whole;
-      below = λ k' j i s x. less_from g (numbered k n) (i * 2 ^ k') (left.below k' j i (omega (arith, l, s)) x) (apart f size k n range k' j i first.is.whole x (λ e. omega (arith, e, s)));
-      ahead = λ k' i x t. let p = less_parts g (numbered k n) (i * 2 ^ k') t in behind_first f size topdown source k n k' i even first.is first.first (at.ahead k' i x p.0) p.1;
-      behind = λ k' i x.
-          let y = within_from f size source (behind topdown source (numbered k n)) k' k i in_source.start in_source.end x in
-          less_from g (numbered k n) (i * 2 ^ k') (at.own k' i y) (out_behind topdown source k n k' i x.inside);
-      start = let a = in_source.start in let c = at.start in omega (arith, a, c);
-      end = let a = in_source.end in let c = at.end in omega (arith, a, c);
-    })
+      part = part_unmarked h f size w m left.part whole;
+      count = length-set rests w (behind topdown source (numbered w m)) ∙ left.count;
+      at = λ v l. elim (cases_eq v w) [
+        | inl e ↦ subst (λ v. IsAt (less h (numbered w m)) f size range (rest_of (set rests w rest) v) v) (sym e) (subst (λ r. IsAt (less h (numbered w m)) f size range r w) (sym (rest_same rests w rest (let c = left.count in omega (arith, c, small)))) here)
+        | inr d ↦ subst (λ r. IsAt (less h (numbered w m)) f size range r v) (sym (rest_other rests w v rest d)) (there v l d)
+      ];
+    }
+  where
+    source : Span
+    source = rest_of rests w
 
-pub left_stays : (g f : ℕ → Bool) (size : ℕ) (range : Span) (order : ℕ) (rest : Span) (topdown : Bool) (k : ℕ) (source : Span) (j : ℕ) (b : Span) → IsLeft g f size range order rest → k ≤ order → j ≡ k → IsAt g f size range source j → IsEven topdown source size k
-    → IsFirstPiece f size source topdown k j b → IsLeft (less g b) f size range k (behind topdown source b)
-left_stays g f size range order rest topdown k source j b left l e at even first =
-    left_unmarked g f size range order rest topdown k source b left l (subst (IsAt g f size range source) e at) even (subst (λ n. IsFirstPiece f size source topdown k n b) e first)
+    m : ℕ
+    m = n * 2 ^ k / 2 ^ w
 
--- ---- a block that is marked
+    rest : Span
+    rest = behind topdown source (numbered w m)
 
-module _ (g f f' : ℕ → Bool) (size : ℕ) (range : Span) (order : ℕ) (rest : Span) (k j n : ℕ) (left : IsLeft g f size range order rest) (small : j ≤ order) (piece : IsPiece f size range k j n) (own : g (n * 2 ^ k) ≡ true)
-    (marked : (page : ℕ) → f' page ≡ is_marked (numbered k n) false (f page) page) where
-  was_free : (page : ℕ) → f' page ≡ true → (f page ≡ true) × (has_page page (numbered k n) ≡ false)
-  was_free page t = marked_parts f (numbered k n) page (sym (marked page) ∙ t)
+    whole : IsWhole f size w (m * 2 ^ w)
+    whole = whole_same f size w (n * 2 ^ k) (m * 2 ^ w) (sym (own_number w m)) is.whole
 
-  still_free : (page : ℕ) → f page ≡ true → has_page page (numbered k n) ≡ false → f' page ≡ true
-  still_free page t o = marked page ∙ ap (λ h. if h then false else f page) o ∙ t
+    itself : IsPiece f size source w w m
+    itself = record { order = omega arith; inside = inside; whole = whole }
 
-  is_less : (page : ℕ) → g page ≡ true → f' page ≡ true → less g (numbered k n) page ≡ true
-  is_less page t m = less_from g (numbered k n) page t (was_free page m).1
+    here : IsAt (less h (numbered w m)) f size range rest w
+    here =
+        let at = left.at w small in
+        let in_source = behind_within topdown source w m inside in
+        record {
+          ahead = λ k' i x t.
+              let p = less_parts h (numbered w m) (i * 2 ^ k') t in
+              let y = at.ahead k' i x p.0 in
+              record { order = y.order; inside = behind_first f size topdown source w m k' i even itself (λ q z. first_of_whole f size source topdown k w n q is first z) y p.1; whole = y.whole };
+          own = λ k' i x.
+              let y = within_from f size source rest k' w i in_source.start in_source.end x in
+              less_from h (numbered w m) (i * 2 ^ k') (at.own k' i y) (out_behind topdown source w m k' i x.inside);
+          start = let a = in_source.start in let c = at.start in omega (arith, a, c);
+          end = let a = in_source.end in let c = at.end in omega (arith, a, c);
+        }
 
-  -- a page of the free block from which the block was split
-  inner : (p j' : ℕ) → p / 2 ^ j ≡ n * 2 ^ k / 2 ^ j → IsWhole f' size j' p → (j' < j) × (g p ≡ true)
-  inner p j' e w =
-      let large : j' < j = elim (cases_lt j' j) [
-        | inl l ↦ l
-        | inr l ↦
-            let t = (free_parts f' size j p (smaller_free f' size j j' p l w.free)).free (n * 2 ^ k) (sym e) in
-            absurd (both_ways (has_page (n * 2 ^ k) (numbered k n)) (was_free (n * 2 ^ k) t).1 (has_number (n * 2 ^ k) k n (own_number k n)))
-      ] in
-      (large, (free_parts g size j (n * 2 ^ k) (left.part.whole (n * 2 ^ k) j own piece.whole.free)).free p e)
+    there : (v : ℕ) → v < 32 → (v ≡ w → ⊥) → IsAt (less h (numbered w m)) f size range (rest_of rests v) v
+    there v l d =
+        let at = left.at v l in
+        record {
+          ahead = λ k' i x t. at.ahead k' i x (less_parts h (numbered w m) (i * 2 ^ k') t).0;
+          own = λ k' i x. less_from h (numbered w m) (i * 2 ^ k') (at.own k' i x) (apart f size w m (rest_of rests v) k' v i whole x d);
+          start = at.start;
+          end = at.end;
+        }
 
-  -- and of another
-  outer : (p j' : ℕ) → (p / 2 ^ j ≡ n * 2 ^ k / 2 ^ j → ⊥) → IsWhole f' size j' p → IsWhole f size j' p
-  outer p j' d w =
+-- ---- a block that is no longer left, in a largest free block
+
+module _ (g : ℕ → Bool) (size w m k n : ℕ) (whole : IsWhole g size w (m * 2 ^ w)) (order : k ≤ w) (at : n * 2 ^ k / 2 ^ w ≡ m) where
+  in_around : (x : ℕ) → x / 2 ^ k ≡ n → x / 2 ^ w ≡ m
+  in_around x e = same_at x (n * 2 ^ k) k w order (e ∙ sym (own_number k n)) ∙ at
+
+  -- another free block has no page of it
+  out_of : (p j x : ℕ) → (p / 2 ^ w ≡ m → ⊥) → is_free_block g size (block_around j p) ≡ true → x / 2 ^ j ≡ p / 2 ^ j → has_page x (numbered k n) ≡ false
+  out_of p j x d t e =
+      not_number x k n (λ i.
+      let y = in_around x i in
+      let l = in_whole g size w m x j whole y (subst (λ c. is_free_block g size c ≡ true) (sym (around_same x p j e)) t) in
+      d (sym (same_at x p j w l e) ∙ y))
+
+  stays : (p j : ℕ) → (p / 2 ^ w ≡ m → ⊥) → is_free_block g size (block_around j p) ≡ true → is_free_block (less g (numbered k n)) size (block_around j p) ≡ true
+  stays p j d t =
+      let a = free_parts g size j p t in
+      free_from (less g (numbered k n)) size j p a.end (λ x e. less_from g (numbered k n) x (a.free x e) (out_of p j x d t e))
+
+  was : (p j : ℕ) → is_free_block (less g (numbered k n)) size (block_around j p) ≡ true → is_free_block g size (block_around j p) ≡ true
+  was p j t = sub_block (less g (numbered k n)) g size j p (λ page l u. (less_parts g (numbered k n) page u).0) t
+
+  pub piece_stays : (r : Span) (k' j i : ℕ) → (i * 2 ^ k' / 2 ^ w ≡ m → ⊥) → IsPiece g size r k' j i → IsPiece (less g (numbered k n)) size r k' j i
+  piece_stays r k' j i d x =
+      let p : ℕ = i * 2 ^ k' in
       record {
-        free = sub_block f' f size j' p (λ page l t. (was_free page t).0) w.free;
-        largest = false_from_ne_true (is_free_block f size (block_around (j' + 1) p)) (λ t.
-            let a = free_parts f size (j' + 1) p t in
-            both_ways (is_free_block f' size (block_around (j' + 1) p)) w.largest
-            (free_from f' size (j' + 1) p a.end (λ x e.
-            still_free x (a.free x e)
-            (not_number x k n (λ i.
-            let same : x / 2 ^ j ≡ n * 2 ^ k / 2 ^ j = same_at x (n * 2 ^ k) k j piece.order (i ∙ sym (own_number k n)) in
-            let at : IsWhole f size j x = whole_same f size j (n * 2 ^ k) x (sym same) piece.whole in
-            let free : is_free_block f size (block_around (j' + 1) x) ≡ true = subst (λ c. is_free_block f size c ≡ true) (sym (around_same x p (j' + 1) e)) t in
-            elim (cases_lt j (j' + 1)) [
-              | inl l ↦ both_ways (is_free_block f size (block_around (j + 1) x)) at.largest (smaller_free f size (j + 1) (j' + 1) x (omega (arith, l)) free)
-              | inr l ↦ d (sym (same_at x p (j' + 1) j l e) ∙ same)
-            ])))));
-      }
-
-  outer_piece : (r : Span) (k' j' i : ℕ) → (i * 2 ^ k' / 2 ^ j ≡ n * 2 ^ k / 2 ^ j → ⊥) → IsPiece f' size r k' j' i → IsPiece f size r k' j' i
-  outer_piece r k' j' i d x = record { order = x.order; inside = x.inside; whole = outer (i * 2 ^ k') j' d x.whole }
-
-  -- no free block of the run's order is new
-  of_order : (r : Span) (k' i : ℕ) → IsPiece f' size r k' order i → IsPiece f size r k' order i
-  of_order r k' i x =
-      outer_piece r k' order i (λ e. let l = (inner (i * 2 ^ k') order e x.whole).0 in omega (arith, l, small)) x
-
-  left_marked : IsLeft (less g (numbered k n)) f' size range order rest
-  left_marked =
-      record {
-        part = record {
-          sub = λ page l t. let p = less_parts g (numbered k n) page t in still_free page (left.part.sub page l p.0) p.1;
-          whole = λ page i t b.
-              let p = less_parts g (numbered k n) page t in
-              let a = free_parts f' size i page b in
-              let c = free_parts g size i page (left.part.whole page i p.0 (sub_block f' f size i page (λ page l t. (was_free page t).0) b)) in
-              free_from (less g (numbered k n)) size i page a.end (λ x e. is_less x (c.free x e) (a.free x e));
+        order = x.order;
+        inside = x.inside;
+        whole = record {
+          free = stays p j d x.whole.free;
+          largest = false_from_ne_true (is_free_block (less g (numbered k n)) size (block_around (j + 1) p)) (λ t. both_ways (is_free_block g size (block_around (j + 1) p)) x.whole.largest (was p (j + 1) t));
         };
-        below = λ k' j' i l x.
-            let page : ℕ = i * 2 ^ k' in
-            let free = own_page f' size j' page x.whole.free in
-            is_less page
-            (elim (cases_eq (page / 2 ^ j) (n * 2 ^ k / 2 ^ j)) [
-              | inl e ↦ (inner page j' e x.whole).1
-              | inr d ↦ left.below k' j' i l (outer_piece range k' j' i d x)
-            ])
-            free;
-        ahead = λ k' i x t. left.ahead k' i (of_order range k' i x) (less_parts g (numbered k n) (i * 2 ^ k') t).0;
-        behind = λ k' i x. is_less (i * 2 ^ k') (left.behind k' i (of_order rest k' i x)) (own_page f' size order (i * 2 ^ k') x.whole.free);
-        start = left.start;
-        end = left.end;
       }
 
-pub left_split : (g f f' : ℕ → Bool) (size : ℕ) (range : Span) (order : ℕ) (rest : Span) (topdown : Bool) (k : ℕ) (source : Span) (j : ℕ) (b : Span) → IsLeft g f size range order rest → j ≤ order → IsSource g f size range k source j
-    → IsFirstPiece f size source topdown k j b → ((page : ℕ) → f' page ≡ is_marked b false (f page) page) → IsLeft (less g b) f' size range order rest
-left_split g f f' size range order rest topdown k source j b left small s first marked =
-    let x = s.back first.number first.is in
-    subst (λ b. IsLeft (less g b) f' size range order rest) (sym first.block)
-    (left_marked g f f' size range order rest k j first.number left small (piece_from g f size range k j first.number left.part x) (piece_page g size range k j first.number x)
-    (λ page. marked page ∙ ap (λ b. is_marked b false (f page) page) first.block))
+  pub piece_was : (r : Span) (k' j i : ℕ) → (i * 2 ^ k' / 2 ^ w ≡ m → ⊥) → IsPiece (less g (numbered k n)) size r k' j i → IsPiece g size r k' j i
+  piece_was r k' j i d x =
+      let p : ℕ = i * 2 ^ k' in
+      record {
+        order = x.order;
+        inside = x.inside;
+        whole = record {
+          free = was p j x.whole.free;
+          largest = false_from_ne_true (is_free_block g size (block_around (j + 1) p)) (λ t. both_ways (is_free_block (less g (numbered k n)) size (block_around (j + 1) p)) x.whole.largest (stays p (j + 1) d t));
+        };
+      }
+
+  -- ---- and the half beside it
+
+  module _ (less_order : k < w) (c : ℕ) (beside : IsBeside n c) where
+    half_of_page : (x : ℕ) → x / 2 ^ (k + 1) ≡ x / 2 ^ k / 2
+    half_of_page x = let e : k + 1 ≡ suc k = omega arith in ap (λ o. x / 2 ^ o) e ∙ div_next x k
+
+    half_in : c * 2 ^ k / 2 ^ w ≡ m
+    half_in =
+        same_at (c * 2 ^ k) (n * 2 ^ k) (k + 1) w (omega arith)
+        (half_of_page (c * 2 ^ k) ∙ ap (λ x. x / 2) (own_number k c) ∙ beside.half ∙ sym (ap (λ x. x / 2) (own_number k n)) ∙ sym (half_of_page (n * 2 ^ k))) ∙ at
+
+    pub half_around : (x : ℕ) → x / 2 ^ k ≡ c → x / 2 ^ w ≡ m
+    half_around x e = same_at x (c * 2 ^ k) k w order (e ∙ sym (own_number k c)) ∙ half_in
+
+    page_free : (x : ℕ) → x / 2 ^ w ≡ m → g x ≡ true
+    page_free x e = (free_parts g size w (m * 2 ^ w) whole.free).free x (e ∙ sym (own_number w m))
+
+    whole_at : (x : ℕ) → x / 2 ^ w ≡ m → is_free_block g size (block_around w x) ≡ true
+    whole_at x e = subst (λ b. is_free_block g size b ≡ true) (sym (around_same x (m * 2 ^ w) w (e ∙ sym (own_number w m)))) whole.free
+
+    pub half_whole : IsWhole (less g (numbered k n)) size k (c * 2 ^ k)
+    half_whole =
+        record {
+          free = free_from (less g (numbered k n)) size k (c * 2 ^ k) (free_parts g size k (c * 2 ^ k) (smaller_free g size k w (c * 2 ^ k) order (whole_at (c * 2 ^ k) half_in))).end
+              (λ x e.
+              let i : x / 2 ^ k ≡ c = e ∙ own_number k c in
+              less_from g (numbered k n) x (page_free x (half_around x i)) (not_number x k n (λ o. beside.other (sym i ∙ o))));
+          largest = false_from_ne_true (is_free_block (less g (numbered k n)) size (block_around (k + 1) (c * 2 ^ k))) (λ t.
+              let own = (free_parts (less g (numbered k n)) size (k + 1) (c * 2 ^ k) t).free (n * 2 ^ k)
+              (half_of_page (n * 2 ^ k) ∙ ap (λ x. x / 2) (own_number k n) ∙ sym beside.half ∙ sym (ap (λ x. x / 2) (own_number k c)) ∙ sym (half_of_page (c * 2 ^ k))) in
+              both_ways (has_page (n * 2 ^ k) (numbered k n)) (less_parts g (numbered k n) (n * 2 ^ k) own).1 (has_number (n * 2 ^ k) k n (own_number k n)));
+        }
+
+    -- a block in the free block that was split, of no greater order, is in the half
+    pub half_only : (r : Span) (k' v i : ℕ) → i * 2 ^ k' / 2 ^ w ≡ m → v ≤ k → IsPiece (less g (numbered k n)) size r k' v i → (v ≡ k) × (i * 2 ^ k' / 2 ^ k ≡ c)
+    half_only r k' v i e l x =
+        elim (cases_eq (p / 2 ^ k / 2) (n / 2)) [
+          | inl s ↦
+              let is : p / 2 ^ k ≡ c = two (p / 2 ^ k) s (λ o. both_ways (has_page p (numbered k n)) (less_parts g (numbered k n) p own).1 (has_number p k n o)) in
+              elim (cases_eq v k) [
+                | inl d ↦ (d, is)
+                | inr d ↦
+                    let free : is_free_block (less g (numbered k n)) size (block_around k p) ≡ true = subst (λ b. is_free_block (less g (numbered k n)) size b ≡ true) (sym (around_same p (c * 2 ^ k) k (is ∙ sym (own_number k c)))) half_whole.free in
+                    absurd (both_ways (is_free_block (less g (numbered k n)) size (block_around (v + 1) p)) x.whole.largest (smaller_free (less g (numbered k n)) size (v + 1) k p (omega (arith, l, d)) free))
+              ]
+          | inr d ↦
+              let a = free_parts g size (k + 1) p (smaller_free g size (k + 1) w p (omega arith) (whole_at p e)) in
+              let free : is_free_block (less g (numbered k n)) size (block_around (k + 1) p) ≡ true
+              = free_from (less g (numbered k n)) size (k + 1) p a.end (λ y o.
+              less_from g (numbered k n) y (a.free y o)
+              (not_number y k n (λ z. d (sym (half_of_page p) ∙ sym o ∙ half_of_page y ∙ ap (λ q. q / 2) z)))) in
+              absurd (both_ways (is_free_block (less g (numbered k n)) size (block_around (v + 1) p)) x.whole.largest (smaller_free (less g (numbered k n)) size (v + 1) (k + 1) p (omega (arith, l)) free))
+        ]
+      where
+        p : ℕ
+        p = i * 2 ^ k'
+
+        own : less g (numbered k n) p ≡ true
+        own = own_page (less g (numbered k n)) size v p x.whole.free
+
+        only_two : (q n c : ℕ) → q / 2 ≡ n / 2 → c / 2 ≡ n / 2 → (q ≡ n → ⊥) → (c ≡ n → ⊥) → (q ≡ c → ⊥) → ⊥
+        only_two q n c a b d e f = omega (arith, a, b, d, e, f)
+
+        two : (q : ℕ) → q / 2 ≡ n / 2 → (q ≡ n → ⊥) → q ≡ c
+        two q s o = let h = beside.half in let d = beside.other in elim (cases_eq q c) [ inl e ↦ e | inr f ↦ absurd (only_two q n c s h o d f) ]
+
+    -- the half is inside what the free block is inside of
+    pub half_inside : (r : Span) → is_inside r (numbered w m) ≡ true → is_inside r (numbered k c) ≡ true
+    half_inside r h =
+        let o = inside_parts r (numbered w m) h in
+        let l = (block_pages (c * 2 ^ k) w m half_in).0 in
+        let u = block_end c k w m order half_in in
+        inside_from r (numbered k c) (let s = o.0 in omega (arith, s, l)) (let e = o.1 in omega (arith, e, u))
 
 -- ---- where nothing stays unmarked
 
-pub left_all : (g f : ℕ → Bool) (size : ℕ) (range : Span) (order : ℕ) → ((page : ℕ) → page < size → g page ≡ f page) → IsLeft g f size range order range
-left_all g f size range order same =
-    record {
+pub left_all : (g f : ℕ → Bool) (size : ℕ) (range : Span) (rests : List Span) → rests ≡ replicate 32 range → ((page : ℕ) → page < size → g page ≡ f page) → IsLeft g f size range rests
+left_all g f size range rests all same =
+    subst (IsLeft g f size range) (sym all)
+    (record {
       part = record {
         sub = λ page l t. sym (same page l) ∙ t;
         whole = λ page j t b.
@@ -390,12 +447,9 @@ left_all g f size range order same =
             let e = a.end in
             free_from g size j page e (λ x i. let u = (block_pages x j (page / 2 ^ j) i).1 in same x (omega (arith, u, e)) ∙ a.free x i);
       };
-      below = λ k j i l x. page_of range k j i x;
-      ahead = λ k i x t. x.inside;
-      behind = λ k i x. page_of range k order i x;
-      start = omega arith;
-      end = omega arith;
-    }
+      count = length-replicate 32 range;
+      at = λ k l. subst (λ r. IsAt g f size range r k) (sym (get_or-replicate 32 k range (record { start = 0; end = 0 }) l)) (record { ahead = λ k' i x t. x; own = λ k' i x. page_of range k' k i x; start = omega arith; end = omega arith });
+    })
   where
     page_of : (r : Span) (k j i : ℕ) → IsPiece f size r k j i → g (i * 2 ^ k) ≡ true
     page_of r k j i x = let e = piece_within f size r k j i x in let s = some_pages k in same (i * 2 ^ k) (omega (arith, e, s)) ∙ own_page f size j (i * 2 ^ k) x.whole.free
@@ -420,30 +474,9 @@ pub no_candidate_in : (g : ℕ → Bool) (size : ℕ) (range : Span) (topdown : 
 no_candidate_in g size range topdown k none =
     candidate_none g size range topdown k (λ i w x. both_ways (is_free_block g size (numbered k i)) (none i x.inside) (from_around g size k i (piece_block g size range k w i x)))
 
-pub under_less : (g : ℕ → Bool) (b : Span) (size : ℕ) (range : Span) (order : ℕ) → IsUnder g size range order → IsUnder (less g b) size range order
-under_less g b size range order under page l u =
-    false_from_ne_true (is_free_block (less g b) size (block_around order page)) (λ t.
-    both_ways (is_free_block g size (block_around order page)) (under page l u) (sub_block (less g b) g size order page (sub_less g b size) t))
-
-pub under_all : (g : ℕ → Bool) (size : ℕ) (range : Span) (order : ℕ) → size < 2 ^ order → IsUnder g size range order
-under_all g size range order h page l u = too_large g size order page h
-
--- no order is left between
-pub no_block_between : (g : ℕ → Bool) (size : ℕ) (range : Span) (k order top : ℕ) → ((i w : ℕ) → IsPiece g size range k w i → order < w) → IsUnder g size range top → top ≤ order + 1 → HasNoBlock g size range k
-no_block_between g size range k order top beyond under l i inside =
-    false_from_ne_true (is_free_block g size (numbered k i)) (λ t.
-    let x = piece_around g size range k i inside (as_around g size k i t) in
-    let o = inside_parts range (numbered k i) inside in
-    let s = some_pages k in
-    let m = beyond i _ x in
-    both_ways (is_free_block g size (block_around top (i * 2 ^ k))) (under (i * 2 ^ k) o.0 (let u = o.1 in omega (arith, u, s))) (smaller_free g size top _ (i * 2 ^ k) (omega (arith, l, m)) x.whole.free))
-
--- an order without a block in a range that no such block lies across
-pub under_now : (g : ℕ → Bool) (size : ℕ) (range : Span) (k : ℕ) → HasNoBlock g size range k → IsEven false range size k → IsEven true range size k → IsUnder g size range k
-under_now g size range k none start end page l u =
-    false_from_ne_true (is_free_block g size (block_around k page)) (λ t.
-    let e = (free_parts g size k page t).end in
-    both_ways (is_free_block g size (numbered k (page / 2 ^ k))) (none (page / 2 ^ k) (inside_from range (numbered k (page / 2 ^ k)) (start page l) (end page u e))) t)
+-- where no block would be split from a free block, none is free
+pub no_block : (g : ℕ → Bool) (size : ℕ) (range : Span) (k : ℕ) → ((i w : ℕ) → IsPiece g size range k w i → ⊥) → HasNoBlock g size range k
+no_block g size range k none i inside = false_from_ne_true (is_free_block g size (numbered k i)) (λ t. none i _ (piece_around g size range k i inside (as_around g size k i t)))
 
 -- ---- ends of a range that are multiples
 

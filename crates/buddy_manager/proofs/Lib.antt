@@ -3,4 +3,5 @@ pub mod TakingLaws
 pub mod ManagedLaws
 pub mod UndoneLaws
 pub mod FindLaws
+pub mod KnownLaws
 pub mod FindingLaws

@@ -156,7 +156,7 @@ pub fn free_spans(free: &mut FreeBlocks, spans: &[Span])
 }
 
 /// Marks the pages of a first span and of others as free: those that touch one after the other in one walk.
-pub fn free_all(free: &mut FreeBlocks, first: Span, spans: &[Span])
+fn free_all(free: &mut FreeBlocks, first: Span, spans: &[Span])
     requires first { first.end ≤ length free.old }
     requires spans { AllBy (length free.old) spans.now }
     ensures size { length free.new ≡ length free.old }

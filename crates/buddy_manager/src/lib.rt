@@ -5,6 +5,7 @@ mod choice;
 mod ends;
 mod find;
 mod manager;
+mod unmarked;
 
 pub use manager::BuddyManager;
 

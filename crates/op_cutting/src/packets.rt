@@ -1,4 +1,4 @@
-ghost use Rattle.std.specs.Prelude.{◌≡◌, ◌++◌, ◌+◌, ◌/◌, ◌%◌, OnOk, map};
+ghost use Rattle.std.specs.Prelude.{◌≡◌, ◌++◌, ◌+◌, ◌/◌, ◌%◌, OnOk, OnErr, length, map, take};
 ghost use Rattle.ttm_base.specs.Cutting as words;
 ghost use Rattle.ttm_base.specs.Cutting.{PageMap};
 
@@ -81,7 +81,8 @@ fn push_packets<N: PageNames, L: PacketList>(
     names: &N,
     op: &Op,
 ) -> Result<(), NoMemory>
-    ensures { OnOk result (L.packets packets.new ≡ L.packets packets.old ++ map (words.packet_of (N.names names.now) op.now) (words.pieces_of op.now)) }
+    ensures ok { OnOk result (L.packets packets.new ≡ L.packets packets.old ++ map (words.packet_of (N.names names.now) op.now) (words.pieces_of op.now)) }
+    ensures err { OnErr result (L.packets packets.new ≡ take (length (L.packets packets.new)) (L.packets packets.old ++ map (words.packet_of (N.names names.now) op.now) (words.pieces_of op.now))) }
 {
     let len = op_len(op);
     let mut at = 0;
@@ -94,13 +95,14 @@ fn push_packets<N: PageNames, L: PacketList>(
 }
 
 /// Puts the packets of operations behind others: each operation, in order and from its lowest byte, is cut at every page border of
-/// its buffers. After want of memory the list may have some of them.
+/// its buffers. After want of memory the list has the first of them, up to some packet.
 pub fn cut<N: PageNames, L: PacketList>(
     packets: &mut L,
     names: &N,
     ops: &[Op],
 ) -> Result<(), NoMemory>
-    ensures { OnOk result (L.packets packets.new ≡ L.packets packets.old ++ words.packets_of (N.names names.now) ops.now) }
+    ensures ok { OnOk result (L.packets packets.new ≡ L.packets packets.old ++ words.packets_of (N.names names.now) ops.now) }
+    ensures err { OnErr result (L.packets packets.new ≡ take (length (L.packets packets.new)) (L.packets packets.old ++ words.packets_of (N.names names.now) ops.now)) }
 {
     for op in ops {
         push_packets(packets, names, op)?;

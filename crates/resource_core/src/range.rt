@@ -68,8 +68,14 @@ impl SpanManager for RangeManager {
                 out.set(0, span);
                 Ok(())
             }
-            Err(InsertFault::NoHole) => Err(TakeFault::NoRoom),
-            Err(InsertFault::NoMemory) => Err(TakeFault::NoMemory),
+            Err(InsertFault::NoHole) => {
+                out.clear();
+                Err(TakeFault::NoRoom)
+            }
+            Err(InsertFault::NoMemory) => {
+                out.clear();
+                Err(TakeFault::NoMemory)
+            }
         }
     }
 

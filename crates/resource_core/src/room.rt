@@ -51,7 +51,8 @@ pub trait SpanManager: Drop {
         ensures ok { OnOk result (choice (is_free_beside (held self.old)) (size self.old) pages align place.now ≡ Some out.new) }
         ensures held { OnOk result (held self.new ≡ with_blocks out.new (held self.old)) }
         ensures none { result ≡ Err TakeFault.NoRoom → choice (is_free_beside (held self.old)) (size self.old) pages align place.now ≡ None }
-        ensures same { OnErr result (held self.new ≡ held self.old) };
+        ensures same { OnErr result (held self.new ≡ held self.old) }
+        ensures empty { OnErr result (out.new ≡ []) };
 
     /// Gives the spans of the choice, of which none is taken.
     fn choose(
@@ -69,7 +70,8 @@ pub trait SpanManager: Drop {
         ensures size { size self.new ≡ size self.old }
         ensures held { held self.new ≡ held self.old }
         ensures ok { OnOk result (choice (is_free_beside (held self.old)) (size self.old) pages align place.now ≡ Some out.new) }
-        ensures none { result ≡ Err TakeFault.NoRoom → choice (is_free_beside (held self.old)) (size self.old) pages align place.now ≡ None };
+        ensures none { result ≡ Err TakeFault.NoRoom → choice (is_free_beside (held self.old)) (size self.old) pages align place.now ≡ None }
+        ensures empty { OnErr result (out.new ≡ []) };
 
     /// Holds spans of free pages. After a refusal nothing is changed.
     fn hold(&mut self, spans: &Spans) -> Result<(), NoMemory>

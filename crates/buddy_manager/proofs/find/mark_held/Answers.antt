@@ -4,14 +4,16 @@ use Rattle.ttm_base.specs.declared.Span.{Span}
 use Rattle.block_tree.specs.FreeSet.{is_free}
 use Rattle.block_tree.specs.Masks.{is_marked}
 use Rattle.buddy_manager.specs.Taking.{beside}
-use Rattle.buddy_manager.proofs.TakingLaws.{all_by_at, beside_more, marked_less}
+use Rattle.buddy_manager.proofs.TakingLaws.{beside_more, marked_less}
+use Rattle.buddy_manager.proofs.FindingLaws.{marked_there}
 use Rattle.buddy_manager.proofs.find.mark_held.Goals as goal
 
 pub mark-requires : goal.mark-requires
 mark-requires c =
-    let by = all_by_at _ c.args.blocks.now c.loop-block.block-index (record { start = 0; end = 0 }) c.requires (omega arith) in
     let s = c.loop-block.invariant.size in
-    omega (arith, by, s)
+    let m = c.min-end.ensures in
+    let v = c.size-size.ensures.value in
+    omega (arith, s, m, v)
 
 pub loop-block-preserved : goal.loop-block-preserved
 loop-block-preserved c =
@@ -21,6 +23,7 @@ loop-block-preserved c =
       size = c.mark.ensures.size ∙ c.loop-block.invariant.size;
       held = λ page.
           c.mark.ensures.marked page
+          ∙ marked_there c.loop-block.free block.start block.end c.min-end.result page (let s = c.loop-block.invariant.size in let m = c.min-end.ensures in let v = c.size-size.ensures.value in omega (arith, s, m, v))
           ∙ ap (λ x. is_marked block false x page) (c.loop-block.invariant.held page)
           ∙ marked_less (beside (is_free c.args.free.now) (take c.loop-block.block-index c.args.blocks.now)) block page
           ∙ sym (ap (λ f. f page) (beside_more (is_free c.args.free.now) (take c.loop-block.block-index c.args.blocks.now) block))
