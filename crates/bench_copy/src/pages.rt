@@ -207,13 +207,28 @@ impl Pages {
         self.stores.vram.fill(0, SIZE as u64, 0);
     }
 
-    /// Whether the bytes are those that a way leaves.
+    /// Whether the bytes of each page are those that a way leaves.
     pub fn is_done(&self, way: Way) -> bool {
-        let vram = self.stores.vram.part(0, SIZE as u64);
+        for page in 0..PAGES {
+            if !self.is_page_done(way, page) {
+                return false;
+            }
+        }
+        true
+    }
+
+    /// Whether the bytes of a page are those that a way leaves.
+    fn is_page_done(&self, way: Way, page: u32) -> bool
+        requires { page < 1024 }
+    {
+        let at = LEN * page as usize;
+        let from = &self.from[at..at + LEN];
+        let to = &self.to[at..at + LEN];
+        let vram = self.stores.vram.part(at as u64, PAGE);
         match way {
-            Way::PlainCopy => self.to == self.from,
-            Way::StoreCopy | Way::PacketCopy | Way::ApertureCopy => vram == self.from.as_slice(),
-            Way::PlainFill => are_filled(self.to.as_slice()),
+            Way::PlainCopy => to == from,
+            Way::StoreCopy | Way::PacketCopy | Way::ApertureCopy => vram == from,
+            Way::PlainFill => are_filled(to),
             Way::StoreFill => are_filled(vram),
         }
     }

@@ -1,5 +1,5 @@
 -- Parts of a list of bytes.
-use Rattle.std.specs.Prelude.{ℕ, ◌+◌, List, ◌++◌, [], ◌∷◌, length, take, drop, replicate, bit_xor}
+use Rattle.std.specs.Prelude.{◌≡◌, ℕ, ◌+◌, ◌-◌, List, ◌++◌, [], ◌∷◌, length, take, drop, replicate, bit_xor}
 
 -- len bytes from a place on
 abbrev pub part : List ℕ → ℕ → ℕ → List ℕ
@@ -18,3 +18,11 @@ abbrev pub xored : List ℕ → List ℕ → List ℕ
 xored [] ys = []
 xored (x ∷ xs) [] = []
 xored (x ∷ xs) (y ∷ ys) = bit_xor x y ∷ xored xs ys
+
+-- bytes that are stored, and zeros for those behind them, so many in all
+abbrev pub padded : List ℕ → ℕ → List ℕ
+padded bytes size = bytes ++ filled (size - length bytes) 0
+
+-- the last page of them is zeros
+abbrev pub EndsInZeros : List ℕ → Type 0
+EndsInZeros bytes = drop (length bytes - 4096) bytes ≡ filled 4096 0

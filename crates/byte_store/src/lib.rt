@@ -1,8 +1,8 @@
 //! Bytes of pages in memory: the stores of VRAM, of frames and of swap slots.
 #![tactic(auto)]
 
-ghost use Rattle.std.specs.Prelude.{◌≡◌, ◌+◌, ◌*◌, ◌<◌, ◌≤◌, Some, IfOk, length, slice_get, slice_set};
-ghost use Rattle.byte_store.specs.Parts.{xored};
+ghost use Rattle.std.specs.Prelude.{◌≡◌, ◌+◌, ◌-◌, ◌*◌, ◌<◌, ◌≤◌, [], Some, IfOk, length, replicate, slice_get, slice_set, vec_capacity, vec_len};
+ghost use Rattle.byte_store.specs.Parts.{EndsInZeros, filled, overwritten, padded, part, xored};
 
 use std::alloc::Global;
 use std::marker::Model;
@@ -11,107 +11,144 @@ use ttm_base::NoMemory;
 /// How many bytes a page has.
 pub const PAGE: u64 = 4096;
 
-/// The bytes of so many pages, one page behind the other, seen as a list. A call takes no memory but for `new`.
+/// How many bytes are made zeros at once, where a store is written behind those that it has stored.
+const GROWTH: usize = 16 * PAGE as usize;
+
+/// The bytes of so many pages, one page behind the other, seen as a list. A call takes no memory but for `new`, which only
+/// reserves it: the system gives a page of it when it is written first. So the bytes are stored up to the highest that was
+/// written, with a page or more of zeros, and zeros stand for those behind.
 #[derive(Drop)]
 pub struct ByteStore {
     bytes: Vec<u8>,
+    size: usize,
 }
 
 impl Model for ByteStore {
-    ghost use Rattle.std.specs.Prelude.{ℕ, List};
+    ghost use Rattle.std.specs.Prelude.{◌≤◌, ◌<◌, ℕ, List, vec_capacity, vec_len};
+    ghost use Rattle.byte_store.specs.Parts.{EndsInZeros, padded};
 
     ghost Value = { List ℕ };
 
-    ghost view = { λ s. s.bytes.items };
+    ghost view = { λ s. padded s.bytes.items s.size };
+
+    ghost invariant = { λ s. (vec_len s.bytes ≤ s.size) × (s.size ≤ vec_capacity s.bytes) × (vec_len s.bytes < s.size → EndsInZeros s.bytes.items) };
 }
 
 impl ByteStore {
     ghost use Rattle.byte_store.specs.Parts.{filled, overwritten, part, xored};
 
     /// Pages of zeros.
-    #[tactic(auto, unfolding(crate::specs::Parts::filled))]
     pub fn new(alloc: Global, pages: u32) -> Result<ByteStore, NoMemory>
         ensures zeros { IfOk result (λ store. store ≡ filled (PAGE * pages) 0) }
         ensures len { IfOk result (λ store. length store ≡ PAGE * pages) }
     {
-        let len = PAGE as usize * pages as usize;
-        let bytes = vec![in alloc; 0; len]?;
-        Ok(ByteStore { bytes })
+        let size = PAGE as usize * pages as usize;
+        let mut bytes = Vec::with_capacity(alloc, size)?;
+        let first = size.min(PAGE as usize);
+        store_first(&mut bytes, first);
+        Ok(ByteStore { bytes, size })
     }
 
     /// The byte at a place.
+    #[tactic(auto, using(crate::proofs::StoredLaws::first_of_part))]
     pub fn get(&self, at: u64) -> u8
         requires { at < length self.now }
         ensures { slice_get self.now at ≡ Some result }
     {
-        self.bytes[at as usize]
+        self.part(at, 1)[0]
     }
 
     /// Puts another byte at a place.
+    #[tactic(auto, using(crate::proofs::StoredLaws::overwritten_one))]
     pub fn put(&mut self, at: u64, byte: u8)
         requires { at < length self.old }
         ensures after { self.new ≡ slice_set self.old at byte }
         ensures len { length self.new ≡ length self.old }
     {
-        self.bytes[at as usize] = byte;
+        self.copy_page_part(at, &[byte]);
     }
 
-    /// Lends `len` bytes from a place on.
+    /// Lends `len` bytes, at most a page of them, from a place on.
+    #[tactic(auto, using(crate::proofs::StoredLaws::length_padded, crate::proofs::StoredLaws::ends_length, crate::proofs::StoredLaws::part_padded, crate::proofs::StoredLaws::part_behind, crate::proofs::StoredLaws::part_of_zeros))]
     pub fn part(&self, at: u64, len: u64) -> &[u8]
-        requires { at + len ≤ length self.now }
+        requires page { len ≤ PAGE }
+        requires inside { at + len ≤ length self.now }
         ensures value { result.now ≡ part self.now at len }
         ensures len { length result.now ≡ len }
     {
-        &self.bytes[at as usize..(at + len) as usize]
+        let stored = self.bytes.len();
+        let end = (at + len) as usize;
+        if end <= stored {
+            &self.bytes[at as usize..end]
+        } else {
+            &self.bytes[stored - len as usize..stored]
+        }
     }
 
     /// Puts one byte at `len` places from a place on.
-    #[tactic(auto, unfolding(crate::specs::Parts::filled))]
+    #[tactic(auto, using(crate::proofs::StoredLaws::length_padded, crate::proofs::StoredLaws::padded_overwritten, crate::proofs::StoredLaws::ends_in_zeros_filled))]
     pub fn fill(&mut self, at: u64, len: u64, byte: u8)
         requires { at + len ≤ length self.old }
         ensures after { self.new ≡ overwritten self.old at (filled len byte) }
         ensures len { length self.new ≡ length self.old }
     {
-        self.bytes[at as usize..(at + len) as usize].fill(byte);
+        let size = self.size;
+        let end = (at + len) as usize;
+        store_up_to(&mut self.bytes, size, end);
+        fill_part(&mut self.bytes, at as usize, end, byte);
     }
 
-    /// Makes all bytes of a page zero.
+    /// Makes all bytes of a page zero. Where none of them is stored they are zeros, and nothing is written.
+    #[tactic(auto, using(crate::proofs::StoredLaws::length_padded, crate::proofs::StoredLaws::zeros_behind))]
     pub fn zero_page(&mut self, page: u32)
         requires { PAGE * page + PAGE ≤ length self.old }
         ensures after { self.new ≡ overwritten self.old (PAGE * page) (filled PAGE 0) }
         ensures len { length self.new ≡ length self.old }
     {
-        self.fill(PAGE * page as u64, PAGE, 0);
+        let start = PAGE * page as u64;
+        if start < self.bytes.len() as u64 {
+            self.fill(start, PAGE, 0);
+        }
     }
 
     /// Puts the bytes of another store, or of a buffer, from a place on.
+    #[tactic(auto, using(crate::proofs::StoredLaws::length_padded, crate::proofs::StoredLaws::padded_overwritten, crate::proofs::StoredLaws::ends_in_zeros_written))]
     pub fn copy_page_part(&mut self, to: u64, from: &[u8])
         requires { to + length from.now ≤ length self.old }
         ensures after { self.new ≡ overwritten self.old to from.now }
         ensures len { length self.new ≡ length self.old }
     {
-        self.bytes[to as usize..to as usize + from.len()].copy_from_slice(from);
+        let size = self.size;
+        let end = to as usize + from.len();
+        store_up_to(&mut self.bytes, size, end);
+        put_part(&mut self.bytes, to as usize, from);
     }
 
     /// Copies `len` bytes of the store itself, also where both parts have bytes in common.
+    #[tactic(auto, using(crate::proofs::StoredLaws::length_padded, crate::proofs::StoredLaws::padded_overwritten, crate::proofs::StoredLaws::ends_in_zeros_moved))]
     pub fn copy_within(&mut self, to: u64, from: u64, len: u64)
         requires source { from + len ≤ length self.old }
         requires target { to + len ≤ length self.old }
         ensures after { self.new ≡ overwritten self.old to (part self.old from len) }
         ensures len { length self.new ≡ length self.old }
     {
-        let from = from as usize;
-        self.bytes
-            .copy_within(from..from + len as usize, to as usize);
+        let size = self.size;
+        let end = (from.max(to) + len) as usize;
+        store_up_to(&mut self.bytes, size, end);
+        move_part(&mut self.bytes, to as usize, from as usize, len as usize);
     }
 
     /// Makes each byte from a place on its exclusive or with that of another store, or of a buffer.
+    #[tactic(auto, using(crate::proofs::StoredLaws::length_padded, crate::proofs::StoredLaws::padded_overwritten, crate::proofs::StoredLaws::ends_in_zeros_xored))]
     pub fn xor_page_part(&mut self, to: u64, from: &[u8])
         requires { to + length from.now ≤ length self.old }
         ensures after { self.new ≡ overwritten self.old to (xored (part self.old to (length from.now)) from.now) }
         ensures len { length self.new ≡ length self.old }
     {
-        xor_slices(&mut self.bytes[to as usize..to as usize + from.len()], from);
+        let size = self.size;
+        let end = to as usize + from.len();
+        store_up_to(&mut self.bytes, size, end);
+        xor_part(&mut self.bytes, to as usize, from);
     }
 
     /// Makes each of `len` bytes, at most a page of them, its exclusive or with another of the store itself, also where
@@ -128,6 +165,80 @@ impl ByteStore {
         copy.copy_from_slice(self.part(from, len));
         self.xor_page_part(to, copy);
     }
+}
+
+/// Stores the first zeros.
+fn store_first(bytes: &mut Vec<u8>, count: usize)
+    requires empty { bytes.old.items ≡ [] }
+    requires reserved { count ≤ vec_capacity bytes.old }
+    ensures zeros { bytes.new.items ≡ replicate count 0 }
+    ensures len { vec_len bytes.new ≡ count }
+    ensures reserved { vec_capacity bytes.old ≤ vec_capacity bytes.new }
+{
+    bytes.resize(count, 0).unwrap();
+}
+
+/// Stores the zeros up to a place, with a page of them behind it where there are so many.
+#[tactic(auto, using(crate::proofs::StoredLaws::padded_resized, crate::proofs::StoredLaws::ends_in_zeros))]
+fn store_up_to(bytes: &mut Vec<u8>, size: usize, end: usize)
+    requires fits { end ≤ size }
+    requires stored { vec_len bytes.old ≤ size }
+    requires reserved { size ≤ vec_capacity bytes.old }
+    requires zeros { vec_len bytes.old < size → EndsInZeros bytes.old.items }
+    ensures same { padded bytes.new.items size ≡ padded bytes.old.items size }
+    ensures stored { vec_len bytes.new ≤ size }
+    ensures reserved { size ≤ vec_capacity bytes.new }
+    ensures there { end ≤ vec_len bytes.new }
+    ensures spare { vec_len bytes.new < size → end + PAGE ≤ vec_len bytes.new }
+    ensures zeros { vec_len bytes.new < size → EndsInZeros bytes.new.items }
+{
+    let left = size - end;
+    if bytes.len() < end + left.min(PAGE as usize) {
+        bytes.resize(end + left.min(GROWTH), 0).unwrap();
+    }
+}
+
+/// Puts one byte at the places of a part.
+#[tactic(auto, unfolding(crate::specs::Parts::filled))]
+fn fill_part(bytes: &mut Vec<u8>, at: usize, end: usize, byte: u8)
+    requires order { at ≤ end }
+    requires inside { end ≤ vec_len bytes.old }
+    ensures after { bytes.new.items ≡ overwritten bytes.old.items at (filled (end - at) byte) }
+    ensures len { vec_len bytes.new ≡ vec_len bytes.old }
+    ensures reserved { vec_capacity bytes.new ≡ vec_capacity bytes.old }
+{
+    bytes[at..end].fill(byte);
+}
+
+/// Puts other bytes from a place on.
+fn put_part(bytes: &mut Vec<u8>, to: usize, from: &[u8])
+    requires { to + length from.now ≤ vec_len bytes.old }
+    ensures after { bytes.new.items ≡ overwritten bytes.old.items to from.now }
+    ensures len { vec_len bytes.new ≡ vec_len bytes.old }
+    ensures reserved { vec_capacity bytes.new ≡ vec_capacity bytes.old }
+{
+    bytes[to..to + from.len()].copy_from_slice(from);
+}
+
+/// Copies a part, also where both places have bytes in common.
+fn move_part(bytes: &mut Vec<u8>, to: usize, from: usize, len: usize)
+    requires source { from + len ≤ vec_len bytes.old }
+    requires target { to + len ≤ vec_len bytes.old }
+    ensures after { bytes.new.items ≡ overwritten bytes.old.items to (part bytes.old.items from len) }
+    ensures len { vec_len bytes.new ≡ vec_len bytes.old }
+    ensures reserved { vec_capacity bytes.new ≡ vec_capacity bytes.old }
+{
+    bytes.copy_within(from..from + len, to);
+}
+
+/// Makes each byte from a place on its exclusive or with others.
+fn xor_part(bytes: &mut Vec<u8>, to: usize, from: &[u8])
+    requires { to + length from.now ≤ vec_len bytes.old }
+    ensures after { bytes.new.items ≡ overwritten bytes.old.items to (xored (part bytes.old.items to (length from.now)) from.now) }
+    ensures len { vec_len bytes.new ≡ vec_len bytes.old }
+    ensures reserved { vec_capacity bytes.new ≡ vec_capacity bytes.old }
+{
+    xor_slices(&mut bytes[to..to + from.len()], from);
 }
 
 /// Makes each byte its exclusive or with that of the other slice.

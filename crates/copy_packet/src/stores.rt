@@ -58,9 +58,10 @@ impl Stores {
         }
     }
 
-    /// Lends bytes from a place on.
+    /// Lends bytes, at most a page of them, from a place on.
     pub(crate) fn part(&self, spot: Spot, len: u64) -> &[u8]
-        requires { Fits self.now spot len }
+        requires page { len ≤ PAGE }
+        requires fits { Fits self.now spot len }
         ensures { result.now ≡ part_at self.now spot len }
     {
         match spot {
@@ -82,8 +83,9 @@ impl Stores {
         }
     }
 
-    /// Copies bytes.
+    /// Copies bytes, at most a page of them.
     pub(crate) fn copy(&mut self, to: Spot, from: Spot, len: u64)
+        requires page { len ≤ PAGE }
         requires target { Fits self.old to len }
         requires source { Fits self.old from len }
         ensures after { self.new ≡ after_write self.old to (part_at self.old from len) }

@@ -156,7 +156,8 @@ impl Rings {
         })
     }
 
-    /// The links of a spot.
+    /// The links of a spot. A walk knows which kind of spot it asks for: inside it the other kind goes away.
+    #[inline(always)]
     pub fn links(&self, spot: Spot) -> Links
         requires { IsSpot self.now spot }
         ensures { result ≡ links_at self.now spot }

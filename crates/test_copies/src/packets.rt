@@ -32,7 +32,8 @@ fn assert_cut(
 
 /// Bytes of frames from a place on.
 fn assert_frames(rt: &impl Abort, stores: &Stores, at: u64, want: &[u8])
-    requires { at + length want.now ≤ length stores.now.frames }
+    requires page { length want.now ≤ 4096 }
+    requires inside { at + length want.now ≤ length stores.now.frames }
 {
     assert!(rt; stores.frames.part(at, want.len() as u64) == want);
 }

@@ -12,8 +12,8 @@ frame_of_page-frame-requires c =
     subst (λ l. IsSome (frame_in l c.args.page)) (sym c.places.ensures)
     (swap_out_frame c.args.script.now c.args.before.now c.args.parts.now c.args.entry.now c.args.thread c.args.b c.args.page c.args.slot c.requires.held c.requires.is c.requires.next _ c.get-bo.ensures)
 
-pub part-bytes-requires : goal.part-bytes-requires
-part-bytes-requires c =
+pub part-bytes-requires-clause-inside : goal.part-bytes-requires-clause-inside
+part-bytes-requires-clause-inside c =
     swap_out_inside c.args.script.now c.args.before.now c.args.parts.now c.args.entry.now c.args.thread c.args.b c.args.page c.args.slot c.requires.held c.requires.is c.requires.next _ c.frame_of_page-frame.result c.get-bo.ensures
     (ap (λ l. frame_in l c.args.page) (sym c.places.ensures) ∙ c.frame_of_page-frame.ensures)
 
