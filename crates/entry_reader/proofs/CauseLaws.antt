@@ -17,7 +17,7 @@ use Rattle.journal_model.specs.CommandRules.{is_declared}
 use Rattle.journal_model.specs.ScriptRules.{is_letter, is_letter_or_digit, is_name, is_script}
 use Rattle.journal_model.specs.Readable.{is_cause, is_cause_row, is_dry_why}
 use Rattle.journal_model.specs.Reading.{known, names_of}
-use Rattle.law_script.proofs.Tests.{both, joint}
+use Rattle.law_items.proofs.Tests.{both, joint}
 use Rattle.law_script.proofs.CutLaws.{cut_again, joined, lacks}
 use Rattle.law_script.proofs.WordLaws.{bytes_are}
 use Rattle.law_script.proofs.NamesAgain.{known_again}

@@ -20,7 +20,7 @@ use Rattle.journal_model.specs.ScriptRules.{is_actor, is_script}
 use Rattle.journal_model.specs.Readable.{is_kind, is_readable, is_some_actor, is_u64}
 use Rattle.journal_model.specs.Reading.{actor_of, engine_actor, is_plain, names_of, read_on, thread_actor}
 use Rattle.journal_model.specs.Verdict.{IsEntryText, has_actor}
-use Rattle.law_script.proofs.Tests.{both, joint, lt_is, is_le}
+use Rattle.law_items.proofs.Tests.{both, joint, lt_is, is_le}
 use Rattle.law_script.proofs.CutLaws.{cut_again, lacks}
 use Rattle.law_script.proofs.TextLaws.{text_is_line}
 use Rattle.law_script.proofs.HeadLaws.{actor_takes}

@@ -12,7 +12,7 @@ use Rattle.journal_model.specs.FirstFault.{ends_line, without_end}
 use Rattle.journal_model.specs.ReportText.{report_head}
 use Rattle.journal_model.specs.Readable.{is_u64}
 use Rattle.script_words.specs.Lines.{line_len}
-use Rattle.law_script.proofs.Tests.{and_true, joint}
+use Rattle.law_items.proofs.Tests.{and_true, joint}
 use Rattle.law_script.proofs.WordLaws.{bytes_are}
 use Rattle.law_script.proofs.CutLaws.{cut_again, lacks}
 use Rattle.law_script.proofs.TextLaws.{text_is_line}

@@ -12,7 +12,7 @@ use Rattle.journal_model.specs.CommandRules.{is_declared}
 use Rattle.journal_model.specs.ScriptRules.{is_script}
 use Rattle.journal_model.specs.Readable.{are_bytes, is_dry_why, is_kind, is_left, is_span, is_u32, is_u64}
 use Rattle.journal_model.specs.Reading.{bytes_in_hex, known, mem_of, names_of}
-use Rattle.law_script.proofs.Tests.{both}
+use Rattle.law_items.proofs.Tests.{both}
 use Rattle.law_script.proofs.AgainLaws.{bytes_again}
 use Rattle.law_script.proofs.WordLaws.{mem_again}
 use Rattle.law_script.proofs.NamesAgain.{IsNamed, known_again}

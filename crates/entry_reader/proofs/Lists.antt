@@ -4,7 +4,7 @@ use Rattle.std.specs.Prelude.{◌&&◌, ◌||◌, not, codes}
 use Rattle.std.specs.List.{join_with_byte, list_all, list_any}
 use Rattle.journal_model.specs.Words.{Text, listed}
 use Rattle.journal_model.specs.Cut.{cut_at}
-use Rattle.law_script.proofs.Tests.{either, both, joint}
+use Rattle.law_items.proofs.Tests.{either, both, joint}
 use Rattle.law_script.proofs.WordLaws.{bytes_are}
 use Rattle.law_script.proofs.CutLaws.{cut_some, joined, cut_again, lacks}
 use Rattle.entry_reader.specs.EntryReading.{all_of, list_of}

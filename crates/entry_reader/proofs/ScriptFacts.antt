@@ -7,7 +7,7 @@ use Rattle.journal_model.specs.CommandRules.{command_len, is_between, is_command
 use Rattle.journal_model.specs.ScriptRules.{has_distinct_names, has_sizes, is_decl, is_script, is_turn_line}
 use Rattle.journal_model.specs.MarkRules.{have_marks}
 use Rattle.journal_model.specs.Readable.{is_u64}
-use Rattle.law_script.proofs.Tests.{both, le_is, lt_is}
+use Rattle.law_items.proofs.Tests.{both, le_is, lt_is}
 use Rattle.law_script.proofs.NamesAgain.{IsNamed}
 use Rattle.law_script.proofs.NumberLaws.{between}
 

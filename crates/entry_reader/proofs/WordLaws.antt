@@ -22,7 +22,7 @@ use Rattle.journal_model.specs.Cut.{cut_at}
 use Rattle.journal_model.specs.CommandRules.{is_declared}
 use Rattle.journal_model.specs.Readable.{are_bytes, is_left, is_span, is_u32, is_u64}
 use Rattle.journal_model.specs.Reading.{bytes_in_hex, is_digit, known, mem_of, names_of}
-use Rattle.law_script.proofs.Tests.{both, joint, lt_is, true_lt}
+use Rattle.law_items.proofs.Tests.{both, joint, lt_is, true_lt}
 use Rattle.law_script.proofs.NumberLaws.{number_again, number_takes, own}
 use Rattle.law_script.proofs.HexLaws.{bytes_take}
 use Rattle.law_script.proofs.CommandFits.{bytes_small}

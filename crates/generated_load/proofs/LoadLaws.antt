@@ -12,7 +12,7 @@ use Rattle.journal_model.specs.Words.{Text, line}
 use Rattle.journal_model.specs.Spelling.{buffer_line, spelling}
 use Rattle.journal_model.specs.CommandRules.{command_len}
 use Rattle.journal_model.specs.ScriptRules.{is_script}
-use Rattle.law_script.proofs.Tests.{joint, is_le}
+use Rattle.law_items.proofs.Tests.{joint, is_le}
 use Rattle.law_items.proofs.ListFacts.{has_few}
 use Rattle.law_script.proofs.Sound.{frame, six}
 use Rattle.journal_model.specs.ScriptRules.{IsScript}

@@ -16,7 +16,7 @@ use Rattle.journal_model.specs.ScriptRules.{is_script}
 use Rattle.journal_model.specs.Spaces.{has_pages, regions_of, regions_space, space_of}
 use Rattle.law_items.specs.Items.{Item, items_fit, marks_in, numbered}
 use Rattle.law_items.proofs.FromMarks.{items_of_marks}
-use Rattle.law_items.proofs.ListFacts.{both}
+use Rattle.law_items.proofs.Tests.{both}
 use Rattle.law_items.proofs.Places.{drops, all_numbered, has_threads, is_later, list_at}
 use Rattle.law_spaces.proofs.Names.{IsMeant, job_is_meant}
 use Rattle.law_spaces.proofs.Order.{rising_of}

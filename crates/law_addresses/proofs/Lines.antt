@@ -18,7 +18,7 @@ use Rattle.journal_model.specs.Marks.{is_request}
 use Rattle.journal_model.specs.MarkRules.{Desk, desk_after, has_apart_ranges, is_job_of, is_mark, is_page_range, is_vop, is_vsubmit, is_way}
 use Rattle.journal_model.specs.Spaces.{Region, has_pages, regions_after}
 use Rattle.law_items.specs.Items.{Item, Alone, Asks, all_along, commands_in, item_fits, mark_at, marks_in}
-use Rattle.law_items.proofs.ListFacts.{both, joint}
+use Rattle.law_items.proofs.Tests.{both, joint}
 use Rattle.law_script.proofs.NamedJobs.{same_are}
 use Rattle.law_addresses.specs.Addressed.{requests_among}
 

@@ -18,7 +18,8 @@ use Rattle.journal_model.specs.Complete.{thread_numbers}
 use Rattle.journal_model.specs.Marks.{marks_at, marks_of}
 use Rattle.journal_model.specs.MarkRules.{Desk, empty_desk, desk_after, is_mark, is_way, are_marks, marks_fit, is_above, are_in_order, is_in_thread, is_line, has_few_lines, have_marks}
 use Rattle.law_items.specs.Items.{Item, Alone, Asks, commands_in, mark_at, marks_in, numbered, ComesFrom, desk_behind, item_fits, all_along, items_fit}
-use Rattle.law_items.proofs.ListFacts.{both, joint, and_true, is_le, has_few}
+use Rattle.law_items.proofs.ListFacts.{has_few}
+use Rattle.law_items.proofs.Tests.{both, joint, and_true, differ, is_le}
 use Rattle.law_items.proofs.Places.{Stand, stand_first, stand_alone, stand_next, stand_here, stand_last, HasThreads, has_threads, next_threads, first_marks, all_append, all_ways, all_in, all_numbered}
 use Rattle.law_items.proofs.Puts.{lists_len}
 use Rattle.law_items.proofs.Texts.{alone_is_line, way_no_line}
@@ -32,10 +33,6 @@ or_left false b h = absurd cc
 or_right : (a b : Bool) → b ≡ true → (a || b) ≡ true
 or_right true b h = refl
 or_right false b h = h
-
--- a test has one answer
-pub differ : true ≡ false → ⊥
-differ h = absurd cc
 
 -- ---- the marks at a command
 

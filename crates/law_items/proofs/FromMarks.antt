@@ -17,11 +17,12 @@ use Rattle.journal_model.specs.Complete.{thread_numbers}
 use Rattle.journal_model.specs.Marks.{marks_at}
 use Rattle.journal_model.specs.MarkRules.{Desk, empty_desk, desk_after, is_mark, is_way, are_marks, marks_fit, is_above, are_in_order, is_in_thread, is_line, has_few_lines, have_marks}
 use Rattle.law_items.specs.Items.{Item, Alone, Asks, commands_in, mark_at, marks_in, numbered, ComesFrom, item_fits, all_along, items_fit}
-use Rattle.law_items.proofs.ListFacts.{both, joint, and_true, has_few}
+use Rattle.law_items.proofs.ListFacts.{has_few}
+use Rattle.law_items.proofs.Tests.{both, joint, and_true, differ}
 use Rattle.law_items.proofs.Places.{keeps, drops, kinds_at, commands_at, HasThreads, has_threads, first_marks}
 use Rattle.law_items.proofs.Puts.{lists_len}
 use Rattle.law_items.proofs.Texts.{mark_is_line, way_no_line}
-use Rattle.law_items.proofs.Fits.{differ, thread_count}
+use Rattle.law_items.proofs.Fits.{thread_count}
 
 -- ---- the lines of a thread by its marks and commands
 

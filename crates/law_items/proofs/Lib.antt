@@ -1,3 +1,4 @@
+pub mod Tests
 pub mod ListFacts
 pub mod Places
 pub mod Puts

@@ -1,35 +1,13 @@
 -- Lists that grow at their end, and the last of a list of lists.
 use Rattle.std.proofs.Common.{◌≡◌, ℕ, suc, ◌+◌, ◌-◌, ◌<◌, ◌≤◌, Bool, true, false, List, [], ◌∷◌, ◌++◌, length, map, Option, Some, None, refl, sym, ap, ◌∙◌, append_assoc, arith}
-use Rattle.std.specs.Prelude.{◌&&◌, sum_by, flat_map, slice_get, slice_set, nat_le}
+use Rattle.std.specs.Prelude.{sum_by, flat_map, slice_get, slice_set, nat_le}
 use Rattle.std.specs.List.{list_all}
-use Rattle.std.proofs.lemmas.Bool.Decides.{nat_tests}
 use Rattle.std.proofs.lemmas.List.{append-nil}
 use Rattle.std.proofs.lemmas.List.Concat.{flat_map-cons}
 use Rattle.std.proofs.lemmas.List.Sums.{sum_by-append, sum_by-cons}
 use Rattle.std.proofs.lemmas.Grind.{flat_map-append}
 use Rattle.journal_model.specs.FirstFault.{onto_last}
-
--- ---- tests
-
--- each of two
-pub both : (a b : Bool) → (a && b) ≡ true → (a ≡ true) × (b ≡ true)
-both true true h = (refl, refl)
-both true false h = absurd cc
-both false b h = absurd cc
-
--- two that hold
-pub joint : (a b : Bool) → a ≡ true → b ≡ true → (a && b) ≡ true
-joint true true p q = refl
-joint true false p q = absurd cc
-joint false b p q = absurd cc
-
--- a test that holds, and another
-pub and_true : (a : Bool) → a ≡ true → (a && true) ≡ true
-and_true true h = refl
-and_true false h = absurd cc
-
-pub is_le : (n m : ℕ) → n ≤ m → nat_le n m ≡ true
-is_le n m h = grind (arith, nat_tests)
+use Rattle.law_items.proofs.Tests.{both, joint, and_true, is_le}
 
 -- ---- one more at the end
 

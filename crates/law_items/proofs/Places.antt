@@ -13,7 +13,7 @@ use Rattle.journal_model.specs.declared.script.MarkKind.{MarkKind}
 use Rattle.journal_model.specs.Commands.{commands_of}
 use Rattle.journal_model.specs.Marks.{marks_of, marks_at}
 use Rattle.law_items.specs.Items.{Item, Alone, Asks, commands_in, mark_at, marks_in, numbered, ComesFrom}
-use Rattle.law_items.proofs.ListFacts.{both, joint}
+use Rattle.law_items.proofs.Tests.{both, joint}
 
 -- ---- lists
 

@@ -13,7 +13,8 @@ use Rattle.journal_model.specs.Commands.{commands_of}
 use Rattle.journal_model.specs.MarkRules.{Desk, empty_desk, desk_after, desk_at_end}
 use Rattle.journal_model.specs.FirstFault.{onto_last, mark_here}
 use Rattle.law_items.specs.Items.{Item, Alone, Asks, commands_in, kinds_in, mark_at, marks_in, numbered, ComesFrom, with_items, desk_behind, desk_of, item_fits, all_along, items_fit}
-use Rattle.law_items.proofs.ListFacts.{both, joint, and_true, length_map, put_last, put_end, onto_is, last_list, last_len, last_len_is, last_end}
+use Rattle.law_items.proofs.ListFacts.{length_map, put_last, put_end, onto_is, last_list, last_len, last_len_is, last_end}
+use Rattle.law_items.proofs.Tests.{both, joint, and_true}
 use Rattle.law_items.proofs.Places.{of_thread}
 
 -- ---- threads

@@ -14,7 +14,7 @@ use Rattle.journal_model.specs.Marks.{addressed, is_mapped, marks_of}
 use Rattle.journal_model.specs.MarkRules.{Desk, empty_desk, is_mark, is_way, is_line}
 use Rattle.journal_model.specs.Spelling.{addressed_words, command_words, mapped_words, mark_line, command_lines, thread_lines}
 use Rattle.law_items.specs.Items.{Item, Alone, Asks, commands_in, marks_in, ComesFrom, written, item_text, items_text, desk_behind, item_fits, all_along, items_fit}
-use Rattle.law_items.proofs.ListFacts.{both, and_true}
+use Rattle.law_items.proofs.Tests.{both, and_true}
 use Rattle.law_items.proofs.Places.{Stand, stand_first, stand_alone, stand_next, stand_here, stand_last, HasThreads, has_threads, next_threads, first_marks, all_append}
 
 -- ---- lines and ways

@@ -10,7 +10,7 @@ use Rattle.journal_model.specs.Words.{Text, hex, hex_byte}
 use Rattle.journal_model.specs.CommandRules.{is_byte}
 use Rattle.journal_model.specs.Reading.{offset_of, bytes_in_hex, is_hex, hex_value}
 use Rattle.law_script.proofs.NumberLaws.{number_again}
-use Rattle.law_script.proofs.Tests.{not_true, either, both, differ}
+use Rattle.law_items.proofs.Tests.{not_true, either, both, differ}
 
 -- ---- bytes
 

@@ -7,7 +7,7 @@ use Rattle.journal_model.specs.declared.script.Script.{Script}
 use Rattle.journal_model.specs.CommandRules.{is_command, command_len}
 use Rattle.law_items.specs.Items.{Item, Alone, Asks, commands_in}
 use Rattle.law_script.proofs.Sound.{is_asked, item_len}
-use Rattle.law_script.proofs.Tests.{both, joint}
+use Rattle.law_items.proofs.Tests.{both, joint}
 
 all_fit : (s : Script) (items : List Item) → list_all (is_asked s) items ≡ true → list_all (is_command s) (commands_in items) ≡ true
 all_fit s [] h = refl

@@ -31,7 +31,7 @@ use Rattle.law_script.proofs.NamesAgain.{group_again, group_solid}
 use Rattle.law_script.proofs.ListAgain.{there, unflagged_place, new_list_again, old_list_again}
 use Rattle.law_script.proofs.LineRuns.{Runs, line_runs, says, keeps_all}
 use Rattle.law_script.proofs.Solid.{is_word, small_word, number_small_word, name_small}
-use Rattle.law_script.proofs.Tests.{not_true, neither, both, joint, four_facts, le_is, true_lt, not_long}
+use Rattle.law_items.proofs.Tests.{not_true, neither, both, joint, four_facts, le_is, true_lt, not_long}
 
 -- ---- the lists of version 1, by what the places say
 

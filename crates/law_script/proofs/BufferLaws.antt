@@ -18,7 +18,7 @@ use Rattle.journal_model.specs.FirstFault.{place_in, wanted, taken_under_pressur
 use Rattle.law_script.proofs.CutLaws.{joined}
 use Rattle.law_script.proofs.PlaceLaws.{is, some_flags, flag_made, chosen, unless, place_takes}
 use Rattle.law_script.proofs.HeadLaws.{good_place}
-use Rattle.law_script.proofs.Tests.{either}
+use Rattle.law_items.proofs.Tests.{either}
 
 -- the place of a word, without its flags
 abbrev pub bare : PlaceWord → Place

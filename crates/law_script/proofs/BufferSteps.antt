@@ -37,7 +37,7 @@ use Rattle.law_items.proofs.ListFacts.{all_nil, all_more, length_more}
 use Rattle.law_items.proofs.Puts.{no_lists}
 use Rattle.law_script.proofs.Sound.{frame, seats, six, is_asked, Sound, text_of, Grows}
 use Rattle.law_script.proofs.HeadSteps.{at, number_there}
-use Rattle.law_script.proofs.Tests.{not_true, either, both, joint, three_facts, is_le}
+use Rattle.law_items.proofs.Tests.{not_true, either, both, joint, three_facts, is_le}
 
 -- ---- names
 

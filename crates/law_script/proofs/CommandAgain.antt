@@ -44,7 +44,7 @@ use Rattle.law_script.proofs.NamesAgain.{IsNamed, known_again, name_word_small, 
 use Rattle.law_script.proofs.OpsAgain.{whole_op, range_is, right_range, ops_again, ops_words, none_of, ops_inside, names_again, lens_again, ops_said}
 use Rattle.law_script.proofs.LineRuns.{Runs, line_runs, says, keeps_all}
 use Rattle.law_script.proofs.Solid.{is_word, small_word, number_small_word, hex_word}
-use Rattle.law_script.proofs.Tests.{neither, both, joint, three_facts, four_facts, le_is, at_most, not_long}
+use Rattle.law_items.proofs.Tests.{neither, both, joint, three_facts, four_facts, le_is, at_most, not_long}
 
 -- the line of a command
 abbrev pub command_text : Script → Command → Text

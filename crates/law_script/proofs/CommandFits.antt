@@ -21,7 +21,7 @@ use Rattle.law_script.proofs.NumberLaws.{between, is_in}
 use Rattle.law_script.proofs.WordLaws.{known_is}
 use Rattle.law_script.proofs.SubmitLaws.{IsGood, AreGood, first_good, others_good}
 use Rattle.law_script.proofs.HeadSteps.{there}
-use Rattle.law_script.proofs.Tests.{either, joint, second, differ, three, four, is_le, lt_is}
+use Rattle.law_items.proofs.Tests.{either, joint, second, differ, three, four, is_le, lt_is}
 
 -- ---- numbers and names
 

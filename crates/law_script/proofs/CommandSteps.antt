@@ -46,7 +46,7 @@ use Rattle.law_items.proofs.ListFacts.{all_nil, all_put, few_put, last_put, leng
 use Rattle.law_items.proofs.Puts.{lists_len, alone_comes, plain_comes, way_comes, fits_put}
 use Rattle.law_script.proofs.Sound.{frame, seats, six, body, is_asked, item_len, Sound, text_of, Grows}
 use Rattle.law_script.proofs.HeadSteps.{at}
-use Rattle.law_script.proofs.Tests.{either, joint, three, four, is_le, not_less}
+use Rattle.law_items.proofs.Tests.{either, joint, three, four, is_le, not_less}
 
 -- ---- one more line of a thread
 

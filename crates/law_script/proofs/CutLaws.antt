@@ -6,7 +6,7 @@ use Rattle.std.proofs.lemmas.Bool.{eqb-true}
 use Rattle.std.proofs.lemmas.Bool.Decides.{nat_tests}
 use Rattle.journal_model.specs.Words.{Text}
 use Rattle.journal_model.specs.Cut.{onto, cut_by, cut_at}
-use Rattle.law_script.proofs.Tests.{not_true, either, both}
+use Rattle.law_items.proofs.Tests.{not_true, either, both}
 
 onto_some : {X : Type 0} (x : X) (parts : List (List X)) → 0 < length (onto x parts)
 onto_some x [] = omega arith

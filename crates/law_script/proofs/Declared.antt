@@ -12,7 +12,7 @@ use Rattle.journal_model.specs.State.{has_buffer, same_buffer}
 use Rattle.journal_model.specs.CommandRules.{is_declared}
 use Rattle.journal_model.specs.MarkRules.{Desk, desk_after, is_mark, is_way}
 use Rattle.law_items.specs.Items.{Item, Alone, Asks, desk_behind, item_fits}
-use Rattle.law_script.proofs.Tests.{both, joint}
+use Rattle.law_items.proofs.Tests.{both, joint}
 
 same_declared : (s : Script) (t : Bool) (b c : BufId) → eqb b.0 c.0 ≡ t → t ≡ true → is_declared s c ≡ true → is_declared s b ≡ true
 same_declared s true b c e h k = ap (λ n. nat_lt n (length s.buffers)) (eqb-true b.0 c.0 e) ∙ k

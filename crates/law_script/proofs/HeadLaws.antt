@@ -21,7 +21,7 @@ use Rattle.law_script.proofs.CutLaws.{joined}
 use Rattle.law_script.proofs.NumberLaws.{own, lead, between}
 use Rattle.law_script.proofs.LineLaws.{made}
 use Rattle.law_script.proofs.PlaceLaws.{is, place_takes}
-use Rattle.law_script.proofs.Tests.{either, both}
+use Rattle.law_items.proofs.Tests.{either, both}
 
 -- ---- a keyword and a number
 

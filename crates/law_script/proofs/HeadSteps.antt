@@ -26,7 +26,7 @@ use Rattle.law_items.specs.Items.{Item, items_text, items_fit}
 use Rattle.law_items.proofs.ListFacts.{all_nil}
 use Rattle.law_items.proofs.Puts.{no_lists}
 use Rattle.law_script.proofs.Sound.{frame, seats, six, is_asked, IsEarly, Stage, Sound, text_of, Grows}
-use Rattle.law_script.proofs.Tests.{is_le}
+use Rattle.law_items.proofs.Tests.{is_le}
 
 -- ---- a size
 

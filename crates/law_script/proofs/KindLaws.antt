@@ -18,7 +18,7 @@ use Rattle.law_script.proofs.NumberLaws.{between}
 use Rattle.law_script.proofs.WordLaws.{bytes_are}
 use Rattle.law_script.proofs.LineLaws.{made, number_word}
 use Rattle.law_script.proofs.HeadLaws.{actor_takes, an_actor, plain_word}
-use Rattle.law_script.proofs.Tests.{either}
+use Rattle.law_items.proofs.Tests.{either}
 
 -- ---- the first two lines
 

@@ -33,7 +33,7 @@ use Rattle.law_items.proofs.Puts.{thread_comes}
 use Rattle.law_items.proofs.ListFacts.{all_nil, all_more, length_more, last_new, sum_more, length_map, has_few}
 use Rattle.law_script.proofs.Sound.{frame, seats, six, body, is_asked, item_len, Sound, text_of, Grows}
 use Rattle.law_script.proofs.HeadSteps.{at, sizes_fit}
-use Rattle.law_script.proofs.Tests.{not_true, either, both, joint, le_is, is_le}
+use Rattle.law_items.proofs.Tests.{not_true, either, both, joint, le_is, is_le}
 use Rattle.law_script.proofs.BufferSteps.{some_if}
 
 -- ---- a word alone

@@ -1,4 +1,3 @@
-pub mod Tests
 pub mod CutLaws
 pub mod NumberLaws
 pub mod WordLaws

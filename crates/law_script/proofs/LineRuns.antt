@@ -16,7 +16,7 @@ use Rattle.journal_model.specs.FirstFault.{first_word, with_line, unless_broken,
 use Rattle.law_script.proofs.CutLaws.{cut_again}
 use Rattle.law_script.proofs.LineLaws.{made, Breaks_none}
 use Rattle.law_script.proofs.Solid.{is_word, words_lack, none_empty, spaced_shown}
-use Rattle.law_script.proofs.Tests.{either, both, three_false}
+use Rattle.law_items.proofs.Tests.{either, both, three_false}
 
 -- whatever the rest says from there on, the text and the rest say too
 abbrev pub Runs : Progress → Text → Progress → Type 0

@@ -25,7 +25,7 @@ use Rattle.law_script.proofs.WordLaws.{mem_again}
 use Rattle.law_script.proofs.PlaceLaws.{all_flags}
 use Rattle.law_script.proofs.PlaceAgain.{lacks_by, flag_list, flags_again, fallback_again, bare_again, cut_flags}
 use Rattle.law_script.proofs.Solid.{is_solid, is_word}
-use Rattle.law_script.proofs.Tests.{either, both, joint, three_facts, three_false, le_is}
+use Rattle.law_items.proofs.Tests.{either, both, joint, three_facts, three_false, le_is}
 use Rattle.law_script.proofs.Solid.{not_empty}
 use Rattle.law_items.proofs.ListFacts.{length_map}
 

@@ -35,7 +35,7 @@ use Rattle.law_script.proofs.VopLaws.{AreGoodVops, vops_take, vops_fit, vops_apa
 use Rattle.law_script.proofs.NamedJobs.{is_region, job_fits, job_len, job_count, same_self}
 use Rattle.law_script.proofs.CommandSteps.{Tells, less, fits_in, still_short, mapped_there, not_false, engine_there, submit_chosen}
 use Rattle.law_script.proofs.HeadSteps.{at, number_there}
-use Rattle.law_script.proofs.Tests.{either, joint, three, four, is_le, not_less}
+use Rattle.law_items.proofs.Tests.{either, joint, three, four, is_le, not_less}
 
 -- ---- what the thread has mapped
 

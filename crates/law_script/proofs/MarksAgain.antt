@@ -42,7 +42,7 @@ use Rattle.law_script.proofs.Declared.{declared_of}
 use Rattle.law_script.proofs.CommandAgain.{not_more, told, name_solid, not_over, read_runs, write_runs, command_runs}
 use Rattle.law_script.proofs.LineRuns.{Runs, says, keeps_all}
 use Rattle.law_script.proofs.Solid.{is_word, small_word, number_small_word}
-use Rattle.law_script.proofs.Tests.{not_true, neither, both, joint, three_facts, four_facts, le_is, not_long}
+use Rattle.law_items.proofs.Tests.{not_true, neither, both, joint, three_facts, four_facts, le_is, not_long}
 
 -- what holds where a line of a thread is read
 pub record HasRoom (s : Script) (n m : ℕ) (item : Item) : Type 0 where

@@ -26,7 +26,7 @@ use Rattle.journal_model.specs.CommandRules.{is_between, is_declared, is_range_o
 use Rattle.journal_model.specs.MarkRules.{Desk, desk_after, is_addressed, is_vop, are_apart, has_apart_ranges, is_page_range, is_mark, same_op, same_ops}
 use Rattle.journal_model.specs.ScriptRules.{is_decl, is_name}
 use Rattle.law_script.proofs.NumberLaws.{between, is_in}
-use Rattle.law_script.proofs.Tests.{both, joint, three, three_facts, four, four_facts, le_is, is_le}
+use Rattle.law_items.proofs.Tests.{both, joint, three, three_facts, four, four_facts, le_is, is_le}
 
 -- a mapping is of pages of its buffer
 abbrev pub is_region : Script → Region → Bool

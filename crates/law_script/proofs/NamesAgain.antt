@@ -24,7 +24,7 @@ use Rattle.law_script.proofs.AgainLaws.{distinct, place_of_name}
 use Rattle.law_script.proofs.BufferSteps.{same_is}
 use Rattle.law_items.proofs.ListFacts.{length_map}
 use Rattle.law_script.proofs.Solid.{is_solid, is_word, is_small, small_word, number_small_word, name_small}
-use Rattle.law_script.proofs.Tests.{both, joint, le_is, lt_is, true_lt, apart}
+use Rattle.law_items.proofs.Tests.{both, joint, le_is, lt_is, true_lt, apart}
 
 -- ---- names
 

@@ -10,7 +10,7 @@ use Rattle.std.proofs.lemmas.Fmt.{decimal-digits_value, digits_decimal, digits_v
 use Rattle.journal_model.specs.Words.{Text}
 use Rattle.journal_model.specs.Reading.{is_digit, is_plain, has_no_leading_zero, read_on, number_in}
 use Rattle.journal_model.specs.CommandRules.{is_between}
-use Rattle.law_script.proofs.Tests.{both}
+use Rattle.law_items.proofs.Tests.{both}
 
 -- reading digits is a model of decimals
 pub own : IsNumeralModel (λ ds. list_all is_digit ds ≡ true) (read_on 0)

@@ -28,7 +28,7 @@ use Rattle.law_script.proofs.NumberLaws.{between}
 use Rattle.law_script.proofs.AgainLaws.{offset_again, digit_again}
 use Rattle.law_script.proofs.NamesAgain.{IsNamed, known_again, name_word_small}
 use Rattle.law_script.proofs.Solid.{is_word, is_small, small_word, small_no_sign, number_small_word, byte_small_word}
-use Rattle.law_script.proofs.Tests.{not_true, both, joint, three_facts, four_facts, le_is, at_most}
+use Rattle.law_items.proofs.Tests.{not_true, both, joint, three_facts, four_facts, le_is, at_most}
 
 -- ---- a byte
 

@@ -32,7 +32,7 @@ use Rattle.journal_model.specs.FirstFault.{first_word}
 use Rattle.law_script.specs.LineParts.{says_place, says_actor, says_engine, has_head_parts, has_op_parts, has_vop_parts, has_all_parts, LinesHaveAllParts}
 use Rattle.law_script.proofs.LineLaws.{made, Breaks_none, breaks_none}
 use Rattle.law_script.proofs.SubmitLaws.{IsGood, AreGood, first_good, others_good}
-use Rattle.law_script.proofs.Tests.{not_true, either, joint}
+use Rattle.law_items.proofs.Tests.{not_true, either, joint}
 
 -- ---- what words make a line: actor words in a schedule, operations in a job
 

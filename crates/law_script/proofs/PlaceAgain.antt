@@ -9,7 +9,7 @@ use Rattle.journal_model.specs.Cut.{cut_at}
 use Rattle.journal_model.specs.Reading.{flags_of}
 use Rattle.law_script.proofs.CutLaws.{lacks, cut_again}
 use Rattle.law_script.proofs.PlaceLaws.{tail, join_tail, all_flags}
-use Rattle.law_script.proofs.Tests.{both, joint, differ}
+use Rattle.law_items.proofs.Tests.{both, joint, differ}
 
 -- a byte that passes is none that fails
 pub not_same : (p : ℕ → Bool) (x c : ℕ) (b : Bool) → eqb x c ≡ b → p x ≡ true → p c ≡ false → b ≡ false

@@ -24,7 +24,7 @@ use Rattle.law_script.proofs.BufferLaws.{bare, first_of, forced_of}
 use Rattle.law_script.proofs.CommandFits.{number_small}
 use Rattle.law_script.proofs.CommandSteps.{not_false}
 use Rattle.law_items.proofs.ListFacts.{length_map}
-use Rattle.law_script.proofs.Tests.{either, both, joint, three, four, is_le, lt_is}
+use Rattle.law_items.proofs.Tests.{either, both, joint, three, four, is_le, lt_is}
 
 -- ---- at most one flag
 

@@ -16,7 +16,7 @@ use Rattle.journal_model.specs.Reading.{number_in, mem_of, last_flags_of, contig
 use Rattle.law_script.proofs.CutLaws.{joined}
 use Rattle.law_script.proofs.NumberLaws.{number_takes}
 use Rattle.law_script.proofs.WordLaws.{bytes_are, mem_is, IsMemOf}
-use Rattle.law_script.proofs.Tests.{second}
+use Rattle.law_items.proofs.Tests.{second}
 
 -- flags that are there
 abbrev pub some_flags : Flags → Option Flags

@@ -41,7 +41,7 @@ use Rattle.law_script.proofs.BufferAgain.{MayDeclare, decl_is, buffer_runs, one_
 use Rattle.law_script.proofs.LineRuns.{Runs, runs_none, runs_both, line_runs, says, keeps_all}
 use Rattle.law_script.proofs.TakesScript.{spelled_by}
 use Rattle.law_script.proofs.Solid.{is_word, small_word, number_small_word}
-use Rattle.law_script.proofs.Tests.{not_true, either, both, joint, le_is}
+use Rattle.law_items.proofs.Tests.{not_true, either, both, joint, le_is}
 use Rattle.law_script.proofs.HeadSteps.{one}
 use Rattle.law_script.proofs.HeadSteps.{two}
 use Rattle.law_script.proofs.ThreadsAgain.{shorter}

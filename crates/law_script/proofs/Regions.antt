@@ -11,7 +11,7 @@ use Rattle.law_items.specs.Items.{Item, Alone, Asks, ComesFrom, desk_behind, ite
 use Rattle.law_items.proofs.ListFacts.{last_list}
 use Rattle.law_items.proofs.Puts.{desk_is}
 use Rattle.law_script.proofs.NamedJobs.{is_region, regions_stay}
-use Rattle.law_script.proofs.Tests.{both}
+use Rattle.law_items.proofs.Tests.{both}
 
 -- all mappings are of pages of their buffers
 abbrev AreRight : Script → Desk → Type 0

@@ -18,7 +18,7 @@ use Rattle.law_script.proofs.CutLaws.{lacks}
 use Rattle.law_script.proofs.NumberLaws.{own}
 use Rattle.law_script.proofs.WordLaws.{bytes_are}
 use Rattle.law_script.proofs.PlaceAgain.{lacks_by}
-use Rattle.law_script.proofs.Tests.{not_true, both, joint, three_facts, le_is, apart}
+use Rattle.law_items.proofs.Tests.{not_true, both, joint, three_facts, le_is, apart}
 
 -- a byte that shows and is no space
 abbrev pub is_solid : ℕ → Bool

@@ -16,7 +16,7 @@ use Rattle.law_script.proofs.CutLaws.{cut_some}
 use Rattle.law_script.proofs.WordLaws.{bytes_are}
 use Rattle.law_script.proofs.HexLaws.{two_digits}
 use Rattle.law_script.proofs.LineLaws.{offset_word, name_word}
-use Rattle.law_script.proofs.Tests.{either, differ}
+use Rattle.law_items.proofs.Tests.{either, differ}
 
 parted_onto : (x : Text) (parts : List (List Text)) → parted (onto x parts) ≡ x ∷ parted parts
 parted_onto x [] = refl

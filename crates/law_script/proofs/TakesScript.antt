@@ -21,7 +21,7 @@ use Rattle.law_items.proofs.Fits.{marks_of_items}
 use Rattle.law_script.proofs.Sound.{Sound, text, six, body}
 use Rattle.law_script.proofs.Takes.{runs}
 use Rattle.law_script.proofs.Asked.{asked_fit, asked_long}
-use Rattle.law_script.proofs.Tests.{is_le, not_less}
+use Rattle.law_items.proofs.Tests.{is_le, not_less}
 use Rattle.law_script.proofs.Takes.{all_of}
 
 -- ---- the lines of a text are the text

@@ -34,7 +34,7 @@ use Rattle.law_script.proofs.MarksAgain.{HasRoom, item_runs}
 use Rattle.law_script.proofs.NamesAgain.{IsNamed, actor_again, actor_solid}
 use Rattle.law_script.proofs.LineRuns.{Runs, runs_none, runs_both, line_runs, says, keeps_all}
 use Rattle.law_script.proofs.Solid.{is_word}
-use Rattle.law_script.proofs.Tests.{both, joint, le_is, not_long}
+use Rattle.law_items.proofs.Tests.{both, joint, le_is, not_long}
 use Rattle.law_script.proofs.HeadLaws.{an_actor}
 
 -- ---- the lines of a thread

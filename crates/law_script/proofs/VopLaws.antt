@@ -21,7 +21,7 @@ use Rattle.law_script.proofs.WordLaws.{bytes_are}
 use Rattle.law_script.proofs.LineLaws.{offset_word, number_word}
 use Rattle.law_script.proofs.SubmitLaws.{parted_again, byte_word}
 use Rattle.law_script.proofs.CommandFits.{number_small, not_more, byte_small}
-use Rattle.law_script.proofs.Tests.{either, joint, differ, three, is_le}
+use Rattle.law_items.proofs.Tests.{either, joint, differ, three, is_le}
 
 -- an address is spelled as it was read
 pub address_word : (w : Text) → is_none (address_of w) ≡ false → w ≡ decimal (or_zero (address_of w))

@@ -20,7 +20,7 @@ use Rattle.law_script.proofs.NumberLaws.{number_again, between}
 use Rattle.law_script.proofs.AgainLaws.{offset_again}
 use Rattle.law_script.proofs.OpsAgain.{byte_again, parted_cut, parted_words}
 use Rattle.law_script.proofs.Solid.{is_word, is_small, number_small_word, byte_small_word}
-use Rattle.law_script.proofs.Tests.{neither, both, joint, three_facts, le_is, at_most}
+use Rattle.law_items.proofs.Tests.{neither, both, joint, three_facts, le_is, at_most}
 
 -- an address is read
 pub address_again : (n : ℕ) → n ≤ 4294967295 → address_of (decimal n) ≡ Some n
