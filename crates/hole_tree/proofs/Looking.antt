@@ -1,8 +1,8 @@
 -- One step of a search, at a node n that a tree s has as its root.
-use Rattle.std.proofs.Common.{◌≡◌, ◌+◌, ◌≤◌, ◌<◌, max, Bool, true, false, ◌∷◌, ◌++◌, Option, Some, None, refl, ap, sym, ◌∙◌, subst, leb, ltb, arith, length, length-append}
+use Rattle.std.proofs.Common.{◌≡◌, ℕ, ◌+◌, ◌-◌, ◌≤◌, ◌<◌, max, Bool, true, false, List, ◌∷◌, ◌++◌, Option, Some, None, refl, ap, sym, ◌∙◌, subst, arith, length, length-append}
 use Rattle.std.specs.Option.{is_some}
 use Rattle.std.specs.List.{find}
-use Rattle.std.proofs.lemmas.Bool.{and_parts, leb-true, both_ways}
+use Rattle.std.proofs.lemmas.Bool.{both_ways, le-leb, lt-leb}
 use Rattle.ttm_base.specs.declared.Span.{Span}
 use Rattle.ttm_base.specs.declared.Mode.{Mode}
 use Rattle.hole_tree.specs.declared.order.Order.{Order}
@@ -13,27 +13,18 @@ use Rattle.hole_tree.specs.Longest.{longest}
 use Rattle.hole_tree.specs.Shape.{Shape}
 use Rattle.hole_tree.specs.Trees.{shape_of_node, IsSound}
 use Rattle.hole_tree.specs.Rising.{IsRising}
-use Rattle.hole_tree.specs.Fitting.{fits, find_last, IsWide, ranges_below, reaches_left, reaches_right}
+use Rattle.hole_tree.specs.Fitting.{fits, is_long, find_last, reaches_left, reaches_right}
 use Rattle.hole_tree.proofs.Rises.{rising_left, rising_right}
-use Rattle.hole_tree.proofs.Searching.{left_none, right_none, left_none_last, right_none_last, wide_left, wide_right, wide_find, wide_last, first_left, first_root, first_right, last_left, last_root, last_right}
+use Rattle.hole_tree.proofs.Searching.{left_none, right_none, left_none_last, right_none_last, long_find, long_find_last, none_long, none_long_last, first_left, first_root, first_right, last_left, last_root, last_right}
 
 at_rising : (s : Shape) (n : Node) → s ≡ shape_of_node n → IsRising s.spans → IsRising (n.left.spans ++ n.hole ∷ n.right.spans)
 at_rising s n e h = let P : Shape → Type 0 = λ t. IsRising t.spans in subst P e h
-
-at_wide : (q : Request) (s : Shape) (n : Node) → s ≡ shape_of_node n → IsWide q s.spans → IsWide q (n.left.spans ++ n.hole ∷ n.right.spans)
-at_wide q s n e h = let P : Shape → Type 0 = λ t. IsWide q t.spans in subst P e h
 
 pub rising_below : (s : Shape) (n : Node) → s ≡ shape_of_node n → IsRising s.spans → IsRising n.left.spans
 rising_below s n e h = rising_left n.left.spans (n.hole ∷ n.right.spans) (at_rising s n e h)
 
 pub rising_above : (s : Shape) (n : Node) → s ≡ shape_of_node n → IsRising s.spans → IsRising n.right.spans
 rising_above s n e h = rising_right n.left.spans n.hole n.right.spans (at_rising s n e h)
-
-pub wide_below : (q : Request) (s : Shape) (n : Node) → s ≡ shape_of_node n → IsWide q s.spans → IsWide q n.left.spans
-wide_below q s n e h = wide_left q n.left.spans n.hole n.right.spans (at_wide q s n e h)
-
-pub wide_above : (q : Request) (s : Shape) (n : Node) → s ≡ shape_of_node n → IsWide q s.spans → IsWide q n.right.spans
-wide_above q s n e h = wide_right q n.left.spans n.hole n.right.spans (at_wide q s n e h)
 
 pub shorter_below : (s : Shape) (n : Node) → s ≡ shape_of_node n → length n.left.spans < length s.spans
 shorter_below s n e = let c : length s.spans ≡ length (n.left.spans ++ n.hole ∷ n.right.spans) = ap (λ t. length t.spans) e in omega (arith, length-append n.left.spans (n.hole ∷ n.right.spans))
@@ -87,6 +78,48 @@ last_here test s n o e f h t = sym (ap (λ u. find_last test u.spans) e ∙ last
 pub last_below : (test : Span → Bool) (s : Shape) (n : Node) (o : Option Span) → s ≡ shape_of_node n → o ≡ find_last test n.right.spans → is_some o ≡ false → test n.hole ≡ false → find_last test n.left.spans ≡ find_last test s.spans
 last_below test s n o e f h t = sym (ap (λ u. find_last test u.spans) e ∙ last_left test n.left.spans n.hole n.right.spans (sym f ∙ none_of o h) t)
 
+-- ---- the first and the last that are long enough
+
+some_left : (test : Span → Bool) (l : List Span) (k : Span) (r : List Span) (o : Option Span) → find test l ≡ o → is_some o ≡ true → find test l ≡ find test (l ++ k ∷ r)
+some_left test l k r None e h = absurd (both_ways false refl h)
+some_left test l k r (Some x) e h = e ∙ sym (first_left test l k r x e)
+
+some_right : (test : Span → Bool) (l : List Span) (k : Span) (r : List Span) (o : Option Span) → find_last test r ≡ o → is_some o ≡ true → find_last test r ≡ find_last test (l ++ k ∷ r)
+some_right test l k r None e h = absurd (both_ways false refl h)
+some_right test l k r (Some x) e h = e ∙ sym (last_right test l k r x e)
+
+pub long_below : (pages : ℕ) (s : Shape) (n : Node) → s ≡ shape_of_node n → IsSound n → 1 ≤ pages → pages ≤ n.longest_left → find (is_long pages) n.left.spans ≡ find (is_long pages) s.spans
+long_below pages s n e d p h =
+    let a : 0 < pages = omega arith in
+    let b : pages ≤ longest n.left.spans = omega (arith, d.longest_left) in
+    some_left (is_long pages) n.left.spans n.hole n.right.spans _ refl (long_find pages n.left.spans a b) ∙ sym (ap (λ t. find (is_long pages) t.spans) e)
+
+pub long_here : (pages : ℕ) (s : Shape) (n : Node) → s ≡ shape_of_node n → IsSound n → n.longest_left < pages → pages ≤ n.hole.end - n.hole.start → Some n.hole ≡ find (is_long pages) s.spans
+long_here pages s n e d h k =
+    let a : longest n.left.spans < pages = omega (arith, d.longest_left) in
+    sym (ap (λ t. find (is_long pages) t.spans) e ∙ first_root (is_long pages) n.left.spans n.hole n.right.spans (none_long pages n.left.spans a) (le-leb _ _ k))
+
+pub long_above : (pages : ℕ) (s : Shape) (n : Node) → s ≡ shape_of_node n → IsSound n → n.longest_left < pages → n.hole.end - n.hole.start < pages → find (is_long pages) n.right.spans ≡ find (is_long pages) s.spans
+long_above pages s n e d h k =
+    let a : longest n.left.spans < pages = omega (arith, d.longest_left) in
+    sym (ap (λ t. find (is_long pages) t.spans) e ∙ first_right (is_long pages) n.left.spans n.hole n.right.spans (none_long pages n.left.spans a) (lt-leb _ _ k))
+
+pub long_above_last : (pages : ℕ) (s : Shape) (n : Node) → s ≡ shape_of_node n → IsSound n → 1 ≤ pages → pages ≤ n.longest_right → find_last (is_long pages) n.right.spans ≡ find_last (is_long pages) s.spans
+long_above_last pages s n e d p h =
+    let a : 0 < pages = omega arith in
+    let b : pages ≤ longest n.right.spans = omega (arith, d.longest_right) in
+    some_right (is_long pages) n.left.spans n.hole n.right.spans _ refl (long_find_last pages n.right.spans a b) ∙ sym (ap (λ t. find_last (is_long pages) t.spans) e)
+
+pub long_here_last : (pages : ℕ) (s : Shape) (n : Node) → s ≡ shape_of_node n → IsSound n → n.longest_right < pages → pages ≤ n.hole.end - n.hole.start → Some n.hole ≡ find_last (is_long pages) s.spans
+long_here_last pages s n e d h k =
+    let a : longest n.right.spans < pages = omega (arith, d.longest_right) in
+    sym (ap (λ t. find_last (is_long pages) t.spans) e ∙ last_root (is_long pages) n.left.spans n.hole n.right.spans (none_long_last pages n.right.spans a) (le-leb _ _ k))
+
+pub long_below_last : (pages : ℕ) (s : Shape) (n : Node) → s ≡ shape_of_node n → IsSound n → n.longest_right < pages → n.hole.end - n.hole.start < pages → find_last (is_long pages) n.left.spans ≡ find_last (is_long pages) s.spans
+long_below_last pages s n e d h k =
+    let a : longest n.right.spans < pages = omega (arith, d.longest_right) in
+    sym (ap (λ t. find_last (is_long pages) t.spans) e ∙ last_left (is_long pages) n.left.spans n.hole n.right.spans (none_long_last pages n.right.spans a) (lt-leb _ _ k))
+
 -- ---- steps
 
 pub record Levels (s : Shape) (n : Node) : Type 0 where
@@ -98,16 +131,3 @@ levels s n e d =
     let h : s.height ≡ n.height = ap (λ t. t.height) e in
     let m : n.height ≡ max n.left.height n.right.height + 1 = d.height in
     record { below = omega arith; above = omega arith }
-
--- a side that was looked through for nothing cost no step
-pub idle_below : (r : Order) (m : Mode) (q : Request) (s : Shape) (n : Node) (b : Bool) (o : Option Span) → s ≡ shape_of_node n → IsSound n → b ≡ reaches_left r q n.longest_left n.hole → o ≡ find (fits m q) n.left.spans → is_some o ≡ false → 0 < q.pages → IsWide q s.spans → b ≡ false
-idle_below r m q s n true o e d w f h p i =
-    let long : q.pages ≤ longest n.left.spans = leb-true q.pages (longest n.left.spans) (and_parts (leb q.pages (longest n.left.spans)) (ranges_below r q n.hole) (known_left r q n true d w)).0 in
-    absurd (wide_find m q n.left.spans (wide_below q s n e i) p long (sym f ∙ none_of o h))
-idle_below r m q s n false o e d w f h p i = refl
-
-pub idle_above : (m : Mode) (q : Request) (s : Shape) (n : Node) (b : Bool) (o : Option Span) → s ≡ shape_of_node n → IsSound n → b ≡ reaches_right ByStart q n.longest_right n.hole → o ≡ find_last (fits m q) n.right.spans → is_some o ≡ false → 0 < q.pages → IsWide q s.spans → b ≡ false
-idle_above m q s n true o e d w f h p i =
-    let long : q.pages ≤ longest n.right.spans = leb-true q.pages (longest n.right.spans) (and_parts (leb q.pages (longest n.right.spans)) (ltb n.hole.end q.last) (known_right ByStart q n true d w)).0 in
-    absurd (wide_last m q n.right.spans (wide_above q s n e i) p long (sym f ∙ none_of o h))
-idle_above m q s n false o e d w f h p i = refl

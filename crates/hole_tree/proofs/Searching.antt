@@ -1,8 +1,8 @@
 -- Which holes fit, on both sides of a hole k.
 use Rattle.std.proofs.Common.{◌≡◌, ℕ, ◌+◌, ◌-◌, ◌*◌, ◌/◌, ◌≤◌, ◌<◌, min, max, Bool, true, false, cond, ◌&&◌, List, [], ◌∷◌, ◌++◌, Option, Some, None, refl, ap, ◌∙◌, inl, inr, leb, ltb, arith}
 use Rattle.std.specs.Option.{option_or, is_some}
-use Rattle.std.specs.List.{find, list_any}
-use Rattle.std.proofs.lemmas.Bool.{cases_Bool, and_parts, and_from, and_cases, leb-true, leb-false, ltb-true, ltb-false, lt-ltb, le-leb, or_left, or_right, both_ways, false_from_ne_true, cases_lt}
+use Rattle.std.specs.List.{find}
+use Rattle.std.proofs.lemmas.Bool.{cases_Bool, and_parts, and_from, and_cases, leb-true, leb-false, ltb-true, ltb-false, lt-ltb, le-leb, lt-leb, both_ways, false_from_ne_true}
 use Rattle.std.proofs.lemmas.List.Folds.{find-append}
 use Rattle.ttm_base.specs.declared.Span.{Span}
 use Rattle.ttm_base.specs.declared.Mode.{Mode}
@@ -13,25 +13,9 @@ use Rattle.hole_tree.specs.declared.order.Order.{Order}
 use Rattle.hole_tree.specs.declared.order.Order.TheVariants.{ByStart, ByLength}
 use Rattle.hole_tree.specs.declared.request.Request.{Request}
 use Rattle.hole_tree.specs.Longest.{longest}
-use Rattle.hole_tree.specs.Rising.{IsRising, IsPast, EndsBy}
+use Rattle.hole_tree.specs.Rising.{IsRising, IsPast}
 use Rattle.hole_tree.proofs.Rises.{past_middle, rising_root}
-use Rattle.hole_tree.specs.Fitting.{range_of, fits, find_last, IsWide, ranges_below, ranges_above, reaches_left, reaches_right}
-
--- ---- sides of a wide request
-
-pub ends_left : (last : ℕ) (l m : List Span) → EndsBy last (l ++ m) → EndsBy last l
-ends_left last [] m h = tt
-ends_left last (x ∷ l) m h = (h.0, ends_left last l m h.1)
-
-pub ends_right : (last : ℕ) (l : List Span) (k : Span) (r : List Span) → EndsBy last (l ++ k ∷ r) → EndsBy last r
-ends_right last [] k r h = h.1
-ends_right last (x ∷ l) k r h = ends_right last l k r h.1
-
-pub wide_left : (q : Request) (l : List Span) (k : Span) (r : List Span) → IsWide q (l ++ k ∷ r) → IsWide q l
-wide_left q l k r w = record { align = w.align; first = w.first; last = ends_left q.last l (k ∷ r) w.last }
-
-pub wide_right : (q : Request) (l : List Span) (k : Span) (r : List Span) → IsWide q (l ++ k ∷ r) → IsWide q r
-wide_right q l k r w = record { align = w.align; first = w.first; last = ends_right q.last l k r w.last }
+use Rattle.hole_tree.specs.Fitting.{range_of, fits, find_last, is_long, IsWide, ranges_below, ranges_above, reaches_left, reaches_right}
 
 -- ---- one hole
 
@@ -140,13 +124,6 @@ left_none_last m q l k r s e = miss_last (fits m q) l (left_miss ByStart m q l k
 pub right_none_last : (m : Mode) (q : Request) (l : List Span) (k : Span) (r : List Span) → IsRising (l ++ k ∷ r) → reaches_right ByStart q (longest r) k ≡ false → find_last (fits m q) r ≡ None
 right_none_last m q l k r s e = miss_last (fits m q) r (right_miss ByStart m q l k r (λ p. s) e)
 
-wide_any : (m : Mode) (q : Request) (xs : List Span) → IsWide q xs → 0 < q.pages → q.pages ≤ longest xs → list_any (fits m q) xs ≡ true
-wide_any m q [] w p h = absurd (omega arith)
-wide_any m q (x ∷ xs) w p h = elim (cases_lt (length_of x) q.pages) [
-  | inl s ↦ or_right _ _ (wide_any m q xs (record { align = w.align; first = w.first; last = w.last.1 }) p (omega arith))
-  | inr t ↦ or_left _ _ (wide_fits m q x w.align w.first w.last.0 p t)
-]
-
 some_or : (a b : Option Span) → is_some b ≡ true → is_some (option_or a b) ≡ true
 some_or None b h = h
 some_or (Some x) b h = refl
@@ -155,26 +132,96 @@ some_or_left : (a b : Option Span) → is_some a ≡ true → is_some (option_or
 some_or_left None b h = absurd (both_ways false refl h)
 some_or_left (Some x) b h = refl
 
-any_find : (test : Span → Bool) (xs : List Span) → list_any test xs ≡ true → is_some (find test xs) ≡ true
-any_find test [] h = absurd (both_ways false refl h)
-any_find test (x ∷ xs) h = elim (cases_Bool (test x)) [
-  | inl e ↦ rw e
-  | inr e ↦ rw e (any_find test xs (rw e at h))
+-- ---- the first and the last that are long enough
+
+long_of : (m : Mode) (q : Request) (h : Span) → is_long q.pages h ≡ false → fits m q h ≡ false
+long_of m q h e = false_from_ne_true _ (λ f. let n = fit_numbers m q h f in let s = leb-false q.pages (length_of h) e in absurd (omega (arith, n.length)))
+
+pub short_first : (m : Mode) (q : Request) (xs : List Span) → find (is_long q.pages) xs ≡ None → find (fits m q) xs ≡ None
+short_first m q [] e = refl
+short_first m q (x ∷ xs) e = elim (cases_Bool (is_long q.pages x)) [
+  | inl t ↦ let no : Some x ≡ None = rw t at e in cc
+  | inr t ↦ rw (long_of m q x t) (short_first m q xs (rw t at e))
 ]
 
-any_last : (test : Span → Bool) (xs : List Span) → list_any test xs ≡ true → is_some (find_last test xs) ≡ true
-any_last test [] h = absurd (both_ways false refl h)
-any_last test (x ∷ xs) h = elim (cases_Bool (test x)) [
-  | inl e ↦ some_or (find_last test xs) _ (rw e)
-  | inr e ↦ some_or_left (find_last test xs) _ (any_last test xs (rw e at h))
+pub long_first : (m : Mode) (q : Request) (xs : List Span) (h : Span) → find (is_long q.pages) xs ≡ Some h → fits m q h ≡ true → find (fits m q) xs ≡ Some h
+long_first m q [] h e f = cc
+long_first m q (x ∷ xs) h e f = elim (cases_Bool (is_long q.pages x)) [
+  | inl t ↦ let same : Some x ≡ Some h = rw t at e in let z : x ≡ h = cc in let g : fits m q x ≡ true = rw z f in rw g same
+  | inr t ↦ rw (long_of m q x t) (long_first m q xs h (rw t at e) f)
 ]
 
--- a search without limits finds a hole wherever one is long enough
-pub wide_find : (m : Mode) (q : Request) (xs : List Span) → IsWide q xs → 0 < q.pages → q.pages ≤ longest xs → find (fits m q) xs ≡ None → ⊥
-wide_find m q xs w p h e = let s : is_some (find (fits m q) xs) ≡ true = any_find (fits m q) xs (wide_any m q xs w p h) in both_ways _ (ap is_some e) s
+some_before : (a : Option Span) (x : Span) (b : Bool) → option_or a (cond b (Some x) None) ≡ None → (a ≡ None) × (b ≡ false)
+some_before None x true e = cc
+some_before None x false e = (refl, refl)
+some_before (Some y) x b e = cc
 
-pub wide_last : (m : Mode) (q : Request) (xs : List Span) → IsWide q xs → 0 < q.pages → q.pages ≤ longest xs → find_last (fits m q) xs ≡ None → ⊥
-wide_last m q xs w p h e = let s : is_some (find_last (fits m q) xs) ≡ true = any_last (fits m q) xs (wide_any m q xs w p h) in both_ways _ (ap is_some e) s
+pub short_last : (m : Mode) (q : Request) (xs : List Span) → find_last (is_long q.pages) xs ≡ None → find_last (fits m q) xs ≡ None
+short_last m q [] e = refl
+short_last m q (x ∷ xs) e =
+    let both = some_before (find_last (is_long q.pages) xs) x (is_long q.pages x) e in
+    rw (short_last m q xs both.0, long_of m q x both.1)
+
+pub long_last : (m : Mode) (q : Request) (xs : List Span) (h : Span) → find_last (is_long q.pages) xs ≡ Some h → fits m q h ≡ true → find_last (fits m q) xs ≡ Some h
+long_last m q [] h e f = cc
+long_last m q (x ∷ xs) h e f = last_cases m q x xs h (find_last (is_long q.pages) xs) (λ k. long_last m q xs h k f) refl e f
+  where
+    last_cases : (m : Mode) (q : Request) (x : Span) (xs : List Span) (h : Span) (o : Option Span) → (find_last (is_long q.pages) xs ≡ Some h → find_last (fits m q) xs ≡ Some h) → find_last (is_long q.pages) xs ≡ o → option_or o (cond (is_long q.pages x) (Some x) None) ≡ Some h → fits m q h ≡ true → find_last (fits m q) (x ∷ xs) ≡ Some h
+    last_cases m q x xs h None ih u e f = elim (cases_Bool (is_long q.pages x)) [
+      | inl t ↦ let same : Some x ≡ Some h = rw t at e in let z : x ≡ h = cc in let g : fits m q x ≡ true = rw z f in rw (short_last m q xs u, g) same
+      | inr t ↦ let no : None ≡ Some h = rw t at e in cc
+    ]
+    last_cases m q x xs h (Some y) ih u e f = let z : y ≡ h = cc in rw (ih (u ∙ ap Some z))
+
+-- a search without limits takes the first that is long enough
+pub wide_long : (m : Mode) (q : Request) (xs : List Span) (h : Span) → IsWide q xs → 0 < q.pages → find (is_long q.pages) xs ≡ Some h → fits m q h ≡ true
+wide_long m q [] h w p e = cc
+wide_long m q (x ∷ xs) h w p e = elim (cases_Bool (is_long q.pages x)) [
+  | inl t ↦
+      let same : Some x ≡ Some h = rw t at e in
+      let z : x ≡ h = cc in
+      let g : fits m q x ≡ true = wide_fits m q x w.align w.first w.last.0 p (leb-true q.pages (length_of x) t) in
+      rw (← z) g
+  | inr t ↦ wide_long m q xs h (record { align = w.align; first = w.first; last = w.last.1 }) p (rw t at e)
+]
+
+pub wide_long_last : (m : Mode) (q : Request) (xs : List Span) (h : Span) → IsWide q xs → 0 < q.pages → find_last (is_long q.pages) xs ≡ Some h → fits m q h ≡ true
+wide_long_last m q [] h w p e = cc
+wide_long_last m q (x ∷ xs) h w p e = wide_cases m q x xs h (find_last (is_long q.pages) xs) (λ k. wide_long_last m q xs h (record { align = w.align; first = w.first; last = w.last.1 }) p k) refl w p e
+  where
+    wide_cases : (m : Mode) (q : Request) (x : Span) (xs : List Span) (h : Span) (o : Option Span) → (find_last (is_long q.pages) xs ≡ Some h → fits m q h ≡ true) → find_last (is_long q.pages) xs ≡ o → IsWide q (x ∷ xs) → 0 < q.pages → option_or o (cond (is_long q.pages x) (Some x) None) ≡ Some h → fits m q h ≡ true
+    wide_cases m q x xs h None ih u w p e = elim (cases_Bool (is_long q.pages x)) [
+      | inl t ↦
+          let same : Some x ≡ Some h = rw t at e in
+          let z : x ≡ h = cc in
+          let g : fits m q x ≡ true = wide_fits m q x w.align w.first w.last.0 p (leb-true q.pages (length_of x) t) in
+          rw (← z) g
+      | inr t ↦ let no : None ≡ Some h = rw t at e in cc
+    ]
+    wide_cases m q x xs h (Some y) ih u w p e = let z : y ≡ h = cc in ih (u ∙ ap Some z)
+
+-- a side whose longest is so long has one
+pub long_find : (pages : ℕ) (xs : List Span) → 0 < pages → pages ≤ longest xs → is_some (find (is_long pages) xs) ≡ true
+long_find pages [] p h = absurd (omega arith)
+long_find pages (x ∷ xs) p h = elim (cases_Bool (is_long pages x)) [
+  | inl t ↦ rw t
+  | inr t ↦ let s = leb-false pages (length_of x) t in rw t (long_find pages xs p (omega arith))
+]
+
+pub long_find_last : (pages : ℕ) (xs : List Span) → 0 < pages → pages ≤ longest xs → is_some (find_last (is_long pages) xs) ≡ true
+long_find_last pages [] p h = absurd (omega arith)
+long_find_last pages (x ∷ xs) p h = elim (cases_Bool (is_long pages x)) [
+  | inl t ↦ some_or (find_last (is_long pages) xs) _ (rw t)
+  | inr t ↦ let s = leb-false pages (length_of x) t in some_or_left (find_last (is_long pages) xs) _ (long_find_last pages xs p (omega arith))
+]
+
+pub none_long : (pages : ℕ) (xs : List Span) → longest xs < pages → find (is_long pages) xs ≡ None
+none_long pages [] h = refl
+none_long pages (x ∷ xs) h = rw (lt-leb pages (length_of x) (omega arith)) (none_long pages xs (omega arith))
+
+pub none_long_last : (pages : ℕ) (xs : List Span) → longest xs < pages → find_last (is_long pages) xs ≡ None
+none_long_last pages [] h = refl
+none_long_last pages (x ∷ xs) h = rw (none_long_last pages xs (omega arith), lt-leb pages (length_of x) (omega arith))
 
 -- ---- the first and the last on both sides of a hole
 

@@ -3,7 +3,7 @@ use Rattle.std.specs.Prelude.{◌≡◌, ℕ, ◌+◌, Bool, true, List, [], ◌
 use Rattle.ttm_base.specs.declared.Span.{Span}
 use Rattle.std.specs.Option.{option_or}
 use Rattle.ttm_base.specs.declared.Mode.{Mode}
-use Rattle.ttm_base.specs.Reach.{common}
+use Rattle.ttm_base.specs.Reach.{common, length_of}
 use Rattle.ttm_base.specs.RangeChoice.{start_to_test}
 use Rattle.hole_tree.specs.Rising.{EndsBy}
 use Rattle.hole_tree.specs.declared.order.Order.{Order}
@@ -20,6 +20,10 @@ fits mode r hole =
     let cut = common hole (range_of r) in
     let start = start_to_test mode r.pages r.align cut in
     nat_lt 0 r.pages && nat_le cut.start start && nat_le (start + r.pages) cut.end
+
+-- the hole has so many pages
+abbrev pub is_long : ℕ → Span → Bool
+is_long pages hole = nat_le pages (length_of hole)
 
 -- the last that passes a test
 abbrev pub find_last : (Span → Bool) → List Span → Option Span

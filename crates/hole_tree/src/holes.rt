@@ -155,7 +155,7 @@ impl Holes {
     pub fn around(&self, page: u32) -> Option<Span>
         ensures { result ≡ find (has_page page) self.now.holes }
     {
-        self.by_start.around(page)
+        self.by_start.around(page).copied()
     }
 
     /// The shortest hole that has `pages` pages at a multiple of `align`, from `first` up to `last`; the lowest among
@@ -223,8 +223,7 @@ impl Holes {
             first,
             last,
         };
-        self.by_length
-            .first(Order::ByLength, request, pages > 0, steps)
+        self.by_length.first(Order::ByLength, request, steps)
     }
 
     /// The lowest such hole, where a step is a node that is opened.
@@ -249,8 +248,7 @@ impl Holes {
             first,
             last,
         };
-        self.by_start
-            .first(Order::ByStart, request, pages > 0, steps)
+        self.by_start.first(Order::ByStart, request, steps)
     }
 
     /// The highest such hole, where a step is a node that is opened.
@@ -275,7 +273,7 @@ impl Holes {
             first,
             last,
         };
-        self.by_start.highest(request, pages > 0, steps)
+        self.by_start.highest(request, steps)
     }
 
     /// The hole of the range choice, with a counter of its own.
@@ -287,15 +285,10 @@ impl Holes {
         ensures { result ≡ chosen_hole mode self.now.holes request.pages request.align request.first request.last }
     {
         let mut steps = Steps::<L>::new(blank);
-        let worth = request.pages > 0;
         match mode {
-            Mode::Best => self
-                .by_length
-                .first(Order::ByLength, request, worth, &mut steps),
-            Mode::Low => self
-                .by_start
-                .first(Order::ByStart, request, worth, &mut steps),
-            Mode::High => self.by_start.highest(request, worth, &mut steps),
+            Mode::Best => self.by_length.first(Order::ByLength, request, &mut steps),
+            Mode::Low => self.by_start.first(Order::ByStart, request, &mut steps),
+            Mode::High => self.by_start.highest(request, &mut steps),
         }
     }
 }

@@ -207,9 +207,9 @@ impl Tree {
     }
 
     /// The hole that has a page.
-    pub fn around(&self, page: u32) -> Option<Span>
+    pub fn around(&self, page: u32) -> Option<&Span>
         requires rising { IsRising self.now.spans }
-        ensures { result ≡ find (has_page page) self.now.spans }
+        ensures { option_map (λ hole. hole.now) result ≡ find (has_page page) self.now.spans }
     {
         let Top::Full(node) = &self.top else {
             return None;
@@ -217,7 +217,7 @@ impl Tree {
         if page < node.hole.start {
             node.left.around(page)
         } else if page < node.hole.end {
-            Some(node.hole)
+            Some(&node.hole)
         } else {
             node.right.around(page)
         }

@@ -1,5 +1,4 @@
-use Rattle.std.proofs.Common.{◌≡◌, ◌-◌, ◌≤◌, List, length, inl, inr, sym, ap, ◌∙◌, subst, arith}
-use Rattle.std.proofs.lemmas.Bool.{cases_lt, le-ltb}
+use Rattle.std.proofs.Common.{◌≡◌, ◌-◌, ◌≤◌, List, length, sym, ap, ◌∙◌, subst, arith}
 use Rattle.std.specs.List.{find}
 use Rattle.ttm_base.specs.declared.Span.{Span}
 use Rattle.ttm_base.specs.declared.Mode.TheVariants.{Best, Low}
@@ -9,14 +8,8 @@ use Rattle.hole_tree.specs.Fitting.{fits, IsWide}
 use Rattle.hole_tree.specs.Rising.{EndsBy}
 use Rattle.hole_tree.proofs.Choices.{chosen_best}
 use Rattle.hole_tree.proofs.Counting.{steps_square}
-use Rattle.hole_tree.proofs.Searching.{zero_first}
 use Rattle.hole_tree.proofs.SortedByLength.{ends_sorted, first_by_length, length-sorted}
 use Rattle.hole_tree.proofs.holes.Holes.best_counted.Goals as goal
-
-pub first-requires-clause-worth : goal.first-requires-clause-worth
-first-requires-clause-worth g c =
-    let q : Request = record { pages = c.args.pages; align = c.args.align; first = c.args.first; last = c.args.last } in
-    λ e. zero_first Low q c.self.inside.by_length.spans e
 
 pub returns-clause-hole : goal.returns-clause-hole
 returns-clause-hole g c =
@@ -34,10 +27,7 @@ returns-clause-cost g c = λ a f e.
     let ends : P c.self.inside.by_length.spans = subst P (sym c.self.invariant.lengths) (ends_sorted c.args.last c.self.inside.by_start.spans (subst P (sym holes) e)) in
     let q : Request = record { pages = c.args.pages; align = c.args.align; first = c.args.first; last = c.args.last } in
     let wide : IsWide q c.self.inside.by_length.spans = record { align = a; first = f; last = ends } in
-    let bound : c.first.new.steps - c.args.steps.now ≤ c.self.inside.by_length.height = elim (cases_lt 0 c.args.pages) [
-      | inl p ↦ let k = c.first.ensures.cost p wide in omega (arith, k)
-      | inr z ↦ let k = c.first.ensures.idle (le-ltb 0 c.args.pages z) in omega (arith, k)
-    ] in
+    let bound : c.first.new.steps - c.args.steps.now ≤ c.self.inside.by_length.height = let k = c.first.ensures.cost wide in omega (arith, k) in
     let count : length c.self.inside.by_length.spans ≡ length c.args.self.now.holes =
     ap (λ ys. length ys) c.self.invariant.lengths ∙ length-sorted c.self.inside.by_start.spans ∙ ap (λ ys. length ys) holes in
     rw (← count) (steps_square c.self.inside.by_length (c.first.new.steps - c.args.steps.now) c.height-levels.ensures.low bound)

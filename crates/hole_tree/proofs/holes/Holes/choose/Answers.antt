@@ -4,18 +4,8 @@ use Rattle.ttm_base.specs.declared.Mode.TheVariants.{Best, Low, High}
 use Rattle.hole_tree.specs.Choosing.{chosen_hole}
 use Rattle.hole_tree.specs.Fitting.{fits}
 use Rattle.hole_tree.proofs.Choices.{chosen_best, chosen_low, chosen_high}
-use Rattle.hole_tree.proofs.Searching.{zero_first, zero_last}
 use Rattle.hole_tree.proofs.SortedByLength.{first_by_length}
 use Rattle.hole_tree.proofs.holes.Holes.choose.Goals as goal
-
-pub first-requires-clause-worth : goal.first-requires-clause-worth
-first-requires-clause-worth g c = λ e. zero_first Low c.args.request c.self.inside.by_length.spans e
-
-pub first-requires-in-Low-clause-worth : goal.first-requires-in-Low-clause-worth
-first-requires-in-Low-clause-worth g c = λ e. zero_first Low c.args.request c.self.inside.by_start.spans e
-
-pub highest-requires-clause-worth : goal.highest-requires-clause-worth
-highest-requires-clause-worth g c = λ e. zero_last High c.args.request c.self.inside.by_start.spans e
 
 pub returns-in-Best : goal.returns-in-Best
 returns-in-Best g c =

@@ -1,5 +1,4 @@
-use Rattle.std.proofs.Common.{◌≡◌, ◌-◌, ◌≤◌, List, inl, inr, sym, ap, ◌∙◌, subst, arith}
-use Rattle.std.proofs.lemmas.Bool.{cases_lt, le-ltb}
+use Rattle.std.proofs.Common.{◌≡◌, ◌-◌, ◌≤◌, List, sym, ap, ◌∙◌, subst, arith}
 use Rattle.ttm_base.specs.declared.Span.{Span}
 use Rattle.ttm_base.specs.declared.Mode.TheVariants.{High}
 use Rattle.hole_tree.specs.declared.request.Request.{Request}
@@ -8,13 +7,7 @@ use Rattle.hole_tree.specs.Fitting.{IsWide}
 use Rattle.hole_tree.specs.Rising.{EndsBy}
 use Rattle.hole_tree.proofs.Choices.{chosen_high}
 use Rattle.hole_tree.proofs.Counting.{steps_square}
-use Rattle.hole_tree.proofs.Searching.{zero_last}
 use Rattle.hole_tree.proofs.holes.Holes.highest_counted.Goals as goal
-
-pub highest-requires-clause-worth : goal.highest-requires-clause-worth
-highest-requires-clause-worth g c =
-    let q : Request = record { pages = c.args.pages; align = c.args.align; first = c.args.first; last = c.args.last } in
-    λ e. zero_last High q c.self.inside.by_start.spans e
 
 pub returns-clause-hole : goal.returns-clause-hole
 returns-clause-hole g c =
@@ -28,8 +21,5 @@ returns-clause-cost g c = λ a f e.
     let ends : P c.self.inside.by_start.spans = subst P (sym holes) e in
     let q : Request = record { pages = c.args.pages; align = c.args.align; first = c.args.first; last = c.args.last } in
     let wide : IsWide q c.self.inside.by_start.spans = record { align = a; first = f; last = ends } in
-    let bound : c.highest.new.steps - c.args.steps.now ≤ c.self.inside.by_start.height = elim (cases_lt 0 c.args.pages) [
-      | inl p ↦ let k = c.highest.ensures.cost p wide in omega (arith, k)
-      | inr z ↦ let k = c.highest.ensures.idle (le-ltb 0 c.args.pages z) in omega (arith, k)
-    ] in
+    let bound : c.highest.new.steps - c.args.steps.now ≤ c.self.inside.by_start.height = let k = c.highest.ensures.cost wide in omega (arith, k) in
     rw (← holes) (steps_square c.self.inside.by_start (c.highest.new.steps - c.args.steps.now) c.height-levels.ensures.low bound)
