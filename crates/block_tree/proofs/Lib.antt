@@ -8,3 +8,4 @@ pub mod ChoiceLaws
 pub mod KeptLaws
 pub mod HalfLaws
 pub mod NearLaws
+pub mod BlockLaws

@@ -173,3 +173,12 @@ less_by_block i m k o q a b =
 -- the bits of a number that was shifted down
 pub bit_at_shifted : (m f i : ℕ) → bit_at (m / 2 ^ f) i ≡ bit_at m (f + i)
 bit_at_shifted m f i = ap (λ n. n % 2) (div-div-eq-div-mul m (2 ^ f) (2 ^ i) ∙ ap (λ n. m / n) (sym (pow-add 2 f i)))
+
+-- the number of the larger block in which a block begins
+pub number_in : (i k o : ℕ) → k ≤ o → i / 2 ^ (o - k) ≡ i * 2 ^ k / 2 ^ o
+number_in i k o h =
+    let d : k + (o - k) ≡ o = omega arith in
+    let s = some_pages k in
+    let own : i * 2 ^ k / 2 ^ k ≡ i = in_block (i * 2 ^ k) k i (omega arith) (omega (arith, s)) in
+    let split : 2 ^ o ≡ 2 ^ k * 2 ^ (o - k) = sym (ap (λ n. 2 ^ n) d) ∙ pow-add 2 k (o - k) in
+    sym (ap (λ n. i * 2 ^ k / n) split ∙ sym (div-div-eq-div-mul (i * 2 ^ k) (2 ^ k) (2 ^ (o - k))) ∙ ap (λ n. n / 2 ^ (o - k)) own)

@@ -5,7 +5,7 @@ ghost use Rattle.block_tree.specs.FreeSet.{is_free, HasSameBelow};
 ghost use Rattle.block_tree.specs.Masks.{nodes, is_free_in, is_marked, IsTree};
 ghost use Rattle.block_tree.specs.Pieces.{LeastWholeOf, FirstPieceOf};
 
-use crate::masks::{block_len, mark, nodes};
+use crate::masks::{block_len, mark, mark_span, nodes};
 use crate::request::Request;
 use crate::search::{first_block, least_order};
 use crate::take::{span_of, take_first};
@@ -108,7 +108,7 @@ impl FreeBlocks {
         ensures size { length self.new ≡ length self.old }
         ensures marked { (page : ℕ) → is_free self.new page ≡ is_marked span free (is_free self.old page) page }
     {
-        mark(&mut self.masks, self.order, 0, span, free);
+        mark_span(&mut self.masks, self.order, span, free);
     }
 
     /// The least order of the free blocks from which a block of an order inside a range can be split.

@@ -1,7 +1,15 @@
-ghost use Rattle.std.specs.Prelude.{◌≡◌, ℕ, ◌+◌, ◌*◌, ◌/◌, ◌%◌, ◌^◌, ◌<◌, ◌≤◌, suc, length, if◌then◌else◌};
+ghost use Rattle.std.specs.Prelude.{◌≡◌, ℕ, ◌+◌, ◌*◌, ◌/◌, ◌%◌, ◌^◌, ◌<◌, ◌≤◌, suc, length, IfSome, if◌then◌else◌};
 ghost use Rattle.block_tree.specs.Masks.{nodes, top, low, high, joined, told, is_marked, is_free_in, is_free_by_half, HasHalves, IsTree};
+ghost use Rattle.block_tree.specs.Searching.{numbered};
 
-use ttm_base::Span;
+use ttm_base::{Span, log2};
+
+/// A block by its order and its number among those of its order.
+#[derive(Clone, Copy)]
+pub struct Block {
+    pub order: u32,
+    pub number: u32,
+}
 
 /// The pages of a block of an order, and the mask of such a block that is wholly free.
 pub fn block_len(order: u32) -> u32
@@ -166,6 +174,7 @@ pub fn mark_met(masks: &mut [u32], order: u32, number: u32, span: Span, free: bo
 
 /// The same, of one half of a block, which is told by its order and its number.
 #[cycle(mark_met)]
+#[inline(always)]
 fn mark_half(masks: &mut [u32], half: u32, number: u32, span: Span, free: bool)
     requires half { half ≤ 30 }
     requires halves { HasHalves half masks.old }
@@ -180,4 +189,80 @@ fn mark_half(masks: &mut [u32], half: u32, number: u32, span: Span, free: bool)
     let start = half_start(half, number);
     let end = start + nodes(half);
     mark_met(&mut masks[start..end], half, number, span, free);
+}
+
+/// The block that a span is.
+fn block_of(span: Span) -> Option<Block>
+    ensures { IfSome result (λ block. numbered block.order block.number ≡ span) }
+{
+    if span.end <= span.start {
+        return None;
+    }
+    let pages = span.end - span.start;
+    let order = log2(pages);
+    let len = block_len(order);
+    let number = span.start / len;
+    if len == pages && number * len == span.start {
+        Some(Block { order, number })
+    } else {
+        None
+    }
+}
+
+/// The number of the block of an order in which a smaller block is.
+fn number_around(block: Block, order: u32) -> u32
+    requires order { order ≤ 31 }
+    requires small { block.order ≤ order }
+    ensures { result ≡ block.number * 2 ^ block.order / 2 ^ order }
+{
+    block.number >> (order - block.order)
+}
+
+/// Marks the pages of a span as free or held, in a block that has all of them.
+pub fn mark_span(masks: &mut [u32], order: u32, span: Span, free: bool)
+    requires tree { IsTree order masks.old }
+    requires order { order ≤ 31 }
+    requires end { span.end ≤ 2 ^ order }
+    ensures tree { IsTree order masks.new }
+    ensures marked { (page : ℕ) → page / 2 ^ order ≡ 0 → is_free_in order masks.new page ≡ is_marked span free (is_free_in order masks.old page) page }
+{
+    match block_of(span) {
+        Some(block) => mark_block(masks, order, block, free),
+        None => mark(masks, order, 0, span, free),
+    }
+}
+
+/// Marks a block as free or held, in a block of an order that is it or has it.
+#[cycle(mark_block)]
+pub fn mark_block(masks: &mut [u32], order: u32, block: Block, free: bool)
+    requires tree { IsTree order masks.old }
+    requires order { order ≤ 31 }
+    requires small { block.order ≤ order }
+    ensures tree { IsTree order masks.new }
+    ensures marked { (page : ℕ) → page / 2 ^ order ≡ block.number * 2 ^ block.order / 2 ^ order → is_free_in order masks.new page ≡ is_marked (numbered block.order block.number) free (is_free_in order masks.old page) page }
+{
+    if order == block.order {
+        masks[0] = whole_mask(order, free);
+        return;
+    }
+    let half = order - 1;
+    tell_halves(masks, half);
+    mark_block_in_half(masks, half, block, free);
+    join_halves(masks, half);
+}
+
+/// The same, in the half, of an order, that has the block.
+#[cycle(mark_block)]
+#[inline(always)]
+fn mark_block_in_half(masks: &mut [u32], half: u32, block: Block, free: bool)
+    requires half { half ≤ 30 }
+    requires halves { HasHalves half masks.old }
+    requires small { block.order ≤ half }
+    ensures halves { HasHalves half masks.new }
+    ensures marked { (page : ℕ) → page / 2 ^ half ≡ block.number * 2 ^ block.order / 2 ^ half → is_free_by_half half masks.new page ≡ is_marked (numbered block.order block.number) free (is_free_by_half half masks.old page) page }
+    ensures other { (page : ℕ) → (page / 2 ^ half % 2 ≡ block.number * 2 ^ block.order / 2 ^ half % 2 → ⊥) → is_free_by_half half masks.new page ≡ is_free_by_half half masks.old page }
+{
+    let start = half_start(half, number_around(block, half));
+    let end = start + nodes(half);
+    mark_block(&mut masks[start..end], half, block, free);
 }

@@ -96,16 +96,16 @@ pub fn is_first_low(low: &[u32], high: &[u32], topdown: bool, whole: u32) -> boo
 }
 
 /// The first block in a block inside the range that would be split from a free block of an order that is there, by its number.
-fn first_inside(masks: &[u32], order: u32, number: u32, request: Request, whole: u32) -> u32
+fn first_inside(masks: &[u32], order: u32, number: u32, request: &Request, whole: u32) -> u32
     requires tree { IsTree order masks.now }
     requires order { order ≤ 31 }
     requires number { number * 2 ^ order + 2 ^ order ≤ 2 ^ 31 }
-    requires wanted { request.order ≤ whole }
+    requires wanted { request.now.order ≤ whole }
     requires whole { whole < 32 }
     requires has { bit_at (top masks.now) whole ≡ 1 }
-    requires start { request.range.start ≤ number * 2 ^ order }
-    requires end { number * 2 ^ order + 2 ^ order ≤ request.range.end }
-    ensures { IsFirst request order masks.now number whole result }
+    requires start { request.now.range.start ≤ number * 2 ^ order }
+    requires end { number * 2 ^ order + 2 ^ order ≤ request.now.range.end }
+    ensures { IsFirst request.now order masks.now number whole result }
 {
     if top_of(masks) == block_len(order) {
         return request.first_in(order, number);
@@ -141,7 +141,7 @@ pub fn first_block(
         return None;
     }
     if request.covers(order, number) {
-        return Some(first_inside(masks, order, number, request, whole));
+        return Some(first_inside(masks, order, number, &request, whole));
     }
     first_across(masks, order, number, request, whole)
 }
