@@ -1,0 +1,112 @@
+#!/usr/bin/env python3
+"""Builds crates/mm_c as a C library without proving it, as `rt lib` would, to be measured and for nothing else.
+
+usage: build_library.py LIBRARY.a
+
+A library isn't built without its proof, a program is, for a try. So a copy of mm_c becomes a program whose `main` reaches what bench.c
+calls (unproved/reach.rt.in). The LLVM module that `rt try` makes of it is caught, the calls get their C names, the checks of a run that
+isn't proved are left out, as a proof does, and it is compiled with the flags of `rt run`. It takes a minute or two.
+"""
+
+import os
+import re
+import shutil
+import subprocess
+import sys
+import tempfile
+import time
+from pathlib import Path
+
+HERE = Path(__file__).resolve().parent
+TOP = HERE.parent.parent
+LLVM_FLAGS = """-no-trap-after-noreturn -trap-unreachable -no-x86-call-frame-opt -disable-machine-licm -disable-postra-machine-licm
+    -sink-common-insts=false""".split()
+CALL = re.compile(r'@"mm_c::(?:range|block)_calls::(pearoar_\w+)"')
+
+
+def needs():
+    """The libraries that each crate names in crates.txt."""
+    lines = (line.split("#")[0].partition(":") for line in (TOP / "crates.txt").read_text().splitlines())
+    return {head.split()[0]: tail.split() for head, colon, tail in lines if colon}
+
+
+def copy_crates(room):
+    """A repository of mm_c, as a program, and of what is below it."""
+    named, wanted, todo = needs(), [], ["mm_c"]
+    while todo:
+        crate = todo.pop()
+        if crate in named and crate not in wanted:
+            wanted.append(crate)
+            todo += named[crate]
+    (room / "crates.txt").write_text("".join(f"{crate}: {' '.join(named[crate])}\n" for crate in named if crate in wanted))
+    for crate in wanted:
+        shutil.copytree(TOP / "crates" / crate, room / "crates" / crate, ignore=shutil.ignore_patterns("out"))
+    source = room / "crates/mm_c/src"
+    (source / "main.rt").write_text((source / "lib.rt").read_text() + (HERE / "unproved/reach.rt.in").read_text())
+    (source / "lib.rt").unlink()
+    for kind in ("Range", "Block"):
+        text = (HERE / "unproved/handle.rt.in").read_text().replace("HANDLE", f"{kind}Handle").replace("MANAGER", f"{kind}s")
+        with (source / f"{kind.lower()}_handle.rt").open("a") as file:
+            file.write(text)
+
+
+def catch_module(room):
+    """The module of a try: a file that is there for a moment, and is kept by a link of ours. Of several the largest is the program's."""
+    temporary, links = room / "tmp", []
+    temporary.mkdir()
+    log = (room / "log").open("w")
+    environment = {**os.environ, "TMPDIR": str(temporary)}
+    files = {"stdin": subprocess.DEVNULL, "stdout": log, "stderr": log}
+    tried = subprocess.Popen(["rt", "try"], cwd=room / "crates/mm_c", env=environment, **files)
+    seen = set()
+    while tried.poll() is None:
+        for module in temporary.glob("*/*/module.bc"):
+            if module not in seen:
+                seen.add(module)
+                link = room / f"module{len(seen)}.bc"
+                try:
+                    os.link(module, link)
+                except FileNotFoundError:
+                    continue
+                links.append(link)
+        time.sleep(0.002)
+    if not links or tried.returncode != 0:
+        sys.exit((room / "log").read_text() + "build_library.py: no module was made")
+    return max(links, key=lambda link: link.stat().st_size)
+
+
+def as_library(text):
+    """The module with C's names, without `main` and without checks."""
+    lines = []
+    for line in text.splitlines():
+        if "call void @llvm.trap()" in line:
+            continue
+        if line.startswith("define internal ") and CALL.search(line.split("(")[0]):
+            line = line.replace("define internal ", "define ", 1)
+        if line.startswith("define i32 @main("):
+            line = line.replace("define ", "define internal ", 1)
+        lines.append(CALL.sub(r"@\1", line))
+    return "\n".join(lines) + "\n"
+
+
+def main():
+    if len(sys.argv) != 2 or sys.argv[1].startswith("-"):
+        sys.exit(__doc__)
+    kit = Path(subprocess.run(["rt", "doc"], check=True, capture_output=True, text=True).stdout.strip()).parent
+    clang = [kit / "toolchain/bin/clang", "--target=x86_64-unknown-linux-gnu"]
+    with tempfile.TemporaryDirectory() as folder:
+        room = Path(folder)
+        copy_crates(room)
+        module = catch_module(room)
+        made = room / "module.ll"
+        subprocess.run([*clang, "-S", "-emit-llvm", "-O0", "-Xclang", "-disable-llvm-passes", "-x", "ir", module, "-o", made], check=True)
+        made.write_text(as_library(made.read_text()))
+        flags = [f"--sysroot={kit / 'toolchain'}", "-march=x86-64", "-O3", "-fPIE", "-ffunction-sections", "-fdata-sections"]
+        flags += [word for flag in LLVM_FLAGS for word in ("-mllvm", flag)]
+        subprocess.run([*clang, *flags, "-c", "-x", "ir", made, "-o", room / "mm_c.o"], check=True)
+        Path(sys.argv[1]).unlink(missing_ok=True)
+        subprocess.run(["ar", "rcs", sys.argv[1], room / "mm_c.o"], check=True)
+
+
+if __name__ == "__main__":
+    main()
