@@ -1,33 +1,31 @@
 -- The bytes of pages after a part of their list was written.
-use Rattle.std.proofs.Common.{◌≡◌, ℕ, ◌+◌, ◌-◌, ◌*◌, ◌≤◌, ◌<◌, true, inl, inr, refl, ap, subst, sym, ◌∙◌, ◌⊎◌, List, ◌++◌, length, take, drop, get_or, arith, min, if◌then◌else◌}
+use Rattle.std.proofs.Common.{◌≡◌, ℕ, ◌+◌, ◌-◌, ◌*◌, ◌≤◌, ◌<◌, true, inl, inr, refl, ap, subst, sym, ◌∙◌, ◌⊎◌, List, length, replicate, get_or, arith, min, if◌then◌else◌}
 use Rattle.std.specs.Prelude.{◌&&◌, nat_le, nat_lt}
-use Rattle.std.proofs.lemmas.Grind.{common_steps}
 use Rattle.std.proofs.lemmas.Bool.{cases_lt}
 use Rattle.std.proofs.lemmas.Bool.Decides.{nat_tests}
-use Rattle.std.proofs.lemmas.List.{get_or-append_right, get_or_append_left, get_or-take, get_or-drop, length-take-le}
+use Rattle.byte_store.specs.Parts.{filled, overwritten}
+use Rattle.byte_store.proofs.PartLaws.{get_or-overwritten_below, get_or-overwritten_inside, get_or-overwritten_behind}
 use Rattle.rules_stores.specs.Room.{room_byte, has_room, byte_after}
+
+-- new pages
+pub zeros_of : (n : ℕ) → filled n 0 ≡ replicate n 0
+unfolding filled
+zeros_of n = refl
 
 -- an element of a list of which a part was written
 put_at : (d f : List ℕ) (at k : ℕ) → at + length f ≤ length d →
-    get_or (take at d ++ (f ++ drop (at + length f) d)) k 0 ≡ (if nat_le at k && nat_lt k (at + length f) then get_or f (k - at) 0 else get_or d k 0)
+    get_or (overwritten d at f) k 0 ≡ (if nat_le at k && nat_lt k (at + length f) then get_or f (k - at) 0 else get_or d k 0)
 put_at d f at k h =
-    let front : length (take at d) ≡ at = length-take-le at d (omega arith) in
     elim (cases_lt k at) [
-      | inl below ↦
-          let e = get_or_append_left (take at d) (f ++ drop (at + length f) d) 0 k (omega arith) in
-          let g = get_or-take at d k 0 below in
-          grind (arith, nat_tests, e, g)
-      | inr behind ↦
-          let e = get_or-append_right (take at d) (f ++ drop (at + length f) d) at k 0 front behind in
-          elim (cases_lt (k - at) (length f)) [
-            | inl inside ↦ let g = get_or_append_left f (drop (at + length f) d) 0 (k - at) inside in grind (arith, nat_tests, e, g)
-            | inr past ↦
-                let g = get_or-append_right f (drop (at + length f) d) (length f) (k - at) 0 refl past in
-                let r = get_or-drop (at + length f) d (k - at - length f) 0 in
-                let same : at + length f + (k - at - length f) ≡ k = omega arith in
-                let t : get_or (drop (at + length f) d) (k - at - length f) 0 ≡ get_or d k 0 = r ∙ ap (λ n. get_or d n 0) same in
-                grind (arith, nat_tests, e, g, t)
-          ]
+      | inl below ↦ let e = get_or-overwritten_below d at f k 0 below (omega arith) in grind (arith, nat_tests, e)
+      | inr from ↦ elim (cases_lt k (at + length f)) [
+        | inl inside ↦
+            let e = get_or-overwritten_inside d at f (k - at) 0 (omega arith) (omega arith) in
+            let same : at + (k - at) ≡ k = omega arith in
+            let t : get_or (overwritten d at f) k 0 ≡ get_or f (k - at) 0 = ap (λ n. get_or (overwritten d at f) n 0) (sym same) ∙ e in
+            grind (arith, nat_tests, t)
+        | inr behind ↦ let e = get_or-overwritten_behind d at f k 0 behind h in grind (arith, nat_tests, e)
+      ]
     ]
 
 -- past a page's end there are zeros
@@ -36,14 +34,14 @@ past_page room room' q o page off len value h = grind (arith, nat_tests)
 
 -- another page is as it was
 beside_page : (d f : List ℕ) (page off len : ℕ) (value : ℕ → ℕ) → 4096 * page + 4096 ≤ length d → off + length f ≤ 4096 → (q o : ℕ) → o < 4096 → (q < page) ⊎ (page < q) →
-    room_byte (take (4096 * page + off) d ++ (f ++ drop (4096 * page + off + length f) d)) q o ≡ byte_after d page off len value q o
+    room_byte (overwritten d (4096 * page + off) f) q o ≡ byte_after d page off len value q o
 beside_page d f page off len value h l q o w (inl below) = let p = put_at d f (4096 * page + off) (4096 * q + o) (omega arith) in grind (arith, nat_tests, p)
 beside_page d f page off len value h l q o w (inr above) = let p = put_at d f (4096 * page + off) (4096 * q + o) (omega arith) in grind (arith, nat_tests, p)
 
 -- the page that was written
 on_page : (d f : List ℕ) (page off len : ℕ) (value : ℕ → ℕ) → 4096 * page + 4096 ≤ length d → length f ≡ min (4096 - off) len → 0 < length f →
     ((i : ℕ) → i < length f → get_or f i 0 ≡ value i) → (o : ℕ) → o < 4096 →
-    room_byte (take (4096 * page + off) d ++ (f ++ drop (4096 * page + off + length f) d)) page o ≡ byte_after d page off len value page o
+    room_byte (overwritten d (4096 * page + off) f) page o ≡ byte_after d page off len value page o
 on_page d f page off len value h e n v o w =
     let p = put_at d f (4096 * page + off) (4096 * page + o) (omega arith) in
     elim (cases_lt o off) [
@@ -58,9 +56,9 @@ on_page d f page off len value h e n v o w =
     ]
 
 -- a byte of a page after a part of the list was written
-pub page_put : (d f : List ℕ) (page off len : ℕ) (value : ℕ → ℕ) → has_room d page ≡ true → length f ≡ min (4096 - off) len → 0 < length f →
+page_put : (d f : List ℕ) (page off len : ℕ) (value : ℕ → ℕ) → has_room d page ≡ true → length f ≡ min (4096 - off) len → 0 < length f →
     ((i : ℕ) → i < length f → get_or f i 0 ≡ value i) → (q o : ℕ) →
-    room_byte (take (4096 * page + off) d ++ (f ++ drop (4096 * page + off + length f) d)) q o ≡ byte_after d page off len value q o
+    room_byte (overwritten d (4096 * page + off) f) q o ≡ byte_after d page off len value q o
 page_put d f page off len value r e n v q o =
     let h : 4096 * page + 4096 ≤ length d = grind (arith, nat_tests, r) in
     elim (cases_lt o 4096) [
@@ -71,31 +69,17 @@ page_put d f page off len value r e n v q o =
           | inl above ↦ beside_page d f page off len value h (omega arith) q o w (inr above)
           | inr to ↦
               let same : page ≡ q = omega arith in
-              let P : ℕ → Type 0 = λ x. room_byte (take (4096 * page + off) d ++ (f ++ drop (4096 * page + off + length f) d)) x o ≡ byte_after d page off len value x o in
+              let P : ℕ → Type 0 = λ x. room_byte (overwritten d (4096 * page + off) f) x o ≡ byte_after d page off len value x o in
               subst P same (on_page d f page off len value h e n v o w)
         ]
       ]
     ]
 
--- a lent list that comes back whole
-lent_whole : (n : ℕ) (d new : List ℕ) → n ≡ length d → length new ≡ length d → take n (new ++ drop (length new) d) ≡ new
-lent_whole n d new h l = grind (arith, common_steps)
-
--- how long it is after a part was written
-length-put : (d f : List ℕ) (at : ℕ) → at + length f ≤ length d → length (take at d ++ (f ++ drop (at + length f) d)) ≡ length d
-length-put d f at h = grind (arith, common_steps)
-
 -- the bytes of pages after so many bytes of one, as counted by the code, were written
-pub page_write : (d f new : List ℕ) (n at count page off len : ℕ) (value : ℕ → ℕ) →
+pub page_write : (d f : List ℕ) (at count page off len : ℕ) (value : ℕ → ℕ) →
     count ≡ (if has_room d page then min (4096 - off) len else 0) → 0 < count → at ≡ 4096 * page + off → length f ≡ count →
-    ((i : ℕ) → i < length f → get_or f i 0 ≡ value i) → new ≡ take at d ++ (f ++ drop (at + count) d) → n ≡ length d → (q o : ℕ) →
-    room_byte (take n (new ++ drop (length new) d)) q o ≡ byte_after d page off len value q o
-page_write d f new n at count page off len value c some a l v w m q o =
+    ((i : ℕ) → i < length f → get_or f i 0 ≡ value i) → (q o : ℕ) → room_byte (overwritten d at f) q o ≡ byte_after d page off len value q o
+page_write d f at count page off len value c some a l v q o =
     let r : has_room d page ≡ true = grind (arith, nat_tests) in
-    let h : 4096 * page + 4096 ≤ length d = grind (arith, nat_tests, r) in
     let e : length f ≡ min (4096 - off) len = l ∙ c ∙ ap (λ b. if b then min (4096 - off) len else 0) r in
-    let fits : 4096 * page + off + length f ≤ length d = omega arith in
-    let b : count ≡ length f = sym l in
-    let is : new ≡ take (4096 * page + off) d ++ (f ++ drop (4096 * page + off + length f) d) = w ∙ (λ i. take (a i) d ++ (f ++ drop (a i + b i) d)) in
-    let whole = lent_whole n d new m (ap length is ∙ length-put d f (4096 * page + off) fits) in
-    ap (λ x. room_byte x q o) (whole ∙ is) ∙ page_put d f page off len value r e (omega arith) v q o
+    ap (λ n. room_byte (overwritten d n f) q o) a ∙ page_put d f page off len value r e (omega arith) v q o
