@@ -8,7 +8,7 @@ use Rattle.ttm_base.specs.declared.JobId.{JobId}
 use Rattle.journal_model.specs.declared.state.Job.{Job}
 use Rattle.journal_model.specs.Waits.{same_job}
 use Rattle.journal_model.specs.ApplyJobs.{changed_job}
-use Rattle.journal_model.specs.Jobs.{ArePending, AreClosed, IsSplit, AreBounded, AreKept, closes, is_bounded, is_past, has_packets_left}
+use Rattle.journal_model.specs.Jobs.{ArePending, AreClosed, IsSplit, AreBounded, closes, is_bounded, is_past, has_packets_left}
 
 -- ---- names
 
@@ -23,7 +23,7 @@ same_swapped i j = grind (arith, nat_tests)
 
 -- ---- parts of lists
 
-any_of_rest : {X : Type 0} (p : X → Bool) (xs : List X) (n : ℕ) → list_any p (drop n xs) ≡ false → list_any p (drop (suc n) xs) ≡ false
+pub any_of_rest : {X : Type 0} (p : X → Bool) (xs : List X) (n : ℕ) → list_any p (drop n xs) ≡ false → list_any p (drop (suc n) xs) ≡ false
 any_of_rest p [] n h = refl
 any_of_rest p (x ∷ xs) zero h = grind (arith, common_steps)
 any_of_rest p (x ∷ xs) (suc n) h = any_of_rest p xs n h
@@ -43,7 +43,7 @@ take-map f xs zero = refl
 take-map f [] (suc n) = refl
 take-map f (x ∷ xs) (suc n) = ap (λ ys. f x ∷ ys) (take-map f xs n)
 
-drop-map : {X Y : Type 0} (f : X → Y) (xs : List X) (n : ℕ) → drop n (map f xs) ≡ map f (drop n xs)
+pub drop-map : {X Y : Type 0} (f : X → Y) (xs : List X) (n : ℕ) → drop n (map f xs) ≡ map f (drop n xs)
 drop-map f xs zero = refl
 drop-map f [] (suc n) = refl
 drop-map f (x ∷ xs) (suc n) = drop-map f xs n
@@ -306,13 +306,13 @@ module _ (g : Job → Job) (named : (j : Job) → (g j).id ≡ j.id) where
 pub bounded_finished : (jobs : List Job) (greatest : List ℕ) (id : JobId) → AreBounded greatest jobs → AreBounded greatest (changed_job (λ j. record j { finished = true }) id jobs)
 bounded_finished jobs greatest id b = bounded_after (finish_if id) (finish_named id) greatest jobs b
 
-pub kept_counted : (jobs : List Job) (n : ℕ) (greatest : List ℕ) (id : JobId) → AreKept jobs n greatest → AreKept (changed_job (λ j. record j { ran = j.ran + 1 }) id jobs) n greatest
-kept_counted jobs n greatest id k = record { split = split_counted jobs n id k.split; bounded = bounded_after (count_if id) (count_named id) greatest jobs k.bounded }
+pub bounded_counted : (jobs : List Job) (greatest : List ℕ) (id : JobId) → AreBounded greatest jobs → AreBounded greatest (changed_job (λ j. record j { ran = j.ran + 1 }) id jobs)
+bounded_counted jobs greatest id b = bounded_after (count_if id) (count_named id) greatest jobs b
 
 -- ---- counts of packets
 
 -- others than the one stand at nothing
-others_left : (jobs : List Job) (id : JobId) → list_any (λ j. same_job id j.id) jobs ≡ false → list_all (has_packets_left id) jobs ≡ true
+pub others_left : (jobs : List Job) (id : JobId) → list_any (λ j. same_job id j.id) jobs ≡ false → list_all (has_packets_left id) jobs ≡ true
 others_left [] id h = refl
 others_left (j ∷ js) id h =
     let other : same_job id j.id ≡ false = grind (arith, common_steps) in

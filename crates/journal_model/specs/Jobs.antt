@@ -1,9 +1,11 @@
 -- Jobs that are done and that nobody looks for: those at the front of the list, as far as they share no name with a later one.
-use Rattle.std.specs.Prelude.{◌≡◌, ℕ, ◌+◌, ◌^◌, ◌≤◌, ◌++◌, ◌||◌, ◌&&◌, Bool, false, List, [], ◌∷◌, IsTrue, length, take, drop, not, nat_lt, nat_le, slice_index_or}
+use Rattle.std.specs.Prelude.{◌≡◌, ℕ, ◌+◌, ◌^◌, ◌≤◌, ◌++◌, ◌||◌, ◌&&◌, Bool, false, List, [], ◌∷◌, IsTrue, length, map, take, drop, not, nat_lt, nat_le, slice_index_or}
 use Rattle.std.specs.List.{list_all, list_any}
 use Rattle.ttm_base.specs.declared.JobId.{JobId}
 use Rattle.journal_model.specs.declared.state.Job.{Job}
 use Rattle.journal_model.specs.JobNames.{same_job}
+use Rattle.journal_model.specs.declared.job_ids.JobRun.{JobRun}
+use Rattle.journal_model.specs.JobRuns.{jobs_of_run, fits}
 
 -- the pending jobs are the last of all, and all before them are done
 pub record ArePending (jobs pending : List Job) : Type 0 where
@@ -37,10 +39,20 @@ is_past greatest i = nat_lt i.ctx (length greatest) && nat_lt (slice_index_or gr
 pub record AreBounded (greatest : List ℕ) (jobs : List Job) : Type 0 where
   pub all : IsTrue (list_all (λ j. is_bounded greatest j.id) jobs)
 
--- what is kept of the jobs: how many are closed, and greatest numbers
-pub record AreKept (jobs : List Job) (closed : ℕ) (greatest : List ℕ) : Type 0 where
+-- the last jobs are those of the run, and none of them is done
+pub record IsRow (jobs : List Job) (row : JobRun) : Type 0 where
+  pub before : List Job
+  pub last : List Job
+  pub joined : jobs ≡ before ++ last
+  pub names : map (λ j. j.id) last ≡ jobs_of_run row
+  pub pending : IsTrue (list_all (λ j. not j.finished) last)
+  pub fit : IsTrue (fits row)
+
+-- what is kept of the jobs: how many are closed, greatest numbers, and the last of them
+pub record AreKept (jobs : List Job) (closed : ℕ) (greatest : List ℕ) (row : JobRun) : Type 0 where
   pub split : IsSplit jobs closed
   pub bounded : AreBounded greatest jobs
+  pub end : IsRow jobs row
 
 -- the first of these jobs can be closed: it is done, and no later one has its name
 abbrev pub closes : List Job → Bool

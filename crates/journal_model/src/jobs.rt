@@ -1,5 +1,7 @@
 mod list;
+mod row;
 
+use crate::job_ids::JobRun;
 use crate::state::Job;
 pub use list::same_job;
 use std::marker::Model;
@@ -9,12 +11,14 @@ use ttm_base::ItemList;
 const CONTEXTS: usize = 9;
 
 /// Jobs in order of emission. Of those at the front that are done it keeps the number, so that who looks for a job that isn't
-/// done doesn't pass them each time; and of each context the greatest number, so that one with a new name isn't looked for.
+/// done doesn't pass them each time; of each context the greatest number, so that one with a new name isn't looked for; and the last jobs, as
+/// far as none of them is done and their numbers follow one another, so that they are found by their numbers.
 #[derive(Drop)]
 pub struct Jobs {
     all: ItemList<Job>,
     closed: usize,
     greatest: [u64; CONTEXTS],
+    row: JobRun,
 }
 
 impl Model for Jobs {
@@ -26,5 +30,5 @@ impl Model for Jobs {
 
     ghost view = { λ s. s.all };
 
-    ghost invariant = { λ s. AreKept s.all s.closed s.greatest };
+    ghost invariant = { λ s. AreKept s.all s.closed s.greatest s.row };
 }

@@ -32,16 +32,6 @@ fn ops_of<'a>(command: Option<&'a Command>) -> &'a [Op]
     }
 }
 
-/// Puts job ids behind others.
-fn push_jobs(jobs: &mut JobIds, more: &[JobId]) -> Result<(), NoMemory>
-    ensures { OnOk result (jobs.new ≡ jobs.old ++ more.now) }
-{
-    for job in more {
-        jobs.push(*job)?;
-    }
-    Ok(())
-}
-
 /// The jobs that a job waits for at its buffers.
 fn waits_at(alloc: Global, core: &Core, ops: &[Op], bs: &[BufId]) -> Result<JobIds, NoMemory>
     ensures { IfOk result (λ jobs. jobs ≡ flat_map (waits.jobs_before_use core.now ops.now) bs.now) }
@@ -49,7 +39,7 @@ fn waits_at(alloc: Global, core: &Core, ops: &[Op], bs: &[BufId]) -> Result<JobI
     let mut jobs = JobIds::new(alloc);
     for b in bs {
         let more = jobs_before_use(alloc, core, ops, *b)?;
-        push_jobs(&mut jobs, more.items())?;
+        jobs.append(&more)?;
     }
     Ok(jobs)
 }

@@ -175,10 +175,7 @@ pub fn drop_last_fence(buffers: &mut Buffers, b: BufId)
     let index = b.0 as usize;
     if index < buffers.len() {
         if let Some(buffer) = buffers.get_mut(index) {
-            let count = buffer.fences.len();
-            if count > 0 {
-                let _ = buffer.fences.remove(count - 1);
-            }
+            buffer.fences.drop_last();
         }
     }
 }

@@ -4,7 +4,7 @@ ghost use Rattle.journal_model.specs.ScriptRules.{is_script};
 
 use crate::making::script_of;
 use entry_reader::{names_of_script, read_entry};
-use journal_model::{Script, State};
+use journal_model::{FenceRun, Script, State};
 use rules_apply::{apply, first_state, is_ready};
 use script_words::names::Names;
 use std::alloc::Global;
@@ -96,10 +96,19 @@ fn are_made(
     }
 }
 
+/// How many fences stand in these runs.
+fn count_of(runs: &[FenceRun]) -> u64 {
+    let mut count: u64 = 0;
+    for run in runs {
+        count = count.saturating_add(run.jobs.count);
+    }
+    count
+}
+
 /// The first buffer stands in a memory type, and has so many fences.
-fn stands(state: &State, mem: Mem, fences: usize) -> bool {
+fn stands(state: &State, mem: Mem, fences: u64) -> bool {
     match state.core.buffers.items().first() {
-        Some(Some(buffer)) => buffer.mem == mem && buffer.fences.len() == fences,
+        Some(Some(buffer)) => buffer.mem == mem && count_of(buffer.fences.runs()) == fences,
         _ => false,
     }
 }

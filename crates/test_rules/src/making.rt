@@ -4,7 +4,7 @@ ghost use Rattle.std.specs.Prelude.{◌≡◌, true};
 ghost use Rattle.journal_model.specs.ScriptRules.{is_script};
 
 use journal_model::{
-    Buffer, Buffers, Core, Courses, Frames, Ghost, Ghosts, Grips, Job, JobIds, Jobs, Lists,
+    Buffer, Buffers, Core, Courses, Fences, Frames, Ghost, Ghosts, Grips, Job, JobIds, Jobs, Lists,
     Numbers, Script, State, Targets,
 };
 use script_text::read_script;
@@ -31,6 +31,15 @@ pub fn script_of(rt: &impl Abort, alloc: Global, text: &str) -> Script
     read_script(alloc, text.as_bytes()).expect(rt, "a script")
 }
 
+/// These jobs.
+pub fn ids_of(rt: &impl Abort, alloc: Global, jobs: &[JobId]) -> JobIds {
+    let mut ids = JobIds::new(alloc);
+    for id in jobs {
+        ids.push(*id).expect(rt, "an id");
+    }
+    ids
+}
+
 /// A job of these packets that waits for these, and isn't done.
 pub fn job_of(
     rt: &impl Abort,
@@ -41,11 +50,20 @@ pub fn job_of(
 ) -> Job {
     Job {
         id,
-        waits: list(rt, alloc, waits),
+        waits: ids_of(rt, alloc, waits),
         packets: list(rt, alloc, packets),
         ran: 0,
         finished: false,
     }
+}
+
+/// These fences.
+fn fences_of(rt: &impl Abort, alloc: Global, fences: &[Fence]) -> Fences {
+    let mut all = Fences::new(alloc);
+    for fence in fences {
+        all.push(*fence).expect(rt, "a fence");
+    }
+    all
 }
 
 /// A buffer in SYSTEM with these places and fences.
@@ -59,7 +77,7 @@ pub fn buffer_of(rt: &impl Abort, alloc: Global, places: &[Loc], fences: &[Fence
             tt: None,
             vram: None,
         },
-        fences: list(rt, alloc, fences),
+        fences: fences_of(rt, alloc, fences),
     }
 }
 

@@ -74,6 +74,16 @@ fn are<T: Copy + PartialEq>(rt: &impl Abort, items: Result<ItemList<T>, NoMemory
     assert!(rt; items.items() == want);
 }
 
+/// The jobs are this one, or none.
+fn are_jobs(rt: &impl Abort, jobs: Result<JobIds, NoMemory>, want: &[JobId]) {
+    let jobs = jobs.expect(rt, "jobs");
+    let runs = jobs.runs();
+    assert!(rt; runs.len() == want.len());
+    for (run, id) in runs.iter().zip(want) {
+        assert!(rt; run.ctx == id.ctx && run.first == id.num && run.count == 1);
+    }
+}
+
 #[test]
 fn buffers_and_places_of_commands(rt: HostRuntime) {
     let alloc = rt.alloc();
@@ -94,8 +104,8 @@ fn pages_and_jobs_of_a_buffer(rt: HostRuntime) {
     let buffer = read_buffer(&rt, alloc);
     are(&rt, frames_of(alloc, &buffer), &[0]);
     are(&rt, slots_of(alloc, &buffer), &[0]);
-    are(&rt, jobs_before_write(alloc, &buffer), &[JOB]);
-    are(&rt, jobs_before_read(alloc, &buffer), &[]);
+    are_jobs(&rt, jobs_before_write(alloc, &buffer), &[JOB]);
+    are_jobs(&rt, jobs_before_read(alloc, &buffer), &[]);
     drop(buffer);
 }
 
@@ -152,9 +162,9 @@ fn packets_and_jobs_to_wait_for(rt: HostRuntime) {
     let alloc = rt.alloc();
     let core = read_core(&rt, alloc);
     are(&rt, packets_of(alloc, &core, &[PROBE]), PIECES);
-    are(&rt, unfinished(alloc, &core, &[JOB]), &[JOB]);
-    are(&rt, jobs_before_target(alloc, &core, Mem::Vram), &[JOB]);
-    are(&rt, jobs_before_use(alloc, &core, &[FILL], A), &[JOB]);
+    are_jobs(&rt, unfinished(alloc, &core, &[JOB]), &[JOB]);
+    are_jobs(&rt, jobs_before_target(alloc, &core, Mem::Vram), &[JOB]);
+    are_jobs(&rt, jobs_before_use(alloc, &core, &[FILL], A), &[JOB]);
     drop(core);
 }
 

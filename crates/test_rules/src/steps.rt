@@ -1,4 +1,4 @@
-use crate::making::{core_of, job_of, list, one, script_of, state_of};
+use crate::making::{core_of, ids_of, job_of, list, one, script_of, state_of};
 use journal_model::{BufIds, Core, Course, Frames, Ghost, Jobs, Kind, Script, State};
 use rules_next::next;
 use rules_search::has_room;
@@ -54,7 +54,7 @@ fn waiting_ghost(rt: &impl Abort, alloc: Global) -> Ghost {
         vram: Spans::new(alloc),
         tt: Spans::new(alloc),
         frames: Frames::new(alloc),
-        jobs: list(rt, alloc, &[FIRST]),
+        jobs: ids_of(rt, alloc, &[FIRST]),
     }
 }
 

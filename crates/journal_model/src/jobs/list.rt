@@ -1,9 +1,12 @@
-ghost use Rattle.std.specs.Prelude.{◌≡◌, ◌-◌, ◌≤◌, ◌++◌, ◌∷◌, [], true, false, IsTrue, OnOk, OnErr, ◌+◌, find, length, take, drop, option_copied, if◌then◌else◌};
+ghost use Rattle.std.specs.Prelude.{◌≡◌, ◌-◌, ◌≤◌, ◌++◌, ◌∷◌, ◌&&◌, [], not, true, false, IsTrue, OnOk, OnErr, ◌+◌, find, length, take, drop, option_copied, if◌then◌else◌};
 ghost use Rattle.std.specs.List.{list_all, list_any};
 ghost use Rattle.journal_model.specs.Waits as waits;
 ghost use Rattle.journal_model.specs.ApplyJobs.{changed_job};
-ghost use Rattle.journal_model.specs.Jobs.{ArePending, AreBounded, IsSplit, closes, has_packets_left, is_bounded, is_past};
+ghost use Rattle.journal_model.specs.JobRuns.{jobs_of_run};
+ghost use Rattle.journal_model.specs.Jobs.{ArePending, IsRow, AreBounded, IsSplit, closes, has_packets_left, is_bounded, is_past};
 
+use crate::job_ids::JobRun;
+use crate::jobs::row::{NO_ROW, end_of, row_after, row_behind};
 use crate::jobs::{CONTEXTS, Jobs};
 use crate::state::Job;
 use std::alloc::Global;
@@ -39,13 +42,15 @@ fn finish_named(job: &mut Job, id: JobId)
     }
 }
 
-/// Marks a job as done, among those from a position on.
-fn finish_from(jobs: &mut ItemList<Job>, start: usize, id: JobId)
-    requires within { start ≤ length jobs.old }
+/// Marks a job as done, among those between two positions.
+fn finish_between(jobs: &mut ItemList<Job>, start: usize, end: usize, id: JobId)
+    requires order { start ≤ end }
+    requires within { end ≤ length jobs.old }
     requires closed { changed_job (λ j. record j { finished = true }) id (take start jobs.old) ≡ take start jobs.old }
+    requires behind { changed_job (λ j. record j { finished = true }) id (drop end jobs.old) ≡ drop end jobs.old }
     ensures { jobs.new ≡ changed_job (λ j. record j { finished = true }) id jobs.old }
 {
-    for i in start..jobs.len() {
+    for i in start..end {
         finish_named(jobs.get_mut(i), id);
     }
 }
@@ -60,34 +65,39 @@ fn count_named(job: &mut Job, id: JobId)
     }
 }
 
-/// Counts one more packet of a job, among those from a position on.
-fn count_from(jobs: &mut ItemList<Job>, start: usize, id: JobId)
-    requires within { start ≤ length jobs.old }
+/// Counts one more packet of a job, among those between two positions.
+fn count_between(jobs: &mut ItemList<Job>, start: usize, end: usize, id: JobId)
+    requires order { start ≤ end }
+    requires within { end ≤ length jobs.old }
     requires closed { changed_job (λ j. record j { ran = j.ran + 1 }) id (take start jobs.old) ≡ take start jobs.old }
+    requires behind { changed_job (λ j. record j { ran = j.ran + 1 }) id (drop end jobs.old) ≡ drop end jobs.old }
     requires left { IsTrue (list_all (has_packets_left id) jobs.old) }
     ensures { jobs.new ≡ changed_job (λ j. record j { ran = j.ran + 1 }) id jobs.old }
 {
-    for i in start..jobs.len() {
+    for i in start..end {
         count_named(jobs.get_mut(i), id);
     }
 }
 
 /// The job at a position can be closed: it is done, and no later job has its name.
-fn can_close(jobs: &[Job], at: usize) -> bool
-    requires { at + 1 ≤ length jobs.now }
+fn can_close(jobs: &[Job], row: JobRun, at: usize) -> bool
+    requires within { at + 1 ≤ length jobs.now }
+    requires row { IsRow jobs.now row }
     ensures { result ≡ closes (drop at jobs.now) }
 {
     let job = &jobs[at];
-    job.finished && !is_among(&jobs[at + 1..], job.id)
+    let end = end_of(jobs, at + 1, row, job.id);
+    job.finished && !is_among(&jobs[at + 1..end], job.id)
 }
 
 /// How many jobs are closed, from those on that were.
-fn closed_from(jobs: &[Job], start: usize) -> usize
-    requires { IsSplit jobs.now start }
+fn closed_from(jobs: &[Job], row: JobRun, start: usize) -> usize
+    requires split { IsSplit jobs.now start }
+    requires row { IsRow jobs.now row }
     ensures { IsSplit jobs.now result }
 {
     let mut count = start;
-    while count < jobs.len() && can_close(jobs, count) {
+    while count < jobs.len() && can_close(jobs, row, count) {
         count += 1;
     }
     count
@@ -173,6 +183,7 @@ impl Jobs {
             all: ItemList::new(alloc),
             closed: 0,
             greatest: [0; CONTEXTS],
+            row: NO_ROW,
         }
     }
 
@@ -188,6 +199,13 @@ impl Jobs {
         ensures { ArePending self.now result.now }
     {
         &self.all.items()[self.closed..]
+    }
+
+    /// The last jobs, as far as none of them is done and their numbers follow one another.
+    pub fn row(&self) -> JobRun
+        ensures { IsTrue (list_all (λ i. list_any (λ j. waits.same_job i j.id && not j.finished) self.now) (jobs_of_run result)) }
+    {
+        self.row
     }
 
     /// The first job of this name.
@@ -212,7 +230,9 @@ impl Jobs {
     {
         let id = job.id;
         self.closed = closed_apart(self.all.items(), self.closed, &self.greatest, id);
+        let row = row_behind(self.row, &job);
         self.all.push(job)?;
+        self.row = row;
         raise(&mut self.greatest, id);
         Ok(())
     }
@@ -224,6 +244,7 @@ impl Jobs {
         let count = self.all.len();
         if count > 0 {
             self.closed = closed_before(self.all.items(), self.closed);
+            self.row = NO_ROW;
             let _ = self.all.remove(count - 1);
         }
     }
@@ -232,8 +253,10 @@ impl Jobs {
     pub fn finish(&mut self, id: JobId)
         ensures { self.new ≡ changed_job (λ j. record j { finished = true }) id self.old }
     {
-        finish_from(&mut self.all, self.closed, id);
-        self.closed = closed_from(self.all.items(), self.closed);
+        let end = end_of(self.all.items(), self.closed, self.row, id);
+        finish_between(&mut self.all, self.closed, end, id);
+        self.row = row_after(self.row, id);
+        self.closed = closed_from(self.all.items(), self.row, self.closed);
     }
 
     /// One more packet of the job can be counted.
@@ -241,7 +264,8 @@ impl Jobs {
         ensures { result ≡ list_all (has_packets_left id) self.now }
     {
         let start = start_of(self.all.items(), self.closed, id);
-        have_packets_left(&self.all.items()[start..], id)
+        let end = end_of(self.all.items(), start, self.row, id);
+        have_packets_left(&self.all.items()[start..end], id)
     }
 
     /// One more packet of the job has run.
@@ -250,6 +274,7 @@ impl Jobs {
         ensures { self.new ≡ changed_job (λ j. record j { ran = j.ran + 1 }) id self.old }
     {
         let start = start_of(self.all.items(), self.closed, id);
-        count_from(&mut self.all, start, id);
+        let end = end_of(self.all.items(), start, self.row, id);
+        count_between(&mut self.all, start, end, id);
     }
 }

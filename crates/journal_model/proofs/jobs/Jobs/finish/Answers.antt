@@ -1,16 +1,22 @@
-use Rattle.std.proofs.Common.{take, subst}
-use Rattle.journal_model.specs.Jobs.{IsSplit}
-use Rattle.journal_model.proofs.SplitJobs.{split_finished, bounded_finished, finished_same}
+use Rattle.std.proofs.Common.{◌≡◌, ◌∙◌, true, false, take, drop, sym, subst}
+use Rattle.std.specs.List.{list_any}
+use Rattle.journal_model.specs.JobNames.{same_job}
+use Rattle.journal_model.specs.Jobs.{IsSplit, IsRow}
+use Rattle.journal_model.proofs.SplitJobs.{split_finished, bounded_finished, finished_same, others_same}
 use Rattle.journal_model.proofs.jobs.Jobs.finish.Goals as goal
 
-pub finish_from-requires-clause-closed : goal.finish_from-requires-clause-closed
-finish_from-requires-clause-closed c = finished_same (take c.self.inside.closed c.self.inside.all) c.args.id c.self.invariant.split.parts.done
+pub finish_between-requires-clause-closed : goal.finish_between-requires-clause-closed
+finish_between-requires-clause-closed c = finished_same (take c.self.inside.closed c.self.inside.all) c.args.id c.self.invariant.split.parts.done
 
-pub closed_from-self-inside-requires : goal.closed_from-self-inside-requires
-closed_from-self-inside-requires c = rw (c.items.ensures, c.finish_from.ensures) (split_finished c.self.inside.all c.self.inside.closed c.args.id c.self.invariant.split)
+pub finish_between-requires-clause-behind : goal.finish_between-requires-clause-behind
+finish_between-requires-clause-behind c = others_same (λ j. record j { finished = true }) (drop c.end_of-end.result c.self.inside.all) c.args.id (subst (λ jobs. list_any (λ j. same_job c.args.id j.id) (drop c.end_of-end.result jobs) ≡ false) c.items.ensures c.end_of-end.ensures.apart)
+
+pub closed_from-self-inside-requires-clause-split : goal.closed_from-self-inside-requires-clause-split
+closed_from-self-inside-requires-clause-split c = rw (c.items-2.ensures, c.finish_between.ensures) (split_finished c.self.inside.all c.self.inside.closed c.args.id c.self.invariant.split)
 
 pub invariant_of-self : goal.invariant_of-self
 invariant_of-self c = record {
-  split = subst (λ jobs. IsSplit jobs c.closed_from-self-inside.result) c.items.ensures c.closed_from-self-inside.ensures;
-  bounded = rw c.finish_from.ensures (bounded_finished c.self.inside.all c.self.inside.greatest c.args.id c.self.invariant.bounded);
+  split = subst (λ jobs. IsSplit jobs c.closed_from-self-inside.result) c.items-2.ensures c.closed_from-self-inside.ensures;
+  bounded = rw c.finish_between.ensures (bounded_finished c.self.inside.all c.self.inside.greatest c.args.id c.self.invariant.bounded);
+  end = rw c.finish_between.ensures (c.row_after-self-inside.ensures c.self.inside.all c.self.invariant.end);
 }

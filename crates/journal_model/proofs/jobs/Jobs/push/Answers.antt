@@ -11,4 +11,5 @@ invariant_of-self-2 c =
     let apart = subst (λ jobs. list_any (λ j. same_job c.args.job.id j.id) (take c.closed_apart-self-inside.result jobs) ≡ false) c.items.ensures c.closed_apart-self-inside.ensures.apart in
     let pushed = split_pushed c.self.inside.all c.closed_apart-self-inside.result c.args.job split apart in
     let bounded = bounded_pushed c.self.inside.greatest c.raise.new.greatest c.self.inside.all c.args.job c.raise.ensures.others c.raise.ensures.new c.self.invariant.bounded in
-    subst (λ jobs. AreKept jobs c.closed_apart-self-inside.result c.raise.new.greatest) (sym c.in_ok-push.ensures.ok) (record { split = pushed; bounded = bounded })
+    let row = c.row_behind-row.ensures c.self.inside.all c.self.invariant.end in
+    subst (λ jobs. AreKept jobs c.closed_apart-self-inside.result c.raise.new.greatest c.row_behind-row.result) (sym c.in_ok-push.ensures.ok) (record { split = pushed; bounded = bounded; end = row })

@@ -1,0 +1,26 @@
+use Rattle.std.proofs.Common.{◌≡◌, ◌++◌, take, drop, ap, ◌+◌, ◌<◌, length, arith, sym, ◌∙◌, if◌then◌else◌}
+use Rattle.std.proofs.Math.ListN.{length-set}
+use Rattle.std.proofs.lemmas.Grind.{common_steps}
+use Rattle.std.proofs.lemmas.Bool.Decides.{nat_tests}
+use Rattle.journal_model.specs.ApplyJobs.{changed_job}
+use Rattle.journal_model.proofs.RowLaws.{changed_parts}
+use Rattle.journal_model.specs.Waits.{same_job}
+use Rattle.journal_model.specs.Jobs.{has_packets_left}
+use Rattle.journal_model.proofs.ListSteps.{map_over_step, over_next, passes_at}
+use Rattle.journal_model.proofs.jobs.list.count_between.Goals as goal
+
+pub count_named-requires : goal.count_named-requires
+count_named-requires c =
+    let within : c.loop-i.i < length c.args.jobs.now = grind (arith, common_steps, nat_tests) in
+    passes_at (has_packets_left c.args.id) _ _ _ c.requires.left (sym (over_next _ _ _ _ within c.loop-i.invariant.0) ∙ c.get_mut.ensures.value)
+
+pub loop-i-preserved : goal.loop-i-preserved
+loop-i-preserved c =
+    let within : c.loop-i.i < length c.args.jobs.now = grind (arith, common_steps, nat_tests) in
+    rw c.count_named.ensures (map_over_step (λ j. if same_job c.args.id j.id then record j { ran = j.ran + 1 } else j) _ _ _ _ within c.loop-i.invariant.0 c.get_mut.ensures.value, length-set _ _ _ ∙ c.loop-i.invariant.1)
+
+pub returns : goal.returns
+returns c =
+    let at : c.loop-i.i ≡ c.args.end = grind (arith, common_steps, nat_tests) in
+    let parts = changed_parts (λ j. record j { ran = j.ran + 1 }) c.args.id c.args.jobs.now c.args.end c.requires.behind in
+    c.loop-i.invariant.0 ∙ ap (λ n. changed_job (λ j. record j { ran = j.ran + 1 }) c.args.id (take n c.args.jobs.now) ++ drop n c.args.jobs.now) at ∙ parts
