@@ -1,3 +1,4 @@
+pub mod FillLaws
 pub mod ReplayLaws
 pub mod SpanLaws
 pub mod TailLaws

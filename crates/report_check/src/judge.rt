@@ -1,16 +1,19 @@
 //! A journal is replayed over plain lists, entry by entry.
 
-ghost use Rattle.std.specs.Prelude.{IfOk, IsTrue};
+ghost use Rattle.std.specs.Prelude.{IfOk, IfSome, IsTrue, option_copied};
 ghost use Rattle.journal_model.specs.ScriptRules.{is_script};
+ghost use Rattle.rules_holds.specs.Marked.{AreFrames};
 ghost use Rattle.rules_search.specs.Room.{HasRoom};
 ghost use Rattle.rules_stores.specs.Kept.{bytes_of};
 ghost use Rattle.report_check.specs.Judged.{Differs, IsJudged, Judges, Leads};
 
+use crate::filling::{marks_after, marks_for};
 use crate::same::{same_kind, same_step};
 use journal_model::{Entry, Kind, Script, State};
 use plain_device::enact::enact;
 use rules_apply::first_state;
-use rules_next::next;
+use rules_holds::FrameMarks;
+use rules_next::next_with;
 use rules_schedule::is_over;
 use rules_stores::PlainStores;
 use std::alloc::Global;
@@ -63,13 +66,15 @@ fn fault_of(
     alloc: Global,
     script: &Script,
     state: &State,
+    frames: Option<&FrameMarks>,
     stores: &PlainStores,
     entry: &Entry,
 ) -> Result<Option<Fault>, NoMemory>
-    requires { HasRoom script.now state.now }
+    requires room { HasRoom script.now state.now }
+    requires frames { IfSome (option_copied frames) (AreFrames script.now state.now.core) }
     ensures { IfOk result (IsJudged script.now (record { state = state.now; stores = bytes_of stores.now }) entry.now) }
 {
-    match next(alloc, script, state, entry.who)? {
+    match next_with(alloc, script, state, frames, entry.who)? {
         Ok(kind) => {
             let made = stores.showing(alloc, script, state, entry.who, kind)?;
             Ok(fault_in(&made, &entry.kind))
@@ -89,11 +94,14 @@ pub fn replay(alloc: Global, script: &Script, journal: &[Entry]) -> Result<Outco
 {
     let mut state = first_state(alloc, script)?;
     let mut stores = PlainStores::new(alloc, script.sizes)?;
+    let mut kept = None;
     for (at, entry) in journal.iter().enumerate() {
-        if let Some(fault) = fault_of(alloc, script, &state, &stores, entry)? {
+        let frames = marks_for(alloc, script, &state, kept, entry)?;
+        if let Some(fault) = fault_of(alloc, script, &state, frames.as_ref(), &stores, entry)? {
             let entry = at as u64 + 1;
             return Ok(Outcome::Bad { entry, fault });
         }
+        kept = marks_after(&state, frames, entry);
         enact(alloc, script, &mut state, &mut stores, entry)?;
     }
     Ok(Outcome::Legal { state })

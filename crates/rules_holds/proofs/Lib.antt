@@ -3,3 +3,5 @@ pub mod HeldLaws
 pub mod OpenJobs
 pub mod MarkLaws
 pub mod CountLaws
+pub mod RunJobs
+pub mod BeforeLaws

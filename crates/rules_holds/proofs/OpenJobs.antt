@@ -1,5 +1,5 @@
 -- Who looks for a job that isn't done, with the least number of those that may not be.
-use Rattle.std.proofs.Common.{◌≡◌, ℕ, ◌+◌, ◌<◌, ◌≤◌, Bool, List, [], ◌∷◌, ◌++◌, true, false, length, take, drop, get_or, min, refl, sym, arith, subst, if◌then◌else◌}
+use Rattle.std.proofs.Common.{◌≡◌, ℕ, ◌+◌, ◌<◌, ◌≤◌, Bool, List, [], ◌∷◌, ◌++◌, true, false, length, take, drop, get_or, min, refl, sym, ◌∙◌, arith, subst, if◌then◌else◌}
 use Rattle.std.specs.Prelude.{map, filter, not, ◌&&◌, ◌||◌, nat_le}
 use Rattle.std.specs.List.{list_all, list_any}
 use Rattle.std.proofs.lemmas.Grind.{common_steps}
@@ -12,6 +12,7 @@ use Rattle.journal_model.specs.declared.state.Job.{Job}
 use Rattle.journal_model.specs.JobNames.{same_job}
 use Rattle.journal_model.specs.Jobs.{ArePending}
 use Rattle.journal_model.specs.Waits.{is_unfinished, unfinished, changes}
+use Rattle.rules_holds.specs.Named.{IsLeast}
 use Rattle.rules_state.proofs.PendingJobs.{unfinished_pending}
 
 -- ---- the least number
@@ -46,22 +47,8 @@ any_in_parts p jobs n =
     let joined : jobs ≡ take n jobs ++ drop n jobs = grind (arith, common_steps) in
     subst (λ all. (list_any p (drop n jobs) || list_any p (take n jobs)) ≡ list_any p all) (sym joined) (grind (arith, common_steps))
 
--- ---- nothing is pending
-
-pub nothing_of : (jobs : List Job) → length jobs ≡ 0 → jobs ≡ []
-nothing_of [] h = refl
-nothing_of (j ∷ js) h = cc
-
-none_left : (p : JobId → Bool) (is : List JobId) → ((i : JobId) → p i ≡ false) → filter p is ≡ []
-none_left p [] h = refl
-none_left p (i ∷ is) h =
-    let here = h i in
-    let rest = none_left p is h in
-    grind (arith, common_steps)
-
--- so nothing is unfinished
-pub none_unfinished : (c : Core) (pending : List Job) → ArePending c.jobs pending → pending ≡ [] → (is : List JobId) → unfinished c is ≡ []
-none_unfinished c pending a e is = none_left (is_unfinished c) is (λ i. sym (unfinished_pending i c.jobs [] (subst (λ xs. ArePending c.jobs xs) e a)))
+pub none_unfinished_below : (c : Core) (pending : List Job) (least : ℕ) → ArePending c.jobs pending → list_all (λ j. nat_le least j.id.num) pending ≡ true → IsLeast c least
+none_unfinished_below c pending least a h i l = sym (unfinished_pending i c.jobs pending a) ∙ none_below least i pending l h
 
 -- ---- the unfinished ones among jobs and one more
 
@@ -73,25 +60,4 @@ pub unfinished_more : (c : Core) (jobs : List JobId) (i : ℕ) (d : JobId) → i
 unfinished_more c jobs i d h =
     let e = take_more jobs i d h in
     let f = unfinished-push c (take i jobs) (get_or jobs i d) in
-    grind (arith, common_steps)
-
--- of the jobs of fences
-pub unfinished_by_fences_more : (c : Core) (fences : List Fence) (i : ℕ) (d : Fence) → i < length fences
-    → unfinished c (map (λ f. f.job) (take (i + 1) fences))
-    ≡ (if is_unfinished c (get_or fences i d).job then unfinished c (map (λ f. f.job) (take i fences)) ++ (get_or fences i d).job ∷ []
-    else unfinished c (map (λ f. f.job) (take i fences)))
-unfinished_by_fences_more c fences i d h =
-    let e = take_more fences i d h in
-    let f = unfinished-push c (map (λ f. f.job) (take i fences)) (get_or fences i d).job in
-    grind (arith, common_steps)
-
--- of the jobs of fences that do more than read
-pub unfinished_by_changes_more : (c : Core) (fences : List Fence) (i : ℕ) (d : Fence) → i < length fences
-    → unfinished c (map (λ f. f.job) (filter changes (take (i + 1) fences)))
-    ≡ (if changes (get_or fences i d) && is_unfinished c (get_or fences i d).job
-    then unfinished c (map (λ f. f.job) (filter changes (take i fences))) ++ (get_or fences i d).job ∷ []
-    else unfinished c (map (λ f. f.job) (filter changes (take i fences))))
-unfinished_by_changes_more c fences i d h =
-    let e = take_more fences i d h in
-    let f = unfinished-push c (map (λ f. f.job) (filter changes (take i fences))) (get_or fences i d).job in
     grind (arith, common_steps)

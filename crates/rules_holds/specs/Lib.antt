@@ -1,3 +1,4 @@
 pub mod Named
 pub mod Held
 pub mod Marked
+pub mod Before

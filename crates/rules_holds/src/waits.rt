@@ -1,19 +1,21 @@
-ghost use Rattle.std.specs.Prelude.{◌≡◌, ◌&&◌, IfOk, IsTrue, filter, map, nat_le, not};
+ghost use Rattle.std.specs.Prelude.{◌≡◌, ◌+◌, ◌<◌, ◌≤◌, ◌++◌, IfOk, OnOk, IsTrue, nat_le};
 ghost use Rattle.std.specs.List.{list_all, list_any};
 ghost use Rattle.journal_model.specs.State.{new_buffer};
 ghost use Rattle.ttm_base.specs.Fences as fences;
 ghost use Rattle.journal_model.specs.Waits as words;
-ghost use Rattle.rules_holds.specs.Named.{named_last};
+ghost use Rattle.journal_model.specs.JobRuns.{jobs_of_run, fits, behind, fences_of_run, is_whole};
+ghost use Rattle.rules_holds.specs.Named.{named_last, named_of, is_open, IsLeast};
+ghost use Rattle.rules_holds.specs.Before.{counts_by, jobs_before};
 
-use journal_model::{Buffer, Core, Job, JobIds, same_job};
+use journal_model::{Buffer, Core, FenceRun, Job, JobIds, JobRun, same_job};
 use rules_state::{buffer_in, dead_buffer};
 use state_words::is_written;
 use std::alloc::Global;
-use ttm_base::{BufId, Fence, JobId, Mem, NoMemory, Op, Usage};
+use ttm_base::{BufId, JobId, Mem, NoMemory, Op, Usage};
 
 /// One of these jobs has the name and isn't done.
 fn has_unfinished(jobs: &[Job], i: JobId) -> bool
-    ensures { result ≡ list_any (λ j. words.same_job i j.id && not j.finished) jobs.now }
+    ensures { result ≡ is_open jobs.now i }
 {
     jobs.iter().any(|j| same_job(i, j.id) && !j.finished)
 }
@@ -29,19 +31,29 @@ fn least_number(jobs: &[Job]) -> u64
     least
 }
 
-/// One of these jobs, of which none has a number below the least, has the name and isn't done. Where their numbers follow one
-/// another, it stands where it is looked for first.
-#[tactic(auto, using(crate::proofs::OpenJobs::any_in_parts))]
-fn is_open(jobs: &[Job], least: u64, i: JobId) -> bool
-    requires { IsTrue (list_all (λ j. nat_le least j.id.num) jobs.now) }
-    ensures { result ≡ list_any (λ j. words.same_job i j.id && not j.finished) jobs.now }
+/// A number below which no job has its own that isn't done.
+#[tactic(auto, using(crate::proofs::OpenJobs::none_unfinished_below))]
+fn least_unfinished(core: &Core) -> u64
+    ensures { IsLeast core.now result }
 {
-    if i.num < least {
-        return false;
-    }
-    let at = ((i.num - least) as usize).min(jobs.len());
-    let (before, behind) = jobs.split_at(at);
+    least_number(core.jobs.pending())
+}
+
+/// One of these jobs has the name and isn't done. It is looked for from a position on first.
+#[tactic(auto, using(crate::proofs::OpenJobs::any_in_parts))]
+fn has_unfinished_near(jobs: &[Job], at: usize, i: JobId) -> bool
+    ensures { result ≡ is_open jobs.now i }
+{
+    let (before, behind) = jobs.split_at(at.min(jobs.len()));
     has_unfinished(behind, i) || has_unfinished(before, i)
+}
+
+/// The job isn't done. Where the numbers of the pending jobs follow one another, it stands where it is looked for first.
+fn is_open(core: &Core, least: u64, i: JobId) -> bool
+    requires { IsLeast core.now least }
+    ensures { result ≡ words.is_unfinished core.now i }
+{
+    i.num >= least && has_unfinished_near(core.jobs.pending(), (i.num - least) as usize, i)
 }
 
 /// The job isn't done.
@@ -55,11 +67,10 @@ pub fn is_unfinished(core: &Core, i: JobId) -> bool
 pub fn unfinished(alloc: Global, core: &Core, jobs: &[JobId]) -> Result<JobIds, NoMemory>
     ensures { IfOk result (λ left. left ≡ words.unfinished core.now jobs.now) }
 {
-    let pending = core.jobs.pending();
-    let least = least_number(pending);
+    let least = least_unfinished(core);
     let mut left = JobIds::new(alloc);
     for i in jobs {
-        if is_open(pending, least, *i) {
+        if is_open(core, least, *i) {
             left.push(*i)?;
         }
     }
@@ -83,68 +94,190 @@ fn named_last(named: Option<JobId>, i: JobId) -> JobId
     }
 }
 
+/// The one that is named of those before them and of these.
+fn named_of(named: Option<JobId>, last: Option<JobId>) -> Option<JobId>
+    ensures { result ≡ named_of named last }
+{
+    match last {
+        Some(i) => Some(named_last(named, i)),
+        None => named,
+    }
+}
+
+/// The last of a run's jobs that isn't done: the named one, since their context is the same.
+fn last_open(core: &Core, least: u64, run: JobRun) -> Option<JobId>
+    requires least { IsLeast core.now least }
+    requires fits { IsTrue (fits run) }
+    ensures { result ≡ words.waited_for core.now (jobs_of_run run) }
+{
+    let closed = least.saturating_sub(run.first);
+    let mut left = run.count;
+    while left > closed {
+        left -= 1;
+        let i = JobId {
+            ctx: run.ctx,
+            num: run.first + left,
+        };
+        if is_open(core, least, i) {
+            return Some(i);
+        }
+    }
+    None
+}
+
 /// The unfinished job to wait for among these.
-pub fn waited_for(core: &Core, jobs: &[JobId]) -> Option<JobId>
+pub fn waited_for(core: &Core, jobs: &JobIds) -> Option<JobId>
     ensures { result ≡ words.waited_for core.now jobs.now }
 {
-    let pending = core.jobs.pending();
-    let least = least_number(pending);
+    let least = least_unfinished(core);
     let mut named = None;
-    for i in jobs {
-        if is_open(pending, least, *i) {
-            named = Some(named_last(named, *i));
-        }
+    for run in jobs.runs() {
+        named = named_of(named, last_open(core, least, *run));
     }
     named
 }
 
-/// A fence of a job that does more than read.
-pub fn changes(fence: Fence) -> bool
-    ensures { result ≡ words.changes fence }
+/// All of the run's jobs are of the row.
+fn is_within(run: JobRun, row: JobRun) -> bool
+    ensures { IsTrue result → (run.ctx ≡ row.ctx) × (row.first ≤ run.first) × (run.first + run.count ≤ row.first + row.count) }
 {
-    match fence.usage {
-        Usage::Kernel | Usage::Write => true,
-        Usage::Read => false,
+    run.ctx == row.ctx
+        && row.first <= run.first
+        && run.first - row.first <= row.count
+        && run.count <= row.count - (run.first - row.first)
+}
+
+/// Puts those of a run's jobs that aren't done behind others, one by one.
+fn push_each_open(jobs: &mut JobIds, core: &Core, least: u64, run: JobRun) -> Result<(), NoMemory>
+    requires least { IsLeast core.now least }
+    requires fits { IsTrue (fits run) }
+    ensures { OnOk result (jobs.new ≡ jobs.old ++ words.unfinished core.now (jobs_of_run run)) }
+{
+    for at in 0..run.count {
+        let i = JobId {
+            ctx: run.ctx,
+            num: run.first + at,
+        };
+        if is_open(core, least, i) {
+            jobs.push(i)?;
+        }
     }
+    Ok(())
+}
+
+/// The run without its first jobs, so many, of which it has more.
+fn behind(run: JobRun, count: u64) -> JobRun
+    requires count { count < run.count }
+    requires fits { IsTrue (fits run) }
+    ensures { result ≡ behind count run }
+{
+    JobRun {
+        ctx: run.ctx,
+        first: run.first + count,
+        count: run.count - count,
+    }
+}
+
+/// Puts those of a run's jobs that aren't done behind others: at once, where all of those that may not be are of the last jobs.
+fn push_open(jobs: &mut JobIds, core: &Core, least: u64, run: JobRun) -> Result<(), NoMemory>
+    requires least { IsLeast core.now least }
+    requires fits { IsTrue (fits run) }
+    ensures { OnOk result (jobs.new ≡ jobs.old ++ words.unfinished core.now (jobs_of_run run)) }
+{
+    let closed = least.saturating_sub(run.first);
+    if run.count <= closed {
+        return Ok(());
+    }
+    let rest = behind(run, closed);
+    if is_within(rest, core.jobs.row()) {
+        jobs.push_run(rest)
+    } else {
+        push_each_open(jobs, core, least, rest)
+    }
+}
+
+/// What is to come of a buffer.
+#[derive(Clone, Copy)]
+pub enum Before {
+    Write,
+    Read,
+}
+
+/// Jobs that use the buffer so must be done before: to read it, not those that only read.
+fn counts(before: Before, usage: Usage) -> bool
+    ensures { result ≡ counts_by before usage }
+{
+    match before {
+        Before::Write => true,
+        Before::Read => match usage {
+            Usage::Kernel | Usage::Write => true,
+            Usage::Read => false,
+        },
+    }
+}
+
+/// The jobs of these fences that must be done before.
+fn jobs_of(before: Before, run: FenceRun) -> JobRun
+    ensures jobs { jobs_of_run result ≡ jobs_before before (fences_of_run run) }
+    ensures fits { IsTrue (is_whole run) → IsTrue (fits result) }
+{
+    if counts(before, run.usage) {
+        run.jobs
+    } else {
+        JobRun {
+            ctx: 0,
+            first: 0,
+            count: 0,
+        }
+    }
+}
+
+/// The jobs that must be done before a buffer is written or read.
+fn jobs_before(alloc: Global, buffer: &Buffer, before: Before) -> Result<JobIds, NoMemory>
+    ensures { IfOk result (λ jobs. jobs ≡ jobs_before before buffer.now.fences) }
+{
+    let mut jobs = JobIds::new(alloc);
+    for run in buffer.fences.runs() {
+        jobs.push_run(jobs_of(before, *run))?;
+    }
+    Ok(jobs)
 }
 
 /// The jobs that must be done before the buffer is written, or moved.
+#[tactic(auto, using(crate::proofs::BeforeLaws::write_is))]
 pub fn jobs_before_write(alloc: Global, buffer: &Buffer) -> Result<JobIds, NoMemory>
     ensures { IfOk result (λ jobs. jobs ≡ words.jobs_before_write buffer.now) }
 {
-    let mut jobs = JobIds::new(alloc);
-    for f in buffer.fences.items() {
-        jobs.push(f.job)?;
-    }
-    Ok(jobs)
+    jobs_before(alloc, buffer, Before::Write)
 }
 
 /// The jobs that must be done before it is read.
+#[tactic(auto, using(crate::proofs::BeforeLaws::read_is))]
 pub fn jobs_before_read(alloc: Global, buffer: &Buffer) -> Result<JobIds, NoMemory>
     ensures { IfOk result (λ jobs. jobs ≡ words.jobs_before_read buffer.now) }
 {
+    jobs_before(alloc, buffer, Before::Read)
+}
+
+/// Those of the jobs before a buffer is written or read that aren't done.
+fn unfinished_before(
+    alloc: Global,
+    core: &Core,
+    buffer: &Buffer,
+    before: Before,
+) -> Result<JobIds, NoMemory>
+    ensures { IfOk result (λ jobs. jobs ≡ words.unfinished core.now (jobs_before before buffer.now.fences)) }
+{
+    let least = least_unfinished(core);
     let mut jobs = JobIds::new(alloc);
-    for f in buffer.fences.items() {
-        if changes(*f) {
-            jobs.push(f.job)?;
-        }
+    for run in buffer.fences.runs() {
+        push_open(&mut jobs, core, least, jobs_of(before, *run))?;
     }
     Ok(jobs)
 }
 
-/// The fences of a buffer that are to be looked at for jobs that aren't done: none, where no job is pending.
-fn fences_to_look_at<'a>(core: &Core, buffer: &'a Buffer) -> &'a [Fence]
-    ensures write { words.unfinished core.now (map (λ f. f.job) result.now) ≡ words.unfinished core.now (words.jobs_before_write buffer.now) }
-    ensures read { words.unfinished core.now (map (λ f. f.job) (filter words.changes result.now)) ≡ words.unfinished core.now (words.jobs_before_read buffer.now) }
-{
-    if core.jobs.pending().is_empty() {
-        &[]
-    } else {
-        buffer.fences.items()
-    }
-}
-
 /// Those of the jobs before the buffer is written, or moved, that aren't done.
+#[tactic(auto, using(crate::proofs::BeforeLaws::write_is))]
 pub fn unfinished_before_write(
     alloc: Global,
     core: &Core,
@@ -152,19 +285,11 @@ pub fn unfinished_before_write(
 ) -> Result<JobIds, NoMemory>
     ensures { IfOk result (λ jobs. jobs ≡ words.unfinished core.now (words.jobs_before_write buffer.now)) }
 {
-    let fences = fences_to_look_at(core, buffer);
-    let pending = core.jobs.pending();
-    let least = least_number(pending);
-    let mut jobs = JobIds::new(alloc);
-    for f in fences {
-        if is_open(pending, least, f.job) {
-            jobs.push(f.job)?;
-        }
-    }
-    Ok(jobs)
+    unfinished_before(alloc, core, buffer, Before::Write)
 }
 
 /// Those of the jobs before it is read that aren't done.
+#[tactic(auto, using(crate::proofs::BeforeLaws::read_is))]
 pub fn unfinished_before_read(
     alloc: Global,
     core: &Core,
@@ -172,48 +297,35 @@ pub fn unfinished_before_read(
 ) -> Result<JobIds, NoMemory>
     ensures { IfOk result (λ jobs. jobs ≡ words.unfinished core.now (words.jobs_before_read buffer.now)) }
 {
-    let fences = fences_to_look_at(core, buffer);
-    let pending = core.jobs.pending();
-    let least = least_number(pending);
-    let mut jobs = JobIds::new(alloc);
-    for f in fences {
-        if changes(*f) && is_open(pending, least, f.job) {
-            jobs.push(f.job)?;
-        }
+    unfinished_before(alloc, core, buffer, Before::Read)
+}
+
+/// The unfinished job to wait for before a buffer is written or read.
+fn waited_before(core: &Core, buffer: &Buffer, before: Before) -> Option<JobId>
+    ensures { result ≡ words.waited_for core.now (jobs_before before buffer.now.fences) }
+{
+    let least = least_unfinished(core);
+    let mut named = None;
+    for run in buffer.fences.runs() {
+        named = named_of(named, last_open(core, least, jobs_of(before, *run)));
     }
-    Ok(jobs)
+    named
 }
 
 /// The unfinished job to wait for before the buffer is written, or moved. It takes no memory.
+#[tactic(auto, using(crate::proofs::BeforeLaws::write_is))]
 pub fn waited_before_write(core: &Core, buffer: &Buffer) -> Option<JobId>
     ensures { result ≡ words.waited_for core.now (words.jobs_before_write buffer.now) }
 {
-    let fences = fences_to_look_at(core, buffer);
-    let pending = core.jobs.pending();
-    let least = least_number(pending);
-    let mut named = None;
-    for f in fences {
-        if is_open(pending, least, f.job) {
-            named = Some(named_last(named, f.job));
-        }
-    }
-    named
+    waited_before(core, buffer, Before::Write)
 }
 
 /// The unfinished job to wait for before the buffer is read. It takes no memory.
+#[tactic(auto, using(crate::proofs::BeforeLaws::read_is))]
 pub fn waited_before_read(core: &Core, buffer: &Buffer) -> Option<JobId>
     ensures { result ≡ words.waited_for core.now (words.jobs_before_read buffer.now) }
 {
-    let fences = fences_to_look_at(core, buffer);
-    let pending = core.jobs.pending();
-    let least = least_number(pending);
-    let mut named = None;
-    for f in fences {
-        if changes(*f) && is_open(pending, least, f.job) {
-            named = Some(named_last(named, f.job));
-        }
-    }
-    named
+    waited_before(core, buffer, Before::Read)
 }
 
 /// All jobs of the buffer are done.

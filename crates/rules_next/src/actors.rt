@@ -1,4 +1,4 @@
-ghost use Rattle.std.specs.Prelude.{◌≡◌, ◌+◌, ◌<◌, ◌^◌, ◌==◌, ◌&&◌, [], IfOk, Ok, find, not, option_copied};
+ghost use Rattle.std.specs.Prelude.{◌≡◌, ◌+◌, ◌<◌, ◌^◌, ◌==◌, ◌&&◌, [], IfOk, IfSome, Ok, find, not, option_copied};
 ghost use Rattle.journal_model.specs.declared.script.Command.TheVariants as command;
 ghost use Rattle.journal_model.specs.declared.entry.Kind.TheVariants as kind;
 ghost use Rattle.journal_model.specs.declared.entry.Shown.TheVariants as shown;
@@ -7,11 +7,12 @@ ghost use Rattle.journal_model.specs.State.{buffer};
 ghost use Rattle.journal_model.specs.Waits.{waited_for, jobs_before_read};
 ghost use Rattle.journal_model.specs.PageSteps.{unless_waiting};
 ghost use Rattle.journal_model.specs.Next as words;
+ghost use Rattle.rules_holds.specs.Marked.{AreFrames};
 ghost use Rattle.rules_search.specs.Room.{HasRoom};
 
 use crate::tasks::task_of_command;
 use journal_model::{Aim, Bytes, Command, Course, Job, Kind, Script, Shown, State, Task};
-use rules_holds::{is_idle, waited_before_read, waited_for};
+use rules_holds::{FrameMarks, is_idle, waited_before_read, waited_for};
 use rules_search::{
     Step, Swap, next_ghost, next_job, once_idle, step_of_empty, step_of_fill, step_of_give_back,
     step_of_move, step_of_quest, swap_out, unless_waiting,
@@ -187,11 +188,13 @@ fn step_of_task(
     alloc: Global,
     script: &Script,
     state: &State,
+    frames: Option<&FrameMarks>,
     course: &Course,
     command: &Command,
     task: Task,
 ) -> Result<Step, NoMemory>
-    requires { HasRoom script.now state.now }
+    requires room { HasRoom script.now state.now }
+    requires frames { IfSome (option_copied frames) (AreFrames script.now state.now.core) }
     ensures { IfOk result (λ step. step ≡ words.step_of_task script.now state.now course.now command.now task) }
 {
     match task {
@@ -203,7 +206,7 @@ fn step_of_task(
         Task::Bind(b) => Ok(Ok(Kind::Bind { b })),
         Task::Unbind(b) => Ok(once_idle(alloc, &state.core, b, Kind::Unbind { b })),
         Task::Move { b, mem } => Ok(step_of_move(script, state, course, b, mem)),
-        Task::Fill(b) => step_of_fill(alloc, script, state, b),
+        Task::Fill(b) => step_of_fill(alloc, script, state, frames, b),
         Task::Empty(b) => step_of_empty(alloc, script, state, course, b),
         Task::GiveBack(b) => Ok(step_of_give_back(alloc, state, b)),
         Task::Skip(b) => Ok(Ok(Kind::Skip { b })),
@@ -217,9 +220,11 @@ fn step_of_thread(
     alloc: Global,
     script: &Script,
     state: &State,
+    frames: Option<&FrameMarks>,
     thread: u32,
 ) -> Result<Step, NoMemory>
-    requires { HasRoom script.now state.now }
+    requires room { HasRoom script.now state.now }
+    requires frames { IfSome (option_copied frames) (AreFrames script.now state.now.core) }
     ensures { IfOk result (λ step. step ≡ words.step_of_thread script.now state.now thread) }
 {
     match (
@@ -228,7 +233,7 @@ fn step_of_thread(
     ) {
         (Some(course), Some(command)) => {
             let task = task_of_command(alloc, script, state, course, command)?;
-            step_of_task(alloc, script, state, course, command, task)
+            step_of_task(alloc, script, state, frames, course, command, task)
         }
         _ => Ok(Err(Need::NoCommand)),
     }
@@ -254,7 +259,7 @@ fn step_of_job(alloc: Global, state: &State, job: &Job) -> Step
 {
     let num = job.id.num;
     if (job.ran as usize) < job.packets.len() {
-        let need = waited_for(&state.core, job.waits.items());
+        let need = waited_for(&state.core, &job.waits);
         unless_waiting(
             need,
             Kind::Packet {
@@ -284,14 +289,35 @@ fn step_of_reaper(state: &State) -> Step
 {
     match state.core.ghosts.items().first() {
         None => Err(Need::NoGhost),
-        Some(g) => unless_waiting(
-            waited_for(&state.core, g.jobs.items()),
-            Kind::Reap { g: g.num },
-        ),
+        Some(g) => unless_waiting(waited_for(&state.core, &g.jobs), Kind::Reap { g: g.num }),
     }
 }
 
-/// The entry that an actor makes next, or what it needs first. The bytes that a read or a probe shows are left empty.
+/// The entry that an actor makes next, or what it needs first. The bytes that a read or a probe shows are left empty. The marks are
+/// those of the frames that are held in the state; without them, a step that takes a frame marks them anew.
+///
+/// # Errors
+///
+/// Want of memory; nothing is changed.
+pub fn next_with(
+    alloc: Global,
+    script: &Script,
+    state: &State,
+    frames: Option<&FrameMarks>,
+    who: Actor,
+) -> Result<Step, NoMemory>
+    requires room { HasRoom script.now state.now }
+    requires frames { IfSome (option_copied frames) (AreFrames script.now state.now.core) }
+    ensures { IfOk result (λ step. step ≡ words.next script.now state.now who) }
+{
+    match who {
+        Actor::Thread(thread) => step_of_thread(alloc, script, state, frames, thread),
+        Actor::Engine(engine) => Ok(step_of_engine(alloc, state, engine)),
+        Actor::Reaper => Ok(step_of_reaper(state)),
+    }
+}
+
+/// The same, where no marks are kept.
 ///
 /// # Errors
 ///
@@ -300,9 +326,5 @@ pub fn next(alloc: Global, script: &Script, state: &State, who: Actor) -> Result
     requires { HasRoom script.now state.now }
     ensures { IfOk result (λ step. step ≡ words.next script.now state.now who) }
 {
-    match who {
-        Actor::Thread(thread) => step_of_thread(alloc, script, state, thread),
-        Actor::Engine(engine) => Ok(step_of_engine(alloc, state, engine)),
-        Actor::Reaper => Ok(step_of_reaper(state)),
-    }
+    next_with(alloc, script, state, None, who)
 }

@@ -6,5 +6,5 @@ mod actors;
 mod ready;
 mod tasks;
 
-pub use actors::next;
+pub use actors::{next, next_with};
 pub use tasks::{stage_of, task_of};

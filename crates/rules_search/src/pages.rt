@@ -1,15 +1,17 @@
-ghost use Rattle.std.specs.Prelude.{◌≡◌, ◌+◌, ◌<◌, ◌≤◌, ◌^◌, IfOk, IfSome, None, Some, find, if◌then◌else◌, length, not, position};
+ghost use Rattle.std.specs.Prelude.{◌≡◌, ◌+◌, ◌<◌, ◌≤◌, ◌^◌, IfOk, IfSome, None, Some, find, if◌then◌else◌, length, not, option_copied, position};
 ghost use Rattle.journal_model.specs.State as states;
 ghost use Rattle.journal_model.specs.Places.{is_frame, loc_of};
 ghost use Rattle.journal_model.specs.Dry.{has_frame};
+ghost use Rattle.journal_model.specs.Holds as holds;
 ghost use Rattle.journal_model.specs.PageSteps as words;
+ghost use Rattle.rules_holds.specs.Marked.{AreFrames};
 ghost use Rattle.rules_search.specs.Room.{HasRoom};
 ghost use Rattle.rules_search.specs.Swaps.{IsSwap};
 
 use crate::Step;
 use crate::dry::{ghost_with_frame, has_frame, swap_victim};
 use journal_model::{Buffer, Core, Course, Kind, Left, Script, State, Victim, Why};
-use rules_holds::{free_frame, free_slot, waited_before_write};
+use rules_holds::{FrameMarks, free_frame, free_slot, waited_before_write};
 use rules_state::{buffer_in, dead_buffer, has_target, is_caught, is_frame, loc_of, same_buffer};
 use std::alloc::Global;
 use ttm_base::{BufId, JobId, Loc, Mem, Need, NoMemory};
@@ -108,17 +110,36 @@ fn filled_with(alloc: Global, core: &Core, b: BufId, frame: u32) -> Kind
     filled_by(b, page, frame, loc_of(buffer, page))
 }
 
-/// The next page with the lowest free frame; without one, a victim for swap.
+/// The lowest free frame, by its marks where there are some.
+fn frame_to_give(
+    alloc: Global,
+    script: &Script,
+    core: &Core,
+    frames: Option<&FrameMarks>,
+) -> Result<Option<u32>, NoMemory>
+    requires { IfSome (option_copied frames) (AreFrames script.now core.now) }
+    ensures { IfOk result (λ frame. frame ≡ holds.free_frame script.now core.now) }
+{
+    match frames {
+        Some(marks) => Ok(marks.lowest()),
+        None => free_frame(alloc, script, core),
+    }
+}
+
+/// The next page with the lowest free frame; without one, a victim for swap. The frames that are held are marked anew where no marks
+/// are given.
 pub fn step_of_fill(
     alloc: Global,
     script: &Script,
     state: &State,
+    frames: Option<&FrameMarks>,
     b: BufId,
 ) -> Result<Step, NoMemory>
-    requires { HasRoom script.now state.now }
+    requires room { HasRoom script.now state.now }
+    requires frames { IfSome (option_copied frames) (AreFrames script.now state.now.core) }
     ensures { IfOk result (λ step. step ≡ words.step_of_fill script.now state.now b) }
 {
-    match free_frame(alloc, script, &state.core)? {
+    match frame_to_give(alloc, script, &state.core, frames)? {
         Some(frame) => Ok(Ok(filled_with(alloc, &state.core, b, frame))),
         None => step_without_frame(alloc, script, state, b),
     }

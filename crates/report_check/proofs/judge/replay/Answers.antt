@@ -1,8 +1,9 @@
-use Rattle.std.proofs.Common.{◌≡◌, ◌^◌, ◌<◌, length, Some, refl, subst, arith}
-use Rattle.std.specs.Prelude.{slice_get}
+use Rattle.std.proofs.Common.{◌≡◌, ◌^◌, ◌<◌, length, Some, refl, sym, subst, arith}
+use Rattle.std.specs.Prelude.{IfSome, slice_get}
 use Rattle.std.proofs.lemmas.Option.{slice_get_read}
 use Rattle.law_state.proofs.Rules.{rules_of}
 use Rattle.journal_model.specs.Legal.{World}
+use Rattle.rules_holds.specs.Marked.{AreFrames}
 use Rattle.rules_stores.specs.Kept.{bytes_of}
 use Rattle.plain_device.proofs.EnactLaws.{can_store}
 use Rattle.report_check.specs.Judged.{IsJudged}
@@ -10,13 +11,22 @@ use Rattle.report_check.proofs.ReplayLaws.{room, ready, held_next, bad_at, held_
 use Rattle.report_check.proofs.judge.replay.Goals as goal
 
 pub loop-at-init : goal.loop-at-init
-loop-at-init c = held_first c.args.script.now c.args.journal.now c.in_ok-state.state c.in_ok-stores.stores c.requires c.in_ok-state.ensures c.in_ok-stores.ensures.sizes c.in_ok-stores.ensures.bytes
+loop-at-init c = record {
+  held = held_first c.args.script.now c.args.journal.now c.in_ok-state.state c.in_ok-stores.stores c.requires c.in_ok-state.ensures c.in_ok-stores.ensures.sizes c.in_ok-stores.ensures.bytes;
+  kept = tt;
+}
 
-pub fault_of-requires : goal.fault_of-requires
-fault_of-requires c =
+pub marks_for-requires : goal.marks_for-requires
+marks_for-requires c = c.loop-at.invariant.kept
+
+pub fault_of-requires-clause-room : goal.fault_of-requires-clause-room
+fault_of-requires-clause-room c =
     let less : c.loop-at.at < length c.args.journal.now = omega arith in
     let most : length c.args.journal.now < 2 ^ 64 = omega arith in
-    room c.args.script.now c.args.journal.now c.loop-at.at c.loop-at.state c.loop-at.stores c.loop-at.invariant less most
+    room c.args.script.now c.args.journal.now c.loop-at.at c.loop-at.state c.loop-at.stores c.loop-at.invariant.held less most
+
+pub fault_of-requires-clause-frames : goal.fault_of-requires-clause-frames
+fault_of-requires-clause-frames c = subst (λ o. IfSome o (AreFrames c.args.script.now c.loop-at.state.core)) (sym c.as_ref.ensures.value) c.in_ok-frames.ensures
 
 pub returns-in-Some : goal.returns-in-Some
 returns-in-Some c =
@@ -24,7 +34,7 @@ returns-in-Some c =
     let e = c.index-journal-at.result in
     let w : World = record { state = c.loop-at.state; stores = bytes_of c.loop-at.stores } in
     let there : slice_get c.args.journal.now c.loop-at.at ≡ Some e = slice_get_read c.args.journal.now (length c.args.journal.now) c.loop-at.at e refl less c.index-journal-at.is in
-    bad_at c.args.script.now c.args.journal.now c.loop-at.at c.loop-at.state c.loop-at.stores c.loop-at.invariant e _ c.in-Some.fault there refl
+    bad_at c.args.script.now c.args.journal.now c.loop-at.at c.loop-at.state c.loop-at.stores c.loop-at.invariant.held e _ c.in-Some.fault there refl
     (subst (IsJudged c.args.script.now w e) c.in-Some.is c.in_ok-fault.ensures)
 
 pub enact-requires-clause-ready : goal.enact-requires-clause-ready
@@ -33,7 +43,7 @@ enact-requires-clause-ready c =
     let most : length c.args.journal.now < 2 ^ 64 = omega arith in
     let e = c.index-journal-at.result in
     let w : World = record { state = c.loop-at.state; stores = bytes_of c.loop-at.stores } in
-    ready c.args.script.now c.args.journal.now c.loop-at.at c.loop-at.state c.loop-at.stores c.loop-at.invariant less most e
+    ready c.args.script.now c.args.journal.now c.loop-at.at c.loop-at.state c.loop-at.stores c.loop-at.invariant.held less most e
     (subst (IsJudged c.args.script.now w e) c.in_default.is c.in_ok-fault.ensures)
 
 pub enact-requires-clause-short : goal.enact-requires-clause-short
@@ -45,5 +55,11 @@ loop-at-preserved c =
     let e = c.index-journal-at.result in
     let w : World = record { state = c.loop-at.state; stores = bytes_of c.loop-at.stores } in
     let there : slice_get c.args.journal.now c.loop-at.at ≡ Some e = slice_get_read c.args.journal.now (length c.args.journal.now) c.loop-at.at e refl less c.index-journal-at.is in
-    held_next c.args.script.now c.args.journal.now c.loop-at.at c.loop-at.state c.loop-at.stores c.loop-at.invariant e c.enact.new.state c.enact.new.stores there
-    (subst (IsJudged c.args.script.now w e) c.in_default.is c.in_ok-fault.ensures) c.in_ok-enact.ensures.state c.in_ok-enact.ensures.bytes
+    record {
+      held =
+          held_next c.args.script.now c.args.journal.now c.loop-at.at c.loop-at.state c.loop-at.stores c.loop-at.invariant.held e c.enact.new.state c.enact.new.stores there
+          (subst (IsJudged c.args.script.now w e) c.in_default.is c.in_ok-fault.ensures) c.in_ok-enact.ensures.state c.in_ok-enact.ensures.bytes;
+      kept =
+          subst (λ s. IfSome c.marks_after-kept.result (AreFrames c.args.script.now s.core)) (sym c.in_ok-enact.ensures.state)
+          (c.marks_after-kept.ensures c.args.script.now c.in_ok-frames.ensures);
+    }

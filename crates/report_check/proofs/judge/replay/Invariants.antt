@@ -1,8 +1,12 @@
-use Rattle.std.specs.Prelude.{take}
+use Rattle.std.specs.Prelude.{IfSome, take}
+use Rattle.rules_holds.specs.Marked.{AreFrames}
 use Rattle.rules_stores.specs.Kept.{bytes_of}
 use Rattle.plain_device.specs.Held.{IsHeld}
 use Rattle.report_check.proofs.judge.replay.Given as goal
 
--- state and bytes are those of the entries so far, which are legal
+-- state and bytes are those of the entries so far, which are legal; marks that are kept are the state's
 abbrev pub invariant-loop-at : goal.invariant-loop-at
-invariant-loop-at l = IsHeld l.script (take l.at l.journal) l.state l.stores.sizes (bytes_of l.stores)
+invariant-loop-at l = record {
+  held : IsHeld l.script (take l.at l.journal) l.state l.stores.sizes (bytes_of l.stores);
+  kept : IfSome l.kept (AreFrames l.script l.state.core);
+}

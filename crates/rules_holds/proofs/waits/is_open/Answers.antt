@@ -1,6 +1,6 @@
-use Rattle.std.proofs.Common.{sym}
-use Rattle.rules_holds.proofs.OpenJobs.{none_below}
+use Rattle.std.proofs.Common.{◌∙◌}
+use Rattle.rules_state.proofs.PendingJobs.{unfinished_pending}
 use Rattle.rules_holds.proofs.waits.is_open.Goals as goal
 
 pub returns-then-i-least : goal.returns-then-i-least
-returns-then-i-least c = sym (none_below c.args.least c.args.i c.args.jobs.now c.if-i-least.true c.requires)
+returns-then-i-least c = c.has_unfinished_near.ensures ∙ unfinished_pending c.args.i c.args.core.now.jobs c.pending.result.now c.pending.ensures

@@ -1,6 +1,8 @@
 use Rattle.std.proofs.Common.{◌≡◌, take}
+use Rattle.std.specs.Prelude.{flat_map}
+use Rattle.journal_model.specs.JobRuns.{jobs_of_run}
 use Rattle.journal_model.specs.Waits.{waited_for}
 use Rattle.rules_holds.proofs.waits.waited_for.Given as goal
 
-abbrev pub invariant-loop-i : goal.invariant-loop-i
-invariant-loop-i l = l.named ≡ waited_for l.core (take l.i-index l.jobs)
+abbrev pub invariant-loop-run : goal.invariant-loop-run
+invariant-loop-run l = l.named ≡ waited_for l.core (flat_map jobs_of_run (take l.run-index l.run-items))

@@ -1,7 +1,0 @@
-use Rattle.std.proofs.Common.{◌≡◌, take}
-use Rattle.std.specs.Prelude.{map}
-use Rattle.journal_model.specs.Waits.{waited_for}
-use Rattle.rules_holds.proofs.waits.waited_before_write.Given as goal
-
-abbrev pub invariant-loop-f : goal.invariant-loop-f
-invariant-loop-f l = l.named ≡ waited_for l.core (map (λ f. f.job) (take l.f-index l.fences))
