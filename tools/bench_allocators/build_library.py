@@ -50,6 +50,14 @@ def copy_crates(room):
             file.write(text)
 
 
+def modules_in(folder):
+    """The modules of tries that are there; none where one goes while it is looked for."""
+    try:
+        return list(folder.glob("*/*/module.bc"))
+    except FileNotFoundError:
+        return []
+
+
 def catch_module(room):
     """The module of a try: a file that is there for a moment, and is kept by a link of ours. Of several the largest is the program's."""
     temporary, links = room / "tmp", []
@@ -60,7 +68,7 @@ def catch_module(room):
     tried = subprocess.Popen(["rt", "try"], cwd=room / "crates/mm_c", env=environment, **files)
     seen = set()
     while tried.poll() is None:
-        for module in temporary.glob("*/*/module.bc"):
+        for module in modules_in(temporary):
             if module not in seen:
                 seen.add(module)
                 link = room / f"module{len(seen)}.bc"
