@@ -5,10 +5,11 @@ ghost use Rattle.std.specs.Vec.{vec_len, vec_capacity};
 ghost use Rattle.ttm_base.specs.Holes.{has_page};
 ghost use Rattle.ttm_base.specs.declared.Mode.TheVariants.{Best, Low, High};
 ghost use Rattle.hole_tree.specs.Choosing.{chosen_hole};
+ghost use Rattle.hole_tree.specs.Leans.{IsBlank};
 ghost use Rattle.hole_tree.specs.HoleSet.{is_apart, starts_at, with_hole, without};
 ghost use Rattle.hole_tree.specs.Rising.{EndsBy};
 
-use crate::order::Order;
+use crate::lengths::{Entry, Lengths, Taken};
 use crate::request::Request;
 use crate::tree::{Node, Tree};
 use std::alloc::Global;
@@ -21,7 +22,7 @@ use ttm_base::{Mode, NoMemory, Span};
 /// are kept beside them.
 pub struct Holes {
     by_start: Tree,
-    by_length: Tree,
+    by_length: Lengths,
     count: usize,
     spare: Vec<Nodes>,
 }
@@ -42,7 +43,8 @@ impl Drop for Holes {
 #[derive(Drop)]
 struct Nodes {
     by_start: Box<Node>,
-    by_length: Box<Node>,
+    by_length: Box<Entry>,
+    ghost blank: { IsBlank by_length.value },
 }
 
 impl Model for Holes {
@@ -66,7 +68,7 @@ impl Holes {
     {
         Holes {
             by_start: Tree::new(),
-            by_length: Tree::new(),
+            by_length: Lengths::new(),
             count: 0,
             spare: Vec::new(alloc),
         }
@@ -103,13 +105,17 @@ impl Holes {
     {
         // (the room of the spare nodes bounds the number of holes)
         let _room = self.spare.capacity();
-        let Some(mut nodes) = self.spare.pop() else {
+        let Some(nodes) = self.spare.pop() else {
             unreachable!()
         };
-        nodes.by_start.hole = hole;
-        nodes.by_length.hole = hole;
-        self.by_start.insert(Order::ByStart, nodes.by_start);
-        self.by_length.insert(Order::ByLength, nodes.by_length);
+        let Nodes {
+            mut by_start,
+            mut by_length,
+        } = nodes;
+        by_start.hole = hole;
+        by_length.hole = hole;
+        self.by_start.insert(by_start);
+        self.by_length.insert(by_length);
         self.count += 1;
     }
 
@@ -121,9 +127,13 @@ impl Holes {
         ensures spare { self.new.spare ≡ self.old.spare + 1 }
     {
         let begins = Span { start, end: start };
-        let by_start = self.by_start.take(Order::ByStart, begins);
+        let by_start = self.by_start.take(begins);
         let hole = by_start.hole;
-        let by_length = self.by_length.take(Order::ByLength, hole);
+        let taken = self.by_length.take(hole);
+        let Taken {
+            entry: by_length,
+            lower: _,
+        } = taken;
         self.count -= 1;
         keep(
             &mut self.spare,
@@ -146,9 +156,13 @@ impl Holes {
         ensures spare { self.new.spare ≡ self.old.spare }
     {
         self.by_start.resize(from.start, to);
-        let mut node = self.by_length.take(Order::ByLength, from);
+        let taken = self.by_length.take(from);
+        let Taken {
+            entry: mut node,
+            lower: _,
+        } = taken;
         node.hole = to;
-        self.by_length.insert(Order::ByLength, node);
+        self.by_length.insert(node);
     }
 
     /// The hole that has a page.
@@ -216,14 +230,14 @@ impl Holes {
         ensures cost { align ≡ 1 → first ≡ 0 → EndsBy last self.now.holes → 2 ^ (steps.new - steps.old) ≤ (length self.now.holes + 1) * (length self.now.holes + 1) }
     {
         // (its levels bound the steps)
-        let _levels = self.by_length.height();
+        self.by_length.balanced();
         let request = Request {
             pages,
             align,
             first,
             last,
         };
-        self.by_length.first(Order::ByLength, request, steps)
+        self.by_length.first(request, steps).copied()
     }
 
     /// The lowest such hole, where a step is a node that is opened.
@@ -248,7 +262,7 @@ impl Holes {
             first,
             last,
         };
-        self.by_start.first(Order::ByStart, request, steps)
+        self.by_start.first(request, steps)
     }
 
     /// The highest such hole, where a step is a node that is opened.
@@ -286,8 +300,8 @@ impl Holes {
     {
         let mut steps = Steps::<L>::new(blank);
         match mode {
-            Mode::Best => self.by_length.first(Order::ByLength, request, &mut steps),
-            Mode::Low => self.by_start.first(Order::ByStart, request, &mut steps),
+            Mode::Best => self.by_length.first(request, &mut steps).copied(),
+            Mode::Low => self.by_start.first(request, &mut steps),
             Mode::High => self.by_start.highest(request, &mut steps),
         }
     }
@@ -304,7 +318,7 @@ fn fill(spare: &mut Vec<Nodes>, n: usize) -> Result<(), NoMemory>
     let alloc = *spare.allocator();
     for _i in spare.len()..n {
         let by_start = Box::new(alloc, Node::blank())?;
-        let by_length = Box::new(alloc, Node::blank())?;
+        let by_length = Box::new(alloc, Entry::blank())?;
         spare.push(Nodes {
             by_start,
             by_length,

@@ -2,6 +2,8 @@
 #![tactic(auto)]
 
 mod holes;
+mod lean;
+mod lengths;
 mod order;
 mod request;
 mod search;
