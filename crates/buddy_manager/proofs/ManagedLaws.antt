@@ -56,7 +56,7 @@ pub record AreKept (n pages : ℕ) (hs : List Span) : Type 0 where
   pub by : AllBy n hs
   pub count : pages_of hs ≡ pages
 
-pub with_free : (f : ℕ → Bool) (hs : List Span) (b : Span) (page : ℕ) → (f page ≡ true → is_free_beside hs page ≡ true) → less f b page ≡ true → is_free_beside (with_block b hs) page ≡ true
+with_free : (f : ℕ → Bool) (hs : List Span) (b : Span) (page : ℕ) → (f page ≡ true → is_free_beside hs page ≡ true) → less f b page ≡ true → is_free_beside (with_block b hs) page ≡ true
 with_free f hs b page h e = free_with b hs page ∙ two (f page) (is_free_beside hs page) (has_page page b) h e where
   two : (x y t : Bool) → (x ≡ true → y ≡ true) → (x && not t) ≡ true → (y && not t) ≡ true
   two true y t h e = ap (λ y. y && not t) (h refl) ∙ e

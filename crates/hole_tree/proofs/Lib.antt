@@ -1,10 +1,8 @@
 pub mod Around
-pub mod ByLengths
 pub mod Choices
 pub mod Counting
 pub mod Heights
-pub mod LongestNode
-pub mod Leaned
+pub mod Lengths
 pub mod Looking
 pub mod Resizing
 pub mod Rises

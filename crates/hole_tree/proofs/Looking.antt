@@ -5,6 +5,8 @@ use Rattle.std.specs.List.{find}
 use Rattle.std.proofs.lemmas.Bool.{both_ways, le-leb, lt-leb}
 use Rattle.ttm_base.specs.declared.Span.{Span}
 use Rattle.ttm_base.specs.declared.Mode.{Mode}
+use Rattle.hole_tree.specs.declared.order.Order.{Order}
+use Rattle.hole_tree.specs.declared.order.Order.TheVariants.{ByStart}
 use Rattle.hole_tree.specs.declared.request.Request.{Request}
 use Rattle.hole_tree.specs.declared.tree.Node.{Node}
 use Rattle.hole_tree.specs.Longest.{longest}
@@ -32,23 +34,23 @@ shorter_above s n e = let c : length s.spans ≡ length (n.left.spans ++ n.hole 
 
 -- ---- a side that isn't worth a look
 
-known_left : (q : Request) (n : Node) (b : Bool) → IsSound n → b ≡ reaches_left q n.longest_left n.hole → reaches_left q (longest n.left.spans) n.hole ≡ b
-known_left q n b d w = ap (λ x. reaches_left q x n.hole) (sym d.longest_left) ∙ sym w
+known_left : (o : Order) (q : Request) (n : Node) (b : Bool) → IsSound n → b ≡ reaches_left o q n.longest_left n.hole → reaches_left o q (longest n.left.spans) n.hole ≡ b
+known_left o q n b d w = ap (λ x. reaches_left o q x n.hole) (sym d.longest_left) ∙ sym w
 
-known_right : (q : Request) (n : Node) (b : Bool) → IsSound n → b ≡ reaches_right q n.longest_right n.hole → reaches_right q (longest n.right.spans) n.hole ≡ b
-known_right q n b d w = ap (λ x. reaches_right q x n.hole) (sym d.longest_right) ∙ sym w
+known_right : (o : Order) (q : Request) (n : Node) (b : Bool) → IsSound n → b ≡ reaches_right o q n.longest_right n.hole → reaches_right o q (longest n.right.spans) n.hole ≡ b
+known_right o q n b d w = ap (λ x. reaches_right o q x n.hole) (sym d.longest_right) ∙ sym w
 
-pub worth_below : (m : Mode) (q : Request) (s : Shape) (n : Node) (b : Bool) → s ≡ shape_of_node n → IsSound n → IsRising s.spans → b ≡ reaches_left q n.longest_left n.hole → b ≡ false → find (fits m q) n.left.spans ≡ None
-worth_below m q s n b e d h w f = left_none m q n.left.spans n.hole n.right.spans (at_rising s n e h) (known_left q n b d w ∙ f)
+pub worth_below : (o : Order) (m : Mode) (q : Request) (s : Shape) (n : Node) (b : Bool) → s ≡ shape_of_node n → IsSound n → (o ≡ ByStart → IsRising s.spans) → b ≡ reaches_left o q n.longest_left n.hole → b ≡ false → find (fits m q) n.left.spans ≡ None
+worth_below o m q s n b e d h w f = left_none o m q n.left.spans n.hole n.right.spans (λ p. at_rising s n e (h p)) (known_left o q n b d w ∙ f)
 
-pub worth_above : (m : Mode) (q : Request) (s : Shape) (n : Node) (b : Bool) → s ≡ shape_of_node n → IsSound n → IsRising s.spans → b ≡ reaches_right q n.longest_right n.hole → b ≡ false → find (fits m q) n.right.spans ≡ None
-worth_above m q s n b e d h w f = right_none m q n.left.spans n.hole n.right.spans (at_rising s n e h) (known_right q n b d w ∙ f)
+pub worth_above : (o : Order) (m : Mode) (q : Request) (s : Shape) (n : Node) (b : Bool) → s ≡ shape_of_node n → IsSound n → (o ≡ ByStart → IsRising s.spans) → b ≡ reaches_right o q n.longest_right n.hole → b ≡ false → find (fits m q) n.right.spans ≡ None
+worth_above o m q s n b e d h w f = right_none o m q n.left.spans n.hole n.right.spans (λ p. at_rising s n e (h p)) (known_right o q n b d w ∙ f)
 
-pub worth_below_last : (m : Mode) (q : Request) (s : Shape) (n : Node) (b : Bool) → s ≡ shape_of_node n → IsSound n → IsRising s.spans → b ≡ reaches_left q n.longest_left n.hole → b ≡ false → find_last (fits m q) n.left.spans ≡ None
-worth_below_last m q s n b e d h w f = left_none_last m q n.left.spans n.hole n.right.spans (at_rising s n e h) (known_left q n b d w ∙ f)
+pub worth_below_last : (m : Mode) (q : Request) (s : Shape) (n : Node) (b : Bool) → s ≡ shape_of_node n → IsSound n → IsRising s.spans → b ≡ reaches_left ByStart q n.longest_left n.hole → b ≡ false → find_last (fits m q) n.left.spans ≡ None
+worth_below_last m q s n b e d h w f = left_none_last m q n.left.spans n.hole n.right.spans (at_rising s n e h) (known_left ByStart q n b d w ∙ f)
 
-pub worth_above_last : (m : Mode) (q : Request) (s : Shape) (n : Node) (b : Bool) → s ≡ shape_of_node n → IsSound n → IsRising s.spans → b ≡ reaches_right q n.longest_right n.hole → b ≡ false → find_last (fits m q) n.right.spans ≡ None
-worth_above_last m q s n b e d h w f = right_none_last m q n.left.spans n.hole n.right.spans (at_rising s n e h) (known_right q n b d w ∙ f)
+pub worth_above_last : (m : Mode) (q : Request) (s : Shape) (n : Node) (b : Bool) → s ≡ shape_of_node n → IsSound n → IsRising s.spans → b ≡ reaches_right ByStart q n.longest_right n.hole → b ≡ false → find_last (fits m q) n.right.spans ≡ None
+worth_above_last m q s n b e d h w f = right_none_last m q n.left.spans n.hole n.right.spans (at_rising s n e h) (known_right ByStart q n b d w ∙ f)
 
 -- ---- what the whole tree has
 

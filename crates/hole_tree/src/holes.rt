@@ -5,11 +5,10 @@ ghost use Rattle.std.specs.Vec.{vec_len, vec_capacity};
 ghost use Rattle.ttm_base.specs.Holes.{has_page};
 ghost use Rattle.ttm_base.specs.declared.Mode.TheVariants.{Best, Low, High};
 ghost use Rattle.hole_tree.specs.Choosing.{chosen_hole};
-ghost use Rattle.hole_tree.specs.Leans.{IsBlank};
 ghost use Rattle.hole_tree.specs.HoleSet.{is_apart, starts_at, with_hole, without};
 ghost use Rattle.hole_tree.specs.Rising.{EndsBy};
 
-use crate::lengths::{Entry, Lengths, Taken};
+use crate::order::Order;
 use crate::request::Request;
 use crate::tree::{Node, Tree};
 use std::alloc::Global;
@@ -22,7 +21,7 @@ use ttm_base::{Mode, NoMemory, Span};
 /// are kept beside them.
 pub struct Holes {
     by_start: Tree,
-    by_length: Lengths,
+    by_length: Tree,
     count: usize,
     spare: Vec<Nodes>,
 }
@@ -43,8 +42,7 @@ impl Drop for Holes {
 #[derive(Drop)]
 struct Nodes {
     by_start: Box<Node>,
-    by_length: Box<Entry>,
-    ghost blank: { IsBlank by_length.value },
+    by_length: Box<Node>,
 }
 
 impl Model for Holes {
@@ -68,7 +66,7 @@ impl Holes {
     {
         Holes {
             by_start: Tree::new(),
-            by_length: Lengths::new(),
+            by_length: Tree::new(),
             count: 0,
             spare: Vec::new(alloc),
         }
@@ -105,17 +103,13 @@ impl Holes {
     {
         // (the room of the spare nodes bounds the number of holes)
         let _room = self.spare.capacity();
-        let Some(nodes) = self.spare.pop() else {
+        let Some(mut nodes) = self.spare.pop() else {
             unreachable!()
         };
-        let Nodes {
-            mut by_start,
-            mut by_length,
-        } = nodes;
-        by_start.hole = hole;
-        by_length.hole = hole;
-        self.by_start.insert(by_start);
-        self.by_length.insert(by_length);
+        nodes.by_start.hole = hole;
+        nodes.by_length.hole = hole;
+        self.by_start.insert(Order::ByStart, nodes.by_start);
+        self.by_length.insert(Order::ByLength, nodes.by_length);
         self.count += 1;
     }
 
@@ -127,13 +121,9 @@ impl Holes {
         ensures spare { self.new.spare ≡ self.old.spare + 1 }
     {
         let begins = Span { start, end: start };
-        let by_start = self.by_start.take(begins);
+        let by_start = self.by_start.take(Order::ByStart, begins);
         let hole = by_start.hole;
-        let taken = self.by_length.take(hole);
-        let Taken {
-            entry: by_length,
-            lower: _,
-        } = taken;
+        let by_length = self.by_length.take(Order::ByLength, hole);
         self.count -= 1;
         keep(
             &mut self.spare,
@@ -156,13 +146,9 @@ impl Holes {
         ensures spare { self.new.spare ≡ self.old.spare }
     {
         self.by_start.resize(from.start, to);
-        let taken = self.by_length.take(from);
-        let Taken {
-            entry: mut node,
-            lower: _,
-        } = taken;
+        let mut node = self.by_length.take(Order::ByLength, from);
         node.hole = to;
-        self.by_length.insert(node);
+        self.by_length.insert(Order::ByLength, node);
     }
 
     /// The hole that has a page.
@@ -230,14 +216,14 @@ impl Holes {
         ensures cost { align ≡ 1 → first ≡ 0 → EndsBy last self.now.holes → 2 ^ (steps.new - steps.old) ≤ (length self.now.holes + 1) * (length self.now.holes + 1) }
     {
         // (its levels bound the steps)
-        self.by_length.balanced();
+        let _levels = self.by_length.height();
         let request = Request {
             pages,
             align,
             first,
             last,
         };
-        self.by_length.first(request, steps).copied()
+        self.by_length.first(Order::ByLength, request, steps)
     }
 
     /// The lowest such hole, where a step is a node that is opened.
@@ -262,7 +248,7 @@ impl Holes {
             first,
             last,
         };
-        self.by_start.first(request, steps)
+        self.by_start.first(Order::ByStart, request, steps)
     }
 
     /// The highest such hole, where a step is a node that is opened.
@@ -300,8 +286,8 @@ impl Holes {
     {
         let mut steps = Steps::<L>::new(blank);
         match mode {
-            Mode::Best => self.by_length.first(request, &mut steps).copied(),
-            Mode::Low => self.by_start.first(request, &mut steps),
+            Mode::Best => self.by_length.first(Order::ByLength, request, &mut steps),
+            Mode::Low => self.by_start.first(Order::ByStart, request, &mut steps),
             Mode::High => self.by_start.highest(request, &mut steps),
         }
     }
@@ -318,7 +304,7 @@ fn fill(spare: &mut Vec<Nodes>, n: usize) -> Result<(), NoMemory>
     let alloc = *spare.allocator();
     for _i in spare.len()..n {
         let by_start = Box::new(alloc, Node::blank())?;
-        let by_length = Box::new(alloc, Entry::blank())?;
+        let by_length = Box::new(alloc, Node::blank())?;
         spare.push(Nodes {
             by_start,
             by_length,

@@ -2,8 +2,6 @@
 #![tactic(auto)]
 
 mod holes;
-mod lean;
-mod lengths;
 mod order;
 mod request;
 mod search;

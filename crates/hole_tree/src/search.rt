@@ -2,9 +2,11 @@
 ghost use Rattle.std.specs.Prelude.{◌≡◌, ◌+◌, ◌≤◌, None, option_map, false};
 ghost use Rattle.std.specs.List.{find};
 ghost use Rattle.ttm_base.specs.declared.Mode.TheVariants.{Low, High};
+ghost use Rattle.hole_tree.specs.declared.order.Order.TheVariants.{ByStart};
 ghost use Rattle.hole_tree.specs.Fitting.{fits, is_long, find_last, IsWide};
 ghost use Rattle.hole_tree.specs.Rising.{IsRising};
 
+use crate::order::Order;
 use crate::request::Request;
 use crate::tree::Tree;
 use step_count::Steps;
@@ -12,9 +14,14 @@ use step_count::ledger::Ledger;
 use ttm_base::{Mode, Span};
 
 impl Tree {
-    /// The lowest hole that fits. Mostly it is the first that is long enough.
-    pub fn first<L: Ledger>(&self, request: Request, steps: &mut Steps<L>) -> Option<Span>
-        requires rising { IsRising self.now.spans }
+    /// The first hole in this order that fits (Best and Low fit alike). Mostly it is the first that is long enough.
+    pub fn first<L: Ledger>(
+        &self,
+        order: Order,
+        request: Request,
+        steps: &mut Steps<L>,
+    ) -> Option<Span>
+        requires rising { order ≡ ByStart → IsRising self.now.spans }
         requires align { 1 ≤ request.align }
         ensures found { result ≡ find (fits Low request) self.now.spans }
         ensures counts { steps.old ≤ steps.new }
@@ -24,13 +31,13 @@ impl Tree {
             return None;
         }
         if request.first > 0 {
-            return self.first_of_all(request, true, steps);
+            return self.first_of_all(order, request, true, steps);
         }
         let long = self.first_long(request.pages, steps)?;
         if request.fits(Mode::Low, *long) {
             return Some(*long);
         }
-        self.first_of_all(request, true, steps)
+        self.first_of_all(order, request, true, steps)
     }
 
     /// The highest hole that fits. Mostly it is the last that is long enough.
@@ -88,11 +95,12 @@ impl Tree {
     /// The first hole that fits. Where it isn't `worth` a look, no node is opened.
     fn first_of_all<L: Ledger>(
         &self,
+        order: Order,
         request: Request,
         worth: bool,
         steps: &mut Steps<L>,
     ) -> Option<Span>
-        requires rising { IsRising self.now.spans }
+        requires rising { order ≡ ByStart → IsRising self.now.spans }
         requires align { 1 ≤ request.align }
         requires worth { worth ≡ false → find (fits Low request) self.now.spans ≡ None }
         ensures found { result ≡ find (fits Low request) self.now.spans }
@@ -102,16 +110,16 @@ impl Tree {
             return None;
         }
         let node = self.open(steps)?;
-        let may_left = request.reaches_left(node.longest_left, node.hole);
-        let below = node.left.first_of_all(request, may_left, steps);
+        let may_left = request.reaches_left(order, node.longest_left, node.hole);
+        let below = node.left.first_of_all(order, request, may_left, steps);
         if below.is_some() {
             return below;
         }
         if request.fits(Mode::Low, node.hole) {
             return Some(node.hole);
         }
-        let may_right = request.reaches_right(node.longest_right, node.hole);
-        node.right.first_of_all(request, may_right, steps)
+        let may_right = request.reaches_right(order, node.longest_right, node.hole);
+        node.right.first_of_all(order, request, may_right, steps)
     }
 
     /// The highest hole that fits. Where it isn't `worth` a look, no node is opened.
@@ -131,7 +139,7 @@ impl Tree {
             return None;
         }
         let node = self.open(steps)?;
-        let may_right = request.reaches_right(node.longest_right, node.hole);
+        let may_right = request.reaches_right(Order::ByStart, node.longest_right, node.hole);
         let above = node.right.highest_of_all(request, may_right, steps);
         if above.is_some() {
             return above;
@@ -139,7 +147,7 @@ impl Tree {
         if request.fits(Mode::High, node.hole) {
             return Some(node.hole);
         }
-        let may_left = request.reaches_left(node.longest_left, node.hole);
+        let may_left = request.reaches_left(Order::ByStart, node.longest_left, node.hole);
         node.left.highest_of_all(request, may_left, steps)
     }
 }

@@ -1,4 +1,4 @@
-//! The holes by start: a balanced tree (AVL), seen as its holes in order and its height.
+//! A balanced tree of holes (AVL), seen as its holes in order and its height.
 ghost use Rattle.std.specs.Prelude.{◌≡◌, ◌+◌, ◌^◌, ◌<◌, ◌≤◌, max, [], ◌∷◌, ◌++◌, length, IsSome, IfNone, IfSome, Some, is_some, option_map, if◌then◌else◌};
 ghost use Rattle.std.specs.List.{find};
 ghost use Rattle.hole_tree.specs.Longest.{longest};
@@ -6,7 +6,6 @@ ghost use Rattle.hole_tree.specs.Shape.{IsLow};
 ghost use Rattle.hole_tree.specs.Trees.{shape_of_node, spans_of, IsNode, IsSound, DifferBy, IsSettled};
 ghost use Rattle.hole_tree.specs.Sorting.{ties, IsSorted, placed, untied, replaced};
 ghost use Rattle.hole_tree.specs.Rising.{IsRising};
-ghost use Rattle.hole_tree.specs.declared.order.Order.TheVariants.{ByStart};
 ghost use Rattle.ttm_base.specs.Holes.{has_page};
 
 use crate::order::Order;
@@ -16,7 +15,7 @@ use step_count::Steps;
 use step_count::ledger::Ledger;
 use ttm_base::Span;
 
-/// Holes by start.
+/// Holes in an order.
 #[cycle(tree)]
 #[derive(Drop)]
 pub struct Tree {
@@ -82,7 +81,7 @@ impl Tree {
     }
 
     /// The length of its longest hole, or 0.
-    #[tactic(auto, using(crate::proofs::LongestNode::longest_node))]
+    #[tactic(auto, using(crate::proofs::Lengths::longest_node))]
     fn longest(&self) -> u32
         ensures { result ≡ longest self.now.spans }
     {
@@ -128,23 +127,23 @@ impl Tree {
     }
 
     /// Puts a hole into its place, in the node that is given.
-    pub fn insert(&mut self, fresh: Box<Node>)
-        requires sorted { IsSorted ByStart self.old.spans }
+    pub fn insert(&mut self, order: Order, fresh: Box<Node>)
+        requires sorted { IsSorted order self.old.spans }
         requires fits { length self.old.spans + 1 < 2 ^ 64 }
-        ensures spans { self.new.spans ≡ placed ByStart fresh.value.hole self.old.spans }
+        ensures spans { self.new.spans ≡ placed order fresh.value.hole self.old.spans }
         ensures at_least { self.old.height ≤ self.new.height }
         ensures at_most { self.new.height ≤ self.old.height + 1 }
     {
         match &mut self.top {
             Top::Empty => *self = closed(Tree::new(), fresh, Tree::new()),
             Top::Full(node) => {
-                if Order::ByStart.is_before(fresh.hole, node.hole) {
+                if order.is_before(fresh.hole, node.hole) {
                     let height = node.left.height();
-                    node.left.insert(fresh);
+                    node.left.insert(order, fresh);
                     settle_left(node, height);
                 } else {
                     let height = node.right.height();
-                    node.right.insert(fresh);
+                    node.right.insert(order, fresh);
                     settle_right(node, height);
                 }
             }
@@ -152,27 +151,27 @@ impl Tree {
     }
 
     /// Takes out the hole that ties with the one that is sought.
-    pub fn take(&mut self, sought: Span) -> Box<Node>
-        requires sorted { IsSorted ByStart self.old.spans }
+    pub fn take(&mut self, order: Order, sought: Span) -> Box<Node>
+        requires sorted { IsSorted order self.old.spans }
         requires fits { length self.old.spans < 2 ^ 64 }
-        requires held { IsSome (find (ties ByStart sought) self.old.spans) }
-        ensures found { find (ties ByStart sought) self.old.spans ≡ Some result.value.hole }
-        ensures left { self.new.spans ≡ untied ByStart sought self.old.spans }
+        requires held { IsSome (find (ties order sought) self.old.spans) }
+        ensures found { find (ties order sought) self.old.spans ≡ Some result.value.hole }
+        ensures left { self.new.spans ≡ untied order sought self.old.spans }
         ensures at_most { self.new.height ≤ self.old.height }
         ensures at_least { self.old.height ≤ self.new.height + 1 }
     {
         let Top::Full(node) = &mut self.top else {
             unreachable!()
         };
-        if Order::ByStart.is_before(sought, node.hole) {
+        if order.is_before(sought, node.hole) {
             let height = node.left.height();
-            let found = node.left.take(sought);
+            let found = node.left.take(order, sought);
             settle_left(node, height);
             return found;
         }
-        if Order::ByStart.is_before(node.hole, sought) {
+        if order.is_before(node.hole, sought) {
             let height = node.right.height();
-            let found = node.right.take(sought);
+            let found = node.right.take(order, sought);
             settle_right(node, height);
             return found;
         }
