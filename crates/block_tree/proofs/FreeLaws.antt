@@ -1,14 +1,12 @@
--- The masks of all pages, and the free blocks of the choice.
-use Rattle.std.proofs.Common.{◌≡◌, ℕ, zero, suc, ◌+◌, ◌-◌, ◌*◌, ◌/◌, ◌^◌, ◌<◌, ◌≤◌, inl, inr, Bool, true, false, List, Some, None, is_some, refl, ap, sym, ◌∙◌, subst, arith, nat_le, eq-or-lt_of_le, mul-div_cancel}
+-- The free blocks of the choice.
+use Rattle.std.proofs.Common.{◌≡◌, ℕ, zero, suc, ◌+◌, ◌-◌, ◌*◌, ◌/◌, ◌^◌, ◌<◌, ◌≤◌, inl, inr, Bool, true, false, refl, ap, sym, ◌∙◌, subst, arith, nat_le, mul-div_cancel}
 use Rattle.std.specs.List.{list_all}
-use Rattle.std.proofs.lemmas.Bool.{and_parts, and_from, leb-true, le-leb, cases_lt, cases_eq, false_from_ne_true, both_ways}
+use Rattle.std.proofs.lemmas.Bool.{and_parts, and_from, leb-true, le-leb, cases_eq}
 use Rattle.ttm_base.specs.declared.Span.{Span}
 use Rattle.ttm_base.specs.ListWords.{count_from}
 use Rattle.ttm_base.specs.BuddyChoice.{Candidate, block_around, is_free_block, free_order}
-use Rattle.block_tree.specs.Masks.{IsTree, order_at, is_free_in}
 use Rattle.block_tree.specs.Searching.{numbered}
-use Rattle.block_tree.proofs.Numbers.{some_pages, pow_next, block_pages, block_end, in_block, same_at}
-use Rattle.block_tree.proofs.TreeLaws.{largest_at}
+use Rattle.block_tree.proofs.Numbers.{some_pages, block_pages, block_end, in_block, same_at}
 
 -- ---- tests of all pages
 
@@ -70,57 +68,6 @@ order_is f size p j zero k fuel e l t n =
 order_is f size p j (suc d) k zero e l t n = absurd (omega arith)
 order_is f size p j (suc d) k (suc fuel) e l t n =
     order_up f size p k fuel (smaller_free f size (k + 1) j p (omega arith) t) ∙ order_is f size p j d (k + 1) fuel (omega arith) (omega arith) t n
-
--- ---- masks that tell of all pages
-
--- f tells the free pages below the size, and the masks tell the same
-pub record IsRoot (f : ℕ → Bool) (size o : ℕ) (ms : List ℕ) : Type 0 where
-  pub tree : IsTree o ms
-  pub fits : size ≤ 2 ^ o
-  pub same : (p : ℕ) → p < size → f p ≡ is_free_in o ms p
-  pub beyond : (p : ℕ) → size ≤ p → p < 2 ^ o → is_free_in o ms p ≡ false
-
--- the pages of a free block are below the size
-pub record IsPage (f : ℕ → Bool) (size o : ℕ) (ms : List ℕ) (x : ℕ) : Type 0 where
-  pub below : x < size
-  pub free : f x ≡ true
-
-pub root_page : (f : ℕ → Bool) (size o : ℕ) (ms : List ℕ) (p j x : ℕ) → IsRoot f size o ms → p < 2 ^ o → order_at o ms p ≡ Some j → x / 2 ^ j ≡ p / 2 ^ j → IsPage f size o ms x
-root_page f size o ms p j x r h a e =
-    let l = largest_at o ms p j r.tree a in
-    let zero : p / 2 ^ o ≡ 0 = in_block p o 0 (omega arith) (omega arith) in
-    let inside : x < 0 * 2 ^ o + 2 ^ o = (block_pages x o 0 (same_at x p j o l.within e ∙ zero)).1 in
-    let free = l.free x e in
-    let below : x < size = elim (cases_lt x size) [ inl b ↦ b | inr b ↦ absurd (both_ways (is_free_in o ms x) (r.beyond x b (omega arith)) free) ] in
-    record { below = below; free = r.same x below ∙ free }
-
-pub root_free : (f : ℕ → Bool) (size o : ℕ) (ms : List ℕ) (p j : ℕ) → IsRoot f size o ms → p < 2 ^ o → order_at o ms p ≡ Some j → is_free_block f size (block_around j p) ≡ true
-root_free f size o ms p j r h a =
-    let s = some_pages j in
-    let last : (p / 2 ^ j * 2 ^ j + 2 ^ j - 1) / 2 ^ j ≡ p / 2 ^ j = in_block (p / 2 ^ j * 2 ^ j + 2 ^ j - 1) j (p / 2 ^ j) (omega arith) (omega arith) in
-    let b = (root_page f size o ms p j (p / 2 ^ j * 2 ^ j + 2 ^ j - 1) r h a last).below in
-    free_from f size j p (omega (arith, b, s)) (λ x e. (root_page f size o ms p j x r h a e).free)
-
-pub root_largest : (f : ℕ → Bool) (size o : ℕ) (ms : List ℕ) (p j : ℕ) → IsRoot f size o ms → order_at o ms p ≡ Some j → is_free_block f size (block_around (suc j) p) ≡ false
-root_largest f size o ms p j r a =
-    false_from_ne_true (is_free_block f size (block_around (suc j) p)) (λ t.
-    let l = largest_at o ms p j r.tree a in
-    let w = free_parts f size (suc j) p t in
-    elim (eq-or-lt_of_le l.within) [
-      | inl e ↦
-          let n = pow_next o in
-          let s = some_pages o in
-          let fits = r.fits in
-          let end : 2 ^ suc o ≤ size = subst (λ m. 2 ^ suc m ≤ size) e (let z = w.end in omega (arith, z)) in
-          omega (arith, n, s, fits, end)
-      | inr less ↦ l.largest less (λ x e. let u = (block_pages x (suc j) (p / 2 ^ suc j) e).1 in let z = w.end in sym (r.same x (omega (arith, u, z))) ∙ w.free x e)
-    ])
-
-pub root_held : (f : ℕ → Bool) (size o : ℕ) (ms : List ℕ) (p k : ℕ) → IsRoot f size o ms → p < size → order_at o ms p ≡ None → is_free_block f size (block_around k p) ≡ false
-root_held f size o ms p k r h a =
-    false_from_ne_true (is_free_block f size (block_around k p)) (λ t.
-    let w = (free_parts f size k p t).free p refl in
-    both_ways (f p) (r.same p h ∙ ap is_some a) w)
 
 -- ---- candidates
 

@@ -1,26 +1,22 @@
--- Masks of all pages, seen as a mark for each.
-use Rattle.std.proofs.Common.{◌≡◌, ℕ, zero, suc, ◌+◌, ◌*◌, ◌/◌, ◌^◌, ◌<◌, ◌≤◌, inl, inr, Bool, true, false, ◌&&◌, List, Option, Some, None, map, length, get_or, take, drop, ◌++◌, option_map, refl, ap, sym, ◌∙◌, subst, arith, nat_lt, nat_le, if◌then◌else◌}
-use Rattle.std.specs.Option.{IfSome}
+-- A set of blocks that a list of marks tells, and the marks of its pages.
+use Rattle.std.proofs.Common.{◌≡◌, ℕ, zero, suc, ◌+◌, ◌-◌, ◌*◌, ◌/◌, ◌^◌, ◌<◌, ◌≤◌, inl, inr, Bool, true, false, ◌&&◌, ◌||◌, List, map, length, get_or, set, refl, ap, sym, ◌∙◌, subst, arith, nat_lt, nat_le, pow-add, mul-div_cancel, mul-le-mul_right, length-set, get_or-set_same, get_or-set_other, replicate}
 use Rattle.std.proofs.lemmas.Grind.{common_steps}
-use Rattle.std.proofs.lemmas.List.{get_or_past}
-use Rattle.std.proofs.lemmas.Bool.{cases_lt, and_parts, and_right, le-ltb, ltb-true, leb-true, le-leb, false_from_ne_true, both_ways}
-use Rattle.ttm_base.specs.declared.Span.{Span}
-use Rattle.ttm_base.specs.Holes.{has_page}
-use Rattle.ttm_base.specs.Reach.{is_inside}
+use Rattle.std.proofs.lemmas.List.{get_or_past, get_or-replicate}
+use Rattle.std.proofs.lemmas.Bool.{and_parts, and_from, leb-true, le-leb, ltb-true, lt-ltb, cases_lt, cases_eq, false_from_ne_true, both_ways}
+use Rattle.std.proofs.Math.Nat.{div-mul-le_self}
 use Rattle.ttm_base.specs.ListWords.{count_from}
-use Rattle.ttm_base.specs.BuddyChoice.{Candidate, block_around, is_free_block, candidate}
-use Rattle.block_tree.specs.declared.request.Request.{Request}
-use Rattle.block_tree.specs.Masks.{IsTree, order_at, is_free_in, is_marked}
-use Rattle.block_tree.proofs.TreeLaws.{largest_at}
-use Rattle.block_tree.proofs.SearchLaws.{whole_parts}
-use Rattle.block_tree.specs.Searching.{numbered, IsIn, whole_at, IsLeast, LeastOf, FirstOf}
-use Rattle.block_tree.specs.Pieces.{IsWhole, IsPiece, IsLeastWhole, LeastWholeOf, IsFirstPiece, FirstPieceOf}
-use Rattle.block_tree.specs.FreeSet.{is_free, marks_of, IsKept, HasSameBelow}
-use Rattle.block_tree.proofs.Numbers.{some_pages, small_pow, pow_next, block_pages, in_block}
-use Rattle.block_tree.proofs.MarkLaws.{take_front, length_of_tree}
-use Rattle.block_tree.proofs.FreeLaws.{IsRoot}
-use Rattle.block_tree.proofs.PieceLaws.{piece_within, piece_free, same_block, piece_of_whole, in_root, whole_of_piece}
-use Rattle.block_tree.proofs.ChoiceLaws.{candidate_none, candidate_found}
+use Rattle.ttm_base.specs.BuddyChoice.{block_around, is_free_block, log2}
+use Rattle.ttm_base.proofs.OrderLaws.{log2_is_log}
+use Rattle.block_tree.specs.FreeSet.{beside, is_free, place, has_block, is_covered, marks_of, IsKept}
+use Rattle.block_tree.specs.Masks.{is_marked}
+use Rattle.block_tree.specs.Searching.{numbered}
+use Rattle.block_tree.specs.declared.block.Block.{Block}
+use Rattle.block_tree.specs.BitSet.{IsFirstFrom, IsLastTo}
+use Rattle.block_tree.specs.Holding.{IsFree, IsFirstFree, IsLastFree}
+use Rattle.block_tree.proofs.Numbers.{some_pages, small_pow, small_order, pow_next, block_pages}
+use Rattle.block_tree.proofs.SetLaws.{bool_cases, HasBlock, Tells, tell_same, IsSetAt, taken_out, put_in, of_whole, is_whole, around_free, own_block}
+
+-- ---- marks
 
 length_map : (f : ℕ → Bool) (n start : ℕ) → length (map f (count_from 1 n start)) ≡ n
 length_map f zero start = refl
@@ -31,204 +27,524 @@ mark_at f zero start i h = absurd (omega arith)
 mark_at f (suc n) start zero h = ap f (let e : start ≡ start + 0 = omega arith in e)
 mark_at f (suc n) start (suc i) h = mark_at f n (1 + start) i (omega arith) ∙ ap f (let e : 1 + start + i ≡ start + suc i = omega arith in e)
 
-pub length_marks : (o size : ℕ) (ms : List ℕ) → length (marks_of o size ms) ≡ size
-length_marks o size ms = length_map (is_free_in o ms) size 0
+pub length_marks : (o size : ℕ) (set : List Bool) → length (marks_of o size set) ≡ size
+length_marks o size set = length_map (is_covered o set o) size 0
 
-pub free_below : (o size : ℕ) (ms : List ℕ) (page : ℕ) → page < size → is_free (marks_of o size ms) page ≡ is_free_in o ms page
-free_below o size ms page h = mark_at (is_free_in o ms) size 0 page h ∙ ap (is_free_in o ms) (let e : 0 + page ≡ page = omega arith in e)
+pub free_below : (o size : ℕ) (set : List Bool) (page : ℕ) → page < size → is_free (marks_of o size set) page ≡ is_covered o set o page
+free_below o size set page h = mark_at (is_covered o set o) size 0 page h ∙ ap (is_covered o set o) (let e : 0 + page ≡ page = omega arith in e)
 
-pub free_past : (o size : ℕ) (ms : List ℕ) (page : ℕ) → size ≤ page → is_free (marks_of o size ms) page ≡ false
-free_past o size ms page h =
-    let l = length_marks o size ms in
-    get_or_past (marks_of o size ms) page false (omega arith)
+pub free_past : (o size : ℕ) (set : List Bool) (page : ℕ) → size ≤ page → is_free (marks_of o size set) page ≡ false
+free_past o size set page h =
+    let l = length_marks o size set in
+    get_or_past (marks_of o size set) page false (omega arith)
 
--- ---- marked pages
+pub size_of : (o size : ℕ) (set : List Bool) (marks : List Bool) → marks_of o size set ≡ marks → size ≡ length marks
+size_of o size set marks v = sym (length_marks o size set) ∙ ap length v
 
--- no page from its end on is in a span
-pub not_in : (page : ℕ) (span : Span) → span.end ≤ page → has_page page span ≡ false
-not_in page span h = and_right (nat_le span.start page) (nat_lt page span.end) (le-ltb page span.end h)
+-- a page that is free is below the number of pages
+pub free_page : (marks : List Bool) (page : ℕ) → is_free marks page ≡ true → page < length marks
+free_page marks page h = elim (cases_lt page (length marks)) [ inl l ↦ l | inr l ↦ absurd (both_ways (is_free marks page) (get_or_past marks page false l) h) ]
 
-not_marked : (page : ℕ) (span : Span) (free before : Bool) → span.end ≤ page → is_marked span free before page ≡ before
-not_marked page span free before h = ap (λ t. if t then free else before) (not_in page span h)
+-- ---- where blocks stand
 
-pub kept_marked : (o size : ℕ) (ms new : List ℕ) (span : Span) (free : Bool) → IsKept o size ms → span.end ≤ size → IsTree o new
-    → ((page : ℕ) → page / 2 ^ o ≡ 0 → is_free_in o new page ≡ is_marked span free (is_free_in o ms page) page) → IsKept o size new
-kept_marked o size ms new span free k h t m =
-    record {
-      tree = t;
-      order = k.order;
-      small = k.small;
-      fits = k.fits;
-      beyond = λ page l u. m page (in_block page o 0 (omega arith) (omega arith)) ∙ not_marked page span free (is_free_in o ms page) (omega arith) ∙ k.beyond page l u;
-    }
+-- a power of two, halved
+pow_over : (o k : ℕ) → k ≤ o → 2 ^ o / 2 ^ k ≡ 2 ^ (o - k)
+pow_over o k h =
+    let d : o - k + k ≡ o = omega arith in
+    ap (λ n. n / 2 ^ k) (sym (ap (λ n. 2 ^ n) d) ∙ pow-add 2 (o - k) k) ∙ mul-div_cancel (2 ^ (o - k)) (some_pages k)
 
-pub marks_marked : (o size : ℕ) (ms new : List ℕ) (span : Span) (free : Bool) → IsKept o size ms → span.end ≤ size
-    → ((page : ℕ) → page / 2 ^ o ≡ 0 → is_free_in o new page ≡ is_marked span free (is_free_in o ms page) page)
-    → (page : ℕ) → is_free (marks_of o size new) page ≡ is_marked span free (is_free (marks_of o size ms) page) page
-marks_marked o size ms new span free k h m page =
-    elim (cases_lt page size) [
-      | inl l ↦
-          let fits = k.fits in
-          free_below o size new page l ∙ m page (in_block page o 0 (omega arith) (omega arith)) ∙ ap (λ b. is_marked span free b page) (sym (free_below o size ms page l))
-      | inr l ↦ free_past o size new page l ∙ sym (free_past o size ms page l) ∙ sym (not_marked page span free (is_free (marks_of o size ms) page) (omega arith))
-    ]
+-- twice the blocks of an order
+pub twice_over : (o k : ℕ) → k ≤ o → 2 ^ suc o / 2 ^ k ≡ 2 ^ (o - k) + 2 ^ (o - k)
+twice_over o k h =
+    let s : suc o - k ≡ suc (o - k) = omega arith in
+    pow_over (suc o) k (omega arith) ∙ ap (λ n. 2 ^ n) s ∙ pow_next (o - k)
 
--- ---- all pages are free
+-- the place of block n of order k, where the order has q blocks
+pub record IsPlace (o k n q : ℕ) : Type 0 where
+  pub low : 2 ^ suc o ≤ place o k n + (q + q)
+  pub is : place o k n + (q + q) ≡ 2 ^ suc o + n
+  pub some : 0 < q
+  pub fits : q + q ≤ 2 ^ suc o
 
-pub all_marked : (o size : ℕ) (new : List ℕ) → o ≤ 31 → size < 2 ^ 31 → size ≤ 2 ^ o → IsTree o new → ((page : ℕ) → page < 2 ^ o → is_free_in o new page ≡ nat_lt page size) → IsKept o size new
-all_marked o size new ho hs hf t m = record { tree = t; order = ho; small = hs; fits = hf; beyond = λ page l u. m page u ∙ le-ltb page size l }
-
-pub all_free_marks : (o size : ℕ) (new : List ℕ) → size ≤ 2 ^ o → ((page : ℕ) → page < 2 ^ o → is_free_in o new page ≡ nat_lt page size) → (page : ℕ) → is_free (marks_of o size new) page ≡ nat_lt page size
-all_free_marks o size new fits m page =
-    elim (cases_lt page size) [
-      | inl l ↦ free_below o size new page l ∙ m page (omega arith)
-      | inr l ↦ free_past o size new page l ∙ sym (le-ltb page size l)
-    ]
-
--- the first pages of a block without any were marked as free
-pub first_marked : (o : ℕ) (held new : List ℕ) (size : ℕ) → ((page : ℕ) → is_free_in o held page ≡ false)
-    → ((page : ℕ) → page / 2 ^ o ≡ 0 → is_free_in o new page ≡ is_marked (record { start = 0; end = size }) true (is_free_in o held page) page)
-    → (page : ℕ) → page < 2 ^ o → is_free_in o new page ≡ nat_lt page size
-first_marked o held new size none m page h =
-    m page (in_block page o 0 (omega arith) (omega arith)) ∙ ap (λ b. if nat_le 0 page && nat_lt page size then true else b) (none page) ∙ whether (nat_lt page size) (le-leb 0 page (omega arith)) where
-      whether : (t : Bool) → nat_le 0 page ≡ true → (if nat_le 0 page && t then true else false) ≡ t
-      whether true e = ap (λ b. if b && true then true else false) e
-      whether false e = ap (λ b. if b && false then true else false) e
-
--- ---- a range that has the same pages
-
-root_of : (o size : ℕ) (ms : List ℕ) → IsKept o size ms → IsRoot (is_free (marks_of o size ms)) size o ms
-root_of o size ms k = record { tree = k.tree; fits = k.fits; same = λ p l. free_below o size ms p l; beyond = k.beyond }
-
--- the same request for another range
-abbrev pub near : Request → Span → Request
-near r n = record { order = r.order; range = n; topdown = r.topdown }
-
-inside_near : (r : Request) (n : Span) (size : ℕ) (b : Span) → HasSameBelow size n r.range → b.end ≤ size → is_inside n b ≡ is_inside r.range b
-inside_near r n size b s h = ap (λ x. nat_le x b.start && nat_le b.end n.end) s.start ∙ ap (λ t. nat_le r.range.start b.start && t) (s.end b.end h)
-
-from_near : (f : ℕ → Bool) (size : ℕ) (r : Request) (n : Span) (j i : ℕ) → HasSameBelow size n r.range → IsPiece f size n r.order j i → IsPiece f size r.range r.order j i
-from_near f size r n j i s h = record { order = h.order; inside = sym (inside_near r n size (numbered r.order i) s (piece_within f size n r.order j i h)) ∙ h.inside; whole = h.whole }
-
-to_near : (f : ℕ → Bool) (size : ℕ) (r : Request) (n : Span) (j i : ℕ) → HasSameBelow size n r.range → IsPiece f size r.range r.order j i → IsPiece f size n r.order j i
-to_near f size r n j i s h = record { order = h.order; inside = inside_near r n size (numbered r.order i) s (piece_within f size r.range r.order j i h) ∙ h.inside; whole = h.whole }
-
--- ---- what is found
-
-module _ (o size : ℕ) (ms : List ℕ) (r : Request) (n : Span) (k : IsKept o size ms) (s : HasSameBelow size n r.range) where
-  abbrev f : ℕ → Bool
-  f = is_free (marks_of o size ms)
-
-  found : (i j : ℕ) → IsIn o 0 r.order i → whole_at (near r n) o ms i ≡ Some j → IsPiece f size r.range r.order j i
-  found i j e x = let b = (block_pages (i * 2 ^ r.order) o 0 e).1 in from_near f size r n j i s (piece_of_whole f size o ms (near r n) (root_of o size ms k) i j (omega (arith, b)) x)
-
-  is_in : (i j : ℕ) → IsPiece f size r.range r.order j i → IsIn o 0 r.order i
-  is_in i j h = in_root f size o ms r (root_of o size ms k) i j h
-
-  whole_of : (i j : ℕ) → IsPiece f size r.range r.order j i → whole_at (near r n) o ms i ≡ Some j
-  whole_of i j h = whole_of_piece f size o ms (near r n) (root_of o size ms k) i j (to_near f size r n j i s h)
-
-  pub least_found : (found : Option ℕ) → LeastOf (near r n) o ms 0 found → LeastWholeOf f size r.range r.order found
-  least_found None l = λ i w h. let a = l i (is_in i w h) in let b = whole_of i w h in absurd cc
-  least_found (Some j) l = record { bound = λ i w h. l.bound i w (is_in i w h) (whole_of i w h); number = l.number; is = found l.number j l.within l.is }
-
-  pub first_found : (j : ℕ) (found : Option ℕ) → FirstOf (near r n) o ms 0 j found → FirstPieceOf f size r.range r.topdown r.order j (option_map (numbered r.order) found)
-  first_found j None l = λ i h. l i (is_in i j h) (whole_of i j h)
-  first_found j (Some i) l = record { number = i; block = refl; is = found i j l.within l.is; first = λ m h. l.first m (is_in m j h) (whole_of m j h) }
-
--- no block of an order above all is free
-pub none_above : (o size k : ℕ) (range : Span) (f : ℕ → Bool) → size ≤ 2 ^ o → o < k → LeastWholeOf f size range k None
-none_above o size k range f fits h = λ i w x.
+pub is_place : (o k n : ℕ) → k ≤ o → IsPlace o k n (2 ^ (o - k))
+is_place o k n h =
+    let t = twice_over o k h in
     let p = pow_next o in
-    let s = some_pages o in
-    let m : 2 ^ suc o ≤ 2 ^ k = small_pow (suc o) k (omega (arith, h)) in
-    let e = piece_within f size range k w i x in
-    omega (arith, fits, p, s, m, e)
+    let m : 2 ^ (o - k) ≤ 2 ^ o = small_pow (o - k) o (omega arith) in
+    let s = some_pages (o - k) in
+    let e : place o k n ≡ 2 ^ suc o - (2 ^ (o - k) + 2 ^ (o - k)) + n = ap (λ m. 2 ^ suc o - m + n) t in
+    record { low = omega (arith, e, p, m); is = omega (arith, e, p, m); some = s; fits = omega (arith, p, m) }
 
--- the least order is no larger than the block
-pub least_small : (o : ℕ) (ms : List ℕ) (r : Request) (q j : ℕ) → IsTree o ms → IsLeast r o ms q j → j ≤ o
-least_small o ms r q j t l =
-    let p = whole_parts r l.number j (order_at o ms (l.number * 2 ^ r.order)) l.is in
-    (largest_at o ms (l.number * 2 ^ r.order) j t p.is).within
+pub place_below : (o k n : ℕ) → k ≤ o → n < 2 ^ (o - k) → place o k n + 1 < 2 ^ suc o
+place_below o k n h l = let p = is_place o k n h in let i = p.is in let s = p.some in omega (arith, i, s, l)
 
--- ---- the candidate
+-- the blocks of one order stand before those of the next
+pub place_order : (o k n j m : ℕ) → k < j → j ≤ o → n < 2 ^ (o - k) → place o k n < place o j m
+place_order o k n j m h l b =
+    let a = is_place o k n (omega arith) in
+    let c = is_place o j m l in
+    let i = a.is in
+    let e = c.is in
+    let s : suc (o - j) ≤ o - k = omega arith in
+    let w : 2 ^ suc (o - j) ≤ 2 ^ (o - k) = small_pow (suc (o - j)) (o - k) s in
+    let p = pow_next (o - j) in
+    omega (arith, i, e, w, p, b)
 
-abbrev pub block_of : Candidate → Span
-block_of c = c.block
+pub place_number : (o k n m : ℕ) → n < m → place o k n < place o k m
+place_number o k n m h = omega arith
 
--- both tests tell the same of the pages below the size
-tests_whole : (f g : ℕ → Bool) (size j p : ℕ) → ((page : ℕ) → page < size → f page ≡ g page) → IsWhole f size j p → IsWhole g size j p
-tests_whole f g size j p h w =
+-- no two blocks stand at one place
+pub one_place : (o k n j m : ℕ) → k ≤ o → n < 2 ^ (o - k) → j ≤ o → m < 2 ^ (o - j) → place o k n ≡ place o j m → (k ≡ j) × (n ≡ m)
+one_place o k n j m hk hn hj hm e =
+    elim (cases_lt k j) [
+      | inl l ↦ let x = place_order o k n j m l hj hn in absurd (omega (arith, x, e))
+      | inr l ↦ elim (cases_lt j k) [
+        | inl g ↦ let x = place_order o j m k n g hk hm in absurd (omega (arith, x, e))
+        | inr g ↦
+            let same : k ≡ j = omega (arith, l, g) in
+            let f : place o k n ≡ place o k m = e ∙ ap (λ i. place o i m) (sym same) in
+            (same, omega (arith, f))
+      ]
+    ]
+
+-- ---- the blocks of a set
+
+pub record IsIn (o : ℕ) (set : List Bool) (k n : ℕ) : Type 0 where
+  pub order : k ≤ o
+  pub number : n < 2 ^ (o - k)
+  pub is : get_or set (place o k n) false ≡ true
+
+pub in_parts : (o : ℕ) (set : List Bool) (k n : ℕ) → has_block o set k n ≡ true → IsIn o set k n
+in_parts o set k n h =
+    let a = and_parts (nat_le k o) (nat_lt n (2 ^ (o - k)) && get_or set (place o k n) false) h in
+    let b = and_parts (nat_lt n (2 ^ (o - k))) (get_or set (place o k n) false) a.1 in
+    record { order = leb-true k o a.0; number = ltb-true n (2 ^ (o - k)) b.0; is = b.1 }
+
+pub in_from : (o : ℕ) (set : List Bool) (k n : ℕ) → k ≤ o → n < 2 ^ (o - k) → get_or set (place o k n) false ≡ true → has_block o set k n ≡ true
+in_from o set k n a b c = and_from (nat_le k o) (nat_lt n (2 ^ (o - k)) && get_or set (place o k n) false) (le-leb k o a) (and_from (nat_lt n (2 ^ (o - k))) (get_or set (place o k n) false) (lt-ltb n (2 ^ (o - k)) b) c)
+
+covered_from : (o : ℕ) (set : List Bool) (k j page : ℕ) → k ≤ j → has_block o set k (page / 2 ^ k) ≡ true → is_covered o set j page ≡ true
+covered_from o set k zero page l h = let e : k ≡ 0 = omega arith in subst (λ i. has_block o set i (page / 2 ^ i) ≡ true) e h
+covered_from o set k (suc j) page l h =
+    elim (cases_lt j k) [
+      | inl m ↦ let e : k ≡ suc j = omega arith in ap (λ b. b || is_covered o set j page) (subst (λ i. has_block o set i (page / 2 ^ i) ≡ true) e h)
+      | inr m ↦ or_right (has_block o set (suc j) (page / 2 ^ suc j)) (is_covered o set j page) (covered_from o set k j page m h)
+    ]
+  where
+    or_right : (a b : Bool) → b ≡ true → (a || b) ≡ true
+    or_right true b e = refl
+    or_right false b e = e
+
+covered_by : (o : ℕ) (set : List Bool) (j page : ℕ) → is_covered o set j page ≡ true → HasBlock (has_block o set) page
+covered_by o set zero page h = record { order = 0; is = h }
+covered_by o set (suc j) page h =
+    elim (bool_cases (has_block o set (suc j) (page / 2 ^ suc j))) [
+      | inl t ↦ record { order = suc j; is = t }
+      | inr t ↦ covered_by o set j page (sym (ap (λ b. b || is_covered o set j page) t) ∙ h)
+    ]
+
+pub kept_tells : (count o size : ℕ) (set : List Bool) → IsKept count o size set → Tells size (has_block o set) (is_free (marks_of o size set))
+kept_tells count o size set k =
     record {
-      free = same_block f g size j p h w.free;
-      largest = false_from_ne_true (is_free_block g size (block_around (j + 1) p)) (λ t. both_ways (is_free_block f size (block_around (j + 1) p)) w.largest (same_block g f size (j + 1) p (λ page l. sym (h page l)) t));
+      blocks = k.blocks;
+      free = λ p j h.
+          let e = k.blocks.within j (p / 2 ^ j) h in
+          let b = (block_pages p j (p / 2 ^ j) refl).1 in
+          free_below o size set p (omega (arith, e, b)) ∙ covered_from o set j o p (in_parts o set j (p / 2 ^ j) h).order h;
+      found = λ p h. elim (cases_lt p size) [
+        | inl l ↦ covered_by o set o p (sym (free_below o size set p l) ∙ h)
+        | inr l ↦ absurd (both_ways (is_free (marks_of o size set) p) (free_past o size set p l) h)
+      ];
     }
 
-pub tests_piece : (f g : ℕ → Bool) (size : ℕ) (range : Span) (k j i : ℕ) → ((page : ℕ) → page < size → f page ≡ g page) → IsPiece f size range k j i → IsPiece g size range k j i
-tests_piece f g size range k j i h p = record { order = p.order; inside = p.inside; whole = tests_whole f g size j (i * 2 ^ k) h p.whole }
+number_below : (o k n : ℕ) → k ≤ o → n * 2 ^ k < 2 ^ o → n < 2 ^ (o - k)
+number_below o k n l u =
+    let d : o - k + k ≡ o = omega arith in
+    let p : 2 ^ (o - k) * 2 ^ k ≡ 2 ^ o = sym (pow-add 2 (o - k) k) ∙ ap (λ n. 2 ^ n) d in
+    elim (cases_lt n (2 ^ (o - k))) [
+      | inl x ↦ x
+      | inr x ↦ let m : 2 ^ (o - k) * 2 ^ k ≤ n * 2 ^ k = mul-le-mul_right (2 ^ k) x in absurd (omega (arith, m, p, u))
+    ]
 
-pub no_piece_chosen : (test f : ℕ → Bool) (size : ℕ) (range : Span) (topdown : Bool) (k : ℕ) → ((page : ℕ) → page < size → test page ≡ f page) → LeastWholeOf f size range k None → option_map block_of (candidate test size range topdown k) ≡ None
-no_piece_chosen test f size range topdown k h none = ap (option_map block_of) (candidate_none test size range topdown k (λ i w x. none i w (tests_piece test f size range k w i h x)))
+-- a block that ends by the size is one of those that have a place
+pub has_place : (count o size : ℕ) (set : List Bool) (k n : ℕ) → IsKept count o size set → n * 2 ^ k + 2 ^ k ≤ size → (k ≤ o) × (n < 2 ^ (o - k))
+has_place count o size set k n h e =
+    let f = h.fits in
+    let l : k ≤ o = small_order k o (omega (arith, e, f)) in
+    let s = some_pages k in
+    (l, number_below o k n l (omega (arith, e, f, s)))
 
-pub piece_chosen : (test f : ℕ → Bool) (size : ℕ) (range : Span) (topdown : Bool) (k j : ℕ) (b : Span) → ((page : ℕ) → page < size → test page ≡ f page) → IsLeastWhole f size range k j → IsFirstPiece f size range topdown k j b
-    → option_map block_of (candidate test size range topdown k) ≡ Some b
-piece_chosen test f size range topdown k j b h least first =
-    ap (option_map block_of)
-    (candidate_found test size range topdown k j first.number (λ m w x. least.bound m w (tests_piece test f size range k w m h x)) (tests_piece f test size range k j first.number (λ page l. sym (h page l)) first.is)
-    (λ m x. first.first m (tests_piece test f size range k j m h x)))
-    ∙ ap Some (sym first.block)
+-- ---- a block that is put into the set, or taken out
 
-pub first_chosen : (test f : ℕ → Bool) (size : ℕ) (range : Span) (topdown : Bool) (k j : ℕ) (found : Option Span) → ((page : ℕ) → page < size → test page ≡ f page) → IsLeastWhole f size range k j → FirstPieceOf f size range topdown k j found
-    → option_map block_of (candidate test size range topdown k) ≡ found
-first_chosen test f size range topdown k j None h least first = absurd (first least.number least.is)
-first_chosen test f size range topdown k j (Some b) h least first = piece_chosen test f size range topdown k j b h least first
+block_at_place : (o : ℕ) (xs : List Bool) (k n : ℕ) → k ≤ o → n < 2 ^ (o - k) → has_block o xs k n ≡ get_or xs (place o k n) false
+block_at_place o xs k n a b = ap (λ t. t && (nat_lt n (2 ^ (o - k)) && get_or xs (place o k n) false)) (le-leb k o a) ∙ ap (λ t. t && get_or xs (place o k n) false) (lt-ltb n (2 ^ (o - k)) b)
 
--- ---- what is found, by the marks
+no_place : (o : ℕ) (xs : List Bool) (k n : ℕ) → (k ≤ o → n < 2 ^ (o - k) → ⊥) → has_block o xs k n ≡ false
+no_place o xs k n h = false_from_ne_true (has_block o xs k n) (λ t. let p = in_parts o xs k n t in h p.order p.number)
 
-least_viewed : (o size : ℕ) (ms : List ℕ) (marks : List Bool) (range : Span) (k : ℕ) (found : Option ℕ) → marks_of o size ms ≡ marks → LeastWholeOf (is_free (marks_of o size ms)) size range k found → LeastWholeOf (is_free marks) (length marks) range k found
-least_viewed o size ms marks range k found e h =
-    subst (λ m. LeastWholeOf (is_free m) (length m) range k found) e (subst (λ n. LeastWholeOf (is_free (marks_of o size ms)) n range k found) (sym (length_marks o size ms)) h)
+pub set_at : (o : ℕ) (xs : List Bool) (k n : ℕ) (v : Bool) → length xs ≡ 2 ^ suc o → k ≤ o → n < 2 ^ (o - k) → IsSetAt (has_block o xs) (has_block o (set xs (place o k n) v)) k n v
+set_at o xs k n v len a b =
+    let b' = place_below o k n a b in
+    let l : place o k n < length xs = omega (arith, b', len) in
+    record {
+      same = block_at_place o (set xs (place o k n) v) k n a b ∙ get_or-set_same xs (place o k n) v false l;
+      other = λ j m ne. elim (cases_lt o j) [
+        | inl x ↦ no_place o (set xs (place o k n) v) j m (λ c d. omega (arith, x, c)) ∙ sym (no_place o xs j m (λ c d. omega (arith, x, c)))
+        | inr x ↦ elim (cases_lt m (2 ^ (o - j))) [
+          | inr y ↦ no_place o (set xs (place o k n) v) j m (λ c d. omega (arith, y, d)) ∙ sym (no_place o xs j m (λ c d. omega (arith, y, d)))
+          | inl y ↦
+              let apart : place o j m ≡ place o k n → ⊥ = λ e. let s = one_place o j m k n x y a b e in ne s.0 s.1 in
+              block_at_place o (set xs (place o k n) v) j m x y ∙ get_or-set_other xs (place o k n) (place o j m) v false apart ∙ sym (block_at_place o xs j m x y)
+        ]
+      ];
+    }
 
-first_viewed : (o size : ℕ) (ms : List ℕ) (marks : List Bool) (range : Span) (topdown : Bool) (k j : ℕ) (found : Option Span) → marks_of o size ms ≡ marks → FirstPieceOf (is_free (marks_of o size ms)) size range topdown k j found
-    → FirstPieceOf (is_free marks) (length marks) range topdown k j found
-first_viewed o size ms marks range topdown k j found e h =
-    subst (λ m. FirstPieceOf (is_free m) (length m) range topdown k j found) e (subst (λ n. FirstPieceOf (is_free (marks_of o size ms)) n range topdown k j found) (sym (length_marks o size ms)) h)
+-- the set and the marks after it
+pub record IsChanged (count o size : ℕ) (new marks : List Bool) (k n : ℕ) (v : Bool) : Type 0 where
+  pub kept : IsKept count o size new
+  pub marked : (page : ℕ) → is_free (marks_of o size new) page ≡ is_marked (numbered k n) v (is_free marks page) page
 
-pub least_below : (o : ℕ) (ms : List ℕ) (r : Request) (found : Option ℕ) → IsTree o ms → o ≤ 31 → LeastOf r o ms 0 found → IfSome found (λ w. w < 32)
-least_below o ms r None t h l = tt
-least_below o ms r (Some j) t h l = let s = least_small o ms r 0 j t l in omega (arith, s, h)
+changed : (count o size : ℕ) (xs new marks : List Bool) (k n at : ℕ) (v : Bool) → IsKept count o size xs → marks_of o size xs ≡ marks → k ≤ o → n < 2 ^ (o - k) → at ≡ count - count / 2 ^ k + n → new ≡ set xs at v
+    → Tells size (has_block o (set xs (place o k n) v)) (λ p. is_marked (numbered k n) v (is_free (marks_of o size xs) p) p) → IsChanged count o size new marks k n v
+changed count o size xs new marks k n at v h e a b is made t =
+    let spot : at ≡ place o k n = is ∙ ap (λ c. c - c / 2 ^ k + n) h.counted in
+    let same : set xs (place o k n) v ≡ new = ap (λ i. set xs i v) (sym spot) ∙ sym made in
+    let below = place_below o k n a b in
+    let last : 2 ^ suc o - 1 ≡ place o k n → ⊥ = λ c. omega (arith, c, below) in
+    let kept : IsKept count o size (set xs (place o k n) v) = record {
+      counted = h.counted;
+      len = length-set xs (place o k n) v ∙ h.len;
+      order = h.order;
+      small = h.small;
+      fits = h.fits;
+      blocks = t.blocks;
+      last = get_or-set_other xs (place o k n) (2 ^ suc o - 1) v false last ∙ h.last;
+    } in
+    subst (λ ys. IsChanged count o size ys marks k n v) same
+    (record {
+      kept = kept;
+      marked = λ p.
+          tell_same size (has_block o (set xs (place o k n) v)) (is_free (marks_of o size (set xs (place o k n) v))) (λ p. is_marked (numbered k n) v (is_free (marks_of o size xs) p) p) p (kept_tells count o size (set xs (place o k n) v) kept) t
+          ∙ ap (λ m. is_marked (numbered k n) v (is_free m p) p) e;
+    })
 
--- its last page is below the size
-pub first_within : (f : ℕ → Bool) (size : ℕ) (range : Span) (topdown : Bool) (k j : ℕ) (b : Span) → IsFirstPiece f size range topdown k j b → b.end ≤ size
-first_within f size range topdown k j b h =
-    let w = piece_within f size range k j h.number h.is in
-    let e = ap (λ (b : Span). b.end) h.block in
-    omega (arith, w, e)
+-- the marks tell of the set
+pub marks_tell : (count o size : ℕ) (xs marks : List Bool) → IsKept count o size xs → marks_of o size xs ≡ marks → Tells size (has_block o xs) (is_free marks)
+marks_tell count o size xs marks h e = subst (λ m. Tells size (has_block o xs) (is_free m)) e (kept_tells count o size xs h)
 
-pub first_free : (f : ℕ → Bool) (size : ℕ) (range : Span) (topdown : Bool) (k j : ℕ) (found : Option Span) → FirstPieceOf f size range topdown k j found → IfSome found (λ block. (page : ℕ) → has_page page block ≡ true → f page ≡ true)
-first_free f size range topdown k j None h = tt
-first_free f size range topdown k j (Some b) h = λ page t.
-    let e = ap (λ (b : Span). b.end) h.block in
-    let s = ap (λ (b : Span). b.start) h.block in
-    let p = and_parts (nat_le b.start page) (nat_lt page b.end) t in
-    let l = leb-true b.start page p.0 in
-    let u = ltb-true page b.end p.1 in
-    piece_free f size range k j h.number page h.is (omega (arith, s, l)) (omega (arith, e, u))
+-- the free blocks are those of the set
+pub free_in : (count o size : ℕ) (xs marks : List Bool) (k n : ℕ) → IsKept count o size xs → marks_of o size xs ≡ marks → IsFree (is_free marks) (length marks) k n → has_block o xs k n ≡ true
+free_in count o size xs marks k n h e w =
+    of_whole size (has_block o xs) (is_free marks) (marks_tell count o size xs marks h e) k n (subst (λ s. IsFree (is_free marks) s k n) (sym (size_of o size xs marks e)) w)
 
-pub least_seen : (o size : ℕ) (ms xs : List ℕ) (marks : List Bool) (r : Request) (n : Span) (found : Option ℕ) → IsKept o size ms → HasSameBelow size n r.range → marks_of o size ms ≡ marks → xs ≡ ms → LeastOf (near r n) o xs 0 found
-    → LeastWholeOf (is_free marks) (length marks) r.range r.order found
-least_seen o size ms xs marks r n found k s v e h = least_viewed o size ms marks r.range r.order found v (least_found o size ms r n k s found (subst (λ xs. LeastOf (near r n) o xs 0 found) e h))
+pub in_free : (count o size : ℕ) (xs marks : List Bool) (k n : ℕ) → IsKept count o size xs → marks_of o size xs ≡ marks → has_block o xs k n ≡ true → IsFree (is_free marks) (length marks) k n
+in_free count o size xs marks k n h e w =
+    subst (λ s. IsFree (is_free marks) s k n) (size_of o size xs marks e) (is_whole size (has_block o xs) (is_free marks) (marks_tell count o size xs marks h e) k n w)
 
-pub first_seen : (o size : ℕ) (ms xs : List ℕ) (marks : List Bool) (r : Request) (n : Span) (j : ℕ) (found : Option ℕ) → IsKept o size ms → HasSameBelow size n r.range → marks_of o size ms ≡ marks → xs ≡ ms → FirstOf (near r n) o xs 0 j found
-    → FirstPieceOf (is_free marks) (length marks) r.range r.topdown r.order j (option_map (numbered r.order) found)
-first_seen o size ms xs marks r n j found k s v e h =
-    first_viewed o size ms marks r.range r.topdown r.order j (option_map (numbered r.order) found) v (first_found o size ms r n k s j found (subst (λ xs. FirstOf (near r n) o xs 0 j found) e h))
+pub removed : (count o size : ℕ) (xs new marks : List Bool) (k n at : ℕ) → IsKept count o size xs → marks_of o size xs ≡ marks → IsFree (is_free marks) (length marks) k n → at ≡ count - count / 2 ^ k + n → new ≡ set xs at false
+    → IsChanged count o size new marks k n false
+removed count o size xs new marks k n at h e w is made =
+    let b = free_in count o size xs marks k n h e w in
+    let p = in_parts o xs k n b in
+    changed count o size xs new marks k n at false h e p.order p.number is made
+    (taken_out size (has_block o xs) (has_block o (set xs (place o k n) false)) (is_free (marks_of o size xs)) k n (kept_tells count o size xs h) (set_at o xs k n false h.len p.order p.number) b)
 
--- masks that were written through a slice of all of them
-pub written_back : (o : ℕ) (ms old new : List ℕ) (len : ℕ) → IsTree o ms → old ≡ ms → length old ≡ len → IsTree o new → take len (new ++ drop (length new) ms) ≡ new
-written_back o ms old new len t e l u =
-    let same = length_of_tree o new u ∙ sym (length_of_tree o ms t) ∙ sym (ap length e) in
-    take_front len new (drop (length new) ms) (same ∙ l)
+pub added : (count o size : ℕ) (xs new marks : List Bool) (k n at : ℕ) → IsKept count o size xs → marks_of o size xs ≡ marks → n * 2 ^ k + 2 ^ k ≤ length marks
+    → ((page : ℕ) → page / 2 ^ k ≡ n → is_free marks page ≡ false) → (IsFree (is_free marks) (length marks) k (beside n) → ⊥) → at ≡ count - count / 2 ^ k + n → new ≡ set xs at true
+    → IsChanged count o size new marks k n true
+added count o size xs new marks k n at h e end held alone is made =
+    let s = size_of o size xs marks e in
+    let fits : n * 2 ^ k + 2 ^ k ≤ size = omega (arith, s, end) in
+    let p = has_place count o size xs k n h fits in
+    changed count o size xs new marks k n at true h e p.0 p.1 is made
+    (put_in size (has_block o xs) (has_block o (set xs (place o k n) true)) (is_free (marks_of o size xs)) k n (kept_tells count o size xs h) (set_at o xs k n true h.len p.0 p.1) fits
+    (λ p i. ap (λ m. is_free m p) e ∙ held p i) (λ b. alone (in_free count o size xs marks k (beside n) h e b)))
 
-pub size_of : (o size : ℕ) (ms : List ℕ) (marks : List Bool) → marks_of o size ms ≡ marks → size ≡ length marks
-size_of o size ms marks v = sym (length_marks o size ms) ∙ ap length v
+-- where the block stands, for the code
+pub spot_below : (count o size : ℕ) (xs : List Bool) (k n at : ℕ) → IsKept count o size xs → k ≤ o → n < 2 ^ (o - k) → at ≡ count - count / 2 ^ k + n → at < length xs
+spot_below count o size xs k n at h a b is =
+    let spot : at ≡ place o k n = is ∙ ap (λ c. c - c / 2 ^ k + n) h.counted in
+    let p = place_below o k n a b in
+    let l = h.len in
+    omega (arith, spot, p, l)
+
+pub spot_of : (count o size : ℕ) (xs : List Bool) (k n at : ℕ) → IsKept count o size xs → at ≡ count - count / 2 ^ k + n → at ≡ place o k n
+spot_of count o size xs k n at h is = is ∙ ap (λ c. c - c / 2 ^ k + n) h.counted
+
+pub count_small : (count o size : ℕ) (xs : List Bool) → IsKept count o size xs → count ≤ 2 ^ 32
+count_small count o size xs h = let c = h.counted in let r = h.order in let p : 2 ^ suc o ≤ 2 ^ 32 = small_pow (suc o) 32 (omega (arith, r)) in omega (arith, c, p)
+
+-- the set tells whether a block that has a place is free
+pub at_spot : (count o size : ℕ) (xs marks : List Bool) (k n at : ℕ) (t : Bool) → IsKept count o size xs → marks_of o size xs ≡ marks → k ≤ o → n < 2 ^ (o - k) → at ≡ count - count / 2 ^ k + n → t ≡ get_or xs at false → t ≡ true
+    → IsFree (is_free marks) (length marks) k n
+at_spot count o size xs marks k n at t h e a b is got true_now =
+    in_free count o size xs marks k n h e (block_at_place o xs k n a b ∙ ap (λ i. get_or xs i false) (sym (spot_of count o size xs k n at h is)) ∙ sym got ∙ true_now)
+
+pub not_at_spot : (count o size : ℕ) (xs marks : List Bool) (k n at : ℕ) (t : Bool) → IsKept count o size xs → marks_of o size xs ≡ marks → at ≡ count - count / 2 ^ k + n → t ≡ get_or xs at false → t ≡ false
+    → IsFree (is_free marks) (length marks) k n → ⊥
+not_at_spot count o size xs marks k n at t h e is got false_now w =
+    let b = in_parts o xs k n (free_in count o size xs marks k n h e w) in
+    both_ways t false_now (got ∙ ap (λ i. get_or xs i false) (spot_of count o size xs k n at h is) ∙ b.is)
+
+-- the half beside a block that isn't the whole
+pub beside_fits : (o k n : ℕ) → k < o → n < 2 ^ (o - k) → beside n < 2 ^ (o - k)
+beside_fits o k n l b =
+    let s : o - k ≡ suc (o - k - 1) = omega arith in
+    let e : 2 ^ (o - k) ≡ 2 ^ (o - k - 1) + 2 ^ (o - k - 1) = ap (λ m. 2 ^ m) s ∙ pow_next (o - k - 1) in
+    omega (arith, e, b)
+
+-- the greatest block has no half beside it
+pub none_beside : (count o size : ℕ) (xs marks : List Bool) (k n : ℕ) → IsKept count o size xs → marks_of o size xs ≡ marks → o ≤ k → n * 2 ^ k + 2 ^ k ≤ length marks → IsFree (is_free marks) (length marks) k (beside n) → ⊥
+none_beside count o size xs marks k n h e l end w =
+    let s = size_of o size xs marks e in
+    let fits : n * 2 ^ k + 2 ^ k ≤ size = omega (arith, s, end) in
+    let p = has_place count o size xs k n h fits in
+    let b = in_parts o xs k (beside n) (free_in count o size xs marks k (beside n) h e w) in
+    let same : k ≡ o = let a = p.0 in omega (arith, a, l) in
+    let z : 2 ^ (o - k) ≡ 1 = ap (λ m. 2 ^ m) (let d : o - k ≡ 0 = omega (arith, same) in d) in
+    let a = p.1 in
+    let c = b.number in
+    omega (arith, z, a, c)
+
+-- ---- the block at a place
+
+pub record IsBlockAt (o at k n : ℕ) : Type 0 where
+  pub order : k ≤ o
+  pub number : n < 2 ^ (o - k)
+  pub place : place o k n ≡ at
+
+pub block_is_at : (o at level k n : ℕ) → at + 1 < 2 ^ suc o → 2 ^ level ≤ 2 ^ suc o - 1 - at → 2 ^ suc o - 1 - at < 2 ^ suc level → k ≡ o - level → n ≡ at + 2 * 2 ^ level - 2 ^ suc o → IsBlockAt o at k n
+block_is_at o at level k n below low high order number =
+    let p = pow_next level in
+    let q = pow_next o in
+    let l : level ≤ o = elim (cases_lt o level) [
+      | inl x ↦ let m : 2 ^ suc o ≤ 2 ^ level = small_pow (suc o) level (omega (arith, x)) in absurd (omega (arith, m, low, below))
+      | inr x ↦ x
+    ] in
+    let back : o - k ≡ level = omega (arith, l, order) in
+    let same : 2 ^ (o - k) ≡ 2 ^ level = ap (λ m. 2 ^ m) back in
+    let ok : k ≤ o = omega (arith, order) in
+    let a = (is_place o k n ok).is in
+    record {
+      order = ok;
+      number = omega (arith, same, number, below, low, high, p);
+      place = omega (arith, a, same, number, high, p, below);
+    }
+
+-- ---- blocks that have a place
+
+pub record IsPlaced (o k n : ℕ) : Type 0 where
+  pub order : k ≤ o
+  pub number : n < 2 ^ (o - k)
+
+pub placed_free : (count o size : ℕ) (xs marks : List Bool) (k n : ℕ) → IsKept count o size xs → marks_of o size xs ≡ marks → IsFree (is_free marks) (length marks) k n → IsPlaced o k n
+placed_free count o size xs marks k n h e w = let p = in_parts o xs k n (free_in count o size xs marks k n h e w) in record { order = p.order; number = p.number }
+
+pub placed_block : (count o size : ℕ) (xs marks : List Bool) (k n : ℕ) → IsKept count o size xs → marks_of o size xs ≡ marks → n * 2 ^ k + 2 ^ k ≤ length marks → IsPlaced o k n
+placed_block count o size xs marks k n h e l =
+    let s = size_of o size xs marks e in
+    let p = has_place count o size xs k n h (omega (arith, s, l)) in
+    record { order = p.0; number = p.1 }
+
+pub placed_start : (count o size : ℕ) (xs marks : List Bool) (k n : ℕ) → IsKept count o size xs → marks_of o size xs ≡ marks → k ≤ o → n * 2 ^ k < length marks → IsPlaced o k n
+placed_start count o size xs marks k n h e l u =
+    let s = size_of o size xs marks e in
+    let f = h.fits in
+    record { order = l; number = number_below o k n l (omega (arith, s, u, f)) }
+
+pub placed_small : (count o size : ℕ) (xs : List Bool) (k n : ℕ) → IsKept count o size xs → IsPlaced o k n → k ≤ 31
+placed_small count o size xs k n h p = let a = p.order in let b = h.order in omega (arith, a, b)
+
+pub placed_spot : (count o size : ℕ) (xs : List Bool) (k n at : ℕ) → IsKept count o size xs → IsPlaced o k n → at ≡ count - count / 2 ^ k + n → at < length xs
+placed_spot count o size xs k n at h p is = spot_below count o size xs k n at h p.order p.number is
+
+-- a free block has fewer than 2 ^ 31 pages
+pub free_small : (count o size : ℕ) (xs marks : List Bool) (k n : ℕ) → IsKept count o size xs → marks_of o size xs ≡ marks → IsFree (is_free marks) (length marks) k n → k < 31
+free_small count o size xs marks k n h e w =
+    let s = size_of o size xs marks e in
+    let b = h.blocks.within k n (free_in count o size xs marks k n h e w) in
+    let z = h.small in
+    elim (cases_lt k 31) [
+      | inl x ↦ x
+      | inr x ↦ let m : 2 ^ 31 ≤ 2 ^ k = small_pow 31 k x in absurd (omega (arith, b, z, m))
+    ]
+
+-- ---- the first and the last free block
+
+not_last : (count o size : ℕ) (xs : List Bool) (m : ℕ) → IsKept count o size xs → get_or xs m false ≡ true → m < length xs → m + 1 < 2 ^ suc o
+not_last count o size xs m h t l =
+    let e = h.len in
+    elim (cases_eq m (2 ^ suc o - 1)) [
+      | inl x ↦ absurd (both_ways (get_or xs m false) (ap (λ i. get_or xs i false) x ∙ h.last) t)
+      | inr x ↦ omega (arith, x, l, e)
+    ]
+
+pub found_below : (count o size : ℕ) (xs : List Bool) (at m : ℕ) → IsKept count o size xs → IsFirstFrom xs at m → m + 1 < count
+found_below count o size xs at m h f = let c = h.counted in let n = not_last count o size xs m h f.is f.within in omega (arith, c, n)
+
+pub last_below : (count o size : ℕ) (xs : List Bool) (at m : ℕ) → IsKept count o size xs → at < length xs → IsLastTo xs at m → m + 1 < count
+last_below count o size xs at m h l f = let c = h.counted in let t = f.to in let n = not_last count o size xs m h f.is (omega (arith, t, l)) in omega (arith, c, n)
+
+module _ (count o size : ℕ) (xs marks : List Bool) (h : IsKept count o size xs) (e : marks_of o size xs ≡ marks) where
+  -- where a free block stands
+  free_at : (j i : ℕ) → IsFree (is_free marks) (length marks) j i → IsIn o xs j i
+  free_at j i w = in_parts o xs j i (free_in count o size xs marks j i h e w)
+
+  -- from block n of order k on
+  behind : (k n j i : ℕ) → n < 2 ^ (o - k) → j ≤ o → k ≤ j → (k ≡ j → n ≤ i) → place o k n ≤ place o j i
+  behind k n j i b l a c =
+      elim (cases_lt k j) [
+        | inl x ↦ let p = place_order o k n j i x l b in omega (arith, p)
+        | inr x ↦
+            let s : k ≡ j = omega (arith, x, a) in
+            let z = c s in
+            let y : place o k n ≡ place o j n = ap (λ q. place o q n) s in
+            omega (arith, y, z)
+      ]
+
+  pub first_none : (k n at : ℕ) → IsPlaced o k n → at ≡ count - count / 2 ^ k + n → ((i : ℕ) → at ≤ i → get_or xs i false ≡ false) → (j i : ℕ) → k ≤ j → (k ≡ j → n ≤ i) → IsFree (is_free marks) (length marks) j i → ⊥
+  first_none k n at p is none j i a c w =
+      let s = spot_of count o size xs k n at h is in
+      let b = free_at j i w in
+      let l = behind k n j i p.number b.order a c in
+      both_ways (get_or xs (place o j i) false) (none (place o j i) (omega (arith, s, l))) b.is
+
+  -- a block that stands no later than another
+  not_later : (j i k n : ℕ) → i < 2 ^ (o - j) → j ≤ o → k ≤ o → n < 2 ^ (o - k) → place o j i ≤ place o k n → (j ≤ k) × (j ≡ k → i ≤ n)
+  not_later j i k n b l m d a = (
+    elim (cases_lt k j) [ inl x ↦ let p = place_order o k n j i x l d in absurd (omega (arith, p, a)) | inr x ↦ x ],
+    λ s. let y : place o j i ≡ place o k i = ap (λ q. place o q i) s in omega (arith, y, a),
+  )
+
+  pub first_found : (k n at m : ℕ) (b : Block) → IsPlaced o k n → at ≡ count - count / 2 ^ k + n → IsFirstFrom xs at m → IsBlockAt o m b.order b.number → IsFirstFree (is_free marks) (length marks) k n b
+  first_found k n at m b p is f q =
+      let s = spot_of count o size xs k n at h is in
+      let from : place o k n ≤ place o b.order b.number = let x = f.from in let y = q.place in omega (arith, s, x, y) in
+      let start = not_later k n b.order b.number p.number p.order q.order q.number from in
+      record {
+        order = start.0;
+        number = start.1;
+        free = in_free count o size xs marks b.order b.number h e (in_from o xs b.order b.number q.order q.number (ap (λ i. get_or xs i false) q.place ∙ f.is));
+        first = λ j i a c w.
+            let r = free_at j i w in
+            let l = behind k n j i p.number r.order a c in
+            let t : m ≤ place o j i = elim (cases_lt (place o j i) m) [
+              | inl x ↦ absurd (both_ways (get_or xs (place o j i) false) (f.before (place o j i) (omega (arith, s, l)) x) r.is)
+              | inr x ↦ x
+            ] in
+            let y = q.place in
+            not_later b.order b.number j i q.number q.order r.order r.number (omega (arith, y, t));
+      }
+
+  pub last_none : (k n at : ℕ) → IsPlaced o k n → at ≡ count - count / 2 ^ k + n → ((i : ℕ) → i ≤ at → get_or xs i false ≡ false) → (i : ℕ) → i ≤ n → IsFree (is_free marks) (length marks) k i → ⊥
+  last_none k n at p is none i l w =
+      let s = spot_of count o size xs k n at h is in
+      both_ways (get_or xs (place o k i) false) (none (place o k i) (omega (arith, s, l))) (free_at k i w).is
+
+  pub last_found : (k n at m : ℕ) (b : Block) → IsPlaced o k n → at ≡ count - count / 2 ^ k + n → IsLastTo xs at m → IsBlockAt o m b.order b.number → b.order ≡ k → IsLastFree (is_free marks) (length marks) k n b
+  last_found k n at m b p is f q same =
+      let s = spot_of count o size xs k n at h is in
+      let y = q.place in
+      let t = f.to in
+      let z : place o b.order b.number ≡ place o k b.number = ap (λ j. place o j b.number) same in
+      record {
+        order = same;
+        number = omega (arith, s, y, t, z);
+        free = in_free count o size xs marks b.order b.number h e (in_from o xs b.order b.number q.order q.number (ap (λ i. get_or xs i false) q.place ∙ f.is));
+        last = λ i l w. elim (cases_lt b.number i) [
+          | inr x ↦ x
+          | inl x ↦ absurd (both_ways (get_or xs (place o k i) false) (f.behind (place o k i) (omega (arith, y, z, x)) (omega (arith, s, l))) (free_at k i w).is)
+        ];
+      }
+
+  pub last_other : (k n at m : ℕ) (b : Block) → IsPlaced o k n → at ≡ count - count / 2 ^ k + n → IsLastTo xs at m → IsBlockAt o m b.order b.number → (b.order ≡ k → ⊥) → (i : ℕ) → i ≤ n → IsFree (is_free marks) (length marks) k i → ⊥
+  last_other k n at m b p is f q other i l w =
+      let s = spot_of count o size xs k n at h is in
+      let y = q.place in
+      let t = f.to in
+      let below : b.order < k = let x = not_later b.order b.number k n q.number q.order p.order p.number (omega (arith, s, y, t)) in let z = x.0 in omega (arith, z, other) in
+      let r = place_order o b.order b.number k i below p.order q.number in
+      both_ways (get_or xs (place o k i) false) (f.behind (place o k i) (omega (arith, y, r)) (omega (arith, s, l))) (free_at k i w).is
+
+  -- no block of an order above all is free
+  pub none_above : (k i : ℕ) → o < k → IsFree (is_free marks) (length marks) k i → ⊥
+  none_above k i l w = let b = (free_at k i w).order in omega (arith, b, l)
+
+-- ---- the order of the block at a place
+
+pub record IsLevel (o count at level len : ℕ) : Type 0 where
+  pub fits : level ≤ o
+  pub room : count ≤ at + 2 * len
+  pub block : IsBlockAt o at (o - level) (at + 2 * len - count)
+
+pub level_at : (o count at level len : ℕ) → count ≡ 2 ^ suc o → at + 1 < count → level ≡ log2 (count - 1 - at) → len ≡ 2 ^ level → IsLevel o count at level len
+level_at o count at level len e below is long =
+    let g = log2_is_log (count - 1 - at) (omega (arith, below)) in
+    let low : 2 ^ level ≤ count - 1 - at = subst (λ i. 2 ^ i ≤ count - 1 - at) (sym is) g.low in
+    let high : count - 1 - at < 2 ^ suc level = subst (λ i. count - 1 - at < 2 ^ suc i) (sym is) g.high in
+    let p = pow_next level in
+    let l : level ≤ o = elim (cases_lt o level) [
+      | inl x ↦ let m : 2 ^ suc o ≤ 2 ^ level = small_pow (suc o) level (omega (arith, x)) in absurd (omega (arith, m, low, below, e))
+      | inr x ↦ x
+    ] in
+    record {
+      fits = l;
+      room = omega (arith, high, p, long);
+      block = block_is_at o at level (o - level) (at + 2 * len - count) (omega (arith, below, e)) (omega (arith, low, e)) (omega (arith, high, e)) refl (omega (arith, e, long));
+    }
+
+-- ---- no page is free
+
+held_bit : (n i : ℕ) → get_or (replicate n false) i false ≡ false
+held_bit n i = elim (cases_lt i n) [
+  | inl l ↦ get_or-replicate n i false false l
+  | inr l ↦ get_or_past (replicate n false) i false (let e : length (replicate n false) ≡ n = grind (arith, common_steps) in omega (arith, e, l))
+]
+
+held_block : (o n k i : ℕ) → has_block o (replicate n false) k i ≡ false
+held_block o n k i = false_from_ne_true (has_block o (replicate n false) k i) (λ t. both_ways (get_or (replicate n false) (place o k i) false) (held_bit n (place o k i)) (in_parts o (replicate n false) k i t).is)
+
+pub kept_held : (count o size : ℕ) (xs : List Bool) → xs ≡ replicate count false → count ≡ 2 ^ suc o → o ≤ 31 → size < 2 ^ 31 → size ≤ 2 ^ o → IsKept count o size xs
+kept_held count o size xs is e ho hs hf =
+    subst (IsKept count o size) (sym is)
+    (record {
+      counted = e;
+      len = (let l : length (replicate count false) ≡ count = grind (arith, common_steps) in l) ∙ e;
+      order = ho;
+      small = hs;
+      fits = hf;
+      blocks = record {
+        within = λ k n h. absurd (both_ways (has_block o (replicate count false) k n) (held_block o count k n) h);
+        alone = λ p k j h i. absurd (both_ways (has_block o (replicate count false) k (p / 2 ^ k)) (held_block o count k (p / 2 ^ k)) h);
+        parted = λ k n h i. both_ways (has_block o (replicate count false) k (2 * n)) (held_block o count k (2 * n)) h;
+      };
+      last = held_bit count (2 ^ suc o - 1);
+    })
+
+pub marks_held : (count o size : ℕ) (xs : List Bool) → xs ≡ replicate count false → IsKept count o size xs → (page : ℕ) → is_free (marks_of o size xs) page ≡ false
+marks_held count o size xs is h page =
+    false_from_ne_true (is_free (marks_of o size xs) page) (λ t.
+    let b = (kept_tells count o size xs h).found page t in
+    both_ways (has_block o xs b.order (page / 2 ^ b.order)) (subst (λ ys. has_block o ys b.order (page / 2 ^ b.order) ≡ false) (sym is) (held_block o count b.order (page / 2 ^ b.order))) b.is)
+
+-- ---- the free block that has a block
+
+-- the block of a greater order that has a block has a place
+pub placed_above : (count o size : ℕ) (xs marks : List Bool) (k n j : ℕ) → IsKept count o size xs → marks_of o size xs ≡ marks → n * 2 ^ k + 2 ^ k ≤ length marks → k ≤ j → j ≤ o → IsPlaced o j (n * 2 ^ k / 2 ^ j)
+placed_above count o size xs marks k n j h e l a b =
+    let s = some_pages k in
+    let d = div-mul-le_self (n * 2 ^ k) (2 ^ j) in
+    placed_start count o size xs marks j (n * 2 ^ k / 2 ^ j) h e b (omega (arith, d, l, s))
+
+pub around_is : (count o size : ℕ) (xs marks : List Bool) (k n : ℕ) → IsKept count o size xs → marks_of o size xs ≡ marks → ((j : ℕ) → k ≤ j → j ≤ o → IsFree (is_free marks) (length marks) j (n * 2 ^ k / 2 ^ j) → ⊥)
+    → is_free_block (is_free marks) (length marks) (block_around k (n * 2 ^ k)) ≡ false
+around_is count o size xs marks k n h e none =
+    false_from_ne_true (is_free_block (is_free marks) (length marks) (block_around k (n * 2 ^ k))) (λ t.
+    let f : is_free_block (is_free marks) size (block_around k (n * 2 ^ k)) ≡ true = subst (λ s. is_free_block (is_free marks) s (block_around k (n * 2 ^ k)) ≡ true) (sym (size_of o size xs marks e)) t in
+    let a = around_free size (has_block o xs) (is_free marks) (marks_tell count o size xs marks h e) k (n * 2 ^ k) f in
+    let i : has_block o xs a.order (n * 2 ^ k / 2 ^ a.order) ≡ true = subst (λ q. has_block o xs a.order (q * 2 ^ k / 2 ^ a.order) ≡ true) (own_block k n) a.is in
+    none a.order a.above (in_parts o xs a.order (n * 2 ^ k / 2 ^ a.order) i).order (in_free count o size xs marks a.order (n * 2 ^ k / 2 ^ a.order) h e i))
+
+-- the half beside a block that isn't the whole has a place
+pub placed_beside : (o k n : ℕ) → IsPlaced o k n → k < o → IsPlaced o k (beside n)
+placed_beside o k n p l = record { order = p.order; number = beside_fits o k n l p.number }

@@ -1,11 +1,10 @@
 -- Blocks by number: a page p is in the block p / 2 ^ o of order o.
-use Rattle.std.proofs.Common.{◌≡◌, ℕ, zero, suc, ◌+◌, ◌-◌, ◌*◌, ◌/◌, ◌%◌, ◌^◌, ◌<◌, ◌≤◌, ◌⊎◌, inl, inr, refl, ap, sym, ◌∙◌, arith, pow-suc, pow-add, pow_pos, pow_mono, eqb, false, mul_comm, mul_assoc, mul-le-mul_right}
+use Rattle.std.proofs.Common.{◌≡◌, ℕ, suc, ◌+◌, ◌-◌, ◌*◌, ◌/◌, ◌^◌, ◌<◌, ◌≤◌, ◌⊎◌, inl, inr, ap, sym, ◌∙◌, arith, pow-suc, pow-add, pow_pos, pow_mono, eqb, false, mul_comm, mul_assoc, mul-le-mul_right}
 use Rattle.std.proofs.lemmas.Nat.{div-mul-add}
 use Rattle.std.proofs.Math.Nat.{div-div-eq-div-mul, div-mul-le_self, lt-div-mul-add}
 use Rattle.std.specs.Int.{bit_at}
 use Rattle.std.proofs.lemmas.Nat.Bits.{bit_at-lt}
 use Rattle.std.proofs.lemmas.Bool.{ne_eqb, cases_lt}
-use Rattle.block_tree.specs.Masks.{nodes}
 
 pub some_pages : (o : ℕ) → 0 < 2 ^ o
 some_pages o = pow_pos o
@@ -43,11 +42,6 @@ page_half p o q e =
     let d = div_next p o in
     let l = bit_at-lt p o in
     elim (cases_lt (bit_at p o) 1) [ inl h ↦ inl (omega arith, omega arith) | inr h ↦ inr (omega arith, omega arith) ]
-
--- how many masks there are
-pub nodes_pow : (o : ℕ) → nodes o + 1 ≡ 2 ^ suc o
-nodes_pow zero = refl
-nodes_pow (suc o) = let e = nodes_pow o in let p = pow_next (suc o) in omega arith
 
 pub small_pow : (o n : ℕ) → o ≤ n → 2 ^ o ≤ 2 ^ n
 small_pow o n h = pow_mono h
@@ -169,10 +163,6 @@ less_by_block i m k o q a b =
           let n : m * 2 ^ k ≤ i * 2 ^ k = mul-le-mul_right (2 ^ k) (omega arith) in
           absurd (omega arith)
     ]
-
--- the bits of a number that was shifted down
-pub bit_at_shifted : (m f i : ℕ) → bit_at (m / 2 ^ f) i ≡ bit_at m (f + i)
-bit_at_shifted m f i = ap (λ n. n % 2) (div-div-eq-div-mul m (2 ^ f) (2 ^ i) ∙ ap (λ n. m / n) (sym (pow-add 2 f i)))
 
 -- the number of the larger block in which a block begins
 pub number_in : (i k o : ℕ) → k ≤ o → i / 2 ^ (o - k) ≡ i * 2 ^ k / 2 ^ o

@@ -1,18 +1,15 @@
 -- Blocks by the largest free blocks around them.
-use Rattle.std.proofs.Common.{◌≡◌, ℕ, zero, suc, ◌+◌, ◌-◌, ◌*◌, ◌/◌, ◌^◌, ◌<◌, ◌≤◌, ◌&&◌, inl, inr, Bool, true, false, List, Option, Some, None, refl, ap, sym, ◌∙◌, subst, arith, if◌then◌else◌, mul-div_cancel}
+use Rattle.std.proofs.Common.{◌≡◌, ℕ, zero, suc, ◌+◌, ◌-◌, ◌*◌, ◌/◌, ◌^◌, ◌<◌, ◌≤◌, ◌&&◌, inl, inr, Bool, true, false, Some, None, refl, ap, sym, ◌∙◌, subst, arith, if◌then◌else◌, mul-div_cancel}
 use Rattle.std.proofs.lemmas.Bool.{and_parts, and_from, cases_lt, false_from_ne_true, both_ways}
 use Rattle.ttm_base.specs.declared.Span.{Span}
 use Rattle.ttm_base.specs.Reach.{is_inside}
 use Rattle.ttm_base.specs.BuddyChoice.{Candidate, block_around, is_free_block, log2, free_order, candidate_of}
 use Rattle.ttm_base.specs.BlockStarts.{candidate_at}
 use Rattle.ttm_base.proofs.OrderLaws.{log2_from, log2_is_log}
-use Rattle.block_tree.specs.declared.request.Request.{Request}
-use Rattle.block_tree.specs.Masks.{order_at}
-use Rattle.block_tree.specs.Searching.{numbered, IsIn, whole_at}
+use Rattle.block_tree.specs.Searching.{numbered}
 use Rattle.block_tree.specs.Pieces.{IsWhole, IsPiece}
 use Rattle.block_tree.proofs.Numbers.{some_pages, small_pow, block_pages, in_block}
-use Rattle.block_tree.proofs.SearchLaws.{whole_parts, whole_from}
-use Rattle.block_tree.proofs.FreeLaws.{free_from, free_parts, smaller_free, order_up, order_ends, order_is, IsRoot, root_free, root_largest, root_held, candidate_from, around_number}
+use Rattle.block_tree.proofs.FreeLaws.{free_from, free_parts, smaller_free, order_up, order_ends, order_is, candidate_from, around_number}
 
 -- ---- the largest free block around a page
 
@@ -124,38 +121,3 @@ piece_candidate f size range k j i h =
     ap (λ b. if is_inside range b && is_free_block f size b then Some (candidate_of f size k b) else None) (around_number k i)
     ∙ ap (λ t. if t then Some (candidate_of f size k b) else None) (and_from (is_inside range b) (is_free_block f size b) h.inside free)
     ∙ ap (λ w. Some (let c : Candidate = record { block = b; whole = w } in c)) order
-
--- ---- as the masks tell
-
-module _ (f : ℕ → Bool) (size o : ℕ) (ms : List ℕ) (r : Request) (root : IsRoot f size o ms) where
-  pub piece_of_whole : (i j : ℕ) → i * 2 ^ r.order < 2 ^ o → whole_at r o ms i ≡ Some j → IsPiece f size r.range r.order j i
-  piece_of_whole i j l h =
-      let p = whole_parts r i j (order_at o ms (i * 2 ^ r.order)) h in
-      record {
-        order = p.large;
-        inside = p.inside;
-        whole = record { free = root_free f size o ms (i * 2 ^ r.order) j root l p.is; largest = next_order f size j (i * 2 ^ r.order) false (root_largest f size o ms (i * 2 ^ r.order) j root p.is) };
-      }
-
-  pub in_root : (i j : ℕ) → IsPiece f size r.range r.order j i → IsIn o 0 r.order i
-  in_root i j h =
-      let b = piece_within f size r.range r.order j i h in
-      let s = some_pages r.order in
-      let fits = root.fits in
-      in_block (i * 2 ^ r.order) o 0 (omega arith) (omega (arith, b, s, fits))
-
-  pub whole_of_piece : (i j : ℕ) → IsPiece f size r.range r.order j i → whole_at r o ms i ≡ Some j
-  whole_of_piece i j h = by (order_at o ms (i * 2 ^ r.order)) refl where
-    page : ℕ
-    page = i * 2 ^ r.order
-
-    below : page < size
-    below = let b = piece_within f size r.range r.order j i h in let s = some_pages r.order in omega (arith, b, s)
-
-    by : (at : Option ℕ) → order_at o ms page ≡ at → whole_at r o ms i ≡ Some j
-    by None e = absurd (both_ways (is_free_block f size (block_around j page)) (root_held f size o ms page j root below e) h.whole.free)
-    by (Some w) e =
-        let fits = root.fits in
-        let b = below in
-        let whole : IsWhole f size w page = record { free = root_free f size o ms page w root (omega (arith, b, fits)) e; largest = next_order f size w page false (root_largest f size o ms page w root e) } in
-        whole_from r i j (order_at o ms page) (e ∙ ap Some (one_whole f size w j page whole h.whole)) h.order h.inside

@@ -1,4 +1,6 @@
 pub mod Masks
+pub mod BitSet
 pub mod Searching
 pub mod FreeSet
 pub mod Pieces
+pub mod Holding

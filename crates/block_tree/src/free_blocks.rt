@@ -1,23 +1,27 @@
-ghost use Rattle.std.specs.Prelude.{◌≡◌, ℕ, ◌+◌, ◌^◌, ◌<◌, ◌≤◌, Bool, true, false, length, nat_lt, option_map, replicate, None, IfOk, IfSome};
-ghost use Rattle.ttm_base.specs.BuddyChoice.{candidate};
+ghost use Rattle.std.specs.Prelude.{◌≡◌, ℕ, suc, ◌+◌, ◌-◌, ◌*◌, ◌/◌, ◌^◌, ◌<◌, ◌≤◌, Bool, true, false, length, nat_lt, option_map, None, IfOk, IfSome};
+ghost use Rattle.ttm_base.specs.BuddyChoice.{block_around, candidate, is_free_block};
 ghost use Rattle.ttm_base.specs.Holes.{has_page};
-ghost use Rattle.block_tree.specs.FreeSet.{is_free, HasSameBelow};
-ghost use Rattle.block_tree.specs.Masks.{nodes, is_free_in, is_marked, IsTree};
+ghost use Rattle.block_tree.specs.FreeSet.{beside, is_free, place};
+ghost use Rattle.block_tree.specs.Holding.{AroundOf, ChosenOf, FirstFreeOf, FirstHolderOf, FoundOf, IsAround, IsFree, IsLowest, LastFreeOf, LowestOf, PiecesOf};
+ghost use Rattle.block_tree.specs.Masks.{is_marked};
 ghost use Rattle.block_tree.specs.Pieces.{LeastWholeOf, FirstPieceOf};
+ghost use Rattle.block_tree.specs.Searching.{numbered};
 
-use crate::masks::{block_len, mark, mark_span, nodes};
-use crate::request::Request;
-use crate::search::{first_block, least_order};
-use crate::take::{span_of, take_first};
+use crate::bits::Bits;
+use crate::block::{Block, block_len};
+use crate::request::{Found, Pieces, Request};
 use std::alloc::Global;
 use std::marker::Model;
-use ttm_base::{NoMemory, Span, order_of};
+use ttm_base::{NoMemory, Span, log2, order_of};
 
-/// The free pages among a number of pages, by the orders of the blocks into which they fall. It is seen as a mark for each page,
-/// whether it is free. A call takes no memory but for `new`.
+/// The free pages among a number of pages: each block that is wholly free and part of no greater such block is in a set. The
+/// blocks are numbered those of order 0 first, then those of order 1 and so on; the one that has all pages is the last but one.
+/// It is seen as a mark for each page, whether it is free. A call takes no memory but for `new`.
 #[derive(Drop)]
 pub struct FreeBlocks {
-    masks: Vec<u32>,
+    blocks: Bits,
+    /// Twice as many as there are blocks of order 0.
+    count: usize,
     order: u32,
     size: u32,
 }
@@ -29,69 +33,86 @@ impl Model for FreeBlocks {
 
     ghost use Rattle.block_tree.specs.FreeSet.{marks_of, IsKept};
 
-    ghost view = { λ b. marks_of b.order b.size b.masks.items };
+    ghost view = { λ b. marks_of b.order b.size b.blocks };
 
-    ghost invariant = { λ b. IsKept b.order b.size b.masks.items };
+    ghost invariant = { λ b. IsKept b.count b.order b.size b.blocks };
 }
 
-/// The masks of a block of an order that is wholly held.
-fn held_masks(alloc: Global, order: u32) -> Result<Vec<u32>, NoMemory>
-    requires { order ≤ 31 }
-    ensures { IfOk result (λ masks. masks.items ≡ replicate (nodes order) 0) }
+/// Where a block stands, of a number of blocks of all orders.
+#[inline(always)]
+fn place(count: usize, block: Block) -> usize
+    requires order { block.order ≤ 31 }
+    requires count { count ≤ 2 ^ 32 }
+    ensures { result ≡ count - count / 2 ^ block.order + block.number }
 {
-    let masks = vec![in alloc; 0; nodes(order)]?;
-    Ok(masks)
+    count - (count >> block.order) + block.number as usize
 }
 
-/// The masks of a block of an order, of which the first pages are free.
-fn first_free(alloc: Global, order: u32, pages: u32) -> Result<Vec<u32>, NoMemory>
-    requires { order ≤ 31 }
-    ensures tree { IfOk result (λ masks. IsTree order masks.items) }
-    ensures free { IfOk result (λ masks. (page : ℕ) → page < 2 ^ order → is_free_in order masks.items page ≡ nat_lt page pages) }
+/// The block that stands at a place, among the blocks of all orders up to one.
+#[inline(always)]
+fn block_at(count: usize, order: u32, at: usize) -> Block
+    requires count { count ≡ 2 ^ suc order }
+    requires order { order ≤ 31 }
+    requires at { at + 1 < count }
+    ensures order { result.order ≤ order }
+    ensures number { result.number < 2 ^ (order - result.order) }
+    ensures place { place order result.order result.number ≡ at }
 {
-    let mut masks = held_masks(alloc, order)?;
-    mark(
-        &mut masks,
+    let level = log2((count - 1 - at) as u32);
+    let len = 2 * block_len(level) as usize;
+    Block {
+        order: order - level,
+        number: (at + len - count) as u32,
+    }
+}
+
+/// The largest block that begins at a page and has only pages below another.
+fn largest_at(start: u32, end: u32) -> Block
+    requires some { start < end }
+    ensures order { result.order ≤ 31 }
+    ensures start { result.number * 2 ^ result.order ≡ start }
+    ensures end { start + 2 ^ result.order ≤ end }
+{
+    let order = start.trailing_zeros().min(log2(end - start));
+    Block {
         order,
-        0,
-        Span {
-            start: 0,
-            end: pages,
-        },
-        true,
-    );
-    Ok(masks)
-}
-
-/// A range of pages below a size, up to a later end where it has the last page.
-fn reach_of(range: Span, size: u32, end: u32) -> Span
-    requires { size ≤ end }
-    ensures { HasSameBelow size result range }
-{
-    if size <= range.end {
-        Span {
-            start: range.start,
-            end,
-        }
-    } else {
-        range
+        number: start >> order,
     }
 }
 
 impl FreeBlocks {
+    /// So many pages, all of them held.
+    fn all_held(alloc: Global, pages: u32) -> Result<FreeBlocks, NoMemory>
+        requires { pages < 2 ^ 31 }
+        ensures size { IfOk result (λ blocks. length blocks ≡ pages) }
+        ensures held { IfOk result (λ blocks. (page : ℕ) → is_free blocks page ≡ false) }
+    {
+        let order = order_of(pages);
+        let count = 2 * block_len(order) as usize;
+        let blocks = Bits::new(alloc, count)?;
+        Ok(FreeBlocks {
+            blocks,
+            count,
+            order,
+            size: pages,
+        })
+    }
+
     /// So many free pages.
     pub fn new(alloc: Global, pages: u32) -> Result<FreeBlocks, NoMemory>
         requires { pages < 2 ^ 31 }
         ensures size { IfOk result (λ blocks. length blocks ≡ pages) }
         ensures free { IfOk result (λ blocks. (page : ℕ) → is_free blocks page ≡ nat_lt page pages) }
     {
-        let order = order_of(pages);
-        let masks = first_free(alloc, order, pages)?;
-        Ok(FreeBlocks {
-            masks,
-            order,
-            size: pages,
-        })
+        let mut blocks = FreeBlocks::all_held(alloc, pages)?;
+        blocks.mark(
+            Span {
+                start: 0,
+                end: pages,
+            },
+            true,
+        );
+        Ok(blocks)
     }
 
     /// The number of pages.
@@ -102,13 +123,341 @@ impl FreeBlocks {
         self.size
     }
 
+    /// Takes a free block out of the set: its pages are held.
+    #[inline(always)]
+    fn remove(&mut self, block: Block)
+        requires { IsFree (is_free self.old) (length self.old) block.order block.number }
+        ensures size { length self.new ≡ length self.old }
+        ensures marked { (page : ℕ) → is_free self.new page ≡ is_marked (numbered block.order block.number) false (is_free self.old page) page }
+    {
+        self.blocks.clear(place(self.count, block));
+    }
+
+    /// Puts a block into the set, whose pages are held: they are free.
+    #[inline(always)]
+    fn add(&mut self, block: Block)
+        requires end { block.number * 2 ^ block.order + 2 ^ block.order ≤ length self.old }
+        requires held { (page : ℕ) → page / 2 ^ block.order ≡ block.number → is_free self.old page ≡ false }
+        requires alone { IsFree (is_free self.old) (length self.old) block.order (beside block.number) → ⊥ }
+        ensures size { length self.new ≡ length self.old }
+        ensures marked { (page : ℕ) → is_free self.new page ≡ is_marked (numbered block.order block.number) true (is_free self.old page) page }
+    {
+        self.blocks.set(place(self.count, block));
+    }
+
+    /// The half beside a block is free, and part of no greater free block.
+    #[inline(always)]
+    fn has_beside(&self, block: Block) -> bool
+        requires { block.number * 2 ^ block.order + 2 ^ block.order ≤ length self.now }
+        ensures yes { result ≡ true → IsFree (is_free self.now) (length self.now) block.order (beside block.number) }
+        ensures no { result ≡ false → IsFree (is_free self.now) (length self.now) block.order (beside block.number) → ⊥ }
+        ensures small { result ≡ true → block.order < 31 }
+    {
+        if block.order >= self.order {
+            return false;
+        }
+        self.blocks.has(place(self.count, block.beside()))
+    }
+
+    /// The free block that has a block.
+    fn around(&self, block: Block) -> Option<Block>
+        requires { block.number * 2 ^ block.order + 2 ^ block.order ≤ length self.now }
+        ensures around { AroundOf (is_free self.now) (length self.now) block.order block.number result }
+        ensures size { length self.now < 2 ^ 31 }
+    {
+        for order in block.order..self.order + 1 {
+            let above = Block {
+                order,
+                number: block.number >> (order - block.order),
+            };
+            if self.blocks.has(place(self.count, above)) {
+                return Some(above);
+            }
+        }
+        None
+    }
+
+    /// The first free block from a block on: those of one order by their numbers, then those of the next order.
+    #[inline(always)]
+    fn first_from(&self, from: Block) -> Option<Block>
+        requires { from.number * 2 ^ from.order < length self.now }
+        ensures first { FirstFreeOf (is_free self.now) (length self.now) from.order from.number result }
+        ensures small { IfSome result (λ block. block.order < 31) }
+    {
+        if from.order > self.order {
+            return None;
+        }
+        let at = self.blocks.from(place(self.count, from))?;
+        Some(block_at(self.count, self.order, at))
+    }
+
+    /// The last free block of an order up to a block.
+    #[inline(always)]
+    fn last_to(&self, to: Block) -> Option<Block>
+        requires { to.number * 2 ^ to.order < length self.now }
+        ensures { LastFreeOf (is_free self.now) (length self.now) to.order to.number result }
+    {
+        if to.order > self.order {
+            return None;
+        }
+        let at = self.blocks.down_from(place(self.count, to))?;
+        let block = block_at(self.count, self.order, at);
+        if block.order == to.order {
+            Some(block)
+        } else {
+            None
+        }
+    }
+
+    /// The blocks that a request can take.
+    #[inline(always)]
+    fn pieces(&self, request: Request) -> Option<Pieces>
+        ensures pieces { PiecesOf request (length self.now) result }
+        ensures small { IfSome result (λ pieces. pieces.order ≤ 31) }
+        ensures size { length self.now < 2 ^ 31 }
+    {
+        if request.order > self.order {
+            return None;
+        }
+        request.pieces(self.size)
+    }
+
+    /// The lowest free block of the least order that has a wanted block.
+    fn lowest(&self, pieces: Pieces) -> Option<Block>
+        requires order { pieces.order ≤ 31 }
+        requires some { pieces.first ≤ pieces.last }
+        requires end { pieces.last * 2 ^ pieces.order + 2 ^ pieces.order ≤ length self.now }
+        ensures lowest { LowestOf (is_free self.now) (length self.now) pieces result }
+        ensures small { IfSome result (λ block. block.order < 31) }
+    {
+        let mut order = pieces.order;
+        loop {
+            let number = pieces.first >> (order - pieces.order);
+            let block = self.first_from(Block { order, number })?;
+            let up = block.order - pieces.order;
+            order = block.order;
+            if block.number > pieces.last >> up {
+                order += 1;
+            } else if block.number >= pieces.first >> up {
+                return Some(block);
+            }
+        }
+    }
+
+    /// The lowest free block of an order that has a wanted block.
+    #[inline(always)]
+    fn lowest_of(&self, pieces: Pieces, order: u32) -> Option<Block>
+        requires order { pieces.order ≤ order }
+        requires small { order ≤ 31 }
+        requires some { pieces.first ≤ pieces.last }
+        requires end { pieces.last * 2 ^ pieces.order + 2 ^ pieces.order ≤ length self.now }
+        ensures { FirstHolderOf (is_free self.now) (length self.now) pieces false order result }
+    {
+        let number = pieces.first >> (order - pieces.order);
+        let block = self.first_from(Block { order, number })?;
+        if block.order != order {
+            return None;
+        }
+        let last = pieces.last >> (order - pieces.order);
+        if block.number <= last {
+            Some(block)
+        } else {
+            None
+        }
+    }
+
+    /// The highest free block of an order that has a wanted block.
+    #[inline(always)]
+    fn highest_of(&self, pieces: Pieces, order: u32) -> Option<Block>
+        requires order { pieces.order ≤ order }
+        requires small { order ≤ 31 }
+        requires end { pieces.last * 2 ^ pieces.order + 2 ^ pieces.order ≤ length self.now }
+        ensures { FirstHolderOf (is_free self.now) (length self.now) pieces true order result }
+    {
+        let number = pieces.last >> (order - pieces.order);
+        let block = self.last_to(Block { order, number })?;
+        let first = pieces.first >> (order - pieces.order);
+        if first <= block.number {
+            Some(block)
+        } else {
+            None
+        }
+    }
+
+    /// The first free block of an order that has a wanted block.
+    #[inline(always)]
+    fn first_of(&self, pieces: Pieces, topdown: bool, order: u32) -> Option<Block>
+        requires order { pieces.order ≤ order }
+        requires small { order ≤ 31 }
+        requires some { pieces.first ≤ pieces.last }
+        requires end { pieces.last * 2 ^ pieces.order + 2 ^ pieces.order ≤ length self.now }
+        ensures { FirstHolderOf (is_free self.now) (length self.now) pieces topdown order result }
+    {
+        if topdown {
+            self.highest_of(pieces, order)
+        } else {
+            self.lowest_of(pieces, order)
+        }
+    }
+
+    /// The first free block that has a wanted block, of the order of the lowest of the least order.
+    #[inline(always)]
+    fn first_or(&self, pieces: Pieces, topdown: bool, lowest: Block) -> Option<Block>
+        requires small { lowest.order ≤ 31 }
+        requires some { pieces.first ≤ pieces.last }
+        requires end { pieces.last * 2 ^ pieces.order + 2 ^ pieces.order ≤ length self.now }
+        requires lowest { IsLowest (is_free self.now) (length self.now) pieces lowest }
+        ensures { FirstHolderOf (is_free self.now) (length self.now) pieces topdown lowest.order result }
+    {
+        if topdown {
+            self.highest_of(pieces, lowest.order)
+        } else {
+            Some(lowest)
+        }
+    }
+
+    /// The first wanted block that would be split from a free block of an order.
+    #[inline(always)]
+    fn find(&self, request: Request, order: u32) -> Option<Found>
+        requires order { request.order ≤ order }
+        requires small { order < 32 }
+        ensures found { FoundOf (is_free self.now) (length self.now) request order result }
+        ensures size { length self.now < 2 ^ 31 }
+    {
+        let pieces = self.pieces(request)?;
+        let free = self.first_of(pieces, request.topdown, order)?;
+        let piece = pieces.first_in(free, request.topdown);
+        Some(Found { free, piece })
+    }
+
+    /// The same, from a free block of the least order from which one can be split.
+    #[inline(always)]
+    fn choose(&self, request: Request) -> Option<Found>
+        ensures chosen { ChosenOf (is_free self.now) (length self.now) request result }
+        ensures size { length self.now < 2 ^ 31 }
+    {
+        let pieces = self.pieces(request)?;
+        let lowest = self.lowest(pieces)?;
+        let free = self.first_or(pieces, request.topdown, lowest)?;
+        let piece = pieces.first_in(free, request.topdown);
+        Some(Found { free, piece })
+    }
+
+    /// Takes a block out of the free block that has it.
+    fn split(&mut self, found: Found)
+        requires { IsAround (is_free self.old) (length self.old) found.piece.order found.piece.number found.free }
+        ensures size { length self.new ≡ length self.old }
+        ensures marked { (page : ℕ) → is_free self.new page ≡ is_marked (numbered found.piece.order found.piece.number) false (is_free self.old page) page }
+    {
+        self.remove(found.free);
+        let mut block = found.piece;
+        while block.order < found.free.order {
+            self.add(block.beside());
+            block = block.above();
+        }
+    }
+
+    /// Gives back a block of which all pages are held.
+    fn give_block(&mut self, held: Block)
+        requires end { held.number * 2 ^ held.order + 2 ^ held.order ≤ length self.old }
+        requires held { (page : ℕ) → page / 2 ^ held.order ≡ held.number → is_free self.old page ≡ false }
+        ensures size { length self.new ≡ length self.old }
+        ensures marked { (page : ℕ) → is_free self.new page ≡ is_marked (numbered held.order held.number) true (is_free self.old page) page }
+    {
+        let mut block = held;
+        while self.has_beside(block) {
+            self.remove(block.beside());
+            block = block.above();
+        }
+        self.add(block);
+    }
+
+    /// Marks the pages of a block as held that isn't free, nor part of a free one.
+    fn clear_inside(&mut self, block: Block)
+        requires end { block.number * 2 ^ block.order + 2 ^ block.order ≤ length self.old }
+        requires small { length self.old < 2 ^ 31 }
+        requires held { is_free_block (is_free self.old) (length self.old) (block_around block.order (block.number * 2 ^ block.order)) ≡ false }
+        ensures size { length self.new ≡ length self.old }
+        ensures marked { (page : ℕ) → is_free self.new page ≡ is_marked (numbered block.order block.number) false (is_free self.old page) page }
+    {
+        let span = block.pages();
+        let pages = Pieces {
+            order: 0,
+            first: span.start,
+            last: span.end - 1,
+        };
+        while let Some(inside) = self.lowest(pages) {
+            self.remove(inside);
+        }
+    }
+
+    /// Marks the pages of a block as held.
+    fn hold_block(&mut self, block: Block)
+        requires { block.number * 2 ^ block.order + 2 ^ block.order ≤ length self.old }
+        ensures size { length self.new ≡ length self.old }
+        ensures marked { (page : ℕ) → is_free self.new page ≡ is_marked (numbered block.order block.number) false (is_free self.old page) page }
+    {
+        match self.around(block) {
+            Some(free) => self.split(Found { free, piece: block }),
+            None => self.clear_inside(block),
+        }
+    }
+
+    /// Marks the pages of a block as free.
+    fn free_block(&mut self, block: Block)
+        requires { block.number * 2 ^ block.order + 2 ^ block.order ≤ length self.old }
+        ensures size { length self.new ≡ length self.old }
+        ensures marked { (page : ℕ) → is_free self.new page ≡ is_marked (numbered block.order block.number) true (is_free self.old page) page }
+    {
+        match self.around(block) {
+            Some(_) => {}
+            None => {
+                self.clear_inside(block);
+                self.give_block(block);
+            }
+        }
+    }
+
+    /// Marks the pages of a block as free or held.
+    fn mark_block(&mut self, block: Block, free: bool)
+        requires { block.number * 2 ^ block.order + 2 ^ block.order ≤ length self.old }
+        ensures size { length self.new ≡ length self.old }
+        ensures marked { (page : ℕ) → is_free self.new page ≡ is_marked (numbered block.order block.number) free (is_free self.old page) page }
+    {
+        if free {
+            self.free_block(block);
+        } else {
+            self.hold_block(block);
+        }
+    }
+
     /// Marks the pages of a span as free or held.
     pub fn mark(&mut self, span: Span, free: bool)
         requires { span.end ≤ length self.old }
         ensures size { length self.new ≡ length self.old }
         ensures marked { (page : ℕ) → is_free self.new page ≡ is_marked span free (is_free self.old page) page }
     {
-        mark_span(&mut self.masks, self.order, span, free);
+        let mut start = span.start;
+        while start < span.end {
+            let block = largest_at(start, span.end);
+            self.mark_block(block, free);
+            start += block_len(block.order);
+        }
+    }
+
+    /// Marks the pages of a span as free, of which none is. It looks for no free blocks inside the span, as `mark` does.
+    pub fn give(&mut self, span: Span)
+        requires end { span.end ≤ length self.old }
+        requires held { (page : ℕ) → has_page page span ≡ true → is_free self.old page ≡ false }
+        ensures size { length self.new ≡ length self.old }
+        ensures marked { (page : ℕ) → is_free self.new page ≡ is_marked span true (is_free self.old page) page }
+    {
+        let mut start = span.start;
+        while start < span.end {
+            let block = largest_at(start, span.end);
+            self.give_block(block);
+            start += block_len(block.order);
+        }
     }
 
     /// The least order of the free blocks from which a block of an order inside a range can be split.
@@ -116,15 +465,14 @@ impl FreeBlocks {
         ensures least { LeastWholeOf (is_free self.now) (length self.now) range order result }
         ensures small { IfSome result (λ whole. whole < 32) }
     {
-        if order > self.order {
-            return None;
-        }
         let request = Request {
             order,
-            range: reach_of(range, self.size, block_len(self.order)),
+            range,
             topdown: false,
         };
-        least_order(&self.masks, self.order, 0, request)
+        let pieces = self.pieces(request)?;
+        let block = self.lowest(pieces)?;
+        Some(block.order)
     }
 
     /// The first block of an order inside a range that would be split from a free block of a second order: the lowest, or for
@@ -138,11 +486,11 @@ impl FreeBlocks {
     {
         let request = Request {
             order,
-            range: reach_of(range, self.size, block_len(self.order)),
+            range,
             topdown,
         };
-        let number = first_block(&self.masks, self.order, 0, request, whole)?;
-        Some(span_of(order, number))
+        let found = self.find(request, whole)?;
+        Some(found.piece.pages())
     }
 
     /// Takes the block that `first_piece` answers: it is held from then on.
@@ -158,11 +506,12 @@ impl FreeBlocks {
     {
         let request = Request {
             order,
-            range: reach_of(range, self.size, block_len(self.order)),
+            range,
             topdown,
         };
-        let number = take_first(&mut self.masks, self.order, 0, request, whole)?;
-        Some(span_of(order, number))
+        let found = self.find(request, whole)?;
+        self.split(found);
+        Some(found.piece.pages())
     }
 
     /// The free block of an order inside a range that is split from the smallest: among equals the lowest, or for topdown the
@@ -174,8 +523,13 @@ impl FreeBlocks {
         ensures small { IfSome result (λ block. block.end < 2 ^ 31) }
         ensures len { IfSome result (λ block. block.end ≡ block.start + 2 ^ order) }
     {
-        let whole = self.least_whole(range, order)?;
-        self.first_piece(range, topdown, order, whole)
+        let request = Request {
+            order,
+            range,
+            topdown,
+        };
+        let found = self.choose(request)?;
+        Some(found.piece.pages())
     }
 
     /// Takes the block that `candidate` answers: it is held from then on.
@@ -189,7 +543,13 @@ impl FreeBlocks {
         ensures small { IfSome result (λ block. block.end < 2 ^ 31) }
         ensures len { IfSome result (λ block. block.end ≡ block.start + 2 ^ order) }
     {
-        let whole = self.least_whole(range, order)?;
-        self.take_piece(range, topdown, order, whole)
+        let request = Request {
+            order,
+            range,
+            topdown,
+        };
+        let found = self.choose(request)?;
+        self.split(found);
+        Some(found.piece.pages())
     }
 }

@@ -1,11 +1,10 @@
-//! The free pages of a buddy allocator (drm_buddy), as masks of the orders that each aligned block has.
+//! The free pages of a buddy allocator (drm_buddy), as a set of the largest free blocks.
 #![tactic(auto)]
 
+mod bits;
+mod block;
 mod free_blocks;
-mod masks;
 mod request;
-mod search;
-mod take;
 
+pub use block::block_len;
 pub use free_blocks::FreeBlocks;
-pub use masks::block_len;

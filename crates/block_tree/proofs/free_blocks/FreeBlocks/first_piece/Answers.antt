@@ -1,50 +1,37 @@
-use Rattle.std.proofs.Common.{◌≤◌, ◌^◌, Some, None, length, ap, sym, subst, arith}
-use Rattle.ttm_base.specs.declared.Span.{Span}
+use Rattle.std.proofs.Common.{length, arith}
 use Rattle.block_tree.specs.declared.request.Request.{Request}
-use Rattle.block_tree.specs.Searching.{numbered}
-use Rattle.block_tree.specs.Pieces.{FirstPieceOf, IsFirstPiece}
 use Rattle.block_tree.specs.FreeSet.{is_free}
-use Rattle.block_tree.proofs.Numbers.{small_pow}
-use Rattle.block_tree.proofs.KeptLaws.{first_seen, first_within, size_of}
+use Rattle.block_tree.proofs.FoundLaws.{found_within, found_first, found_end}
 use Rattle.block_tree.proofs.free_blocks.FreeBlocks.first_piece.Goals as goal
 
-pub first_block-requires-clause-number : goal.first_block-requires-clause-number
-first_block-requires-clause-number c =
-    let p : 2 ^ c.self.inside.order ≤ 2 ^ 31 = small_pow c.self.inside.order 31 c.self.invariant.order in
-    omega arith
+pub find-requires : goal.find-requires
+find-requires c = record { order = c.requires.order; small = c.requires.whole }
 
-pub returns-in_err-number-clause-first : goal.returns-in_err-number-clause-first
-returns-in_err-number-clause-first c =
-    let r : Request = record { order = c.args.order; range = c.args.range; topdown = c.args.topdown } in
-    subst (FirstPieceOf (is_free c.args.self.now) (length c.args.self.now) c.args.range c.args.topdown c.args.order c.args.whole) (sym c.from_residual.ensures)
-    (first_seen c.self.inside.order c.self.inside.size c.self.inside.masks.items c.deref.result.now c.args.self.now r c.reach_of.result c.args.whole None c.self.invariant c.reach_of.ensures c.self.view_is c.deref.ensures.value c.in_err-number.ensures)
+pub returns-in_err-found : goal.returns-in_err-found
+returns-in_err-found c = rw c.from_residual.ensures (record { first = c.in_err-found.ensures.found; within = tt; small = tt })
 
-pub span_of-requires-clause-small : goal.span_of-requires-clause-small
-span_of-requires-clause-small c =
+pub pages-requires : goal.pages-requires
+pages-requires c =
     let r : Request = record { order = c.args.order; range = c.args.range; topdown = c.args.topdown } in
-    let w = first_within (is_free c.args.self.now) (length c.args.self.now) c.args.range c.args.topdown c.args.order c.args.whole (numbered c.args.order c.in_ok-number.number) (first_seen c.self.inside.order c.self.inside.size c.self.inside.masks.items c.deref.result.now c.args.self.now r c.reach_of.result c.args.whole (Some c.in_ok-number.number) c.self.invariant c.reach_of.ensures c.self.view_is c.deref.ensures.value c.in_ok-number.ensures) in
-    let s = c.self.invariant.small in
-    let e = size_of c.self.inside.order c.self.inside.size c.self.inside.masks.items c.args.self.now c.self.view_is in
-    omega (arith, w, s, e)
+    let h = c.in_ok-found.ensures.found in
+    let w = found_within (is_free c.args.self.now) (length c.args.self.now) r c.args.whole c.in_ok-found.found h in
+    let z = c.find.ensures.size in
+    let p = h.piece in
+    record { order = let o = c.requires.order in let s = c.requires.whole in omega (arith, p, o, s); small = omega (arith, w, z) }
 
 pub returns-clause-first : goal.returns-clause-first
 returns-clause-first c =
     let r : Request = record { order = c.args.order; range = c.args.range; topdown = c.args.topdown } in
-    subst (IsFirstPiece (is_free c.args.self.now) (length c.args.self.now) c.args.range c.args.topdown c.args.order c.args.whole) (sym c.span_of.ensures)
-    (first_seen c.self.inside.order c.self.inside.size c.self.inside.masks.items c.deref.result.now c.args.self.now r c.reach_of.result c.args.whole (Some c.in_ok-number.number) c.self.invariant c.reach_of.ensures c.self.view_is c.deref.ensures.value c.in_ok-number.ensures)
+    found_first (is_free c.args.self.now) (length c.args.self.now) r c.args.whole c.in_ok-found.found c.pages.result c.in_ok-found.ensures.found c.pages.ensures
 
 pub returns-clause-within : goal.returns-clause-within
 returns-clause-within c =
     let r : Request = record { order = c.args.order; range = c.args.range; topdown = c.args.topdown } in
-    let w = first_within (is_free c.args.self.now) (length c.args.self.now) c.args.range c.args.topdown c.args.order c.args.whole (numbered c.args.order c.in_ok-number.number) (first_seen c.self.inside.order c.self.inside.size c.self.inside.masks.items c.deref.result.now c.args.self.now r c.reach_of.result c.args.whole (Some c.in_ok-number.number) c.self.invariant c.reach_of.ensures c.self.view_is c.deref.ensures.value c.in_ok-number.ensures) in
-    let e = ap (λ (b : Span). b.end) c.span_of.ensures in
-    omega (arith, w, e)
+    found_end (is_free c.args.self.now) (length c.args.self.now) r c.args.whole c.in_ok-found.found c.pages.result c.in_ok-found.ensures.found c.pages.ensures
 
 pub returns-clause-small : goal.returns-clause-small
 returns-clause-small c =
     let r : Request = record { order = c.args.order; range = c.args.range; topdown = c.args.topdown } in
-    let w = first_within (is_free c.args.self.now) (length c.args.self.now) c.args.range c.args.topdown c.args.order c.args.whole (numbered c.args.order c.in_ok-number.number) (first_seen c.self.inside.order c.self.inside.size c.self.inside.masks.items c.deref.result.now c.args.self.now r c.reach_of.result c.args.whole (Some c.in_ok-number.number) c.self.invariant c.reach_of.ensures c.self.view_is c.deref.ensures.value c.in_ok-number.ensures) in
-    let e = ap (λ (b : Span). b.end) c.span_of.ensures in
-    let s = c.self.invariant.small in
-    let l = size_of c.self.inside.order c.self.inside.size c.self.inside.masks.items c.args.self.now c.self.view_is in
-    omega (arith, w, e, s, l)
+    let e = found_end (is_free c.args.self.now) (length c.args.self.now) r c.args.whole c.in_ok-found.found c.pages.result c.in_ok-found.ensures.found c.pages.ensures in
+    let z = c.find.ensures.size in
+    omega (arith, e, z)

@@ -1,35 +1,39 @@
-use Rattle.std.proofs.Common.{◌≡◌, ℕ, ◌++◌, ◌/◌, ◌^◌, take, drop, length, ap, sym, subst, ◌∙◌, arith}
-use Rattle.block_tree.specs.Masks.{is_free_in, is_marked, IsTree}
-use Rattle.block_tree.specs.FreeSet.{is_free, marks_of, IsKept}
-use Rattle.block_tree.proofs.MarkLaws.{take_front, length_of_tree}
-use Rattle.block_tree.proofs.KeptLaws.{length_marks, kept_marked, marks_marked}
+use Rattle.std.proofs.Common.{◌+◌, refl, ap, sym, ◌∙◌, arith}
+use Rattle.block_tree.specs.FreeSet.{is_free}
+use Rattle.block_tree.specs.Masks.{is_marked}
+use Rattle.block_tree.specs.Searching.{numbered}
+use Rattle.block_tree.proofs.SpanLaws.{span, marked_more, marked_none, marked_all}
 use Rattle.block_tree.proofs.free_blocks.FreeBlocks.mark.Goals as goal
-use Rattle.block_tree.proofs.free_blocks.FreeBlocks.mark.Goals.{After-mark_span}
 
-back : (c : After-mark_span) → take c.self.inside.masks.len (c.mark_span.new.masks ++ drop (length c.mark_span.new.masks) c.self.inside.masks.items) ≡ c.mark_span.new.masks
-back c =
-    let old : length c.deref_mut.result.now ≡ c.self.inside.masks.len = c.deref_mut.ensures.len in
-    let before : IsTree c.self.inside.order c.deref_mut.result.now = subst (IsTree c.self.inside.order) (sym c.deref_mut.ensures.value) c.self.invariant.tree in
-    let same = length_of_tree c.self.inside.order c.mark_span.new.masks c.mark_span.ensures.tree ∙ sym (length_of_tree c.self.inside.order c.deref_mut.result.now before) in
-    take_front c.self.inside.masks.len c.mark_span.new.masks (drop (length c.mark_span.new.masks) c.self.inside.masks.items) (same ∙ old)
+pub mark_block-requires : goal.mark_block-requires
+mark_block-requires c =
+    let s = c.largest_at-block.ensures.start in
+    let e = c.largest_at-block.ensures.end in
+    let z = c.loop-start.invariant.size in
+    let q = c.requires in
+    omega (arith, s, e, z, q)
 
-all : (c : After-mark_span) (page : ℕ) → page / 2 ^ c.self.inside.order ≡ 0 → is_free_in c.self.inside.order c.mark_span.new.masks page ≡ is_marked c.args.span c.args.free (is_free_in c.self.inside.order c.self.inside.masks.items page) page
-all c page h = c.mark_span.ensures.marked page h ∙ ap (λ xs. is_marked c.args.span c.args.free (is_free_in c.self.inside.order xs page) page) c.deref_mut.ensures.value
+pub loop-start-init : goal.loop-start-init
+loop-start-init c = record { size = refl; from = omega arith; to = omega arith; marked = λ p. sym (marked_none c.args.span.start p c.args.free (is_free c.args.self.now p)) }
 
-pub invariant_of-self : goal.invariant_of-self
-invariant_of-self c =
-    let size = sym (length_marks c.self.inside.order c.self.inside.size c.self.inside.masks.items) ∙ ap length c.self.view_is in
-    subst (IsKept c.self.inside.order c.self.inside.size) (sym (back (goal.at.invariant_of-self c).After-mark_span))
-    (kept_marked c.self.inside.order c.self.inside.size c.self.inside.masks.items c.mark_span.new.masks c.args.span c.args.free c.self.invariant (omega (arith, size)) c.mark_span.ensures.tree (all (goal.at.invariant_of-self c).After-mark_span))
+pub loop-start-preserved : goal.loop-start-preserved
+loop-start-preserved c =
+    let e = c.largest_at-block.ensures.end in
+    let l = c.block_len-start.ensures.value in
+    let f = c.loop-start.invariant.from in
+    let t = c.loop-start.invariant.to in
+    record {
+      size = c.mark_block.ensures.size ∙ c.loop-start.invariant.size;
+      from = omega (arith, f);
+      to = omega (arith, e, l, t);
+      marked = λ p. c.mark_block.ensures.marked p
+          ∙ ap (λ b. is_marked (numbered c.largest_at-block.result.order c.largest_at-block.result.number) c.args.free b p) (c.loop-start.invariant.marked p)
+          ∙ marked_more c.args.span.start c.loop-start.start c.largest_at-block.result.order c.largest_at-block.result.number p c.args.free (is_free c.args.self.now p) f c.largest_at-block.ensures.start
+          ∙ ap (λ n. is_marked (span c.args.span.start (c.loop-start.start + n)) c.args.free (is_free c.args.self.now p) p) (sym l);
+    }
+
+pub returns-clause-size : goal.returns-clause-size
+returns-clause-size c = c.loop-start.invariant.size
 
 pub returns-clause-marked : goal.returns-clause-marked
-returns-clause-marked c = λ page.
-    let size = sym (length_marks c.self.inside.order c.self.inside.size c.self.inside.masks.items) ∙ ap length c.self.view_is in
-    ap (λ xs. is_free (marks_of c.self.inside.order c.self.inside.size xs) page) (back (goal.at.returns-clause-marked c).After-mark_span)
-    ∙ marks_marked c.self.inside.order c.self.inside.size c.self.inside.masks.items c.mark_span.new.masks c.args.span c.args.free c.self.invariant (omega (arith, size)) (all (goal.at.returns-clause-marked c).After-mark_span) page
-    ∙ ap (λ s. is_marked c.args.span c.args.free (is_free s page) page) c.self.view_is
-
-pub mark_span-requires-clause-end : goal.mark_span-requires-clause-end
-mark_span-requires-clause-end c =
-    let size = sym (length_marks c.self.inside.order c.self.inside.size c.self.inside.masks.items) ∙ ap length c.self.view_is in
-    omega (arith, size, c.self.invariant.fits, c.requires)
+returns-clause-marked c = λ p. c.loop-start.invariant.marked p ∙ marked_all c.args.span.start c.loop-start.start c.args.span.end p c.args.free (is_free c.args.self.now p) c.loop-start.invariant.from c.loop-start.invariant.to c.loop-start-test.false

@@ -1,0 +1,35 @@
+use Rattle.std.proofs.Common.{◌/◌, ◌==◌, ◌<◌, false, get_or, ap, sym, ◌∙◌, arith}
+use Rattle.std.proofs.lemmas.List.{length-set}
+use Rattle.block_tree.proofs.BitLaws.{IsWritten, put_end, put_next, told_none, told_some}
+use Rattle.block_tree.proofs.bits.clear_bit.Goals as goal
+use Rattle.block_tree.proofs.bits.clear_bit.Goals.{then-word-ne0-via-then-word-ne0, then-word-ne0-via-else-word-ne0+then-at-eq0}
+
+pub returns-then-word-ne0 : goal.returns-then-word-ne0
+returns-then-word-ne0 c = λ first from tree.
+    let s = c.loop-next.invariant.put first from tree in
+    let w : IsWritten c.loop-next.words c.loop-next.next c.without_bit-word.result false = record {
+      within = c.loop-next.invariant.within;
+      here = ap (λ b. b == 1) c.without_bit-word.ensures.here;
+      others = c.without_bit-word.ensures.others;
+    } in
+    put_end first c.args.place c.loop-next.next c.without_bit-word.result false c.args.words.now c.loop-next.words s w
+    (λ below. elim c.then-word-ne0.branch [
+      | then-word-ne0-via-then-word-ne0 b ↦
+          let has : 0 < c.without_bit-word.result = omega arith in
+          let had : 0 < get_or c.loop-next.words (c.loop-next.next / 64) 0 = omega (arith, has, c.without_bit-word.ensures.within) in
+          told_some c.without_bit-word.result has ∙ sym (told_some (get_or c.loop-next.words (c.loop-next.next / 64) 0) had)
+      | then-word-ne0-via-else-word-ne0+then-at-eq0 b ↦ absurd (omega arith)
+    ])
+
+pub loop-next-preserved : goal.loop-next-preserved
+loop-next-preserved c = record {
+  within = let l = length-set c.loop-next.words (c.loop-next.next / 64) c.without_bit-word.result in omega (arith, l, c.loop-next.invariant.within);
+  put = λ first from tree.
+      let s = c.loop-next.invariant.put first from tree in
+      let w : IsWritten c.loop-next.words c.loop-next.next c.without_bit-word.result false = record {
+        within = c.loop-next.invariant.within;
+        here = ap (λ b. b == 1) c.without_bit-word.ensures.here;
+        others = c.without_bit-word.ensures.others;
+      } in
+      put_next first c.args.place c.loop-next.next c.without_bit-word.result false c.args.words.now c.loop-next.words s w (omega arith) (told_none c.without_bit-word.result (omega arith));
+}
