@@ -1,5 +1,5 @@
 -- What is left of free pages while largest free blocks that were found stay unmarked.
-use Rattle.std.proofs.Common.{◌≡◌, ℕ, suc, ◌+◌, ◌-◌, ◌*◌, ◌/◌, ◌%◌, ◌^◌, ◌<◌, ◌≤◌, ◌&&◌, inl, inr, Bool, true, false, List, Some, None, length, set, replicate, option_map, refl, ap, sym, ◌∙◌, subst, arith, not, nat_eq, nat_le, if◌then◌else◌, mul-div_cancel, mul-le-mul_right}
+use Rattle.std.proofs.Common.{◌≡◌, ℕ, suc, ◌+◌, ◌-◌, ◌*◌, ◌/◌, ◌%◌, ◌^◌, ◌<◌, ◌≤◌, ◌&&◌, inl, inr, Bool, true, false, List, Some, None, length, set, replicate, option_map, refl, ap, sym, ◌∙◌, subst, arith, not, nat_eq, nat_le, mul-div_cancel, mul-le-mul_right}
 use Rattle.std.proofs.lemmas.List.{get_or-set_same, get_or-set_other, get_or-replicate, length-set, length-replicate}
 use Rattle.std.proofs.lemmas.Bool.{and_parts, and_from, eqb-true, leb-true, le-leb, cases_lt, cases_eq, false_from_ne_true, both_ways}
 use Rattle.std.proofs.Math.Nat.{div-add-mod}
@@ -8,10 +8,10 @@ use Rattle.ttm_base.specs.Holes.{has_page}
 use Rattle.ttm_base.specs.Reach.{is_inside}
 use Rattle.ttm_base.specs.BuddyChoice.{block_around, is_free_block, candidate}
 use Rattle.block_tree.specs.Searching.{numbered, IsAhead}
-use Rattle.block_tree.specs.Pieces.{IsWhole, IsPiece, IsLeastWhole, LeastWholeOf, IsFirstPiece, FirstPieceOf}
+use Rattle.block_tree.specs.Pieces.{IsWhole, IsPiece, IsFirstPiece}
 use Rattle.block_tree.proofs.Numbers.{some_pages, small_pow, div_next, block_pages, block_end, in_block, same_at, as_smaller, less_number}
 use Rattle.block_tree.proofs.FreeLaws.{free_from, free_parts, smaller_free, around_number}
-use Rattle.block_tree.proofs.PieceLaws.{too_large, one_whole, piece_block, piece_within, piece_free, piece_around}
+use Rattle.block_tree.proofs.PieceLaws.{one_whole, piece_block, piece_within, piece_free, piece_around}
 use Rattle.block_tree.proofs.ChoiceLaws.{candidate_none, candidate_found}
 use Rattle.buddy_manager.specs.Taking.{less, CanTake}
 use Rattle.buddy_manager.specs.Finding.{IsPart, IsLeft, IsSource, IsAt, HasNoBlock, IsEven, IsBeside, behind, rest_of}

@@ -17,11 +17,10 @@ use Rattle.block_tree.proofs.Numbers.{some_pages, small_pow}
 use Rattle.buddy_manager.specs.declared.unmarked.Half.{Half}
 use Rattle.buddy_manager.specs.declared.unmarked.Found.{Found}
 use Rattle.buddy_manager.specs.declared.find.Search.{Search}
-use Rattle.buddy_manager.specs.Held.{AllBy}
-use Rattle.buddy_manager.specs.Taking.{less, beside, CanTake, AreTaken, Tells, IsSame}
+use Rattle.buddy_manager.specs.Taking.{less, beside, AreGiven, CanTake, AreTaken, Tells, IsSame}
 use Rattle.buddy_manager.specs.Finding.{HasNoBlock, HasNumbers, IsKnown, IsFound, IsMarkedIn, IsFinding}
 use Rattle.buddy_manager.proofs.HeldLaws.{has_parts, has_from}
-use Rattle.buddy_manager.proofs.TakingLaws.{beside_more, taken_more, all_by_taken, restored, of_candidate, scattered_none, scattered_more, scattered_done}
+use Rattle.buddy_manager.proofs.TakingLaws.{beside_more, taken_more, given_now, restored, of_candidate, scattered_none, scattered_more, scattered_done}
 use Rattle.buddy_manager.proofs.FindLaws.{no_block, no_block_less, no_candidate_in}
 use Rattle.buddy_manager.proofs.KnownLaws.{found_choice, found_taken, known_all}
 
@@ -137,8 +136,10 @@ marks_back before now after count out m l s =
       marks = λ page. s page ∙ ap (λ x. x || list_any (has_page page) (take count out)) (m.marks page) ∙ restored (is_free before) (length before) (take count out) page (taken_front (is_free before) (length before) count out m.each);
     }
 
-pub marks_by : (before now : List Bool) (count : ℕ) (out : List Span) → IsMarkedIn before now count out → AllBy (length now) (take count out)
-marks_by before now count out m = subst (λ n. AllBy n (take count out)) (sym m.size) (all_by_taken (is_free before) (length before) (take count out) (taken_front (is_free before) (length before) count out m.each))
+-- what was marked isn't free
+pub marks_given : (before now : List Bool) (count : ℕ) (out : List Span) → IsMarkedIn before now count out → AreGiven (is_free now) (length now) (take count out)
+marks_given before now count out m =
+    given_now before now (take count out) (record { size = m.size; marks = m.marks; each = taken_front (is_free before) (length before) count out m.each })
 
 -- pages past the last aren't free
 pub marked_there : (ms : List Bool) (start end cut page : ℕ) → cut ≡ min end (length ms) → is_marked (record { start = start; end = cut }) false (is_free ms page) page ≡ is_marked (record { start = start; end = end }) false (is_free ms page) page

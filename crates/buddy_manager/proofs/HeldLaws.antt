@@ -101,7 +101,7 @@ pages_with b (x ∷ hs) = two (nat_lt b.start x.start) (pages_with b hs) where
 
 -- ---- a block less
 
-same_parts : (a b : Span) → same_span a b ≡ true → (a.start ≡ b.start) × (a.end ≡ b.end)
+pub same_parts : (a b : Span) → same_span a b ≡ true → (a.start ≡ b.start) × (a.end ≡ b.end)
 same_parts a b h = let p = and_parts (nat_eq a.start b.start) (nat_eq a.end b.end) h in (eqb-true a.start b.start p.0, eqb-true a.end b.end p.1)
 
 -- a block before all others isn't among them
@@ -152,7 +152,7 @@ held_not_free b (x ∷ hs) page h t =
     two true e = refl
     two false e = e
 
-all_from_without : (n : ℕ) (b : Span) (hs : List Span) → AllFrom n hs → AllFrom n (without b hs)
+pub all_from_without : (n : ℕ) (b : Span) (hs : List Span) → AllFrom n hs → AllFrom n (without b hs)
 all_from_without n b [] a = tt
 all_from_without n b (x ∷ hs) a = two (same_span b x) (all_from_without n b hs a.1) where
   two : (t : Bool) → AllFrom n (without b hs) → AllFrom n (if t then without b hs else x ∷ without b hs)
@@ -253,7 +253,7 @@ all_from_ends s (e ∷ es) = two (nat_lt s e) (all_from_less s (s + 1) (held_fro
   two true r = (omega arith, r)
   two false r = r
 
-with_first : (b : Span) (hs : List Span) → AllFrom (b.start + 1) hs → with_block b hs ≡ b ∷ hs
+pub with_first : (b : Span) (hs : List Span) → AllFrom (b.start + 1) hs → with_block b hs ≡ b ∷ hs
 with_first b [] a = refl
 with_first b (h ∷ hs) a = let l = a.0 in ap (λ t. if t then b ∷ (h ∷ hs) else h ∷ with_block b hs) (lt-ltb b.start h.start (omega arith))
 
@@ -380,7 +380,7 @@ is_held_at s (x ∷ es) (suc i) e l g h =
     two true r = or_right (same_span (record { start = s + suc i; end = e }) (record { start = s; end = x })) (is_held (record { start = s + suc i; end = e }) (held_from (s + 1) es)) r
     two false r = r
 
-same_self : (a : Span) → same_span a a ≡ true
+pub same_self : (a : Span) → same_span a a ≡ true
 same_self a = and_from (nat_eq a.start a.start) (nat_eq a.end a.end) (eq-eqb a.start a.start refl) (eq-eqb a.end a.end refl)
 
 same_left : (a b x : Span) → same_span a b ≡ true → same_span a x ≡ same_span b x

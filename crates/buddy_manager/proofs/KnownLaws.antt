@@ -9,7 +9,7 @@ use Rattle.ttm_base.specs.Reach.{is_inside}
 use Rattle.ttm_base.specs.BuddyChoice.{block_around, candidate}
 use Rattle.block_tree.specs.declared.request.Request.{Request}
 use Rattle.block_tree.specs.Searching.{numbered, IsAhead, IsFit}
-use Rattle.block_tree.specs.Pieces.{IsWhole, IsPiece, IsLeastWhole, LeastWholeOf, IsFirstPiece, FirstPieceOf}
+use Rattle.block_tree.specs.Pieces.{IsPiece, IsLeastWhole, LeastWholeOf, IsFirstPiece, FirstPieceOf}
 use Rattle.block_tree.proofs.Numbers.{some_pages, small_pow, pow_next, div_next, same_at, in_block, block_pages, block_end}
 use Rattle.block_tree.proofs.FreeLaws.{free_parts, smaller_free}
 use Rattle.block_tree.proofs.SearchLaws.{fit_lowest, fit_highest}

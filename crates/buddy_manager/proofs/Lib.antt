@@ -1,6 +1,7 @@
 pub mod HeldLaws
 pub mod TakingLaws
 pub mod ManagedLaws
+pub mod BackLaws
 pub mod UndoneLaws
 pub mod FindLaws
 pub mod KnownLaws

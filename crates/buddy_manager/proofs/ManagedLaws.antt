@@ -2,14 +2,14 @@
 use Rattle.std.proofs.Common.{◌≡◌, ℕ, ◌+◌, ◌-◌, ◌^◌, ◌<◌, ◌≤◌, ◌&&◌, ◌||◌, inl, inr, Bool, true, false, List, [], ◌∷◌, length, get_or, set, drop, replicate, refl, ap, sym, ◌∙◌, subst, arith, not, nat_lt, nat_le, get_or-set_same, set-set, drop-cons, add-one}
 use Rattle.std.specs.List.{list_any}
 use Rattle.std.proofs.lemmas.Grind.{common_steps}
-use Rattle.std.proofs.lemmas.Bool.{cases_lt, and_right, or_from, lt-ltb, le-ltb, false_from_ne_true}
+use Rattle.std.proofs.lemmas.Bool.{cases_lt, and_right, or_from, lt-ltb, le-ltb, false_from_ne_true, both_ways}
 use Rattle.ttm_base.specs.declared.Span.{Span}
 use Rattle.ttm_base.specs.Holes.{has_page, is_free_beside}
 use Rattle.ttm_base.specs.Reach.{length_of}
 use Rattle.block_tree.specs.FreeSet.{is_free}
 use Rattle.block_tree.specs.Masks.{is_marked}
 use Rattle.buddy_manager.specs.Held.{held_from, with_block, with_blocks, without, without_all, is_held, pages_of, AllBy, AreHeld, IsApart}
-use Rattle.buddy_manager.specs.Taking.{less, beside, CanTake, AreTaken, IsTakenBy, IsSame, IsManaged}
+use Rattle.buddy_manager.specs.Taking.{less, beside, more, AreGiven, CanTake, AreTaken, IsTakenBy, IsSame, IsManaged}
 use Rattle.buddy_manager.proofs.HeldLaws.{has_parts, has_from, free_with, apart_with, all_by_with, pages_with, held_is_by, held_not_free, apart_without, all_by_without, free_without, pages_without, pages_within, held_set, held_clear, end_of_held, free_begins_none, none_held, is_held_at}
 use Rattle.buddy_manager.proofs.TakingLaws.{taken_same, taken_below, marked_more}
 
@@ -56,7 +56,7 @@ pub record AreKept (n pages : ℕ) (hs : List Span) : Type 0 where
   pub by : AllBy n hs
   pub count : pages_of hs ≡ pages
 
-with_free : (f : ℕ → Bool) (hs : List Span) (b : Span) (page : ℕ) → (f page ≡ true → is_free_beside hs page ≡ true) → less f b page ≡ true → is_free_beside (with_block b hs) page ≡ true
+pub with_free : (f : ℕ → Bool) (hs : List Span) (b : Span) (page : ℕ) → (f page ≡ true → is_free_beside hs page ≡ true) → less f b page ≡ true → is_free_beside (with_block b hs) page ≡ true
 with_free f hs b page h e = free_with b hs page ∙ two (f page) (is_free_beside hs page) (has_page page b) h e where
   two : (x y t : Bool) → (x ≡ true → y ≡ true) → (x && not t) ≡ true → (y && not t) ≡ true
   two true y t h e = ap (λ y. y && not t) (h refl) ∙ e
@@ -147,9 +147,26 @@ managed_same marks after ends used m s =
 
 -- ---- blocks that were given back
 
-pub all_held_by : (n : ℕ) (bs hs : List Span) → AreHeld bs hs → AllBy n hs → AllBy n bs
+all_held_by : (n : ℕ) (bs hs : List Span) → AreHeld bs hs → AllBy n hs → AllBy n bs
 all_held_by n [] hs h b = tt
 all_held_by n (x ∷ bs) hs h b = (held_is_by n x hs b h.0, all_held_by n bs (without x hs) h.1 (all_by_without n x hs b))
+
+-- their pages aren't free, and lie apart
+pub held_given : (f : ℕ → Bool) (n : ℕ) (bs hs : List Span) → ((page : ℕ) → f page ≡ true → is_free_beside hs page ≡ true) → IsApart hs → AllBy n hs → AreHeld bs hs → AreGiven f n bs
+held_given f n [] hs h a b r = tt
+held_given f n (x ∷ bs) hs h a b r = (
+  record { within = held_is_by n x hs b r.0; held = λ page t. false_from_ne_true (f page) (λ e. both_ways (is_free_beside hs page) (held_not_free x hs page r.0 t) (h page e)) },
+  held_given (more f x) n bs (without x hs)
+      (λ page e. free_without x hs page a r.0 ∙ two (f page) (is_free_beside hs page) (has_page page x) (h page) e)
+      (apart_without x hs a) (all_by_without n x hs b) r.1,
+) where
+  two : (x y t : Bool) → (x ≡ true → y ≡ true) → (x || t) ≡ true → (y || t) ≡ true
+  two true y t h e = ap (λ y. y || t) (h refl)
+  two false true t h e = refl
+  two false false t h e = e
+
+pub can_give_all : (marks : List Bool) (ends : List ℕ) (used : ℕ) (bs : List Span) → IsManaged marks ends used → AreHeld bs (held_from 0 ends) → AreGiven (is_free marks) (length marks) bs
+can_give_all marks ends used bs m = held_given (is_free marks) (length marks) bs (held_from 0 ends) (λ page. free_tells marks ends used page m) m.apart m.within
 
 past_all : (n page : ℕ) (bs : List Span) → AllBy n bs → n ≤ page → list_any (has_page page) bs ≡ false
 past_all n page [] a h = refl
@@ -300,6 +317,10 @@ trimmed_used marks ends used b keep m h =
     let p = pages_without b (held_from 0 ends) m.apart h in
     let c = m.count in
     omega (arith, p, c)
+
+pub held_not : (marks : List Bool) (ends : List ℕ) (used : ℕ) (b : Span) (page : ℕ) → IsManaged marks ends used → is_held b (held_from 0 ends) ≡ true → has_page page b ≡ true → is_free marks page ≡ false
+held_not marks ends used b page m h t =
+    false_from_ne_true (is_free marks page) (λ e. both_ways (is_free_beside (held_from 0 ends) page) (held_not_free b (held_from 0 ends) page h t) (free_tells marks ends used page m e))
 
 pub held_within : (marks : List Bool) (ends : List ℕ) (used : ℕ) (b : Span) → IsManaged marks ends used → is_held b (held_from 0 ends) ≡ true → b.end ≤ length marks
 held_within marks ends used b m h = held_is_by (length marks) b (held_from 0 ends) m.within h

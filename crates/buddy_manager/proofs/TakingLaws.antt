@@ -1,15 +1,15 @@
 -- Blocks that are taken one after the other.
-use Rattle.std.proofs.Common.{◌≡◌, ℕ, zero, suc, ◌+◌, ◌-◌, ◌^◌, ◌<◌, ◌≤◌, ◌&&◌, ◌||◌, Bool, true, false, List, [], ◌∷◌, ◌++◌, Option, Some, None, append_assoc, length, get_or, take, pow_pos, refl, ap, sym, ◌∙◌, subst, arith, not, option_map, if◌then◌else◌}
+use Rattle.std.proofs.Common.{◌≡◌, ℕ, zero, suc, ◌+◌, ◌-◌, ◌^◌, ◌<◌, ◌≤◌, ◌&&◌, ◌||◌, inl, inr, Bool, true, false, List, [], ◌∷◌, ◌++◌, Option, Some, None, append_assoc, length, get_or, take, pow_pos, refl, ap, sym, ◌∙◌, subst, arith, not, option_map, if◌then◌else◌}
 use Rattle.std.specs.List.{list_any}
 use Rattle.std.proofs.Math.Bool.{or_assoc}
+use Rattle.std.proofs.lemmas.Bool.{and_parts, or_cases, or_from, false_from_ne_true, both_ways}
 use Rattle.ttm_base.specs.declared.Span.{Span}
 use Rattle.ttm_base.specs.Holes.{has_page}
 use Rattle.ttm_base.specs.BuddyChoice.{Candidate, candidate, first_candidate, log2, scattered, taken_after}
 use Rattle.block_tree.specs.FreeSet.{is_free}
 use Rattle.block_tree.specs.Masks.{is_marked}
-use Rattle.buddy_manager.specs.Held.{AllBy}
 use Rattle.buddy_manager.proofs.HeldLaws.{has_parts, has_from}
-use Rattle.buddy_manager.specs.Taking.{less, beside, CanTake, AreTaken, Tells, IsTakenBy, IsSame}
+use Rattle.buddy_manager.specs.Taking.{less, beside, more, CanGive, AreGiven, CanTake, AreTaken, Tells, IsTakenBy, IsSame}
 
 -- ---- one block more
 
@@ -83,10 +83,6 @@ can_take_now before now bs b t c =
     subst (λ n. CanTake (is_free now) n b) (sym t.size) (can_take_same (beside (is_free before) bs) (is_free now) (length before) b (λ page e. t.marks page ∙ e) c)
 
 -- ---- blocks that are given back
-
-pub all_by_taken : (f : ℕ → Bool) (n : ℕ) (bs : List Span) → AreTaken f n bs → AllBy n bs
-all_by_taken f n [] a = tt
-all_by_taken f n (b ∷ bs) a = ((a.0).within, all_by_taken (less f b) n bs a.1)
 
 pub restored : (f : ℕ → Bool) (n : ℕ) (bs : List Span) (page : ℕ) → AreTaken f n bs → (beside f bs page || list_any (has_page page) bs) ≡ f page
 restored f n [] page a = or_false (f page) where
@@ -185,11 +181,6 @@ scattered_more (suc fuel) f size range topdown (suc left) spans c some more h =
     ∙ one_block_more spans c.block (scattered fuel (less f c.block) size range topdown (suc left - (c.block.end - c.block.start)))
     ∙ sym (ap (option_map (λ more. spans ++ more)) (scattered_some fuel f size range topdown left c h))
 
-pub all_by_at : (n : ℕ) (bs : List Span) (i : ℕ) (d : Span) → AllBy n bs → i < length bs → (get_or bs i d).end ≤ n
-all_by_at n [] i d a h = absurd (omega arith)
-all_by_at n (b ∷ bs) zero d a h = a.0
-all_by_at n (b ∷ bs) (suc i) d a h = all_by_at n bs i d a.1 (omega arith)
-
 -- the first pages of a block
 pub can_take_first : (f : ℕ → Bool) (n : ℕ) (b : Span) (pages : ℕ) → b.end ≤ n → ((page : ℕ) → has_page page b ≡ true → f page ≡ true) → 1 ≤ pages → b.start + pages ≤ b.end
     → CanTake f n (record { start = b.start; end = b.start + pages })
@@ -223,9 +214,72 @@ any_more page (b ∷ bs) (suc i) d h =
     ∙ ap (λ t. has_page page b || t) (any_more page bs i d (omega arith))
     ∙ sym (or_assoc (has_page page b) (list_any (has_page page) (take i bs)) (has_page page (get_or bs i d)))
 
--- one span more, as part of the run or behind it
-pub freed_joined : (f r s b i t : Bool) → b ≡ (r || s) → (f || r) ≡ (i || t) → (f || b) ≡ (i || (t || s))
-freed_joined f r s b i t e h = ap (λ x. f || x) e ∙ sym (or_assoc f r s) ∙ ap (λ x. x || s) h ∙ or_assoc i t s
+pub given_at : (f : ℕ → Bool) (n : ℕ) (bs : List Span) (i : ℕ) (d : Span) → AreGiven f n bs → i < length bs → CanGive (λ page. f page || list_any (has_page page) (take i bs)) n (get_or bs i d)
+given_at f n [] i d a h = absurd (omega arith)
+given_at f n (b ∷ bs) zero d a h = record { within = (a.0).within; held = λ page t. or_from (f page) false ((a.0).held page t) refl }
+given_at f n (b ∷ bs) (suc i) d a h =
+    let g = given_at (more f b) n bs i d a.1 (omega arith) in
+    record { within = g.within; held = λ page t. sym (or_assoc (f page) (has_page page b) (list_any (has_page page) (take i bs))) ∙ g.held page t }
 
-pub freed_marked : (f r s g i t : Bool) → g ≡ (f || r) → (f || r) ≡ (i || t) → (g || s) ≡ (i || (t || s))
-freed_marked f r s g i t e h = ap (λ x. x || s) (e ∙ h) ∙ or_assoc i t s
+-- where fewer pages are free
+pub given_less : (f g : ℕ → Bool) (n : ℕ) (bs : List Span) → ((page : ℕ) → g page ≡ true → f page ≡ true) → AreGiven f n bs → AreGiven g n bs
+given_less f g n [] h a = tt
+given_less f g n (b ∷ bs) h a = (
+  record { within = (a.0).within; held = λ page t. false_from_ne_true (g page) (λ e. both_ways (f page) ((a.0).held page t) (h page e)) },
+  given_less (more f b) (more g b) n bs (λ page. two (f page) (g page) (has_page page b) (h page)) a.1,
+) where
+  two : (x y t : Bool) → (y ≡ true → x ≡ true) → (y || t) ≡ true → (x || t) ≡ true
+  two x true t h e = ap (λ x. x || t) (h refl)
+  two true false t h e = refl
+  two false false t h e = e
+
+less_free : (f : ℕ → Bool) (b : Span) (page : ℕ) → less f b page ≡ true → f page ≡ true
+less_free f b page e = (and_parts (f page) (not (has_page page b)) e).0
+
+-- what is left was free before
+left_free : (f : ℕ → Bool) (bs : List Span) (page : ℕ) → beside f bs page ≡ true → f page ≡ true
+left_free f [] page e = e
+left_free f (b ∷ bs) page e = less_free f b page (left_free (less f b) bs page e)
+
+left_more : (f g : ℕ → Bool) (bs : List Span) (page : ℕ) → (f page ≡ true → g page ≡ true) → beside f bs page ≡ true → beside g bs page ≡ true
+left_more f g [] page h e = h e
+left_more f g (b ∷ bs) page h e = left_more (less f b) (less g b) bs page (two (f page) (g page) (has_page page b) h) e where
+  two : (x y t : Bool) → (x ≡ true → y ≡ true) → (x && not t) ≡ true → (y && not t) ≡ true
+  two true y t h e = ap (λ y. y && not t) (h refl) ∙ e
+  two false y t h e = absurd cc
+
+-- the blocks have none of the pages that weren't free when they were taken
+others_left : (f g : ℕ → Bool) (n : ℕ) (bs : List Span) (page : ℕ) → AreTaken f n bs → f page ≡ false → g page ≡ true → beside g bs page ≡ true
+others_left f g n [] page a h e = e
+others_left f g n (b ∷ bs) page a h e =
+    let out : has_page page b ≡ false = false_from_ne_true (has_page page b) (λ t. both_ways (f page) h ((a.0).free page t)) in
+    others_left (less f b) (less g b) n bs page a.1 (ap (λ x. x && not (has_page page b)) h) (ap (λ x. x && not (has_page page b)) e ∙ ap not out)
+
+pub others_taken : (f : ℕ → Bool) (n : ℕ) (b : Span) (bs : List Span) → AreTaken f n (b ∷ bs) → AreTaken f n bs
+others_taken f n b bs t = taken_same (less f b) f n bs (less_free f b) t.1
+
+-- blocks that were taken can be given back
+given_taken : (f : ℕ → Bool) (n : ℕ) (bs : List Span) → AreTaken f n bs → AreGiven (beside f bs) n bs
+given_taken f n [] a = tt
+given_taken f n (b ∷ bs) a = (
+  record { within = (a.0).within; held = λ page t. false_from_ne_true (beside (less f b) bs page) (λ e. both_ways (less f b page) (gone page t) (left_free (less f b) bs page e)) },
+  given_less (beside f bs) (more (beside (less f b) bs) b) n bs (λ page e. elim (or_cases (beside (less f b) bs page) (has_page page b) e) [
+    | inl l ↦ left_more (less f b) f bs page (less_free f b page) l
+    | inr t ↦ others_left (less f b) f n bs page a.1 (gone page t) ((a.0).free page t)
+  ])
+      (given_taken f n bs (others_taken f n b bs a)),
+) where
+  gone : (page : ℕ) → has_page page b ≡ true → less f b page ≡ false
+  gone page t = ap (λ x. f page && not x) t ∙ and_false (f page) where
+    and_false : (t : Bool) → (t && false) ≡ false
+    and_false true = refl
+    and_false false = refl
+
+pub given_now : (before now : List Bool) (bs : List Span) → IsTakenBy before bs now → AreGiven (is_free now) (length now) bs
+given_now before now bs t =
+    subst (λ n. AreGiven (is_free now) n bs) (sym t.size)
+    (given_less (beside (is_free before) bs) (is_free now) (length before) bs (λ page e. sym (t.marks page) ∙ e) (given_taken (is_free before) (length before) bs t.each))
+
+-- a page that was marked as held isn't free
+pub marked_not : (b : Span) (x : Bool) (page : ℕ) → has_page page b ≡ true → is_marked b false x page ≡ false
+marked_not b x page t = ap (λ (t : Bool). if t then false else x) t

@@ -1,5 +1,5 @@
--- Blocks that are taken one after the other.
-use Rattle.std.specs.Prelude.{◌≡◌, ℕ, ◌^◌, ◌<◌, ◌≤◌, ◌&&◌, Bool, true, List, [], ◌∷◌, not, nat_lt, length}
+-- Blocks that are taken one after the other, and given back.
+use Rattle.std.specs.Prelude.{◌≡◌, ℕ, ◌^◌, ◌<◌, ◌≤◌, ◌&&◌, ◌||◌, Bool, true, false, List, [], ◌∷◌, not, nat_lt, length}
 use Rattle.ttm_base.specs.declared.Span.{Span}
 use Rattle.ttm_base.specs.Holes.{has_page, is_free_beside}
 use Rattle.block_tree.specs.FreeSet.{is_free}
@@ -22,6 +22,19 @@ pub record CanTake (f : ℕ → Bool) (size : ℕ) (b : Span) : Type 0 where
 abbrev pub AreTaken : (ℕ → Bool) → ℕ → List Span → Type 0
 AreTaken f size [] = Unit {0}
 AreTaken f size (b ∷ bs) = CanTake f size b × AreTaken (less f b) size bs
+
+-- the pages that are free with those of a block
+abbrev pub more : (ℕ → Bool) → Span → ℕ → Bool
+more f b page = f page || has_page page b
+
+-- each block ends within the size, and none of its pages is free when it is given back
+pub record CanGive (f : ℕ → Bool) (size : ℕ) (b : Span) : Type 0 where
+  pub within : b.end ≤ size
+  pub held : (page : ℕ) → has_page page b ≡ true → f page ≡ false
+
+abbrev pub AreGiven : (ℕ → Bool) → ℕ → List Span → Type 0
+AreGiven f size [] = Unit {0}
+AreGiven f size (b ∷ bs) = CanGive f size b × AreGiven (more f b) size bs
 
 -- the test tells which of the pages below the size are free
 abbrev pub Tells : (ℕ → Bool) → List Bool → Type 0

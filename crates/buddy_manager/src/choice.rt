@@ -4,8 +4,7 @@ ghost use Rattle.ttm_base.specs.Holes.{has_page};
 ghost use Rattle.ttm_base.specs.BuddyChoice as words;
 ghost use Rattle.block_tree.specs.FreeSet.{is_free};
 ghost use Rattle.block_tree.specs.Masks.{is_marked};
-ghost use Rattle.buddy_manager.specs.Held.{AllBy};
-ghost use Rattle.buddy_manager.specs.Taking.{AreTaken, CanTake, Tells, IsTakenBy, IsSame};
+ghost use Rattle.buddy_manager.specs.Taking.{AreGiven, AreTaken, CanTake, Tells, IsTakenBy, IsSame};
 
 use crate::find::find_blocks;
 use crate::{AllocFault, BuddyFlags};
@@ -53,7 +52,7 @@ fn scattered(
             return Err(AllocFault::NoBlocks);
         };
         let Ok(()) = out.push(block) else {
-            free.mark(block, true);
+            free.give(block);
             return Err(AllocFault::NoMemory);
         };
         left = left.saturating_sub(block.end - block.start);
@@ -122,57 +121,15 @@ pub fn take_spans(free: &mut FreeBlocks, spans: &[Span])
     }
 }
 
-/// Two spans of which one touches or has the other, as one.
-fn joined(run: Span, span: Span) -> Option<Span>
-    ensures pages { IfSome result (λ both. (page : ℕ) → has_page page both ≡ (has_page page run || has_page page span)) }
-    ensures end { IfSome result (λ both. (size : ℕ) → run.end ≤ size → span.end ≤ size → both.end ≤ size) }
-{
-    if run.start > run.end || span.start > span.end {
-        None
-    } else if run.start <= span.start && span.end <= run.end {
-        Some(run)
-    } else if run.end == span.start {
-        Some(Span {
-            start: run.start,
-            end: span.end,
-        })
-    } else if span.end == run.start {
-        Some(Span {
-            start: span.start,
-            end: run.end,
-        })
-    } else {
-        None
-    }
-}
-
-/// Marks the pages of spans as free.
+/// Marks the pages of spans as free, of which none is.
 pub fn free_spans(free: &mut FreeBlocks, spans: &[Span])
-    requires { AllBy (length free.old) spans.now }
+    requires { AreGiven (is_free free.old) (length free.old) spans.now }
     ensures size { length free.new ≡ length free.old }
     ensures freed { (page : ℕ) → is_free free.new page ≡ (is_free free.old page || list_any (has_page page) spans.now) }
 {
-    free_all(free, Span { start: 0, end: 0 }, spans);
-}
-
-/// Marks the pages of a first span and of others as free: those that touch one after the other in one walk.
-fn free_all(free: &mut FreeBlocks, first: Span, spans: &[Span])
-    requires first { first.end ≤ length free.old }
-    requires spans { AllBy (length free.old) spans.now }
-    ensures size { length free.new ≡ length free.old }
-    ensures freed { (page : ℕ) → is_free free.new page ≡ (is_free free.old page || (has_page page first || list_any (has_page page) spans.now)) }
-{
-    let mut run = first;
     for span in spans {
-        match joined(run, *span) {
-            Some(both) => run = both,
-            None => {
-                free.mark(run, true);
-                run = *span;
-            }
-        }
+        free.give(*span);
     }
-    free.mark(run, true);
 }
 
 /// Takes blocks one after the other, or one. After a refusal those that were taken stand in `out`.

@@ -114,6 +114,9 @@ impl BuddyManager {
         ensures size { self.new.size ≡ self.old.size }
         ensures ok { OnOk result (buddy_choice (is_free_beside self.old.held) self.old.size (record { start = first; end = last }) flags.topdown flags.contig pages ≡ Some out.new) }
         ensures held { OnOk result (self.new.held ≡ with_blocks out.new self.old.held) }
+        ensures free { OnOk result (AreTaken (is_free_beside self.old.held) self.old.size out.new) }
+        ensures given { OnOk result (AreHeld out.new self.new.held) }
+        ensures back { OnOk result (without_all out.new self.new.held ≡ self.old.held) }
         ensures none { result ≡ Err AllocFault.NoBlocks → buddy_choice (is_free_beside self.old.held) self.old.size (record { start = first; end = last }) flags.topdown flags.contig pages ≡ None }
         ensures same { OnErr result (self.new ≡ self.old) }
         ensures empty { OnErr result (out.new ≡ []) }
@@ -178,7 +181,7 @@ impl BuddyManager {
             start: span.start + keep,
             end: span.end,
         };
-        self.free.mark(rest, true);
+        self.free.give(rest);
         self.used -= rest.end - rest.start;
     }
 

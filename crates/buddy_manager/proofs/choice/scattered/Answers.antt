@@ -1,8 +1,9 @@
 use Rattle.std.proofs.Common.{◌≡◌, ℕ, ◌+◌, ◌-◌, ◌<◌, Bool, List, [], ◌∷◌, ◌++◌, Option, length, option_map, ap, sym, subst, ◌∙◌, arith}
 use Rattle.ttm_base.specs.declared.Span.{Span}
 use Rattle.ttm_base.specs.BuddyChoice.{candidate, first_candidate, log2, scattered}
+use Rattle.block_tree.specs.FreeSet.{is_free}
 use Rattle.buddy_manager.specs.Taking.{beside, less, Tells, IsTakenBy}
-use Rattle.buddy_manager.proofs.TakingLaws.{beside_more, took_more, tells_beside, of_candidate, no_candidate, scattered_none, scattered_more}
+use Rattle.buddy_manager.proofs.TakingLaws.{beside_more, took_more, tells_beside, marked_not, of_candidate, no_candidate, scattered_none, scattered_more}
 use Rattle.buddy_manager.proofs.choice.scattered.Goals as goal
 use Rattle.buddy_manager.proofs.choice.scattered.Goals.{After-take_block}
 
@@ -21,6 +22,16 @@ returns-in_default-clause-none c = λ e test h.
     let none = no_candidate _ (at_test (goal.at.returns-in_default-clause-none c).After-take_block test h ∙ c.in_default.is) in
     sym (c.loop-block.invariant.same test h)
     ∙ ap (option_map (λ more. c.loop-block.out ++ more)) (scattered_none (c.args.pages - c.loop-block._block) (beside test c.loop-block.out) (length c.args.free.now) c.args.range c.args.topdown c.loop-block.left some none)
+
+-- (the block in hand was just taken)
+pub give-requires : goal.give-requires
+give-requires c =
+    let size = c.in-Some.ensures.size in
+    let within = c.in-Some.ensures.can.within in
+    record {
+      end = omega (arith, size, within);
+      held = λ page t. c.in-Some.ensures.taken page ∙ marked_not c.in-Some.block (is_free c.loop-block.free page) page t;
+    }
 
 pub loop-block-preserved : goal.loop-block-preserved
 loop-block-preserved c =

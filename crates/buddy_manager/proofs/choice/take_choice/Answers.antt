@@ -2,15 +2,14 @@ use Rattle.std.proofs.Common.{◌||◌, length, ap, sym, subst, ◌∙◌}
 use Rattle.std.specs.List.{list_any}
 use Rattle.ttm_base.specs.Holes.{has_page}
 use Rattle.block_tree.specs.FreeSet.{is_free}
-use Rattle.buddy_manager.specs.Held.{AllBy}
-use Rattle.buddy_manager.proofs.TakingLaws.{all_by_taken, given_back}
+use Rattle.buddy_manager.specs.Taking.{AreGiven}
+use Rattle.buddy_manager.proofs.TakingLaws.{given_back, given_now}
 use Rattle.buddy_manager.proofs.choice.take_choice.Goals as goal
 
 pub free_spans-requires : goal.free_spans-requires
 free_spans-requires c =
-    let t = c.take_blocks.ensures.taken in
-    subst (λ xs. AllBy (length c.take_blocks.new.free) xs) (sym c.items.ensures)
-    (subst (λ n. AllBy n c.take_blocks.new.out) (sym t.size) (all_by_taken (is_free c.args.free.now) (length c.args.free.now) c.take_blocks.new.out t.each))
+    subst (AreGiven (is_free c.take_blocks.new.free) (length c.take_blocks.new.free)) (sym c.items.ensures)
+    (given_now c.args.free.now c.take_blocks.new.free c.take_blocks.new.out c.take_blocks.ensures.taken)
 
 pub returns-in-Err-clause-same : goal.returns-in-Err-clause-same
 returns-in-Err-clause-same c =

@@ -1,4 +1,4 @@
-use Rattle.std.proofs.Common.{length, arith}
+use Rattle.std.proofs.Common.{arith}
 use Rattle.buddy_manager.proofs.FindingLaws.{finding_done}
 use Rattle.buddy_manager.proofs.find.find_all.Goals as goal
 

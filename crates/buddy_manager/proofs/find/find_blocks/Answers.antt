@@ -1,11 +1,9 @@
 use Rattle.std.proofs.Common.{◌||◌, length, take, refl, ap, sym, subst, ◌∙◌}
 use Rattle.std.specs.List.{list_any}
-use Rattle.std.proofs.lemmas.List.{length-replicate}
 use Rattle.ttm_base.specs.Holes.{has_page}
 use Rattle.block_tree.specs.FreeSet.{is_free}
-use Rattle.buddy_manager.specs.Held.{AllBy}
-use Rattle.buddy_manager.specs.Taking.{IsSame}
-use Rattle.buddy_manager.proofs.FindingLaws.{finding_start, marks_back, marks_by}
+use Rattle.buddy_manager.specs.Taking.{AreGiven, IsSame}
+use Rattle.buddy_manager.proofs.FindingLaws.{finding_start, marks_back, marks_given}
 use Rattle.buddy_manager.proofs.find.find_blocks.Goals as goal
 use Rattle.buddy_manager.proofs.find.find_blocks.Goals.{After-free_spans}
 
@@ -14,8 +12,8 @@ find_all-found-requires-clause-finding c = finding_start _ _ _ _ _ _ c.requires.
 
 pub free_spans-requires : goal.free_spans-requires
 free_spans-requires c =
-    subst (λ xs. AllBy (length c.find_all-found.new.free) (take c.find_all-found.new.search.marked xs)) (sym c.items.ensures)
-    (marks_by c.args.free.now c.find_all-found.new.free c.find_all-found.new.search.marked c.find_all-found.new.out c.find_all-found.ensures.marks)
+    subst (λ xs. AreGiven (is_free c.find_all-found.new.free) (length c.find_all-found.new.free) (take c.find_all-found.new.search.marked xs)) (sym c.items.ensures)
+    (marks_given c.args.free.now c.find_all-found.new.free c.find_all-found.new.search.marked c.find_all-found.new.out c.find_all-found.ensures.marks)
 
 same : (c : After-free_spans) → IsSame c.args.free.now c.free_spans.new.free
 same c =

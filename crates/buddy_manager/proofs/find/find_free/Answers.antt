@@ -1,4 +1,4 @@
-use Rattle.std.proofs.Common.{◌+◌, true, false, None, length, inl, inr, refl, sym, ap, ◌∙◌, subst, arith}
+use Rattle.std.proofs.Common.{◌+◌, true, false, None, length, inl, inr, refl, subst, arith}
 use Rattle.block_tree.specs.FreeSet.{is_free}
 use Rattle.block_tree.specs.Pieces.{IsFirstPiece, FirstPieceOf}
 use Rattle.buddy_manager.specs.Finding.{IsEven, rest_of}

@@ -1,6 +1,5 @@
-use Rattle.std.proofs.Common.{◌≡◌, ◌<◌, ◌≤◌, ◌+◌, ◌-◌, ◌^◌, min, length, ap, sym, subst, refl, ◌∙◌, arith}
+use Rattle.std.proofs.Common.{◌≡◌, ◌≤◌, ◌^◌, min, length, ap, sym, subst, refl, ◌∙◌, arith}
 use Rattle.ttm_base.specs.BuddyChoice.{log2}
-use Rattle.block_tree.specs.FreeSet.{is_free}
 use Rattle.block_tree.proofs.Numbers.{some_pages}
 use Rattle.buddy_manager.specs.declared.find.Search.{Search}
 use Rattle.buddy_manager.specs.Finding.{IsMarkedIn}

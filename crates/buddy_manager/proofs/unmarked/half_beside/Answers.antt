@@ -1,4 +1,4 @@
-use Rattle.std.proofs.Common.{◌≡◌, ◌≤◌, ◌+◌, ◌*◌, ◌/◌, ◌%◌, ◌^◌, ap, sym, subst, ◌∙◌}
+use Rattle.std.proofs.Common.{◌≡◌, ◌≤◌, ◌+◌, ◌*◌, ◌/◌, ◌%◌, ◌^◌, sym, subst}
 use Rattle.buddy_manager.proofs.KnownLaws.{beside_fits}
 use Rattle.buddy_manager.proofs.unmarked.half_beside.Goals as goal
 

@@ -1,5 +1,4 @@
 use Rattle.std.proofs.Common.{◌≡◌, true, set, Some, ap, sym, subst, ◌∙◌, arith}
-use Rattle.std.proofs.lemmas.List.{length-set}
 use Rattle.ttm_base.specs.Reach.{is_inside}
 use Rattle.buddy_manager.specs.Taking.{less}
 use Rattle.buddy_manager.specs.Finding.{IsEven, IsKnown, behind, rest_of}

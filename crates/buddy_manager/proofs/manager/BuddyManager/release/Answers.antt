@@ -3,9 +3,9 @@ use Rattle.std.specs.List.{list_any}
 use Rattle.ttm_base.specs.Holes.{has_page}
 use Rattle.block_tree.specs.FreeSet.{is_free}
 use Rattle.block_tree.proofs.MarkLaws.{take_front}
-use Rattle.buddy_manager.specs.Held.{Managed, held_from, without_all, pages_of, AllBy, AreHeld}
-use Rattle.buddy_manager.specs.Taking.{IsManaged}
-use Rattle.buddy_manager.proofs.ManagedLaws.{managed_released, released_used, all_held_by, used_within}
+use Rattle.buddy_manager.specs.Held.{Managed, held_from, without_all, pages_of, AreHeld}
+use Rattle.buddy_manager.specs.Taking.{AreGiven, IsManaged}
+use Rattle.buddy_manager.proofs.ManagedLaws.{managed_released, released_used, can_give_all, used_within}
 use Rattle.buddy_manager.proofs.manager.BuddyManager.release.Goals as goal
 use Rattle.buddy_manager.proofs.manager.BuddyManager.release.Goals.{After-self}
 
@@ -14,8 +14,8 @@ held c = subst (AreHeld c.args.spans.now) (sym (ap (λ (m : Managed). m.held) c.
 
 pub free_spans-requires : goal.free_spans-requires
 free_spans-requires c =
-    subst (AllBy (length c.self.inside.free)) (sym c.items-2.ensures)
-    (all_held_by (length c.self.inside.free) c.args.spans.now (held_from 0 c.self.inside.ends.items) (held (goal.at.free_spans-requires c).After-self) c.self.invariant.within)
+    subst (AreGiven (is_free c.self.inside.free) (length c.self.inside.free)) (sym c.items-2.ensures)
+    (can_give_all c.self.inside.free c.self.inside.ends.items c.self.inside.used c.args.spans.now c.self.invariant (held (goal.at.free_spans-requires c).After-self))
 
 pub pages_of-requires : goal.pages_of-requires
 pages_of-requires c =
