@@ -119,18 +119,18 @@ impl Blocks {
         self.room.clear();
         let flags = request.buddy_flags();
         let (first, last) = (request.first, request.last);
-        let choice = self
+        let taken = self
             .manager
-            .choice(request.pages, first, last, flags, &mut self.room);
-        if let Err(fault) = choice {
+            .alloc(request.pages, first, last, flags, &mut self.room);
+        if let Err(fault) = taken {
             return status_of(fault);
         }
         *count = self.room.len();
         if self.room.len() > out.len() {
+            self.manager.release(&self.room);
             return TOO_MANY;
         }
         write(self.room.items(), out);
-        self.manager.hold(&self.room);
         enter(&mut self.ends, self.room.items());
         DONE
     }
