@@ -1,8 +1,11 @@
 pub mod Around
+pub mod Beside
+pub mod ByLengths
 pub mod Choices
 pub mod Counting
 pub mod Heights
-pub mod Lengths
+pub mod LongestNode
+pub mod Leaned
 pub mod Looking
 pub mod Resizing
 pub mod Rises

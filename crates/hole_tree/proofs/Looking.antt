@@ -1,12 +1,11 @@
 -- One step of a search, at a node n that a tree s has as its root.
 use Rattle.std.proofs.Common.{◌≡◌, ℕ, ◌+◌, ◌-◌, ◌≤◌, ◌<◌, max, Bool, true, false, List, ◌∷◌, ◌++◌, Option, Some, None, refl, ap, sym, ◌∙◌, subst, arith, length, length-append}
 use Rattle.std.specs.Option.{is_some}
+use Rattle.std.specs.Prelude.{option_map}
 use Rattle.std.specs.List.{find}
 use Rattle.std.proofs.lemmas.Bool.{both_ways, le-leb, lt-leb}
 use Rattle.ttm_base.specs.declared.Span.{Span}
 use Rattle.ttm_base.specs.declared.Mode.{Mode}
-use Rattle.hole_tree.specs.declared.order.Order.{Order}
-use Rattle.hole_tree.specs.declared.order.Order.TheVariants.{ByStart}
 use Rattle.hole_tree.specs.declared.request.Request.{Request}
 use Rattle.hole_tree.specs.declared.tree.Node.{Node}
 use Rattle.hole_tree.specs.Longest.{longest}
@@ -32,53 +31,21 @@ shorter_below s n e = let c : length s.spans ≡ length (n.left.spans ++ n.hole 
 pub shorter_above : (s : Shape) (n : Node) → s ≡ shape_of_node n → length n.right.spans < length s.spans
 shorter_above s n e = let c : length s.spans ≡ length (n.left.spans ++ n.hole ∷ n.right.spans) = ap (λ t. length t.spans) e in omega (arith, length-append n.left.spans (n.hole ∷ n.right.spans))
 
--- ---- a side that isn't worth a look
+-- ---- a side that a request doesn't reach
 
-known_left : (o : Order) (q : Request) (n : Node) (b : Bool) → IsSound n → b ≡ reaches_left o q n.longest_left n.hole → reaches_left o q (longest n.left.spans) n.hole ≡ b
-known_left o q n b d w = ap (λ x. reaches_left o q x n.hole) (sym d.longest_left) ∙ sym w
+pub unreached_below : (m : Mode) (q : Request) (s : Shape) (n : Node) → s ≡ shape_of_node n → IsSound n → IsRising s.spans → reaches_left q n.longest_left n.hole ≡ false → find (fits m q) n.left.spans ≡ None
+unreached_below m q s n e d h w = left_none m q n.left.spans n.hole n.right.spans (at_rising s n e h) (ap (λ x. reaches_left q x n.hole) (sym d.longest_left) ∙ w)
 
-known_right : (o : Order) (q : Request) (n : Node) (b : Bool) → IsSound n → b ≡ reaches_right o q n.longest_right n.hole → reaches_right o q (longest n.right.spans) n.hole ≡ b
-known_right o q n b d w = ap (λ x. reaches_right o q x n.hole) (sym d.longest_right) ∙ sym w
+pub unreached_above : (m : Mode) (q : Request) (s : Shape) (n : Node) → s ≡ shape_of_node n → IsSound n → IsRising s.spans → reaches_right q n.longest_right n.hole ≡ false → find (fits m q) n.right.spans ≡ None
+unreached_above m q s n e d h w = right_none m q n.left.spans n.hole n.right.spans (at_rising s n e h) (ap (λ x. reaches_right q x n.hole) (sym d.longest_right) ∙ w)
 
-pub worth_below : (o : Order) (m : Mode) (q : Request) (s : Shape) (n : Node) (b : Bool) → s ≡ shape_of_node n → IsSound n → (o ≡ ByStart → IsRising s.spans) → b ≡ reaches_left o q n.longest_left n.hole → b ≡ false → find (fits m q) n.left.spans ≡ None
-worth_below o m q s n b e d h w f = left_none o m q n.left.spans n.hole n.right.spans (λ p. at_rising s n e (h p)) (known_left o q n b d w ∙ f)
+pub unreached_below_last : (m : Mode) (q : Request) (s : Shape) (n : Node) → s ≡ shape_of_node n → IsSound n → IsRising s.spans → reaches_left q n.longest_left n.hole ≡ false → find_last (fits m q) n.left.spans ≡ None
+unreached_below_last m q s n e d h w = left_none_last m q n.left.spans n.hole n.right.spans (at_rising s n e h) (ap (λ x. reaches_left q x n.hole) (sym d.longest_left) ∙ w)
 
-pub worth_above : (o : Order) (m : Mode) (q : Request) (s : Shape) (n : Node) (b : Bool) → s ≡ shape_of_node n → IsSound n → (o ≡ ByStart → IsRising s.spans) → b ≡ reaches_right o q n.longest_right n.hole → b ≡ false → find (fits m q) n.right.spans ≡ None
-worth_above o m q s n b e d h w f = right_none o m q n.left.spans n.hole n.right.spans (λ p. at_rising s n e (h p)) (known_right o q n b d w ∙ f)
-
-pub worth_below_last : (m : Mode) (q : Request) (s : Shape) (n : Node) (b : Bool) → s ≡ shape_of_node n → IsSound n → IsRising s.spans → b ≡ reaches_left ByStart q n.longest_left n.hole → b ≡ false → find_last (fits m q) n.left.spans ≡ None
-worth_below_last m q s n b e d h w f = left_none_last m q n.left.spans n.hole n.right.spans (at_rising s n e h) (known_left ByStart q n b d w ∙ f)
-
-pub worth_above_last : (m : Mode) (q : Request) (s : Shape) (n : Node) (b : Bool) → s ≡ shape_of_node n → IsSound n → IsRising s.spans → b ≡ reaches_right ByStart q n.longest_right n.hole → b ≡ false → find_last (fits m q) n.right.spans ≡ None
-worth_above_last m q s n b e d h w f = right_none_last m q n.left.spans n.hole n.right.spans (at_rising s n e h) (known_right ByStart q n b d w ∙ f)
+pub unreached_above_last : (m : Mode) (q : Request) (s : Shape) (n : Node) → s ≡ shape_of_node n → IsSound n → IsRising s.spans → reaches_right q n.longest_right n.hole ≡ false → find_last (fits m q) n.right.spans ≡ None
+unreached_above_last m q s n e d h w = right_none_last m q n.left.spans n.hole n.right.spans (at_rising s n e h) (ap (λ x. reaches_right q x n.hole) (sym d.longest_right) ∙ w)
 
 -- ---- what the whole tree has
-
-none_of : (o : Option Span) → is_some o ≡ false → o ≡ None
-none_of None e = refl
-none_of (Some x) e = absurd (both_ways true e refl)
-
-pub first_below : (test : Span → Bool) (s : Shape) (n : Node) (o : Option Span) → s ≡ shape_of_node n → o ≡ find test n.left.spans → is_some o ≡ true → o ≡ find test s.spans
-first_below test s n None e f h = absurd (both_ways false refl h)
-first_below test s n (Some x) e f h = sym (ap (λ t. find test t.spans) e ∙ first_left test n.left.spans n.hole n.right.spans x (sym f))
-
-pub first_here : (test : Span → Bool) (s : Shape) (n : Node) (o : Option Span) → s ≡ shape_of_node n → o ≡ find test n.left.spans → is_some o ≡ false → test n.hole ≡ true → Some n.hole ≡ find test s.spans
-first_here test s n o e f h t = sym (ap (λ u. find test u.spans) e ∙ first_root test n.left.spans n.hole n.right.spans (sym f ∙ none_of o h) t)
-
-pub first_above : (test : Span → Bool) (s : Shape) (n : Node) (o : Option Span) → s ≡ shape_of_node n → o ≡ find test n.left.spans → is_some o ≡ false → test n.hole ≡ false → find test n.right.spans ≡ find test s.spans
-first_above test s n o e f h t = sym (ap (λ u. find test u.spans) e ∙ first_right test n.left.spans n.hole n.right.spans (sym f ∙ none_of o h) t)
-
-pub last_above : (test : Span → Bool) (s : Shape) (n : Node) (o : Option Span) → s ≡ shape_of_node n → o ≡ find_last test n.right.spans → is_some o ≡ true → o ≡ find_last test s.spans
-last_above test s n None e f h = absurd (both_ways false refl h)
-last_above test s n (Some x) e f h = sym (ap (λ t. find_last test t.spans) e ∙ last_right test n.left.spans n.hole n.right.spans x (sym f))
-
-pub last_here : (test : Span → Bool) (s : Shape) (n : Node) (o : Option Span) → s ≡ shape_of_node n → o ≡ find_last test n.right.spans → is_some o ≡ false → test n.hole ≡ true → Some n.hole ≡ find_last test s.spans
-last_here test s n o e f h t = sym (ap (λ u. find_last test u.spans) e ∙ last_root test n.left.spans n.hole n.right.spans (sym f ∙ none_of o h) t)
-
-pub last_below : (test : Span → Bool) (s : Shape) (n : Node) (o : Option Span) → s ≡ shape_of_node n → o ≡ find_last test n.right.spans → is_some o ≡ false → test n.hole ≡ false → find_last test n.left.spans ≡ find_last test s.spans
-last_below test s n o e f h t = sym (ap (λ u. find_last test u.spans) e ∙ last_left test n.left.spans n.hole n.right.spans (sym f ∙ none_of o h) t)
-
--- ---- the first and the last that are long enough
 
 some_left : (test : Span → Bool) (l : List Span) (k : Span) (r : List Span) (o : Option Span) → find test l ≡ o → is_some o ≡ true → find test l ≡ find test (l ++ k ∷ r)
 some_left test l k r None e h = absurd (both_ways false refl h)
@@ -87,6 +54,36 @@ some_left test l k r (Some x) e h = e ∙ sym (first_left test l k r x e)
 some_right : (test : Span → Bool) (l : List Span) (k : Span) (r : List Span) (o : Option Span) → find_last test r ≡ o → is_some o ≡ true → find_last test r ≡ find_last test (l ++ k ∷ r)
 some_right test l k r None e h = absurd (both_ways false refl h)
 some_right test l k r (Some x) e h = e ∙ sym (last_right test l k r x e)
+
+-- a search of a side that found nothing
+pub none_of : {A : Type 0} (f : A → Span) (o : Option A) (p : Option Span) → option_map f o ≡ p → is_some o ≡ false → p ≡ None
+none_of f None p e h = sym e
+none_of f (Some x) p e h = absurd (both_ways true h refl)
+
+-- and one that found a hole
+some_of : {A : Type 0} (f : A → Span) (o : Option A) → is_some o ≡ true → is_some (option_map f o) ≡ true
+some_of f None h = absurd (both_ways false refl h)
+some_of f (Some x) h = refl
+
+pub first_below : {A : Type 0} (f : A → Span) (test : Span → Bool) (s : Shape) (n : Node) (o : Option A) → s ≡ shape_of_node n → option_map f o ≡ find test n.left.spans → is_some o ≡ true → option_map f o ≡ find test s.spans
+first_below f test s n o e m h = m ∙ some_left test n.left.spans n.hole n.right.spans _ (sym m) (some_of f o h) ∙ sym (ap (λ t. find test t.spans) e)
+
+pub first_here : (test : Span → Bool) (s : Shape) (n : Node) → s ≡ shape_of_node n → find test n.left.spans ≡ None → test n.hole ≡ true → Some n.hole ≡ find test s.spans
+first_here test s n e f t = sym (ap (λ u. find test u.spans) e ∙ first_root test n.left.spans n.hole n.right.spans f t)
+
+pub first_above : (test : Span → Bool) (s : Shape) (n : Node) → s ≡ shape_of_node n → find test n.left.spans ≡ None → test n.hole ≡ false → find test n.right.spans ≡ find test s.spans
+first_above test s n e f t = sym (ap (λ u. find test u.spans) e ∙ first_right test n.left.spans n.hole n.right.spans f t)
+
+pub last_above : {A : Type 0} (f : A → Span) (test : Span → Bool) (s : Shape) (n : Node) (o : Option A) → s ≡ shape_of_node n → option_map f o ≡ find_last test n.right.spans → is_some o ≡ true → option_map f o ≡ find_last test s.spans
+last_above f test s n o e m h = m ∙ some_right test n.left.spans n.hole n.right.spans _ (sym m) (some_of f o h) ∙ sym (ap (λ t. find_last test t.spans) e)
+
+pub last_here : (test : Span → Bool) (s : Shape) (n : Node) → s ≡ shape_of_node n → find_last test n.right.spans ≡ None → test n.hole ≡ true → Some n.hole ≡ find_last test s.spans
+last_here test s n e f t = sym (ap (λ u. find_last test u.spans) e ∙ last_root test n.left.spans n.hole n.right.spans f t)
+
+pub last_below : (test : Span → Bool) (s : Shape) (n : Node) → s ≡ shape_of_node n → find_last test n.right.spans ≡ None → test n.hole ≡ false → find_last test n.left.spans ≡ find_last test s.spans
+last_below test s n e f t = sym (ap (λ u. find_last test u.spans) e ∙ last_left test n.left.spans n.hole n.right.spans f t)
+
+-- ---- the first and the last that are long enough
 
 pub long_below : (pages : ℕ) (s : Shape) (n : Node) → s ≡ shape_of_node n → IsSound n → 1 ≤ pages → pages ≤ n.longest_left → find (is_long pages) n.left.spans ≡ find (is_long pages) s.spans
 long_below pages s n e d p h =
@@ -128,6 +125,5 @@ pub record Levels (s : Shape) (n : Node) : Type 0 where
 
 pub levels : (s : Shape) (n : Node) → s ≡ shape_of_node n → IsSound n → Levels s n
 levels s n e d =
-    let h : s.height ≡ n.height = ap (λ t. t.height) e in
-    let m : n.height ≡ max n.left.height n.right.height + 1 = d.height in
+    let h : s.height ≡ max n.left.height n.right.height + 1 = ap (λ t. t.height) e in
     record { below = omega arith; above = omega arith }

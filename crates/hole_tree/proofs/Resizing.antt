@@ -1,17 +1,20 @@
 -- A hole whose ends move, in its place.
-use Rattle.std.proofs.Common.{◌≡◌, ℕ, ◌≤◌, ◌<◌, true, List, [], ◌∷◌, ◌++◌, Some, length, refl, ap, sym, ◌∙◌, inl, inr, ltb, arith, length-append}
+use Rattle.std.proofs.Common.{◌≡◌, ℕ, ◌≤◌, ◌<◌, max, true, List, [], ◌∷◌, ◌++◌, Some, length, refl, ap, sym, ◌∙◌, inl, inr, ltb, arith}
 use Rattle.std.specs.List.{find, list_all}
 use Rattle.std.proofs.lemmas.Bool.{cases_Bool, and_parts, or_cases, ltb-true, lt-ltb, le-ltb, eqb-true, eq-eqb, ne_eqb}
 use Rattle.ttm_base.specs.declared.Span.{Span}
+use Rattle.ttm_base.specs.Reach.{length_of}
+use Rattle.hole_tree.specs.declared.order.Order.TheVariants.{ByStart}
 use Rattle.hole_tree.specs.HoleSet.{is_apart, starts_at, with_hole, without}
 use Rattle.hole_tree.specs.Rising.{IsRising, IsPast}
 use Rattle.hole_tree.specs.Longest.{longest}
 use Rattle.hole_tree.specs.Shape.{Shape, IsLow}
-use Rattle.hole_tree.specs.Trees.{spans_of, IsSound}
+use Rattle.hole_tree.specs.Trees.{IsSound}
 use Rattle.hole_tree.specs.declared.tree.Node.{Node}
 use Rattle.hole_tree.specs.Sorting.{replaced}
 use Rattle.hole_tree.proofs.Rises.{past_middle, rising_root, left_past}
-use Rattle.hole_tree.proofs.SortedByLength.{past_found}
+use Rattle.hole_tree.proofs.SortedByLength.{past_found, find_start, start_sorted}
+use Rattle.hole_tree.proofs.Sorts.{goes_left, goes_right}
 
 pub length-replaced : (start : ℕ) (to : Span) (ys : List Span) → length (replaced start to ys) ≡ length ys
 length-replaced start to [] = refl
@@ -58,6 +61,43 @@ replaced_here start to l k r p h =
     let rest : replaced start to (k ∷ r) ≡ to ∷ r = rw f (ap (λ w. to ∷ w) (replaced_past start k.end to r (omega arith) root.1)) in
     replaced_append start to l (k ∷ r) ∙ ap (λ w. w ++ replaced start to (k ∷ r)) (replaced_front start to l k r (omega arith) h) ∙ ap (λ w. l ++ w) rest
 
+-- ---- the hole is on a side
+
+pub held_left : (x : Span) (l : List Span) (k : Span) (r : List Span) → x.start < k.start → IsRising (l ++ k ∷ r) → find (starts_at x.start) (l ++ k ∷ r) ≡ Some x → find (starts_at x.start) l ≡ Some x
+held_left x l k r p h e =
+    let b : Span = record { start = x.start; end = x.start } in
+    let goes = goes_left ByStart b l k r (lt-ltb x.start k.start p) (start_sorted (l ++ k ∷ r) h) in
+    sym (find_start x.start l) ∙ sym goes.found ∙ find_start x.start (l ++ k ∷ r) ∙ e
+
+pub held_right : (x : Span) (l : List Span) (k : Span) (r : List Span) → k.start < x.start → IsRising (l ++ k ∷ r) → find (starts_at x.start) (l ++ k ∷ r) ≡ Some x → find (starts_at x.start) r ≡ Some x
+held_right x l k r p h e =
+    let b : Span = record { start = x.start; end = x.start } in
+    let goes = goes_right ByStart b l k r (lt-ltb k.start x.start p) (start_sorted (l ++ k ∷ r) h) in
+    sym (find_start x.start r) ∙ sym goes.found ∙ find_start x.start (l ++ k ∷ r) ∙ e
+
+-- ---- the longest hole
+
+pub longest_reaches : (start : ℕ) (from to : Span) (ys : List Span) → find (starts_at start) ys ≡ Some from → length_of to ≤ longest (replaced start to ys)
+longest_reaches start from to [] e = absurd cc
+longest_reaches start from to (y ∷ ys) e = elim (cases_Bool (starts_at start y)) [
+  | inl t ↦ rw t (omega arith)
+  | inr n ↦ let found = rw n at e in rw n (omega (arith, longest_reaches start from to ys found))
+]
+
+pub longest_replaced : (from to : Span) (ys : List Span) → IsRising ys → find (starts_at from.start) ys ≡ Some from → max (longest ys) (length_of to) ≡ max (length_of from) (longest (replaced from.start to ys))
+longest_replaced from to [] h e = absurd cc
+longest_replaced from to (y ∷ ys) h e = elim (cases_Bool (starts_at from.start y)) [
+  | inl t ↦
+      let same : Some y ≡ Some from = rw t at e in
+      let z : y ≡ from = cc in
+      let w : y.start ≤ y.end = h.0 in
+      let begins : y.start ≡ from.start = eqb-true y.start from.start t in
+      let rest : longest (replaced from.start to ys) ≡ longest ys = ap longest (replaced_past from.start y.end to ys (omega arith) h.1) in
+      let own : length_of y ≡ length_of from = ap length_of z in
+      rw t (omega arith)
+  | inr n ↦ let found = rw n at e in rw n (omega (arith, longest_replaced from to ys h.2 found))
+]
+
 -- ---- it is as if the hole went and came
 
 with_front : (x : Span) (page : ℕ) (ys : List Span) → x.start ≤ page → IsPast page ys → with_hole x ys ≡ x ∷ ys
@@ -97,26 +137,22 @@ low_same : {s t : Shape} → IsLow s → t.height ≡ s.height → length t.span
 low_same {s} {t} l h n = record { fewer = omega (arith, l.fewer); square = rw (h, n) l.square }
 
 -- a node with such a side is sound
-pub sound_left : {n m : Node} → IsSound n → m.left.height ≡ n.left.height → length m.left.spans ≡ length n.left.spans → m.right ≡ n.right → m.height ≡ n.height → m.longest_left ≡ longest m.left.spans → m.longest_right ≡ n.longest_right → IsSound m
+pub sound_left : {n m : Node} → IsSound n → m.left.height ≡ n.left.height → length m.left.spans ≡ length n.left.spans → m.right ≡ n.right → m.lean ≡ n.lean → m.longest_left ≡ longest m.left.spans → m.longest_right ≡ n.longest_right → IsSound m
 sound_left {n} {m} i h c r k a b =
     let right : m.right.height ≡ n.right.height = ap (λ t. t.height) r in
-    let count : length (spans_of m) ≡ length (spans_of n) = omega (arith, length-append m.left.spans (m.hole ∷ m.right.spans), length-append n.left.spans (n.hole ∷ n.right.spans), ap (λ t. length t.spans) r) in
     record {
-      height = omega (arith, i.height);
-      balance = record { left = omega (arith, i.balance.left); right = omega (arith, i.balance.right) };
+      lean = rw (k, h, right) i.lean;
       longest_left = a;
       longest_right = b ∙ i.longest_right ∙ sym (ap (λ t. longest t.spans) r);
-      low = low_same i.low k count;
+      sides = record { left = low_same i.sides.left h c; right = rw r i.sides.right };
     }
 
-pub sound_right : {n m : Node} → IsSound n → m.left ≡ n.left → m.right.height ≡ n.right.height → length m.right.spans ≡ length n.right.spans → m.height ≡ n.height → m.longest_left ≡ n.longest_left → m.longest_right ≡ longest m.right.spans → IsSound m
+pub sound_right : {n m : Node} → IsSound n → m.left ≡ n.left → m.right.height ≡ n.right.height → length m.right.spans ≡ length n.right.spans → m.lean ≡ n.lean → m.longest_left ≡ n.longest_left → m.longest_right ≡ longest m.right.spans → IsSound m
 sound_right {n} {m} i l h c k a b =
     let left : m.left.height ≡ n.left.height = ap (λ t. t.height) l in
-    let count : length (spans_of m) ≡ length (spans_of n) = omega (arith, length-append m.left.spans (m.hole ∷ m.right.spans), length-append n.left.spans (n.hole ∷ n.right.spans), ap (λ t. length t.spans) l) in
     record {
-      height = omega (arith, i.height);
-      balance = record { left = omega (arith, i.balance.left); right = omega (arith, i.balance.right) };
+      lean = rw (k, left, h) i.lean;
       longest_left = a ∙ i.longest_left ∙ sym (ap (λ t. longest t.spans) l);
       longest_right = b;
-      low = low_same i.low k count;
+      sides = record { left = rw l i.sides.left; right = low_same i.sides.right h c };
     }

@@ -9,13 +9,11 @@ use Rattle.ttm_base.specs.declared.Mode.{Mode}
 use Rattle.ttm_base.specs.declared.Mode.TheVariants.{Best, Low, High}
 use Rattle.ttm_base.specs.Reach.{common, length_of}
 use Rattle.ttm_base.specs.RangeChoice.{start_to_test}
-use Rattle.hole_tree.specs.declared.order.Order.{Order}
-use Rattle.hole_tree.specs.declared.order.Order.TheVariants.{ByStart, ByLength}
 use Rattle.hole_tree.specs.declared.request.Request.{Request}
 use Rattle.hole_tree.specs.Longest.{longest}
 use Rattle.hole_tree.specs.Rising.{IsRising, IsPast}
 use Rattle.hole_tree.proofs.Rises.{past_middle, rising_root}
-use Rattle.hole_tree.specs.Fitting.{range_of, fits, find_last, is_long, IsWide, ranges_below, ranges_above, reaches_left, reaches_right}
+use Rattle.hole_tree.specs.Fitting.{range_of, fits, find_last, is_long, IsWide, reaches_left, reaches_right}
 
 -- ---- one hole
 
@@ -92,37 +90,29 @@ past_miss m q page (x ∷ r) s h =
     let above : page < x.start = s.0 in
     (false_from_ne_true _ (λ e. let n = fit_numbers m q x e in absurd (omega (arith, n.last))), past_miss m q page r s.1 h)
 
-range_below_miss : (o : Order) (m : Mode) (q : Request) (l : List Span) (k : Span) (r : List Span) → (o ≡ ByStart → IsRising (l ++ k ∷ r)) → ranges_below o q k ≡ false → AllMiss (fits m q) l
-range_below_miss ByStart m q l k r s e = low_miss m q l k r (s refl) (ltb-false q.first k.start e)
-range_below_miss ByLength m q l k r s e = absurd (both_ways true e refl)
-
-range_above_miss : (o : Order) (m : Mode) (q : Request) (l : List Span) (k : Span) (r : List Span) → (o ≡ ByStart → IsRising (l ++ k ∷ r)) → ranges_above o q k ≡ false → AllMiss (fits m q) r
-range_above_miss ByStart m q l k r s e = past_miss m q k.end r (rising_root l k r (s refl)).1 (ltb-false k.end q.last e)
-range_above_miss ByLength m q l k r s e = absurd (both_ways true e refl)
-
-left_miss : (o : Order) (m : Mode) (q : Request) (l : List Span) (k : Span) (r : List Span) → (o ≡ ByStart → IsRising (l ++ k ∷ r)) → reaches_left o q (longest l) k ≡ false → AllMiss (fits m q) l
-left_miss o m q l k r s e = elim (and_cases (leb q.pages (longest l)) (ranges_below o q k) e) [
+left_miss : (m : Mode) (q : Request) (l : List Span) (k : Span) (r : List Span) → IsRising (l ++ k ∷ r) → reaches_left q (longest l) k ≡ false → AllMiss (fits m q) l
+left_miss m q l k r s e = elim (and_cases (leb q.pages (longest l)) (ltb q.first k.start) e) [
   | inl a ↦ short_miss m q l (leb-false q.pages (longest l) a)
-  | inr b ↦ range_below_miss o m q l k r s b
+  | inr b ↦ low_miss m q l k r s (ltb-false q.first k.start b)
 ]
 
-right_miss : (o : Order) (m : Mode) (q : Request) (l : List Span) (k : Span) (r : List Span) → (o ≡ ByStart → IsRising (l ++ k ∷ r)) → reaches_right o q (longest r) k ≡ false → AllMiss (fits m q) r
-right_miss o m q l k r s e = elim (and_cases (leb q.pages (longest r)) (ranges_above o q k) e) [
+right_miss : (m : Mode) (q : Request) (l : List Span) (k : Span) (r : List Span) → IsRising (l ++ k ∷ r) → reaches_right q (longest r) k ≡ false → AllMiss (fits m q) r
+right_miss m q l k r s e = elim (and_cases (leb q.pages (longest r)) (ltb k.end q.last) e) [
   | inl a ↦ short_miss m q r (leb-false q.pages (longest r) a)
-  | inr b ↦ range_above_miss o m q l k r s b
+  | inr b ↦ past_miss m q k.end r (rising_root l k r s).1 (ltb-false k.end q.last b)
 ]
 
-pub left_none : (o : Order) (m : Mode) (q : Request) (l : List Span) (k : Span) (r : List Span) → (o ≡ ByStart → IsRising (l ++ k ∷ r)) → reaches_left o q (longest l) k ≡ false → find (fits m q) l ≡ None
-left_none o m q l k r s e = miss_find (fits m q) l (left_miss o m q l k r s e)
+pub left_none : (m : Mode) (q : Request) (l : List Span) (k : Span) (r : List Span) → IsRising (l ++ k ∷ r) → reaches_left q (longest l) k ≡ false → find (fits m q) l ≡ None
+left_none m q l k r s e = miss_find (fits m q) l (left_miss m q l k r s e)
 
-pub right_none : (o : Order) (m : Mode) (q : Request) (l : List Span) (k : Span) (r : List Span) → (o ≡ ByStart → IsRising (l ++ k ∷ r)) → reaches_right o q (longest r) k ≡ false → find (fits m q) r ≡ None
-right_none o m q l k r s e = miss_find (fits m q) r (right_miss o m q l k r s e)
+pub right_none : (m : Mode) (q : Request) (l : List Span) (k : Span) (r : List Span) → IsRising (l ++ k ∷ r) → reaches_right q (longest r) k ≡ false → find (fits m q) r ≡ None
+right_none m q l k r s e = miss_find (fits m q) r (right_miss m q l k r s e)
 
-pub left_none_last : (m : Mode) (q : Request) (l : List Span) (k : Span) (r : List Span) → IsRising (l ++ k ∷ r) → reaches_left ByStart q (longest l) k ≡ false → find_last (fits m q) l ≡ None
-left_none_last m q l k r s e = miss_last (fits m q) l (left_miss ByStart m q l k r (λ p. s) e)
+pub left_none_last : (m : Mode) (q : Request) (l : List Span) (k : Span) (r : List Span) → IsRising (l ++ k ∷ r) → reaches_left q (longest l) k ≡ false → find_last (fits m q) l ≡ None
+left_none_last m q l k r s e = miss_last (fits m q) l (left_miss m q l k r s e)
 
-pub right_none_last : (m : Mode) (q : Request) (l : List Span) (k : Span) (r : List Span) → IsRising (l ++ k ∷ r) → reaches_right ByStart q (longest r) k ≡ false → find_last (fits m q) r ≡ None
-right_none_last m q l k r s e = miss_last (fits m q) r (right_miss ByStart m q l k r (λ p. s) e)
+pub right_none_last : (m : Mode) (q : Request) (l : List Span) (k : Span) (r : List Span) → IsRising (l ++ k ∷ r) → reaches_right q (longest r) k ≡ false → find_last (fits m q) r ≡ None
+right_none_last m q l k r s e = miss_last (fits m q) r (right_miss m q l k r s e)
 
 some_or : (a b : Option Span) → is_some b ≡ true → is_some (option_or a b) ≡ true
 some_or None b h = h
@@ -238,7 +228,7 @@ or_assoc : (a b c : Option Span) → option_or (option_or a b) c ≡ option_or a
 or_assoc None b c = refl
 or_assoc (Some x) b c = refl
 
-last_append : (test : Span → Bool) (l m : List Span) → find_last test (l ++ m) ≡ option_or (find_last test m) (find_last test l)
+pub last_append : (test : Span → Bool) (l m : List Span) → find_last test (l ++ m) ≡ option_or (find_last test m) (find_last test l)
 last_append test [] m = elim (find_last test m) as (λ o. o ≡ option_or o None) [ None ↦ refl | Some x ↦ refl ]
 last_append test (y ∷ t) m = ap (λ o. option_or o (cond (test y) (Some y) None)) (last_append test t m) ∙ or_assoc (find_last test m) (find_last test t) (cond (test y) (Some y) None)
 

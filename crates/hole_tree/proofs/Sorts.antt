@@ -1,5 +1,5 @@
 -- Sorted lists: their parts on both sides of a hole k, and a hole that comes or goes.
-use Rattle.std.proofs.Common.{◌≡◌, ◌+◌, ◌≤◌, Bool, true, false, cond, not, List, [], ◌∷◌, ◌++◌, Option, Some, None, length, refl, ap, ◌∙◌, arith}
+use Rattle.std.proofs.Common.{◌≡◌, ◌+◌, Bool, true, false, cond, not, List, [], ◌∷◌, ◌++◌, Option, Some, None, length, refl, ap, ◌∙◌, arith}
 use Rattle.std.specs.Option.{option_or}
 use Rattle.std.specs.List.{find}
 use Rattle.std.proofs.lemmas.Bool.Decides.{nat_tests}
@@ -146,11 +146,4 @@ length-placed o x [] = omega arith
 length-placed o x (y ∷ ys) = elim (before o x y) as (λ b. length (cond b (x ∷ y ∷ ys) (y ∷ placed o x ys)) ≡ length (y ∷ ys) + 1) [
   | true ↦ omega arith
   | false ↦ omega (arith, length-placed o x ys)
-]
-
-pub length-untied : (o : Order) (x : Span) (ys : List Span) → length (untied o x ys) ≤ length ys
-length-untied o x [] = omega arith
-length-untied o x (y ∷ ys) = elim (ties o x y) as (λ b. length (cond (not b) (y ∷ untied o x ys) (untied o x ys)) ≤ length (y ∷ ys)) [
-  | true ↦ omega (arith, length-untied o x ys)
-  | false ↦ omega (arith, length-untied o x ys)
 ]

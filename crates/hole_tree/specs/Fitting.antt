@@ -1,13 +1,11 @@
 -- Which holes fit a request, and which of them is found first.
-use Rattle.std.specs.Prelude.{◌≡◌, ℕ, ◌+◌, Bool, true, List, [], ◌∷◌, Option, Some, None, ◌&&◌, nat_lt, nat_le, if◌then◌else◌}
+use Rattle.std.specs.Prelude.{◌≡◌, ℕ, ◌+◌, Bool, List, [], ◌∷◌, Option, Some, None, ◌&&◌, nat_lt, nat_le, if◌then◌else◌}
 use Rattle.ttm_base.specs.declared.Span.{Span}
 use Rattle.std.specs.Option.{option_or}
 use Rattle.ttm_base.specs.declared.Mode.{Mode}
 use Rattle.ttm_base.specs.Reach.{common, length_of}
 use Rattle.ttm_base.specs.RangeChoice.{start_to_test}
 use Rattle.hole_tree.specs.Rising.{EndsBy}
-use Rattle.hole_tree.specs.declared.order.Order.{Order}
-use Rattle.hole_tree.specs.declared.order.Order.TheVariants.{ByStart, ByLength}
 use Rattle.hole_tree.specs.declared.request.Request.{Request}
 
 -- the pages that the request may take
@@ -36,20 +34,10 @@ pub record IsWide (r : Request) (spans : List Span) : Type 0 where
   pub first : r.first ≡ 0
   pub last : EndsBy r.last spans
 
--- the range may reach below a hole
-abbrev pub ranges_below : Order → Request → Span → Bool
-ranges_below ByStart r root = nat_lt r.first root.start
-ranges_below ByLength r root = true
-
--- the range may reach above it
-abbrev pub ranges_above : Order → Request → Span → Bool
-ranges_above ByStart r root = nat_lt root.end r.last
-ranges_above ByLength r root = true
-
 -- holes before the one at a root, of this length at most, may fit
-abbrev pub reaches_left : Order → Request → ℕ → Span → Bool
-reaches_left order r longest root = nat_le r.pages longest && ranges_below order r root
+abbrev pub reaches_left : Request → ℕ → Span → Bool
+reaches_left r longest root = nat_le r.pages longest && nat_lt r.first root.start
 
 -- holes after it may
-abbrev pub reaches_right : Order → Request → ℕ → Span → Bool
-reaches_right order r longest root = nat_le r.pages longest && ranges_above order r root
+abbrev pub reaches_right : Request → ℕ → Span → Bool
+reaches_right r longest root = nat_le r.pages longest && nat_lt root.end r.last

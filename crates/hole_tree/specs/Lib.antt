@@ -2,6 +2,8 @@ pub mod Choosing
 pub mod Fitting
 pub mod HoleSet
 pub mod Kept
+pub mod Leaning
+pub mod Leans
 pub mod Longest
 pub mod Rising
 pub mod Shape

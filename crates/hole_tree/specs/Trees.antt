@@ -1,8 +1,11 @@
 -- What a node is seen as, and what holds of it.
-use Rattle.std.specs.Prelude.{◌≡◌, ℕ, ◌+◌, ◌≤◌, max, List, [], ◌∷◌, ◌++◌}
+use Rattle.std.specs.Prelude.{◌≡◌, ℕ, ◌+◌, ◌≤◌, max, List, ◌∷◌, ◌++◌}
 use Rattle.ttm_base.specs.declared.Span.{Span}
+use Rattle.hole_tree.specs.Leaning.{Leans}
+use Rattle.hole_tree.specs.Leans.{no_shape}
 use Rattle.hole_tree.specs.Longest.{longest}
 use Rattle.hole_tree.specs.Shape.{Shape, IsLow}
+use Rattle.hole_tree.specs.declared.lean.Lean.TheVariants.{Even}
 use Rattle.hole_tree.specs.declared.tree.Node.{Node}
 use Rattle.hole_tree.specs.declared.tree.Top.{Top}
 use Rattle.hole_tree.specs.declared.tree.Top.TheVariants.{Empty, Full}
@@ -11,12 +14,15 @@ use Rattle.hole_tree.specs.declared.tree.Top.TheVariants.{Empty, Full}
 abbrev pub spans_of : Node → List Span
 spans_of n = n.left.spans ++ n.hole ∷ n.right.spans
 
--- the same, and the height that it stores
+-- its levels, and those below it
+abbrev pub height_of : Node → ℕ
+height_of n = max n.left.height n.right.height + 1
+
 abbrev pub shape_of_node : Node → Shape
-shape_of_node n = record { spans = spans_of n; height = n.height }
+shape_of_node n = record { spans = spans_of n; height = height_of n }
 
 abbrev pub shape_of : Top → Shape
-shape_of Empty = record { spans = []; height = 0 }
+shape_of Empty = no_shape
 shape_of (Full n) = shape_of_node n.value
 
 -- the sides differ by at most this many levels
@@ -30,19 +36,25 @@ pub record IsNode (whole left : Shape) (hole : Span) (right : Shape) : Type 0 wh
   pub height : whole.height ≡ max left.height right.height + 1
   pub balance : DifferBy 1 left.height right.height
 
--- the height h to which a node settles whose sides have these heights
-pub record IsSettled (l r h : ℕ) : Type 0 where
-  pub at_least : max l r ≤ h
-  pub at_most : h ≤ max l r + 1
-  pub kept : DifferBy 1 l r → h ≡ max l r + 1
+-- both sides are no higher than balance allows
+pub record HasLowSides (n : Node) : Type 0 where
+  pub left : IsLow n.left
+  pub right : IsLow n.right
 
--- the node is balanced, and what it stores of its sides is right
+-- the node leans as it says, its sides are balanced, and what it stores of them is right
 pub record IsSound (n : Node) : Type 0 where
-  pub height : n.height ≡ max n.left.height n.right.height + 1
-  pub balance : DifferBy 1 n.left.height n.right.height
+  pub lean : Leans n.lean n.left.height n.right.height
   pub longest_left : n.longest_left ≡ longest n.left.spans
   pub longest_right : n.longest_right ≡ longest n.right.spans
-  pub low : IsLow (shape_of_node n)
+  pub sides : HasLowSides n
+
+-- nothing stands beside its hole
+pub record IsBlankNode (n : Node) : Type 0 where
+  pub left : n.left ≡ no_shape
+  pub right : n.right ≡ no_shape
+  pub lean : n.lean ≡ Even
+  pub longest_left : n.longest_left ≡ 0
+  pub longest_right : n.longest_right ≡ 0
 
 abbrev pub IsTree : Top → Type 0
 IsTree Empty = Unit {0}

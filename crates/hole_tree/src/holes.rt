@@ -1,16 +1,18 @@
 //! The holes of a range of pages (drm_mm's hole trees).
-ghost use Rattle.std.specs.Prelude.{◌≡◌, ◌+◌, ◌-◌, ◌*◌, ◌^◌, ◌≤◌, max, [], length, true, Some, IsSome, OnOk, OnErr};
+ghost use Rattle.std.specs.Prelude.{◌≡◌, ◌+◌, ◌-◌, ◌*◌, ◌^◌, ◌<◌, ◌≤◌, max, [], length, true, Some, IsSome, OnOk, OnErr};
 ghost use Rattle.std.specs.List.{find, list_all};
 ghost use Rattle.std.specs.Vec.{vec_len, vec_capacity};
 ghost use Rattle.ttm_base.specs.Holes.{has_page};
 ghost use Rattle.ttm_base.specs.declared.Mode.TheVariants.{Best, Low, High};
 ghost use Rattle.hole_tree.specs.Choosing.{chosen_hole};
-ghost use Rattle.hole_tree.specs.HoleSet.{is_apart, starts_at, with_hole, without};
+ghost use Rattle.hole_tree.specs.Leans.{IsBlank};
+ghost use Rattle.hole_tree.specs.HoleSet.{is_apart, is_disjoint, starts_at, ends_at, with_hole, without};
 ghost use Rattle.hole_tree.specs.Rising.{EndsBy};
+ghost use Rattle.hole_tree.specs.Trees.{IsBlankNode};
 
-use crate::order::Order;
+use crate::lengths::{self, Entry, Lengths};
 use crate::request::Request;
-use crate::tree::{Node, Tree};
+use crate::tree::{self, Node, Tree};
 use std::alloc::Global;
 use std::marker::{Brand, Model};
 use step_count::Steps;
@@ -21,9 +23,18 @@ use ttm_base::{Mode, NoMemory, Span};
 /// are kept beside them.
 pub struct Holes {
     by_start: Tree,
-    by_length: Tree,
+    by_length: Lengths,
     count: usize,
     spare: Vec<Nodes>,
+}
+
+/// The holes that touch a span.
+#[derive(Clone, Copy)]
+pub struct Neighbours {
+    /// It ends where the span begins.
+    pub before: Option<Span>,
+    /// It begins where the span ends.
+    pub behind: Option<Span>,
 }
 
 /// By hand, so that no crate above proves how each part goes.
@@ -42,7 +53,9 @@ impl Drop for Holes {
 #[derive(Drop)]
 struct Nodes {
     by_start: Box<Node>,
-    by_length: Box<Node>,
+    by_length: Box<Entry>,
+    ghost blank: { IsBlankNode by_start.value },
+    ghost blank_entry: { IsBlank by_length.value },
 }
 
 impl Model for Holes {
@@ -66,7 +79,7 @@ impl Holes {
     {
         Holes {
             by_start: Tree::new(),
-            by_length: Tree::new(),
+            by_length: Lengths::new(),
             count: 0,
             spare: Vec::new(alloc),
         }
@@ -103,13 +116,17 @@ impl Holes {
     {
         // (the room of the spare nodes bounds the number of holes)
         let _room = self.spare.capacity();
-        let Some(mut nodes) = self.spare.pop() else {
+        let Some(nodes) = self.spare.pop() else {
             unreachable!()
         };
-        nodes.by_start.hole = hole;
-        nodes.by_length.hole = hole;
-        self.by_start.insert(Order::ByStart, nodes.by_start);
-        self.by_length.insert(Order::ByLength, nodes.by_length);
+        let Nodes {
+            mut by_start,
+            mut by_length,
+        } = nodes;
+        by_start.hole = hole;
+        by_length.hole = hole;
+        self.by_start.insert(by_start);
+        self.by_length.insert(by_length);
         self.count += 1;
     }
 
@@ -121,9 +138,16 @@ impl Holes {
         ensures spare { self.new.spare ≡ self.old.spare + 1 }
     {
         let begins = Span { start, end: start };
-        let by_start = self.by_start.take(Order::ByStart, begins);
+        let tree::Taken {
+            node: by_start,
+            lower: _,
+        } = self.by_start.take(begins);
         let hole = by_start.hole;
-        let by_length = self.by_length.take(Order::ByLength, hole);
+        let taken = self.by_length.take(hole);
+        let lengths::Taken {
+            entry: by_length,
+            lower: _,
+        } = taken;
         self.count -= 1;
         keep(
             &mut self.spare,
@@ -145,10 +169,14 @@ impl Holes {
         ensures holes { self.new.holes ≡ with_hole to (without from.start self.old.holes) }
         ensures spare { self.new.spare ≡ self.old.spare }
     {
-        self.by_start.resize(from.start, to);
-        let mut node = self.by_length.take(Order::ByLength, from);
+        self.by_start.resize(from, to);
+        let taken = self.by_length.take(from);
+        let lengths::Taken {
+            entry: mut node,
+            lower: _,
+        } = taken;
         node.hole = to;
-        self.by_length.insert(Order::ByLength, node);
+        self.by_length.insert(node);
     }
 
     /// The hole that has a page.
@@ -156,6 +184,20 @@ impl Holes {
         ensures { result ≡ find (has_page page) self.now.holes }
     {
         self.by_start.around(page).copied()
+    }
+
+    /// The holes that touch a span, of whose pages no hole has any.
+    pub fn beside(&self, span: Span) -> Neighbours
+        requires some { span.start < span.end }
+        requires held { list_all (is_disjoint span) self.now.holes ≡ true }
+        ensures before { result.before ≡ find (ends_at span.start) self.now.holes }
+        ensures behind { result.behind ≡ find (starts_at span.end) self.now.holes }
+    {
+        let (before, behind) = self.by_start.beside(span.start);
+        Neighbours {
+            before: before.filter(|hole| hole.end == span.start).copied(),
+            behind: behind.filter(|hole| hole.start == span.end).copied(),
+        }
     }
 
     /// The shortest hole that has `pages` pages at a multiple of `align`, from `first` up to `last`; the lowest among
@@ -216,14 +258,14 @@ impl Holes {
         ensures cost { align ≡ 1 → first ≡ 0 → EndsBy last self.now.holes → 2 ^ (steps.new - steps.old) ≤ (length self.now.holes + 1) * (length self.now.holes + 1) }
     {
         // (its levels bound the steps)
-        let _levels = self.by_length.height();
+        self.by_length.balanced();
         let request = Request {
             pages,
             align,
             first,
             last,
         };
-        self.by_length.first(Order::ByLength, request, steps)
+        self.by_length.first(request, steps).copied()
     }
 
     /// The lowest such hole, where a step is a node that is opened.
@@ -241,14 +283,14 @@ impl Holes {
         ensures cost { align ≡ 1 → first ≡ 0 → EndsBy last self.now.holes → 2 ^ (steps.new - steps.old) ≤ (length self.now.holes + 1) * (length self.now.holes + 1) }
     {
         // (its levels bound the steps)
-        let _levels = self.by_start.height();
+        self.by_start.balanced();
         let request = Request {
             pages,
             align,
             first,
             last,
         };
-        self.by_start.first(Order::ByStart, request, steps)
+        self.by_start.first(request, steps).copied()
     }
 
     /// The highest such hole, where a step is a node that is opened.
@@ -266,14 +308,14 @@ impl Holes {
         ensures cost { align ≡ 1 → first ≡ 0 → EndsBy last self.now.holes → 2 ^ (steps.new - steps.old) ≤ (length self.now.holes + 1) * (length self.now.holes + 1) }
     {
         // (its levels bound the steps)
-        let _levels = self.by_start.height();
+        self.by_start.balanced();
         let request = Request {
             pages,
             align,
             first,
             last,
         };
-        self.by_start.highest(request, steps)
+        self.by_start.highest(request, steps).copied()
     }
 
     /// The hole of the range choice, with a counter of its own.
@@ -286,9 +328,9 @@ impl Holes {
     {
         let mut steps = Steps::<L>::new(blank);
         match mode {
-            Mode::Best => self.by_length.first(Order::ByLength, request, &mut steps),
-            Mode::Low => self.by_start.first(Order::ByStart, request, &mut steps),
-            Mode::High => self.by_start.highest(request, &mut steps),
+            Mode::Best => self.by_length.first(request, &mut steps).copied(),
+            Mode::Low => self.by_start.first(request, &mut steps).copied(),
+            Mode::High => self.by_start.highest(request, &mut steps).copied(),
         }
     }
 }
@@ -304,7 +346,7 @@ fn fill(spare: &mut Vec<Nodes>, n: usize) -> Result<(), NoMemory>
     let alloc = *spare.allocator();
     for _i in spare.len()..n {
         let by_start = Box::new(alloc, Node::blank())?;
-        let by_length = Box::new(alloc, Node::blank())?;
+        let by_length = Box::new(alloc, Entry::blank())?;
         spare.push(Nodes {
             by_start,
             by_length,

@@ -2,9 +2,11 @@
 #![tactic(auto)]
 
 mod holes;
+mod lean;
+mod lengths;
 mod order;
 mod request;
 mod search;
 mod tree;
 
-pub use holes::Holes;
+pub use holes::{Holes, Neighbours};

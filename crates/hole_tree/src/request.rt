@@ -3,7 +3,6 @@ ghost use Rattle.ttm_base.specs.RangeChoice.{start_to_test};
 ghost use Rattle.ttm_base.specs.Reach.{common};
 ghost use Rattle.hole_tree.specs.Fitting.{fits, range_of, reaches_left, reaches_right};
 
-use crate::order::Order;
 use ttm_base::{Mode, Span};
 
 /// So many pages at a multiple of `align`, from `first` up to `last`.
@@ -35,25 +34,17 @@ impl Request {
     }
 
     /// Some hole before the one at a root may fit, where the longest of them is so long.
-    pub fn reaches_left(self, order: Order, longest: u32, root: Span) -> bool
-        ensures { result ≡ reaches_left order self longest root }
+    pub fn reaches_left(self, longest: u32, root: Span) -> bool
+        ensures { result ≡ reaches_left self longest root }
     {
-        let in_range = match order {
-            Order::ByStart => self.first < root.start,
-            Order::ByLength => true,
-        };
-        self.pages <= longest && in_range
+        self.pages <= longest && self.first < root.start
     }
 
     /// Some hole after it may.
-    pub fn reaches_right(self, order: Order, longest: u32, root: Span) -> bool
-        ensures { result ≡ reaches_right order self longest root }
+    pub fn reaches_right(self, longest: u32, root: Span) -> bool
+        ensures { result ≡ reaches_right self longest root }
     {
-        let in_range = match order {
-            Order::ByStart => root.end < self.last,
-            Order::ByLength => true,
-        };
-        self.pages <= longest && in_range
+        self.pages <= longest && root.end < self.last
     }
 }
 

@@ -1,12 +1,12 @@
-//! Searches. Each opens one node on a level, where neither range nor alignment leaves out a hole that is long enough.
-ghost use Rattle.std.specs.Prelude.{◌≡◌, ◌+◌, ◌≤◌, None, option_map, false};
+//! Searches. Those for a request open one node on a level, where neither range nor alignment leaves out a hole that is
+//! long enough.
+ghost use Rattle.std.specs.Prelude.{◌≡◌, ◌+◌, ◌≤◌, option_map};
 ghost use Rattle.std.specs.List.{find};
 ghost use Rattle.ttm_base.specs.declared.Mode.TheVariants.{Low, High};
-ghost use Rattle.hole_tree.specs.declared.order.Order.TheVariants.{ByStart};
+ghost use Rattle.hole_tree.specs.HoleSet.{ends_by, ends_past};
 ghost use Rattle.hole_tree.specs.Fitting.{fits, is_long, find_last, IsWide};
 ghost use Rattle.hole_tree.specs.Rising.{IsRising};
 
-use crate::order::Order;
 use crate::request::Request;
 use crate::tree::Tree;
 use step_count::Steps;
@@ -14,16 +14,11 @@ use step_count::ledger::Ledger;
 use ttm_base::{Mode, Span};
 
 impl Tree {
-    /// The first hole in this order that fits (Best and Low fit alike). Mostly it is the first that is long enough.
-    pub fn first<L: Ledger>(
-        &self,
-        order: Order,
-        request: Request,
-        steps: &mut Steps<L>,
-    ) -> Option<Span>
-        requires rising { order ≡ ByStart → IsRising self.now.spans }
+    /// The lowest hole that fits. Mostly it is the first that is long enough.
+    pub fn first<L: Ledger>(&self, request: Request, steps: &mut Steps<L>) -> Option<&Span>
+        requires rising { IsRising self.now.spans }
         requires align { 1 ≤ request.align }
-        ensures found { result ≡ find (fits Low request) self.now.spans }
+        ensures found { option_map (λ hole. hole.now) result ≡ find (fits Low request) self.now.spans }
         ensures counts { steps.old ≤ steps.new }
         ensures cost { IsWide request self.now.spans → steps.new ≤ steps.old + self.now.height }
     {
@@ -31,20 +26,20 @@ impl Tree {
             return None;
         }
         if request.first > 0 {
-            return self.first_of_all(order, request, true, steps);
+            return self.first_of_all(&request, steps);
         }
         let long = self.first_long(request.pages, steps)?;
         if request.fits(Mode::Low, *long) {
-            return Some(*long);
+            return Some(long);
         }
-        self.first_of_all(order, request, true, steps)
+        self.first_of_all(&request, steps)
     }
 
     /// The highest hole that fits. Mostly it is the last that is long enough.
-    pub fn highest<L: Ledger>(&self, request: Request, steps: &mut Steps<L>) -> Option<Span>
+    pub fn highest<L: Ledger>(&self, request: Request, steps: &mut Steps<L>) -> Option<&Span>
         requires rising { IsRising self.now.spans }
         requires align { 1 ≤ request.align }
-        ensures found { result ≡ find_last (fits High request) self.now.spans }
+        ensures found { option_map (λ hole. hole.now) result ≡ find_last (fits High request) self.now.spans }
         ensures counts { steps.old ≤ steps.new }
         ensures cost { IsWide request self.now.spans → steps.new ≤ steps.old + self.now.height }
     {
@@ -53,9 +48,30 @@ impl Tree {
         }
         let long = self.last_long(request.pages, steps)?;
         if request.fits(Mode::High, *long) {
-            return Some(*long);
+            return Some(long);
         }
-        self.highest_of_all(request, true, steps)
+        self.highest_of_all(&request, steps)
+    }
+
+    /// The last hole that ends at a page or below it, and the first that ends past it.
+    pub fn beside(&self, page: u32) -> (Option<&Span>, Option<&Span>)
+        requires rising { IsRising self.now.spans }
+        ensures before { option_map (λ hole. hole.now) result.0 ≡ find_last (ends_by page) self.now.spans }
+        ensures behind { option_map (λ hole. hole.now) result.1 ≡ find (ends_past page) self.now.spans }
+    {
+        let mut before = None;
+        let mut behind = None;
+        let mut tree = self;
+        while let Some(node) = tree.root() {
+            if node.hole.end <= page {
+                before = Some(&node.hole);
+                tree = &node.right;
+            } else {
+                behind = Some(&node.hole);
+                tree = &node.left;
+            }
+        }
+        (before, behind)
     }
 
     /// The first hole that is so long.
@@ -92,62 +108,49 @@ impl Tree {
         node.left.last_long(pages, steps)
     }
 
-    /// The first hole that fits. Where it isn't `worth` a look, no node is opened.
-    fn first_of_all<L: Ledger>(
-        &self,
-        order: Order,
-        request: Request,
-        worth: bool,
-        steps: &mut Steps<L>,
-    ) -> Option<Span>
-        requires rising { order ≡ ByStart → IsRising self.now.spans }
-        requires align { 1 ≤ request.align }
-        requires worth { worth ≡ false → find (fits Low request) self.now.spans ≡ None }
-        ensures found { result ≡ find (fits Low request) self.now.spans }
+    /// The first hole that fits. A side is opened where such a hole may be in it.
+    fn first_of_all<L: Ledger>(&self, request: &Request, steps: &mut Steps<L>) -> Option<&Span>
+        requires rising { IsRising self.now.spans }
+        requires align { 1 ≤ request.now.align }
+        ensures found { option_map (λ hole. hole.now) result ≡ find (fits Low request.now) self.now.spans }
         ensures counts { steps.old ≤ steps.new }
     {
-        if !worth {
-            return None;
-        }
         let node = self.open(steps)?;
-        let may_left = request.reaches_left(order, node.longest_left, node.hole);
-        let below = node.left.first_of_all(order, request, may_left, steps);
-        if below.is_some() {
-            return below;
+        if request.reaches_left(node.longest_left, node.hole) {
+            let below = node.left.first_of_all(request, steps);
+            if below.is_some() {
+                return below;
+            }
         }
         if request.fits(Mode::Low, node.hole) {
-            return Some(node.hole);
+            return Some(&node.hole);
         }
-        let may_right = request.reaches_right(order, node.longest_right, node.hole);
-        node.right.first_of_all(order, request, may_right, steps)
+        if request.reaches_right(node.longest_right, node.hole) {
+            return node.right.first_of_all(request, steps);
+        }
+        None
     }
 
-    /// The highest hole that fits. Where it isn't `worth` a look, no node is opened.
-    fn highest_of_all<L: Ledger>(
-        &self,
-        request: Request,
-        worth: bool,
-        steps: &mut Steps<L>,
-    ) -> Option<Span>
+    /// The highest hole that fits. A side is opened where such a hole may be in it.
+    fn highest_of_all<L: Ledger>(&self, request: &Request, steps: &mut Steps<L>) -> Option<&Span>
         requires rising { IsRising self.now.spans }
-        requires align { 1 ≤ request.align }
-        requires worth { worth ≡ false → find_last (fits High request) self.now.spans ≡ None }
-        ensures found { result ≡ find_last (fits High request) self.now.spans }
+        requires align { 1 ≤ request.now.align }
+        ensures found { option_map (λ hole. hole.now) result ≡ find_last (fits High request.now) self.now.spans }
         ensures counts { steps.old ≤ steps.new }
     {
-        if !worth {
-            return None;
-        }
         let node = self.open(steps)?;
-        let may_right = request.reaches_right(Order::ByStart, node.longest_right, node.hole);
-        let above = node.right.highest_of_all(request, may_right, steps);
-        if above.is_some() {
-            return above;
+        if request.reaches_right(node.longest_right, node.hole) {
+            let above = node.right.highest_of_all(request, steps);
+            if above.is_some() {
+                return above;
+            }
         }
         if request.fits(Mode::High, node.hole) {
-            return Some(node.hole);
+            return Some(&node.hole);
         }
-        let may_left = request.reaches_left(Order::ByStart, node.longest_left, node.hole);
-        node.left.highest_of_all(request, may_left, steps)
+        if request.reaches_left(node.longest_left, node.hole) {
+            return node.left.highest_of_all(request, steps);
+        }
+        None
     }
 }

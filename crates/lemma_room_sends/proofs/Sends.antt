@@ -12,6 +12,10 @@ use Rattle.hole_tree.specs.contracts.tree.Tree as Tree
 use Rattle.hole_tree.specs.contracts.tree.Tree.TheKnot as knot
 use Rattle.hole_tree.specs.declared.tree.Tree.TheDeep.{the_members, member-Tree}
 use Rattle.hole_tree.specs.contracts.tree.Node as Node
+use Rattle.hole_tree.specs.contracts.lengths.Lengths as Lengths
+use Rattle.hole_tree.specs.contracts.lengths.Lengths.TheKnot as by_length
+use Rattle.hole_tree.specs.declared.lengths.Lengths.TheDeep as in_lengths
+use Rattle.hole_tree.specs.contracts.lengths.Entry as HoleEntry
 use Rattle.hole_tree.specs.contracts.holes.Holes as Holes
 use Rattle.range_manager.specs.contracts.manager.RangeManager as RangeManager
 use Rattle.block_tree.specs.contracts.free_blocks.FreeBlocks as FreeBlocks
@@ -60,8 +64,29 @@ tree = members member-Tree
 node : IsSend Node.the_row
 node = search (sendable, crosses, tree) depth 30
 
+entry_at : (p : Members by_length.frame) → IsSend (rows by_length.frame p in_lengths.member-Lengths) → IsSend (by_length.at-Entry p)
+entry_at p s = search (sendable, crosses) depth 30
+
+link_at : (p : Members by_length.frame) → IsSend (by_length.at-Entry p) → IsSend (by_length.at-Link p)
+link_at p s = search (sendable, crosses) depth 30
+
+lengths_at : (p : Members by_length.frame) → IsSend (by_length.at-Link p) → IsSend (by_length.view-Lengths p)
+lengths_at p s = search (sendable, crosses) depth 30
+
+entry_deeper : (p : Members by_length.frame) → ((i : in_lengths.the_members) → IsSend (rows by_length.frame p i)) → (i : in_lengths.the_members) → IsSend (rows by_length.frame (by_length.step p) i)
+entry_deeper p all in_lengths.member-Lengths = has_of by_length.frame send (by_length.step p) in_lengths.member-Lengths (part_has send (by_length.view-Lengths p) (lengths_at p (link_at p (entry_at p (all in_lengths.member-Lengths)))))
+
+by_length_members : (i : in_lengths.the_members) → IsSend (rows by_length.frame by_length.tied i)
+by_length_members = tied_goals by_length.frame by_length.step by_length.sizes (one_law in_lengths.the_members send) entry_deeper
+
+lengths : IsSend Lengths.the_row
+lengths = by_length_members in_lengths.member-Lengths
+
+hole_entry : IsSend HoleEntry.the_row
+hole_entry = search (sendable, crosses, lengths) depth 30
+
 holes : IsSend Holes.the_row
-holes = search (sendable, crosses, tree, node) depth 30
+holes = search (sendable, crosses, tree, node, lengths, hole_entry) depth 30
 
 -- ---- the managers
 

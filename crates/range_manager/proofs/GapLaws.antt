@@ -1,14 +1,14 @@
 -- Holes that come and go, by their pages.
-use Rattle.std.proofs.Common.{◌≡◌, ℕ, ◌+◌, ◌-◌, ◌<◌, ◌≤◌, ◌&&◌, ◌||◌, inl, inr, Bool, true, false, List, [], ◌∷◌, Option, Some, None, refl, ap, sym, ◌∙◌, subst, arith, not}
+use Rattle.std.proofs.Common.{◌≡◌, ℕ, ◌+◌, ◌<◌, ◌≤◌, ◌&&◌, ◌||◌, inl, inr, Bool, true, false, List, [], ◌∷◌, Option, Some, None, refl, ap, sym, ◌∙◌, subst, arith, not}
 use Rattle.std.specs.Prelude.{IfSome, IfNone}
 use Rattle.std.specs.List.{find, list_any}
 use Rattle.std.proofs.lemmas.Bool.{cases_lt, cases_Bool, or_from, both_ways, eqb-true, ne_eqb}
 use Rattle.std.proofs.lemmas.Bool.Decides.{nat_tests}
 use Rattle.ttm_base.specs.declared.Span.{Span}
 use Rattle.ttm_base.specs.Holes.{has_page}
-use Rattle.hole_tree.specs.HoleSet.{starts_at, without}
+use Rattle.hole_tree.specs.HoleSet.{starts_at, ends_at, without}
 use Rattle.range_manager.specs.Kept.{IsSpaced, IsClear}
-use Rattle.range_manager.proofs.SpanLaws.{IsAmong, has_parts, has_from, has_before, has_past, among_some, among_has, among_found, found_among, found_none, spaced_without, clear_without, pages_without}
+use Rattle.range_manager.proofs.SpanLaws.{IsAmong, has_from, has_before, has_past, among_some, among_found, found_among, found_none, none_before, none_behind, spaced_without, clear_without, pages_without}
 
 -- ---- the hole that has a page
 
@@ -29,6 +29,42 @@ hole_some hs hole s f = among_some 1 hole hs s ((found_among (starts_at hole.sta
 
 pub found_hole : (hs : List Span) (hole : Span) → find (starts_at hole.start) hs ≡ Some hole → IsAmong hole hs
 found_hole hs hole e = (found_among (starts_at hole.start) hole hs e).0
+
+-- ---- the holes that touch pages of which no hole has any
+
+pub record IsBelow (hs : List Span) (pages x : Span) : Type 0 where
+  pub hole : find (starts_at x.start) hs ≡ Some x
+  pub touch : x.end ≡ pages.start
+
+pub below_found : (hs : List Span) (pages hole : Span) → IsSpaced 1 hs → find (ends_at pages.start) hs ≡ Some hole → IsBelow hs pages hole
+below_found hs pages hole s e =
+    let a = found_among (ends_at pages.start) hole hs e in
+    record { hole = among_found 1 hole hs s a.0; touch = eqb-true hole.end pages.start a.1 }
+
+pub record IsAbove (hs : List Span) (pages x : Span) : Type 0 where
+  pub hole : find (starts_at x.start) hs ≡ Some x
+  pub touch : x.start ≡ pages.end
+
+pub above_found : (hs : List Span) (pages hole : Span) → IsSpaced 1 hs → find (starts_at pages.end) hs ≡ Some hole → IsAbove hs pages hole
+above_found hs pages hole s e =
+    let a = found_among (starts_at pages.end) hole hs e in
+    record { hole = among_found 1 hole hs s a.0; touch = eqb-true hole.start pages.end a.1 }
+
+pub below_none : (hs : List Span) (pages : Span) → pages.start < pages.end → IsClear 0 pages hs → find (ends_at pages.start) hs ≡ None → (p : ℕ) → p + 1 ≡ pages.start → list_any (has_page p) hs ≡ false
+below_none hs pages some c e p t = none_before pages hs p some c (found_none (ends_at pages.start) hs e) t
+
+pub above_none : (hs : List Span) (pages : Span) → pages.start < pages.end → IsClear 0 pages hs → find (starts_at pages.end) hs ≡ None → list_any (has_page pages.end) hs ≡ false
+above_none hs pages some c e = none_behind pages hs some c (found_none (starts_at pages.end) hs e)
+
+-- pages that touch no hole
+pub clear_beside : (hs : List Span) (pages : Span) → IsClear 0 pages hs → ((p : ℕ) → p + 1 ≡ pages.start → list_any (has_page p) hs ≡ false) → list_any (has_page pages.end) hs ≡ false → IsClear 1 pages hs
+clear_beside hs pages c below above page l u = elim (cases_lt page pages.start) [
+  | inl k ↦ below page (omega arith)
+  | inr k ↦ elim (cases_lt page pages.end) [
+    | inl m ↦ c page (omega arith) (omega arith)
+    | inr m ↦ let e : pages.end ≡ page = omega arith in ap (λ n. list_any (has_page n) hs) (sym e) ∙ above
+  ]
+]
 
 -- ---- a hole that was taken out
 
@@ -53,30 +89,6 @@ past_hole hs hole s f =
     let own = among_some 1 hole hs s a in
     pages_without 1 hole hs hole.end s a
     ∙ or_from (list_any (has_page hole.end) (without hole.start hs)) (has_page hole.end hole) (clear_without 1 hole hs s a hole.end (omega arith) (omega arith)) (has_past hole.end hole (omega arith))
-
--- a hole that has the page before one that isn't free ends there
-pub ends_at : (page : ℕ) (hs : List Span) (hole : Span) → 0 < page → find (starts_at hole.start) hs ≡ Some hole → has_page (page - 1) hole ≡ true → list_any (has_page page) hs ≡ false → hole.end ≡ page
-ends_at page hs hole some f h n =
-    let p = has_parts (page - 1) hole h in
-    let from = p.0 in
-    let to = p.1 in
-    let by : hole.end ≤ page = elim (cases_lt page hole.end) [
-      | inr l ↦ l
-      | inl l ↦ absurd (both_ways (list_any (has_page page) hs) n (among_has page hole hs (found_hole hs hole f) (has_from page hole (omega arith) l)))
-    ] in
-    omega arith
-
--- a hole that has the page past one that isn't free begins there
-pub begins_at : (page : ℕ) (hs : List Span) (hole : Span) → 1 ≤ page → find (starts_at hole.start) hs ≡ Some hole → has_page page hole ≡ true → ((p : ℕ) → p + 1 ≡ page → list_any (has_page p) hs ≡ false) → hole.start ≡ page
-begins_at page hs hole some f h n =
-    let p = has_parts page hole h in
-    let from = p.0 in
-    let to = p.1 in
-    let by : page ≤ hole.start = elim (cases_lt hole.start page) [
-      | inr l ↦ l
-      | inl l ↦ absurd (both_ways (list_any (has_page (page - 1)) hs) (n (page - 1) (omega arith)) (among_has (page - 1) hole hs (found_hole hs hole f) (has_from (page - 1) hole (omega arith) (omega arith))))
-    ] in
-    omega arith
 
 -- ---- the pages of a hole, but those that are taken
 
@@ -119,14 +131,6 @@ split_pages rest hole taken page clear from some to =
             ]
       ]
     ]
-
-pub touches_below : (page : ℕ) (hs : List Span) (o : Option Span) → 0 < page → IfSome o (λ hole. find (starts_at hole.start) hs ≡ Some hole) → IfSome o (λ hole. has_page (page - 1) hole ≡ true) → list_any (has_page page) hs ≡ false → IfSome o (λ hole. hole.end ≡ page)
-touches_below page hs None p f h n = tt
-touches_below page hs (Some x) p f h n = ends_at page hs x p f h n
-
-pub touches_above : (page : ℕ) (hs : List Span) (o : Option Span) → 1 ≤ page → IfSome o (λ hole. find (starts_at hole.start) hs ≡ Some hole) → IfSome o (λ hole. has_page page hole ≡ true) → ((p : ℕ) → p + 1 ≡ page → list_any (has_page p) hs ≡ false) → IfSome o (λ hole. hole.start ≡ page)
-touches_above page hs None p f h n = tt
-touches_above page hs (Some x) p f h n = begins_at page hs x p f h n
 
 -- a span without pages
 pub empty : (page start end : ℕ) → end ≤ start → has_page page (record { start = start; end = end }) ≡ false

@@ -5,7 +5,7 @@ use Rattle.std.proofs.lemmas.Bool.{cases_lt, and_parts, and_from, and_left, and_
 use Rattle.ttm_base.specs.declared.Span.{Span}
 use Rattle.ttm_base.specs.Holes.{has_page}
 use Rattle.ttm_base.specs.Reach.{length_of}
-use Rattle.hole_tree.specs.HoleSet.{is_apart, starts_at, with_hole, without}
+use Rattle.hole_tree.specs.HoleSet.{is_apart, is_disjoint, starts_at, ends_at, with_hole, without}
 use Rattle.range_manager.specs.Held.{pages_of}
 use Rattle.range_manager.specs.Kept.{AllFrom, AllBy, IsSpaced, IsClear}
 
@@ -192,6 +192,57 @@ apart_of_clear b (h ∷ hs) a s c =
         ]
       ]
     ]) (apart_of_clear b hs a.2 s parts.1)
+
+-- it has no page in common with spans that have none of its pages
+pub disjoint_of_clear : (b : Span) (hs : List Span) → IsSpaced 1 hs → b.start < b.end → IsClear 0 b hs → list_all (is_disjoint b) hs ≡ true
+disjoint_of_clear b [] a s c = refl
+disjoint_of_clear b (h ∷ hs) a s c =
+    let own = a.0 in
+    let parts = clear_parts 0 b h hs c in
+    and_from (is_disjoint b h) (list_all (is_disjoint b) hs) (elim (cases_lt h.start b.end) [
+      | inr l ↦ or_left (nat_le b.end h.start) (nat_le h.end b.start) (le-leb b.end h.start l)
+      | inl l ↦ elim (cases_lt b.start h.end) [
+        | inr u ↦ or_right (nat_le b.end h.start) (nat_le h.end b.start) (le-leb h.end b.start u)
+        | inl u ↦ elim (cases_lt h.start b.start) [
+          | inl k ↦ absurd (both_ways (has_page b.start h) (parts.0 b.start (omega arith) (omega arith)) (has_from b.start h (omega arith) u))
+          | inr k ↦ absurd (both_ways (has_page h.start h) (parts.0 h.start (omega arith) (omega arith)) (has_from h.start h (omega arith) own))
+        ]
+      ]
+    ]) (disjoint_of_clear b hs a.2 s parts.1)
+
+-- where none of them ends where it begins, none has the page before it
+pub none_before : (b : Span) (hs : List Span) (page : ℕ) → b.start < b.end → IsClear 0 b hs → list_any (ends_at b.start) hs ≡ false → page + 1 ≡ b.start → list_any (has_page page) hs ≡ false
+none_before b [] page s c n e = refl
+none_before b (h ∷ hs) page s c n e =
+    let here = or_parts (ends_at b.start h) (list_any (ends_at b.start) hs) n in
+    let parts = clear_parts 0 b h hs c in
+    or_from (has_page page h) (list_any (has_page page) hs) (elim (cases_lt page h.start) [
+      | inl l ↦ has_before page h l
+      | inr l ↦ elim (cases_lt page h.end) [
+        | inr u ↦ has_past page h u
+        | inl u ↦ elim (cases_lt b.start h.end) [
+          | inl k ↦ absurd (both_ways (has_page b.start h) (parts.0 b.start (omega arith) (omega arith)) (has_from b.start h (omega arith) k))
+          | inr k ↦ absurd (both_ways (ends_at b.start h) here.0 (eq-eqb h.end b.start (omega arith)))
+        ]
+      ]
+    ]) (none_before b hs page s parts.1 here.1 e)
+
+-- where none of them begins where it ends, none has the page there
+pub none_behind : (b : Span) (hs : List Span) → b.start < b.end → IsClear 0 b hs → list_any (starts_at b.end) hs ≡ false → list_any (has_page b.end) hs ≡ false
+none_behind b [] s c n = refl
+none_behind b (h ∷ hs) s c n =
+    let here = or_parts (starts_at b.end h) (list_any (starts_at b.end) hs) n in
+    let parts = clear_parts 0 b h hs c in
+    or_from (has_page b.end h) (list_any (has_page b.end) hs) (elim (cases_lt b.end h.start) [
+      | inl l ↦ has_before b.end h l
+      | inr l ↦ elim (cases_lt b.end h.end) [
+        | inr u ↦ has_past b.end h u
+        | inl u ↦ elim (cases_lt h.start b.end) [
+          | inl k ↦ absurd (both_ways (has_page (b.end - 1) h) (parts.0 (b.end - 1) (omega arith) (omega arith)) (has_from (b.end - 1) h (omega arith) (omega arith)))
+          | inr k ↦ absurd (both_ways (starts_at b.end h) here.0 (eq-eqb h.start b.end (omega arith)))
+        ]
+      ]
+    ]) (none_behind b hs s parts.1 here.1)
 
 -- ---- a span less
 

@@ -5,7 +5,7 @@ ghost use Rattle.ttm_base.specs.Holes.{has_page};
 ghost use Rattle.hole_tree.specs.HoleSet.{starts_at};
 ghost use Rattle.range_manager.specs.Kept.{IsSpaced, IsClear};
 
-use hole_tree::Holes;
+use hole_tree::{Holes, Neighbours};
 use std::alloc::Global;
 use ttm_base::{NoMemory, Span};
 
@@ -88,46 +88,25 @@ pub fn give(holes: &mut Holes, pages: Span)
     ensures pages { (page : ℕ) → list_any (has_page page) holes.new.holes ≡ (list_any (has_page page) holes.old.holes || has_page page pages) }
     ensures room { holes.old.spare ≤ holes.new.spare + 1 }
 {
-    let Some(above) = above(holes, pages.end) else {
-        give_below(holes, pages);
-        return;
-    };
-    let end = above.end;
-    if let Some(below) = below(holes, pages.start) {
-        holes.remove(above.start);
-        grow(
-            holes,
-            below,
-            Span {
+    let Neighbours { before, behind } = holes.beside(pages);
+    match (before, behind) {
+        (None, None) => put(holes, pages),
+        (Some(below), None) => grow(holes, below, pages),
+        (None, Some(above)) => {
+            let joined = Span {
                 start: pages.start,
-                end,
-            },
-        );
-        return;
-    }
-    holes.resize(
-        above,
-        Span {
-            start: pages.start,
-            end,
-        },
-    );
-}
-
-/// Gives pages back that touch no hole above them.
-fn give_below(holes: &mut Holes, pages: Span)
-    requires spaced { IsSpaced 1 holes.old.holes }
-    requires some { pages.start < pages.end }
-    requires clear { IsClear 0 pages holes.old.holes }
-    requires above { list_any (has_page pages.end) holes.old.holes ≡ false }
-    requires room { 1 ≤ holes.old.spare }
-    ensures spaced { IsSpaced 1 holes.new.holes }
-    ensures pages { (page : ℕ) → list_any (has_page page) holes.new.holes ≡ (list_any (has_page page) holes.old.holes || has_page page pages) }
-    ensures room { holes.old.spare ≤ holes.new.spare + 1 }
-{
-    match below(holes, pages.start) {
-        Some(below) => grow(holes, below, pages),
-        None => put(holes, pages),
+                end: above.end,
+            };
+            holes.resize(above, joined);
+        }
+        (Some(below), Some(above)) => {
+            holes.remove(above.start);
+            let joined = Span {
+                start: pages.start,
+                end: above.end,
+            };
+            grow(holes, below, joined);
+        }
     }
 }
 
@@ -150,33 +129,6 @@ fn grow(holes: &mut Holes, hole: Span, pages: Span)
             end: pages.end,
         },
     );
-}
-
-/// The hole that ends where held pages begin.
-fn below(holes: &Holes, page: u32) -> Option<Span>
-    requires spaced { IsSpaced 1 holes.now.holes }
-    requires held { list_any (has_page page) holes.now.holes ≡ false }
-    ensures hole { IfSome result (λ hole. find (starts_at hole.start) holes.now.holes ≡ Some hole) }
-    ensures touch { IfSome result (λ hole. hole.end ≡ page) }
-    ensures none { IfNone result ((p : ℕ) → p + 1 ≡ page → list_any (has_page p) holes.now.holes ≡ false) }
-{
-    if page > 0 {
-        around(holes, page - 1)
-    } else {
-        None
-    }
-}
-
-/// The hole that begins where held pages end.
-fn above(holes: &Holes, page: u32) -> Option<Span>
-    requires spaced { IsSpaced 1 holes.now.holes }
-    requires held { (p : ℕ) → p + 1 ≡ page → list_any (has_page p) holes.now.holes ≡ false }
-    requires some { 1 ≤ page }
-    ensures hole { IfSome result (λ hole. find (starts_at hole.start) holes.now.holes ≡ Some hole) }
-    ensures touch { IfSome result (λ hole. hole.start ≡ page) }
-    ensures none { IfNone result (list_any (has_page page) holes.now.holes ≡ false) }
-{
-    around(holes, page)
 }
 
 /// Adds pages, if there are any, that no hole has or touches.

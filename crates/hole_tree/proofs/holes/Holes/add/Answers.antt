@@ -6,25 +6,14 @@ use Rattle.hole_tree.specs.Rising.{IsRising}
 use Rattle.hole_tree.specs.Sorting.{IsSorted, placed, sorted_by_length}
 use Rattle.hole_tree.proofs.Counting.{length-with}
 use Rattle.hole_tree.proofs.Rises.{rising_with}
-use Rattle.hole_tree.proofs.SortedByLength.{placed_start, start_sorted, length_sorted, length-sorted, sorted_with}
+use Rattle.hole_tree.proofs.SortedByLength.{placed_start, start_sorted, length_sorted, sorted_with}
 use Rattle.hole_tree.proofs.holes.Holes.add.Goals as goal
 
 pub insert-requires-clause-sorted : goal.insert-requires-clause-sorted
 insert-requires-clause-sorted c = start_sorted c.self.inside.by_start.spans c.self.invariant.rising
 
-pub insert-requires-clause-fits : goal.insert-requires-clause-fits
-insert-requires-clause-fits c =
-    let spare : length c.self.inside.spare.items ≡ c.args.self.now.spare = ap (λ h. h.spare) c.self.view_is in
-    omega (arith, c.self.invariant.count, c.self.invariant.room, c.requires.spare, c.capacity-room.ensures)
-
 pub insert-requires-2-clause-sorted : goal.insert-requires-2-clause-sorted
 insert-requires-2-clause-sorted c = subst (IsSorted ByLength) (sym c.self.invariant.lengths) (length_sorted c.self.inside.by_start.spans c.self.invariant.rising)
-
-pub insert-requires-2-clause-fits : goal.insert-requires-2-clause-fits
-insert-requires-2-clause-fits c =
-    let spare : length c.self.inside.spare.items ≡ c.args.self.now.spare = ap (λ h. h.spare) c.self.view_is in
-    let same : length c.self.inside.by_length.spans ≡ length c.self.inside.by_start.spans = ap (λ ys. length ys) c.self.invariant.lengths ∙ length-sorted c.self.inside.by_start.spans in
-    omega (arith, c.self.invariant.count, c.self.invariant.room, c.requires.spare, c.capacity-room.ensures)
 
 pub overflow_add-self : goal.overflow_add-self
 overflow_add-self c =

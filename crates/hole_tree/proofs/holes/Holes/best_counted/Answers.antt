@@ -2,19 +2,25 @@ use Rattle.std.proofs.Common.{◌≡◌, ◌-◌, ◌≤◌, List, length, sym, 
 use Rattle.std.specs.List.{find}
 use Rattle.ttm_base.specs.declared.Span.{Span}
 use Rattle.ttm_base.specs.declared.Mode.TheVariants.{Best, Low}
+use Rattle.hole_tree.specs.declared.order.Order.TheVariants.{ByLength}
+use Rattle.hole_tree.specs.Sorting.{IsSorted}
 use Rattle.hole_tree.specs.declared.request.Request.{Request}
 use Rattle.hole_tree.specs.Choosing.{chosen_hole}
 use Rattle.hole_tree.specs.Fitting.{fits, IsWide}
 use Rattle.hole_tree.specs.Rising.{EndsBy}
 use Rattle.hole_tree.proofs.Choices.{chosen_best}
 use Rattle.hole_tree.proofs.Counting.{steps_square}
-use Rattle.hole_tree.proofs.SortedByLength.{ends_sorted, first_by_length, length-sorted}
+use Rattle.hole_tree.proofs.SortedByLength.{ends_sorted, first_by_length, length_sorted, length-sorted}
 use Rattle.hole_tree.proofs.holes.Holes.best_counted.Goals as goal
+
+pub first-requires-clause-sorted : goal.first-requires-clause-sorted
+first-requires-clause-sorted g c = subst (IsSorted ByLength) (sym c.self.invariant.lengths) (length_sorted c.self.inside.by_start.spans c.self.invariant.rising)
 
 pub returns-clause-hole : goal.returns-clause-hole
 returns-clause-hole g c =
     let q : Request = record { pages = c.args.pages; align = c.args.align; first = c.args.first; last = c.args.last } in
-    c.first.ensures.found
+    c.copied.ensures
+    ∙ c.first.ensures.found
     ∙ ap (λ ys. find (fits Low q) ys) c.self.invariant.lengths
     ∙ first_by_length (fits Low q) c.self.inside.by_start.spans c.self.invariant.rising
     ∙ sym (chosen_best q c.self.inside.by_start.spans)
@@ -30,4 +36,4 @@ returns-clause-cost g c = λ a f e.
     let bound : c.first.new.steps - c.args.steps.now ≤ c.self.inside.by_length.height = let k = c.first.ensures.cost wide in omega (arith, k) in
     let count : length c.self.inside.by_length.spans ≡ length c.args.self.now.holes =
     ap (λ ys. length ys) c.self.invariant.lengths ∙ length-sorted c.self.inside.by_start.spans ∙ ap (λ ys. length ys) holes in
-    rw (← count) (steps_square c.self.inside.by_length (c.first.new.steps - c.args.steps.now) c.height-levels.ensures.low bound)
+    rw (← count) (steps_square c.self.inside.by_length (c.first.new.steps - c.args.steps.now) c.balanced.ensures bound)

@@ -12,7 +12,7 @@ use Rattle.hole_tree.proofs.holes.Holes.lowest_counted.Goals as goal
 pub returns-clause-hole : goal.returns-clause-hole
 returns-clause-hole g c =
     let q : Request = record { pages = c.args.pages; align = c.args.align; first = c.args.first; last = c.args.last } in
-    c.first.ensures.found ∙ sym (chosen_low q c.self.inside.by_start.spans) ∙ ap (λ h. chosen_hole Low h.holes c.args.pages c.args.align c.args.first c.args.last) c.self.view_is
+    c.copied.ensures ∙ c.first.ensures.found ∙ sym (chosen_low q c.self.inside.by_start.spans) ∙ ap (λ h. chosen_hole Low h.holes c.args.pages c.args.align c.args.first c.args.last) c.self.view_is
 
 pub returns-clause-cost : goal.returns-clause-cost
 returns-clause-cost g c = λ a f e.
@@ -22,4 +22,4 @@ returns-clause-cost g c = λ a f e.
     let q : Request = record { pages = c.args.pages; align = c.args.align; first = c.args.first; last = c.args.last } in
     let wide : IsWide q c.self.inside.by_start.spans = record { align = a; first = f; last = ends } in
     let bound : c.first.new.steps - c.args.steps.now ≤ c.self.inside.by_start.height = let k = c.first.ensures.cost wide in omega (arith, k) in
-    rw (← holes) (steps_square c.self.inside.by_start (c.first.new.steps - c.args.steps.now) c.height-levels.ensures.low bound)
+    rw (← holes) (steps_square c.self.inside.by_start (c.first.new.steps - c.args.steps.now) c.balanced.ensures bound)

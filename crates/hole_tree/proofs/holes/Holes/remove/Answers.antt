@@ -6,25 +6,17 @@ use Rattle.hole_tree.specs.Rising.{IsRising}
 use Rattle.hole_tree.specs.Sorting.{ties, IsSorted, untied, sorted_by_length}
 use Rattle.hole_tree.proofs.Counting.{length-without}
 use Rattle.hole_tree.proofs.Rises.{rising_filter}
-use Rattle.hole_tree.proofs.SortedByLength.{find_start, without_start, start_sorted, length_sorted, length-sorted, sorted_without, held_by_length}
+use Rattle.hole_tree.proofs.SortedByLength.{find_start, without_start, start_sorted, length_sorted, sorted_without, held_by_length}
 use Rattle.hole_tree.proofs.holes.Holes.remove.Goals as goal
 
 pub take-by_start-requires-clause-sorted : goal.take-by_start-requires-clause-sorted
 take-by_start-requires-clause-sorted c = start_sorted c.self.inside.by_start.spans c.self.invariant.rising
 
-pub take-by_start-requires-clause-fits : goal.take-by_start-requires-clause-fits
-take-by_start-requires-clause-fits c = omega (arith, c.self.invariant.count)
+pub take-taken-requires-clause-sorted : goal.take-taken-requires-clause-sorted
+take-taken-requires-clause-sorted c = subst (IsSorted ByLength) (sym c.self.invariant.lengths) (length_sorted c.self.inside.by_start.spans c.self.invariant.rising)
 
-pub take-by_length-requires-clause-sorted : goal.take-by_length-requires-clause-sorted
-take-by_length-requires-clause-sorted c = subst (IsSorted ByLength) (sym c.self.invariant.lengths) (length_sorted c.self.inside.by_start.spans c.self.invariant.rising)
-
-pub take-by_length-requires-clause-fits : goal.take-by_length-requires-clause-fits
-take-by_length-requires-clause-fits c =
-    let same : length c.self.inside.by_length.spans ≡ length c.self.inside.by_start.spans = ap (λ ys. length ys) c.self.invariant.lengths ∙ length-sorted c.self.inside.by_start.spans in
-    omega (arith, c.self.invariant.count)
-
-pub take-by_length-requires-clause-held : goal.take-by_length-requires-clause-held
-take-by_length-requires-clause-held c =
+pub take-taken-requires-clause-held : goal.take-taken-requires-clause-held
+take-taken-requires-clause-held c =
     let ys = c.self.inside.by_start.spans in
     let x = c.deref.result.now.hole in
     let found : find (starts_at c.args.start) ys ≡ Some x = sym (find_start c.args.start ys) ∙ c.take-by_start.ensures.found ∙ ap (λ n. Some n.hole) (sym c.deref.ensures) in
@@ -67,8 +59,8 @@ invariant_of-self c =
     let found : find (starts_at c.args.start) ys ≡ Some x = sym (find_start c.args.start ys) ∙ c.take-by_start.ensures.found ∙ ap (λ n. Some n.hole) (sym c.deref.ensures) in
     let left : c.take-by_start.new.self.spans ≡ without c.args.start ys = c.take-by_start.ensures.left ∙ without_start c.args.start ys in
     let less : length c.take-by_start.new.self.spans + 1 ≡ length ys = ap (λ zs. length zs + 1) left ∙ length-without c.args.start ys x c.self.invariant.rising found in
-    let lengths : c.take-by_length.new.self.spans ≡ sorted_by_length (without c.args.start ys) =
-    c.take-by_length.ensures.left
+    let lengths : c.take-taken.new.self.spans ≡ sorted_by_length (without c.args.start ys) =
+    c.take-taken.ensures.left
     ∙ ap (λ zs. untied ByLength x zs) c.self.invariant.lengths
     ∙ sorted_without c.args.start ys x c.self.invariant.rising found in
     record {

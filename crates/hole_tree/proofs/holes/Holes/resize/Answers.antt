@@ -7,19 +7,14 @@ use Rattle.hole_tree.specs.Sorting.{ties, IsSorted, placed, untied, sorted_by_le
 use Rattle.hole_tree.proofs.Counting.{length-with, length-without}
 use Rattle.hole_tree.proofs.Resizing.{resized}
 use Rattle.hole_tree.proofs.Rises.{rising_filter, rising_with}
-use Rattle.hole_tree.proofs.SortedByLength.{length_sorted, length-sorted, sorted_with, sorted_without, held_by_length}
+use Rattle.hole_tree.proofs.SortedByLength.{length_sorted, sorted_with, sorted_without, held_by_length}
 use Rattle.hole_tree.proofs.holes.Holes.resize.Goals as goal
 
-pub take-node-requires-clause-sorted : goal.take-node-requires-clause-sorted
-take-node-requires-clause-sorted c = subst (IsSorted ByLength) (sym c.self.invariant.lengths) (length_sorted c.self.inside.by_start.spans c.self.invariant.rising)
+pub take-taken-requires-clause-sorted : goal.take-taken-requires-clause-sorted
+take-taken-requires-clause-sorted c = subst (IsSorted ByLength) (sym c.self.invariant.lengths) (length_sorted c.self.inside.by_start.spans c.self.invariant.rising)
 
-pub take-node-requires-clause-fits : goal.take-node-requires-clause-fits
-take-node-requires-clause-fits c =
-    let same : length c.self.inside.by_length.spans ≡ length c.self.inside.by_start.spans = ap (λ ys. length ys) c.self.invariant.lengths ∙ length-sorted c.self.inside.by_start.spans in
-    omega (arith, c.self.invariant.count)
-
-pub take-node-requires-clause-held : goal.take-node-requires-clause-held
-take-node-requires-clause-held c =
+pub take-taken-requires-clause-held : goal.take-taken-requires-clause-held
+take-taken-requires-clause-held c =
     let ys = c.self.inside.by_start.spans in
     let found : find (starts_at c.args.from.start) ys ≡ Some c.args.from = ap (λ h. find (starts_at c.args.from.start) h.holes) c.self.view_is ∙ c.requires.held in
     let held : IsSome (find (ties ByLength c.args.from) (sorted_by_length ys)) = held_by_length c.args.from.start ys c.args.from c.self.invariant.rising found in
@@ -29,22 +24,11 @@ pub insert-requires-clause-sorted : goal.insert-requires-clause-sorted
 insert-requires-clause-sorted c =
     let ys = c.self.inside.by_start.spans in
     let found : find (starts_at c.args.from.start) ys ≡ Some c.args.from = ap (λ h. find (starts_at c.args.from.start) h.holes) c.self.view_is ∙ c.requires.held in
-    let left : c.take-node.new.self.spans ≡ sorted_by_length (without c.args.from.start ys) =
-    c.take-node.ensures.left
+    let left : c.take-taken.new.self.spans ≡ sorted_by_length (without c.args.from.start ys) =
+    c.take-taken.ensures.left
     ∙ ap (λ zs. untied ByLength c.args.from zs) c.self.invariant.lengths
     ∙ sorted_without c.args.from.start ys c.args.from c.self.invariant.rising found in
     subst (IsSorted ByLength) (sym left) (length_sorted (without c.args.from.start ys) (rising_filter _ ys c.self.invariant.rising))
-
-pub insert-requires-clause-fits : goal.insert-requires-clause-fits
-insert-requires-clause-fits c =
-    let ys = c.self.inside.by_start.spans in
-    let found : find (starts_at c.args.from.start) ys ≡ Some c.args.from = ap (λ h. find (starts_at c.args.from.start) h.holes) c.self.view_is ∙ c.requires.held in
-    let left : c.take-node.new.self.spans ≡ sorted_by_length (without c.args.from.start ys) =
-    c.take-node.ensures.left
-    ∙ ap (λ zs. untied ByLength c.args.from zs) c.self.invariant.lengths
-    ∙ sorted_without c.args.from.start ys c.args.from c.self.invariant.rising found in
-    let less : length c.take-node.new.self.spans ≡ length (without c.args.from.start ys) = ap (λ zs. length zs) left ∙ length-sorted (without c.args.from.start ys) in
-    omega (arith, c.self.invariant.count, length-without c.args.from.start ys c.args.from c.self.invariant.rising found)
 
 pub returns-clause-holes : goal.returns-clause-holes
 returns-clause-holes c =
@@ -63,8 +47,8 @@ invariant_of-self c =
     let apart : list_all (is_apart c.args.to) rest ≡ true = ap (λ h. list_all (is_apart c.args.to) (without c.args.from.start h.holes)) c.self.view_is ∙ c.requires.apart in
     let rising : IsRising rest = rising_filter _ ys c.self.invariant.rising in
     let holes : c.resize.new.self.spans ≡ with_hole c.args.to rest = c.resize.ensures.spans ∙ resized c.args.from c.args.to ys c.self.invariant.rising found c.requires.starts c.requires.ends apart in
-    let left : c.take-node.new.self.spans ≡ sorted_by_length rest =
-    c.take-node.ensures.left
+    let left : c.take-taken.new.self.spans ≡ sorted_by_length rest =
+    c.take-taken.ensures.left
     ∙ ap (λ zs. untied ByLength c.args.from zs) c.self.invariant.lengths
     ∙ sorted_without c.args.from.start ys c.args.from c.self.invariant.rising found in
     let by_length : c.insert.new.self.spans ≡ sorted_by_length (with_hole c.args.to rest) =

@@ -1,0 +1,15 @@
+use Rattle.std.specs.Prelude.{◌≡◌, ◌+◌, ◌≤◌, option_map}
+use Rattle.std.specs.List.{find}
+use Rattle.std.specs.Option.{option_or}
+use Rattle.hole_tree.specs.declared.order.Order.TheVariants.{ByLength}
+use Rattle.hole_tree.specs.Fitting.{is_long}
+use Rattle.hole_tree.specs.Sorting.{IsSorted}
+use Rattle.hole_tree.proofs.lengths.Lengths.first_long.Given as goal
+
+abbrev pub invariant-loop-entry : goal.invariant-loop-entry
+invariant-loop-entry g l = record {
+  sorted : IsSorted ByLength l.tree.spans;
+  found : option_or (find (is_long l.pages) l.tree.spans) (option_map (λ hole. hole.now) l.found) ≡ find (is_long l.pages) l.self.spans;
+  counts : l.initial.steps ≤ l.steps;
+  cost : l.steps + l.tree.height ≤ l.initial.steps + l.self.height;
+}
