@@ -92,6 +92,17 @@ def armed_apart(size):
     return script
 
 
+@load(400)
+def armed_in_turn(size):
+    """SIZE jobs of two engines in turn on one buffer, all armed by the schedule before an engine runs"""
+    script = Script(engines=2)
+    script.declare(["a"], 1, "sys")
+    script.first = ["new a", "write a 0 00"]
+    script.threads = split([f"submit {1 + at % 2} fill a 0 1 55" for at in range(size)], 4)
+    script.schedule = ["t1"] * 8 + [f"t{thread}" for thread in range(2, 6) for _turn in range(size)]
+    return script
+
+
 @load(4000)
 def one_engine(size):
     """SIZE jobs on one engine, each done before the next is armed"""

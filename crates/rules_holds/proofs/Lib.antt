@@ -1,5 +1,6 @@
 pub mod NamedJobs
 pub mod HeldLaws
+pub mod LeastJobs
 pub mod OpenJobs
 pub mod MarkLaws
 pub mod CountLaws

@@ -1,14 +1,9 @@
 -- The job that is named among several, with one job more.
-use Rattle.std.proofs.Common.{◌≡◌, ℕ, ◌+◌, ◌<◌, List, [], ◌∷◌, ◌++◌, Option, Some, None, true, false, length, take, get_or, refl, ap, ◌∙◌, arith, if◌then◌else◌}
-use Rattle.std.specs.Prelude.{map, filter, ◌&&◌}
+use Rattle.std.proofs.Common.{◌≡◌, Option, Some, None, true, false, refl, arith}
 use Rattle.std.proofs.lemmas.Grind.{common_steps}
 use Rattle.std.proofs.lemmas.Bool.Decides.{nat_tests}
-use Rattle.std.proofs.lemmas.List.{take_more}
 use Rattle.ttm_base.specs.declared.JobId.{JobId}
-use Rattle.journal_model.specs.declared.state.Core.{Core}
-use Rattle.ttm_base.specs.declared.Fence.{Fence}
-use Rattle.journal_model.specs.Waits.{waited_for, is_unfinished, changes}
-use Rattle.ttm_base.specs.Fences.{named_job, named_first, is_named_before}
+use Rattle.ttm_base.specs.Fences.{named_first, is_named_before}
 use Rattle.rules_holds.specs.Named.{named_last}
 
 -- a job named before another is named before those behind that one

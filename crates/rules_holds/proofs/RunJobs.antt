@@ -1,6 +1,6 @@
 -- The job that is named among those of a run, and among those of several runs.
 use Rattle.std.proofs.Common.{◌≡◌, ◌∙◌, ℕ, zero, suc, ◌+◌, ◌-◌, ◌<◌, ◌≤◌, Bool, List, [], ◌∷◌, ◌++◌, Option, Some, None, true, false, length, take, get_or, refl, sym, subst, ap, ap₂, arith, if◌then◌else◌}
-use Rattle.std.specs.Prelude.{filter, flat_map, nat_le}
+use Rattle.std.specs.Prelude.{filter, flat_map}
 use Rattle.std.specs.List.{list_all}
 use Rattle.std.proofs.lemmas.Grind.{common_steps}
 use Rattle.std.proofs.lemmas.Bool.Decides.{nat_tests}
@@ -14,7 +14,8 @@ use Rattle.journal_model.specs.declared.fences.FenceRun.{FenceRun}
 use Rattle.journal_model.specs.JobRuns.{jobs_of_run, fences_of_run, behind}
 use Rattle.journal_model.specs.Waits.{waited_for, unfinished, is_unfinished}
 use Rattle.journal_model.proofs.JobRunLaws.{joined_jobs}
-use Rattle.rules_holds.specs.Named.{named_last, named_of, IsLeast}
+use Rattle.rules_holds.specs.Named.{named_last, named_of}
+use Rattle.rules_holds.specs.Least.{IsLeast}
 use Rattle.rules_holds.proofs.NamedJobs.{named_first-last}
 use Rattle.rules_holds.specs.declared.waits.Before.{Before}
 use Rattle.rules_holds.specs.Before.{jobs_before}
@@ -45,16 +46,16 @@ last_passed_over p ctx first n h =
     grind (arith, common_steps)
 
 -- none of those whose numbers are below the least
-pub none_open : (c : Core) (least ctx first n : ℕ) → IsLeast c least → n ≤ least - first
+pub none_open : (c : Core) (least ctx first n : ℕ) → IsLeast c ctx least → n ≤ least - first
     → unfinished c (jobs_of_run (record { ctx = ctx; first = first; count = n })) ≡ []
 none_open c least ctx first zero h l = refl
 none_open c least ctx first (suc n) h l =
-    let here = h (record { ctx = ctx; num = first }) (omega arith) in
+    let here = h first (omega arith) in
     let rest = none_open c least ctx (1 + first) n h (omega arith) in
     grind (arith, common_steps)
 
 -- so the others are those behind them
-pub open_behind : (c : Core) (least : ℕ) (run : JobRun) → IsLeast c least → least - run.first ≤ run.count
+pub open_behind : (c : Core) (least : ℕ) (run : JobRun) → IsLeast c run.ctx least → least - run.first ≤ run.count
     → unfinished c (jobs_of_run (behind (least - run.first) run)) ≡ unfinished c (jobs_of_run run)
 open_behind c least run h l =
     let sum : run.count ≡ (least - run.first) + (run.count - (least - run.first)) = omega arith in
@@ -86,6 +87,23 @@ all_within c run row e l m h =
   where
     all_middle : (p : JobId → Bool) (xs ys zs : List JobId) → list_all p (xs ++ (ys ++ zs)) ≡ true → list_all p ys ≡ true
     all_middle p xs ys zs h = grind (arith, common_steps)
+
+-- the last one, where it isn't done
+pub last_named_behind : (c : Core) (run : JobRun) → 0 < run.count → unfinished c (jobs_of_run (behind (run.count - 1) run)) ≡ jobs_of_run (behind (run.count - 1) run)
+    → waited_for c (jobs_of_run run) ≡ Some (record { ctx = run.ctx; num = run.first + (run.count - 1) })
+last_named_behind c run l h =
+    let sum : run.count ≡ run.count - 1 + 1 = omega arith in
+    let one : run.count - (run.count - 1) ≡ 1 = omega arith in
+    let alone = subst (λ n. unfinished c (jobs_of_run (record { ctx = run.ctx; first = run.first + (run.count - 1); count = n })) ≡ jobs_of_run (record { ctx = run.ctx; first = run.first + (run.count - 1); count = n })) one h in
+    let is-open = passes (is_unfinished c) (record { ctx = run.ctx; num = run.first + (run.count - 1) }) alone in
+    ap (λ n. waited_for c (jobs_of_run (record run { count = n }))) sum ∙ last_named (is_unfinished c) run.ctx run.first (run.count - 1) is-open
+  where
+    passes : (p : JobId → Bool) (i : JobId) → filter p (i ∷ []) ≡ i ∷ [] → p i ≡ true
+    passes p i h = by (p i) refl
+      where
+        by : (b : Bool) → p i ≡ b → p i ≡ true
+        by true e = e
+        by false e = grind (arith, common_steps)
 
 -- ---- of several
 

@@ -1,4 +1,5 @@
 pub mod Named
+pub mod Least
 pub mod Held
 pub mod Marked
 pub mod Before

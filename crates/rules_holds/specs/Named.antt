@@ -1,9 +1,7 @@
 -- The job that is named among several, as a look from the front finds it.
-use Rattle.std.specs.Prelude.{◌≡◌, ◌<◌, ℕ, Bool, false, List, Option, Some, None, ◌&&◌, not, if◌then◌else◌}
+use Rattle.std.specs.Prelude.{Bool, List, Option, Some, None, ◌&&◌, not, if◌then◌else◌}
 use Rattle.std.specs.List.{list_any}
 use Rattle.journal_model.specs.JobNames.{same_job}
-use Rattle.journal_model.specs.declared.state.Core.{Core}
-use Rattle.journal_model.specs.Waits.{is_unfinished}
 use Rattle.journal_model.specs.declared.state.Job.{Job}
 use Rattle.ttm_base.specs.declared.JobId.{JobId}
 use Rattle.ttm_base.specs.Fences.{is_named_before}
@@ -21,7 +19,3 @@ named_of named (Some i) = Some (named_last named i)
 -- one of the jobs has the name and isn't done
 abbrev pub is_open : List Job → JobId → Bool
 is_open jobs i = list_any (λ j. same_job i j.id && not j.finished) jobs
-
--- no job with a lesser number is unfinished
-abbrev pub IsLeast : Core → ℕ → Type 0
-IsLeast c least = (i : JobId) → i.num < least → is_unfinished c i ≡ false

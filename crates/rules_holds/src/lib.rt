@@ -4,6 +4,7 @@
 
 mod free;
 mod holds;
+mod least;
 mod packets;
 mod waits;
 

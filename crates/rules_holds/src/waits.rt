@@ -1,12 +1,15 @@
-ghost use Rattle.std.specs.Prelude.{◌≡◌, ◌+◌, ◌<◌, ◌≤◌, ◌++◌, IfOk, OnOk, IsTrue, nat_le};
-ghost use Rattle.std.specs.List.{list_all, list_any};
+ghost use Rattle.std.specs.Prelude.{◌≡◌, ◌+◌, ◌<◌, ◌≤◌, ◌++◌, ◌&&◌, not, IfOk, OnOk, IsTrue};
+ghost use Rattle.std.specs.List.{position};
 ghost use Rattle.journal_model.specs.State.{new_buffer};
 ghost use Rattle.ttm_base.specs.Fences as fences;
 ghost use Rattle.journal_model.specs.Waits as words;
 ghost use Rattle.journal_model.specs.JobRuns.{jobs_of_run, fits, behind, fences_of_run, is_whole};
-ghost use Rattle.rules_holds.specs.Named.{named_last, named_of, is_open, IsLeast};
+ghost use Rattle.journal_model.specs.JobNames.{same_job};
+ghost use Rattle.rules_holds.specs.Named.{named_last, named_of, is_open};
+ghost use Rattle.rules_holds.specs.Least.{IsLeast, IsLook};
 ghost use Rattle.rules_holds.specs.Before.{counts_by, jobs_before};
 
+use crate::least::Look;
 use journal_model::{Buffer, Core, FenceRun, Job, JobIds, JobRun, same_job};
 use rules_state::{buffer_in, dead_buffer};
 use state_words::is_written;
@@ -20,40 +23,53 @@ fn has_unfinished(jobs: &[Job], i: JobId) -> bool
     jobs.iter().any(|j| same_job(i, j.id) && !j.finished)
 }
 
-/// The least number among these jobs.
-fn least_number(jobs: &[Job]) -> u64
-    ensures { IsTrue (list_all (λ j. nat_le result j.id.num) jobs.now) }
+/// The position of the first of these jobs that has the name and isn't done.
+fn place_of(jobs: &[Job], i: JobId) -> Option<usize>
+    ensures { result ≡ position (λ j. same_job i j.id && not j.finished) jobs.now }
 {
-    let mut least = u64::MAX;
-    for job in jobs {
-        least = least.min(job.id.num);
+    jobs.iter().position(|j| same_job(i, j.id) && !j.finished)
+}
+
+/// The job at this position has the name and isn't done.
+fn is_unfinished_at(jobs: &[Job], at: usize, i: JobId) -> bool
+    ensures { IsTrue result → IsTrue (is_open jobs.now i) }
+{
+    match jobs.get(at) {
+        Some(job) => same_job(i, job.id) && !job.finished,
+        None => false,
     }
-    least
 }
 
-/// A number below which no job has its own that isn't done.
-#[tactic(auto, using(crate::proofs::OpenJobs::none_unfinished_below))]
-fn least_unfinished(core: &Core) -> u64
-    ensures { IsLeast core.now result }
-{
-    least_number(core.jobs.pending())
-}
-
-/// One of these jobs has the name and isn't done. It is looked for from a position on first.
-#[tactic(auto, using(crate::proofs::OpenJobs::any_in_parts))]
-fn has_unfinished_near(jobs: &[Job], at: usize, i: JobId) -> bool
+/// One of these jobs has the name and isn't done. It is looked for from the place to the end, then before the place, which is left
+/// behind the job that is found: who looks for jobs in the order in which they stand finds each at once.
+#[tactic(auto, using(crate::proofs::OpenJobs::found))]
+fn has_unfinished_near(jobs: &[Job], place: &mut usize, i: JobId) -> bool
     ensures { result ≡ is_open jobs.now i }
 {
-    let (before, behind) = jobs.split_at(at.min(jobs.len()));
-    has_unfinished(behind, i) || has_unfinished(before, i)
+    let start = (*place).min(jobs.len());
+    let (before, behind) = jobs.split_at(start);
+    if let Some(at) = place_of(behind, i) {
+        *place = start + at + 1;
+        return true;
+    }
+    if let Some(at) = place_of(before, i) {
+        *place = at + 1;
+        return true;
+    }
+    false
 }
 
-/// The job isn't done. Where the numbers of the pending jobs follow one another, it stands where it is looked for first.
-fn is_open(core: &Core, least: u64, i: JobId) -> bool
-    requires { IsLeast core.now least }
+/// The job isn't done. Where the numbers of the pending jobs follow one another, it stands where it is looked for first; else it is
+/// looked for at the place.
+fn is_open(core: &Core, least: u64, place: &mut usize, i: JobId) -> bool
+    requires { IsLeast core.now i.ctx least }
     ensures { result ≡ words.is_unfinished core.now i }
 {
-    i.num >= least && has_unfinished_near(core.jobs.pending(), (i.num - least) as usize, i)
+    if i.num < least {
+        return false;
+    }
+    let pending = core.jobs.pending();
+    is_unfinished_at(pending, (i.num - least) as usize, i) || has_unfinished_near(pending, place, i)
 }
 
 /// The job isn't done.
@@ -67,10 +83,11 @@ pub fn is_unfinished(core: &Core, i: JobId) -> bool
 pub fn unfinished(alloc: Global, core: &Core, jobs: &[JobId]) -> Result<JobIds, NoMemory>
     ensures { IfOk result (λ left. left ≡ words.unfinished core.now jobs.now) }
 {
-    let least = least_unfinished(core);
+    let mut look = Look::new();
     let mut left = JobIds::new(alloc);
     for i in jobs {
-        if is_open(core, least, *i) {
+        let least = look.least_of(core, i.ctx);
+        if is_open(core, least, &mut look.place, *i) {
             left.push(*i)?;
         }
     }
@@ -104,39 +121,6 @@ fn named_of(named: Option<JobId>, last: Option<JobId>) -> Option<JobId>
     }
 }
 
-/// The last of a run's jobs that isn't done: the named one, since their context is the same.
-fn last_open(core: &Core, least: u64, run: JobRun) -> Option<JobId>
-    requires least { IsLeast core.now least }
-    requires fits { IsTrue (fits run) }
-    ensures { result ≡ words.waited_for core.now (jobs_of_run run) }
-{
-    let closed = least.saturating_sub(run.first);
-    let mut left = run.count;
-    while left > closed {
-        left -= 1;
-        let i = JobId {
-            ctx: run.ctx,
-            num: run.first + left,
-        };
-        if is_open(core, least, i) {
-            return Some(i);
-        }
-    }
-    None
-}
-
-/// The unfinished job to wait for among these.
-pub fn waited_for(core: &Core, jobs: &JobIds) -> Option<JobId>
-    ensures { result ≡ words.waited_for core.now jobs.now }
-{
-    let least = least_unfinished(core);
-    let mut named = None;
-    for run in jobs.runs() {
-        named = named_of(named, last_open(core, least, *run));
-    }
-    named
-}
-
 /// All of the run's jobs are of the row.
 fn is_within(run: JobRun, row: JobRun) -> bool
     ensures { IsTrue result → (run.ctx ≡ row.ctx) × (row.first ≤ run.first) × (run.first + run.count ≤ row.first + row.count) }
@@ -147,22 +131,11 @@ fn is_within(run: JobRun, row: JobRun) -> bool
         && run.count <= row.count - (run.first - row.first)
 }
 
-/// Puts those of a run's jobs that aren't done behind others, one by one.
-fn push_each_open(jobs: &mut JobIds, core: &Core, least: u64, run: JobRun) -> Result<(), NoMemory>
-    requires least { IsLeast core.now least }
-    requires fits { IsTrue (fits run) }
-    ensures { OnOk result (jobs.new ≡ jobs.old ++ words.unfinished core.now (jobs_of_run run)) }
+/// All of the run's jobs are of the last ones, none of which is done.
+fn are_last(core: &Core, run: JobRun) -> bool
+    ensures { IsTrue result → words.unfinished core.now (jobs_of_run run) ≡ jobs_of_run run }
 {
-    for at in 0..run.count {
-        let i = JobId {
-            ctx: run.ctx,
-            num: run.first + at,
-        };
-        if is_open(core, least, i) {
-            jobs.push(i)?;
-        }
-    }
-    Ok(())
+    run.count == 0 || is_within(run, core.jobs.row())
 }
 
 /// The run without its first jobs, so many, of which it has more.
@@ -178,9 +151,94 @@ fn behind(run: JobRun, count: u64) -> JobRun
     }
 }
 
-/// Puts those of a run's jobs that aren't done behind others: at once, where all of those that may not be are of the last jobs.
-fn push_open(jobs: &mut JobIds, core: &Core, least: u64, run: JobRun) -> Result<(), NoMemory>
-    requires least { IsLeast core.now least }
+/// The last of a run's jobs that isn't done, from a least number on.
+fn last_open_from(core: &Core, least: u64, place: &mut usize, run: JobRun) -> Option<JobId>
+    requires least { IsLeast core.now run.ctx least }
+    requires fits { IsTrue (fits run) }
+    ensures { result ≡ words.waited_for core.now (jobs_of_run run) }
+{
+    let closed = least.saturating_sub(run.first);
+    let mut left = run.count;
+    while left > closed {
+        left -= 1;
+        let i = JobId {
+            ctx: run.ctx,
+            num: run.first + left,
+        };
+        if is_open(core, least, place, i) {
+            return Some(i);
+        }
+    }
+    None
+}
+
+/// The last of a run's jobs that isn't done: the named one, since their context is the same.
+fn last_open(core: &Core, look: &mut Look, run: JobRun) -> Option<JobId>
+    requires look { IsLook core.now look.old }
+    requires fits { IsTrue (fits run) }
+    ensures named { result ≡ words.waited_for core.now (jobs_of_run run) }
+    ensures look { IsLook core.now look.new }
+{
+    if run.count == 0 {
+        return None;
+    }
+    let last = behind(run, run.count - 1);
+    if are_last(core, last) {
+        return Some(JobId {
+            ctx: last.ctx,
+            num: last.first,
+        });
+    }
+    let least = look.least_of(core, run.ctx);
+    last_open_from(core, least, &mut look.place, run)
+}
+
+/// The unfinished job to wait for among these.
+pub fn waited_for(core: &Core, jobs: &JobIds) -> Option<JobId>
+    ensures { result ≡ words.waited_for core.now jobs.now }
+{
+    let mut look = Look::new();
+    let mut named = None;
+    for run in jobs.runs() {
+        named = named_of(named, last_open(core, &mut look, *run));
+    }
+    named
+}
+
+/// Puts those of a run's jobs that aren't done behind others, one by one.
+fn push_each_open(
+    jobs: &mut JobIds,
+    core: &Core,
+    least: u64,
+    place: &mut usize,
+    run: JobRun,
+) -> Result<(), NoMemory>
+    requires least { IsLeast core.now run.ctx least }
+    requires fits { IsTrue (fits run) }
+    ensures { OnOk result (jobs.new ≡ jobs.old ++ words.unfinished core.now (jobs_of_run run)) }
+{
+    for at in 0..run.count {
+        let i = JobId {
+            ctx: run.ctx,
+            num: run.first + at,
+        };
+        if is_open(core, least, place, i) {
+            jobs.push(i)?;
+        }
+    }
+    Ok(())
+}
+
+/// Puts those of a run's jobs that aren't done behind others, from a least number on: at once, where all of those that may not be are of
+/// the last jobs.
+fn push_open_from(
+    jobs: &mut JobIds,
+    core: &Core,
+    least: u64,
+    place: &mut usize,
+    run: JobRun,
+) -> Result<(), NoMemory>
+    requires least { IsLeast core.now run.ctx least }
     requires fits { IsTrue (fits run) }
     ensures { OnOk result (jobs.new ≡ jobs.old ++ words.unfinished core.now (jobs_of_run run)) }
 {
@@ -189,11 +247,25 @@ fn push_open(jobs: &mut JobIds, core: &Core, least: u64, run: JobRun) -> Result<
         return Ok(());
     }
     let rest = behind(run, closed);
-    if is_within(rest, core.jobs.row()) {
+    if are_last(core, rest) {
         jobs.push_run(rest)
     } else {
-        push_each_open(jobs, core, least, rest)
+        push_each_open(jobs, core, least, place, rest)
     }
+}
+
+/// Puts those of a run's jobs that aren't done behind others: with no look at the other jobs, where all of them are of the last ones.
+fn push_open(jobs: &mut JobIds, core: &Core, look: &mut Look, run: JobRun) -> Result<(), NoMemory>
+    requires look { IsLook core.now look.old }
+    requires fits { IsTrue (fits run) }
+    ensures jobs { OnOk result (jobs.new ≡ jobs.old ++ words.unfinished core.now (jobs_of_run run)) }
+    ensures look { IsLook core.now look.new }
+{
+    if are_last(core, run) {
+        return jobs.push_run(run);
+    }
+    let least = look.least_of(core, run.ctx);
+    push_open_from(jobs, core, least, &mut look.place, run)
 }
 
 /// What is to come of a buffer.
@@ -268,10 +340,10 @@ fn unfinished_before(
 ) -> Result<JobIds, NoMemory>
     ensures { IfOk result (λ jobs. jobs ≡ words.unfinished core.now (jobs_before before buffer.now.fences)) }
 {
-    let least = least_unfinished(core);
+    let mut look = Look::new();
     let mut jobs = JobIds::new(alloc);
     for run in buffer.fences.runs() {
-        push_open(&mut jobs, core, least, jobs_of(before, *run))?;
+        push_open(&mut jobs, core, &mut look, jobs_of(before, *run))?;
     }
     Ok(jobs)
 }
@@ -304,10 +376,11 @@ pub fn unfinished_before_read(
 fn waited_before(core: &Core, buffer: &Buffer, before: Before) -> Option<JobId>
     ensures { result ≡ words.waited_for core.now (jobs_before before buffer.now.fences) }
 {
-    let least = least_unfinished(core);
+    let mut look = Look::new();
     let mut named = None;
     for run in buffer.fences.runs() {
-        named = named_of(named, last_open(core, least, jobs_of(before, *run)));
+        let jobs = jobs_of(before, *run);
+        named = named_of(named, last_open(core, &mut look, jobs));
     }
     named
 }

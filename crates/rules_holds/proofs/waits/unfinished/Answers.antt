@@ -6,4 +6,4 @@ use Rattle.rules_holds.proofs.waits.unfinished.Goals as goal
 pub loop-i-preserved : goal.loop-i-preserved
 loop-i-preserved c =
     let more = unfinished_more c.args.core.now c.args.jobs.now c.loop-i.i-index (record { ctx = 0; num = 0 }) c.loop-i-test.true in
-    grind (arith, common_steps, more)
+    (grind (arith, common_steps, more), c.least_of-least.ensures.look)

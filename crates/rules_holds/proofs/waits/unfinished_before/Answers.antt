@@ -10,4 +10,4 @@ loop-run-preserved c =
     unfinished_fences_more c.args.core.now c.args.before c.runs-run-items.result.now c.loop-run.run-index
     (record { jobs = record { ctx = 0; first = 0; count = 0 }; usage = Kernel }) c.loop-run-test.true
     in
-    grind (arith, common_steps, more)
+    (grind (arith, common_steps, more), c.push_open.ensures.look)

@@ -3,7 +3,8 @@ use Rattle.std.specs.Prelude.{flat_map}
 use Rattle.journal_model.specs.JobRuns.{fences_of_run}
 use Rattle.journal_model.specs.Waits.{waited_for}
 use Rattle.rules_holds.specs.Before.{jobs_before}
+use Rattle.rules_holds.specs.Least.{IsLook}
 use Rattle.rules_holds.proofs.waits.waited_before.Given as goal
 
 abbrev pub invariant-loop-run : goal.invariant-loop-run
-invariant-loop-run l = l.named ≡ waited_for l.core (jobs_before l.before (flat_map fences_of_run (take l.run-index l.run-items)))
+invariant-loop-run l = (l.named ≡ waited_for l.core (jobs_before l.before (flat_map fences_of_run (take l.run-index l.run-items)))) × IsLook l.core l.look

@@ -8,4 +8,4 @@ loop-run-preserved c =
     let more =
     runs_more c.args.core.now c.runs-run-items.result.now c.loop-run.run-index (record { ctx = 0; first = 0; count = 0 }) c.loop-run-test.true
     in
-    grind (arith, common_steps, more)
+    (grind (arith, common_steps, more), c.last_open.ensures.look)

@@ -1,7 +1,7 @@
 use Rattle.std.proofs.Common.{◌≡◌, ◌≤◌}
 use Rattle.journal_model.specs.JobRuns.{jobs_of_run}
 use Rattle.journal_model.specs.Waits.{waited_for}
-use Rattle.rules_holds.proofs.waits.last_open.Given as goal
+use Rattle.rules_holds.proofs.waits.last_open_from.Given as goal
 
 abbrev pub invariant-loop-left : goal.invariant-loop-left
 invariant-loop-left l = (waited_for l.core (jobs_of_run l.run) ≡ waited_for l.core (jobs_of_run (record l.run { count = l.left }))) × (l.left ≤ l.run.count)
