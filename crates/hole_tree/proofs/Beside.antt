@@ -1,6 +1,6 @@
 -- The holes on both sides of a page, and those that touch a span.
 use Rattle.std.proofs.Common.{◌≡◌, ℕ, ◌≤◌, ◌<◌, Bor, Bool, true, false, cond, List, [], ◌∷◌, ◌++◌, Option, Some, None, refl, sym, ◌∙◌, inl, inr, arith}
-use Rattle.std.specs.Option.{option_or, option_copied}
+use Rattle.std.specs.Option.{option_or}
 use Rattle.std.specs.Bool.{then_some}
 use Rattle.std.specs.Prelude.{option_map, MatchOption}
 use Rattle.std.specs.List.{find, list_all}
@@ -101,11 +101,11 @@ ends_before page (x ∷ xs) h = elim (cases_Bool (ends_at page x)) [
     other t None e = elim (cases_Bool (ends_by page x)) [ inl u ↦ rw (u, t) e | inr u ↦ rw u e ]
 
 -- what a filter leaves of what was found
-pub filtered : {P : Bor Span → Bool → Type 0} (test : Span → Bool) (o r : Option (Bor Span)) → ((x : Bor Span) (b : Bool) → P x b → b ≡ test x.now) → MatchOption o (r ≡ None) (λ x. (b : Bool) × P x b × (r ≡ then_some b x)) → option_copied r ≡ if_passes test (option_map (λ (h : Bor Span). h.now) o)
+pub filtered : {P : Bor Span → Bool → Type 0} (test : Span → Bool) (o r : Option (Bor Span)) → ((x : Bor Span) (b : Bool) → P x b → b ≡ test x.now) → MatchOption o (r ≡ None) (λ x. (b : Bool) × P x b × (r ≡ then_some b x)) → option_map (λ (h : Bor Span). h.now) r ≡ if_passes test (option_map (λ (h : Bor Span). h.now) o)
 unfolding if_passes
 filtered test None r f m = rw m refl
 filtered test (Some x) r f m = two (test x.now) (f x m.0 m.1) m.2
   where
-    two : (t : Bool) → m.0 ≡ t → r ≡ then_some m.0 x → option_copied r ≡ cond t (Some x.now) None
+    two : (t : Bool) → m.0 ≡ t → r ≡ then_some m.0 x → option_map (λ (h : Bor Span). h.now) r ≡ cond t (Some x.now) None
     two true e g = rw (g, e) refl
     two false e g = rw (g, e) refl

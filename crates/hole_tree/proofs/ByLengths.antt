@@ -58,6 +58,10 @@ pub or_some : (o : Option Span) (x : Span) (p : Option Span) → option_or (opti
 or_some None x p = refl
 or_some (Some y) x p = refl
 
+pub or_none : (o : Option Span) → option_or o None ≡ o
+or_none None = refl
+or_none (Some x) = refl
+
 -- ---- the first that fits
 
 pub fit_past : (m : Mode) (q : Request) (s : Shape) (n : Entry) → s ≡ shape_of_entry n → IsSorted ByLength s.spans → length_of n.hole < q.pages → find (fits m q) s.spans ≡ find (fits m q) n.right.spans

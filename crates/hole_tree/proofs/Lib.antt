@@ -3,6 +3,7 @@ pub mod Beside
 pub mod ByLengths
 pub mod Choices
 pub mod Counting
+pub mod Found
 pub mod Heights
 pub mod LongestNode
 pub mod Leaned

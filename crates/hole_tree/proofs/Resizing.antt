@@ -1,5 +1,5 @@
 -- A hole whose ends move, in its place.
-use Rattle.std.proofs.Common.{◌≡◌, ℕ, ◌≤◌, ◌<◌, max, true, List, [], ◌∷◌, ◌++◌, Some, length, refl, ap, sym, ◌∙◌, inl, inr, ltb, arith}
+use Rattle.std.proofs.Common.{◌≡◌, ℕ, ◌+◌, ◌≤◌, ◌<◌, max, true, List, [], ◌∷◌, ◌++◌, Some, length, refl, ap, sym, ◌∙◌, inl, inr, ltb, arith}
 use Rattle.std.specs.List.{find, list_all}
 use Rattle.std.proofs.lemmas.Bool.{cases_Bool, and_parts, or_cases, ltb-true, lt-ltb, le-ltb, eqb-true, eq-eqb, ne_eqb}
 use Rattle.ttm_base.specs.declared.Span.{Span}
@@ -9,10 +9,11 @@ use Rattle.hole_tree.specs.HoleSet.{is_apart, starts_at, with_hole, without}
 use Rattle.hole_tree.specs.Rising.{IsRising, IsPast}
 use Rattle.hole_tree.specs.Longest.{longest}
 use Rattle.hole_tree.specs.Shape.{Shape, IsLow}
-use Rattle.hole_tree.specs.Trees.{IsSound}
+use Rattle.hole_tree.specs.Trees.{IsNode, IsSound}
 use Rattle.hole_tree.specs.declared.tree.Node.{Node}
 use Rattle.hole_tree.specs.Sorting.{replaced}
 use Rattle.hole_tree.proofs.Rises.{past_middle, rising_root, left_past}
+use Rattle.hole_tree.proofs.Sides.{node_count, node_rising, node_rising_left, node_rising_right}
 use Rattle.hole_tree.proofs.SortedByLength.{past_found, find_start, start_sorted}
 use Rattle.hole_tree.proofs.Sorts.{goes_left, goes_right}
 
@@ -97,6 +98,46 @@ longest_replaced from to (y ∷ ys) h e = elim (cases_Bool (starts_at from.start
       rw t (omega arith)
   | inr n ↦ let found = rw n at e in rw n (omega (arith, longest_replaced from to ys h.2 found))
 ]
+
+-- ---- a node that has the hole on a side
+
+-- on the left one
+pub record IsLeft (s : Shape) (n : Node) (x : Span) : Type 0 where
+  pub spans : (to : Span) → replaced x.start to s.spans ≡ replaced x.start to n.left.spans ++ n.hole ∷ n.right.spans
+  pub height : s.height ≡ max n.left.height n.right.height + 1
+  pub fewer : length n.left.spans < length s.spans
+  pub rising : IsRising n.left.spans
+  pub found : find (starts_at x.start) n.left.spans ≡ Some x
+
+pub is_left : {s : Shape} {n : Node} {x : Span} → IsNode s n.left n.hole n.right → x.start < n.hole.start → IsRising s.spans → find (starts_at x.start) s.spans ≡ Some x → IsLeft s n x
+is_left {s} {n} {x} node p h e =
+    let rising = node_rising node h in
+    record {
+      spans = λ to. ap (λ ys. replaced x.start to ys) node.spans ∙ replaced_left x.start to n.left.spans n.hole n.right.spans p rising;
+      height = node.height;
+      fewer = omega (arith, node_count node);
+      rising = node_rising_left node h;
+      found = held_left x n.left.spans n.hole n.right.spans p rising (sym (ap (find (starts_at x.start)) node.spans) ∙ e);
+    }
+
+-- on the right one
+pub record IsRight (s : Shape) (n : Node) (x : Span) : Type 0 where
+  pub spans : (to : Span) → replaced x.start to s.spans ≡ n.left.spans ++ n.hole ∷ replaced x.start to n.right.spans
+  pub height : s.height ≡ max n.left.height n.right.height + 1
+  pub fewer : length n.right.spans < length s.spans
+  pub rising : IsRising n.right.spans
+  pub found : find (starts_at x.start) n.right.spans ≡ Some x
+
+pub is_right : {s : Shape} {n : Node} {x : Span} → IsNode s n.left n.hole n.right → n.hole.start < x.start → IsRising s.spans → find (starts_at x.start) s.spans ≡ Some x → IsRight s n x
+is_right {s} {n} {x} node p h e =
+    let rising = node_rising node h in
+    record {
+      spans = λ to. ap (λ ys. replaced x.start to ys) node.spans ∙ replaced_right x.start to n.left.spans n.hole n.right.spans p rising;
+      height = node.height;
+      fewer = omega (arith, node_count node);
+      rising = node_rising_right node h;
+      found = held_right x n.left.spans n.hole n.right.spans p rising (sym (ap (find (starts_at x.start)) node.spans) ∙ e);
+    }
 
 -- ---- it is as if the hole went and came
 

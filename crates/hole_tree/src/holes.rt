@@ -1,5 +1,5 @@
 //! The holes of a range of pages (drm_mm's hole trees).
-ghost use Rattle.std.specs.Prelude.{◌≡◌, ◌+◌, ◌-◌, ◌*◌, ◌^◌, ◌<◌, ◌≤◌, max, [], length, true, Some, IsSome, OnOk, OnErr};
+ghost use Rattle.std.specs.Prelude.{◌≡◌, ◌+◌, ◌-◌, ◌*◌, ◌^◌, ◌<◌, ◌≤◌, max, [], length, true, Some, IsSome, OnOk, OnErr, nat_le};
 ghost use Rattle.std.specs.List.{find, list_all};
 ghost use Rattle.std.specs.Vec.{vec_len, vec_capacity};
 ghost use Rattle.ttm_base.specs.Holes.{has_page};
@@ -10,6 +10,7 @@ ghost use Rattle.hole_tree.specs.HoleSet.{is_apart, is_disjoint, starts_at, ends
 ghost use Rattle.hole_tree.specs.Rising.{EndsBy};
 ghost use Rattle.hole_tree.specs.Trees.{IsBlankNode};
 
+use crate::hole::Hole;
 use crate::lengths::{self, Entry, Lengths};
 use crate::request::Request;
 use crate::tree::{self, Node, Tree};
@@ -85,6 +86,13 @@ impl Holes {
         }
     }
 
+    /// There is room for `n` holes more.
+    pub fn is_ready(&self, n: u32) -> bool
+        ensures { result ≡ nat_le n self.now.spare }
+    {
+        n as usize <= self.spare.len()
+    }
+
     /// Makes room for `n` holes more, if there isn't. After a refusal nothing is changed.
     pub fn ready(&mut self, n: u32) -> Result<(), NoMemory>
         ensures holes { self.new.holes ≡ self.old.holes }
@@ -123,6 +131,7 @@ impl Holes {
             mut by_start,
             mut by_length,
         } = nodes;
+        let hole = Hole::of(hole);
         by_start.hole = hole;
         by_length.hole = hole;
         self.by_start.insert(by_start);
@@ -137,13 +146,13 @@ impl Holes {
         ensures left { self.new.holes ≡ without start self.old.holes }
         ensures spare { self.new.spare ≡ self.old.spare + 1 }
     {
-        let begins = Span { start, end: start };
+        let begins = Hole::of(Span { start, end: start });
         let tree::Taken {
             node: by_start,
             lower: _,
-        } = self.by_start.take(begins);
+        } = self.by_start.take(&begins);
         let hole = by_start.hole;
-        let taken = self.by_length.take(hole);
+        let taken = self.by_length.take(&hole);
         let lengths::Taken {
             entry: by_length,
             lower: _,
@@ -156,7 +165,7 @@ impl Holes {
                 by_length,
             },
         );
-        hole
+        hole.span()
     }
 
     /// Moves the ends of a hole, which keeps its place among the others. It takes no memory.
@@ -169,8 +178,9 @@ impl Holes {
         ensures holes { self.new.holes ≡ with_hole to (without from.start self.old.holes) }
         ensures spare { self.new.spare ≡ self.old.spare }
     {
-        self.by_start.resize(from, to);
-        let taken = self.by_length.take(from);
+        let (from, to) = (Hole::of(from), Hole::of(to));
+        self.by_start.resize(&from, &to);
+        let taken = self.by_length.take(&from);
         let lengths::Taken {
             entry: mut node,
             lower: _,
@@ -183,7 +193,7 @@ impl Holes {
     pub fn around(&self, page: u32) -> Option<Span>
         ensures { result ≡ find (has_page page) self.now.holes }
     {
-        self.by_start.around(page).copied()
+        self.by_start.around(page).map(|hole| hole.span())
     }
 
     /// The holes that touch a span, of whose pages no hole has any.
@@ -195,8 +205,12 @@ impl Holes {
     {
         let (before, behind) = self.by_start.beside(span.start);
         Neighbours {
-            before: before.filter(|hole| hole.end == span.start).copied(),
-            behind: behind.filter(|hole| hole.start == span.end).copied(),
+            before: before
+                .filter(|hole| hole.end() == span.start)
+                .map(|hole| hole.span()),
+            behind: behind
+                .filter(|hole| hole.start() == span.end)
+                .map(|hole| hole.span()),
         }
     }
 
@@ -265,7 +279,7 @@ impl Holes {
             first,
             last,
         };
-        self.by_length.first(request, steps).copied()
+        self.by_length.first(request, steps).map(|hole| hole.span())
     }
 
     /// The lowest such hole, where a step is a node that is opened.
@@ -290,7 +304,7 @@ impl Holes {
             first,
             last,
         };
-        self.by_start.first(request, steps).copied()
+        self.by_start.first(request, steps).map(|hole| hole.span())
     }
 
     /// The highest such hole, where a step is a node that is opened.
@@ -315,7 +329,9 @@ impl Holes {
             first,
             last,
         };
-        self.by_start.highest(request, steps).copied()
+        self.by_start
+            .highest(request, steps)
+            .map(|hole| hole.span())
     }
 
     /// The hole of the range choice, with a counter of its own.
@@ -328,9 +344,18 @@ impl Holes {
     {
         let mut steps = Steps::<L>::new(blank);
         match mode {
-            Mode::Best => self.by_length.first(request, &mut steps).copied(),
-            Mode::Low => self.by_start.first(request, &mut steps).copied(),
-            Mode::High => self.by_start.highest(request, &mut steps).copied(),
+            Mode::Best => self
+                .by_length
+                .first(request, &mut steps)
+                .map(|hole| hole.span()),
+            Mode::Low => self
+                .by_start
+                .first(request, &mut steps)
+                .map(|hole| hole.span()),
+            Mode::High => self
+                .by_start
+                .highest(request, &mut steps)
+                .map(|hole| hole.span()),
         }
     }
 }

@@ -2,7 +2,6 @@
 ghost use Rattle.std.specs.Prelude.{◌≡◌, ◌+◌, ◌==◌, ◌≤◌, max, ◌∷◌, ◌++◌, IsSome, IfNone, IfSome, Some, is_some, option_map, if◌then◌else◌};
 ghost use Rattle.std.specs.Bool.{OnTrue};
 ghost use Rattle.std.specs.List.{find};
-ghost use Rattle.ttm_base.specs.Reach.{length_of};
 ghost use Rattle.ttm_base.specs.declared.Mode.TheVariants.{Low};
 ghost use Rattle.hole_tree.specs.Fitting.{fits, is_long, IsWide};
 ghost use Rattle.hole_tree.specs.Leaning.{Leans};
@@ -12,6 +11,7 @@ ghost use Rattle.hole_tree.specs.Sorting.{ties, IsSorted, placed, untied};
 ghost use Rattle.hole_tree.specs.declared.order.Order.TheVariants.{ByLength};
 ghost use Rattle.hole_tree.specs.declared.lean.Lean.TheVariants.{Left, Right};
 
+use crate::hole::Hole;
 use crate::lean::Lean;
 use crate::order::Order;
 use crate::request::Request;
@@ -40,7 +40,7 @@ enum Link {
 #[derive(Drop)]
 pub struct Entry {
     pub left: Lengths,
-    pub hole: Span,
+    pub hole: Hole,
     pub right: Lengths,
     pub lean: Lean,
 }
@@ -148,24 +148,24 @@ impl Lengths {
 
     /// Takes out the node of a hole.
     #[tactic(auto, using(crate::proofs::Leaned::low_entry))]
-    pub fn take(&mut self, sought: Span) -> Taken
+    pub fn take(&mut self, sought: &Hole) -> Taken
         requires sorted { IsSorted ByLength self.old.spans }
-        requires held { IsSome (find (ties ByLength sought) self.old.spans) }
-        ensures found { find (ties ByLength sought) self.old.spans ≡ Some result.entry.value.hole }
+        requires held { IsSome (find (ties ByLength sought.now) self.old.spans) }
+        ensures found { find (ties ByLength sought.now) self.old.spans ≡ Some result.entry.value.hole }
         ensures blank { IsBlank result.entry.value }
-        ensures left { self.new.spans ≡ untied ByLength sought self.old.spans }
+        ensures left { self.new.spans ≡ untied ByLength sought.now self.old.spans }
         ensures height { self.old.height ≡ self.new.height + (if result.lower then 1 else 0) }
         ensures low { IsLow self.new }
     {
         let Link::Full(node) = &mut self.top else {
             unreachable!()
         };
-        if Order::ByLength.is_before(sought, node.hole) {
+        if Order::ByLength.is_before(*sought, node.hole) {
             let Taken { entry, lower } = node.left.take(sought);
             let lower = lower && lost_left(node);
             return Taken { entry, lower };
         }
-        if Order::ByLength.is_before(node.hole, sought) {
+        if Order::ByLength.is_before(node.hole, *sought) {
             let Taken { entry, lower } = node.right.take(sought);
             let lower = lower && lost_right(node);
             return Taken { entry, lower };
@@ -239,7 +239,7 @@ impl Lengths {
 /// Searches. A step is a node that is opened.
 impl Lengths {
     /// The first hole that fits (Best and Low fit alike). Mostly it is the first that is long enough.
-    pub fn first<L: Ledger>(&self, request: Request, steps: &mut Steps<L>) -> Option<&Span>
+    pub fn first<L: Ledger>(&self, request: Request, steps: &mut Steps<L>) -> Option<&Hole>
         requires sorted { IsSorted ByLength self.now.spans }
         requires align { 1 ≤ request.align }
         ensures found { option_map (λ hole. hole.now) result ≡ find (fits Low request) self.now.spans }
@@ -250,13 +250,13 @@ impl Lengths {
             return None;
         }
         if request.first > 0 {
-            return self.first_of_all(request, steps);
+            return self.first_of_all(&request, steps);
         }
         let long = self.first_long(request.pages, steps)?;
         if request.fits(Mode::Low, *long) {
             return Some(long);
         }
-        self.first_of_all(request, steps)
+        self.first_of_all(&request, steps)
     }
 
     /// The root.
@@ -275,34 +275,42 @@ impl Lengths {
     }
 
     /// The first hole that is so long.
-    fn first_long<L: Ledger>(&self, pages: u32, steps: &mut Steps<L>) -> Option<&Span>
+    fn first_long<L: Ledger>(&self, pages: u32, steps: &mut Steps<L>) -> Option<&Hole>
         requires sorted { IsSorted ByLength self.now.spans }
         ensures found { option_map (λ hole. hole.now) result ≡ find (is_long pages) self.now.spans }
         ensures counts { steps.old ≤ steps.new }
         ensures cost { steps.new ≤ steps.old + self.now.height }
     {
-        let mut found = None;
-        let mut tree = self;
+        // (the root, until there is one that is so long)
+        let mut found = self.open(steps)?;
+        let mut tree = if found.hole.pages() < pages {
+            &found.right
+        } else {
+            &found.left
+        };
         while let Some(entry) = tree.open(steps) {
-            if entry.pages() < pages {
+            if entry.hole.pages() < pages {
                 tree = &entry.right;
             } else {
-                found = Some(&entry.hole);
+                found = entry;
                 tree = &entry.left;
             }
         }
-        found
+        if found.hole.pages() < pages {
+            return None;
+        }
+        Some(&found.hole)
     }
 
     /// The first hole that fits, where all are tried that are long enough.
-    fn first_of_all<L: Ledger>(&self, request: Request, steps: &mut Steps<L>) -> Option<&Span>
+    fn first_of_all<L: Ledger>(&self, request: &Request, steps: &mut Steps<L>) -> Option<&Hole>
         requires sorted { IsSorted ByLength self.now.spans }
-        requires align { 1 ≤ request.align }
-        ensures found { option_map (λ hole. hole.now) result ≡ find (fits Low request) self.now.spans }
+        requires align { 1 ≤ request.now.align }
+        ensures found { option_map (λ hole. hole.now) result ≡ find (fits Low request.now) self.now.spans }
         ensures counts { steps.old ≤ steps.new }
     {
         let entry = self.open(steps)?;
-        if entry.pages() < request.pages {
+        if entry.hole.pages() < request.pages {
             return entry.right.first_of_all(request, steps);
         }
         let below = entry.left.first_of_all(request, steps);
@@ -317,20 +325,13 @@ impl Lengths {
 }
 
 impl Entry {
-    /// The pages of its hole.
-    fn pages(&self) -> u32
-        ensures { result ≡ length_of self.now.hole }
-    {
-        self.hole.end.saturating_sub(self.hole.start)
-    }
-
     /// A node for a hole to come.
     pub fn blank() -> Entry
         ensures { IsBlank result }
     {
         Entry {
             left: Lengths::new(),
-            hole: Span { start: 0, end: 0 },
+            hole: Hole::of(Span { start: 0, end: 0 }),
             right: Lengths::new(),
             lean: Lean::Even,
         }

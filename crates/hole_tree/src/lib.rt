@@ -1,6 +1,7 @@
 //! The holes of a range of pages, in two balanced trees (drm_mm's hole trees).
 #![tactic(auto)]
 
+mod hole;
 mod holes;
 mod lean;
 mod lengths;
@@ -10,3 +11,4 @@ mod search;
 mod tree;
 
 pub use holes::{Holes, Neighbours};
+pub use request::{aligned_down, aligned_up};

@@ -2,7 +2,7 @@
 ghost use Rattle.std.specs.Prelude.{◌≡◌};
 ghost use Rattle.hole_tree.specs.Sorting.{before};
 
-use ttm_base::Span;
+use crate::hole::Hole;
 
 /// The order of the holes of a tree.
 #[derive(Clone, Copy)]
@@ -15,17 +15,12 @@ pub enum Order {
 
 impl Order {
     /// The first hole stands before the second.
-    pub fn is_before(self, first: Span, second: Span) -> bool
+    pub fn is_before(self, first: Hole, second: Hole) -> bool
         ensures { result ≡ before self first second }
     {
-        let lower = first.start < second.start;
         match self {
-            Order::ByStart => lower,
-            Order::ByLength => {
-                let length = first.end.saturating_sub(first.start);
-                let other = second.end.saturating_sub(second.start);
-                length < other || length == other && lower
-            }
+            Order::ByStart => first.start() < second.start(),
+            Order::ByLength => first.rank() < second.rank(),
         }
     }
 }

@@ -3,7 +3,8 @@ ghost use Rattle.ttm_base.specs.RangeChoice.{start_to_test};
 ghost use Rattle.ttm_base.specs.Reach.{common};
 ghost use Rattle.hole_tree.specs.Fitting.{fits, range_of, reaches_left, reaches_right};
 
-use ttm_base::{Mode, Span};
+use crate::hole::Hole;
+use ttm_base::Mode;
 
 /// So many pages at a multiple of `align`, from `first` up to `last`.
 #[derive(Clone, Copy)]
@@ -15,15 +16,15 @@ pub struct Request {
 }
 
 impl Request {
-    pub fn fits(self, mode: Mode, hole: Span) -> bool
+    pub fn fits(self, mode: Mode, hole: Hole) -> bool
         requires { 1 ≤ self.align }
         ensures { result ≡ fits mode self hole }
     {
-        if hole.end.saturating_sub(hole.start) < self.pages {
+        if hole.pages() < self.pages {
             return false;
         }
-        let start = hole.start.max(self.first) as u64;
-        let end = hole.end.min(self.last) as u64;
+        let start = hole.start().max(self.first) as u64;
+        let end = hole.end().min(self.last) as u64;
         let pages = self.pages as u64;
         let align = self.align as u64;
         let tested = match mode {
@@ -34,22 +35,22 @@ impl Request {
     }
 
     /// Some hole before the one at a root may fit, where the longest of them is so long.
-    pub fn reaches_left(self, longest: u32, root: Span) -> bool
+    pub fn reaches_left(self, longest: u32, root: Hole) -> bool
         ensures { result ≡ reaches_left self longest root }
     {
-        self.pages <= longest && self.first < root.start
+        self.pages <= longest && self.first < root.start()
     }
 
     /// Some hole after it may.
-    pub fn reaches_right(self, longest: u32, root: Span) -> bool
+    pub fn reaches_right(self, longest: u32, root: Hole) -> bool
         ensures { result ≡ reaches_right self longest root }
     {
-        self.pages <= longest && root.end < self.last
+        self.pages <= longest && root.end() < self.last
     }
 }
 
 /// The lowest multiple of `align` from a page on.
-fn aligned_up(page: u64, align: u64) -> u64
+pub fn aligned_up(page: u64, align: u64) -> u64
     requires align { 1 ≤ align }
     requires fits { page + align < 2 ^ 64 }
     ensures { result ≡ (page + align - 1) / align * align }
@@ -62,7 +63,7 @@ fn aligned_up(page: u64, align: u64) -> u64
 }
 
 /// The highest up to a page.
-fn aligned_down(page: u64, align: u64) -> u64
+pub fn aligned_down(page: u64, align: u64) -> u64
     requires { 1 ≤ align }
     ensures { result ≡ page / align * align }
 {

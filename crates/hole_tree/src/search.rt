@@ -7,15 +7,16 @@ ghost use Rattle.hole_tree.specs.HoleSet.{ends_by, ends_past};
 ghost use Rattle.hole_tree.specs.Fitting.{fits, is_long, find_last, IsWide};
 ghost use Rattle.hole_tree.specs.Rising.{IsRising};
 
+use crate::hole::Hole;
 use crate::request::Request;
 use crate::tree::Tree;
 use step_count::Steps;
 use step_count::ledger::Ledger;
-use ttm_base::{Mode, Span};
+use ttm_base::Mode;
 
 impl Tree {
     /// The lowest hole that fits. Mostly it is the first that is long enough.
-    pub fn first<L: Ledger>(&self, request: Request, steps: &mut Steps<L>) -> Option<&Span>
+    pub fn first<L: Ledger>(&self, request: Request, steps: &mut Steps<L>) -> Option<&Hole>
         requires rising { IsRising self.now.spans }
         requires align { 1 ≤ request.align }
         ensures found { option_map (λ hole. hole.now) result ≡ find (fits Low request) self.now.spans }
@@ -36,7 +37,7 @@ impl Tree {
     }
 
     /// The highest hole that fits. Mostly it is the last that is long enough.
-    pub fn highest<L: Ledger>(&self, request: Request, steps: &mut Steps<L>) -> Option<&Span>
+    pub fn highest<L: Ledger>(&self, request: Request, steps: &mut Steps<L>) -> Option<&Hole>
         requires rising { IsRising self.now.spans }
         requires align { 1 ≤ request.align }
         ensures found { option_map (λ hole. hole.now) result ≡ find_last (fits High request) self.now.spans }
@@ -54,7 +55,7 @@ impl Tree {
     }
 
     /// The last hole that ends at a page or below it, and the first that ends past it.
-    pub fn beside(&self, page: u32) -> (Option<&Span>, Option<&Span>)
+    pub fn beside(&self, page: u32) -> (Option<&Hole>, Option<&Hole>)
         requires rising { IsRising self.now.spans }
         ensures before { option_map (λ hole. hole.now) result.0 ≡ find_last (ends_by page) self.now.spans }
         ensures behind { option_map (λ hole. hole.now) result.1 ≡ find (ends_past page) self.now.spans }
@@ -63,7 +64,7 @@ impl Tree {
         let mut behind = None;
         let mut tree = self;
         while let Some(node) = tree.root() {
-            if node.hole.end <= page {
+            if node.hole.end() <= page {
                 before = Some(&node.hole);
                 tree = &node.right;
             } else {
@@ -75,41 +76,47 @@ impl Tree {
     }
 
     /// The first hole that is so long.
-    fn first_long<L: Ledger>(&self, pages: u32, steps: &mut Steps<L>) -> Option<&Span>
+    fn first_long<L: Ledger>(&self, pages: u32, steps: &mut Steps<L>) -> Option<&Hole>
         requires { 1 ≤ pages }
         ensures found { option_map (λ hole. hole.now) result ≡ find (is_long pages) self.now.spans }
         ensures counts { steps.old ≤ steps.new }
         ensures cost { steps.new ≤ steps.old + self.now.height }
     {
-        let node = self.open(steps)?;
-        if pages <= node.longest_left {
-            return node.left.first_long(pages, steps);
+        let mut tree = self;
+        while let Some(node) = tree.open(steps) {
+            if pages <= node.longest_left {
+                tree = &node.left;
+            } else if pages <= node.hole.pages() {
+                return Some(&node.hole);
+            } else {
+                tree = &node.right;
+            }
         }
-        if pages <= node.hole.end.saturating_sub(node.hole.start) {
-            return Some(&node.hole);
-        }
-        node.right.first_long(pages, steps)
+        None
     }
 
     /// The last hole that is so long.
-    fn last_long<L: Ledger>(&self, pages: u32, steps: &mut Steps<L>) -> Option<&Span>
+    fn last_long<L: Ledger>(&self, pages: u32, steps: &mut Steps<L>) -> Option<&Hole>
         requires { 1 ≤ pages }
         ensures found { option_map (λ hole. hole.now) result ≡ find_last (is_long pages) self.now.spans }
         ensures counts { steps.old ≤ steps.new }
         ensures cost { steps.new ≤ steps.old + self.now.height }
     {
-        let node = self.open(steps)?;
-        if pages <= node.longest_right {
-            return node.right.last_long(pages, steps);
+        let mut tree = self;
+        while let Some(node) = tree.open(steps) {
+            if pages <= node.longest_right {
+                tree = &node.right;
+            } else if pages <= node.hole.pages() {
+                return Some(&node.hole);
+            } else {
+                tree = &node.left;
+            }
         }
-        if pages <= node.hole.end.saturating_sub(node.hole.start) {
-            return Some(&node.hole);
-        }
-        node.left.last_long(pages, steps)
+        None
     }
 
     /// The first hole that fits. A side is opened where such a hole may be in it.
-    fn first_of_all<L: Ledger>(&self, request: &Request, steps: &mut Steps<L>) -> Option<&Span>
+    fn first_of_all<L: Ledger>(&self, request: &Request, steps: &mut Steps<L>) -> Option<&Hole>
         requires rising { IsRising self.now.spans }
         requires align { 1 ≤ request.now.align }
         ensures found { option_map (λ hole. hole.now) result ≡ find (fits Low request.now) self.now.spans }
@@ -132,7 +139,7 @@ impl Tree {
     }
 
     /// The highest hole that fits. A side is opened where such a hole may be in it.
-    fn highest_of_all<L: Ledger>(&self, request: &Request, steps: &mut Steps<L>) -> Option<&Span>
+    fn highest_of_all<L: Ledger>(&self, request: &Request, steps: &mut Steps<L>) -> Option<&Hole>
         requires rising { IsRising self.now.spans }
         requires align { 1 ≤ request.now.align }
         ensures found { option_map (λ hole. hole.now) result ≡ find_last (fits High request.now) self.now.spans }

@@ -15,6 +15,7 @@ ghost use Rattle.hole_tree.specs.Trees.{spans_of, height_of, shape_of_node, HasL
 ghost use Rattle.hole_tree.specs.declared.order.Order.TheVariants.{ByStart};
 ghost use Rattle.hole_tree.specs.declared.lean.Lean.TheVariants.{Left, Right};
 
+use crate::hole::Hole;
 use crate::lean::Lean;
 use crate::order::Order;
 use std::marker::Model;
@@ -42,7 +43,7 @@ enum Top {
 #[derive(Drop)]
 pub struct Node {
     pub left: Tree,
-    pub hole: Span,
+    pub hole: Hole,
     pub right: Tree,
     pub longest_left: u32,
     pub longest_right: u32,
@@ -132,16 +133,16 @@ impl Tree {
     }
 
     /// The same, where the longest one had `was` pages until a hole was put in the place of another.
-    fn longest_resized(&self, was: u32, from: Span, to: Span) -> u32
+    fn longest_resized(&self, was: u32, from: Hole, to: Hole) -> u32
         requires held { length_of to ≤ longest self.now.spans }
         requires others { max was (length_of to) ≡ max (length_of from) (longest self.now.spans) }
         ensures { result ≡ longest self.now.spans }
     {
-        let pages = to.end.saturating_sub(to.start);
+        let pages = to.pages();
         if pages >= was {
             return pages;
         }
-        self.longest_without(was, from.end.saturating_sub(from.start))
+        self.longest_without(was, from.pages())
     }
 
     /// The node at the root. Searches for a request open nodes here alone: this is the step that is counted.
@@ -189,10 +190,10 @@ impl Tree {
             }
             Top::Full(node) => {
                 if Order::ByStart.is_before(fresh.hole, node.hole) {
-                    node.longest_left = node.longest_left.max(fresh.pages());
+                    node.longest_left = node.longest_left.max(fresh.hole.pages());
                     node.left.insert(fresh) && grown_left(node)
                 } else {
-                    node.longest_right = node.longest_right.max(fresh.pages());
+                    node.longest_right = node.longest_right.max(fresh.hole.pages());
                     node.right.insert(fresh) && grown_right(node)
                 }
             }
@@ -201,29 +202,31 @@ impl Tree {
 
     /// Takes out the node of the hole that ties with the one that is sought.
     #[tactic(auto, using(crate::proofs::Sides::low_root, crate::proofs::LongestNode::longest_untied))]
-    pub fn take(&mut self, sought: Span) -> Taken
+    pub fn take(&mut self, sought: &Hole) -> Taken
         requires sorted { IsSorted ByStart self.old.spans }
-        requires held { IsSome (find (ties ByStart sought) self.old.spans) }
-        ensures found { find (ties ByStart sought) self.old.spans ≡ Some result.node.value.hole }
+        requires held { IsSome (find (ties ByStart sought.now) self.old.spans) }
+        ensures found { find (ties ByStart sought.now) self.old.spans ≡ Some result.node.value.hole }
         ensures blank { IsBlankNode result.node.value }
-        ensures left { self.new.spans ≡ untied ByStart sought self.old.spans }
+        ensures left { self.new.spans ≡ untied ByStart sought.now self.old.spans }
         ensures height { self.old.height ≡ self.new.height + (if result.lower then 1 else 0) }
         ensures low { IsLow self.new }
     {
         let Top::Full(node) = &mut self.top else {
             unreachable!()
         };
-        if Order::ByStart.is_before(sought, node.hole) {
+        if Order::ByStart.is_before(*sought, node.hole) {
             let Taken { node: found, lower } = node.left.take(sought);
-            node.longest_left = node.left.longest_without(node.longest_left, found.pages());
+            node.longest_left = node
+                .left
+                .longest_without(node.longest_left, found.hole.pages());
             let lower = lower && lost_left(node);
             return Taken { node: found, lower };
         }
-        if Order::ByStart.is_before(node.hole, sought) {
+        if Order::ByStart.is_before(node.hole, *sought) {
             let Taken { node: found, lower } = node.right.take(sought);
             node.longest_right = node
                 .right
-                .longest_without(node.longest_right, found.pages());
+                .longest_without(node.longest_right, found.hole.pages());
             let lower = lower && lost_right(node);
             return Taken { node: found, lower };
         }
@@ -264,7 +267,7 @@ impl Tree {
         first.longest_left = node.longest_left;
         first.longest_right = first
             .right
-            .longest_without(node.longest_right, first.pages());
+            .longest_without(node.longest_right, first.hole.pages());
         node.clear();
         let lower = lower && lost_right(&mut first);
         *self = Tree::of(first);
@@ -285,7 +288,9 @@ impl Tree {
         };
         if !node.left.is_empty() {
             let Taken { node: first, lower } = node.left.take_first();
-            node.longest_left = node.left.longest_without(node.longest_left, first.pages());
+            node.longest_left = node
+                .left
+                .longest_without(node.longest_left, first.hole.pages());
             let lower = lower && lost_left(node);
             return Taken { node: first, lower };
         }
@@ -298,26 +303,26 @@ impl Tree {
     }
 
     /// Puts another hole in the place of one.
-    pub fn resize(&mut self, from: Span, to: Span)
+    pub fn resize(&mut self, from: &Hole, to: &Hole)
         requires rising { IsRising self.old.spans }
-        requires held { find (starts_at from.start) self.old.spans ≡ Some from }
-        ensures spans { self.new.spans ≡ replaced from.start to self.old.spans }
+        requires held { find (starts_at from.now.start) self.old.spans ≡ Some from.now }
+        ensures spans { self.new.spans ≡ replaced from.now.start to.now self.old.spans }
         ensures height { self.new.height ≡ self.old.height }
     {
         let Top::Full(node) = &mut self.top else {
             unreachable!()
         };
-        if from.start < node.hole.start {
+        if from.start() < node.hole.start() {
             node.left.resize(from, to);
-            node.longest_left = node.left.longest_resized(node.longest_left, from, to);
+            node.longest_left = node.left.longest_resized(node.longest_left, *from, *to);
             return;
         }
-        if node.hole.start < from.start {
+        if node.hole.start() < from.start() {
             node.right.resize(from, to);
-            node.longest_right = node.right.longest_resized(node.longest_right, from, to);
+            node.longest_right = node.right.longest_resized(node.longest_right, *from, *to);
             return;
         }
-        node.hole = to;
+        node.hole = *to;
     }
 
     /// The node at the root, for a search that isn't counted.
@@ -332,16 +337,16 @@ impl Tree {
     }
 
     /// The hole that has a page.
-    pub fn around(&self, page: u32) -> Option<&Span>
+    pub fn around(&self, page: u32) -> Option<&Hole>
         requires rising { IsRising self.now.spans }
         ensures { option_map (λ hole. hole.now) result ≡ find (has_page page) self.now.spans }
     {
         let Top::Full(node) = &self.top else {
             return None;
         };
-        if page < node.hole.start {
+        if page < node.hole.start() {
             node.left.around(page)
-        } else if page < node.hole.end {
+        } else if page < node.hole.end() {
             Some(&node.hole)
         } else {
             node.right.around(page)
@@ -356,7 +361,7 @@ impl Node {
     {
         Node {
             left: Tree::new(),
-            hole: Span { start: 0, end: 0 },
+            hole: Hole::of(Span { start: 0, end: 0 }),
             right: Tree::new(),
             longest_left: 0,
             longest_right: 0,
@@ -376,13 +381,6 @@ impl Node {
         self.lean = Lean::Even;
     }
 
-    /// The pages of its hole.
-    fn pages(&self) -> u32
-        ensures { result ≡ length_of self.now.hole }
-    {
-        self.hole.end.saturating_sub(self.hole.start)
-    }
-
     /// The length of the longest hole below it, its own among them.
     #[tactic(auto, using(crate::proofs::LongestNode::longest_node))]
     fn longest(&self) -> u32
@@ -390,7 +388,8 @@ impl Node {
         requires right { self.now.longest_right ≡ longest self.now.right.spans }
         ensures { result ≡ longest (spans_of self.now) }
     {
-        self.longest_left.max(self.pages().max(self.longest_right))
+        self.longest_left
+            .max(self.hole.pages().max(self.longest_right))
     }
 }
 

@@ -7,7 +7,7 @@ ghost use Rattle.hole_tree.specs.Choosing.{chosen_hole};
 ghost use Rattle.hole_tree.specs.HoleSet.{starts_at};
 ghost use Rattle.range_manager.specs.Kept.{IsSpaced};
 
-use hole_tree::Holes;
+use hole_tree::{Holes, aligned_down, aligned_up};
 use ttm_base::{Mode, Span};
 
 /// Pages, and the hole that has them.
@@ -58,8 +58,8 @@ fn start_in(hole: Span, pages: u32, align: u32, range: Span, mode: Mode) -> u32
     let last = hole.end.min(range.end) as u64;
     let align = align as u64;
     let start = match mode {
-        Mode::Best | Mode::Low => (first + align - 1) / align * align,
-        Mode::High => last.saturating_sub(pages as u64) / align * align,
+        Mode::Best | Mode::Low => aligned_up(first, align),
+        Mode::High => aligned_down(last.saturating_sub(pages as u64), align),
     };
     start as u32
 }

@@ -33,6 +33,9 @@ pub fn make_room(holes: &mut Holes, held: u32) -> Result<(), NoMemory>
     ensures kept { holes.old.spare ≤ holes.new.spare }
 {
     let room = held.checked_add(2).ok_or(NoMemory)?;
+    if holes.is_ready(room) {
+        return Ok(());
+    }
     holes.ready(room)
 }
 

@@ -1,4 +1,4 @@
-use Rattle.std.proofs.Common.{◌≡◌, ◌-◌, ◌≤◌, List, length, sym, ap, ◌∙◌, subst, arith}
+use Rattle.std.proofs.Common.{◌≡◌, ◌-◌, ◌≤◌, List, length, sym, ap, ◌∙◌, subst, arith, rules}
 use Rattle.std.specs.List.{find}
 use Rattle.ttm_base.specs.declared.Span.{Span}
 use Rattle.ttm_base.specs.declared.Mode.TheVariants.{Best, Low}
@@ -10,6 +10,7 @@ use Rattle.hole_tree.specs.Fitting.{fits, IsWide}
 use Rattle.hole_tree.specs.Rising.{EndsBy}
 use Rattle.hole_tree.proofs.Choices.{chosen_best}
 use Rattle.hole_tree.proofs.Counting.{steps_square}
+use Rattle.hole_tree.proofs.Found.{mapped}
 use Rattle.hole_tree.proofs.SortedByLength.{ends_sorted, first_by_length, length_sorted, length-sorted}
 use Rattle.hole_tree.proofs.holes.Holes.best_counted.Goals as goal
 
@@ -19,7 +20,7 @@ first-requires-clause-sorted g c = subst (IsSorted ByLength) (sym c.self.invaria
 pub returns-clause-hole : goal.returns-clause-hole
 returns-clause-hole g c =
     let q : Request = record { pages = c.args.pages; align = c.args.align; first = c.args.first; last = c.args.last } in
-    c.copied.ensures
+    mapped c.first.result c.map.result (λ x y m. search rules) c.map.ensures.cases
     ∙ c.first.ensures.found
     ∙ ap (λ ys. find (fits Low q) ys) c.self.invariant.lengths
     ∙ first_by_length (fits Low q) c.self.inside.by_start.spans c.self.invariant.rising

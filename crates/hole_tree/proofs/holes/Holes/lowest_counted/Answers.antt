@@ -1,4 +1,4 @@
-use Rattle.std.proofs.Common.{◌≡◌, ◌-◌, ◌≤◌, List, sym, ap, ◌∙◌, subst, arith}
+use Rattle.std.proofs.Common.{◌≡◌, ◌-◌, ◌≤◌, List, sym, ap, ◌∙◌, subst, arith, rules}
 use Rattle.ttm_base.specs.declared.Span.{Span}
 use Rattle.ttm_base.specs.declared.Mode.TheVariants.{Low}
 use Rattle.hole_tree.specs.declared.request.Request.{Request}
@@ -7,12 +7,13 @@ use Rattle.hole_tree.specs.Fitting.{IsWide}
 use Rattle.hole_tree.specs.Rising.{EndsBy}
 use Rattle.hole_tree.proofs.Choices.{chosen_low}
 use Rattle.hole_tree.proofs.Counting.{steps_square}
+use Rattle.hole_tree.proofs.Found.{mapped}
 use Rattle.hole_tree.proofs.holes.Holes.lowest_counted.Goals as goal
 
 pub returns-clause-hole : goal.returns-clause-hole
 returns-clause-hole g c =
     let q : Request = record { pages = c.args.pages; align = c.args.align; first = c.args.first; last = c.args.last } in
-    c.copied.ensures ∙ c.first.ensures.found ∙ sym (chosen_low q c.self.inside.by_start.spans) ∙ ap (λ h. chosen_hole Low h.holes c.args.pages c.args.align c.args.first c.args.last) c.self.view_is
+    mapped c.first.result c.map.result (λ x y m. search rules) c.map.ensures.cases ∙ c.first.ensures.found ∙ sym (chosen_low q c.self.inside.by_start.spans) ∙ ap (λ h. chosen_hole Low h.holes c.args.pages c.args.align c.args.first c.args.last) c.self.view_is
 
 pub returns-clause-cost : goal.returns-clause-cost
 returns-clause-cost g c = λ a f e.

@@ -1,6 +1,6 @@
 use Rattle.std.proofs.Common.{◌≡◌, ◌+◌, Some, IsSome, length, sym, ap, ◌∙◌, subst, arith}
 use Rattle.std.specs.List.{find}
-use Rattle.hole_tree.specs.declared.order.Order.TheVariants.{ByLength}
+use Rattle.hole_tree.specs.declared.order.Order.TheVariants.{ByStart, ByLength}
 use Rattle.hole_tree.specs.HoleSet.{starts_at, without}
 use Rattle.hole_tree.specs.Rising.{IsRising}
 use Rattle.hole_tree.specs.Sorting.{ties, IsSorted, untied, sorted_by_length}
@@ -19,31 +19,35 @@ pub take-taken-requires-clause-held : goal.take-taken-requires-clause-held
 take-taken-requires-clause-held c =
     let ys = c.self.inside.by_start.spans in
     let x = c.deref.result.now.hole in
-    let found : find (starts_at c.args.start) ys ≡ Some x = sym (find_start c.args.start ys) ∙ c.take-by_start.ensures.found ∙ ap (λ n. Some n.hole) (sym c.deref.ensures) in
+    let found : find (starts_at c.args.start) ys ≡ Some x = sym (find_start c.args.start ys) ∙ ap (λ b. find (ties ByStart b) ys) (sym c.of-begins.ensures) ∙ c.take-by_start.ensures.found ∙ ap (λ n. Some n.hole) (sym c.deref.ensures) in
     let held : IsSome (find (ties ByLength x) (sorted_by_length ys)) = held_by_length c.args.start ys x c.self.invariant.rising found in
     subst (λ zs. IsSome (find (ties ByLength x) zs)) (sym c.self.invariant.lengths) held
 
 pub overflow_sub-self : goal.overflow_sub-self
 overflow_sub-self c =
     let ys = c.self.inside.by_start.spans in
-    let found : find (starts_at c.args.start) ys ≡ Some c.deref.result.now.hole = sym (find_start c.args.start ys) ∙ c.take-by_start.ensures.found ∙ ap (λ n. Some n.hole) (sym c.deref.ensures) in
+    let found : find (starts_at c.args.start) ys ≡ Some c.deref.result.now.hole = sym (find_start c.args.start ys) ∙ ap (λ b. find (ties ByStart b) ys) (sym c.of-begins.ensures) ∙ c.take-by_start.ensures.found ∙ ap (λ n. Some n.hole) (sym c.deref.ensures) in
     omega (arith, c.self.invariant.count, length-without c.args.start ys c.deref.result.now.hole c.self.invariant.rising found)
 
 pub keep-requires : goal.keep-requires
 keep-requires c =
     let ys = c.self.inside.by_start.spans in
-    let found : find (starts_at c.args.start) ys ≡ Some c.deref.result.now.hole = sym (find_start c.args.start ys) ∙ c.take-by_start.ensures.found ∙ ap (λ n. Some n.hole) (sym c.deref.ensures) in
+    let found : find (starts_at c.args.start) ys ≡ Some c.deref.result.now.hole = sym (find_start c.args.start ys) ∙ ap (λ b. find (ties ByStart b) ys) (sym c.of-begins.ensures) ∙ c.take-by_start.ensures.found ∙ ap (λ n. Some n.hole) (sym c.deref.ensures) in
     omega (arith, c.self.invariant.count, c.self.invariant.room, length-without c.args.start ys c.deref.result.now.hole c.self.invariant.rising found)
 
 pub returns-clause-hole : goal.returns-clause-hole
 returns-clause-hole c =
     ap (λ h. find (starts_at c.args.start) h.holes) (sym c.self.view_is)
     ∙ sym (find_start c.args.start c.self.inside.by_start.spans)
-    ∙ c.take-by_start.ensures.found ∙ ap (λ n. Some n.hole) (sym c.deref.ensures)
+    ∙ ap (λ b. find (ties ByStart b) c.self.inside.by_start.spans) (sym c.of-begins.ensures)
+    ∙ c.take-by_start.ensures.found
+    ∙ ap (λ n. Some n.hole) (sym c.deref.ensures)
+    ∙ ap (λ h. Some h) (sym c.span.ensures)
 
 pub returns-clause-left : goal.returns-clause-left
 returns-clause-left c =
     c.take-by_start.ensures.left
+    ∙ ap (λ b. untied ByStart b c.self.inside.by_start.spans) c.of-begins.ensures
     ∙ without_start c.args.start c.self.inside.by_start.spans
     ∙ ap (λ h. without c.args.start h.holes) c.self.view_is
 
@@ -56,8 +60,8 @@ pub invariant_of-self : goal.invariant_of-self
 invariant_of-self c =
     let ys = c.self.inside.by_start.spans in
     let x = c.deref.result.now.hole in
-    let found : find (starts_at c.args.start) ys ≡ Some x = sym (find_start c.args.start ys) ∙ c.take-by_start.ensures.found ∙ ap (λ n. Some n.hole) (sym c.deref.ensures) in
-    let left : c.take-by_start.new.self.spans ≡ without c.args.start ys = c.take-by_start.ensures.left ∙ without_start c.args.start ys in
+    let found : find (starts_at c.args.start) ys ≡ Some x = sym (find_start c.args.start ys) ∙ ap (λ b. find (ties ByStart b) ys) (sym c.of-begins.ensures) ∙ c.take-by_start.ensures.found ∙ ap (λ n. Some n.hole) (sym c.deref.ensures) in
+    let left : c.take-by_start.new.self.spans ≡ without c.args.start ys = c.take-by_start.ensures.left ∙ ap (λ b. untied ByStart b ys) c.of-begins.ensures ∙ without_start c.args.start ys in
     let less : length c.take-by_start.new.self.spans + 1 ≡ length ys = ap (λ zs. length zs + 1) left ∙ length-without c.args.start ys x c.self.invariant.rising found in
     let lengths : c.take-taken.new.self.spans ≡ sorted_by_length (without c.args.start ys) =
     c.take-taken.ensures.left

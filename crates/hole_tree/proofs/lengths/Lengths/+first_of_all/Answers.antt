@@ -30,24 +30,24 @@ first_of_all-requires-2 g t c κs within =
 pub returns-then-pages-request-clause-found : goal.returns-then-pages-request-clause-found
 returns-then-pages-request-clause-found g t c =
     let n = c.in_ok-entry.entry.now in
-    let short : length_of n.hole < c.args.request.pages = omega (arith, c.pages.ensures, c.if-pages-request.true) in
-    c.first_of_all.ensures.found ∙ sym (fit_past Low c.args.request c.args.self.now n c.in_ok-entry.ensures.shape c.requires.sorted short)
+    let short : length_of n.hole < c.args.request.now.pages = omega (arith, c.pages.ensures, c.if-pages-request.true) in
+    c.first_of_all.ensures.found ∙ sym (fit_past Low c.args.request.now c.args.self.now n c.in_ok-entry.ensures.shape c.requires.sorted short)
 
 pub returns-then-is_some-clause-found : goal.returns-then-is_some-clause-found
 returns-then-is_some-clause-found g t c =
     let below = option_map (λ (h : Bor Span). h.now) c.first_of_all-below.result in
     let some : is_some below ≡ true = is_some-map _ c.first_of_all-below.result ∙ sym c.if-is_some.ensures in
-    entry_below (fits Low c.args.request) c.args.self.now c.in_ok-entry.entry.now below c.in_ok-entry.ensures.shape c.first_of_all-below.ensures.found some
+    entry_below (fits Low c.args.request.now) c.args.self.now c.in_ok-entry.entry.now below c.in_ok-entry.ensures.shape c.first_of_all-below.ensures.found some
 
 pub returns-then-fits-clause-found : goal.returns-then-fits-clause-found
 returns-then-fits-clause-found g t c =
     let below = option_map (λ (h : Bor Span). h.now) c.first_of_all-below.result in
     let none : is_some below ≡ false = is_some-map _ c.first_of_all-below.result ∙ sym c.if-is_some.ensures in
-    entry_here (fits Low c.args.request) c.args.self.now c.in_ok-entry.entry.now below c.in_ok-entry.ensures.shape c.first_of_all-below.ensures.found none (sym c.if-fits.ensures)
+    entry_here (fits Low c.args.request.now) c.args.self.now c.in_ok-entry.entry.now below c.in_ok-entry.ensures.shape c.first_of_all-below.ensures.found none (sym c.if-fits.ensures)
 
 pub returns-clause-found : goal.returns-clause-found
 returns-clause-found g t c =
     let below = option_map (λ (h : Bor Span). h.now) c.first_of_all-below.result in
     let none : is_some below ≡ false = is_some-map _ c.first_of_all-below.result ∙ sym c.if-is_some.ensures in
     c.first_of_all-2.ensures.found
-    ∙ entry_above (fits Low c.args.request) c.args.self.now c.in_ok-entry.entry.now below c.in_ok-entry.ensures.shape c.first_of_all-below.ensures.found none (sym c.if-fits.ensures)
+    ∙ entry_above (fits Low c.args.request.now) c.args.self.now c.in_ok-entry.entry.now below c.in_ok-entry.ensures.shape c.first_of_all-below.ensures.found none (sym c.if-fits.ensures)

@@ -1,20 +1,52 @@
-use Rattle.std.proofs.Common.{◌≡◌, ◌+◌, ◌≤◌, ◌<◌, max, Bor, option_map, ap, sym, ◌∙◌, arith}
+use Rattle.std.proofs.Common.{◌≡◌, ◌+◌, ◌≤◌, ◌<◌, max, true, false, cond, Some, None, ap, sym, ◌∙◌, arith}
+use Rattle.std.proofs.lemmas.Bool.{le-leb, lt-leb}
+use Rattle.std.specs.List.{find}
 use Rattle.std.specs.Option.{option_or}
-use Rattle.ttm_base.specs.declared.Span.{Span}
 use Rattle.ttm_base.specs.Reach.{length_of}
-use Rattle.hole_tree.proofs.ByLengths.{sorted_below, sorted_above, long_past, long_up_to, or_some}
+use Rattle.hole_tree.specs.Fitting.{is_long}
+use Rattle.hole_tree.specs.Leans.{shape_of_entry}
+use Rattle.hole_tree.proofs.ByLengths.{sorted_below, sorted_above, long_past, long_up_to, or_some, or_none}
 use Rattle.hole_tree.proofs.lengths.Lengths.first_long.Goals as goal
+use Rattle.hole_tree.proofs.lengths.Lengths.first_long.Goals.{then-pages, else-pages}
 
-pub loop-entry-preserved-then-pages : goal.loop-entry-preserved-then-pages
-loop-entry-preserved-then-pages g c =
+pub loop-entry-init : goal.loop-entry-init
+loop-entry-init g c =
+    let s = c.args.self.now in
+    let n = c.in_ok-found.found.now in
+    let e : s ≡ shape_of_entry n = c.in_ok-found.ensures.shape in
+    let levels : s.height ≡ max n.left.height n.right.height + 1 = ap (λ t. t.height) e in
+    elim c.if-pages.branch [
+      | then-pages w ↦
+          let short : length_of n.hole < c.args.pages = omega (arith, c.pages.ensures, w.if-pages.true) in
+          let test : is_long c.args.pages n.hole ≡ false = lt-leb _ _ short in
+          rw w.tree-is (record {
+            sorted = sorted_above s n e c.requires.sorted;
+            found = rw test (or_none (find (is_long c.args.pages) n.right.spans) ∙ sym (long_past c.args.pages s n e c.requires.sorted short));
+            counts = omega arith;
+            cost = omega arith;
+          })
+      | else-pages w ↦
+          let long : c.args.pages ≤ length_of n.hole = omega (arith, c.pages.ensures, w.if-pages.false) in
+          let test : is_long c.args.pages n.hole ≡ true = le-leb _ _ long in
+          rw w.tree-is (record {
+            sorted = sorted_below s n e c.requires.sorted;
+            found = rw test (sym (long_up_to c.args.pages s n e long));
+            counts = omega arith;
+            cost = omega arith;
+          })
+    ]
+
+pub loop-entry-preserved-then-pages-2 : goal.loop-entry-preserved-then-pages-2
+loop-entry-preserved-then-pages-2 g c =
     let s = c.loop-entry.tree.now in
     let n = c.in-Some.entry.now in
     let e = c.in-Some.ensures.shape in
-    let short : length_of n.hole < c.args.pages = omega (arith, c.pages.ensures) in
+    let short : length_of n.hole < c.args.pages = omega (arith, c.pages-in-Some.ensures) in
     let levels : s.height ≡ max n.left.height n.right.height + 1 = ap (λ t. t.height) e in
+    let kept = cond (is_long c.args.pages c.loop-entry.found.now.hole) (Some c.loop-entry.found.now.hole) None in
     record {
       sorted = sorted_above s n e c.loop-entry.invariant.sorted;
-      found = ap (λ o. option_or o (option_map (λ (h : Bor Span). h.now) c.loop-entry.found)) (sym (long_past c.args.pages s n e c.loop-entry.invariant.sorted short)) ∙ c.loop-entry.invariant.found;
+      found = ap (λ o. option_or o kept) (sym (long_past c.args.pages s n e c.loop-entry.invariant.sorted short)) ∙ c.loop-entry.invariant.found;
       counts = omega (arith, c.in-Some.ensures.steps, c.loop-entry.invariant.counts);
       cost = omega (arith, c.in-Some.ensures.steps, c.loop-entry.invariant.cost);
     }
@@ -24,12 +56,15 @@ loop-entry-preserved g c =
     let s = c.loop-entry.tree.now in
     let n = c.in-Some.entry.now in
     let e = c.in-Some.ensures.shape in
-    let long : c.args.pages ≤ length_of n.hole = omega (arith, c.pages.ensures) in
+    let long : c.args.pages ≤ length_of n.hole = omega (arith, c.pages-in-Some.ensures) in
     let levels : s.height ≡ max n.left.height n.right.height + 1 = ap (λ t. t.height) e in
+    let kept = cond (is_long c.args.pages c.loop-entry.found.now.hole) (Some c.loop-entry.found.now.hole) None in
+    let test : is_long c.args.pages n.hole ≡ true = le-leb _ _ long in
     record {
       sorted = sorted_below s n e c.loop-entry.invariant.sorted;
       found =
-          sym (ap (λ o. option_or o (option_map (λ (h : Bor Span). h.now) c.loop-entry.found)) (long_up_to c.args.pages s n e long) ∙ or_some _ n.hole _)
+          ap (λ t. option_or (find (is_long c.args.pages) n.left.spans) (cond t (Some n.hole) None)) test
+          ∙ sym (ap (λ o. option_or o kept) (long_up_to c.args.pages s n e long) ∙ or_some _ n.hole _)
           ∙ c.loop-entry.invariant.found;
       counts = omega (arith, c.in-Some.ensures.steps, c.loop-entry.invariant.counts);
       cost = omega (arith, c.in-Some.ensures.steps, c.loop-entry.invariant.cost);

@@ -1,4 +1,4 @@
-use Rattle.std.specs.Prelude.{◌≡◌, ◌+◌, ◌≤◌, option_map}
+use Rattle.std.specs.Prelude.{◌≡◌, ◌+◌, ◌≤◌, Some, None, if◌then◌else◌}
 use Rattle.std.specs.List.{find}
 use Rattle.std.specs.Option.{option_or}
 use Rattle.hole_tree.specs.declared.order.Order.TheVariants.{ByLength}
@@ -9,7 +9,7 @@ use Rattle.hole_tree.proofs.lengths.Lengths.first_long.Given as goal
 abbrev pub invariant-loop-entry : goal.invariant-loop-entry
 invariant-loop-entry g l = record {
   sorted : IsSorted ByLength l.tree.spans;
-  found : option_or (find (is_long l.pages) l.tree.spans) (option_map (λ hole. hole.now) l.found) ≡ find (is_long l.pages) l.self.spans;
+  found : option_or (find (is_long l.pages) l.tree.spans) (if is_long l.pages l.found.hole then Some l.found.hole else None) ≡ find (is_long l.pages) l.self.spans;
   counts : l.initial.steps ≤ l.steps;
-  cost : l.steps + l.tree.height ≤ l.initial.steps + l.self.height;
+  cost : l.steps + l.tree.height + 1 ≤ l.initial.steps + l.self.height;
 }

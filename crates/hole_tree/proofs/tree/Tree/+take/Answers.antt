@@ -16,8 +16,8 @@ take-found-requires t c =
     let whole : shape_of_node c.in-Full.node.value ≡ c.args.self.now = subst (λ t. shape_of t ≡ c.args.self.now) c.in-Full.is c.self.view_is in
     let node : IsNode c.args.self.now c.deref_mut.result.now.left c.deref_mut.result.now.hole c.deref_mut.result.now.right = opened whole (subst IsTree c.in-Full.is c.self.invariant) c.deref_mut.ensures.value in
     let count : length c.args.self.now.spans ≡ length c.deref_mut.result.now.left.spans + length c.deref_mut.result.now.right.spans + 1 = node_count node in
-    let below : before ByStart c.args.sought c.deref_mut.result.now.hole ≡ true = cc (c.if-is_before.ensures, c.deref.ensures, c.deref_mut.ensures.value) in
-    let goes = node_goes_left ByStart c.args.sought node c.requires.sorted below in
+    let below : before ByStart c.args.sought.now c.deref_mut.result.now.hole ≡ true = cc (c.if-is_before.ensures, c.deref.ensures, c.deref_mut.ensures.value) in
+    let goes = node_goes_left ByStart c.args.sought.now node c.requires.sorted below in
     (first_of (omega arith, search rules), (node_sorted_left ByStart node c.requires.sorted, subst IsSome goes.found c.requires.held))
 
 pub longest_without-requires : goal.longest_without-requires
@@ -28,9 +28,9 @@ longest_without-requires t c =
     let node : IsNode c.args.self.now d.left d.hole d.right = opened whole (subst IsTree c.in-Full.is c.self.invariant) c.deref_mut.ensures.value in
     let sound : IsSound d = rw c.deref_mut.ensures.value (subst IsTree c.in-Full.is c.self.invariant) in
     let hole = c.take-found.result.node.value.hole in
-    let rest = untied ByStart c.args.sought d.left.spans in
+    let rest = untied ByStart c.args.sought.now d.left.spans in
     let was : c.deref-then-is_before-2.result.now.longest_left ≡ longest d.left.spans = ap (λ m. m.longest_left) c.deref-then-is_before-2.ensures ∙ sound.longest_left in
-    let went : longest d.left.spans ≡ max (length_of hole) (longest rest) = longest_untied ByStart c.args.sought hole d.left.spans (node_sorted_left ByStart node c.requires.sorted) c.take-found.ensures.found in
+    let went : longest d.left.spans ≡ max (length_of hole) (longest rest) = longest_untied ByStart c.args.sought.now hole d.left.spans (node_sorted_left ByStart node c.requires.sorted) c.take-found.ensures.found in
     let left : longest c.deref-then-is_before.result.now.left.spans ≡ longest rest = ap (λ m. longest m.left.spans) c.deref-then-is_before.ensures ∙ ap longest c.take-found.ensures.left in
     let pages : c.pages.result ≡ length_of hole = c.pages.ensures ∙ ap (λ m. length_of m.hole) c.deref-then-is_before-3.ensures in
     omega arith
@@ -39,8 +39,8 @@ pub returns-then-is_before-clause-found : goal.returns-then-is_before-clause-fou
 returns-then-is_before-clause-found t c =
     let whole : shape_of_node c.in-Full.node.value ≡ c.args.self.now = subst (λ t. shape_of t ≡ c.args.self.now) c.in-Full.is c.self.view_is in
     let node : IsNode c.args.self.now c.deref_mut.result.now.left c.deref_mut.result.now.hole c.deref_mut.result.now.right = opened whole (subst IsTree c.in-Full.is c.self.invariant) c.deref_mut.ensures.value in
-    let below : before ByStart c.args.sought c.deref_mut.result.now.hole ≡ true = cc (c.if-is_before.ensures, c.deref.ensures, c.deref_mut.ensures.value) in
-    let goes = node_goes_left ByStart c.args.sought node c.requires.sorted below in
+    let below : before ByStart c.args.sought.now c.deref_mut.result.now.hole ≡ true = cc (c.if-is_before.ensures, c.deref.ensures, c.deref_mut.ensures.value) in
+    let goes = node_goes_left ByStart c.args.sought.now node c.requires.sorted below in
     cc (goes.found, c.take-found.ensures.found)
 
 pub returns-then-is_before-clause-left : goal.returns-then-is_before-clause-left
@@ -48,13 +48,13 @@ returns-then-is_before-clause-left t c =
     let n = c.in-Full.node.value in
     let whole : shape_of_node n ≡ c.args.self.now = subst (λ t. shape_of t ≡ c.args.self.now) c.in-Full.is c.self.view_is in
     let node : IsNode c.args.self.now n.left n.hole n.right = opened whole (subst IsTree c.in-Full.is c.self.invariant) refl in
-    let below : before ByStart c.args.sought n.hole ≡ true = cc (c.if-is_before.ensures, c.deref.ensures) in
-    let goes = node_goes_left ByStart c.args.sought node c.requires.sorted below in
+    let below : before ByStart c.args.sought.now n.hole ≡ true = cc (c.if-is_before.ensures, c.deref.ensures) in
+    let goes = node_goes_left ByStart c.args.sought.now node c.requires.sorted below in
     let d = c.deref_mut.result.now in
-    let rest : spans_of c.deref_mut-then-is_before.result.now ≡ untied ByStart c.args.sought n.left.spans ++ n.hole ∷ n.right.spans =
+    let rest : spans_of c.deref_mut-then-is_before.result.now ≡ untied ByStart c.args.sought.now n.left.spans ++ n.hole ∷ n.right.spans =
     ap (λ m. spans_of m) c.deref_mut-then-is_before.ensures.value
     ∙ ap (λ ys. ys ++ d.hole ∷ d.right.spans) c.take-found.ensures.left
-    ∙ ap (λ m. untied ByStart c.args.sought m.left.spans ++ m.hole ∷ m.right.spans) c.deref_mut.ensures.value in
+    ∙ ap (λ m. untied ByStart c.args.sought.now m.left.spans ++ m.hole ∷ m.right.spans) c.deref_mut.ensures.value in
     elim c.if-lower.branch [
       | then-lower w ↦ rw w.self-inside-is (w.lost_left-lower.ensures.spans ∙ rest ∙ sym goes.left)
       | else-lower w ↦ rw w.self-inside-is (rest ∙ sym goes.left)
@@ -81,8 +81,8 @@ take-found-requires-then-is_before-2 t c =
     let whole : shape_of_node c.in-Full.node.value ≡ c.args.self.now = subst (λ t. shape_of t ≡ c.args.self.now) c.in-Full.is c.self.view_is in
     let node : IsNode c.args.self.now c.deref_mut-then-is_before-2.result.now.left c.deref_mut-then-is_before-2.result.now.hole c.deref_mut-then-is_before-2.result.now.right = opened whole (subst IsTree c.in-Full.is c.self.invariant) c.deref_mut-then-is_before-2.ensures.value in
     let count : length c.args.self.now.spans ≡ length c.deref_mut-then-is_before-2.result.now.left.spans + length c.deref_mut-then-is_before-2.result.now.right.spans + 1 = node_count node in
-    let above : before ByStart c.deref_mut-then-is_before-2.result.now.hole c.args.sought ≡ true = cc (c.if-is_before-2.ensures, c.deref-2.ensures, c.deref_mut-then-is_before-2.ensures.value) in
-    let goes = node_goes_right ByStart c.args.sought node c.requires.sorted above in
+    let above : before ByStart c.deref_mut-then-is_before-2.result.now.hole c.args.sought.now ≡ true = cc (c.if-is_before-2.ensures, c.deref-2.ensures, c.deref_mut-then-is_before-2.ensures.value) in
+    let goes = node_goes_right ByStart c.args.sought.now node c.requires.sorted above in
     (first_of (omega arith, search rules), (node_sorted_right ByStart node c.requires.sorted, subst IsSome goes.found c.requires.held))
 
 pub longest_without-requires-then-is_before-2 : goal.longest_without-requires-then-is_before-2
@@ -93,9 +93,9 @@ longest_without-requires-then-is_before-2 t c =
     let node : IsNode c.args.self.now d.left d.hole d.right = opened whole (subst IsTree c.in-Full.is c.self.invariant) c.deref_mut-then-is_before-2.ensures.value in
     let sound : IsSound d = rw c.deref_mut-then-is_before-2.ensures.value (subst IsTree c.in-Full.is c.self.invariant) in
     let hole = c.take-found-then-is_before-2.result.node.value.hole in
-    let rest = untied ByStart c.args.sought d.right.spans in
+    let rest = untied ByStart c.args.sought.now d.right.spans in
     let was : c.deref-then-is_before-2-3.result.now.longest_right ≡ longest d.right.spans = ap (λ m. m.longest_right) c.deref-then-is_before-2-3.ensures ∙ sound.longest_right in
-    let went : longest d.right.spans ≡ max (length_of hole) (longest rest) = longest_untied ByStart c.args.sought hole d.right.spans (node_sorted_right ByStart node c.requires.sorted) c.take-found-then-is_before-2.ensures.found in
+    let went : longest d.right.spans ≡ max (length_of hole) (longest rest) = longest_untied ByStart c.args.sought.now hole d.right.spans (node_sorted_right ByStart node c.requires.sorted) c.take-found-then-is_before-2.ensures.found in
     let left : longest c.deref-then-is_before-2-2.result.now.right.spans ≡ longest rest = ap (λ m. longest m.right.spans) c.deref-then-is_before-2-2.ensures ∙ ap longest c.take-found-then-is_before-2.ensures.left in
     let pages : c.pages-then-is_before-2.result ≡ length_of hole = c.pages-then-is_before-2.ensures ∙ ap (λ m. length_of m.hole) c.deref-then-is_before-2-4.ensures in
     omega arith
@@ -104,8 +104,8 @@ pub returns-then-is_before-2-clause-found : goal.returns-then-is_before-2-clause
 returns-then-is_before-2-clause-found t c =
     let whole : shape_of_node c.in-Full.node.value ≡ c.args.self.now = subst (λ t. shape_of t ≡ c.args.self.now) c.in-Full.is c.self.view_is in
     let node : IsNode c.args.self.now c.deref_mut-then-is_before-2.result.now.left c.deref_mut-then-is_before-2.result.now.hole c.deref_mut-then-is_before-2.result.now.right = opened whole (subst IsTree c.in-Full.is c.self.invariant) c.deref_mut-then-is_before-2.ensures.value in
-    let above : before ByStart c.deref_mut-then-is_before-2.result.now.hole c.args.sought ≡ true = cc (c.if-is_before-2.ensures, c.deref-2.ensures, c.deref_mut-then-is_before-2.ensures.value) in
-    let goes = node_goes_right ByStart c.args.sought node c.requires.sorted above in
+    let above : before ByStart c.deref_mut-then-is_before-2.result.now.hole c.args.sought.now ≡ true = cc (c.if-is_before-2.ensures, c.deref-2.ensures, c.deref_mut-then-is_before-2.ensures.value) in
+    let goes = node_goes_right ByStart c.args.sought.now node c.requires.sorted above in
     cc (goes.found, c.take-found-then-is_before-2.ensures.found)
 
 pub returns-then-is_before-2-clause-left : goal.returns-then-is_before-2-clause-left
@@ -113,13 +113,13 @@ returns-then-is_before-2-clause-left t c =
     let n = c.in-Full.node.value in
     let whole : shape_of_node n ≡ c.args.self.now = subst (λ t. shape_of t ≡ c.args.self.now) c.in-Full.is c.self.view_is in
     let node : IsNode c.args.self.now n.left n.hole n.right = opened whole (subst IsTree c.in-Full.is c.self.invariant) refl in
-    let above : before ByStart n.hole c.args.sought ≡ true = cc (c.if-is_before-2.ensures, c.deref-2.ensures) in
-    let goes = node_goes_right ByStart c.args.sought node c.requires.sorted above in
+    let above : before ByStart n.hole c.args.sought.now ≡ true = cc (c.if-is_before-2.ensures, c.deref-2.ensures) in
+    let goes = node_goes_right ByStart c.args.sought.now node c.requires.sorted above in
     let d = c.deref_mut-then-is_before-2.result.now in
-    let rest : spans_of c.deref_mut-then-is_before-2-2.result.now ≡ n.left.spans ++ n.hole ∷ untied ByStart c.args.sought n.right.spans =
+    let rest : spans_of c.deref_mut-then-is_before-2-2.result.now ≡ n.left.spans ++ n.hole ∷ untied ByStart c.args.sought.now n.right.spans =
     ap (λ m. spans_of m) c.deref_mut-then-is_before-2-2.ensures.value
     ∙ ap (λ ys. d.left.spans ++ d.hole ∷ ys) c.take-found-then-is_before-2.ensures.left
-    ∙ ap (λ m. m.left.spans ++ m.hole ∷ untied ByStart c.args.sought m.right.spans) c.deref_mut-then-is_before-2.ensures.value in
+    ∙ ap (λ m. m.left.spans ++ m.hole ∷ untied ByStart c.args.sought.now m.right.spans) c.deref_mut-then-is_before-2.ensures.value in
     elim c.if-lower-2.branch [
       | then-lower-2 w ↦ rw w.self-inside-is (w.lost_right-lower.ensures.spans ∙ rest ∙ sym goes.left)
       | else-lower-2 w ↦ rw w.self-inside-is (rest ∙ sym goes.left)
@@ -146,9 +146,9 @@ returns-clause-found t c =
     let n = c.in-Full.node.value in
     let whole : shape_of_node n ≡ c.args.self.now = subst (λ t. shape_of t ≡ c.args.self.now) c.in-Full.is c.self.view_is in
     let node : IsNode c.args.self.now n.left n.hole n.right = opened whole (subst IsTree c.in-Full.is c.self.invariant) refl in
-    let below : before ByStart c.args.sought n.hole ≡ false = cc (c.if-is_before.ensures, c.deref.ensures) in
-    let above : before ByStart n.hole c.args.sought ≡ false = cc (c.if-is_before-2.ensures, c.deref-2.ensures) in
-    let goes = node_goes_here ByStart c.args.sought node c.requires.sorted below above in
+    let below : before ByStart c.args.sought.now n.hole ≡ false = cc (c.if-is_before.ensures, c.deref.ensures) in
+    let above : before ByStart n.hole c.args.sought.now ≡ false = cc (c.if-is_before-2.ensures, c.deref-2.ensures) in
+    let goes = node_goes_here ByStart c.args.sought.now node c.requires.sorted below above in
     let same : c.in-Full-replace.found ≡ c.in-Full.node = cc (c.replace.ensures.value, c.in-Full-replace.is) in
     goes.found ∙ ap (λ k. Some k) (sym (c.close_over.ensures.hole ∙ ap (λ b. b.value.hole) same))
 
@@ -157,8 +157,8 @@ returns-clause-left t c =
     let n = c.in-Full.node.value in
     let whole : shape_of_node n ≡ c.args.self.now = subst (λ t. shape_of t ≡ c.args.self.now) c.in-Full.is c.self.view_is in
     let node : IsNode c.args.self.now n.left n.hole n.right = opened whole (subst IsTree c.in-Full.is c.self.invariant) refl in
-    let below : before ByStart c.args.sought n.hole ≡ false = cc (c.if-is_before.ensures, c.deref.ensures) in
-    let above : before ByStart n.hole c.args.sought ≡ false = cc (c.if-is_before-2.ensures, c.deref-2.ensures) in
-    let goes = node_goes_here ByStart c.args.sought node c.requires.sorted below above in
+    let below : before ByStart c.args.sought.now n.hole ≡ false = cc (c.if-is_before.ensures, c.deref.ensures) in
+    let above : before ByStart n.hole c.args.sought.now ≡ false = cc (c.if-is_before-2.ensures, c.deref-2.ensures) in
+    let goes = node_goes_here ByStart c.args.sought.now node c.requires.sorted below above in
     let same : c.in-Full-replace.found ≡ c.in-Full.node = cc (c.replace.ensures.value, c.in-Full-replace.is) in
     c.close_over.ensures.spans ∙ ap (λ b. b.value.left.spans ++ b.value.right.spans) same ∙ sym goes.left

@@ -10,18 +10,18 @@ use Rattle.hole_tree.proofs.ByLengths.{or_some}
 use Rattle.hole_tree.proofs.Rises.{rising_left, rising_right}
 use Rattle.hole_tree.proofs.tree.Tree.beside.Goals as goal
 
-pub loop-node-preserved-then-node-page : goal.loop-node-preserved-then-node-page
-loop-node-preserved-then-node-page c =
+pub loop-node-preserved-then-end-page : goal.loop-node-preserved-then-end-page
+loop-node-preserved-then-end-page c =
     let n = c.in-Some.node.now in
     let page = c.args.page in
     let rising : IsRising (n.left.spans ++ n.hole ∷ n.right.spans) = subst IsRising c.in-Some.ensures.spans c.loop-node.invariant.rising in
     record {
       rising = rising_right n.left.spans n.hole n.right.spans rising;
       before =
-          sym (ap (λ o. option_or o (option_map (λ (h : Bor Span). h.now) c.loop-node.before)) (ap (find_last (ends_by page)) c.in-Some.ensures.spans ∙ by_right page n.left.spans n.hole n.right.spans c.if-node-page.true) ∙ or_some _ n.hole _)
+          sym (ap (λ o. option_or o (option_map (λ (h : Bor Span). h.now) c.loop-node.before)) (ap (find_last (ends_by page)) c.in-Some.ensures.spans ∙ by_right page n.left.spans n.hole n.right.spans (rw c.end.ensures at c.if-end-page.true)) ∙ or_some _ n.hole _)
           ∙ c.loop-node.invariant.before;
       behind =
-          sym (ap (λ o. option_or o (option_map (λ (h : Bor Span). h.now) c.loop-node.behind)) (ap (find (ends_past page)) c.in-Some.ensures.spans ∙ past_right page n.left.spans n.hole n.right.spans c.if-node-page.true rising))
+          sym (ap (λ o. option_or o (option_map (λ (h : Bor Span). h.now) c.loop-node.behind)) (ap (find (ends_past page)) c.in-Some.ensures.spans ∙ past_right page n.left.spans n.hole n.right.spans (rw c.end.ensures at c.if-end-page.true) rising))
           ∙ c.loop-node.invariant.behind;
     }
 
@@ -33,9 +33,9 @@ loop-node-preserved c =
     record {
       rising = rising_left n.left.spans (n.hole ∷ n.right.spans) rising;
       before =
-          sym (ap (λ o. option_or o (option_map (λ (h : Bor Span). h.now) c.loop-node.before)) (ap (find_last (ends_by page)) c.in-Some.ensures.spans ∙ by_left page n.left.spans n.hole n.right.spans c.if-node-page.false rising))
+          sym (ap (λ o. option_or o (option_map (λ (h : Bor Span). h.now) c.loop-node.before)) (ap (find_last (ends_by page)) c.in-Some.ensures.spans ∙ by_left page n.left.spans n.hole n.right.spans (rw c.end.ensures at c.if-end-page.false) rising))
           ∙ c.loop-node.invariant.before;
       behind =
-          sym (ap (λ o. option_or o (option_map (λ (h : Bor Span). h.now) c.loop-node.behind)) (ap (find (ends_past page)) c.in-Some.ensures.spans ∙ past_left page n.left.spans n.hole n.right.spans c.if-node-page.false) ∙ or_some _ n.hole _)
+          sym (ap (λ o. option_or o (option_map (λ (h : Bor Span). h.now) c.loop-node.behind)) (ap (find (ends_past page)) c.in-Some.ensures.spans ∙ past_left page n.left.spans n.hole n.right.spans (rw c.end.ensures at c.if-end-page.false)) ∙ or_some _ n.hole _)
           ∙ c.loop-node.invariant.behind;
     }
