@@ -221,7 +221,7 @@ fn last_to(words: &[u64], first: usize, start: usize) -> Option<usize>
 
 impl Bits {
     /// The empty set of numbers below a length.
-    pub fn new(alloc: Global, numbers: usize) -> Result<Bits, NoMemory>
+    pub(crate) fn new(alloc: Global, numbers: usize) -> Result<Bits, NoMemory>
         requires some { 0 < numbers }
         requires small { numbers ≤ 2 ^ 32 }
         ensures { IfOk result (λ set. set ≡ replicate numbers false) }
@@ -238,7 +238,7 @@ impl Bits {
 
     /// A number is in the set.
     #[inline(always)]
-    pub fn has(&self, number: usize) -> bool
+    pub(crate) fn has(&self, number: usize) -> bool
         requires { number < length self.now }
         ensures { result ≡ has self.now number }
     {
@@ -247,7 +247,7 @@ impl Bits {
 
     /// Puts a number into the set.
     #[inline(always)]
-    pub fn set(&mut self, number: usize)
+    pub(crate) fn set(&mut self, number: usize)
         requires { number < length self.old }
         ensures { self.new ≡ slice_set self.old number true }
     {
@@ -256,7 +256,7 @@ impl Bits {
 
     /// Takes a number out of the set.
     #[inline(always)]
-    pub fn clear(&mut self, number: usize)
+    pub(crate) fn clear(&mut self, number: usize)
         requires { number < length self.old }
         ensures { self.new ≡ slice_set self.old number false }
     {
@@ -264,7 +264,7 @@ impl Bits {
     }
 
     /// The least number of the set that is not below a number.
-    pub fn from(&self, number: usize) -> Option<usize>
+    pub(crate) fn from(&self, number: usize) -> Option<usize>
         requires { number < length self.now }
         ensures some { IfSome result (λ m. IsFirstFrom self.now number m) }
         ensures none { IfNone result ((i : ℕ) → number ≤ i → has self.now i ≡ false) }
@@ -274,7 +274,7 @@ impl Bits {
     }
 
     /// The greatest number of the set that is not above a number.
-    pub fn down_from(&self, number: usize) -> Option<usize>
+    pub(crate) fn down_from(&self, number: usize) -> Option<usize>
         requires { number < length self.now }
         ensures some { IfSome result (λ m. IsLastTo self.now number m) }
         ensures none { IfNone result ((i : ℕ) → i ≤ number → has self.now i ≡ false) }

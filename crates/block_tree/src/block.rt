@@ -24,7 +24,7 @@ pub fn block_len(order: u32) -> u32
 impl Block {
     /// The other half of the block that has it.
     #[inline(always)]
-    pub fn beside(self) -> Block
+    pub(crate) fn beside(self) -> Block
         ensures order { result.order ≡ self.order }
         ensures number { result.number ≡ beside self.number }
     {
@@ -36,7 +36,7 @@ impl Block {
 
     /// The block of which it is a half.
     #[inline(always)]
-    pub fn above(self) -> Block
+    pub(crate) fn above(self) -> Block
         requires { self.order < 4294967295 }
         ensures order { result.order ≡ self.order + 1 }
         ensures number { result.number ≡ self.number / 2 }
@@ -49,7 +49,7 @@ impl Block {
 
     /// Its pages.
     #[inline(always)]
-    pub fn pages(self) -> Span
+    pub(crate) fn pages(self) -> Span
         requires order { self.order ≤ 31 }
         requires small { self.number * 2 ^ self.order + 2 ^ self.order ≤ 2 ^ 31 }
         ensures { result ≡ numbered self.order self.number }

@@ -29,7 +29,7 @@ pub struct Found {
 
 impl Request {
     /// The blocks below a size that it can take.
-    pub fn pieces(self, size: u32) -> Option<Pieces>
+    pub(crate) fn pieces(self, size: u32) -> Option<Pieces>
         requires { self.order ≤ 31 }
         ensures { PiecesOf self size result }
     {
@@ -55,7 +55,7 @@ impl Request {
 
 impl Pieces {
     /// The first of them that is in a free block.
-    pub fn first_in(self, free: Block, topdown: bool) -> Block
+    pub(crate) fn first_in(self, free: Block, topdown: bool) -> Block
         requires order { self.order ≤ free.order }
         requires small { free.order ≤ 31 }
         requires free { free.number * 2 ^ free.order + 2 ^ free.order ≤ 2 ^ 31 }

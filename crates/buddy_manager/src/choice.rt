@@ -112,7 +112,7 @@ fn contiguous(
 }
 
 /// Marks the pages of spans as held.
-pub fn take_spans(free: &mut FreeBlocks, spans: &[Span])
+pub(crate) fn take_spans(free: &mut FreeBlocks, spans: &[Span])
     requires { AreTaken (is_free free.old) (length free.old) spans.now }
     ensures { IsTakenBy free.old spans.now free.new }
 {
@@ -122,7 +122,7 @@ pub fn take_spans(free: &mut FreeBlocks, spans: &[Span])
 }
 
 /// Marks the pages of spans as free, of which none is.
-pub fn free_spans(free: &mut FreeBlocks, spans: &[Span])
+pub(crate) fn free_spans(free: &mut FreeBlocks, spans: &[Span])
     requires { AreGiven (is_free free.old) (length free.old) spans.now }
     ensures size { length free.new ≡ length free.old }
     ensures freed { (page : ℕ) → is_free free.new page ≡ (is_free free.old page || list_any (has_page page) spans.now) }
@@ -154,7 +154,7 @@ fn take_blocks(
 }
 
 /// Takes the blocks of the choice, in the order in which they are taken. After a refusal nothing is taken.
-pub fn take_choice(
+pub(crate) fn take_choice(
     free: &mut FreeBlocks,
     range: Span,
     flags: BuddyFlags,
@@ -180,7 +180,7 @@ pub fn take_choice(
 }
 
 /// The blocks of the choice, of which none stays taken.
-pub fn find_choice(
+pub(crate) fn find_choice(
     free: &mut FreeBlocks,
     range: Span,
     flags: BuddyFlags,

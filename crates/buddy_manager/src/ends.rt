@@ -7,7 +7,7 @@ ghost use Rattle.buddy_manager.specs.Taking.{AreTaken};
 use ttm_base::Span;
 
 /// Holds blocks, one after the other.
-pub fn hold(ends: &mut [u32], blocks: &[Span])
+pub(crate) fn hold(ends: &mut [u32], blocks: &[Span])
     requires { AreTaken (is_free_beside (held_from 0 ends.old)) (length ends.old) blocks.now }
     ensures len { length ends.new ≡ length ends.old }
     ensures held { held_from 0 ends.new ≡ with_blocks blocks.now (held_from 0 ends.old) }
@@ -18,7 +18,7 @@ pub fn hold(ends: &mut [u32], blocks: &[Span])
 }
 
 /// Holds blocks no more.
-pub fn let_go(ends: &mut [u32], blocks: &[Span])
+pub(crate) fn let_go(ends: &mut [u32], blocks: &[Span])
     requires { AreHeld blocks.now (held_from 0 ends.old) }
     ensures len { length ends.new ≡ length ends.old }
     ensures held { held_from 0 ends.new ≡ without_all blocks.now (held_from 0 ends.old) }
@@ -29,7 +29,7 @@ pub fn let_go(ends: &mut [u32], blocks: &[Span])
 }
 
 /// Holds the first pages of a block, and no longer the others.
-pub fn cut(ends: &mut [u32], block: Span, keep: u32)
+pub(crate) fn cut(ends: &mut [u32], block: Span, keep: u32)
     requires held { is_held block (held_from 0 ends.old) ≡ true }
     requires some { 1 ≤ keep }
     requires most { block.start + keep ≤ block.end }
@@ -40,7 +40,7 @@ pub fn cut(ends: &mut [u32], block: Span, keep: u32)
 }
 
 /// A block is held.
-pub fn is_held(ends: &[u32], block: Span) -> bool
+pub(crate) fn is_held(ends: &[u32], block: Span) -> bool
     ensures { result ≡ is_held block (held_from 0 ends.now) }
 {
     let at = block.start as usize;
@@ -48,7 +48,7 @@ pub fn is_held(ends: &[u32], block: Span) -> bool
 }
 
 /// Blocks are distinct, and each is held: they are let go one after the other, up to the first that isn't held, and put back.
-pub fn are_held(ends: &mut [u32], blocks: &[Span]) -> bool
+pub(crate) fn are_held(ends: &mut [u32], blocks: &[Span]) -> bool
     ensures value { result ≡ all_held blocks.now (held_from 0 ends.old) }
     ensures same { ends.new ≡ ends.old }
 {
@@ -85,7 +85,7 @@ fn put_back(ends: &mut [u32], blocks: &[Span])
 }
 
 /// How many pages blocks have.
-pub fn pages_of(blocks: &[Span]) -> u32
+pub(crate) fn pages_of(blocks: &[Span]) -> u32
     requires { pages_of blocks.now < 2 ^ 32 }
     ensures { result ≡ pages_of blocks.now }
 {

@@ -349,7 +349,7 @@ fn find_all(
 }
 
 /// Finds block after block, of which none stays marked.
-pub fn find_blocks(
+pub(crate) fn find_blocks(
     free: &mut FreeBlocks,
     range: Span,
     topdown: bool,

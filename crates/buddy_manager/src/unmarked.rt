@@ -50,7 +50,7 @@ fn behind(range: Span, topdown: bool, block: Span) -> Span
 }
 
 /// No block of an order lies across that end of a range from which blocks are taken.
-pub fn is_even(range: Span, topdown: bool, order: u32, size: u32) -> bool
+pub(crate) fn is_even(range: Span, topdown: bool, order: u32, size: u32) -> bool
     requires { order ≤ 31 }
     ensures { result ≡ true → IsEven topdown range size order }
 {
@@ -63,7 +63,7 @@ pub fn is_even(range: Span, topdown: bool, order: u32, size: u32) -> bool
 }
 
 /// The part of the range in which free blocks of an order are left.
-pub fn rest_of(rests: &[Span], order: u32) -> Span
+pub(crate) fn rest_of(rests: &[Span], order: u32) -> Span
     requires { order < length rests.now }
     ensures { result ≡ rest_of rests.now order }
 {
@@ -142,7 +142,7 @@ fn first_number(half: Half, topdown: bool, order: u32) -> u32
 }
 
 /// The first block of an order in a half.
-pub fn first_in(half: Half, topdown: bool, order: u32) -> Span
+pub(crate) fn first_in(half: Half, topdown: bool, order: u32) -> Span
     requires order { order < half.order }
     requires most { half.order ≤ 31 }
     requires numbers { half.number * 2 ^ half.order + 2 ^ half.order ≤ 2 ^ 31 }
@@ -192,7 +192,7 @@ fn note_free(
 }
 
 /// Notes that a block was found, or tells that what is left can't be known without marking it.
-pub fn note(
+pub(crate) fn note(
     rests: &mut [Span],
     half: &mut Option<Half>,
     topdown: bool,

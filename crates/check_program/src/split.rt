@@ -18,7 +18,7 @@ fn line_at(bytes: &[u8], place: usize) -> &[u8]
 }
 
 /// How many bytes the script has: those up to the first line that ends it, with that line, or all.
-pub fn len_of_script(bytes: &[u8]) -> usize
+pub(crate) fn len_of_script(bytes: &[u8]) -> usize
     ensures within { result ≤ length bytes.now }
     ensures script { take result bytes.now ≡ script_part bytes.now }
     ensures report { drop result bytes.now ≡ report_part bytes.now }

@@ -29,7 +29,7 @@ impl Model for Ring {
 
 impl Ring {
     /// No job.
-    pub fn new(alloc: Global) -> Ring
+    pub(crate) fn new(alloc: Global) -> Ring
         ensures { result ≡ [] }
     {
         Ring {
@@ -38,7 +38,7 @@ impl Ring {
     }
 
     /// Puts a job behind the others.
-    pub fn push(&mut self, job: RingJob) -> Result<(), NoMemory>
+    pub(crate) fn push(&mut self, job: RingJob) -> Result<(), NoMemory>
         ensures ok { OnOk result (self.new ≡ self.old ++ job ∷ []) }
         ensures err { OnErr result (self.new ≡ self.old) }
     {
@@ -47,14 +47,14 @@ impl Ring {
     }
 
     /// The first job.
-    pub fn first(&self) -> Option<&RingJob>
+    pub(crate) fn first(&self) -> Option<&RingJob>
         ensures { option_copied result ≡ slice_get self.now 0 }
     {
         self.jobs.front()
     }
 
     /// Runs the next packet of the first job, and gives its number.
-    pub fn run_next(&mut self, stores: &mut Stores, out: &mut ProbeBytes) -> u32
+    pub(crate) fn run_next(&mut self, stores: &mut Stores, out: &mut ProbeBytes) -> u32
         requires left { IsSome (option_and_then packet_of (slice_get self.old 0)) }
         requires can { (packet : Piece) → option_and_then packet_of (slice_get self.old 0) ≡ Some packet → CanRun stores.old packet }
         ensures number { option_map (λ pushed. pushed.ran) (slice_get self.old 0) ≡ Some result }
@@ -67,7 +67,7 @@ impl Ring {
     }
 
     /// Drops the first job.
-    pub fn drop_first(&mut self)
+    pub(crate) fn drop_first(&mut self)
         ensures { self.new ≡ drop 1 self.old }
     {
         self.jobs.pop_front();

@@ -43,7 +43,7 @@ impl Model for RingJob {
 
 impl RingJob {
     /// A job of which no packet has run.
-    pub fn new(job: JobId, waits: FenceSet, packets: Vec<Packet>) -> RingJob
+    pub(crate) fn new(job: JobId, waits: FenceSet, packets: Vec<Packet>) -> RingJob
         requires { length packets.items < 2 ^ 32 }
         ensures { result ≡ record { job = job; waits = waits; packets = packets.items; ran = 0 } }
     {
@@ -55,14 +55,14 @@ impl RingJob {
         }
     }
 
-    pub fn job(&self) -> JobId
+    pub(crate) fn job(&self) -> JobId
         ensures { result ≡ self.now.job }
     {
         self.job
     }
 
     /// The job that it waits for.
-    pub fn wait(&self, line: &Timeline) -> Option<JobId>
+    pub(crate) fn wait(&self, line: &Timeline) -> Option<JobId>
         requires { length self.now.waits ≡ length line.now }
         ensures { result ≡ wait_of line.now self.now }
     {
@@ -70,21 +70,21 @@ impl RingJob {
     }
 
     /// Its next packet, if one is left.
-    pub fn next(&self) -> Option<&Packet>
+    pub(crate) fn next(&self) -> Option<&Packet>
         ensures { option_copied result ≡ packet_of self.now }
     {
         self.packets.get(self.ran as usize)
     }
 
     /// How many of its packets have run.
-    pub fn ran(&self) -> u32
+    pub(crate) fn ran(&self) -> u32
         ensures { result ≡ self.now.ran }
     {
         self.ran
     }
 
     /// Runs its next packet, and gives its number.
-    pub fn run_next(&mut self, stores: &mut Stores, out: &mut ProbeBytes) -> u32
+    pub(crate) fn run_next(&mut self, stores: &mut Stores, out: &mut ProbeBytes) -> u32
         requires left { IsSome (packet_of self.old) }
         requires can { (packet : Piece) → packet_of self.old ≡ Some packet → CanRun stores.old packet }
         ensures number { result ≡ self.old.ran }

@@ -32,7 +32,7 @@ impl Model for Bitmap {
 
 impl Bitmap {
     /// So many numbers, each of them held.
-    pub fn all_held(alloc: Global, len: u32) -> Result<Bitmap, NoMemory>
+    pub(crate) fn all_held(alloc: Global, len: u32) -> Result<Bitmap, NoMemory>
         ensures { IfOk result (λ held. held ≡ replicate len true) }
     {
         let words_len = (len as usize).div_ceil(WORD);
@@ -49,7 +49,7 @@ impl Bitmap {
     }
 
     /// Says that a number is held, or that it is free.
-    pub fn set(&mut self, number: u32, held: bool)
+    pub(crate) fn set(&mut self, number: u32, held: bool)
         requires { number < length self.old }
         ensures { self.new ≡ slice_set self.old number held }
     {
@@ -63,7 +63,7 @@ impl Bitmap {
     }
 
     /// The lowest free number.
-    pub fn first(&self) -> Option<u32>
+    pub(crate) fn first(&self) -> Option<u32>
         ensures { result ≡ position not self.now }
     {
         let number = first_bit(&self.numbers, &self.words, &self.groups)?;

@@ -8,7 +8,7 @@ use std::alloc::{AllocError, Global};
 pub const WORD: usize = 64;
 
 /// So many words with no bit.
-pub fn zero_words(alloc: Global, len: usize) -> Result<Vec<u64>, AllocError>
+pub(crate) fn zero_words(alloc: Global, len: usize) -> Result<Vec<u64>, AllocError>
     ensures { IfOk result (λ words. words.items ≡ replicate len 0) }
 {
     vec![in alloc; 0; len]
@@ -25,7 +25,7 @@ fn with_bit(word: u64, bit: usize, on: bool) -> u64
 }
 
 /// Sets or clears the bit of a number.
-pub fn put(words: &mut [u64], number: usize, on: bool)
+pub(crate) fn put(words: &mut [u64], number: usize, on: bool)
     requires { number / 64 < length words.old }
     ensures bits { (i : ℕ) → has_bit words.new i ≡ (if i == number then on else has_bit words.old i) }
     ensures others { (w : ℕ) → w ≢ number / 64 → slice_index words.new w ≡ slice_index words.old w }
@@ -35,14 +35,14 @@ pub fn put(words: &mut [u64], number: usize, on: bool)
 }
 
 /// The first word that has a bit.
-pub fn first_word(words: &[u64]) -> Option<usize>
+pub(crate) fn first_word(words: &[u64]) -> Option<usize>
     ensures { result ≡ position (λ w. not (w == 0)) words.now }
 {
     words.iter().position(|w| *w != 0)
 }
 
 /// The lowest number whose bit is set, which is in this word.
-pub fn lowest(words: &[u64], at: usize) -> usize
+pub(crate) fn lowest(words: &[u64], at: usize) -> usize
     requires first { IsFirstWord words.now at }
     requires small { at < 2 ^ 32 }
     ensures lowest { IsLowest words.now result }
@@ -52,7 +52,7 @@ pub fn lowest(words: &[u64], at: usize) -> usize
 }
 
 /// Sets or clears the bit of a number, and tells it to both summaries.
-pub fn set_bit(numbers: &mut [u64], words: &mut [u64], groups: &mut [u64], number: usize, on: bool)
+pub(crate) fn set_bit(numbers: &mut [u64], words: &mut [u64], groups: &mut [u64], number: usize, on: bool)
     requires number { number / 64 < length numbers.old }
     requires word { number / 64 / 64 < length words.old }
     requires group { number / 64 / 64 / 64 < length groups.old }
@@ -70,7 +70,7 @@ pub fn set_bit(numbers: &mut [u64], words: &mut [u64], groups: &mut [u64], numbe
 }
 
 /// The lowest number whose bit is set.
-pub fn first_bit(numbers: &[u64], words: &[u64], groups: &[u64]) -> Option<usize>
+pub(crate) fn first_bit(numbers: &[u64], words: &[u64], groups: &[u64]) -> Option<usize>
     requires words_sum { IsSummary numbers.now words.now }
     requires groups_sum { IsSummary words.now groups.now }
     requires small_numbers { length numbers.now < 2 ^ 32 }

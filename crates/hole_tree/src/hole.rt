@@ -31,7 +31,7 @@ impl Model for Hole {
 }
 
 impl Hole {
-    pub fn of(span: Span) -> Hole
+    pub(crate) fn of(span: Span) -> Hole
         ensures { result ≡ span }
     {
         Hole {
@@ -41,7 +41,7 @@ impl Hole {
         }
     }
 
-    pub fn span(self) -> Span
+    pub(crate) fn span(self) -> Span
         ensures { result ≡ self }
     {
         Span {
@@ -50,26 +50,26 @@ impl Hole {
         }
     }
 
-    pub fn start(self) -> u32
+    pub(crate) fn start(self) -> u32
         ensures { result ≡ self.start }
     {
         self.start
     }
 
-    pub fn end(self) -> u32
+    pub(crate) fn end(self) -> u32
         ensures { result ≡ self.end }
     {
         self.end
     }
 
-    pub fn pages(self) -> u32
+    pub(crate) fn pages(self) -> u32
         ensures { result ≡ length_of self }
     {
         self.pages
     }
 
     /// Its place by length, and by start among equals, in one number: one comparison tells which of two stands first.
-    pub fn rank(self) -> u64
+    pub(crate) fn rank(self) -> u64
         ensures { result ≡ length_of self * 2 ^ 32 + self.start }
     {
         self.pages as u64 * 0x1_0000_0000 + self.start as u64

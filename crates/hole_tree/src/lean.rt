@@ -12,7 +12,7 @@ pub enum Lean {
 impl Lean {
     /// How two nodes lean that take over the sides of one that leans so: each has one of them beside a side as high as
     /// the higher one.
-    pub fn parted(self) -> (Lean, Lean)
+    pub(crate) fn parted(self) -> (Lean, Lean)
         ensures first { (l r : ℕ) → Leans self l r → Leans result.0 (max l r) l }
         ensures second { (l r : ℕ) → Leans self l r → Leans result.1 r (max l r) }
     {

@@ -73,7 +73,7 @@ impl Model for Lengths {
 
 impl Lengths {
     /// No hole.
-    pub fn new() -> Lengths
+    pub(crate) fn new() -> Lengths
         ensures { result ≡ no_shape }
     {
         Lengths { top: Link::Empty }
@@ -81,7 +81,7 @@ impl Lengths {
 
     /// That it is balanced bounds its levels. Nothing is computed.
     #[tactic(auto, using(crate::proofs::Leaned::low_link))]
-    pub fn balanced(&self)
+    pub(crate) fn balanced(&self)
         ensures { IsLow self.now }
     {
         let _ = &self.top;
@@ -124,7 +124,7 @@ impl Lengths {
 
     /// Puts a node into its place, and says whether the tree has grown by a level.
     #[tactic(auto, using(crate::proofs::Leaned::low_entry))]
-    pub fn insert(&mut self, fresh: Box<Entry>) -> bool
+    pub(crate) fn insert(&mut self, fresh: Box<Entry>) -> bool
         requires sorted { IsSorted ByLength self.old.spans }
         requires blank { IsBlank fresh.value }
         ensures spans { self.new.spans ≡ placed ByLength fresh.value.hole self.old.spans }
@@ -148,7 +148,7 @@ impl Lengths {
 
     /// Takes out the node of a hole.
     #[tactic(auto, using(crate::proofs::Leaned::low_entry))]
-    pub fn take(&mut self, sought: &Hole) -> Taken
+    pub(crate) fn take(&mut self, sought: &Hole) -> Taken
         requires sorted { IsSorted ByLength self.old.spans }
         requires held { IsSome (find (ties ByLength sought.now) self.old.spans) }
         ensures found { find (ties ByLength sought.now) self.old.spans ≡ Some result.entry.value.hole }
@@ -239,7 +239,7 @@ impl Lengths {
 /// Searches. A step is a node that is opened.
 impl Lengths {
     /// The first hole that fits (Best and Low fit alike). Mostly it is the first that is long enough.
-    pub fn first<L: Ledger>(&self, request: Request, steps: &mut Steps<L>) -> Option<&Hole>
+    pub(crate) fn first<L: Ledger>(&self, request: Request, steps: &mut Steps<L>) -> Option<&Hole>
         requires sorted { IsSorted ByLength self.now.spans }
         requires align { 1 ≤ request.align }
         ensures found { option_map (λ hole. hole.now) result ≡ find (fits Low request) self.now.spans }
@@ -326,7 +326,7 @@ impl Lengths {
 
 impl Entry {
     /// A node for a hole to come.
-    pub fn blank() -> Entry
+    pub(crate) fn blank() -> Entry
         ensures { IsBlank result }
     {
         Entry {

@@ -15,7 +15,7 @@ pub enum Order {
 
 impl Order {
     /// The first hole stands before the second.
-    pub fn is_before(self, first: Hole, second: Hole) -> bool
+    pub(crate) fn is_before(self, first: Hole, second: Hole) -> bool
         ensures { result ≡ before self first second }
     {
         match self {

@@ -16,7 +16,7 @@ pub struct Request {
 }
 
 impl Request {
-    pub fn fits(self, mode: Mode, hole: Hole) -> bool
+    pub(crate) fn fits(self, mode: Mode, hole: Hole) -> bool
         requires { 1 ≤ self.align }
         ensures { result ≡ fits mode self hole }
     {
@@ -35,14 +35,14 @@ impl Request {
     }
 
     /// Some hole before the one at a root may fit, where the longest of them is so long.
-    pub fn reaches_left(self, longest: u32, root: Hole) -> bool
+    pub(crate) fn reaches_left(self, longest: u32, root: Hole) -> bool
         ensures { result ≡ reaches_left self longest root }
     {
         self.pages <= longest && self.first < root.start()
     }
 
     /// Some hole after it may.
-    pub fn reaches_right(self, longest: u32, root: Hole) -> bool
+    pub(crate) fn reaches_right(self, longest: u32, root: Hole) -> bool
         ensures { result ≡ reaches_right self longest root }
     {
         self.pages <= longest && root.end() < self.last

@@ -16,7 +16,7 @@ use ttm_base::Mode;
 
 impl Tree {
     /// The lowest hole that fits. Mostly it is the first that is long enough.
-    pub fn first<L: Ledger>(&self, request: Request, steps: &mut Steps<L>) -> Option<&Hole>
+    pub(crate) fn first<L: Ledger>(&self, request: Request, steps: &mut Steps<L>) -> Option<&Hole>
         requires rising { IsRising self.now.spans }
         requires align { 1 ≤ request.align }
         ensures found { option_map (λ hole. hole.now) result ≡ find (fits Low request) self.now.spans }
@@ -37,7 +37,7 @@ impl Tree {
     }
 
     /// The highest hole that fits. Mostly it is the last that is long enough.
-    pub fn highest<L: Ledger>(&self, request: Request, steps: &mut Steps<L>) -> Option<&Hole>
+    pub(crate) fn highest<L: Ledger>(&self, request: Request, steps: &mut Steps<L>) -> Option<&Hole>
         requires rising { IsRising self.now.spans }
         requires align { 1 ≤ request.align }
         ensures found { option_map (λ hole. hole.now) result ≡ find_last (fits High request) self.now.spans }
@@ -55,7 +55,7 @@ impl Tree {
     }
 
     /// The last hole that ends at a page or below it, and the first that ends past it.
-    pub fn beside(&self, page: u32) -> (Option<&Hole>, Option<&Hole>)
+    pub(crate) fn beside(&self, page: u32) -> (Option<&Hole>, Option<&Hole>)
         requires rising { IsRising self.now.spans }
         ensures before { option_map (λ hole. hole.now) result.0 ≡ find_last (ends_by page) self.now.spans }
         ensures behind { option_map (λ hole. hole.now) result.1 ≡ find (ends_past page) self.now.spans }

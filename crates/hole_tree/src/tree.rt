@@ -78,7 +78,7 @@ impl Model for Tree {
 
 impl Tree {
     /// No hole.
-    pub fn new() -> Tree
+    pub(crate) fn new() -> Tree
         ensures { result ≡ no_shape }
     {
         Tree { top: Top::Empty }
@@ -86,7 +86,7 @@ impl Tree {
 
     /// That it is balanced bounds its levels. Nothing is computed.
     #[tactic(auto, using(crate::proofs::Sides::low_top))]
-    pub fn balanced(&self)
+    pub(crate) fn balanced(&self)
         ensures { IsLow self.now }
     {
         let _ = &self.top;
@@ -146,7 +146,7 @@ impl Tree {
     }
 
     /// The node at the root. Searches for a request open nodes here alone: this is the step that is counted.
-    pub fn open<L: Ledger>(&self, steps: &mut Steps<L>) -> Option<&Node>
+    pub(crate) fn open<L: Ledger>(&self, steps: &mut Steps<L>) -> Option<&Node>
         ensures none { IfNone result (self.now.spans ≡ []) }
         ensures shape { IfSome result (λ n. self.now ≡ shape_of_node n.now) }
         ensures sound { IfSome result (λ n. IsSound n.now) }
@@ -176,7 +176,7 @@ impl Tree {
 
     /// Puts a node into its place, and says whether the tree has grown by a level.
     #[tactic(auto, using(crate::proofs::Sides::low_root, crate::proofs::LongestNode::longest_placed))]
-    pub fn insert(&mut self, fresh: Box<Node>) -> bool
+    pub(crate) fn insert(&mut self, fresh: Box<Node>) -> bool
         requires sorted { IsSorted ByStart self.old.spans }
         requires blank { IsBlankNode fresh.value }
         ensures spans { self.new.spans ≡ placed ByStart fresh.value.hole self.old.spans }
@@ -202,7 +202,7 @@ impl Tree {
 
     /// Takes out the node of the hole that ties with the one that is sought.
     #[tactic(auto, using(crate::proofs::Sides::low_root, crate::proofs::LongestNode::longest_untied))]
-    pub fn take(&mut self, sought: &Hole) -> Taken
+    pub(crate) fn take(&mut self, sought: &Hole) -> Taken
         requires sorted { IsSorted ByStart self.old.spans }
         requires held { IsSome (find (ties ByStart sought.now) self.old.spans) }
         ensures found { find (ties ByStart sought.now) self.old.spans ≡ Some result.node.value.hole }
@@ -303,7 +303,7 @@ impl Tree {
     }
 
     /// Puts another hole in the place of one.
-    pub fn resize(&mut self, from: &Hole, to: &Hole)
+    pub(crate) fn resize(&mut self, from: &Hole, to: &Hole)
         requires rising { IsRising self.old.spans }
         requires held { find (starts_at from.now.start) self.old.spans ≡ Some from.now }
         ensures spans { self.new.spans ≡ replaced from.now.start to.now self.old.spans }
@@ -326,7 +326,7 @@ impl Tree {
     }
 
     /// The node at the root, for a search that isn't counted.
-    pub fn root(&self) -> Option<&Node>
+    pub(crate) fn root(&self) -> Option<&Node>
         ensures none { IfNone result (self.now.spans ≡ []) }
         ensures spans { IfSome result (λ n. self.now.spans ≡ spans_of n.now) }
     {
@@ -337,7 +337,7 @@ impl Tree {
     }
 
     /// The hole that has a page.
-    pub fn around(&self, page: u32) -> Option<&Hole>
+    pub(crate) fn around(&self, page: u32) -> Option<&Hole>
         requires rising { IsRising self.now.spans }
         ensures { option_map (λ hole. hole.now) result ≡ find (has_page page) self.now.spans }
     {
@@ -356,7 +356,7 @@ impl Tree {
 
 impl Node {
     /// A node for a hole to come.
-    pub fn blank() -> Node
+    pub(crate) fn blank() -> Node
         ensures { IsBlankNode result }
     {
         Node {

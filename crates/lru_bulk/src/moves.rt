@@ -13,7 +13,7 @@ impl Rings {
     ghost use Rattle.lru_bulk.specs.Sound.{listings_of, lists_of, IsWhole};
 
     /// Gives a buffer a node that stands on no list.
-    pub fn put(&mut self, b: BufId, listing: Listing) -> Result<(), NoMemory>
+    pub(crate) fn put(&mut self, b: BufId, listing: Listing) -> Result<(), NoMemory>
         requires sound { IsWhole self.old None }
         requires known { b.0 < length (listings_of self.old) }
         requires absent { listing_in (listings_of self.old) b ≡ None }
@@ -37,7 +37,7 @@ impl Rings {
     }
 
     /// Takes the node of a buffer that stands on no list away.
-    pub fn take(&mut self, b: BufId)
+    pub(crate) fn take(&mut self, b: BufId)
         requires sound { IsWhole self.old (Some b) }
         requires listed { IsSome (listing_in (listings_of self.old) b) }
         ensures sound { IsWhole self.new None }
@@ -49,7 +49,7 @@ impl Rings {
     }
 
     /// Lists a buffer that stands on no list for another memory type.
-    pub fn set_mem(&mut self, b: BufId, mem: Mem)
+    pub(crate) fn set_mem(&mut self, b: BufId, mem: Mem)
         requires sound { IsWhole self.old (Some b) }
         requires listed { IsSome (listing_in (listings_of self.old) b) }
         ensures sound { IsWhole self.new (Some b) }
@@ -72,7 +72,7 @@ impl Rings {
     ghost use Rattle.lru_bulk.specs.Sound.{next_at, listings_of, lists_of, range_at, IsWhole};
 
     /// Takes a buffer off its list, and keeps its node. Two links are written.
-    pub fn leave<L: Ledger>(&mut self, b: BufId, steps: &mut Steps<L>)
+    pub(crate) fn leave<L: Ledger>(&mut self, b: BufId, steps: &mut Steps<L>)
         requires sound { IsWhole self.old None }
         requires listed { IsSome (listing_in (listings_of self.old) b) }
         ensures sound { IsWhole self.new (Some b) }
@@ -87,7 +87,7 @@ impl Rings {
     }
 
     /// Places a buffer that stands on no list. Four links are written.
-    pub fn join<L: Ledger>(&mut self, b: BufId, steps: &mut Steps<L>)
+    pub(crate) fn join<L: Ledger>(&mut self, b: BufId, steps: &mut Steps<L>)
         requires sound { IsWhole self.old (Some b) }
         requires listed { IsSome (listing_in (listings_of self.old) b) }
         ensures sound { IsWhole self.new None }
@@ -158,7 +158,7 @@ impl Rings {
     }
 
     /// Splices the range of a group, if it has one, to the end of a list. Six links are written at most.
-    pub fn splice<L: Ledger>(&mut self, group: u32, list: usize, steps: &mut Steps<L>)
+    pub(crate) fn splice<L: Ledger>(&mut self, group: u32, list: usize, steps: &mut Steps<L>)
         requires sound { IsWhole self.old None }
         requires group { group < self.old.groups }
         requires list { list < 12 }
@@ -176,7 +176,7 @@ impl Rings {
     }
 
     /// Makes each list its members of a group behind the others.
-    pub fn splice_all<L: Ledger>(&mut self, group: u32, steps: &mut Steps<L>)
+    pub(crate) fn splice_all<L: Ledger>(&mut self, group: u32, steps: &mut Steps<L>)
         requires sound { IsWhole self.old None }
         requires group { group < self.old.groups }
         ensures sound { IsWhole self.new None }
@@ -197,7 +197,7 @@ impl Rings {
     ghost use Rattle.lru_bulk.specs.Sound.{order_of, IsWhole};
 
     /// Lists a buffer, and places it.
-    pub fn enlist<L: Ledger>(
+    pub(crate) fn enlist<L: Ledger>(
         &mut self,
         b: BufId,
         listing: Listing,
@@ -222,7 +222,7 @@ impl Rings {
     }
 
     /// Takes a buffer off its list, and its node away.
-    pub fn delist<L: Ledger>(&mut self, b: BufId, blank: Blank)
+    pub(crate) fn delist<L: Ledger>(&mut self, b: BufId, blank: Blank)
         requires name { blank.name ≡ L.name }
         requires parts { blank.parts ≡ L.parts }
         requires one_part { blank.parts ≡ 1 }
@@ -237,7 +237,7 @@ impl Rings {
     }
 
     /// Takes a buffer off its list and places it on it anew.
-    pub fn replace<L: Ledger>(&mut self, b: BufId, blank: Blank)
+    pub(crate) fn replace<L: Ledger>(&mut self, b: BufId, blank: Blank)
         requires name { blank.name ≡ L.name }
         requires parts { blank.parts ≡ L.parts }
         requires one_part { blank.parts ≡ 1 }
@@ -252,7 +252,7 @@ impl Rings {
     }
 
     /// Takes a buffer off its list and places it on that of another memory type.
-    pub fn rehome<L: Ledger>(&mut self, b: BufId, mem: Mem, blank: Blank)
+    pub(crate) fn rehome<L: Ledger>(&mut self, b: BufId, mem: Mem, blank: Blank)
         requires name { blank.name ≡ L.name }
         requires parts { blank.parts ≡ L.parts }
         requires one_part { blank.parts ≡ 1 }
@@ -268,7 +268,7 @@ impl Rings {
     }
 
     /// Makes each list its members of a group behind the others, uncounted.
-    pub fn splice_uncounted<L: Ledger>(&mut self, group: u32, blank: Blank)
+    pub(crate) fn splice_uncounted<L: Ledger>(&mut self, group: u32, blank: Blank)
         requires name { blank.name ≡ L.name }
         requires parts { blank.parts ≡ L.parts }
         requires one_part { blank.parts ≡ 1 }
@@ -288,7 +288,7 @@ impl Rings {
     ghost use Rattle.lru_bulk.specs.Sound.{order_of, IsWhole};
 
     /// The first buffer of a list.
-    pub fn first(&self, mem: Mem, prio: u32) -> Option<BufId>
+    pub(crate) fn first(&self, mem: Mem, prio: u32) -> Option<BufId>
         requires sound { IsWhole self.now None }
         requires prio { prio < 4 }
         ensures { result ≡ slice_get (list_at (order_of self.now).lists (number mem prio)) 0 }
@@ -303,7 +303,7 @@ impl Rings {
     }
 
     /// The buffer behind another in its list.
-    pub fn next(&self, b: BufId) -> Option<BufId>
+    pub(crate) fn next(&self, b: BufId) -> Option<BufId>
         requires sound { IsWhole self.now None }
         requires listed { IsSome (listing_of (order_of self.now) b) }
         ensures { result ≡ behind b (list_of (order_of self.now) b) }

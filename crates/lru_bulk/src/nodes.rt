@@ -56,7 +56,7 @@ impl Model for Nodes {
 }
 
 /// So many items that are one.
-pub fn repeated<T: Copy + Drop>(
+pub(crate) fn repeated<T: Copy + Drop>(
     alloc: Global,
     count: usize,
     item: T,
@@ -80,7 +80,7 @@ fn key_of(keys: &ItemList<Option<usize>>, b: BufId) -> usize
 
 impl Nodes {
     /// No buffer of so many has a node.
-    pub fn new(alloc: Global, buffers: u32) -> Result<Nodes, NoMemory>
+    pub(crate) fn new(alloc: Global, buffers: u32) -> Result<Nodes, NoMemory>
         ensures { IfOk result (λ nodes. nodes ≡ replicate buffers None) }
     {
         let keys = repeated(alloc, buffers as usize, None)?;
@@ -91,7 +91,7 @@ impl Nodes {
     }
 
     /// Gives a buffer a node.
-    pub fn put(&mut self, b: BufId, node: Node) -> Result<(), NoMemory>
+    pub(crate) fn put(&mut self, b: BufId, node: Node) -> Result<(), NoMemory>
         requires known { b.0 < length self.old }
         requires absent { slice_index_or self.old b.0 None ≡ None }
         ensures ok { OnOk result (self.new ≡ slice_set self.old b.0 (Some node)) }
@@ -103,7 +103,7 @@ impl Nodes {
     }
 
     /// Takes the node of a buffer away.
-    pub fn take(&mut self, b: BufId)
+    pub(crate) fn take(&mut self, b: BufId)
         requires { IsSome (slice_index_or self.old b.0 None) }
         ensures { self.new ≡ slice_set self.old b.0 None }
     {
@@ -113,21 +113,21 @@ impl Nodes {
     }
 
     /// How many buffers there are.
-    pub fn len(&self) -> usize
+    pub(crate) fn len(&self) -> usize
         ensures { result ≡ length self.now }
     {
         self.keys.len()
     }
 
     /// Whether a buffer has a node.
-    pub fn has(&self, b: BufId) -> bool
+    pub(crate) fn has(&self, b: BufId) -> bool
         ensures { IsTrue result ↔ IsSome (slice_index_or self.now b.0 None) }
     {
         (b.0 as usize) < self.keys.len() && self.keys.at(b.0 as usize).is_some()
     }
 
     /// The node of a buffer.
-    pub fn at(&self, b: BufId) -> Node
+    pub(crate) fn at(&self, b: BufId) -> Node
         requires { IsSome (slice_index_or self.now b.0 None) }
         ensures { slice_index_or self.now b.0 None ≡ Some result }
     {
@@ -135,7 +135,7 @@ impl Nodes {
     }
 
     /// Puts another node in the place of a buffer's.
-    pub fn set(&mut self, b: BufId, node: Node)
+    pub(crate) fn set(&mut self, b: BufId, node: Node)
         requires { IsSome (slice_index_or self.old b.0 None) }
         ensures { self.new ≡ slice_set self.old b.0 (Some node) }
     {

@@ -50,7 +50,7 @@ fn number_of_mem(mem: Mem) -> usize
 }
 
 /// The number of a listing's list among the twelve.
-pub fn list_number(listing: Listing) -> usize
+pub(crate) fn list_number(listing: Listing) -> usize
     requires { listing.prio < 4 }
     ensures number { result ≡ number_of listing }
     ensures below { result < 12 }
@@ -69,7 +69,7 @@ fn buffer_of(spot: Spot, b: BufId) -> BufId
 }
 
 /// The buffer of a spot, if it isn't an end.
-pub fn buffer_in(spot: Spot) -> Option<BufId>
+pub(crate) fn buffer_in(spot: Spot) -> Option<BufId>
     ensures { result ≡ words.buffer_in spot }
 {
     match spot {
@@ -141,7 +141,7 @@ impl Rings {
     ghost use Rattle.lru_bulk.specs.Relinks.{IsSpot, SameRest, Tied, led};
 
     /// Rings with no node, for so many buffers and groups.
-    pub fn new(alloc: Global, buffers: u32, groups: u32) -> Result<Rings, NoMemory>
+    pub(crate) fn new(alloc: Global, buffers: u32, groups: u32) -> Result<Rings, NoMemory>
         ensures sound { IfOk result (λ rings. IsWhole rings None) }
         ensures order { IfOk result (λ rings. order_of rings ≡ nothing_listed buffers groups) }
     {
@@ -158,7 +158,7 @@ impl Rings {
 
     /// The links of a spot. A walk knows which kind of spot it asks for: inside it the other kind goes away.
     #[inline(always)]
-    pub fn links(&self, spot: Spot) -> Links
+    pub(crate) fn links(&self, spot: Spot) -> Links
         requires { IsSpot self.now spot }
         ensures { result ≡ links_at self.now spot }
     {
@@ -202,7 +202,7 @@ impl Rings {
     }
 
     // Leads one spot to another, and that one back.
-    pub fn tie<L: Ledger>(&mut self, left: Spot, right: Spot, steps: &mut Steps<L>)
+    pub(crate) fn tie<L: Ledger>(&mut self, left: Spot, right: Spot, steps: &mut Steps<L>)
         requires left { IsSpot self.old left }
         requires right { IsSpot self.old right }
         ensures tied { Tied (next_at self.old) (prev_at self.old) (next_at self.new) (prev_at self.new) left right }
@@ -214,7 +214,7 @@ impl Rings {
     }
 
     // The range of a group in a list.
-    pub fn range(&self, group: Option<u32>, list: usize) -> Option<Range>
+    pub(crate) fn range(&self, group: Option<u32>, list: usize) -> Option<Range>
         requires group { IsGroup self.now.groups group }
         requires list { list < 12 }
         requires room { length self.now.ranges ≡ 12 * self.now.groups }
@@ -227,7 +227,7 @@ impl Rings {
     }
 
     // The range of a group after `b`, which had these links, has left it.
-    pub fn narrow(&mut self, listing: Listing, b: BufId, links: Links)
+    pub(crate) fn narrow(&mut self, listing: Listing, b: BufId, links: Links)
         requires prio { listing.prio < 4 }
         requires group { IsGroup self.old.groups listing.group }
         requires room { length self.old.ranges ≡ 12 * self.old.groups }
@@ -241,7 +241,7 @@ impl Rings {
     }
 
     // The range of a group after `b` has joined it.
-    pub fn widen(&mut self, listing: Listing, b: BufId)
+    pub(crate) fn widen(&mut self, listing: Listing, b: BufId)
         requires prio { listing.prio < 4 }
         requires group { IsGroup self.old.groups listing.group }
         requires room { length self.old.ranges ≡ 12 * self.old.groups }
@@ -255,7 +255,7 @@ impl Rings {
     }
 
     // The spot behind which one more of the group stands: its last member's, or that of the list's last node.
-    pub fn spot_before(&self, group: Option<u32>, list: usize) -> Spot
+    pub(crate) fn spot_before(&self, group: Option<u32>, list: usize) -> Spot
         requires group { IsGroup self.now.groups group }
         requires list { list < 12 }
         requires room { length self.now.ranges ≡ 12 * self.now.groups }

@@ -8,7 +8,7 @@ use std::alloc::Global;
 use ttm_base::{NoMemory, Span, Spans};
 
 /// Puts a free page behind all holes so far: it widens the last one that it touches, or is a new one.
-pub fn add_page(holes: &mut Spans, page: u32) -> Result<(), NoMemory>
+pub(crate) fn add_page(holes: &mut Spans, page: u32) -> Result<(), NoMemory>
     requires { page + 1 < 2 ^ 32 }
     ensures { OnOk result (holes.new ≡ with_page page holes.old) }
 {

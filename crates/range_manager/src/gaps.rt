@@ -10,7 +10,7 @@ use std::alloc::Global;
 use ttm_base::{NoMemory, Span};
 
 /// All pages are one hole, if there are any.
-pub fn whole(alloc: Global, pages: u32) -> Result<Holes, NoMemory>
+pub(crate) fn whole(alloc: Global, pages: u32) -> Result<Holes, NoMemory>
     ensures spaced { IfOk result (λ holes. IsSpaced 1 holes.holes) }
     ensures pages { IfOk result (λ holes. (page : ℕ) → list_any (has_page page) holes.holes ≡ nat_lt page pages) }
 {
@@ -27,7 +27,7 @@ pub fn whole(alloc: Global, pages: u32) -> Result<Holes, NoMemory>
 }
 
 /// Makes room for the holes that come when a span is held beside others, and when all are let go.
-pub fn make_room(holes: &mut Holes, held: u32) -> Result<(), NoMemory>
+pub(crate) fn make_room(holes: &mut Holes, held: u32) -> Result<(), NoMemory>
     ensures holes { holes.new.holes ≡ holes.old.holes }
     ensures room { OnOk result (held + 2 ≤ holes.new.spare) }
     ensures kept { holes.old.spare ≤ holes.new.spare }
@@ -40,7 +40,7 @@ pub fn make_room(holes: &mut Holes, held: u32) -> Result<(), NoMemory>
 }
 
 /// The hole that has a page.
-pub fn around(holes: &Holes, page: u32) -> Option<Span>
+pub(crate) fn around(holes: &Holes, page: u32) -> Option<Span>
     requires spaced { IsSpaced 1 holes.now.holes }
     ensures hole { IfSome result (λ hole. find (starts_at hole.start) holes.now.holes ≡ Some hole) }
     ensures page { IfSome result (λ hole. has_page page hole ≡ true) }
@@ -50,7 +50,7 @@ pub fn around(holes: &Holes, page: u32) -> Option<Span>
 }
 
 /// Takes pages of a hole: what is left of it on both sides are holes.
-pub fn take(holes: &mut Holes, hole: Span, taken: Span)
+pub(crate) fn take(holes: &mut Holes, hole: Span, taken: Span)
     requires spaced { IsSpaced 1 holes.old.holes }
     requires hole { find (starts_at hole.start) holes.old.holes ≡ Some hole }
     requires some { taken.start < taken.end }
@@ -82,7 +82,7 @@ pub fn take(holes: &mut Holes, hole: Span, taken: Span)
 }
 
 /// Gives pages back: they are a hole, together with the holes that they touch.
-pub fn give(holes: &mut Holes, pages: Span)
+pub(crate) fn give(holes: &mut Holes, pages: Span)
     requires spaced { IsSpaced 1 holes.old.holes }
     requires some { pages.start < pages.end }
     requires clear { IsClear 0 pages holes.old.holes }

@@ -56,7 +56,7 @@ fn pages_if(kind: OwnerKind, holding: &Holding) -> u32
 }
 
 /// How many pages the owners of a kind hold.
-pub fn pages_by(held: &[Holding], kind: OwnerKind) -> u32
+pub(crate) fn pages_by(held: &[Holding], kind: OwnerKind) -> u32
     requires { words.pages_by kind held.now < 2 ^ 32 }
     ensures { result ≡ words.pages_by kind held.now }
 {

@@ -120,7 +120,7 @@ fn place_all(places: &mut HashMap<OwnerKey, usize>, held: &[Holding])
 
 impl Holdings {
     /// No holdings.
-    pub fn new(alloc: Global) -> Holdings
+    pub(crate) fn new(alloc: Global) -> Holdings
         ensures { result ≡ [] }
     {
         Holdings {
@@ -130,21 +130,21 @@ impl Holdings {
     }
 
     /// The holdings, in the order of their places.
-    pub fn items(&self) -> &[Holding]
+    pub(crate) fn items(&self) -> &[Holding]
         ensures { result.now ≡ self.now }
     {
         self.held.as_slice()
     }
 
     /// The owner has a holding.
-    pub fn holds(&self, owner: Owner) -> bool
+    pub(crate) fn holds(&self, owner: Owner) -> bool
         ensures { result ≡ words.holds owner self.now }
     {
         place_of(&self.places, owner).is_some()
     }
 
     /// The spans of an owner.
-    pub fn spans_of(&self, owner: Owner) -> Option<&Spans>
+    pub(crate) fn spans_of(&self, owner: Owner) -> Option<&Spans>
         ensures { option_copied result ≡ words.kept_by owner self.now }
     {
         let at = place_of(&self.places, owner)?;
@@ -152,7 +152,7 @@ impl Holdings {
     }
 
     /// Adds a holding at the end. After a refusal nothing is changed.
-    pub fn add(&mut self, owner: Owner, spans: Spans) -> Result<(), NoMemory>
+    pub(crate) fn add(&mut self, owner: Owner, spans: Spans) -> Result<(), NoMemory>
         requires { words.holds owner self.old ≡ false }
         ensures ok { OnOk result (self.new ≡ self.old ++ record { owner = owner; spans = spans } ∷ []) }
         ensures err { OnErr result (self.new ≡ self.old) }
@@ -165,7 +165,7 @@ impl Holdings {
     }
 
     /// Makes the holding of an owner another's, in its place. It takes no memory.
-    pub fn rename(&mut self, from: Owner, to: Owner)
+    pub(crate) fn rename(&mut self, from: Owner, to: Owner)
         requires from { words.holds from self.old ≡ true }
         requires to { words.holds to self.old ≡ false }
         ensures { self.new ≡ words.renamed from to self.old }
@@ -183,7 +183,7 @@ impl Holdings {
     }
 
     /// Takes the holding of an owner out, and lends its spans. The last holding fills its place. It takes no memory.
-    pub fn remove(&mut self, owner: Owner) -> Spans
+    pub(crate) fn remove(&mut self, owner: Owner) -> Spans
         requires { words.holds owner self.old ≡ true }
         ensures left { self.new ≡ words.without_owner owner self.old }
         ensures spans { (weight : Span → ℕ) → total weight (words.all_spans self.old) ≡ total weight result + total weight (words.all_spans self.new) }

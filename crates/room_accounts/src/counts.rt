@@ -74,7 +74,7 @@ fn count_in(what: Holding, bo: &Bo) -> u64
 }
 
 /// How much all of so many buffers have of it, as far as 64 bits hold it.
-pub fn count_buffers(what: Holding, bos: &BoTable, many: u32) -> u64
+pub(crate) fn count_buffers(what: Holding, bos: &BoTable, many: u32) -> u64
     requires all { length bos.now.buffers ≡ many }
     requires lent { many ≤ length bos.now.grips }
     ensures { result ≡ min (sum_by (amount_where_live what) bos.now.buffers) 18446744073709551615 }
@@ -99,7 +99,7 @@ fn count_in_ghost(what: Holding, holder: &Ghost) -> u64
 }
 
 /// How much all ghosts have of it, as far as 64 bits hold it.
-pub fn count_ghosts(what: Holding, ghosts: &[Ghost]) -> u64
+pub(crate) fn count_ghosts(what: Holding, ghosts: &[Ghost]) -> u64
     ensures { result ≡ min (sum_by (amount_of_ghost what) ghosts.now) 18446744073709551615 }
 {
     let mut count = 0u64;

@@ -22,7 +22,7 @@ fn let_go(held: &mut BufIds, b: BufId)
 }
 
 /// A thread has freed a buffer, which it holds no more: that is what its command is for.
-pub fn has_freed(courses: &mut Courses, thread: u32, b: BufId)
+pub(crate) fn has_freed(courses: &mut Courses, thread: u32, b: BufId)
     requires { IsSome (course_at courses.old thread) }
     ensures { courses.new ≡ with_course_by (freeing b) courses.old thread }
 {

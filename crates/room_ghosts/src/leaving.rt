@@ -29,7 +29,7 @@ fn jobs_in(alloc: Global, set: &FenceSet) -> Result<FenceSet, NoMemory>
 }
 
 /// What a freed buffer leaves until its jobs are done.
-pub fn ghost_of(alloc: Global, bo: &Bo, g: u64) -> Result<Ghost, NoMemory>
+pub(crate) fn ghost_of(alloc: Global, bo: &Bo, g: u64) -> Result<Ghost, NoMemory>
     ensures { IfOk result (λ ghost. ghost ≡ left_by bo.now g) }
 {
     let vram = spans_in(alloc, bo.mem, Mem::Vram, &bo.spans)?;

@@ -53,7 +53,7 @@ impl PageNames for Standing<'_> {
 }
 
 /// The packets of these operations, in order: cut at every page border of their buffers, as the buffers stand.
-pub fn packets_of(alloc: Global, bos: &BoTable, ops: &[Op]) -> Result<Vec<Packet>, NoMemory>
+pub(crate) fn packets_of(alloc: Global, bos: &BoTable, ops: &[Op]) -> Result<Vec<Packet>, NoMemory>
     ensures { IfOk result (λ packets. packets.items ≡ words.packets_of (standing_names bos.now) ops.now) }
 {
     let mut packets = Vec::new(alloc);

@@ -21,7 +21,7 @@ fn waited_use(ops: &[Op], b: BufId) -> Usage
 }
 
 /// The jobs that a job of these operations waits for at these buffers.
-pub fn waits_at(
+pub(crate) fn waits_at(
     alloc: Global,
     bos: &BoTable,
     contexts: u32,
@@ -41,7 +41,7 @@ pub fn waits_at(
 }
 
 /// A job of these operations joins the jobs that use these buffers.
-pub fn add_uses(bos: &mut BoTable, job: JobId, ops: &[Op], bs: &[BufId])
+pub(crate) fn add_uses(bos: &mut BoTable, job: JobId, ops: &[Op], bs: &[BufId])
     requires known { HaveContext job.ctx bos.old.fences }
     requires num { 0 < job.num }
     ensures { bos.new ≡ with_uses job ops.now bos.old bs.now }

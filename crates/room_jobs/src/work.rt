@@ -10,7 +10,7 @@ use std::alloc::Global;
 use ttm_base::{NoMemory, Op};
 
 /// The command that a thread is at.
-pub fn command_at_work<'a>(
+pub(crate) fn command_at_work<'a>(
     script: &'a Script,
     courses: &Courses,
     thread: u32,
@@ -23,7 +23,7 @@ pub fn command_at_work<'a>(
 }
 
 /// The operations of a job.
-pub fn ops_of<'a>(command: Option<&'a Command>) -> &'a [Op]
+pub(crate) fn ops_of<'a>(command: Option<&'a Command>) -> &'a [Op]
     ensures { result.now ≡ rows.ops_of (option_copied command.entry) }
 {
     match command {
@@ -33,7 +33,7 @@ pub fn ops_of<'a>(command: Option<&'a Command>) -> &'a [Op]
 }
 
 /// The buffers that a command names, each once.
-pub fn named_by(alloc: Global, command: Option<&Command>) -> Result<BufIds, NoMemory>
+pub(crate) fn named_by(alloc: Global, command: Option<&Command>) -> Result<BufIds, NoMemory>
     ensures { IfOk result (λ bs. bs ≡ commands.named_in (option_copied command.entry)) }
 {
     match command {

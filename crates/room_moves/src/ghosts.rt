@@ -47,7 +47,7 @@ fn only_job(alloc: Global, contexts: u32, job: JobId) -> Result<FenceSet, NoMemo
 }
 
 /// What a moved buffer leaves: a ghost that waits for the move, unless its pages are free at once.
-pub fn ghost_left(
+pub(crate) fn ghost_left(
     alloc: Global,
     contexts: u32,
     bo: &Bo,

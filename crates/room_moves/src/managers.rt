@@ -34,7 +34,7 @@ fn arrive<M: Manager>(room: &mut M, mine: Mem, mem: Mem, b: BufId)
 }
 
 /// A buffer moves to its target in a memory type: what the manager of a memory type keeps of both places.
-pub fn carry_spans<M: Manager>(room: &mut M, mine: Mem, mem: Mem, b: BufId, left: Left)
+pub(crate) fn carry_spans<M: Manager>(room: &mut M, mine: Mem, mem: Mem, b: BufId, left: Left)
     requires { CanCarry b left (M.resources room.old) }
     ensures held { M.resources room.new ≡ carried mine mem b left (M.resources room.old) }
     ensures rule { M.choice room.new ≡ M.choice room.old }
@@ -44,7 +44,7 @@ pub fn carry_spans<M: Manager>(room: &mut M, mine: Mem, mem: Mem, b: BufId, left
 }
 
 /// Where pages of VRAM are free at once, the move's job becomes the move fence.
-pub fn keep_move_fence(room: &mut VramRoom, job: JobId, left: Left)
+pub(crate) fn keep_move_fence(room: &mut VramRoom, job: JobId, left: Left)
     ensures held { room.new.resources ≡ with_fence_left job left room.old.resources }
     ensures rule { spans_of_kind room.new.kind ≡ spans_of_kind room.old.kind }
 {

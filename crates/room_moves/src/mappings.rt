@@ -12,7 +12,7 @@ use room_binds::map_pages;
 use ttm_base::Mem;
 
 /// Maps the pages of a buffer's target, if that is in TT. The pages that it leaves stay mapped for its ghost.
-pub fn map_target(aper: &mut Aperture, bo: &Bo, mem: Mem)
+pub(crate) fn map_target(aper: &mut Aperture, bo: &Bo, mem: Mem)
     requires { mem ≡ InTt → AreBelow (pages_of (target_spans InTt (as_buffer bo.now))) (length aper.old) }
     ensures { aper.new ≡ mapped_in mem aper.old (as_buffer bo.now) }
 {

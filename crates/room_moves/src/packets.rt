@@ -88,7 +88,7 @@ fn target_spans(bo: &Bo, mem: Mem) -> &[Span]
 }
 
 /// The packets of a move: each page goes from where it stands to the target's. Moves go between VRAM and TT alone.
-pub fn move_packets(alloc: Global, bo: &Bo, mem: Mem) -> Result<Vec<Packet>, NoMemory>
+pub(crate) fn move_packets(alloc: Global, bo: &Bo, mem: Mem) -> Result<Vec<Packet>, NoMemory>
     requires to { mem ≢ InSystem }
     requires from { bo.now.mem ≢ InSystem }
     ensures { IfOk result (λ packets. packets.items ≡ copies (length bo.now.table) mem (model.target_spans mem (as_buffer bo.now)) bo.now.mem bo.now.spans) }

@@ -11,7 +11,7 @@ use std::alloc::Global;
 use ttm_base::{JobId, NoMemory, Packet, Usage};
 
 /// All jobs that use a buffer: a move waits for each of them.
-pub fn waits_of(alloc: Global, contexts: u32, bo: &Bo) -> Result<FenceSet, NoMemory>
+pub(crate) fn waits_of(alloc: Global, contexts: u32, bo: &Bo) -> Result<FenceSet, NoMemory>
     requires { length bo.now.resv.fences ≡ contexts }
     ensures { IfOk result (λ set. set ≡ all_added usage.Read (replicate contexts nothing_kept) bo.now.resv.fences) }
 {
@@ -32,7 +32,7 @@ fn push_ghost(ghosts: &mut Ghosts, ghost_object: Option<Ghost>) -> Result<(), No
 }
 
 /// Puts a job in its ring, and the ghost that waits for it behind the others: both, or neither where memory is refused.
-pub fn start_job(
+pub(crate) fn start_job(
     rings: &mut Rings,
     ghosts: &mut Ghosts,
     job: JobId,

@@ -49,7 +49,7 @@ fn touch_held(lru: &mut Lru, held: &[BufId], bs: &[BufId])
 
 /// Lists buffers as the answer of a command asks: that of a pin is on no list, that of an unpin is on one once no pin is left, and those of
 /// any other that are held count as just used.
-pub fn relist(
+pub(crate) fn relist(
     lru: &mut Lru,
     bos: &BoTable,
     script: &Script,

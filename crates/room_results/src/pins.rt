@@ -8,7 +8,7 @@ use bo_table::BoTable;
 use journal_model::Command;
 
 /// Changes the pins of a buffer as the command asks (ttm_bo_pin, ttm_bo_unpin).
-pub fn change_pins(bos: &mut BoTable, command: &Command)
+pub(crate) fn change_pins(bos: &mut BoTable, command: &Command)
     requires { (b : Id) → command.now ≡ command_of.Pin b → (grip_in bos.old.grips b).pins < 255 }
     ensures { bos.new ≡ record bos.old { grips = with_pins (Some command.now) bos.old.grips } }
 {

@@ -63,7 +63,7 @@ fn put(stores: &mut Stores, bo: &Bo, off: u32, bytes: &[u8])
 }
 
 /// Puts the bytes of a write into its buffer. Any other command leaves all bytes.
-pub fn write(stores: &mut Stores, bos: &BoTable, command: &Command)
+pub(crate) fn write(stores: &mut Stores, bos: &BoTable, command: &Command)
     requires { (b : Id) (off : ℕ) (bytes : List ℕ) → command.now ≡ command_of.Write b off bytes → CanWrite bos.now stores.old b off bytes }
     ensures { HasWritten bos.now command.now stores.old stores.new }
 {

@@ -65,7 +65,7 @@ fn counts_text(alloc: Global, number: u64, counts: Counts) -> Result<Vec<u8>, No
 }
 
 /// Writes what is counted of a run of the script that was drawn from the number.
-pub fn write_counts<K: Sink>(
+pub(crate) fn write_counts<K: Sink>(
     alloc: Global,
     number: u64,
     device: &Device,

@@ -9,7 +9,7 @@ use ttm_base::NoMemory;
 
 /// The script that is read from the text that is drawn from a number.
 #[tactic(auto, using(crate::proofs::DrawnLaws::read_is))]
-pub fn read_drawn(alloc: Global, number: u64) -> Result<Script, NoMemory>
+pub(crate) fn read_drawn(alloc: Global, number: u64) -> Result<Script, NoMemory>
     ensures script { IfOk result (λ script. script ≡ load_script number) }
     ensures load { IsLoad (load_script number) }
 {
