@@ -9,12 +9,12 @@ ghost use Rattle.report_text.specs.Accounts.{AreAccountsOf};
 ghost use Rattle.device_core.specs.Done.{done_of};
 ghost use Rattle.device_core.specs.Kept.{entry_of, after_step, turn_of, after_turn, goes_on, order_of, next_actor, after_found};
 
+use crate::follow::follow;
 use cpu_maps::CpuMaps;
 use journal_model::{Entry, Script};
 use report_text::Accounts;
 use room_accounts::accounts_of;
 use room_device::turn;
-use room_maps::follow;
 use room_turns::{Rooms, Step};
 use std::alloc::Global;
 use std::marker::Model;

@@ -2,6 +2,7 @@
 #![tactic(auto)]
 
 mod device;
+mod follow;
 mod stepper;
 
 pub use device::Device;

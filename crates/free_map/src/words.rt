@@ -52,7 +52,13 @@ pub(crate) fn lowest(words: &[u64], at: usize) -> usize
 }
 
 /// Sets or clears the bit of a number, and tells it to both summaries.
-pub(crate) fn set_bit(numbers: &mut [u64], words: &mut [u64], groups: &mut [u64], number: usize, on: bool)
+pub(crate) fn set_bit(
+    numbers: &mut [u64],
+    words: &mut [u64],
+    groups: &mut [u64],
+    number: usize,
+    on: bool,
+)
     requires number { number / 64 < length numbers.old }
     requires word { number / 64 / 64 < length words.old }
     requires group { number / 64 / 64 / 64 < length groups.old }

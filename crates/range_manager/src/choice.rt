@@ -18,7 +18,13 @@ pub struct Choice {
 }
 
 /// The pages that are taken.
-pub(crate) fn chosen(holes: &Holes, pages: u32, align: u32, range: Span, mode: Mode) -> Option<Choice>
+pub(crate) fn chosen(
+    holes: &Holes,
+    pages: u32,
+    align: u32,
+    range: Span,
+    mode: Mode,
+) -> Option<Choice>
     requires align { 1 ≤ align }
     requires spaced { IsSpaced 1 holes.now.holes }
     ensures pages { option_map (λ c. c.pages) result ≡ range_choice mode holes.now.holes pages align range }

@@ -1,2 +1,5 @@
 pub mod Emptied
 pub mod Absent
+pub mod FreeLaws
+pub mod Founds
+pub mod Carried

@@ -5,10 +5,11 @@ ghost use Rattle.journal_model.specs.Tasks.{stage_of, task_of};
 ghost use Rattle.room_turns.specs.Searching.{finds_choice};
 ghost use Rattle.room_turns.specs.Turns.{after_step, entry_of, state_behind, step_of};
 
+use crate::carries::{carry, untake};
+use crate::free::{hold, is_free_due};
+use crate::search::take_target;
 use evict_core::{catch, dry, loose, skip};
-use ghost_destroy::{hold, is_free_due};
 use journal_model::{Stage, Task};
-use move_pipeline::{carry, take_target, untake};
 use room_turns::{Rooms, Step};
 use std::alloc::Global;
 use swap_core::{depopulate, fill, is_depopulate_due, is_swap_out_due, swap_out_page};

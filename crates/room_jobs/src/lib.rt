@@ -2,9 +2,14 @@
 //! leads to. Each takes all its memory before it changes what can be seen.
 #![tactic(auto)]
 
+mod answers;
 mod jobs;
+mod listings;
 mod packets;
+mod pins;
 mod uses;
 mod work;
+mod writes;
 
+pub use answers::answer;
 pub use jobs::arm;

@@ -9,14 +9,13 @@ use crate::themes::{Theme, theme_of};
 use journal_model::{Entry, Kind, Script};
 use room_binds::{bind, unbind};
 use room_ghosts::free;
-use room_jobs::arm;
+use room_jobs::{answer, arm};
 use room_moves::move_buffer;
 use room_pages::{depopulate, swap_out};
 use room_parts::{
     back_off, bulk, catch, dry, loose, make, no_pages, populate, refuse, reserve, skip, swap_in,
     take, ticket, untake,
 };
-use room_results::answer;
 use room_ties::Parts;
 use std::alloc::Global;
 use ttm_base::NoMemory;

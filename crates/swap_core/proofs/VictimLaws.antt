@@ -10,7 +10,7 @@ use Rattle.journal_model.specs.declared.state.State.{State}
 use Rattle.journal_model.specs.State.{buffer, grip}
 use Rattle.journal_model.specs.Dry.{has_frame, is_loose, swap_victim}
 use Rattle.journal_model.specs.Lists as state
-use Rattle.lru_walk.specs.Rests.{in_order}
+use Rattle.swap_core.specs.Rests.{in_order}
 
 module _ {X : Type 0} (p : X → Bool) (left rest : List X) (x : X) (goes : left ≡ x ∷ rest) where
   pub find_here : p x ≡ true → find p left ≡ Some x

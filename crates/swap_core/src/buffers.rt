@@ -7,8 +7,8 @@ ghost use Rattle.journal_model.specs.Dry as words;
 ghost use Rattle.room_turns.specs.Turns.{state_behind};
 ghost use Rattle.swap_core.specs.Lent.{IsLent};
 
+use crate::walk::Walk;
 use bo_table::Bo;
-use lru_walk::Walk;
 use room_turns::Rooms;
 use ttm_base::{BufId, Mem};
 

@@ -6,6 +6,7 @@ mod buffers;
 mod filling;
 mod giving;
 mod swapping;
+mod walk;
 
 pub use filling::fill;
 pub use giving::{depopulate, is_depopulate_due};

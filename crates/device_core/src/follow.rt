@@ -1,0 +1,44 @@
+//! Mappings of buffers by the CPU follow the entries of the rooms.
+ghost use Rattle.std.specs.Prelude.{◌≡◌, ◌∷◌, ◌++◌, List, [], Some};
+ghost use Rattle.journal_model.specs.declared.entry.Entry.{Entry as OneEntry};
+ghost use Rattle.journal_model.specs.Legal.{state_of};
+ghost use Rattle.map_follow.specs.Follows as words;
+ghost use Rattle.map_follow.specs.Laws.{areas_after};
+
+use cpu_maps::CpuMaps;
+use journal_model::Entry;
+use map_follow::{answerer, end_mappings, fault_in, found_by, leave};
+use room_state::Rooms;
+
+/// Does to mappings what the last entry does, which answers a thread: what it found has entries, and mappings end behind it.
+fn follow_answer(maps: &mut CpuMaps, rooms: &Rooms, before: &[Entry], entry: &Entry, thread: u32)
+    requires last { rooms.now.journal ≡ before.now ++ entry.now ∷ [] }
+    requires who { words.answerer entry.now ≡ Some thread }
+    ensures { maps.new ≡ areas_after rooms.now.script (state_of rooms.now.script before.now) entry.now maps.old }
+{
+    let _legal = rooms.journal();
+    let script = rooms.script();
+    let answered = u64::from(rooms.course(thread).answered);
+    if let Some(found) = found_by(script, answered - 1, entry) {
+        let bo = rooms.bos().get(found.pages.b);
+        fault_in(maps, found, bo.mem, bo.spans.items(), bo.table.places());
+    }
+    end_mappings(maps, script, thread, answered);
+}
+
+/// Does to mappings what the last entry does. It takes no memory; without mappings constant time, else that of a walk of the script's marks where
+/// the entry answers a thread, of the mappings, and of the pages whose entries go.
+pub(crate) fn follow(maps: &mut CpuMaps, rooms: &Rooms)
+    ensures { (before : List OneEntry) (entry : OneEntry) → rooms.now.journal ≡ before ++ entry ∷ [] → maps.new ≡ areas_after rooms.now.script (state_of rooms.now.script before) entry maps.old }
+{
+    if maps.areas().is_empty() {
+        return;
+    }
+    let Some((entry, before)) = rooms.journal().split_last() else {
+        return;
+    };
+    match answerer(entry) {
+        Some(thread) => follow_answer(maps, rooms, before, entry, thread),
+        None => leave(maps, &entry.kind),
+    }
+}

@@ -1,0 +1,71 @@
+ghost use Rattle.std.specs.Prelude.{◌≡◌, OnOk, OnErr, filter};
+ghost use Rattle.ttm_base.specs.declared.BufId.{BufId as Id};
+ghost use Rattle.journal_model.specs.declared.script.Command.TheVariants as command_of;
+ghost use Rattle.journal_model.specs.State as words;
+ghost use Rattle.journal_model.specs.Commands as commands;
+ghost use Rattle.room_jobs.specs.Listings.{unlisted, unpinned, CanRelist, AreTouched, AreRelisted};
+
+use bo_table::BoTable;
+use journal_model::{Command, Script};
+use lru_bulk::Lru;
+use room_steps::touch;
+use state_words::has_buffer;
+use ttm_base::{BufId, NoMemory};
+
+/// Takes a buffer off its list, if it is on one.
+fn unlist(lru: &mut Lru, b: BufId)
+    ensures { lru.new ≡ unlisted lru.old b }
+{
+    if lru.is_listed(b) {
+        lru.remove(b);
+    }
+}
+
+/// Lists a buffer whose last pin goes.
+fn list_unpinned(lru: &mut Lru, bos: &BoTable, script: &Script, b: BufId) -> Result<(), NoMemory>
+    requires { CanRelist script.now bos.now lru.old b }
+    ensures ok { OnOk result (lru.new ≡ unpinned script.now bos.now lru.old b) }
+    ensures err { OnErr result (lru.new ≡ lru.old) }
+{
+    let bo = bos.get(b);
+    if bo.pins != 1 {
+        return Ok(());
+    }
+    let decl = script.buffers.get(b.0 as usize);
+    lru.add(b, bo.mem, decl.prio, decl.group)
+}
+
+/// Those of some buffers that a thread holds count as just used, one after another.
+fn touch_held(lru: &mut Lru, held: &[BufId], bs: &[BufId])
+    ensures { AreTouched (filter (words.has_buffer held.now) bs.now) lru.old lru.new }
+{
+    for b in bs {
+        if has_buffer(held, *b) {
+            lru.members_stand_once();
+            touch(lru, *b);
+        }
+    }
+}
+
+/// Lists buffers as the answer of a command asks: that of a pin is on no list, that of an unpin is on one once no pin is left, and those of
+/// any other that are held count as just used.
+pub(crate) fn relist(
+    lru: &mut Lru,
+    bos: &BoTable,
+    script: &Script,
+    command: &Command,
+    held: &[BufId],
+    named: &[BufId],
+) -> Result<(), NoMemory>
+    requires named { named.now ≡ commands.named command.now }
+    requires can { (b : Id) → command.now ≡ command_of.Unpin b → CanRelist script.now bos.now lru.old b }
+    ensures ok { OnOk result (AreRelisted script.now bos.now held.now command.now lru.old lru.new) }
+    ensures err { OnErr result (lru.new ≡ lru.old) }
+{
+    match command {
+        Command::Pin { b } => unlist(lru, *b),
+        Command::Unpin { b } => list_unpinned(lru, bos, script, *b)?,
+        _ => touch_held(lru, held, named),
+    }
+    Ok(())
+}

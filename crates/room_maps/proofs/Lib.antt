@@ -1,4 +1,0 @@
-mod Accessed
-mod Behind
-mod Bos
-mod Empty

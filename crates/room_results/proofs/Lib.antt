@@ -1,3 +1,0 @@
-pub mod Relisted
-pub mod Put
-pub mod Answered

@@ -1,8 +1,0 @@
-use Rattle.std.proofs.Common.{take}
-use Rattle.std.specs.Prelude.{filter}
-use Rattle.journal_model.specs.State.{has_buffer}
-use Rattle.room_results.specs.Listings.{AreTouched}
-use Rattle.room_results.proofs.listings.touch_held.Given as goal
-
-abbrev pub invariant-loop-b : goal.invariant-loop-b
-invariant-loop-b l = AreTouched (filter (has_buffer l.held) (take l.b-index l.bs)) l.initial.lru l.lru
