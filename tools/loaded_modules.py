@@ -4,8 +4,7 @@
 usage: tools/loaded_modules.py OUTPUT [CRATE]
 
 OUTPUT is what `rt ci` printed. A row for each crate, the most first: how many modules its statements lead to, and the three libraries that most of
-them are of; with CRATE all libraries of that crate. A thousand modules cost a check about two seconds on the machine of docs/GATE.md. A library's `pub`
-function is some fourteen of them, in private modules too.
+them are of; with CRATE all libraries of that crate. A `pub` method of a library's type is some fourteen of them, in private modules too.
 """
 import collections
 import re
