@@ -2,9 +2,10 @@
 """Checks that what documents name exists. Takes a second; needs Python alone, and no build.
 
 usage: tools/check_docs.py [DOCUMENT ...]      without documents: README.md, examples/README.md, docs/*.md and
-                                               crates/*/README.md; that each crate stands in crates.txt and in
-                                               docs/ARCHITECTURE.md and has its README.md, headed by its name, and
-                                               each law (public function of crates/law_*) stands in docs/CLAIMS.md;
+                                               crates/*/*.md; that each crate stands in crates.txt and in
+                                               docs/ARCHITECTURE.md and has its README.md, headed by its name (so do
+                                               pages of a crate's parts, modules of its), and each law (public
+                                               function of crates/law*) stands in docs/CLAIMS.md;
                                                and that README.md has at most 7 KB and its table of sizes is right
        tools/check_docs.py --sizes             that table's rows
        tools/check_docs.py --closure MODULE    the definition files that MODULE rests on, as rows of a table
@@ -17,7 +18,8 @@ In backquotes, outside of blocks of code, are checked:
                                       a function, type, variant, field, constant or re-export; modules may stand between
   `Type::name`, `module::name`        the same in any crate; `Type.name` too
   `crate/Module.name`, `Module.name`  a definition (abbrev, record, data, field, lemma) of crates/crate/specs/Module.antt or of
-                                      its proofs/, without a crate of any; `Module.antt` is the file alone
+                                      its proofs/, without a crate of any; `Module.antt` is the file alone; for a crate may
+                                      stand a part of one, a module that has a page beside the crate's
   `name_of_it`, `NameOfIt`            a name of anything above, of a clause, a crate, an edit, an example, or a word in a source
   `crate::f` (one, other)             a function with clauses of these names
   `name()`, `struct name`             the kernel's, which isn't checked; nor is a name that begins as one of KERNEL below
@@ -55,6 +57,8 @@ class Index:
         self.clauses = collections.defaultdict(set)
         self.words = set()
         self.crates = {path.name for path in (TOP / "crates").iterdir() if path.is_dir()}
+        # (a module of a crate that has a page of its own beside the crate's)
+        self.parts = {path.stem for path in (TOP / "crates").glob("*/*.md") if path.stem != "README"}
         self.libraries = {"std"}
         for line in (TOP / "crates.txt").read_text().splitlines():
             if ":" in line and not line.startswith("#"):
@@ -66,6 +70,9 @@ class Index:
             for folder in ("specs", "proofs"):
                 for path in sorted((TOP / "crates" / crate).glob(f"{folder}/**/*.antt")):
                     self.read_definitions(crate, path)
+                    part = path.relative_to(TOP / "crates" / crate / folder).parts[0]
+                    if part in self.parts:
+                        self.read_definitions(part, path)
             for path in (TOP / "crates" / crate).glob("must-fail/*"):
                 self.words.add(path.stem)
         self.words |= self.crates | self.libraries | {path.stem for path in (TOP / "examples").iterdir()}
@@ -173,7 +180,7 @@ def fault_of_word(index, text):
     definition = re.fullmatch(rf"(?:([a-z_0-9]+)/)?({WORD})\.({WORD})", text)
     if definition and (definition[1] or definition[2][0].isupper()):
         crate, module, name = definition.groups()
-        if crate and crate not in index.crates:
+        if crate and crate not in index.crates | index.parts:
             return f"no crate {crate}"
         return index.fault_of_definition(crate, module, None if name == "antt" else name)
     if re.fullmatch(r"[a-z]+[a-z0-9]*(_[a-z0-9]+)+|[A-Z][a-z0-9]+([A-Z][a-z0-9]*)+", text):
@@ -250,7 +257,7 @@ def closure_of(name):
                 folder = TOP / "crates" / crate / "src"
                 visit(folder.joinpath(*parts[1:-1]).with_suffix(".rt") if len(parts) > 2 else folder / "lib.rt")
             else:
-                visit(TOP / "crates" / crate / "specs" / f"{parts[0]}.antt")
+                visit((TOP / "crates" / crate / "specs").joinpath(*parts).with_suffix(".antt"))
         found.pop(mark)
         found.append(path)
 
@@ -305,6 +312,9 @@ def faults_of_pages(index):
             yield f"crates/{crate}/README.md:1: its heading isn't the crate's name"
         elif len(page.read_bytes()) > PAGE_BYTES:
             yield f"crates/{crate}/README.md:1: it has {len(page.read_bytes())} bytes, more than {PAGE_BYTES}"
+        for page in sorted((TOP / "crates" / crate).glob("*.md")):
+            if page.stem != "README" and page.read_text().splitlines()[:1] != [f"# `{page.stem}`"]:
+                yield f"crates/{crate}/{page.name}:1: its heading isn't the part's name"
 
 
 def missing_crates(index):
@@ -320,9 +330,9 @@ def missing_crates(index):
 def missing_laws():
     """Laws that the page of claims doesn't have."""
     claims = (TOP / "docs" / "CLAIMS.md").read_text()
-    for path in sorted((TOP / "crates").glob("law_*/src/lib.rt")):
+    for path in sorted((TOP / "crates").glob("law*/src/**/*.rt")):
         for name in re.findall(rf"^pub fn ({WORD})\(\)", path.read_text(), re.M):
-            law = f"{path.parts[-3]}::{name}"
+            law = f"{path.parts[-3] if path.stem == 'lib' else path.stem}::{name}"
             if f"`{law}`" not in claims:
                 yield f"docs/CLAIMS.md:1: it doesn't have the law {law}"
 
@@ -341,7 +351,7 @@ def main():
         return
     documents = [pathlib.Path(word).resolve() for word in words] or [
         TOP / "README.md", TOP / "examples" / "README.md", *sorted((TOP / "docs").glob("*.md")),
-        *sorted((TOP / "crates").glob("*/README.md"))]
+        *sorted((TOP / "crates").glob("*/*.md"))]
     index = Index()
     faults = 0
     for fault in [] if words else [*missing_crates(index), *missing_laws(), *faults_of_pages(index), *faults_of_readme()]:

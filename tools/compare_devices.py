@@ -5,12 +5,12 @@ usage: tools/compare_devices.py ORACLE [--program FILE] [--scripts N] [--interle
 
 ORACLE is a program with the words `random SEED [--v2]`, which prints a valid script.
 On N scripts (2,000) of each version the turns are those of the script's schedule and then the simulator's own; N times
-(500) they are those of actors drawn at random, until about all is done, and then the simulator's own. The program compare_devices takes
+(500) they are those of actors drawn at random, until about all is done, and then the simulator's own. The program test_device takes
 them on both devices and compares the answer of each turn, the entry, whether all is over and how far each context is; and at the end all
 entries, all bytes of VRAM, frames and slots, the accounts, and what parts tell that were given the plain device's entries. The first case
 that differs is printed, with its line, and ends the comparison with status 1.
 
-FILE is a built compare_devices; without it tools/build_unproved.sh builds one, which takes some minutes and proves nothing.
+FILE is a built test_device; without it tools/build_unproved.sh builds one, which takes some minutes and proves nothing.
 """
 import argparse
 import concurrent.futures
@@ -56,7 +56,7 @@ def drawn(text, entries, seed):
 def case_of(name, text, steps):
     """A case of the table that the program reads."""
     lines = [b"steps " + b" ".join(steps[at : at + 1000]) for at in range(0, len(steps), 1000)]
-    return b"\n".join([b"case " + name + b" at-the-end", *lines, b"to the end", b"text", text.rstrip(b"\n"), b"end case"]) + b"\n"
+    return b"\n".join([b"case " + name, b"compare at the end", *lines, b"to the end", b"text", text.rstrip(b"\n"), b"end case"]) + b"\n"
 
 
 def run(program, cases):
@@ -101,9 +101,9 @@ def main():
     parser.add_argument("--seed", type=int, default=1)
     words = parser.parse_args()
     with tempfile.TemporaryDirectory() as folder:
-        program = words.program or f"{folder}/compare_devices"
+        program = words.program or f"{folder}/test_device"
         if not words.program:
-            subprocess.run([TOP / "tools/build_unproved.sh", "--crate", "compare_devices", program], check=True)
+            subprocess.run([TOP / "tools/build_unproved.sh", "--crate", "test_device", program], check=True)
         kept = []
         for version in (1, 2):
             cases = [(name, text, scheduled(text)) for name, text in scripts(words.oracle, version, words.scripts, words.seed)]

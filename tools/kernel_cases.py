@@ -1,7 +1,7 @@
 #!/usr/bin/env python3
 """The cases of the kernel's own tests of drm_mm and drm_buddy as lists of operations, with the answers that they must have.
 
-usage: tools/kernel_cases.py --table mm|buddy        the cases of one at small sizes, as in crates/test_kernel_cases/src
+usage: tools/kernel_cases.py --table mm|buddy        the cases of one at small sizes, as in crates/test_allocators/src/kernel_cases/src
        tools/kernel_cases.py --write FOLDER          the cases at greater sizes, each as NAME and NAME.stdout, for allocator_replay
        tools/kernel_cases.py --check                 the same, done by allocator_replay (unproved, as `rt try` builds it) and compared
 

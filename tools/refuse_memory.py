@@ -9,11 +9,11 @@ is 0, and all is there that is due; after a failed read it is 4 and `read fault`
 of `sim` the stored report; of `run` what `sim` writes where the script's schedule is that run's own; of `gen` what the specification says.
 Standard error must stay empty, and each run must end, within N seconds (60).
 
-Then the program compare_devices takes each script with the same call refused: a turn of the device that wants memory is asked again, and
+Then the program test_device takes each script with the same call refused: a turn of the device that wants memory is asked again, and
 goes on, and in the end entries, bytes and accounts must be those that the definitions say, as many entries as the report has.
 
 Of the calls for memory that `gen` makes only each K-th is refused (100): they are 10,000 to 20,000. On threads the number of calls varies, so a
-call that is to be refused may not come; then status 0 is right. FILEs are a built `ttm` and `compare_devices`; without them
+call that is to be refused may not come; then status 0 is right. FILEs are a built `ttm` and `test_device`; without them
 tools/build_unproved.sh builds them, which takes some minutes each and proves nothing. The rest takes a minute. A C compiler ($CC, or else cc)
 builds tools/refuse_calls.c. Each of the first twenty faults is a line; the status is 1 if there is one.
 """
@@ -186,7 +186,7 @@ def main():
     parser.add_argument("--seconds", type=float, default=60)
     words = parser.parse_args()
     with tempfile.TemporaryDirectory() as folder:
-        for name, crate in (("program", "ttm"), ("compare", "compare_devices")):
+        for name, crate in (("program", "ttm"), ("compare", "test_device")):
             if not getattr(words, name):
                 setattr(words, name, f"{folder}/{crate}")
                 subprocess.run([TOP / "tools/build_unproved.sh", "--crate", crate, f"{folder}/{crate}"], check=True)

@@ -27,11 +27,11 @@ ghost use Rattle.allocator_replay.specs.Endings as endings;
 mod times;
 
 use allocator_lines::{BuddyTable, Head, Load, RangeTable, Table, answer_all, read_load};
-use io_edge::{ReadFault, StdSource, read_all};
+use io_edge::{ReadFault, Source, StdSource, read_all};
 use std::alloc::Global;
-use std::env;
 use std::process::ExitCode;
 use std::rt::{Clock, Env};
+use std::{env, io};
 use times::{Times, time};
 use ttm_base::NoMemory;
 
@@ -39,7 +39,7 @@ use ttm_base::NoMemory;
 const MOST_BYTES: usize = 1 << 30;
 
 /// Why a run ends before its time.
-#[derive(Clone, Copy, Debug, PartialEq, Eq)]
+#[derive(Clone, Copy)]
 enum Fault {
     /// The line can't be read, or its operation can't be done.
     BadLine(usize),
@@ -84,19 +84,42 @@ impl Fault {
     }
 }
 
-/// Whether times are asked for in place of answers.
-fn is_timed(rt: &(impl Env + Alloc)) -> Result<bool, Fault> {
-    let Ok(words) = env::args(rt) else {
+/// What the words ask for.
+#[derive(Clone, Copy)]
+enum Asked {
+    Answers,
+    Times,
+    Other,
+}
+
+impl Asked {
+    /// What the first word asks for.
+    fn first(word: &str) -> Asked {
+        match word {
+            "--time" => Asked::Times,
+            _ => Asked::Other,
+        }
+    }
+
+    /// With one more word.
+    fn with(self, word: &str) -> Asked {
+        match self {
+            Asked::Answers => Asked::first(word),
+            Asked::Times | Asked::Other => Asked::Other,
+        }
+    }
+}
+
+fn words_ask(rt: &(impl Env + Alloc)) -> Result<Asked, Fault> {
+    let Ok(mut words) = env::args(rt) else {
         return Err(Fault::NoMemory);
     };
-    let mut is_timed = false;
-    for word in words.skip(1) {
-        if is_timed || word.as_str() != "--time" {
-            return Err(Fault::Usage);
-        }
-        is_timed = true;
+    let _ = words.next();
+    let mut asked = Asked::Answers;
+    for word in words {
+        asked = asked.with(word.as_str());
     }
-    Ok(is_timed)
+    Ok(asked)
 }
 
 /// The number of an operation's line.
@@ -162,6 +185,25 @@ fn put_times<T: Table>(
     Ok(())
 }
 
+/// Does all operations of a list on a new manager, and puts how long they took behind a text.
+fn put_load_times(
+    clock: &impl Clock,
+    alloc: Global,
+    load: &Load,
+    out: &mut String,
+) -> Result<(), Fault> {
+    match load.head {
+        Head::Buddy(pages) => {
+            let mut table = BuddyTable::new(alloc, pages)?;
+            put_times(clock, alloc, &mut table, load, out)
+        }
+        Head::Ranges(pages) => {
+            let mut table = RangeTable::new(alloc, pages)?;
+            put_times(clock, alloc, &mut table, load, out)
+        }
+    }
+}
+
 /// Puts how long the operations of a text's list took behind another text.
 fn all_times(
     clock: &impl Clock,
@@ -169,28 +211,9 @@ fn all_times(
     text: &[u8],
     out: &mut String,
 ) -> Result<(), Fault> {
-    let Some(load) = read_load(alloc, text)? else {
-        return Err(Fault::BadLine(1));
-    };
-    match load.head {
-        Head::Buddy(pages) => {
-            put_times(
-                clock,
-                alloc,
-                &mut BuddyTable::new(alloc, pages)?,
-                &load,
-                out,
-            )
-        }
-        Head::Ranges(pages) => {
-            put_times(
-                clock,
-                alloc,
-                &mut RangeTable::new(alloc, pages)?,
-                &load,
-                out,
-            )
-        }
+    match read_load(alloc, text)? {
+        Some(load) => put_load_times(clock, alloc, &load, out),
+        None => Err(Fault::BadLine(1)),
     }
 }
 
@@ -201,27 +224,41 @@ fn run(
     text: &[u8],
     out: &mut String,
 ) -> Result<(), Fault> {
-    if is_timed(rt)? {
-        all_times(rt, alloc, text, out)
-    } else {
-        answers(alloc, text, out)
+    match words_ask(rt)? {
+        Asked::Answers => answers(alloc, text, out),
+        Asked::Times => all_times(rt, alloc, text, out),
+        Asked::Other => Err(Fault::Usage),
+    }
+}
+
+/// Reads the list and runs it.
+fn read_and_run(
+    rt: &(impl Env + Alloc + Clock),
+    alloc: Global,
+    source: &mut impl Source,
+    out: &mut String,
+) -> Result<(), Fault> {
+    let text = read_all(alloc, source, MOST_BYTES)?;
+    run(rt, alloc, text.as_slice(), out)
+}
+
+/// Prints the answers, and behind them the line that can't be read or done.
+fn print_end(rt: &impl Print, out: &str, ended: Result<(), Fault>) -> io::Result<()> {
+    match ended {
+        Err(Fault::BadLine(line)) => print!(rt; "{out}bad line {line}\n"),
+        _ => print!(rt; "{out}"),
     }
 }
 
 fn main(rt: HostRuntime) -> ExitCode {
     let alloc = rt.alloc();
     let mut out = String::new(alloc);
-    let ended = match read_all(alloc, &mut StdSource::new(rt.stdin()), MOST_BYTES) {
-        Ok(text) => run(&rt, alloc, text.as_slice(), &mut out),
-        Err(fault) => Err(Fault::from(fault)),
-    };
-    let printed = match ended {
-        Err(Fault::BadLine(line)) => print!(rt; "{out}bad line {line}\n"),
-        _ => print!(rt; "{out}"),
-    };
-    match (ended, printed) {
-        (Err(fault), _) => ExitCode::from(fault.code()),
-        (Ok(()), Err(_)) => ExitCode::from(5),
-        (Ok(()), Ok(())) => ExitCode::SUCCESS,
+    let mut source = StdSource::new(rt.stdin());
+    let ended = read_and_run(&rt, alloc, &mut source, &mut out);
+    let is_printed = print_end(&rt, out.as_str(), ended).is_ok();
+    match ended {
+        Err(fault) => ExitCode::from(fault.code()),
+        Ok(()) if is_printed => ExitCode::SUCCESS,
+        Ok(()) => ExitCode::from(5),
     }
 }

@@ -43,7 +43,7 @@ impl Total {
 }
 
 /// The totals by kind.
-#[derive(Drop)]
+#[derive(Clone, Copy)]
 pub struct Times {
     alloc: Total,
     free: Total,
@@ -109,6 +109,23 @@ fn run_all<T: Table>(table: &mut T, operations: &[Operation], before: usize) -> 
     Ok(())
 }
 
+/// Does operations, and tells how many nanoseconds they took. `before` is how many came before them.
+fn nanos_of<T: Table>(
+    clock: &impl Clock,
+    table: &mut T,
+    operations: &[Operation],
+    before: usize,
+) -> Result<u128, Fault> {
+    let Ok(start) = Instant::now(clock) else {
+        return Err(Fault::Clock);
+    };
+    run_all(table, operations, before)?;
+    match start.elapsed(clock) {
+        Ok(spent) => Ok(spent.as_nanos()),
+        Err(_) => Err(Fault::Clock),
+    }
+}
+
 /// Does operations, and adds up by kind how long they took. The clock is read before and after each run of one kind: so
 /// each run counts the cost of about one reading, 20 to 50 ns where the system reads it without a call of the kernel. Where
 /// kinds alternate, that is the cost of a reading for each call.
@@ -123,14 +140,8 @@ pub fn time<T: Table>(
         let Some(first) = run.first() else {
             return Ok(());
         };
-        let Ok(start) = Instant::now(clock) else {
-            return Err(Fault::Clock);
-        };
-        run_all(table, run, before)?;
-        let Ok(spent) = start.elapsed(clock) else {
-            return Err(Fault::Clock);
-        };
-        times.add(first.kind(), run.len(), spent.as_nanos());
+        let nanos = nanos_of(clock, table, run, before)?;
+        times.add(first.kind(), run.len(), nanos);
         before = before.saturating_add(run.len());
     }
     Ok(())

@@ -26,11 +26,11 @@ use Rattle.journal_model.specs.Next.{next}
 use Rattle.journal_model.specs.ScriptRules.{is_script}
 use Rattle.journal_model.specs.State.{buffer, course, course_of, live_in, new_buffer, new_course}
 use Rattle.journal_model.specs.Stores.{Stores, showing}
-use Rattle.law_state.proofs.JournalCourses.{one_more_if, own_answered, thread_is_there}
-use Rattle.law_state.proofs.Rules.{Rules, declared_pages, rules_of}
-use Rattle.law_state.proofs.Shown.{LegalStep, legal_step}
-use Rattle.law_transparent.proofs.Law.{world_push}
-use Rattle.law_maps.proofs.Stays.{Settled}
+use Rattle.laws.proofs.law_state.JournalCourses.{one_more_if, own_answered, thread_is_there}
+use Rattle.laws.proofs.law_state.Rules.{Rules, declared_pages, rules_of}
+use Rattle.laws.proofs.law_state.Shown.{LegalStep, legal_step}
+use Rattle.laws.proofs.law_transparent.Law.{world_push}
+use Rattle.law_legal.proofs.law_maps.Stays.{Settled}
 use Rattle.map_access.specs.Accesses.{access_in, mapped_from, paged}
 use Rattle.map_follow.specs.declared.found.Found.{Found}
 use Rattle.map_follow.specs.Follows.{answerer}

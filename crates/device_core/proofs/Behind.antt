@@ -12,9 +12,9 @@ use Rattle.journal_model.specs.Legal.{IsLegal, state_of}
 use Rattle.journal_model.specs.ScriptRules.{is_script}
 use Rattle.journal_model.specs.State.{buffer, course, course_of}
 use Rattle.cpu_maps.specs.declared.area.Area.{Area}
-use Rattle.law_maps.specs.Following.{areas_behind}
-use Rattle.law_state.proofs.GoodStates.{good_law}
-use Rattle.law_sound.proofs.Along.{sound_law}
+use Rattle.law_legal.specs.law_maps.Following.{areas_behind}
+use Rattle.laws.proofs.law_state.GoodStates.{good_law}
+use Rattle.laws.proofs.law_sound.Along.{sound_law}
 use Rattle.map_follow.specs.declared.found.Found.{Found}
 use Rattle.map_follow.specs.Ends.{with_end}
 use Rattle.map_follow.specs.Follows.{answerer}

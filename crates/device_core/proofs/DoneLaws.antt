@@ -28,15 +28,15 @@ use Rattle.journal_model.specs.Stores.{Stores, showing}
 use Rattle.journal_model.specs.Waits.{same_job}
 use Rattle.journal_model.specs.Legal.{World, state_of, world_of, IsLegal, IsLegalFrom, IsLegalNext}
 use Rattle.journal_model.proofs.JournalLaws.{world_of-append, IsLegal-append}
-use Rattle.law_state.specs.GoodState.{last_number}
-use Rattle.law_state.proofs.JournalCourses.{is_of_reaper, of_reaper}
-use Rattle.law_state.proofs.Moves.{thread_step, is_made_by, made_by_task}
-use Rattle.law_state.proofs.Shown.{legal_step}
-use Rattle.law_jobs.specs.JobLines.{done_of as done_among, numbers_of, unfinished_of}
-use Rattle.law_jobs.proofs.Law.{line_law}
+use Rattle.laws.specs.law_state.GoodState.{last_number}
+use Rattle.laws.proofs.law_state.JournalCourses.{is_of_reaper, of_reaper}
+use Rattle.laws.proofs.law_state.Moves.{thread_step, is_made_by, made_by_task}
+use Rattle.laws.proofs.law_state.Shown.{legal_step}
+use Rattle.laws.specs.law_jobs.JobLines.{done_of as done_among, numbers_of, unfinished_of}
+use Rattle.laws.proofs.law_jobs.Law.{line_law}
 use Rattle.room_ties.specs.Lines.{AreInLine, IsTimeline}
-use Rattle.lemma_room_jobs.proofs.Heads.{IsEnd, end_of}
-use Rattle.lemma_room_jobs.proofs.Changed.{done_elsewhere, done_end, ended, ends_keep}
+use Rattle.room_ties.proofs.lemma_room_jobs.Heads.{IsEnd, end_of}
+use Rattle.room_ties.proofs.lemma_room_jobs.Changed.{done_elsewhere, done_end, ended, ends_keep}
 use Rattle.device_core.specs.Done.{done_by, done_of, number_done}
 
 -- how many jobs of a context are done

@@ -15,7 +15,7 @@ use Rattle.journal_model.specs.declared.entry.Kind.{Kind}
 use Rattle.journal_model.specs.declared.entry.Kind.TheVariants as kind
 use Rattle.journal_model.specs.State.{course}
 use Rattle.cpu_maps.specs.declared.area.Area.{Area}
-use Rattle.law_maps.specs.Following.{areas_behind}
+use Rattle.law_legal.specs.law_maps.Following.{areas_behind}
 use Rattle.map_follow.specs.declared.found.Found.{Found}
 use Rattle.map_follow.specs.Ends.{behind_line, with_end}
 use Rattle.map_follow.specs.Follows.{answerer}

@@ -9,9 +9,9 @@ use Rattle.cpu_maps.specs.declared.area.Area.{Area}
 use Rattle.map_follow.specs.Follows.{Follows}
 use Rattle.map_follow.specs.Laws.{areas_after}
 use Rattle.map_follow.proofs.Law.{entries_followed}
-use Rattle.room_turns.specs.declared.Step.{Step}
-use Rattle.room_turns.specs.declared.Step.TheVariants as step
-use Rattle.room_turns.specs.Turns.{Kept, after_step, step_of}
+use Rattle.room_state.specs.declared.room_turns.Step.{Step}
+use Rattle.room_state.specs.declared.room_turns.Step.TheVariants as step
+use Rattle.room_state.specs.room_turns.Turns.{Kept, after_step, step_of}
 
 -- the areas follow what is kept
 abbrev pub FollowKept : Kept → List Area → Type 0

@@ -8,7 +8,7 @@ use Rattle.journal_model.specs.declared.entry.Entry.{Entry}
 use Rattle.journal_model.specs.Complete.{is_complete}
 use Rattle.journal_model.specs.DeadEnd.{can_step}
 use Rattle.journal_model.specs.Scheduled.{own_order}
-pub use Rattle.room_turns.specs.Turns.{Kept, state_behind, world_behind, with_entry, entry_of, after_step}
+pub use Rattle.room_state.specs.room_turns.Turns.{Kept, state_behind, world_behind, with_entry, entry_of, after_step}
 
 -- the answer to a turn of an actor whose next entry is this one, or that needs this, where the journal isn't complete
 abbrev pub answer_of : Kept → Result Entry Need → Turn

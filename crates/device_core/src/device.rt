@@ -3,8 +3,8 @@ ghost use Rattle.journal_model.specs.ScriptRules.{is_script};
 ghost use Rattle.journal_model.specs.Complete.{is_complete};
 ghost use Rattle.journal_model.specs.Legal.{IsLegal, made_of, state_of};
 ghost use Rattle.map_follow.specs.Follows.{KnowExactly};
-ghost use Rattle.room_turns.specs.Turns.{step_of};
-ghost use Rattle.law_sound.specs.Sound.{SomeGoesOn};
+ghost use Rattle.room_state.specs.room_turns.Turns.{step_of};
+ghost use Rattle.laws.specs.law_sound.Sound.{SomeGoesOn};
 ghost use Rattle.report_text.specs.Accounts.{AreAccountsOf};
 ghost use Rattle.device_core.specs.Done.{done_of};
 ghost use Rattle.device_core.specs.Kept.{entry_of, after_step, turn_of, after_turn, goes_on, order_of, next_actor, after_found};
@@ -15,11 +15,11 @@ use journal_model::{Entry, Script};
 use report_text::Accounts;
 use room_accounts::accounts_of;
 use room_device::turn;
-use room_turns::{Rooms, Step};
+use room_state::room_turns::{Rooms, Step};
+use room_state::turn_order::own_order;
 use std::alloc::Global;
 use std::marker::Model;
 use ttm_base::{Actor, ItemList, NoMemory, Turn};
-use turn_order::own_order;
 
 /// A memory manager that runs a script, and the journal of what it did.
 pub struct Device {

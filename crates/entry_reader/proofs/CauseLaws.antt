@@ -17,14 +17,14 @@ use Rattle.journal_model.specs.CommandRules.{is_declared}
 use Rattle.journal_model.specs.ScriptRules.{is_letter, is_letter_or_digit, is_name, is_script}
 use Rattle.journal_model.specs.Readable.{is_cause, is_cause_row, is_dry_why}
 use Rattle.journal_model.specs.Reading.{known, names_of}
-use Rattle.law_items.proofs.Tests.{both, joint}
-use Rattle.law_script.proofs.CutLaws.{cut_again, joined, lacks}
-use Rattle.law_script.proofs.WordLaws.{bytes_are}
-use Rattle.law_script.proofs.NamesAgain.{known_again}
-use Rattle.law_script.proofs.PlaceAgain.{lacks_by}
-use Rattle.law_script.proofs.BufferSteps.{same_is}
-use Rattle.law_report.proofs.Names.{declared_name}
-use Rattle.law_report.proofs.Listed.{rows_not_short}
+use Rattle.law_legal.proofs.law_items.Tests.{both, joint}
+use Rattle.law_legal.proofs.law_script.CutLaws.{cut_again, joined, lacks}
+use Rattle.law_legal.proofs.law_script.WordLaws.{bytes_are}
+use Rattle.law_legal.proofs.law_script.NamesAgain.{known_again}
+use Rattle.law_legal.proofs.law_script.PlaceAgain.{lacks_by}
+use Rattle.law_legal.proofs.law_script.BufferSteps.{same_is}
+use Rattle.law_legal.proofs.law_report.Names.{declared_name}
+use Rattle.law_legal.proofs.law_report.Listed.{rows_not_short}
 use Rattle.entry_reader.specs.EntryReading.{cause_of, dry_of, list_of, reserved_of, row_of, row_parts, row_with, u64_of, with_two}
 use Rattle.entry_reader.proofs.Wholes.{Told, one_made, one_told, told_at, told_if, two_made, two_told}
 use Rattle.entry_reader.proofs.Lists.{IsItem, list_again, list_told, none_append, none_is}

@@ -20,16 +20,16 @@ use Rattle.journal_model.specs.ScriptRules.{is_actor, is_script}
 use Rattle.journal_model.specs.Readable.{is_kind, is_readable, is_some_actor, is_u64}
 use Rattle.journal_model.specs.Reading.{actor_of, engine_actor, is_plain, names_of, read_on, thread_actor}
 use Rattle.journal_model.specs.Verdict.{IsEntryText, has_actor}
-use Rattle.law_items.proofs.Tests.{both, joint, lt_is, is_le}
-use Rattle.law_script.proofs.CutLaws.{cut_again, lacks}
-use Rattle.law_script.proofs.TextLaws.{text_is_line}
-use Rattle.law_script.proofs.HeadLaws.{actor_takes}
-use Rattle.law_script.proofs.NumberLaws.{between}
-use Rattle.law_script.proofs.NamesAgain.{actor_again}
-use Rattle.law_script.proofs.PlaceAgain.{lacks_by}
-use Rattle.law_report.proofs.Items.{above}
-use Rattle.law_report.proofs.SmallWords.{actor_above, word_above}
-use Rattle.law_report.proofs.EntryWords.{kind_above}
+use Rattle.law_legal.proofs.law_items.Tests.{both, joint, lt_is, is_le}
+use Rattle.law_legal.proofs.law_script.CutLaws.{cut_again, lacks}
+use Rattle.law_legal.proofs.law_script.TextLaws.{text_is_line}
+use Rattle.law_legal.proofs.law_script.HeadLaws.{actor_takes}
+use Rattle.law_legal.proofs.law_script.NumberLaws.{between}
+use Rattle.law_legal.proofs.law_script.NamesAgain.{actor_again}
+use Rattle.law_legal.proofs.law_script.PlaceAgain.{lacks_by}
+use Rattle.law_legal.proofs.law_report.Items.{above}
+use Rattle.law_legal.proofs.law_report.SmallWords.{actor_above, word_above}
+use Rattle.law_legal.proofs.law_report.EntryWords.{kind_above}
 use Rattle.entry_reader.specs.EntryReading.{entry_by, entry_of, entry_of_words, is_number, kind_of, u64_of}
 use Rattle.entry_reader.specs.Read.{IsRead}
 use Rattle.entry_reader.proofs.Wholes.{Told, one_told, told_at, told_if}

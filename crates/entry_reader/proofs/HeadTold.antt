@@ -12,10 +12,10 @@ use Rattle.journal_model.specs.FirstFault.{ends_line, without_end}
 use Rattle.journal_model.specs.ReportText.{report_head}
 use Rattle.journal_model.specs.Readable.{is_u64}
 use Rattle.script_words.specs.Lines.{line_len}
-use Rattle.law_items.proofs.Tests.{and_true, joint}
-use Rattle.law_script.proofs.WordLaws.{bytes_are}
-use Rattle.law_script.proofs.CutLaws.{cut_again, lacks}
-use Rattle.law_script.proofs.TextLaws.{text_is_line}
+use Rattle.law_legal.proofs.law_items.Tests.{and_true, joint}
+use Rattle.law_legal.proofs.law_script.WordLaws.{bytes_are}
+use Rattle.law_legal.proofs.law_script.CutLaws.{cut_again, lacks}
+use Rattle.law_legal.proofs.law_script.TextLaws.{text_is_line}
 use Rattle.entry_reader.specs.EntryReading.{is_number, u64_of}
 use Rattle.entry_reader.specs.HeadReading.{count_of, numbered_of, numbered_words}
 use Rattle.entry_reader.specs.Parsing.{HasNoHead, IsHead}

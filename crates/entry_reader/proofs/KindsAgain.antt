@@ -12,10 +12,10 @@ use Rattle.journal_model.specs.CommandRules.{is_declared}
 use Rattle.journal_model.specs.ScriptRules.{is_script}
 use Rattle.journal_model.specs.Readable.{are_bytes, is_dry_why, is_kind, is_left, is_span, is_u32, is_u64}
 use Rattle.journal_model.specs.Reading.{bytes_in_hex, known, mem_of, names_of}
-use Rattle.law_items.proofs.Tests.{both}
-use Rattle.law_script.proofs.AgainLaws.{bytes_again}
-use Rattle.law_script.proofs.WordLaws.{mem_again}
-use Rattle.law_script.proofs.NamesAgain.{IsNamed, known_again}
+use Rattle.law_legal.proofs.law_items.Tests.{both}
+use Rattle.law_legal.proofs.law_script.AgainLaws.{bytes_again}
+use Rattle.law_legal.proofs.law_script.WordLaws.{mem_again}
+use Rattle.law_legal.proofs.law_script.NamesAgain.{IsNamed, known_again}
 use Rattle.entry_reader.specs.EntryReading.{deny_of, dry_of, engine_of, kind_of, left_of, list_of, on_buffer, piece_of, span_of, u32_of, u64_of, why_of}
 use Rattle.entry_reader.proofs.Wholes.{four_made, one_made, three_made, two_made}
 use Rattle.entry_reader.proofs.WordLaws.{deny_again, engine_again, left_again, piece_again, spans_again, u32_again, u64_again, why_again}

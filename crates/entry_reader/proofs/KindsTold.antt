@@ -12,8 +12,8 @@ use Rattle.journal_model.specs.EntryText.{kind_words, piece_words}
 use Rattle.journal_model.specs.CommandRules.{is_declared}
 use Rattle.journal_model.specs.Readable.{are_bytes, is_dry_why, is_kind, is_left, is_span, is_u32, is_u64}
 use Rattle.journal_model.specs.Reading.{bytes_in_hex, known, mem_of, names_of}
-use Rattle.law_items.proofs.Tests.{joint}
-use Rattle.law_script.proofs.WordLaws.{bytes_are}
+use Rattle.law_legal.proofs.law_items.Tests.{joint}
+use Rattle.law_legal.proofs.law_script.WordLaws.{bytes_are}
 use Rattle.entry_reader.specs.EntryReading.{buffer_kind, deny_of, dry_of, engine_of, find_kind, kind_of, kind_of_four, kind_of_one, kind_of_three, kind_of_two, left_of, list_of, on_buffer, page_kind, pair_kind, piece_of, plain_kind, read_kind, span_of, u32_of, u64_of, why_of, with_four, with_three, with_two}
 use Rattle.entry_reader.proofs.Wholes.{Told, five_words, four_told, four_words, one_told, three_told, three_words, told_if, two_told, two_words}
 use Rattle.entry_reader.proofs.WordLaws.{bytes_told, deny_told, engine_told, known_told, left_told, mem_told, piece_told, spans_told, u32_told, u64_told, why_told}

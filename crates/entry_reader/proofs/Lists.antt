@@ -4,9 +4,9 @@ use Rattle.std.specs.Prelude.{◌&&◌, ◌||◌, not, codes}
 use Rattle.std.specs.List.{join_with_byte, list_all, list_any}
 use Rattle.journal_model.specs.Words.{Text, listed}
 use Rattle.journal_model.specs.Cut.{cut_at}
-use Rattle.law_items.proofs.Tests.{either, both, joint}
-use Rattle.law_script.proofs.WordLaws.{bytes_are}
-use Rattle.law_script.proofs.CutLaws.{cut_some, joined, cut_again, lacks}
+use Rattle.law_legal.proofs.law_items.Tests.{either, both, joint}
+use Rattle.law_legal.proofs.law_script.WordLaws.{bytes_are}
+use Rattle.law_legal.proofs.law_script.CutLaws.{cut_some, joined, cut_again, lacks}
 use Rattle.entry_reader.specs.EntryReading.{all_of, list_of}
 use Rattle.entry_reader.proofs.Wholes.{Told, told_at, told_if, told_by, two_told, two_made}
 

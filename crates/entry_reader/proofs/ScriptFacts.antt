@@ -7,9 +7,9 @@ use Rattle.journal_model.specs.CommandRules.{command_len, is_between, is_command
 use Rattle.journal_model.specs.ScriptRules.{has_distinct_names, has_sizes, is_decl, is_script, is_turn_line}
 use Rattle.journal_model.specs.MarkRules.{have_marks}
 use Rattle.journal_model.specs.Readable.{is_u64}
-use Rattle.law_items.proofs.Tests.{both, le_is, lt_is}
-use Rattle.law_script.proofs.NamesAgain.{IsNamed}
-use Rattle.law_script.proofs.NumberLaws.{between}
+use Rattle.law_legal.proofs.law_items.Tests.{both, le_is, lt_is}
+use Rattle.law_legal.proofs.law_script.NamesAgain.{IsNamed}
+use Rattle.law_legal.proofs.law_script.NumberLaws.{between}
 
 -- the tests that count here, of ten
 record SixTests (a b c d e f : Bool) : Type 0 where

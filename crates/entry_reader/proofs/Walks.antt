@@ -8,9 +8,9 @@ use Rattle.journal_model.specs.Words.{Text}
 use Rattle.journal_model.specs.Reading.{names_of}
 use Rattle.journal_model.specs.ScriptRules.{has_distinct_names, same_text}
 use Rattle.script_words.proofs.Cuts.{drop_here}
-use Rattle.law_items.proofs.Tests.{both, either, not_true}
-use Rattle.law_script.proofs.AgainLaws.{turned}
-use Rattle.law_script.proofs.BufferSteps.{same_is}
+use Rattle.law_legal.proofs.law_items.Tests.{both, either, not_true}
+use Rattle.law_legal.proofs.law_script.AgainLaws.{turned}
+use Rattle.law_legal.proofs.law_script.BufferSteps.{same_is}
 use Rattle.entry_reader.specs.EntryReading.{all_of, with_two}
 
 -- ---- items that are read one by one

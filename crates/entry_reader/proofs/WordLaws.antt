@@ -22,14 +22,14 @@ use Rattle.journal_model.specs.Cut.{cut_at}
 use Rattle.journal_model.specs.CommandRules.{is_declared}
 use Rattle.journal_model.specs.Readable.{are_bytes, is_left, is_span, is_u32, is_u64}
 use Rattle.journal_model.specs.Reading.{bytes_in_hex, is_digit, known, mem_of, names_of}
-use Rattle.law_items.proofs.Tests.{both, joint, lt_is, true_lt}
-use Rattle.law_script.proofs.NumberLaws.{number_again, number_takes, own}
-use Rattle.law_script.proofs.HexLaws.{bytes_take}
-use Rattle.law_script.proofs.CommandFits.{bytes_small}
-use Rattle.law_script.proofs.AgainLaws.{bytes_again}
-use Rattle.law_script.proofs.CutLaws.{cut_append, cut_free, joined}
-use Rattle.law_script.proofs.WordLaws.{IsMemOf, bytes_are, known_is, mem_is}
-use Rattle.law_script.proofs.PlaceAgain.{lacks_by}
+use Rattle.law_legal.proofs.law_items.Tests.{both, joint, lt_is, true_lt}
+use Rattle.law_legal.proofs.law_script.NumberLaws.{number_again, number_takes, own}
+use Rattle.law_legal.proofs.law_script.HexLaws.{bytes_take}
+use Rattle.law_legal.proofs.law_script.CommandFits.{bytes_small}
+use Rattle.law_legal.proofs.law_script.AgainLaws.{bytes_again}
+use Rattle.law_legal.proofs.law_script.CutLaws.{cut_append, cut_free, joined}
+use Rattle.law_legal.proofs.law_script.WordLaws.{IsMemOf, bytes_are, known_is, mem_is}
+use Rattle.law_legal.proofs.law_script.PlaceAgain.{lacks_by}
 use Rattle.entry_reader.specs.EntryReading.{deny_of, engine_of, left_of, list_of, piece_of, span_between, span_of, span_parts, span_with, u32_of, u64_of, why_of}
 use Rattle.entry_reader.proofs.Wholes.{Told, one_told, told_at, told_by, told_if}
 use Rattle.entry_reader.proofs.Lists.{IsItem, list_again, list_told, none_append, none_is}

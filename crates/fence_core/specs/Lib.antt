@@ -1,3 +1,4 @@
+pub mod resv_object
 pub mod Timelines
 pub mod Fences
 pub mod Sound

@@ -1,1 +1,2 @@
+pub mod page_pool
 pub mod Bits

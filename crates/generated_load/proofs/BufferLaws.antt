@@ -14,8 +14,8 @@ use Rattle.journal_model.specs.Spelling.{buffer_line, placement_words}
 use Rattle.journal_model.specs.Commands.{decl, undeclared}
 use Rattle.journal_model.specs.CommandRules.{is_between, is_range_of}
 use Rattle.journal_model.specs.ScriptRules.{is_decl, is_name, is_group, is_place_list, same_text, has_distinct_names}
-use Rattle.law_items.proofs.Tests.{both, joint, is_le}
-use Rattle.law_items.proofs.ListFacts.{all_more, sum_more}
+use Rattle.law_legal.proofs.law_items.Tests.{both, joint, is_le}
+use Rattle.law_legal.proofs.law_items.ListFacts.{all_more, sum_more}
 use Rattle.generated_load.specs.Draws.{draw}
 use Rattle.generated_load.specs.Buffers.{load_name, load_pages, load_placement, load_buffer, load_buffers}
 use Rattle.generated_load.proofs.DrawLaws.{draw_below}

@@ -16,8 +16,8 @@ use Rattle.journal_model.specs.Commands.{named, first_mentions, buffers_of_op}
 use Rattle.journal_model.specs.Words.{Text, line, name_of}
 use Rattle.journal_model.specs.Spelling.{command_words, op_words}
 use Rattle.journal_model.specs.CommandRules.{is_between, is_range_of, is_op, is_byte, is_command, command_len}
-use Rattle.law_items.proofs.Tests.{and_true, both, is_le, joint}
-use Rattle.law_items.proofs.ListFacts.{all_more, length_more, sum_more}
+use Rattle.law_legal.proofs.law_items.Tests.{and_true, both, is_le, joint}
+use Rattle.law_legal.proofs.law_items.ListFacts.{all_more, length_more, sum_more}
 use Rattle.generated_load.specs.declared.choices.Choice.{Choice}
 use Rattle.generated_load.specs.declared.choices.ChoiceKind.{ChoiceKind}
 use Rattle.generated_load.specs.declared.choices.ChoiceKind.TheVariants as kind

@@ -12,9 +12,9 @@ use Rattle.journal_model.specs.Words.{Text, line}
 use Rattle.journal_model.specs.Spelling.{buffer_line, spelling}
 use Rattle.journal_model.specs.CommandRules.{command_len}
 use Rattle.journal_model.specs.ScriptRules.{is_script}
-use Rattle.law_items.proofs.Tests.{joint, is_le}
-use Rattle.law_items.proofs.ListFacts.{has_few}
-use Rattle.law_script.proofs.Sound.{frame, six}
+use Rattle.law_legal.proofs.law_items.Tests.{joint, is_le}
+use Rattle.law_legal.proofs.law_items.ListFacts.{has_few}
+use Rattle.law_legal.proofs.law_script.Sound.{frame, six}
 use Rattle.journal_model.specs.ScriptRules.{IsScript}
 use Rattle.generated_load.specs.Draws.{seeded}
 use Rattle.generated_load.specs.Buffers.{load_sizes, load_buffers}

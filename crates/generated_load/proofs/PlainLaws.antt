@@ -9,12 +9,12 @@ use Rattle.journal_model.specs.declared.script.Command.{Command}
 use Rattle.journal_model.specs.Words.{Text, line}
 use Rattle.journal_model.specs.Spelling.{buffer_line, command_words, turn_line, spelling}
 use Rattle.journal_model.specs.MarkRules.{Desk, empty_desk, have_marks}
-use Rattle.law_items.specs.Items.{Item, Asks, ComesFrom, commands_in, marks_in, numbered, item_text, items_text, item_fits, all_along, items_fit}
-use Rattle.law_items.proofs.ListFacts.{has_few}
-use Rattle.law_items.proofs.Tests.{both, joint}
-use Rattle.law_items.proofs.Fits.{marks_of_items}
-use Rattle.law_script.proofs.Sound.{frame, six}
-use Rattle.law_script.proofs.TakesScript.{spelled_by}
+use Rattle.law_legal.specs.law_items.Items.{Item, Asks, ComesFrom, commands_in, marks_in, numbered, item_text, items_text, item_fits, all_along, items_fit}
+use Rattle.law_legal.proofs.law_items.ListFacts.{has_few}
+use Rattle.law_legal.proofs.law_items.Tests.{both, joint}
+use Rattle.law_legal.proofs.law_items.Fits.{marks_of_items}
+use Rattle.law_legal.proofs.law_script.Sound.{frame, six}
+use Rattle.law_legal.proofs.law_script.TakesScript.{spelled_by}
 
 -- ---- the text
 

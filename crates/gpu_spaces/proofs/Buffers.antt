@@ -9,11 +9,11 @@ use Rattle.ttm_base.specs.declared.Span.{Span}
 use Rattle.journal_model.specs.State.{has_buffer}
 use Rattle.journal_model.specs.Spaces.{Region, does_meet}
 use Rattle.journal_model.specs.ByName.{has_byte_of}
-use Rattle.law_spaces.specs.Rising.{IsRising}
+use Rattle.law_legal.specs.law_spaces.Rising.{IsRising}
 use Rattle.gpu_spaces.specs.declared.mappings.Rest.{Rest}
 use Rattle.gpu_spaces.specs.Kept.{region_at}
 use Rattle.gpu_spaces.specs.Sets.{IsSetOf}
-use Rattle.buffer_set.specs.Members.{is_member}
+use Rattle.gpu_spaces.specs.buffer_set.Members.{is_member}
 use Rattle.gpu_spaces.proofs.Meeting.{is_within}
 
 pub buffers_met : (range : Span) (first : ℕ) (es its : List (ℕ × Rest)) → its ≡ filter (is_within first range) es → filter (does_meet range) (map region_at es) ≡ map region_at (filter (is_within first range) es) →

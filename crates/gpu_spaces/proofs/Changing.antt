@@ -8,12 +8,12 @@ use Rattle.std.proofs.lemmas.List.Folds.{find-append}
 use Rattle.ttm_base.specs.declared.Span.{Span}
 use Rattle.ttm_base.specs.Holes.{has_page}
 use Rattle.journal_model.specs.Spaces.{Region}
-use Rattle.law_spaces.specs.Rising.{IsRising, IsPast}
-use Rattle.law_spaces.specs.Sides.{head_of, tail_of, sides}
-use Rattle.law_spaces.proofs.Found.{found_past, found_passes, has_parts}
-use Rattle.law_spaces.proofs.Sides.{cut, cut_whole}
-use Rattle.law_spaces.proofs.Order.{rising_with_nothing, rising_with_one}
-use Rattle.law_spaces.proofs.Points.{or_none}
+use Rattle.law_legal.specs.law_spaces.Rising.{IsRising, IsPast}
+use Rattle.law_legal.specs.law_spaces.Sides.{head_of, tail_of, sides}
+use Rattle.law_legal.proofs.law_spaces.Found.{found_past, found_passes, has_parts}
+use Rattle.law_legal.proofs.law_spaces.Sides.{cut, cut_whole}
+use Rattle.law_legal.proofs.law_spaces.Order.{rising_with_nothing, rising_with_one}
+use Rattle.law_legal.proofs.law_spaces.Points.{or_none}
 use Rattle.gpu_spaces.specs.Regions.{starts_at, starting, head_at, tail_at, over, set_at, IsAfter, IsOrdered, AreSmall}
 
 -- the mapping that has a page

@@ -11,12 +11,12 @@ use Rattle.std.proofs.lemmas.Simd.{map-map}
 use Rattle.ttm_base.specs.declared.Span.{Span}
 use Rattle.ttm_base.specs.Holes.{has_page}
 use Rattle.journal_model.specs.Spaces.{Region, does_meet, step_at}
-use Rattle.law_spaces.specs.Rising.{IsRising, IsPast}
+use Rattle.law_legal.specs.law_spaces.Rising.{IsRising, IsPast}
 use Rattle.gpu_spaces.specs.declared.mappings.Rest.{Rest}
 use Rattle.gpu_spaces.specs.declared.mappings.Mapping.{Mapping}
 use Rattle.gpu_spaces.specs.Kept.{region_at, region_of}
 use Rattle.gpu_spaces.specs.Regions.{AreSmall, starting, head_at, tail_at, over, set_at}
-use Rattle.law_spaces.proofs.Found.{found_past, found_passes, has_parts}
+use Rattle.law_legal.proofs.law_spaces.Found.{found_past, found_passes, has_parts}
 use Rattle.gpu_spaces.proofs.Changing.{having, found_small, tail_is_fresh, IsNew, IsElsewhere, tail_elsewhere, head_is_there}
 
 -- an entry begins from a page on and before the end of a range

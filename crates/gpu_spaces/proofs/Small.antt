@@ -7,9 +7,9 @@ use Rattle.ttm_base.specs.declared.BufId.{BufId}
 use Rattle.ttm_base.specs.Holes.{has_page}
 use Rattle.journal_model.specs.declared.script.MarkKind.TheVariants as mark
 use Rattle.journal_model.specs.Spaces.{Region, new_region, regions_after}
-use Rattle.law_spaces.specs.Rising.{IsRising}
-use Rattle.law_spaces.specs.Sides.{head_of, tail_of, sides}
-use Rattle.law_spaces.proofs.Sides.{after_is_sides, pages_of_rising}
+use Rattle.law_legal.specs.law_spaces.Rising.{IsRising}
+use Rattle.law_legal.specs.law_spaces.Sides.{head_of, tail_of, sides}
+use Rattle.law_legal.proofs.law_spaces.Sides.{after_is_sides, pages_of_rising}
 use Rattle.gpu_spaces.specs.declared.mappings.Mapping.{Mapping}
 use Rattle.gpu_spaces.specs.Kept.{region_of}
 use Rattle.gpu_spaces.specs.Regions.{AreSmall, IsKept}

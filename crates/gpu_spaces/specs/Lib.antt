@@ -1,3 +1,4 @@
+pub mod buffer_set
 pub mod Kept
 pub mod Regions
 pub mod Spots

@@ -1,7 +1,7 @@
 -- Mappings found by their first pages, and changed there.
 use Rattle.std.specs.Prelude.{ℕ, ◌+◌, ◌-◌, ◌<◌, ◌≤◌, Bool, List, [], ◌∷◌, Option, Some, None, ◌==◌, nat_lt, find, if◌then◌else◌}
 use Rattle.journal_model.specs.Spaces.{Region, part_of}
-use Rattle.law_spaces.specs.Rising.{IsRising}
+use Rattle.law_legal.specs.law_spaces.Rising.{IsRising}
 
 -- a mapping begins at a page
 abbrev pub starts_at : ℕ → Region → Bool

@@ -2,7 +2,7 @@
 use Rattle.std.specs.Prelude.{◌≡◌, ℕ, List}
 use Rattle.ttm_base.specs.declared.BufId.{BufId}
 use Rattle.journal_model.specs.State.{has_buffer}
-use Rattle.buffer_set.specs.Members.{is_member}
+use Rattle.gpu_spaces.specs.buffer_set.Members.{is_member}
 
 -- the set has the buffers of the list
 abbrev pub IsSetOf : List ℕ → List BufId → Type 0

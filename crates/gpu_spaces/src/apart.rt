@@ -5,14 +5,14 @@ ghost use Rattle.journal_model.specs.Spaces.{does_meet};
 ghost use Rattle.journal_model.specs.ByName as name;
 ghost use Rattle.journal_model.specs.MarkRules as marks;
 ghost use Rattle.journal_model.specs.MarkRules.{has_apart_ranges};
-ghost use Rattle.law_spaces.specs.Rising.{IsRising};
+ghost use Rattle.law_legal.specs.law_spaces.Rising.{IsRising};
 ghost use Rattle.gpu_spaces.specs.Inside.{is_inside};
 ghost use Rattle.gpu_spaces.specs.Kept.{regions_in};
 ghost use Rattle.gpu_spaces.specs.Sets.{IsSetOf};
-ghost use Rattle.buffer_set.specs.Members.{is_member};
+ghost use Rattle.gpu_spaces.specs.buffer_set.Members.{is_member};
 
+use crate::buffer_set::BufferSet;
 use crate::mappings::{Mappings, around};
-use buffer_set::BufferSet;
 use journal_model::{BufIds, VOp};
 use std::alloc::Global;
 use ttm_base::{BufId, NoMemory, Span};

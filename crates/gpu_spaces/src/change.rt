@@ -1,6 +1,6 @@
 //! What a request does to the mappings.
 ghost use Rattle.std.specs.Prelude.{◌≡◌, ℕ, ◌+◌, ◌-◌, ◌<◌, ◌≤◌, IsSome, IfSome, OnOk, OnErr, None, option_map, option_to_list};
-ghost use Rattle.law_spaces.specs.Sides.{sides};
+ghost use Rattle.law_legal.specs.law_spaces.Sides.{sides};
 ghost use Rattle.gpu_spaces.specs.Kept.{regions_in, region_of};
 ghost use Rattle.gpu_spaces.specs.Regions.{starting, head_at, tail_at, over, set_at, IsOrdered, IsKept};
 

@@ -2,6 +2,7 @@
 #![tactic(auto)]
 
 mod apart;
+pub mod buffer_set;
 mod change;
 mod job;
 mod mappings;

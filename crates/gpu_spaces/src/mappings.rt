@@ -3,7 +3,7 @@ ghost use Rattle.std.specs.Prelude.{◌≡◌, ℕ, ◌+◌, ◌<◌, ◌≤◌,
 ghost use Rattle.std.specs.BTreeMap.{ContainsKey};
 ghost use Rattle.std.specs.Ordering.{nat_cmp};
 ghost use Rattle.ttm_base.specs.Holes.{has_page};
-ghost use Rattle.law_spaces.specs.Rising.{IsRising};
+ghost use Rattle.law_legal.specs.law_spaces.Rising.{IsRising};
 ghost use Rattle.gpu_spaces.specs.Kept.{regions_in, region_at, region_of};
 ghost use Rattle.gpu_spaces.specs.Regions.{starting, over, set_at, IsOrdered};
 

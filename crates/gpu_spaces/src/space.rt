@@ -145,8 +145,8 @@ impl Space {
 impl Space {
     ghost use Rattle.std.specs.Prelude.{◌≡◌, ◌+◌, ◌-◌, ◌<◌, ◌≤◌, ◌++◌, [], IfSome, OnOk, OnErr, map, filter, option_map, option_to_list};
     ghost use Rattle.journal_model.specs.Spaces.{does_meet, step_at, map_step};
-    ghost use Rattle.law_spaces.specs.Rising.{IsRising};
-    ghost use Rattle.law_spaces.specs.Sides.{sides};
+    ghost use Rattle.law_legal.specs.law_spaces.Rising.{IsRising};
+    ghost use Rattle.law_legal.specs.law_spaces.Sides.{sides};
     ghost use Rattle.gpu_spaces.specs.Kept.{region_of};
 
     /// Tells the steps of a request, and gives the pages of its range to a mapping, or to none.

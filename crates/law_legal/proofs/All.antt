@@ -9,18 +9,18 @@ use Rattle.journal_model.specs.declared.entry.Kind.TheVariants as kind
 use Rattle.journal_model.specs.ScriptRules.{is_script}
 use Rattle.journal_model.specs.Next.{next}
 use Rattle.journal_model.specs.Legal.{IsLegal, first_world, world_along, state_of}
-use Rattle.law_state.proofs.Shown.{shows, legal_plain}
-use Rattle.law_owners.proofs.Fronts.{legal_front, throughout_law}
-use Rattle.law_end.proofs.Ends.{journals_end}
-use Rattle.law_lists.proofs.Caught.{victims_law}
-use Rattle.law_answers.proofs.InOrder.{legal_at, in_order}
-use Rattle.law_causes.proofs.Law.{all_caused, all_refusals}
-use Rattle.law_causes.proofs.Reasons.{dry_explained}
-use Rattle.law_transparent.proofs.Law.{transparent_given}
-use Rattle.law_transparent.proofs.Ways.{have_ways}
-use Rattle.law_readable.proofs.Law.{readable_law, texts_differ}
-use Rattle.law_maps.proofs.Right.{maps_right}
-use Rattle.law_addresses.proofs.Jobs.{jobs_mean}
+use Rattle.laws.proofs.law_state.Shown.{shows, legal_plain}
+use Rattle.laws.proofs.law_owners.Fronts.{legal_front, throughout_law}
+use Rattle.laws.proofs.law_end.Ends.{journals_end}
+use Rattle.laws.proofs.law_lists.Caught.{victims_law}
+use Rattle.laws.proofs.law_answers.InOrder.{legal_at, in_order}
+use Rattle.laws.proofs.law_causes.Law.{all_caused, all_refusals}
+use Rattle.laws.proofs.law_causes.Reasons.{dry_explained}
+use Rattle.laws.proofs.law_transparent.Law.{transparent_given}
+use Rattle.laws.proofs.law_transparent.Ways.{have_ways}
+use Rattle.law_legal.proofs.law_readable.Law.{readable_law, texts_differ}
+use Rattle.law_legal.proofs.law_maps.Right.{maps_right}
+use Rattle.law_legal.proofs.law_addresses.Jobs.{jobs_mean}
 use Rattle.law_legal.specs.KeepsLaws.{KeepsLaws, DryPlacesAreExplained, RefusalsLeaveNothing}
 
 module _ (script : Script) (journal : List Entry) (fits : IsTrue (is_script script)) (h : IsLegal script journal) where

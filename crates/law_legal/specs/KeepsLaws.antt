@@ -15,12 +15,12 @@ use Rattle.journal_model.specs.ReportText.{report}
 use Rattle.journal_model.specs.Laws.{HasCauses}
 use Rattle.journal_model.specs.MarkLaws.{MapsAreRight}
 use Rattle.journal_model.specs.Transparent.{IsTransparent}
-use Rattle.law_owners.specs.Throughout.{HoldThroughout}
-use Rattle.law_lists.specs.NamedVictims.{NamesVictims}
-use Rattle.law_answers.specs.InOrder.{AreInOrder}
-use Rattle.law_causes.specs.Explains.{Explains}
-use Rattle.law_causes.specs.Refused.{LeavesNothing}
-use Rattle.law_addresses.specs.Addressed.{JobsMeanAddresses}
+use Rattle.laws.specs.law_owners.Throughout.{HoldThroughout}
+use Rattle.laws.specs.law_lists.NamedVictims.{NamesVictims}
+use Rattle.laws.specs.law_answers.InOrder.{AreInOrder}
+use Rattle.laws.specs.law_causes.Explains.{Explains}
+use Rattle.laws.specs.law_causes.Refused.{LeavesNothing}
+use Rattle.law_legal.specs.law_addresses.Addressed.{JobsMeanAddresses}
 
 -- each dry entry says `short`, or names each live buffer in the place's manager with its first cause
 abbrev pub DryPlacesAreExplained : Script → List Entry → Type 0

@@ -1,1 +1,9 @@
+pub mod law_maps
+pub mod law_verdict
+pub mod law_readable
+pub mod law_report
+pub mod law_addresses
+pub mod law_script
+pub mod law_items
+pub mod law_spaces
 pub mod KeepsLaws

@@ -1,6 +1,15 @@
 //! What holds of each legal journal of a script, in one record.
 #![tactic(auto)]
 
+pub mod law_addresses;
+pub mod law_items;
+pub mod law_maps;
+pub mod law_readable;
+pub mod law_report;
+pub mod law_script;
+pub mod law_spaces;
+pub mod law_verdict;
+
 ghost use Rattle.std.specs.Prelude.{IsTrue, List};
 ghost use Rattle.journal_model.specs.declared.script.Script.{Script};
 ghost use Rattle.journal_model.specs.declared.entry.Entry.{Entry};

@@ -4,8 +4,8 @@ use Rattle.std.specs.Prelude.{map}
 use Rattle.ttm_base.specs.declared.Op.{Op}
 use Rattle.ttm_base.specs.declared.Op.TheVariants as op
 use Rattle.ttm_base.specs.Cutting.{Piece, PageMap, pieces_of, packet_of, packets_of}
-use Rattle.law_cutting.specs.Parts.{IsPiece}
-use Rattle.law_cutting.proofs.Whole.{Each, pieces_are}
+use Rattle.laws.specs.law_cutting.Parts.{IsPiece}
+use Rattle.laws.proofs.law_cutting.Whole.{Each, pieces_are}
 use Rattle.copy_packet.specs.declared.stores.Stores.{Stores}
 use Rattle.copy_packet.specs.Runs.{CanRun}
 use Rattle.law_packets.specs.Through.{AllInside, IsInside}

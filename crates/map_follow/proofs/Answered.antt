@@ -21,8 +21,8 @@ use Rattle.journal_model.specs.Places.{page_at}
 use Rattle.journal_model.specs.State.{buffer, same_buffer}
 use Rattle.cpu_maps.specs.declared.area.Area.{Area}
 use Rattle.cpu_maps.specs.Areas.{entry_in}
-use Rattle.law_sound.proofs.Bufs.{same_is}
-use Rattle.law_maps.specs.Following.{page_there}
+use Rattle.laws.proofs.law_sound.Bufs.{same_is}
+use Rattle.law_legal.specs.law_maps.Following.{page_there}
 use Rattle.map_access.specs.Accesses.{access_in, mapped_from, paged}
 use Rattle.map_access.proofs.Counts.{count_next}
 use Rattle.map_access.proofs.Pages.{meets_is}

@@ -14,7 +14,7 @@ use Rattle.journal_model.specs.State.{same_buffer}
 use Rattle.cpu_maps.specs.declared.area.Area.{Area}
 use Rattle.cpu_maps.specs.Areas.{emptied, entry_in, entry_of, is_of, unmapped, with_entry, with_fault, without_buffer, without_page}
 use Rattle.cpu_maps.proofs.Setting.{length_set}
-use Rattle.law_maps.proofs.Entries.{emptied_entry, emptied_is_of, entry_mapped}
+use Rattle.law_legal.proofs.law_maps.Entries.{emptied_entry, emptied_is_of, entry_mapped}
 use Rattle.map_follow.specs.Ends.{behind_line, with_end}
 use Rattle.map_follow.specs.Follows.{room_of}
 use Rattle.map_follow.specs.Founds.{with_page, with_pages}

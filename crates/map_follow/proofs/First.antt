@@ -15,8 +15,8 @@ use Rattle.journal_model.specs.Mapped.{Mapping, count_answers, has_ended, mapped
 use Rattle.journal_model.specs.State.{same_buffer}
 use Rattle.cpu_maps.specs.declared.area.Area.{Area}
 use Rattle.cpu_maps.specs.Areas.{areas_of, empty_area, entry_in, entry_of, is_of, with_area, with_mark}
-use Rattle.law_maps.specs.Following.{page_there}
-use Rattle.law_sound.proofs.Bufs.{same_is, same_self}
+use Rattle.law_legal.specs.law_maps.Following.{page_there}
+use Rattle.laws.proofs.law_sound.Bufs.{same_is, same_self}
 use Rattle.map_follow.specs.Follows.{Follows, maps_for, room_of, standing}
 
 -- ---- lists

@@ -13,8 +13,8 @@ use Rattle.journal_model.specs.MarkRules.{are_in_order, have_marks}
 use Rattle.journal_model.specs.ScriptRules.{is_script}
 use Rattle.journal_model.specs.State.{course}
 use Rattle.cpu_maps.specs.declared.area.Area.{Area}
-use Rattle.law_state.proofs.Counted.{counted_law}
-use Rattle.law_maps.specs.Following.{areas_behind}
+use Rattle.laws.proofs.law_state.Counted.{counted_law}
+use Rattle.law_legal.specs.law_maps.Following.{areas_behind}
 use Rattle.map_access.specs.Accesses.{access_in}
 use Rattle.map_follow.specs.declared.found.Found.{Found}
 use Rattle.map_follow.specs.Ends.{with_end}

@@ -12,7 +12,7 @@ use Rattle.journal_model.specs.State.{same_buffer}
 use Rattle.journal_model.specs.Mapped.{Mapping, end_of, has_ended, is_through, mapping_of, mappings_in, unmaps}
 use Rattle.journal_model.specs.MarkRules.{are_in_order, is_above}
 use Rattle.map_follow.specs.Follows.{maps_for}
-use Rattle.law_sound.proofs.Bufs.{same_is, same_self}
+use Rattle.laws.proofs.law_sound.Bufs.{same_is, same_self}
 
 -- the line ends the thread's mapping of the buffer, behind so many commands
 abbrev pub ends : ℕ → ℕ → BufId → Mark → Bool

@@ -28,18 +28,18 @@ use Rattle.journal_model.specs.Places.{is_frame, page_at, page_in, page_in_table
 use Rattle.journal_model.specs.ScriptRules.{is_script}
 use Rattle.journal_model.specs.State.{buffer, course, live_in, new_buffer}
 use Rattle.journal_model.specs.Stores.{showing}
-use Rattle.law_state.specs.GoodState.{HasPages}
-use Rattle.law_state.proofs.GoodStates.{good_law}
-use Rattle.law_state.proofs.JobsKeep.{all_at}
-use Rattle.law_state.proofs.Pins.{courses_law}
-use Rattle.law_state.proofs.Rules.{Rules, rules_of}
-use Rattle.law_state.proofs.Shown.{LegalStep, legal_step}
-use Rattle.law_sound.proofs.Along.{sound_law}
-use Rattle.lemma_bytes_told.proofs.Shapes.{Shapely}
-use Rattle.law_transparent.proofs.Carried.{clear_law}
-use Rattle.law_maps.specs.Following.{page_there}
-use Rattle.law_maps.proofs.Stays.{Settled}
-use Rattle.law_maps.proofs.Tells.{IsSettledFor, inside, tells}
+use Rattle.laws.specs.law_state.GoodState.{HasPages}
+use Rattle.laws.proofs.law_state.GoodStates.{good_law}
+use Rattle.laws.proofs.law_state.JobsKeep.{all_at}
+use Rattle.laws.proofs.law_state.Pins.{courses_law}
+use Rattle.laws.proofs.law_state.Rules.{Rules, rules_of}
+use Rattle.laws.proofs.law_state.Shown.{LegalStep, legal_step}
+use Rattle.laws.proofs.law_sound.Along.{sound_law}
+use Rattle.laws.proofs.lemma_bytes_told.Shapes.{Shapely}
+use Rattle.laws.proofs.law_transparent.Carried.{clear_law}
+use Rattle.law_legal.specs.law_maps.Following.{page_there}
+use Rattle.law_legal.proofs.law_maps.Stays.{Settled}
+use Rattle.law_legal.proofs.law_maps.Tells.{IsSettledFor, inside, tells}
 use Rattle.map_access.specs.Accesses.{access_in}
 use Rattle.map_follow.specs.Founds.{framed, place_in, place_of}
 use Rattle.map_follow.proofs.Answered.{AreFound}

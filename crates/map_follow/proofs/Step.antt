@@ -15,8 +15,8 @@ use Rattle.journal_model.specs.Places.{page_at}
 use Rattle.journal_model.specs.State.{buffer, same_buffer}
 use Rattle.cpu_maps.specs.declared.area.Area.{Area}
 use Rattle.cpu_maps.specs.Areas.{entry_in}
-use Rattle.law_maps.specs.Following.{areas_behind, page_there}
-use Rattle.law_maps.proofs.Following as law
+use Rattle.law_legal.specs.law_maps.Following.{areas_behind, page_there}
+use Rattle.law_legal.proofs.law_maps.Following as law
 use Rattle.map_access.proofs.Counts.{count_next}
 use Rattle.map_follow.specs.Follows.{AreUnborn, Follows, entry_along, known, room_of, standing}
 use Rattle.map_follow.proofs.Areas.{room_without_buffer, room_without_page}

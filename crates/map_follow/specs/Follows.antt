@@ -15,7 +15,7 @@ use Rattle.journal_model.specs.Mapped.{Mapping, count_answers, entry_after, mapp
 use Rattle.journal_model.specs.State.{same_buffer}
 use Rattle.cpu_maps.specs.declared.area.Area.{Area}
 use Rattle.cpu_maps.specs.Areas.{entry_in, is_of}
-use Rattle.law_maps.specs.Following.{page_there}
+use Rattle.law_legal.specs.law_maps.Following.{page_there}
 
 -- the mapping of a buffer by a thread that stands behind so many of its commands
 abbrev pub standing : Script → ℕ → ℕ → BufId → Option Mapping

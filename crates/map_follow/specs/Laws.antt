@@ -8,7 +8,7 @@ use Rattle.journal_model.specs.ScriptRules.{is_script}
 use Rattle.journal_model.specs.State.{course}
 use Rattle.cpu_maps.specs.declared.area.Area.{Area}
 use Rattle.cpu_maps.specs.Areas.{areas_of}
-use Rattle.law_maps.specs.Following.{areas_behind}
+use Rattle.law_legal.specs.law_maps.Following.{areas_behind}
 use Rattle.map_follow.specs.Ends.{with_end}
 use Rattle.map_follow.specs.Follows.{Follows, answerer}
 use Rattle.map_follow.specs.Founds.{found_by, place_in, with_found_at}

@@ -1,6 +1,6 @@
 //! What entries of a journal do to mappings.
 ghost use Rattle.std.specs.Prelude.{◌≡◌, ◌<◌, ◌^◌, fold};
-ghost use Rattle.law_maps.specs.Following.{areas_behind};
+ghost use Rattle.law_legal.specs.law_maps.Following.{areas_behind};
 ghost use Rattle.map_follow.specs.Founds.{with_found};
 ghost use Rattle.map_follow.specs.Ends as words;
 

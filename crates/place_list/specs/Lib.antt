@@ -1,1 +1,2 @@
+pub mod rules_places
 pub mod SpanPages

@@ -10,6 +10,7 @@ ghost use Rattle.ttm_base.specs.Placement as rules;
 use ttm_base::{FlaggedPlace, Mem, Place, Placement, Span, Spans};
 
 pub mod page_cursor;
+pub mod rules_places;
 
 pub use page_cursor::PageCursor;
 
@@ -19,7 +20,7 @@ pub fn reach(place: &Place, size: u32) -> (u32, u32)
     ensures start { result.0 ≡ (words.reach place.now size).start }
     ensures end { result.1 ≡ (words.reach place.now size).end }
 {
-    let within = rules_places::reach(*place, size);
+    let within = crate::rules_places::reach(*place, size);
     (within.start, within.end)
 }
 
@@ -31,14 +32,14 @@ pub fn intersects(spans: &Spans, reach: (u32, u32)) -> bool
         start: reach.0,
         end: reach.1,
     };
-    rules_places::intersects(spans.items(), within)
+    crate::rules_places::intersects(spans.items(), within)
 }
 
 /// Some place of the list accepts the resource, whose manager has this size (ttm_resource_compatible).
 pub fn compatible(mem: Mem, spans: &Spans, placement: &Placement, size: u32) -> bool
     ensures { result ≡ rules.compatible mem spans.now placement.now size }
 {
-    rules_places::compatible(mem, spans.items(), placement.list.items(), size)
+    crate::rules_places::compatible(mem, spans.items(), placement.list.items(), size)
 }
 
 /// The place is tried first.

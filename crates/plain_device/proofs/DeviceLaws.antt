@@ -22,13 +22,13 @@ use Rattle.journal_model.specs.Stores.{is_there, within, zeros, stores_after, sh
 use Rattle.journal_model.specs.Complete.{is_over, is_complete}
 use Rattle.journal_model.specs.Legal.{World, first_state, IsLegal, IsLegalNext, state_of, stores_of, world_of, world_after, next_entry, shown_step}
 use Rattle.journal_model.proofs.JournalLaws.{world_of-append, IsLegal-append}
-use Rattle.law_state.proofs.Counted.{over_law}
-use Rattle.law_state.proofs.Shown.{LegalStep, legal_step}
-use Rattle.law_state.proofs.Turns.{next_is_legal}
-use Rattle.law_state.proofs.Rules.{Rules, rules_of, at_work_rules}
-use Rattle.law_state.proofs.GoodStates.{good_law}
-use Rattle.law_state.proofs.Counters.{below_law}
-use Rattle.law_state.proofs.Pins.{courses_law}
+use Rattle.laws.proofs.law_state.Counted.{over_law}
+use Rattle.laws.proofs.law_state.Shown.{LegalStep, legal_step}
+use Rattle.laws.proofs.law_state.Turns.{next_is_legal}
+use Rattle.laws.proofs.law_state.Rules.{Rules, rules_of, at_work_rules}
+use Rattle.laws.proofs.law_state.GoodStates.{good_law}
+use Rattle.laws.proofs.law_state.Counters.{below_law}
+use Rattle.laws.proofs.law_state.Pins.{courses_law}
 use Rattle.rules_apply.specs.Ready.{IsReady, IsReadyFor}
 use Rattle.plain_device.specs.Kept.{Kept, entry_of, with_entry}
 use Rattle.plain_device.specs.Held.{IsHeld, HasNoMore}

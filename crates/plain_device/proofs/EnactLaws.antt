@@ -18,7 +18,7 @@ use Rattle.journal_model.specs.Commands.{command_at_work}
 use Rattle.journal_model.specs.Apply.{apply, applied, thread_of}
 use Rattle.journal_model.specs.Stores.{put_bytes, written, stores_after}
 use Rattle.journal_model.specs.CommandRules.{is_command, is_range_of, is_byte}
-use Rattle.law_state.proofs.Rules.{Rules, at_work_rules}
+use Rattle.laws.proofs.law_state.Rules.{Rules, at_work_rules}
 use Rattle.rules_stores.specs.Writes.{CanStore, IsShortWrite}
 use Rattle.rules_apply.specs.Sure.{takes_no_memory}
 use Rattle.plain_device.specs.Held.{is_result}

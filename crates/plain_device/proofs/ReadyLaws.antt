@@ -39,18 +39,18 @@ use Rattle.journal_model.specs.Search.{Quest, quest, is_caught, through_tt, step
 use Rattle.journal_model.specs.PageSteps.{next_job}
 use Rattle.journal_model.specs.Next.{next, step_of_task, step_of_act, step_of_start}
 use Rattle.journal_model.specs.Stores.{Stores, showing}
-use Rattle.law_state.proofs.JournalCourses.{is_of_engine, is_of_reaper, of_engine, of_reaper, thread_is_there}
-use Rattle.law_state.specs.GoodState.{last_number, GoodState}
-use Rattle.law_state.specs.Counters.{Below}
-use Rattle.law_state.specs.Courses.{GoodCourses}
-use Rattle.law_state.proofs.Lists.{get_within}
-use Rattle.law_state.proofs.JobsKeep.{all_at}
-use Rattle.law_state.proofs.Rules.{Rules, rules_of, declared_pages}
-use Rattle.law_state.proofs.Moves.{ThreadStep, thread_step}
-use Rattle.law_state.proofs.Courses.{is_dry_below, quest_dry}
-use Rattle.law_state.proofs.Pins.{HasPinLeft, result_pins, at_number}
-use Rattle.law_state.proofs.GoodStates.{table_pages}
-use Rattle.rules_parts.specs.Pins.{HasPinsLeft}
+use Rattle.laws.proofs.law_state.JournalCourses.{is_of_engine, is_of_reaper, of_engine, of_reaper, thread_is_there}
+use Rattle.laws.specs.law_state.GoodState.{last_number, GoodState}
+use Rattle.laws.specs.law_state.Counters.{Below}
+use Rattle.laws.specs.law_state.Courses.{GoodCourses}
+use Rattle.laws.proofs.law_state.Lists.{get_within}
+use Rattle.laws.proofs.law_state.JobsKeep.{all_at}
+use Rattle.laws.proofs.law_state.Rules.{Rules, rules_of, declared_pages}
+use Rattle.laws.proofs.law_state.Moves.{ThreadStep, thread_step}
+use Rattle.laws.proofs.law_state.Courses.{is_dry_below, quest_dry}
+use Rattle.laws.proofs.law_state.Pins.{HasPinLeft, result_pins, at_number}
+use Rattle.laws.proofs.law_state.GoodStates.{table_pages}
+use Rattle.rules_state.specs.rules_parts.Pins.{HasPinsLeft}
 use Rattle.rules_search.specs.Room.{HasRoom}
 use Rattle.rules_apply.specs.Ready.{IsThread, CanAnswer, CanShowResult, CanGoDry, CanRun, HasShortTable, has_packets_left, IsReadyFor}
 

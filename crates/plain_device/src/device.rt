@@ -4,7 +4,7 @@ ghost use Rattle.journal_model.specs.Complete.{is_complete};
 ghost use Rattle.journal_model.specs.Legal.{state_of, stores_of};
 ghost use Rattle.journal_model.specs.DeadEnd.{can_step};
 ghost use Rattle.journal_model.specs.Scheduled.{own_order};
-ghost use Rattle.law_sound.specs.Sound.{SomeGoesOn};
+ghost use Rattle.laws.specs.law_sound.Sound.{SomeGoesOn};
 ghost use Rattle.rules_stores.specs.Kept.{bytes_of};
 ghost use Rattle.plain_device.specs.Kept.{entry_of, with_entry, turn_of, after_turn};
 
@@ -12,7 +12,7 @@ use crate::enact::enact;
 use journal_model::{Entry, Script, State};
 use rules_apply::first_state;
 use rules_next::next;
-use rules_schedule::{is_over, next_actor};
+use rules_next::rules_schedule::{is_over, next_actor};
 use rules_stores::PlainStores;
 use std::alloc::Global;
 use std::marker::Model;

@@ -19,8 +19,8 @@ use Rattle.journal_model.specs.Stores.{Stores, zeros, within, stores_after, show
 use Rattle.journal_model.specs.Complete.{is_over, is_complete}
 use Rattle.journal_model.specs.Legal.{World, first_state, first_world, IsLegal, IsLegalFrom, IsLegalNext, state_of, world_of, world_after, world_along, shown_step}
 use Rattle.journal_model.specs.Verdict.{unshown, unshown_step, IsStep}
-use Rattle.law_state.proofs.Shown.{legal_step}
-use Rattle.law_state.proofs.Counted.{over_law}
+use Rattle.laws.proofs.law_state.Shown.{legal_step}
+use Rattle.laws.proofs.law_state.Counted.{over_law}
 use Rattle.rules_search.specs.Room.{HasRoom}
 use Rattle.rules_apply.specs.Ready.{IsReady}
 use Rattle.rules_stores.specs.Kept.{KeptBytes, BecomesBytes, bytes_of}

@@ -18,7 +18,7 @@ use Rattle.journal_model.specs.Complete.{answers_of, is_answer, is_by_thread}
 use Rattle.journal_model.specs.Legal.{World, Made, IsLegal, IsLegalFrom, first_world, made_along, made_of, state_of, world_after, world_along}
 use Rattle.journal_model.specs.Mapped.{Access, Mapping, answered_before, count_answers, entry_after, faulted, has_ended, is_through, mapped_entry, mapping_at, mappings, meets_page, pages_of_access, peek_or_poke}
 use Rattle.journal_model.specs.ReportText.{fault_lines, faults_line, thread_faults}
-use Rattle.law_state.proofs.Counted.{counted_law}
+use Rattle.laws.proofs.law_state.Counted.{counted_law}
 use Rattle.report_mappings.specs.Faults.{access_in, faults_in, faults_text, is_fault, left_by, mapped_from, paged, seen_after, seen_at}
 use Rattle.map_access.proofs.Accesses.{drop_at, found_does}
 use Rattle.map_access.proofs.Counts.{count_next}

@@ -13,8 +13,8 @@ use Rattle.journal_model.specs.Legal.{IsLegal, world_of}
 use Rattle.journal_model.specs.Complete.{is_over}
 use Rattle.journal_model.specs.ReportText.{report}
 use Rattle.journal_model.specs.Verdict.{IsAccepted, IsRejected, TellsNext, no_head, no_step, not_shown, not_complete, no_end}
-use Rattle.law_transparent.proofs.Law.{transparent_given}
-use Rattle.law_transparent.proofs.Ways.{have_ways}
+use Rattle.laws.proofs.law_transparent.Law.{transparent_given}
+use Rattle.laws.proofs.law_transparent.Ways.{have_ways}
 use Rattle.entry_reader.specs.Parsing.{HasEntries, HasNoHead, IsCut, IsWhole}
 use Rattle.entry_reader.proofs.Verdicts.{cut_rejects, right_to, tells_next}
 use Rattle.report_text.specs.Parts.{journal_part}

@@ -9,7 +9,7 @@ ghost use Rattle.report_verdict.specs.Ends.{Ends, rule_of};
 use entry_reader::{Parsed, ReportFault, read_report};
 use journal_model::{Script, State};
 use report_check::{Fault, Outcome, Verdict, check, replay, tail_is};
-use rules_schedule::is_over;
+use rules_next::rules_schedule::is_over;
 use std::alloc::Global;
 use ttm_base::NoMemory;
 

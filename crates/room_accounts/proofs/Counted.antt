@@ -19,9 +19,9 @@ use Rattle.journal_model.specs.Holds.{live_buffers, live_entry, ghost_spans, hel
 use Rattle.journal_model.specs.Account.{Account, account_of, frame_account, slot_account, count_spans, total, are_distinct, has_accounts}
 use Rattle.journal_model.specs.ScriptRules.{is_script}
 use Rattle.journal_model.specs.Legal.{state_of}
-use Rattle.law_owners.proofs.Accounts.{account_law}
-use Rattle.law_state.proofs.GoodStates.{good_law}
-use Rattle.law_sound.proofs.Along.{sound_law}
+use Rattle.laws.proofs.law_owners.Accounts.{account_law}
+use Rattle.laws.proofs.law_state.GoodStates.{good_law}
+use Rattle.laws.proofs.law_sound.Along.{sound_law}
 use Rattle.room_ties.specs.declared.parts.Parts.{Parts}
 use Rattle.room_ties.specs.declared.parts.Ghost.{Ghost}
 use Rattle.room_ties.specs.Bos.{unfenced}

@@ -9,9 +9,9 @@ use Rattle.journal_model.specs.declared.entry.Entry.{Entry}
 use Rattle.journal_model.specs.Legal.{IsLegal, shown_step, state_of}
 use Rattle.journal_model.specs.Next.{head_of, step_of_job}
 use Rattle.journal_model.specs.ScriptRules.{is_script}
-use Rattle.law_state.proofs.GoodStates.{good_law}
-use Rattle.law_state.proofs.JobNames.{found_at}
-use Rattle.room_turns.specs.Turns.{Kept, entry_of, state_behind, world_behind}
+use Rattle.laws.proofs.law_state.GoodStates.{good_law}
+use Rattle.laws.proofs.law_state.JobNames.{found_at}
+use Rattle.room_state.specs.room_turns.Turns.{Kept, entry_of, state_behind, world_behind}
 
 same_context : (ctx e : ℕ) (q : Bool) → ((ctx == e) && q) ≡ true → ctx ≡ e
 same_context ctx e q h = grind arith

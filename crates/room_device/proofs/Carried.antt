@@ -17,12 +17,12 @@ use Rattle.journal_model.specs.PageSteps.{step_of_give_back, target_to_untake}
 use Rattle.journal_model.specs.ScriptRules.{is_script}
 use Rattle.journal_model.specs.Search.{Step}
 use Rattle.journal_model.specs.Tasks.{task_of, stage_of}
-use Rattle.lemma_bytes_told.specs.Told.{IsThere}
-use Rattle.room_turns.specs.Turns.{Kept, state_behind}
-use Rattle.room_turns.specs.Acting.{is_untake}
-use Rattle.room_turns.specs.Turns.{entry_of}
-use Rattle.room_turns.proofs.Threads.{command_at, entry_is, next_at}
-use Rattle.room_turns.proofs.Works.{given_has, has_declared, has_live, unbound_has}
+use Rattle.laws.specs.lemma_bytes_told.Told.{IsThere}
+use Rattle.room_state.specs.room_turns.Turns.{Kept, state_behind}
+use Rattle.room_state.specs.room_turns.Acting.{is_untake}
+use Rattle.room_state.specs.room_turns.Turns.{entry_of}
+use Rattle.room_state.proofs.room_turns.Threads.{command_at, entry_is, next_at}
+use Rattle.room_state.proofs.room_turns.Works.{given_has, has_declared, has_live, unbound_has}
 
 module _ (k : Kept) (t : ℕ) where
   abbrev s : State

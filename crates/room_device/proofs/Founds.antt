@@ -14,12 +14,12 @@ use Rattle.journal_model.specs.declared.entry.Kind.TheVariants as kind
 use Rattle.journal_model.specs.State.{course}
 use Rattle.journal_model.specs.Choice.{choice}
 use Rattle.journal_model.specs.Search.{first_choice, step_of_quest}
-use Rattle.room_turns.specs.Turns.{Kept, state_behind}
-use Rattle.room_turns.specs.Searching.{Hunt, finds_choice, has_choice, hunt_of, place_at_work}
-use Rattle.room_turns.specs.Turns.{entry_of}
-use Rattle.room_turns.proofs.Threads.{entry_is}
-use Rattle.room_turns.proofs.Hunted.{hunter_next}
-use Rattle.room_turns.proofs.Finds.{takes_first, takes_forced, takes_last}
+use Rattle.room_state.specs.room_turns.Turns.{Kept, state_behind}
+use Rattle.room_state.specs.room_turns.Searching.{Hunt, finds_choice, has_choice, hunt_of, place_at_work}
+use Rattle.room_state.specs.room_turns.Turns.{entry_of}
+use Rattle.room_state.proofs.room_turns.Threads.{entry_is}
+use Rattle.room_state.proofs.room_turns.Hunted.{hunter_next}
+use Rattle.room_state.proofs.room_turns.Finds.{takes_first, takes_forced, takes_last}
 use Rattle.room_device.specs.Finds.{found, found_at, or_else, tried_at}
 
 -- ---- place by place

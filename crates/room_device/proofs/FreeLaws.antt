@@ -11,9 +11,9 @@ use Rattle.journal_model.specs.Commands.{command_at_work}
 use Rattle.journal_model.specs.Legal.{IsLegal, state_of}
 use Rattle.journal_model.specs.ScriptRules.{is_script}
 use Rattle.journal_model.specs.Tasks.{task_of}
-use Rattle.law_sound.proofs.Bufs.{same_self}
-use Rattle.room_turns.specs.Acting.{command_in, frees, free_due}
-use Rattle.room_turns.proofs.Works.{acted_has, has_declared}
+use Rattle.laws.proofs.law_sound.Bufs.{same_self}
+use Rattle.room_state.specs.room_turns.Acting.{command_in, frees, free_due}
+use Rattle.room_state.proofs.room_turns.Works.{acted_has, has_declared}
 
 -- the command itself is at work
 due_acts : (script : Script) (s : State) (t : ℕ) → free_due script s t ≡ true → task_of script s t ≡ task.Act

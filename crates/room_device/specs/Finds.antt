@@ -10,7 +10,7 @@ use Rattle.journal_model.specs.declared.script.Script.{Script}
 use Rattle.journal_model.specs.declared.state.State.{State}
 use Rattle.journal_model.specs.Choice.{choice}
 use Rattle.journal_model.specs.Search.{first_choice}
-use Rattle.room_turns.specs.Searching.{Hunt, place_at_work}
+use Rattle.room_state.specs.room_turns.Searching.{Hunt, place_at_work}
 
 -- a place with a choice: its memory type, and the pages
 abbrev pub found_at : Script → State → BufId → Place → Option (Mem × List Span)

@@ -6,17 +6,17 @@ ghost use Rattle.journal_model.specs.declared.state.Task.TheVariants as task;
 ghost use Rattle.journal_model.specs.PageSteps as words;
 ghost use Rattle.journal_model.specs.State as state;
 ghost use Rattle.journal_model.specs.Tasks.{task_of, stage_of};
-ghost use Rattle.lemma_bytes_told.specs.Told.{IsThere};
-ghost use Rattle.room_turns.specs.Turns.{state_behind};
-ghost use Rattle.room_steps.specs.Lent.{as_buffer};
+ghost use Rattle.laws.specs.lemma_bytes_told.Told.{IsThere};
+ghost use Rattle.room_state.specs.room_turns.Turns.{state_behind};
+ghost use Rattle.room_ties.specs.room_steps.Lent.{as_buffer};
 ghost use Rattle.room_ties.specs.Bos.{unfenced};
-ghost use Rattle.room_turns.specs.declared.Step.TheVariants as answer;
-ghost use Rattle.room_turns.specs.Acting.{is_untake, job_before_unbind, made_unless};
-ghost use Rattle.room_turns.specs.Turns.{after_step, entry_of, step_of};
+ghost use Rattle.room_state.specs.declared.room_turns.Step.TheVariants as answer;
+ghost use Rattle.room_state.specs.room_turns.Acting.{is_untake, job_before_unbind, made_unless};
+ghost use Rattle.room_state.specs.room_turns.Turns.{after_step, entry_of, step_of};
 
 use bo_table::Bo;
 use journal_model::{Kind, Left, Task};
-use room_turns::{Rooms, Step, make};
+use room_state::room_turns::{Rooms, Step, make};
 use state_words::{is_caught, target_of};
 use ttm_base::{Actor, BufId, Mem, Need, NoMemory, Usage};
 

@@ -3,10 +3,13 @@
 
 mod carries;
 mod engines;
+pub mod evict_core;
 mod free;
 mod reaper;
 mod search;
+pub mod swap_core;
 mod threads;
 mod turns;
+pub mod validate_list;
 
 pub use turns::turn;

@@ -4,15 +4,17 @@ ghost use Rattle.ttm_base.specs.declared.Actor.TheVariants as actor;
 ghost use Rattle.journal_model.specs.declared.state.Stage.TheVariants as stage;
 ghost use Rattle.journal_model.specs.Search.{first_choice};
 ghost use Rattle.journal_model.specs.Tasks.{stage_of, task_of};
-ghost use Rattle.room_turns.specs.Turns.{state_behind};
-ghost use Rattle.room_turns.specs.declared.Step.TheVariants as step_words;
-ghost use Rattle.room_turns.specs.Searching.{finds_choice};
-ghost use Rattle.room_turns.specs.Turns.{after_step, entry_of, step_of};
-ghost use Rattle.room_turns.specs.Hunts.{list_of, seen};
+ghost use Rattle.room_state.specs.room_turns.Turns.{state_behind};
+ghost use Rattle.room_state.specs.declared.room_turns.Step.TheVariants as step_words;
+ghost use Rattle.room_state.specs.room_turns.Searching.{finds_choice};
+ghost use Rattle.room_state.specs.room_turns.Turns.{after_step, entry_of, step_of};
+ghost use Rattle.room_state.specs.room_turns.Hunts.{list_of, seen};
 ghost use Rattle.room_device.specs.Finds as words;
 
 use journal_model::Kind;
-use room_turns::{Hunt, Rooms, hunt_at_work, make, place_at, place_at_work, place_count};
+use room_state::room_turns::{
+    Hunt, Rooms, hunt_at_work, make, place_at, place_at_work, place_count,
+};
 use ttm_base::{Actor, BufId, FlaggedPlace, Mem, NoMemory, Place, Spans};
 
 /// The pages that a place has, with its memory type.

@@ -2,19 +2,19 @@ ghost use Rattle.std.specs.Prelude.{◌≡◌, false, IfOk, OnOk, OnErr};
 ghost use Rattle.ttm_base.specs.declared.Actor.TheVariants as actor;
 ghost use Rattle.journal_model.specs.declared.state.Stage.TheVariants as stage;
 ghost use Rattle.journal_model.specs.Tasks.{stage_of, task_of};
-ghost use Rattle.room_turns.specs.Searching.{finds_choice};
-ghost use Rattle.room_turns.specs.Turns.{after_step, entry_of, state_behind, step_of};
+ghost use Rattle.room_state.specs.room_turns.Searching.{finds_choice};
+ghost use Rattle.room_state.specs.room_turns.Turns.{after_step, entry_of, state_behind, step_of};
 
 use crate::carries::{carry, untake};
+use crate::evict_core::{catch, dry, loose, skip};
 use crate::free::{hold, is_free_due};
 use crate::search::take_target;
-use evict_core::{catch, dry, loose, skip};
+use crate::swap_core::{depopulate, fill, is_depopulate_due, is_swap_out_due, swap_out_page};
+use crate::validate_list::{act, lock, refuse, start};
 use journal_model::{Stage, Task};
-use room_turns::{Rooms, Step};
+use room_state::room_turns::{Rooms, Step};
 use std::alloc::Global;
-use swap_core::{depopulate, fill, is_depopulate_due, is_swap_out_due, swap_out_page};
 use ttm_base::{Need, NoMemory};
-use validate_list::{act, lock, refuse, start};
 
 /// A search that finds no pages catches a buffer to evict; without one, the place at work is dry.
 fn make_room(alloc: Global, rooms: &mut Rooms, thread: u32) -> Result<Step, NoMemory>

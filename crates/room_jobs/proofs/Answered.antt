@@ -37,36 +37,36 @@ use Rattle.journal_model.specs.Places.{aperture, page_at}
 use Rattle.journal_model.specs.Stores.{put_bytes, showing, stores_after, written}
 use Rattle.journal_model.specs.Tasks.{forbidden}
 use Rattle.journal_model.specs.Legal.{World, IsLegalNext, state_of, stores_of, world_of, world_after}
-use Rattle.law_state.proofs.Shown.{legal_step}
-use Rattle.law_state.specs.Courses.{makes}
-use Rattle.law_state.specs.GoodState.{HasPages}
-use Rattle.law_state.proofs.GoodStates.{good_law}
-use Rattle.law_state.proofs.Pins.{HasPinLeft, courses_law, result_pins}
-use Rattle.law_state.proofs.Rules.{at_work_rules, rules_of}
-use Rattle.law_owners.proofs.Law.{once_law}
-use Rattle.law_sound.proofs.Along.{Stepped, sound_law, stepped_of}
-use Rattle.law_sound.proofs.Bufs.{has_new, none_missing}
-use Rattle.law_sound.proofs.Gifts.{Gives, answers, acts, seeks, fills}
-use Rattle.law_sound.proofs.Turns.{Turn, Works, answer, act}
-use Rattle.lemma_bytes_told.specs.Told.{IsThere}
-use Rattle.lemma_room_bytes.specs.Mapped.{HasStoresAfter}
-use Rattle.lemma_room_bytes.proofs.Places.{IsReached, page_there}
-use Rattle.lemma_room_bytes.proofs.Reached.{write_reached, write_ready}
-use Rattle.lemma_room_bytes.proofs.Writes.{result_stores, write_stores}
-use Rattle.lemma_room_jobs.proofs.Packets.{nothing_beyond}
-use Rattle.lemma_room_lists.specs.Listed.{AreListed, listing_as}
-use Rattle.lemma_room_lists.proofs.KindLaws.{released_unseen}
-use Rattle.lemma_room_lists.proofs.ScriptLaws.{may_be_listed}
+use Rattle.laws.proofs.law_state.Shown.{legal_step}
+use Rattle.laws.specs.law_state.Courses.{makes}
+use Rattle.laws.specs.law_state.GoodState.{HasPages}
+use Rattle.laws.proofs.law_state.GoodStates.{good_law}
+use Rattle.laws.proofs.law_state.Pins.{HasPinLeft, courses_law, result_pins}
+use Rattle.laws.proofs.law_state.Rules.{at_work_rules, rules_of}
+use Rattle.laws.proofs.law_owners.Law.{once_law}
+use Rattle.laws.proofs.law_sound.Along.{Stepped, sound_law, stepped_of}
+use Rattle.laws.proofs.law_sound.Bufs.{has_new, none_missing}
+use Rattle.laws.proofs.law_sound.Gifts.{Gives, answers, acts, seeks, fills}
+use Rattle.laws.proofs.law_sound.Turns.{Turn, Works, answer, act}
+use Rattle.laws.specs.lemma_bytes_told.Told.{IsThere}
+use Rattle.room_ties.specs.lemma_room_bytes.Mapped.{HasStoresAfter}
+use Rattle.room_ties.proofs.lemma_room_bytes.Places.{IsReached, page_there}
+use Rattle.room_ties.proofs.lemma_room_bytes.Reached.{write_reached, write_ready}
+use Rattle.room_ties.proofs.lemma_room_bytes.Writes.{result_stores, write_stores}
+use Rattle.room_ties.proofs.lemma_room_jobs.Packets.{nothing_beyond}
+use Rattle.room_ties.specs.lemma_room_lists.Listed.{AreListed, listing_as}
+use Rattle.room_ties.proofs.lemma_room_lists.KindLaws.{released_unseen}
+use Rattle.room_ties.proofs.lemma_room_lists.ScriptLaws.{may_be_listed}
 use Rattle.room_ties.specs.declared.parts.Parts.{Parts}
 use Rattle.room_ties.specs.Bos.{AreBos, unfenced}
 use Rattle.room_ties.specs.Held.{AreHeld}
 use Rattle.room_ties.specs.Pages.{AreStores}
 use Rattle.room_ties.specs.Ties.{Ties}
 use Rattle.state_words.proofs.Pins.{pins-released}
-use Rattle.room_steps.specs.Courses.{command_in, course_at, course_in, with_course_by}
-use Rattle.room_steps.proofs.Few.{few_commands}
-use Rattle.room_steps.proofs.Lent.{is_below, is_there, lent_below, stands_at}
-use Rattle.room_steps.proofs.Steps.{held_after}
+use Rattle.room_ties.specs.room_steps.Courses.{command_in, course_at, course_in, with_course_by}
+use Rattle.room_ties.proofs.room_steps.Few.{few_commands}
+use Rattle.room_ties.proofs.room_steps.Lent.{is_below, is_there, lent_below, stands_at}
+use Rattle.room_ties.proofs.room_steps.Steps.{held_after}
 use Rattle.room_jobs.specs.Bodies.{body_at}
 use Rattle.room_jobs.specs.Listings.{AreRelisted, CanRelist}
 use Rattle.room_jobs.specs.Writes.{CanWrite, HasWritten}

@@ -35,28 +35,28 @@ use Rattle.journal_model.specs.Places.{packet_place}
 use Rattle.journal_model.specs.Waits.{jobs_before_use, use_of}
 use Rattle.journal_model.specs.Next.{next}
 use Rattle.journal_model.specs.Legal.{IsLegalNext, state_of, stores_of, world_of}
-use Rattle.law_state.specs.GoodState.{last_number}
-use Rattle.law_state.proofs.GoodStates.{good_law}
-use Rattle.law_state.proofs.JobsKeep.{few_packets}
-use Rattle.law_state.proofs.Rules.{OfThread, rules_of, at_work_rules}
-use Rattle.law_sound.proofs.Along.{sound_law}
-use Rattle.law_counters.proofs.Law.{counters_law}
-use Rattle.law_transparent.proofs.Carried.{told_law}
-use Rattle.lemma_bytes_told.specs.Told as told
-use Rattle.lemma_bytes_told.specs.Told.{IsThere, Told}
+use Rattle.laws.specs.law_state.GoodState.{last_number}
+use Rattle.laws.proofs.law_state.GoodStates.{good_law}
+use Rattle.laws.proofs.law_state.JobsKeep.{few_packets}
+use Rattle.laws.proofs.law_state.Rules.{OfThread, rules_of, at_work_rules}
+use Rattle.laws.proofs.law_sound.Along.{sound_law}
+use Rattle.laws.proofs.law_counters.Law.{counters_law}
+use Rattle.laws.proofs.law_transparent.Carried.{told_law}
+use Rattle.laws.specs.lemma_bytes_told.Told as told
+use Rattle.laws.specs.lemma_bytes_told.Told.{IsThere, Told}
 use Rattle.room_ties.specs.declared.parts.Parts.{Parts}
 use Rattle.room_ties.specs.Fences.{AreFences, WaitsFor, fences_of, is_emitted, with_use_in}
 use Rattle.room_ties.specs.Held.{AreHeld}
 use Rattle.room_ties.specs.Ties.{Ties}
-use Rattle.lemma_room_jobs.proofs.Later.{IsLater, fences_later}
-use Rattle.lemma_room_jobs.proofs.Lists.{both}
-use Rattle.lemma_room_jobs.proofs.Sets.{fences_armed, set_length, waits_armed, waits_length, waits_none}
-use Rattle.lemma_room_jobs.proofs.Armed.{armed_job, armed_tied}
-use Rattle.lemma_room_jobs.proofs.Emitted.{emitted_now, later_more}
-use Rattle.lemma_room_jobs.proofs.LegalJobs.{arm_number}
-use Rattle.room_steps.specs.Courses.{course_at, course_in, with_course_by}
-use Rattle.room_steps.proofs.Lent.{lent_below}
-use Rattle.room_steps.proofs.Steps.{held_still, step_as, thread_there}
+use Rattle.room_ties.proofs.lemma_room_jobs.Later.{IsLater, fences_later}
+use Rattle.room_ties.proofs.lemma_room_jobs.Lists.{both}
+use Rattle.room_ties.proofs.lemma_room_jobs.Sets.{fences_armed, set_length, waits_armed, waits_length, waits_none}
+use Rattle.room_ties.proofs.lemma_room_jobs.Armed.{armed_job, armed_tied}
+use Rattle.room_ties.proofs.lemma_room_jobs.Emitted.{emitted_now, later_more}
+use Rattle.room_ties.proofs.lemma_room_jobs.LegalJobs.{arm_number}
+use Rattle.room_ties.specs.room_steps.Courses.{course_at, course_in, with_course_by}
+use Rattle.room_ties.proofs.room_steps.Lent.{lent_below}
+use Rattle.room_ties.proofs.room_steps.Steps.{held_still, step_as, thread_there}
 use Rattle.room_jobs.specs.Standing.{standing_names}
 use Rattle.room_jobs.specs.Uses.{AreWide, HaveContext, with_uses, with_waits}
 use Rattle.room_jobs.specs.Work.{work_of}

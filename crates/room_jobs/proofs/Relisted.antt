@@ -20,8 +20,8 @@ use Rattle.journal_model.specs.State.{grip_in, has_buffer, live_in, regripped}
 use Rattle.journal_model.specs.Commands.{decl, named}
 use Rattle.journal_model.specs.Lists.{touched}
 use Rattle.journal_model.specs.ApplyCommands.{held_as_named, pinned_less, pinned_more, with_pins}
-use Rattle.lemma_room_lists.specs.Listed.{AreListed}
-use Rattle.lemma_room_lists.proofs.KindLaws.{touched_again, pinned_again, pinned_lists, unpinned_further, unpinned_lists}
+use Rattle.room_ties.specs.lemma_room_lists.Listed.{AreListed}
+use Rattle.room_ties.proofs.lemma_room_lists.KindLaws.{touched_again, pinned_again, pinned_lists, unpinned_further, unpinned_lists}
 use Rattle.room_jobs.specs.Bodies.{body_at}
 use Rattle.room_jobs.specs.Listings.{AreRelisted, AreTouched, unlisted_as, unpinned}
 

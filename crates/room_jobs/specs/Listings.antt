@@ -12,7 +12,7 @@ use Rattle.journal_model.specs.declared.state.Grip.{Grip}
 use Rattle.journal_model.specs.State.{grip_in, has_buffer, live_in}
 use Rattle.journal_model.specs.Commands.{decl, named}
 use Rattle.journal_model.specs.Lists.{touched}
-use Rattle.lemma_room_lists.specs.Listed.{AreListed}
+use Rattle.room_ties.specs.lemma_room_lists.Listed.{AreListed}
 use Rattle.room_jobs.specs.Bodies.{body_at}
 
 -- the buffer taken off its list, if it is on one

@@ -8,8 +8,8 @@ use crate::packets::packets_of;
 use crate::uses::{add_uses, waits_at};
 use crate::work::{command_at_work, named_by, ops_of};
 use journal_model::{Entry, Script};
-use room_steps::has_made;
 use room_ties::Parts;
+use room_ties::room_steps::has_made;
 use std::alloc::Global;
 use ttm_base::{JobId, NoMemory};
 

@@ -41,20 +41,20 @@ use Rattle.journal_model.specs.Lists.{touched}
 use Rattle.journal_model.specs.Places.{aperture, pages_of}
 use Rattle.journal_model.specs.State.{buffer, changed, target_spans}
 use Rattle.journal_model.specs.Stores.{within}
-use Rattle.law_counters.proofs.Law.{counters_law}
-use Rattle.law_owners.proofs.Law.{once_law, owner_law}
-use Rattle.law_transparent.proofs.PagesLaw.{ghosts_law}
-use Rattle.law_state.proofs.GoodStates.{good_law, table_pages}
-use Rattle.law_state.proofs.Rules.{rules_of}
-use Rattle.law_state.specs.GoodState.{last_number}
-use Rattle.law_transparent.proofs.Carried.{told_law}
-use Rattle.lemma_bytes_told.specs.Told.{Told}
-use Rattle.lemma_room_lists.specs.Listed.{AreListed}
-use Rattle.lemma_room_lists.proofs.KindLaws.{move_lists}
-use Rattle.lemma_room_spans.specs.Calls as calls
-use Rattle.lemma_room_spans.specs.Owned.{HoldsAsIn}
-use Rattle.lemma_room_spans.proofs.Entries.{thread_spans, move_fresh, next_ghost_fresh}
-use Rattle.lemma_room_spans.proofs.MoveFence.{behind_fence}
+use Rattle.laws.proofs.law_counters.Law.{counters_law}
+use Rattle.laws.proofs.law_owners.Law.{once_law, owner_law}
+use Rattle.laws.proofs.law_transparent.PagesLaw.{ghosts_law}
+use Rattle.laws.proofs.law_state.GoodStates.{good_law, table_pages}
+use Rattle.laws.proofs.law_state.Rules.{rules_of}
+use Rattle.laws.specs.law_state.GoodState.{last_number}
+use Rattle.laws.proofs.law_transparent.Carried.{told_law}
+use Rattle.laws.specs.lemma_bytes_told.Told.{Told}
+use Rattle.room_ties.specs.lemma_room_lists.Listed.{AreListed}
+use Rattle.room_ties.proofs.lemma_room_lists.KindLaws.{move_lists}
+use Rattle.room_ties.specs.lemma_room_spans.Calls as calls
+use Rattle.room_ties.specs.lemma_room_spans.Owned.{HoldsAsIn}
+use Rattle.room_ties.proofs.lemma_room_spans.Entries.{thread_spans, move_fresh, next_ghost_fresh}
+use Rattle.room_ties.proofs.lemma_room_spans.MoveFence.{behind_fence}
 use Rattle.room_ties.specs.declared.parts.Ghost.{Ghost}
 use Rattle.room_ties.specs.declared.parts.Parts.{Parts}
 use Rattle.room_ties.specs.Bos.{AreBos, unfenced}
@@ -66,26 +66,26 @@ use Rattle.room_ties.specs.Managers.{IsVram, IsTt}
 use Rattle.room_ties.specs.MoveFences.{IsMoveFence}
 use Rattle.room_ties.specs.Pages.{AreSlots, AreStores}
 use Rattle.room_ties.specs.RingJobs.{AreRings}
-use Rattle.lemma_room_jobs.proofs.GhostSteps.{ghosts_push}
-use Rattle.lemma_room_jobs.proofs.Later.{IsLater, ghosts_later, move_later}
-use Rattle.lemma_room_jobs.proofs.Sets.{set_length}
-use Rattle.lemma_room_jobs.proofs.Told.{unfenced_as}
-use Rattle.lemma_room_jobs.proofs.BufferSets.{move_id, move_job, empty_set, before_write, moved_fences, moved_ghost}
-use Rattle.lemma_room_jobs.proofs.Emitted.{later_more, move_now, rings_more, timeline_more}
-use Rattle.lemma_room_jobs.proofs.LegalJobs.{move_number}
-use Rattle.lemma_room_jobs.proofs.Packets.{within_same}
-use Rattle.lemma_room_bytes.specs.GivenBack.{given_back, slots_left}
-use Rattle.lemma_room_bytes.proofs.Behind.{pool_behind}
-use Rattle.lemma_room_bytes.proofs.Held.{no_slots}
-use Rattle.lemma_room_bytes.proofs.SlotKinds.{move_slots}
-use Rattle.lemma_room_bytes.proofs.LegalEntries.{next_tells, no_slots_in_tt}
-use Rattle.lemma_room_bytes.specs.Mapped.{HasStoresAfter}
-use Rattle.lemma_room_bytes.proofs.Entries.{move_in_tie, move_out_tie}
-use Rattle.lemma_room_bytes.proofs.Holders.{target_inside}
-use Rattle.room_steps.specs.Lent.{as_buffer}
-use Rattle.room_steps.proofs.Lent.{lent_below, lent_is, stands_at}
-use Rattle.room_steps.proofs.Steps.{held_still, step_as}
-use Rattle.room_binds.specs.Apertures.{AreBelow}
+use Rattle.room_ties.proofs.lemma_room_jobs.GhostSteps.{ghosts_push}
+use Rattle.room_ties.proofs.lemma_room_jobs.Later.{IsLater, ghosts_later, move_later}
+use Rattle.room_ties.proofs.lemma_room_jobs.Sets.{set_length}
+use Rattle.room_ties.proofs.lemma_room_jobs.Told.{unfenced_as}
+use Rattle.room_ties.proofs.lemma_room_jobs.BufferSets.{move_id, move_job, empty_set, before_write, moved_fences, moved_ghost}
+use Rattle.room_ties.proofs.lemma_room_jobs.Emitted.{later_more, move_now, rings_more, timeline_more}
+use Rattle.room_ties.proofs.lemma_room_jobs.LegalJobs.{move_number}
+use Rattle.room_ties.proofs.lemma_room_jobs.Packets.{within_same}
+use Rattle.room_ties.specs.lemma_room_bytes.GivenBack.{given_back, slots_left}
+use Rattle.room_ties.proofs.lemma_room_bytes.Behind.{pool_behind}
+use Rattle.room_ties.proofs.lemma_room_bytes.Held.{no_slots}
+use Rattle.room_ties.proofs.lemma_room_bytes.SlotKinds.{move_slots}
+use Rattle.room_ties.proofs.lemma_room_bytes.LegalEntries.{next_tells, no_slots_in_tt}
+use Rattle.room_ties.specs.lemma_room_bytes.Mapped.{HasStoresAfter}
+use Rattle.room_ties.proofs.lemma_room_bytes.Entries.{move_in_tie, move_out_tie}
+use Rattle.room_ties.proofs.lemma_room_bytes.Holders.{target_inside}
+use Rattle.room_ties.specs.room_steps.Lent.{as_buffer}
+use Rattle.room_ties.proofs.room_steps.Lent.{lent_below, lent_is, stands_at}
+use Rattle.room_ties.proofs.room_steps.Steps.{held_still, step_as}
+use Rattle.room_pages.specs.room_binds.Apertures.{AreBelow}
 use Rattle.room_moves.specs.Copies.{copies}
 use Rattle.room_moves.specs.Lefts.{ghost_of, left_by_move}
 use Rattle.room_moves.specs.Mappings.{mapped_in}

@@ -11,7 +11,7 @@ use crate::mappings::map_target;
 use crate::packets::move_packets;
 use crate::starts::{start_job, waits_of};
 use journal_model::{Entry, Left, Script};
-use room_binds::relist;
+use room_pages::room_binds::relist;
 use room_ties::Parts;
 use std::alloc::Global;
 use ttm_base::{BufId, JobId, Mem, NoMemory, Usage};

@@ -16,26 +16,26 @@ use Rattle.journal_model.specs.Holds.{held_frames}
 use Rattle.journal_model.specs.Places.{frame_of, frames_of}
 use Rattle.journal_model.specs.Stores.{stores_after}
 use Rattle.journal_model.specs.Legal.{IsLegalNext, state_of, world_of, world_after}
-use Rattle.law_owners.proofs.Law.{owner_law}
-use Rattle.lemma_bytes_told.specs.Told as told
-use Rattle.lemma_bytes_told.specs.Told.{IsThere, Told}
-use Rattle.law_transparent.proofs.Carried.{told_law}
-use Rattle.lemma_room_lists.proofs.KindLaws.{changed_unseen}
-use Rattle.lemma_room_spans.proofs.Still.{depopulate_spans}
+use Rattle.laws.proofs.law_owners.Law.{owner_law}
+use Rattle.laws.specs.lemma_bytes_told.Told as told
+use Rattle.laws.specs.lemma_bytes_told.Told.{IsThere, Told}
+use Rattle.laws.proofs.law_transparent.Carried.{told_law}
+use Rattle.room_ties.proofs.lemma_room_lists.KindLaws.{changed_unseen}
+use Rattle.room_ties.proofs.lemma_room_spans.Still.{depopulate_spans}
 use Rattle.room_ties.specs.declared.parts.Parts.{Parts}
 use Rattle.room_ties.specs.Held.{AreHeld}
 use Rattle.room_ties.specs.Pages.{ArePooled}
 use Rattle.room_ties.specs.Ties.{Ties}
-use Rattle.lemma_room_jobs.proofs.Packets.{nothing_beyond}
-use Rattle.lemma_room_bytes.specs.GivenBack.{given_back}
-use Rattle.lemma_room_bytes.proofs.Pools.{depopulate_pooled}
-use Rattle.lemma_room_bytes.proofs.SlotKinds.{depopulate_slots}
-use Rattle.lemma_room_bytes.proofs.Walks.{frames_within, table_held_still}
-use Rattle.lemma_room_bytes.proofs.Fills.{depopulate_stores}
+use Rattle.room_ties.proofs.lemma_room_jobs.Packets.{nothing_beyond}
+use Rattle.room_ties.specs.lemma_room_bytes.GivenBack.{given_back}
+use Rattle.room_ties.proofs.lemma_room_bytes.Pools.{depopulate_pooled}
+use Rattle.room_ties.proofs.lemma_room_bytes.SlotKinds.{depopulate_slots}
+use Rattle.room_ties.proofs.lemma_room_bytes.Walks.{frames_within, table_held_still}
+use Rattle.room_ties.proofs.lemma_room_bytes.Fills.{depopulate_stores}
 use Rattle.room_pages.specs.Tables.{AreHeldInTurn}
-use Rattle.room_steps.proofs.Steps.{held_after, step_as}
-use Rattle.room_steps.proofs.Frames.{changed_bos}
-use Rattle.room_steps.proofs.Lent.{lent_below, lent_table}
+use Rattle.room_ties.proofs.room_steps.Steps.{held_after, step_as}
+use Rattle.room_ties.proofs.room_steps.Frames.{changed_bos}
+use Rattle.room_ties.proofs.room_steps.Lent.{lent_below, lent_table}
 
 module _ (script : Script) (journal : List Entry) (p : Parts) (entry : Entry) (t : ℕ) (b : BufId) (held : AreHeld script journal p) (is : entry ≡ record { who = actor.Thread t; kind = kind.Depopulate b }) (legal : IsLegalNext script (world_of script journal) entry) where
   -- the buffer is live in VRAM

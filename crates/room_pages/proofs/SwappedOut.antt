@@ -24,31 +24,31 @@ use Rattle.journal_model.specs.Holds.{free_slot, held_frames, held_slots}
 use Rattle.journal_model.specs.Places.{aperture, frame_of, page_at, page_in, page_in_table}
 use Rattle.journal_model.specs.Stores.{stores_after, within}
 use Rattle.journal_model.specs.Legal.{IsLegalNext, state_of, world_of, world_after}
-use Rattle.law_owners.proofs.Law.{owner_law}
-use Rattle.lemma_bytes_told.specs.Told.{IsThere, Told, still, swaps_out}
-use Rattle.law_transparent.proofs.Carried.{told_law}
-use Rattle.lemma_room_lists.proofs.KindLaws.{changed_unseen}
-use Rattle.lemma_room_spans.proofs.Still.{swap_out_spans}
+use Rattle.laws.proofs.law_owners.Law.{owner_law}
+use Rattle.laws.specs.lemma_bytes_told.Told.{IsThere, Told, still, swaps_out}
+use Rattle.laws.proofs.law_transparent.Carried.{told_law}
+use Rattle.room_ties.proofs.lemma_room_lists.KindLaws.{changed_unseen}
+use Rattle.room_ties.proofs.lemma_room_spans.Still.{swap_out_spans}
 use Rattle.room_ties.specs.declared.parts.Parts.{Parts}
 use Rattle.room_ties.specs.Held.{AreHeld}
 use Rattle.room_ties.specs.Pages.{ArePooled, AreSlots}
 use Rattle.room_ties.specs.Ties.{Ties}
-use Rattle.lemma_room_jobs.proofs.Packets.{nothing_beyond}
-use Rattle.lemma_room_bytes.specs.After.{frame_at}
-use Rattle.lemma_room_bytes.specs.GivenBack.{given, taken}
-use Rattle.lemma_room_bytes.proofs.Lowest.{slot_first, lowest_is_unheld}
-use Rattle.lemma_room_bytes.proofs.Marks.{length-marks}
-use Rattle.lemma_room_bytes.proofs.Pools.{swap_out_pooled}
-use Rattle.lemma_room_bytes.proofs.SlotKinds.{swap_out_slots}
-use Rattle.lemma_room_bytes.proofs.Telling.{to_empty}
-use Rattle.lemma_room_bytes.proofs.Walks.{frames_within, page_held}
-use Rattle.lemma_room_bytes.proofs.Fills.{swap_out_stores}
-use Rattle.lemma_room_bytes.proofs.Shown.{frame_read}
+use Rattle.room_ties.proofs.lemma_room_jobs.Packets.{nothing_beyond}
+use Rattle.room_ties.specs.lemma_room_bytes.After.{frame_at}
+use Rattle.room_ties.specs.lemma_room_bytes.GivenBack.{given, taken}
+use Rattle.room_ties.proofs.lemma_room_bytes.Lowest.{slot_first, lowest_is_unheld}
+use Rattle.room_ties.proofs.lemma_room_bytes.Marks.{length-marks}
+use Rattle.room_ties.proofs.lemma_room_bytes.Pools.{swap_out_pooled}
+use Rattle.room_ties.proofs.lemma_room_bytes.SlotKinds.{swap_out_slots}
+use Rattle.room_ties.proofs.lemma_room_bytes.Telling.{to_empty}
+use Rattle.room_ties.proofs.lemma_room_bytes.Walks.{frames_within, page_held}
+use Rattle.room_ties.proofs.lemma_room_bytes.Fills.{swap_out_stores}
+use Rattle.room_ties.proofs.lemma_room_bytes.Shown.{frame_read}
 use Rattle.room_pages.specs.Tables.{frame_in}
 use Rattle.room_pages.proofs.Padded.{length-padded, long_before, padded_over, padded_same}
-use Rattle.room_steps.proofs.Steps.{held_after, step_as}
-use Rattle.room_steps.proofs.Frames.{changed_bos}
-use Rattle.room_steps.proofs.Lent.{is_below, lent_below, lent_table}
+use Rattle.room_ties.proofs.room_steps.Steps.{held_after, step_as}
+use Rattle.room_ties.proofs.room_steps.Frames.{changed_bos}
+use Rattle.room_ties.proofs.room_steps.Lent.{is_below, lent_below, lent_table}
 
 -- ---- slots whose number of bytes is known only behind the page that is put there
 

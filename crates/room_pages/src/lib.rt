@@ -4,6 +4,8 @@
 
 mod frames;
 mod pages;
+pub mod room_binds;
+pub mod room_ghosts;
 
 pub use frames::give_frames;
 pub use pages::{depopulate, swap_out};

@@ -18,16 +18,16 @@ use Rattle.journal_model.specs.ApplyCommands.{has_made, after_bulk}
 use Rattle.journal_model.specs.CommandRules.{is_command}
 use Rattle.journal_model.specs.Lists as state
 use Rattle.journal_model.specs.Legal.{IsLegalNext, state_of, stores_of, world_of}
-use Rattle.law_state.proofs.Rules.{rules_of, at_work_rules}
-use Rattle.law_sound.proofs.Along.{Stepped}
-use Rattle.law_sound.proofs.Gifts.{Gives, shifts, seeks, fills}
-use Rattle.lemma_room_lists.specs.Listed.{AreListed}
-use Rattle.lemma_room_lists.proofs.KindLaws.{bulk_lists}
+use Rattle.laws.proofs.law_state.Rules.{rules_of, at_work_rules}
+use Rattle.laws.proofs.law_sound.Along.{Stepped}
+use Rattle.laws.proofs.law_sound.Gifts.{Gives, shifts, seeks, fills}
+use Rattle.room_ties.specs.lemma_room_lists.Listed.{AreListed}
+use Rattle.room_ties.proofs.lemma_room_lists.KindLaws.{bulk_lists}
 use Rattle.room_ties.specs.declared.parts.Parts.{Parts}
 use Rattle.room_ties.specs.Held.{AreHeld}
-use Rattle.room_steps.specs.Courses.{course_at, with_course_by}
-use Rattle.room_steps.proofs.Steps.{held_still, thread_stepped, thread_there}
-use Rattle.room_steps.proofs.Frames.{eased_tied}
+use Rattle.room_ties.specs.room_steps.Courses.{course_at, with_course_by}
+use Rattle.room_ties.proofs.room_steps.Steps.{held_still, thread_stepped, thread_there}
+use Rattle.room_ties.proofs.room_steps.Frames.{eased_tied}
 
 below_sixteen : (group : ℕ) → nat_le group 15 ≡ true → group < 16
 below_sixteen group h = grind (arith, nat_tests)

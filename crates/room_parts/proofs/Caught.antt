@@ -30,20 +30,20 @@ use Rattle.journal_model.specs.Dry.{is_loose, is_evictable, has_frame}
 use Rattle.journal_model.specs.Lists as state
 use Rattle.journal_model.specs.Lists.{in_order}
 use Rattle.journal_model.specs.Legal.{IsLegalNext, state_of, stores_of, world_of}
-use Rattle.law_sound.proofs.Along.{Stepped}
-use Rattle.law_sound.proofs.Bufs.{found_passes}
-use Rattle.law_sound.proofs.Gifts.{Gives, seeks, fills, evicts, evicts_for_swap}
-use Rattle.lemma_room_lists.specs.Listed.{AreListed}
-use Rattle.lemma_room_lists.proofs.KindLaws.{regripped_unseen, loose_lists}
-use Rattle.lemma_room_jobs.proofs.Stays.{KeepsPlaces}
-use Rattle.lemma_room_spans.proofs.Still.{catch_spans}
+use Rattle.laws.proofs.law_sound.Along.{Stepped}
+use Rattle.laws.proofs.law_sound.Bufs.{found_passes}
+use Rattle.laws.proofs.law_sound.Gifts.{Gives, seeks, fills, evicts, evicts_for_swap}
+use Rattle.room_ties.specs.lemma_room_lists.Listed.{AreListed}
+use Rattle.room_ties.proofs.lemma_room_lists.KindLaws.{regripped_unseen, loose_lists}
+use Rattle.room_ties.proofs.lemma_room_jobs.Stays.{KeepsPlaces}
+use Rattle.room_ties.proofs.lemma_room_spans.Still.{catch_spans}
 use Rattle.room_ties.specs.declared.parts.Parts.{Parts}
 use Rattle.room_ties.specs.Bos.{unfenced}
 use Rattle.room_ties.specs.Held.{AreHeld}
 use Rattle.room_ties.specs.Ties.{Ties}
-use Rattle.room_steps.specs.Courses.{course_at, course_in, with_course_by}
-use Rattle.room_steps.proofs.Steps.{held_still, thread_stepped, thread_there}
-use Rattle.room_steps.proofs.Frames.{LeavesInPlace, eased_tied, changed_tied}
+use Rattle.room_ties.specs.room_steps.Courses.{course_at, course_in, with_course_by}
+use Rattle.room_ties.proofs.room_steps.Steps.{held_still, thread_stepped, thread_there}
+use Rattle.room_ties.proofs.room_steps.Frames.{LeavesInPlace, eased_tied, changed_tied}
 
 -- ---- no frame is to be had
 

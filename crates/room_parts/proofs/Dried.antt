@@ -31,21 +31,21 @@ use Rattle.journal_model.specs.ScriptRules.{is_decl, is_flagged, is_new_list, is
 use Rattle.journal_model.specs.Search.{Quest, aim_of, is_caught, quest, quest_at_work, through_tt}
 use Rattle.journal_model.specs.ApplyVictims.{course_after_dry, gone_dry, with_fail}
 use Rattle.journal_model.specs.Legal.{IsLegalNext, state_of, stores_of, world_of}
-use Rattle.law_state.proofs.GoodStates.{good_law}
-use Rattle.law_state.proofs.JobsKeep.{all_at}
-use Rattle.law_state.proofs.Rules.{Rules, rules_of}
-use Rattle.law_sound.proofs.Along.{Stepped, sound_law}
-use Rattle.law_sound.proofs.Bufs.{has_found, last_caught, none_missing}
-use Rattle.law_sound.proofs.Gifts.{Gives, dries, fills, seeks}
-use Rattle.law_sound.proofs.Turns.{Turn, OnBuffer, victim_search, ask, hop_up, hop_down}
-use Rattle.lemma_bytes_told.specs.Told.{IsThere}
+use Rattle.laws.proofs.law_state.GoodStates.{good_law}
+use Rattle.laws.proofs.law_state.JobsKeep.{all_at}
+use Rattle.laws.proofs.law_state.Rules.{Rules, rules_of}
+use Rattle.laws.proofs.law_sound.Along.{Stepped, sound_law}
+use Rattle.laws.proofs.law_sound.Bufs.{has_found, last_caught, none_missing}
+use Rattle.laws.proofs.law_sound.Gifts.{Gives, dries, fills, seeks}
+use Rattle.laws.proofs.law_sound.Turns.{Turn, OnBuffer, victim_search, ask, hop_up, hop_down}
+use Rattle.laws.specs.lemma_bytes_told.Told.{IsThere}
 use Rattle.room_ties.specs.declared.parts.Parts.{Parts}
 use Rattle.room_ties.specs.Held.{AreHeld}
-use Rattle.room_steps.specs.Courses.{command_in, course_at, course_in, with_course_by}
-use Rattle.room_steps.proofs.Few.{dry_few}
-use Rattle.room_steps.proofs.Frames.{eased_tied}
-use Rattle.room_steps.proofs.Lent.{is_below, is_there, lent_below, lent_is, stands_at}
-use Rattle.room_steps.proofs.Steps.{held_still, thread_stepped, thread_there}
+use Rattle.room_ties.specs.room_steps.Courses.{command_in, course_at, course_in, with_course_by}
+use Rattle.room_ties.proofs.room_steps.Few.{dry_few}
+use Rattle.room_ties.proofs.room_steps.Frames.{eased_tied}
+use Rattle.room_ties.proofs.room_steps.Lent.{is_below, is_there, lent_below, lent_is, stands_at}
+use Rattle.room_ties.proofs.room_steps.Steps.{held_still, thread_stepped, thread_there}
 use Rattle.room_parts.specs.Dries.{dried, searched_places}
 
 -- ---- how many places

@@ -17,22 +17,22 @@ use Rattle.journal_model.specs.ApplyPages.{with_loc, after_populate}
 use Rattle.journal_model.specs.Holds.{free_frame, held_frames}
 use Rattle.journal_model.specs.Stores.{stores_after}
 use Rattle.journal_model.specs.Legal.{World, IsLegalNext, state_of, stores_of, world_of, world_after}
-use Rattle.lemma_bytes_told.specs.Told.{IsThere, Told, still, populates}
-use Rattle.law_transparent.proofs.Carried.{told_law}
-use Rattle.lemma_room_lists.proofs.KindLaws.{changed_unseen}
-use Rattle.lemma_room_spans.proofs.Still.{populate_spans}
+use Rattle.laws.specs.lemma_bytes_told.Told.{IsThere, Told, still, populates}
+use Rattle.laws.proofs.law_transparent.Carried.{told_law}
+use Rattle.room_ties.proofs.lemma_room_lists.KindLaws.{changed_unseen}
+use Rattle.room_ties.proofs.lemma_room_spans.Still.{populate_spans}
 use Rattle.room_ties.specs.declared.parts.Parts.{Parts}
 use Rattle.room_ties.specs.Held.{AreHeld}
 use Rattle.room_ties.specs.Pages.{ArePooled}
 use Rattle.room_ties.specs.Ties.{Ties}
-use Rattle.lemma_room_jobs.proofs.Packets.{nothing_beyond}
-use Rattle.lemma_room_bytes.proofs.Lowest.{pool_first, lowest_is_unheld}
-use Rattle.lemma_room_bytes.proofs.Pools.{populate_pooled}
-use Rattle.lemma_room_bytes.proofs.SlotKinds.{populate_slots}
-use Rattle.lemma_room_bytes.proofs.Telling.{to_fill}
-use Rattle.lemma_room_bytes.proofs.Fills.{populate_stores}
-use Rattle.room_steps.proofs.Steps.{held_after, step_as}
-use Rattle.room_steps.proofs.Frames.{changed_bos}
+use Rattle.room_ties.proofs.lemma_room_jobs.Packets.{nothing_beyond}
+use Rattle.room_ties.proofs.lemma_room_bytes.Lowest.{pool_first, lowest_is_unheld}
+use Rattle.room_ties.proofs.lemma_room_bytes.Pools.{populate_pooled}
+use Rattle.room_ties.proofs.lemma_room_bytes.SlotKinds.{populate_slots}
+use Rattle.room_ties.proofs.lemma_room_bytes.Telling.{to_fill}
+use Rattle.room_ties.proofs.lemma_room_bytes.Fills.{populate_stores}
+use Rattle.room_ties.proofs.room_steps.Steps.{held_after, step_as}
+use Rattle.room_ties.proofs.room_steps.Frames.{changed_bos}
 
 -- a live buffer out of TT, whose page was never written, gets the lowest free frame
 record IsFresh (script : Script) (s : State) (b : BufId) (page f : ℕ) : Type 0 where

@@ -27,27 +27,27 @@ use Rattle.journal_model.specs.CommandRules.{is_command}
 use Rattle.journal_model.specs.Commands.{decl, undeclared}
 use Rattle.journal_model.specs.Stores.{stores_after}
 use Rattle.journal_model.specs.Legal.{World, IsLegalNext, state_of, stores_of, world_of, world_after}
-use Rattle.law_state.proofs.GoodStates.{good_law}
-use Rattle.law_state.proofs.Rules.{rules_of, at_work_rules}
-use Rattle.law_sound.proofs.Along.{Stepped}
-use Rattle.law_sound.proofs.Gifts.{Gives, makes, seeks, fills}
-use Rattle.lemma_bytes_told.specs.Told as told
-use Rattle.lemma_bytes_told.specs.Told.{Told}
-use Rattle.law_transparent.proofs.Carried.{told_law}
-use Rattle.lemma_room_lists.specs.Listed.{listing_as, HasLists}
-use Rattle.lemma_room_lists.proofs.KindLaws.{new_lists}
-use Rattle.lemma_room_lists.proofs.ScriptLaws.{may_be_listed}
-use Rattle.lemma_room_spans.proofs.Still.{new_spans}
+use Rattle.laws.proofs.law_state.GoodStates.{good_law}
+use Rattle.laws.proofs.law_state.Rules.{rules_of, at_work_rules}
+use Rattle.laws.proofs.law_sound.Along.{Stepped}
+use Rattle.laws.proofs.law_sound.Gifts.{Gives, makes, seeks, fills}
+use Rattle.laws.specs.lemma_bytes_told.Told as told
+use Rattle.laws.specs.lemma_bytes_told.Told.{Told}
+use Rattle.laws.proofs.law_transparent.Carried.{told_law}
+use Rattle.room_ties.specs.lemma_room_lists.Listed.{listing_as, HasLists}
+use Rattle.room_ties.proofs.lemma_room_lists.KindLaws.{new_lists}
+use Rattle.room_ties.proofs.lemma_room_lists.ScriptLaws.{may_be_listed}
+use Rattle.room_ties.proofs.lemma_room_spans.Still.{new_spans}
 use Rattle.room_ties.specs.declared.parts.Parts.{Parts}
 use Rattle.room_ties.specs.Bos.{AreBos, unfenced}
 use Rattle.room_ties.specs.Held.{AreHeld}
 use Rattle.room_ties.specs.Ties.{Ties}
-use Rattle.lemma_room_jobs.proofs.Sets.{fences_cleared}
-use Rattle.lemma_room_jobs.proofs.Packets.{nothing_beyond}
-use Rattle.lemma_room_bytes.proofs.Others.{new_same, pool_stays, new_slots}
-use Rattle.lemma_room_bytes.proofs.Fills.{new_stores}
-use Rattle.room_steps.specs.Courses.{course_at, with_course_by}
-use Rattle.room_steps.proofs.Steps.{held_after, step_as, thread_stepped, thread_there}
+use Rattle.room_ties.proofs.lemma_room_jobs.Sets.{fences_cleared}
+use Rattle.room_ties.proofs.lemma_room_jobs.Packets.{nothing_beyond}
+use Rattle.room_ties.proofs.lemma_room_bytes.Others.{new_same, pool_stays, new_slots}
+use Rattle.room_ties.proofs.lemma_room_bytes.Fills.{new_stores}
+use Rattle.room_ties.specs.room_steps.Courses.{course_at, with_course_by}
+use Rattle.room_ties.proofs.room_steps.Steps.{held_after, step_as, thread_stepped, thread_there}
 
 -- what is there at a number of the list
 some_below : {X : Type 0} (xs : List X) (i : ℕ) → i < length xs → (x : X) × (slice_get xs i ≡ Some x)

@@ -14,18 +14,18 @@ use Rattle.journal_model.specs.declared.entry.Entry.{Entry}
 use Rattle.journal_model.specs.declared.entry.Kind.TheVariants as kind
 use Rattle.journal_model.specs.ApplyJobs.{after_done}
 use Rattle.journal_model.specs.Legal.{World, IsLegalNext, state_of, stores_of, world_of, world_after}
-use Rattle.law_transparent.proofs.PacketPlacesLaw.{places_law}
+use Rattle.laws.proofs.law_transparent.PacketPlacesLaw.{places_law}
 use Rattle.room_ties.specs.declared.parts.Parts.{Parts}
 use Rattle.room_ties.specs.Lines.{AreInLine}
 use Rattle.room_ties.specs.Held.{AreHeld}
 use Rattle.room_ties.specs.Ties.{Ties}
-use Rattle.lemma_room_jobs.proofs.Changed.{job_id, line_known, line_some}
-use Rattle.lemma_room_jobs.proofs.Heads as heads
-use Rattle.lemma_room_jobs.proofs.Heads.{IsEnd, IsRun, end_of, run_of}
-use Rattle.lemma_room_jobs.proofs.LegalJobs.{IsShown, in_line, packet_shown}
-use Rattle.lemma_room_jobs.proofs.Rows.{head_known}
-use Rattle.lemma_room_jobs.proofs.Tied.{done_tied, packet_runs, packet_tied}
-use Rattle.room_steps.proofs.Steps.{held_after, held_still, step_as}
+use Rattle.room_ties.proofs.lemma_room_jobs.Changed.{job_id, line_known, line_some}
+use Rattle.room_ties.proofs.lemma_room_jobs.Heads as heads
+use Rattle.room_ties.proofs.lemma_room_jobs.Heads.{IsEnd, IsRun, end_of, run_of}
+use Rattle.room_ties.proofs.lemma_room_jobs.LegalJobs.{IsShown, in_line, packet_shown}
+use Rattle.room_ties.proofs.lemma_room_jobs.Rows.{head_known}
+use Rattle.room_ties.proofs.lemma_room_jobs.Tied.{done_tied, packet_runs, packet_tied}
+use Rattle.room_ties.proofs.room_steps.Steps.{held_after, held_still, step_as}
 
 -- ---- a job is done
 

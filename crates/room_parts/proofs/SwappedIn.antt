@@ -21,29 +21,29 @@ use Rattle.journal_model.specs.Holds.{free_frame, held_frames, held_slots}
 use Rattle.journal_model.specs.Places.{slot_of, slots_of}
 use Rattle.journal_model.specs.Stores.{stores_after, within}
 use Rattle.journal_model.specs.Legal.{World, IsLegalNext, state_of, world_of, world_after}
-use Rattle.law_owners.proofs.Counts.{one, times}
-use Rattle.law_owners.proofs.Keeps.{in_loc}
-use Rattle.law_owners.proofs.Law.{owner_law}
-use Rattle.lemma_bytes_told.specs.Told.{IsThere, Told, still, swaps_in}
-use Rattle.law_transparent.proofs.Carried.{told_law}
-use Rattle.lemma_room_lists.proofs.KindLaws.{changed_unseen}
-use Rattle.lemma_room_spans.proofs.Still.{swap_in_spans}
+use Rattle.laws.proofs.law_owners.Counts.{one, times}
+use Rattle.laws.proofs.law_owners.Keeps.{in_loc}
+use Rattle.laws.proofs.law_owners.Law.{owner_law}
+use Rattle.laws.specs.lemma_bytes_told.Told.{IsThere, Told, still, swaps_in}
+use Rattle.laws.proofs.law_transparent.Carried.{told_law}
+use Rattle.room_ties.proofs.lemma_room_lists.KindLaws.{changed_unseen}
+use Rattle.room_ties.proofs.lemma_room_spans.Still.{swap_in_spans}
 use Rattle.room_ties.specs.declared.parts.Parts.{Parts}
 use Rattle.room_ties.specs.Held.{AreHeld}
 use Rattle.room_ties.specs.Pages.{ArePooled, AreSlots}
 use Rattle.room_ties.specs.Ties.{Ties}
-use Rattle.lemma_room_jobs.proofs.Packets.{nothing_beyond}
-use Rattle.lemma_room_bytes.proofs.Held.{table_set}
-use Rattle.lemma_room_bytes.proofs.Lowest.{pool_first, lowest_is_unheld}
-use Rattle.lemma_room_bytes.proofs.Marks.{mark_at, has_some, owned_below}
-use Rattle.lemma_room_bytes.proofs.Pools.{swap_in_pooled}
-use Rattle.lemma_room_bytes.proofs.SlotKinds.{swap_in_slots}
-use Rattle.lemma_room_bytes.proofs.Telling.{to_fill}
-use Rattle.lemma_room_bytes.proofs.Walks.{slots_within}
-use Rattle.lemma_room_bytes.proofs.Fills.{swap_in_stores}
-use Rattle.room_steps.proofs.Lent.{is_below}
-use Rattle.room_steps.proofs.Frames.{changed_bos}
-use Rattle.room_steps.proofs.Steps.{held_after, step_as}
+use Rattle.room_ties.proofs.lemma_room_jobs.Packets.{nothing_beyond}
+use Rattle.room_ties.proofs.lemma_room_bytes.Held.{table_set}
+use Rattle.room_ties.proofs.lemma_room_bytes.Lowest.{pool_first, lowest_is_unheld}
+use Rattle.room_ties.proofs.lemma_room_bytes.Marks.{mark_at, has_some, owned_below}
+use Rattle.room_ties.proofs.lemma_room_bytes.Pools.{swap_in_pooled}
+use Rattle.room_ties.proofs.lemma_room_bytes.SlotKinds.{swap_in_slots}
+use Rattle.room_ties.proofs.lemma_room_bytes.Telling.{to_fill}
+use Rattle.room_ties.proofs.lemma_room_bytes.Walks.{slots_within}
+use Rattle.room_ties.proofs.lemma_room_bytes.Fills.{swap_in_stores}
+use Rattle.room_ties.proofs.room_steps.Lent.{is_below}
+use Rattle.room_ties.proofs.room_steps.Frames.{changed_bos}
+use Rattle.room_ties.proofs.room_steps.Steps.{held_after, step_as}
 
 -- a live buffer out of TT, whose page stands in the slot, gets the lowest free frame
 record IsBack (script : Script) (s : State) (b : BufId) (page k f : ℕ) : Type 0 where

@@ -31,35 +31,35 @@ use Rattle.journal_model.specs.Holds.{size_of}
 use Rattle.journal_model.specs.Next.{next}
 use Rattle.journal_model.specs.Waits.{jobs_before_target}
 use Rattle.journal_model.specs.Legal.{IsLegalNext, state_of, stores_of, world_of}
-use Rattle.law_transparent.proofs.PagesLaw.{ghosts_law}
-use Rattle.law_transparent.proofs.Carried.{told_law}
-use Rattle.lemma_bytes_told.specs.Told as told
-use Rattle.lemma_bytes_told.specs.Told.{IsThere, Told}
-use Rattle.lemma_room_spans.specs.Calls.{taken}
-use Rattle.lemma_room_spans.specs.Owned.{HoldsAsIn}
-use Rattle.lemma_room_spans.proofs.Facts.{no_target}
-use Rattle.lemma_room_spans.proofs.MoveFence.{taken_fence}
-use Rattle.lemma_room_spans.proofs.Legal.{IsSought, take_sought}
-use Rattle.lemma_room_spans.proofs.Still.{kept_tie}
-use Rattle.lemma_room_spans.proofs.Taken.{take_may_hold}
-use Rattle.lemma_room_spans.proofs.Targets.{take_spans}
+use Rattle.laws.proofs.law_transparent.PagesLaw.{ghosts_law}
+use Rattle.laws.proofs.law_transparent.Carried.{told_law}
+use Rattle.laws.specs.lemma_bytes_told.Told as told
+use Rattle.laws.specs.lemma_bytes_told.Told.{IsThere, Told}
+use Rattle.room_ties.specs.lemma_room_spans.Calls.{taken}
+use Rattle.room_ties.specs.lemma_room_spans.Owned.{HoldsAsIn}
+use Rattle.room_ties.proofs.lemma_room_spans.Facts.{no_target}
+use Rattle.room_ties.proofs.lemma_room_spans.MoveFence.{taken_fence}
+use Rattle.room_ties.proofs.lemma_room_spans.Legal.{IsSought, take_sought}
+use Rattle.room_ties.proofs.lemma_room_spans.Still.{kept_tie}
+use Rattle.room_ties.proofs.lemma_room_spans.Taken.{take_may_hold}
+use Rattle.room_ties.proofs.lemma_room_spans.Targets.{take_spans}
 use Rattle.room_ties.specs.declared.parts.Parts.{Parts}
 use Rattle.room_ties.specs.Bos.{AreBos, unfenced}
 use Rattle.room_ties.specs.Fences.{fences_of, is_emitted, AreFences}
 use Rattle.room_ties.specs.Held.{AreHeld}
 use Rattle.room_ties.specs.Managers.{IsTt}
 use Rattle.room_ties.specs.Ties.{Ties}
-use Rattle.lemma_room_jobs.proofs.Sets.{fences_kept, set_length}
-use Rattle.lemma_room_jobs.proofs.Stays.{KeepsPlaces}
-use Rattle.lemma_room_jobs.proofs.Told.{unfenced_as}
-use Rattle.lemma_room_jobs.proofs.BufferSets.{taken_sets, taken_fences}
-use Rattle.lemma_room_jobs.proofs.LegalJobs.{in_line}
-use Rattle.room_steps.specs.Courses.{course_at, with_course_by}
+use Rattle.room_ties.proofs.lemma_room_jobs.Sets.{fences_kept, set_length}
+use Rattle.room_ties.proofs.lemma_room_jobs.Stays.{KeepsPlaces}
+use Rattle.room_ties.proofs.lemma_room_jobs.Told.{unfenced_as}
+use Rattle.room_ties.proofs.lemma_room_jobs.BufferSets.{taken_sets, taken_fences}
+use Rattle.room_ties.proofs.lemma_room_jobs.LegalJobs.{in_line}
+use Rattle.room_ties.specs.room_steps.Courses.{course_at, with_course_by}
 use Rattle.room_parts.specs.MoveSets.{with_move_fence, CanJoin}
 use Rattle.room_parts.specs.Takes.{CanHold}
-use Rattle.room_steps.proofs.Lent.{stands_at}
-use Rattle.room_steps.proofs.Frames.{eased_tied, placed_tied}
-use Rattle.room_steps.proofs.Steps.{held_still, step_as, thread_there}
+use Rattle.room_ties.proofs.room_steps.Lent.{stands_at}
+use Rattle.room_ties.proofs.room_steps.Frames.{eased_tied, placed_tied}
+use Rattle.room_ties.proofs.room_steps.Steps.{held_still, step_as, thread_there}
 
 -- ---- fences that a target brings
 

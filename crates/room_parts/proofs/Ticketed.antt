@@ -16,16 +16,16 @@ use Rattle.journal_model.specs.State.{course, grip, grip_in, regripped}
 use Rattle.journal_model.specs.ApplyCommands.{with_holder, released, on_to_next}
 use Rattle.journal_model.specs.Legal.{IsLegalNext, state_of, stores_of, world_of}
 use Rattle.ttm_base.specs.declared.Deny.{Deny}
-use Rattle.law_sound.proofs.Along.{Stepped, sound_law}
-use Rattle.law_sound.proofs.Gifts.{Gives, reserves, draws, seeks, fills}
-use Rattle.law_counters.proofs.Law.{counters_law}
-use Rattle.lemma_room_lists.proofs.KindLaws.{regripped_unseen, released_unseen}
+use Rattle.laws.proofs.law_sound.Along.{Stepped, sound_law}
+use Rattle.laws.proofs.law_sound.Gifts.{Gives, reserves, draws, seeks, fills}
+use Rattle.laws.proofs.law_counters.Law.{counters_law}
+use Rattle.room_ties.proofs.lemma_room_lists.KindLaws.{regripped_unseen, released_unseen}
 use Rattle.room_ties.specs.declared.parts.Parts.{Parts}
 use Rattle.room_ties.specs.Held.{AreHeld}
-use Rattle.room_steps.specs.Courses.{course_at, course_in, with_course_by, stamped, with_held, begun_anew}
-use Rattle.room_steps.proofs.Steps.{held_still, thread_stepped, thread_there}
-use Rattle.room_steps.proofs.Few.{few_commands}
-use Rattle.room_steps.proofs.Frames.{eased_tied}
+use Rattle.room_ties.specs.room_steps.Courses.{course_at, course_in, with_course_by, stamped, with_held, begun_anew}
+use Rattle.room_ties.proofs.room_steps.Steps.{held_still, thread_stepped, thread_there}
+use Rattle.room_ties.proofs.room_steps.Few.{few_commands}
+use Rattle.room_ties.proofs.room_steps.Frames.{eased_tied}
 
 -- nothing was made
 pub courses_same : (script : Script) (journal : List Entry) (p : Parts) → AreHeld script journal p → (courses : List Course) → courses ≡ p.courses → AreHeld script journal (record p { courses = courses })

@@ -15,19 +15,19 @@ use Rattle.journal_model.specs.declared.entry.Kind.{Kind}
 use Rattle.journal_model.specs.declared.entry.Kind.TheVariants as kind
 use Rattle.journal_model.specs.ApplyPages.{with_spans, after_untake}
 use Rattle.journal_model.specs.Legal.{IsLegalNext, state_of, stores_of, world_of}
-use Rattle.lemma_bytes_told.specs.Told.{IsThere, Told, still, untakes}
-use Rattle.law_transparent.proofs.Carried.{told_law}
-use Rattle.lemma_room_spans.specs.Calls.{untaken, given}
-use Rattle.lemma_room_spans.proofs.Targets.{untake_spans}
+use Rattle.laws.specs.lemma_bytes_told.Told.{IsThere, Told, still, untakes}
+use Rattle.laws.proofs.law_transparent.Carried.{told_law}
+use Rattle.room_ties.specs.lemma_room_spans.Calls.{untaken, given}
+use Rattle.room_ties.proofs.lemma_room_spans.Targets.{untake_spans}
 use Rattle.ttm_base.specs.declared.Span.{Span}
 use Rattle.ttm_base.specs.declared.Owner.TheVariants as owner
 use Rattle.room_ties.specs.declared.parts.Parts.{Parts}
 use Rattle.room_ties.specs.Held.{AreHeld}
 use Rattle.room_ties.specs.Managers.{IsTt}
-use Rattle.lemma_room_spans.specs.Owned.{HoldsAsOwned}
-use Rattle.lemma_room_spans.proofs.MoveFence.{untaken_fence}
-use Rattle.room_steps.proofs.Steps.{held_still, step_as}
-use Rattle.room_steps.proofs.Frames.{LeavesInPlace, changed_tied}
+use Rattle.room_ties.specs.lemma_room_spans.Owned.{HoldsAsOwned}
+use Rattle.room_ties.proofs.lemma_room_spans.MoveFence.{untaken_fence}
+use Rattle.room_ties.proofs.room_steps.Steps.{held_still, step_as}
+use Rattle.room_ties.proofs.room_steps.Frames.{LeavesInPlace, changed_tied}
 
 -- another target, or none, leaves a buffer in its place
 pub target_stays : (mem : Mem) (spans : Option (List Span)) → LeavesInPlace (with_spans mem spans)

@@ -5,8 +5,8 @@ ghost use Rattle.journal_model.specs.Legal.{IsLegalNext, world_of};
 ghost use Rattle.room_ties.specs.Held.{AreHeld};
 
 use journal_model::{Entry, Script};
-use room_steps::has_made;
 use room_ties::Parts;
+use room_ties::room_steps::has_made;
 
 /// The buffers of a group count as just used.
 pub fn bulk(

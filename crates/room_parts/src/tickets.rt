@@ -5,8 +5,10 @@ ghost use Rattle.journal_model.specs.Legal.{IsLegalNext, world_of};
 ghost use Rattle.room_ties.specs.Held.{AreHeld};
 
 use journal_model::{Entry, Script};
-use room_steps::{begin_anew, give_ticket, go_on, held_by, hold, hold_for, release_all, stamp_of};
 use room_ties::Parts;
+use room_ties::room_steps::{
+    begin_anew, give_ticket, go_on, held_by, hold, hold_for, release_all, stamp_of,
+};
 use std::alloc::Global;
 use ttm_base::{BufId, Deny, NoMemory, Stamp};
 

@@ -18,12 +18,12 @@ use Rattle.journal_model.specs.Choice.{choice}
 use Rattle.journal_model.specs.Commands.{decl, undeclared}
 use Rattle.journal_model.specs.ScriptRules.{is_decl}
 use Rattle.journal_model.specs.Legal.{state_of}
-use Rattle.law_transparent.proofs.PagesLaw.{ghosts_law}
-use Rattle.law_state.proofs.JobsKeep.{all_at}
-use Rattle.law_state.proofs.Rules.{rules_of}
-use Rattle.lemma_room_spans.specs.Owned.{FirstOfNumber, HoldsAsOwned}
-use Rattle.lemma_room_spans.proofs.Chosen.{tt_choice, vram_choice}
-use Rattle.lemma_room_spans.proofs.Declared.{IsRequest}
+use Rattle.laws.proofs.law_transparent.PagesLaw.{ghosts_law}
+use Rattle.laws.proofs.law_state.JobsKeep.{all_at}
+use Rattle.laws.proofs.law_state.Rules.{rules_of}
+use Rattle.room_ties.specs.lemma_room_spans.Owned.{FirstOfNumber, HoldsAsOwned}
+use Rattle.room_ties.proofs.lemma_room_spans.Chosen.{tt_choice, vram_choice}
+use Rattle.room_ties.proofs.lemma_room_spans.Declared.{IsRequest}
 use Rattle.room_ties.specs.declared.parts.Parts.{Parts}
 use Rattle.room_ties.specs.Held.{AreHeld}
 use Rattle.room_queries.proofs.Known.{get_below}

@@ -17,16 +17,16 @@ use Rattle.journal_model.specs.Places.{aperture}
 use Rattle.journal_model.specs.Stores.{job_packet, no_packet}
 use Rattle.journal_model.specs.Waits.{waited_for}
 use Rattle.journal_model.specs.Legal.{state_of, stores_of, world_of}
-use Rattle.law_jobs.specs.JobLines.{unfinished_of}
-use Rattle.law_transparent.proofs.PacketPlacesLaw.{places_law}
+use Rattle.laws.specs.law_jobs.JobLines.{unfinished_of}
+use Rattle.laws.proofs.law_transparent.PacketPlacesLaw.{places_law}
 use Rattle.room_ties.specs.declared.parts.Parts.{Parts}
 use Rattle.room_ties.specs.RingJobs.{IsRing}
 use Rattle.room_ties.specs.Held.{AreHeld}
-use Rattle.lemma_room_jobs.proofs.Lists.{filtered_at, find_is}
-use Rattle.lemma_room_jobs.proofs.Needs.{head_waits}
-use Rattle.lemma_room_jobs.proofs.Heads.{IsHead}
-use Rattle.lemma_room_jobs.proofs.Packets.{can_run, shows_same}
-use Rattle.lemma_room_jobs.proofs.Rows.{head_named}
+use Rattle.room_ties.proofs.lemma_room_jobs.Lists.{filtered_at, find_is}
+use Rattle.room_ties.proofs.lemma_room_jobs.Needs.{head_waits}
+use Rattle.room_ties.proofs.lemma_room_jobs.Heads.{IsHead}
+use Rattle.room_ties.proofs.lemma_room_jobs.Packets.{can_run, shows_same}
+use Rattle.room_ties.proofs.lemma_room_jobs.Rows.{head_named}
 use Rattle.room_queries.specs.Heads.{number_left, piece_left, head_piece}
 use Rattle.room_queries.proofs.Known.{rows, context_known}
 

@@ -7,13 +7,13 @@ use Rattle.journal_model.specs.declared.script.Script.{Script}
 use Rattle.journal_model.specs.declared.entry.Entry.{Entry}
 use Rattle.journal_model.specs.PageSteps.{next_job}
 use Rattle.journal_model.specs.Legal.{state_of}
-use Rattle.law_state.proofs.GoodStates.{good_law}
-use Rattle.law_counters.proofs.Law.{counters_law}
-use Rattle.law_sound.proofs.Along.{sound_law}
+use Rattle.laws.proofs.law_state.GoodStates.{good_law}
+use Rattle.laws.proofs.law_counters.Law.{counters_law}
+use Rattle.laws.proofs.law_sound.Along.{sound_law}
 use Rattle.room_ties.specs.declared.parts.Parts.{Parts}
 use Rattle.room_ties.specs.Held.{AreHeld}
 use Rattle.room_ties.specs.Lines.{AreInLine}
-use Rattle.lemma_room_jobs.proofs.LegalJobs.{in_line}
+use Rattle.room_ties.proofs.lemma_room_jobs.LegalJobs.{in_line}
 
 -- a number below a list's length has something
 pub get_below : {X : Type 0} (xs : List X) (i : ℕ) → i < length xs → (x : X) × (slice_get xs i ≡ Some x)

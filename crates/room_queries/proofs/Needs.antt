@@ -19,8 +19,8 @@ use Rattle.room_ties.specs.declared.parts.Ghost.{Ghost}
 use Rattle.room_ties.specs.Fences.{fences_of, set_at}
 use Rattle.room_ties.specs.Ghosts.{AreGhosts}
 use Rattle.room_ties.specs.Held.{AreHeld}
-use Rattle.lemma_room_jobs.proofs.Needs.{set_is, write_waits, read_waits, ghost_waits}
-use Rattle.lemma_room_jobs.proofs.Sets.{set_length, waits_length}
+use Rattle.room_ties.proofs.lemma_room_jobs.Needs.{set_is, write_waits, read_waits, ghost_waits}
+use Rattle.room_ties.proofs.lemma_room_jobs.Sets.{set_length, waits_length}
 use Rattle.room_queries.specs.Uses.{covering, jobs_before}
 use Rattle.room_queries.proofs.Known.{get_below, rows, declared_known}
 

@@ -13,9 +13,9 @@ use Rattle.journal_model.specs.declared.state.Ghost as state
 use Rattle.journal_model.specs.declared.state.Job.{Job}
 use Rattle.journal_model.specs.Complete.{is_complete, thread_numbers}
 use Rattle.journal_model.specs.Legal.{state_of}
-use Rattle.law_state.proofs.Counted.{over_law}
-use Rattle.law_jobs.specs.JobLines.{unfinished_of}
-use Rattle.law_state.proofs.GoodStates.{good_law}
+use Rattle.laws.proofs.law_state.Counted.{over_law}
+use Rattle.laws.specs.law_jobs.JobLines.{unfinished_of}
+use Rattle.laws.proofs.law_state.GoodStates.{good_law}
 use Rattle.room_ties.specs.declared.parts.Parts.{Parts}
 use Rattle.room_ties.specs.declared.parts.Ghost.{Ghost}
 use Rattle.room_ties.specs.Ghosts.{AreGhosts}

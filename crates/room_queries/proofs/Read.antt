@@ -23,16 +23,16 @@ use Rattle.journal_model.specs.Places.{page_at, page_in, page_in_table, page_in_
 use Rattle.journal_model.specs.Stores as model
 use Rattle.journal_model.specs.Stores.{byte_of}
 use Rattle.journal_model.specs.Legal.{state_of, stores_of}
-use Rattle.law_owners.proofs.Law.{once_law, owner_law}
-use Rattle.lemma_bytes_told.specs.Told.{IsThere}
+use Rattle.laws.proofs.law_owners.Law.{once_law, owner_law}
+use Rattle.laws.specs.lemma_bytes_told.Told.{IsThere}
 use Rattle.room_ties.specs.declared.parts.Parts.{Parts}
 use Rattle.room_ties.specs.Bos.{unfenced}
 use Rattle.room_ties.specs.Held.{AreHeld}
-use Rattle.lemma_room_jobs.proofs.Lists.{get_map}
-use Rattle.lemma_room_bytes.proofs.Walks.{page_held, slots_within}
-use Rattle.lemma_room_bytes.proofs.Places.{page_there}
-use Rattle.lemma_room_bytes.proofs.Shown.{range_append}
-use Rattle.room_steps.proofs.Lent.{is_below, stands_at}
+use Rattle.room_ties.proofs.lemma_room_jobs.Lists.{get_map}
+use Rattle.room_ties.proofs.lemma_room_bytes.Walks.{page_held, slots_within}
+use Rattle.room_ties.proofs.lemma_room_bytes.Places.{page_there}
+use Rattle.room_ties.proofs.lemma_room_bytes.Shown.{range_append}
+use Rattle.room_ties.proofs.room_steps.Lent.{is_below, stands_at}
 use Rattle.room_queries.specs.Bytes.{byte_in, bytes_in, page_of_bo, standing, zeros, HasPart}
 
 -- ---- bytes of one page

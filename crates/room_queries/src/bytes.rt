@@ -4,7 +4,7 @@ ghost use Rattle.copy_packet.specs.StoreBytes.{byte_at, HasPage};
 ghost use Rattle.journal_model.specs.State.{buffer};
 ghost use Rattle.journal_model.specs.Stores as words;
 ghost use Rattle.journal_model.specs.Legal.{state_of, stores_of, world_of};
-ghost use Rattle.lemma_bytes_told.specs.Told.{IsThere};
+ghost use Rattle.laws.specs.lemma_bytes_told.Told.{IsThere};
 ghost use Rattle.room_ties.specs.Held.{AreHeld};
 ghost use Rattle.room_queries.specs.Heads.{head_piece};
 ghost use Rattle.room_queries.specs.Bytes as seen;

@@ -16,9 +16,9 @@ use Rattle.journal_model.specs.Stores.{Stores, showing}
 use Rattle.journal_model.specs.Legal.{World, IsLegalNext}
 use Rattle.room_state.specs.Themes.{theme_of}
 use Rattle.room_state.specs.declared.themes.Theme.TheVariants as theme
-use Rattle.law_state.proofs.JournalCourses.{is_of_engine, is_of_reaper, of_engine, of_reaper}
-use Rattle.law_state.proofs.Shown.{LegalStep, legal_step}
-use Rattle.law_state.proofs.Moves.{is_of_worker, is_made_by, made_by_task, thread_step}
+use Rattle.laws.proofs.law_state.JournalCourses.{is_of_engine, is_of_reaper, of_engine, of_reaper}
+use Rattle.laws.proofs.law_state.Shown.{LegalStep, legal_step}
+use Rattle.laws.proofs.law_state.Moves.{is_of_worker, is_made_by, made_by_task, thread_step}
 
 -- what an entry shows doesn't tell its kind
 worker_shown : (script : Script) (stores : Stores) (s : State) (who : Actor) (k : Kind) → is_of_worker (showing script stores s who k) ≡ is_of_worker k

@@ -5,7 +5,7 @@ ghost use Rattle.room_ties.specs.Held.{AreHeld};
 
 use crate::threads::make_of_thread;
 use journal_model::{Entry, Kind, Script};
-use room_ghosts::reap;
+use room_pages::room_ghosts::reap;
 use room_parts::{done, packet};
 use room_ties::Parts;
 use std::alloc::Global;

@@ -8,13 +8,13 @@ ghost use Rattle.journal_model.specs.PageSteps.{next_job as job_of, next_ghost a
 ghost use Rattle.journal_model.specs.Stores.{bytes_of};
 ghost use Rattle.journal_model.specs.Tasks.{stage_of, task_of};
 ghost use Rattle.journal_model.specs.Waits.{waited_for};
-ghost use Rattle.lemma_bytes_told.specs.Told.{IsThere};
+ghost use Rattle.laws.specs.lemma_bytes_told.Told.{IsThere};
 ghost use Rattle.room_queries.specs.Heads.{number_left, head_piece};
 ghost use Rattle.room_queries.specs.Uses.{jobs_before};
 ghost use Rattle.journal_model.specs.Commands.{command_at_work as command_of};
 ghost use Rattle.journal_model.specs.ScriptRules.{is_script};
 ghost use Rattle.journal_model.specs.Legal.{IsLegal};
-ghost use Rattle.lemma_room_lists.specs.Listed.{HasLists};
+ghost use Rattle.room_ties.specs.lemma_room_lists.Listed.{HasLists};
 ghost use Rattle.room_ties.specs.Bos.{AreBos};
 ghost use Rattle.room_ties.specs.Ghosts.{AreGhosts};
 ghost use Rattle.room_ties.specs.Held.{AreHeld};
@@ -23,13 +23,13 @@ ghost use Rattle.room_ties.specs.RingJobs.{AreRings};
 ghost use Rattle.room_state.specs.Kept.{with_entry, state_behind, world_behind, MayAppend};
 
 use crate::make::make_parts;
+use crate::room_first::first_parts;
 use bo_table::BoTable;
 use copy_engine::Rings;
 use copy_packet::ProbeBytes;
 use fence_core::Timeline;
 use journal_model::{Bytes, Command, Course, Entry, Script, Stage, Task};
 use lru_bulk::Lru;
-use room_first::first_parts;
 use room_ties::{Ghost, Parts};
 use state_words::commands_of;
 use std::alloc::Global;
@@ -263,14 +263,14 @@ impl Rooms {
     pub fn task(&self, thread: u32) -> Task
         ensures { result ≡ task_of self.now.script (state_behind self.now) thread }
     {
-        room_tasks::task_of(&self.parts, &self.script, self.journal.items(), thread)
+        crate::room_tasks::task_of(&self.parts, &self.script, self.journal.items(), thread)
     }
 
     /// The group of rules that gives a thread's next entry.
     pub fn stage(&self, thread: u32) -> Stage
         ensures { result ≡ stage_of (task_of self.now.script (state_behind self.now) thread) }
     {
-        room_tasks::stage_of(self.task(thread))
+        crate::room_tasks::stage_of(self.task(thread))
     }
 
     /// The pages that a place has for a declared buffer, if it has some.

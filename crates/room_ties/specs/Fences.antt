@@ -11,7 +11,7 @@ use Rattle.fence_core.specs.Histories.{set_of}
 use Rattle.journal_model.specs.declared.state.Buffer.{Buffer}
 use Rattle.journal_model.specs.declared.state.Job.{Job}
 use Rattle.journal_model.specs.Waits.{same_job}
-use Rattle.law_state.specs.GoodState.{last_number}
+use Rattle.laws.specs.law_state.GoodState.{last_number}
 
 -- the fences of a buffer, none where it is dead
 abbrev pub fences_of : Option Buffer → List Fence

@@ -3,8 +3,8 @@ use Rattle.std.specs.Prelude.{◌≡◌, ℕ, ◌<◌, List, length}
 use Rattle.fence_core.specs.declared.timeline.Progress.{Progress}
 use Rattle.fence_core.specs.Timelines.{progress_of}
 use Rattle.journal_model.specs.declared.state.Job.{Job}
-use Rattle.law_state.specs.GoodState.{last_number}
-use Rattle.law_jobs.specs.JobLines.{IsLine, done_of}
+use Rattle.laws.specs.law_state.GoodState.{last_number}
+use Rattle.laws.specs.law_jobs.JobLines.{IsLine, done_of}
 
 -- of each context as many jobs were emitted as the last number says, and as many are done as jobs say
 pub record IsTimeline (jobs : List Job) (last : List ℕ) (line : List Progress) : Type 0 where

@@ -2,7 +2,7 @@
 use Rattle.std.specs.Prelude.{◌≡◌, ℕ, ◌<◌, List, [], ◌∷◌, length}
 use Rattle.copy_engine.specs.Pushes.{Pushed, ring_of}
 use Rattle.journal_model.specs.declared.state.Job.{Job}
-use Rattle.law_jobs.specs.JobLines.{unfinished_of}
+use Rattle.laws.specs.law_jobs.JobLines.{unfinished_of}
 use Rattle.room_ties.specs.Fences.{WaitsFor}
 
 -- a job of the state in a ring

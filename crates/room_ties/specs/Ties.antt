@@ -5,7 +5,7 @@ use Rattle.journal_model.specs.declared.script.Script.{Script}
 use Rattle.journal_model.specs.declared.state.State.{State}
 use Rattle.journal_model.specs.Holds.{held_frames, held_slots}
 use Rattle.journal_model.specs.Places.{aperture}
-use Rattle.lemma_room_lists.specs.Listed.{AreListed}
+use Rattle.room_ties.specs.lemma_room_lists.Listed.{AreListed}
 use Rattle.room_ties.specs.declared.parts.Parts.{Parts}
 use Rattle.room_ties.specs.Bos.{AreBos}
 use Rattle.room_ties.specs.Lines.{IsTimeline}

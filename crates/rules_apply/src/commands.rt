@@ -3,14 +3,14 @@ ghost use Rattle.journal_model.specs.State as words;
 ghost use Rattle.journal_model.specs.ApplyCommands as rows;
 ghost use Rattle.journal_model.specs.ApplyCommands.{after_new, after_free, after_bulk, after_result, named_in, released, with_pins};
 ghost use Rattle.journal_model.specs.Lists.{touched};
-ghost use Rattle.rules_parts.specs.Pins.{HasPinsLeft};
+ghost use Rattle.rules_state.specs.rules_parts.Pins.{HasPinsLeft};
 ghost use Rattle.rules_apply.specs.Ready.{IsThread, CanShowResult};
 
 use journal_model::{BufIds, Buffer, Command, Core, Ghost, Grip, Grips, Lists, Script, State};
 use rules_holds::{push_spans, spans_in, unfinished_before_write};
-use rules_parts::buffers::put_buffer;
-use rules_parts::grips::{change_pins, put_grip, release_all};
-use rules_parts::lists::{listed_in, members_last, taken_off, touched_all};
+use rules_state::rules_parts::buffers::put_buffer;
+use rules_state::rules_parts::grips::{change_pins, put_grip, release_all};
+use rules_state::rules_parts::lists::{listed_in, members_last, taken_off, touched_all};
 use rules_state::{
     buffer_in, command_at_work, dead_buffer, declared_pages, frames_of, has_buffer, named,
     new_buffer, new_course, no_grip, without_buffer,

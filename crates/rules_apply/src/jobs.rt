@@ -7,8 +7,8 @@ ghost use Rattle.rules_apply.specs.Ready.{IsThread, CanRun};
 use crate::commands::buffers_of;
 use journal_model::{Buffers, Command, Core, Ghosts, Job, JobIds, Numbers, Script, State};
 use rules_holds::{jobs_before_use, packets_of, use_of};
-use rules_parts::buffers::{add_fence, drop_last_fence};
 use rules_state::command_at_work;
+use rules_state::rules_parts::buffers::{add_fence, drop_last_fence};
 use std::alloc::Global;
 use ttm_base::{BufId, JobId, NoMemory, Op};
 
@@ -45,7 +45,7 @@ fn waits_at(alloc: Global, core: &Core, ops: &[Op], bs: &[BufId]) -> Result<JobI
 }
 
 /// Gives each of these buffers the job as a fence, in the way in which it uses the buffer.
-#[tactic(auto, using(rules_parts::proofs::UndoLaws::fence_undone))]
+#[tactic(auto, using(rules_state::proofs::rules_parts::UndoLaws::fence_undone))]
 fn add_uses(buffers: &mut Buffers, job: JobId, ops: &[Op], bs: &[BufId]) -> Result<(), NoMemory>
     ensures ok { OnOk result (buffers.new ≡ fold (with_use job ops.now) buffers.old bs.now) }
     ensures err { OnErr result (buffers.new ≡ buffers.old) }

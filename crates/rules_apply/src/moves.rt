@@ -4,15 +4,15 @@ ghost use Rattle.journal_model.specs.State as words;
 ghost use Rattle.journal_model.specs.Waits as waits;
 ghost use Rattle.journal_model.specs.ApplyMoves as rows;
 ghost use Rattle.rules_apply.specs.Ready.{HasShortTable};
-ghost use Rattle.rules_parts.specs.Undo.{without_last};
+ghost use Rattle.rules_state.specs.rules_parts.Undo.{without_last};
 
 use crate::jobs::set_last_job;
 use journal_model::{
     Buffer, Core, Frames, Ghost, Ghosts, Job, JobIds, Left, Packets, Script, State,
 };
 use rules_holds::{push_spans, spans_in, unfinished_before_write};
-use rules_parts::buffers::carry;
-use rules_parts::lists::relisted;
+use rules_state::rules_parts::buffers::carry;
+use rules_state::rules_parts::lists::relisted;
 use rules_state::{buffer_in, dead_buffer, frames_of, name_in_spans, packet_place, target_spans};
 use std::alloc::Global;
 use ttm_base::{BufId, JobId, Mem, NoMemory, Packet, PagePlace, Span, Spans};

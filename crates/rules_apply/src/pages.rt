@@ -5,8 +5,8 @@ ghost use Rattle.journal_model.specs.ApplyPages.{after_take, after_bind, after_u
 
 use journal_model::{Core, Script, State};
 use rules_holds::is_unfinished;
-use rules_parts::lists::relisted;
-use rules_parts::{buffers, courses};
+use rules_state::rules_parts::lists::relisted;
+use rules_state::rules_parts::{buffers, courses};
 use std::alloc::Global;
 use ttm_base::{BufId, JobId, Loc, Mem, NoMemory, Spans};
 

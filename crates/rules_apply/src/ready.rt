@@ -1,10 +1,10 @@
 ghost use Rattle.std.specs.Prelude.{◌≡◌, ◌+◌, ◌<◌, ◌^◌, ◌↔◌, IsTrue, Some, option_copied, length};
 ghost use Rattle.journal_model.specs.State as words;
 ghost use Rattle.rules_apply.specs.Ready as facts;
-ghost use Rattle.rules_parts.specs.Pins.{CanPin, HasPinsLeft};
+ghost use Rattle.rules_state.specs.rules_parts.Pins.{CanPin, HasPinsLeft};
 
 use journal_model::{Command, Entry, Grip, Kind, Script, State};
-use rules_parts::actors::{engine_of, thread_of};
+use rules_state::rules_parts::actors::{engine_of, thread_of};
 use rules_state::{command_at_work, course_of, grip_in, live_in};
 use ttm_base::{BufId, JobId};
 

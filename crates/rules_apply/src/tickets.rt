@@ -3,8 +3,8 @@ ghost use Rattle.journal_model.specs.ApplyCommands.{after_ticket, after_reserve,
 ghost use Rattle.rules_apply.specs.Ready.{IsThread, CanAnswer};
 
 use journal_model::{BufIds, State};
-use rules_parts::grips;
 use rules_state::new_course;
+use rules_state::rules_parts::grips;
 use std::alloc::Global;
 use ttm_base::{BufId, NoMemory, Stamp};
 

@@ -3,8 +3,8 @@ ghost use Rattle.journal_model.specs.ApplyVictims.{after_no_pages, after_skip, a
 ghost use Rattle.rules_apply.specs.Ready.{IsThread};
 
 use journal_model::{Script, State, Why};
-use rules_parts::lists::touched;
-use rules_parts::{buffers, courses, grips};
+use rules_state::rules_parts::lists::touched;
+use rules_state::rules_parts::{buffers, courses, grips};
 use std::alloc::Global;
 use ttm_base::{BufId, Deny, NoMemory};
 
@@ -52,7 +52,7 @@ pub fn catch(
 }
 
 /// A thread lets a victim go.
-#[tactic(auto, using(rules_parts::proofs::ListingLaws::touched_released))]
+#[tactic(auto, using(rules_state::proofs::rules_parts::ListingLaws::touched_released))]
 pub fn loose(
     alloc: Global,
     script: &Script,

@@ -5,7 +5,7 @@ ghost use Rattle.journal_model.specs.Holds as words;
 ghost use Rattle.rules_holds.specs.Held.{spans_of_slot, frames_of_slot, slots_of_slot};
 
 use journal_model::{Buffer, Core, Frames, Ghost, Script};
-use rules_places::same_mem;
+use place_list::rules_places::same_mem;
 use rules_state::{frame_of, slot_of, target_spans};
 use std::alloc::Global;
 use ttm_base::{Mem, NoMemory, Span, Spans};

@@ -4,6 +4,7 @@
 
 mod actors;
 mod ready;
+pub mod rules_schedule;
 mod tasks;
 
 pub use actors::{next, next_with};

@@ -1,1 +1,2 @@
+pub mod rules_parts
 pub mod Quests

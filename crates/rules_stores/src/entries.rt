@@ -13,8 +13,8 @@ use crate::pages::StorePage;
 use crate::parts::{PagePart, copy_part, put_bytes, xor_part};
 use crate::stores::PlainStores;
 use journal_model::{Command, Core, Entry, Kind, Script, State};
-use rules_parts::actors::{engine_of, thread_of};
 use rules_state::command_at_work;
+use rules_state::rules_parts::actors::{engine_of, thread_of};
 use ttm_base::{Actor, JobId, Packet, PagePlace};
 
 /// A packet of a job, or a look at nothing where it isn't there.

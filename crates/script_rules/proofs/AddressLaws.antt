@@ -15,7 +15,7 @@ use Rattle.journal_model.specs.declared.line.Line.{Line}
 use Rattle.journal_model.specs.declared.line.Line.TheVariants as line
 use Rattle.journal_model.specs.LineRules.{is_broken_engine, lacks_number, has_range_fault, lacks_number_in_vop, has_wrong_addresses, passes_in_vop, is_more_than, vop_in, has_buffer_twice, named_job, is_big_named_job, has_job_fault, lacks_page}
 use Rattle.gpu_spaces.specs.Inside.{ends_inside, is_inside}
-use Rattle.script_desk.specs.Desks.{Seen, IsDesk}
+use Rattle.script_rules.specs.script_desk.Desks.{Seen, IsDesk}
 use Rattle.script_rules.specs.Jobs.{names_many, breaks_job_at}
 
 either : (a b : Bool) → (a || b) ≡ false → (a ≡ false) × (b ≡ false)

@@ -1,2 +1,3 @@
+pub mod script_desk
 pub mod Jobs
 pub mod Mentions

@@ -7,15 +7,15 @@ ghost use Rattle.journal_model.specs.ByName.{job_by_name};
 ghost use Rattle.journal_model.specs.MarkRules as marks;
 ghost use Rattle.journal_model.specs.MarkRules.{has_apart_ranges};
 ghost use Rattle.gpu_spaces.specs.Inside.{is_inside};
-ghost use Rattle.script_desk.specs.Desks.{IsDesk};
+ghost use Rattle.script_rules.specs.script_desk.Desks.{IsDesk};
 ghost use Rattle.script_rules.specs.Jobs.{has_many, breaks_job_at};
 ghost use Rattle.script_rules.specs.Mentions.{mentioned};
 ghost use Rattle.journal_model.specs.LineRules.{lacks_number, has_range_fault, lacks_number_in_vop, passes_end, has_wrong_addresses, passes_in_vop, lacks_byte_in_vop, vop_in, is_big_named_job, len_of_vop_word, lacks_page};
 
 use crate::rules::{is_above, is_nothing, mention};
+use crate::script_desk::Desk;
 use journal_model::line::{Line, VOpWord};
 use journal_model::{Script, VOp, VOps};
-use script_desk::Desk;
 use std::alloc::Global;
 use ttm_base::{BufId, ItemList, NoMemory, Op};
 

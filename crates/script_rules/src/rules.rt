@@ -10,17 +10,17 @@ ghost use Rattle.script_rules.specs.Mentions.{mentioned};
 ghost use Rattle.journal_model.specs.LineRules.{lacks_number_in_head, is_broken_place, is_broken_actor, is_broken_engine, lacks_number_in_op, lacks_number, lacks_name_in_op, has_wrong_name, lacks_name, is_no_place, may_force, is_no_list, lacks_place, is_zero, is_more_than, passes, has_wrong_range, passes_in_op, bytes_pass, has_range_fault, lacks_byte_in_op, are_wrong_bytes, has_byte_fault, same_known, names_one_twice, buffers_of_word, is_big_job, has_job_fault, is_missing_actor, is_missing_engine, lacks_actor, is_one_too_many, len_of_word, lens_of_line, is_too_long, passes_pages, passes_end, has_mapped, has_map_fault, rule_broken};
 ghost use Rattle.journal_model.specs.MarkRules as marks;
 ghost use Rattle.journal_model.specs.MarkRules.{desk_at_end};
-ghost use Rattle.script_desk.specs.Desks.{IsDesk};
+ghost use Rattle.script_rules.specs.script_desk.Desks.{IsDesk};
 
 use crate::addresses::{
     addressed_lens_within, breaks_addressed_job, breaks_page, does_pass_end, lack_address,
     lack_byte_at_address, some_address_passes,
 };
+use crate::script_desk::Desk;
 use journal_model::line::{
     Access, ActorWord, BufferHead, EngineWord, Line, OpWord, PlaceWord, Progress,
 };
 use journal_model::{Bytes, Script};
-use script_desk::Desk;
 use script_words::names::Names;
 use std::alloc::Global;
 use ttm_base::{BufId, ItemList, NoMemory};

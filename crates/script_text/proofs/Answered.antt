@@ -7,8 +7,8 @@ use Rattle.script_text.specs.declared.ScriptFault.TheVariants as fault
 use Rattle.journal_model.specs.Words.{Text}
 use Rattle.journal_model.specs.FirstFault.{script_of}
 use Rattle.journal_model.specs.ScriptRules.{IsScript}
-use Rattle.law_script.proofs.TakesScript.{takes_scripts}
-use Rattle.law_script.proofs.ReadsScript.{reads_scripts}
+use Rattle.law_legal.proofs.law_script.TakesScript.{takes_scripts}
+use Rattle.law_legal.proofs.law_script.ReadsScript.{reads_scripts}
 use Rattle.script_text.specs.Steps.{Gives}
 
 abbrev pub fault_of : Result Script (ℕ × ℕ) → Option (ℕ × ℕ)

@@ -19,7 +19,7 @@ use Rattle.journal_model.specs.declared.line.Line.{Line}
 use Rattle.journal_model.specs.declared.line.Line.TheVariants as line
 use Rattle.journal_model.specs.MarkRules.{empty_desk, desk_after, desk_at_end}
 use Rattle.journal_model.specs.FirstFault.{or_zero, or_first, place_in, wanted, taken_under_pressure, decl_of, onto_last, mark_here, with_mark, with_mark_line, with_access, with_command, with_line}
-use Rattle.script_desk.specs.Desks.{Seen, IsDesk}
+use Rattle.script_rules.specs.script_desk.Desks.{Seen, IsDesk}
 use Rattle.script_text.specs.Steps.{IsKnown, IsClean, has_few_pages, is_up_to, desk_next}
 
 joint : (a b : Bool) → a ≡ true → b ≡ true → (a && b) ≡ true

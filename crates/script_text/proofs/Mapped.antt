@@ -13,7 +13,7 @@ use Rattle.journal_model.specs.declared.line.Line.TheVariants as line
 use Rattle.journal_model.specs.Commands.{decl, undeclared}
 use Rattle.journal_model.specs.LineRules.{lacks_number, lacks_name, has_range_fault, passes_end, passes_pages}
 use Rattle.journal_model.specs.MarkRules as words
-use Rattle.script_desk.specs.Desks.{Seen, IsDesk}
+use Rattle.script_rules.specs.script_desk.Desks.{Seen, IsDesk}
 use Rattle.script_text.specs.Steps.{IsClean, desk_next, has_few_pages}
 
 either : (a b : Bool) → (a || b) ≡ false → (a ≡ false) × (b ≡ false)

@@ -14,7 +14,7 @@ use Rattle.journal_model.specs.declared.script.MarkKind.TheVariants as mark
 use Rattle.journal_model.specs.MarkRules.{Desk, empty_desk, desk_after, desk_at_end}
 use Rattle.journal_model.specs.FirstFault.{or_first, or_zero}
 use Rattle.journal_model.specs.LineRules.{lacks_number, lacks_name, has_range_fault, is_one_too_many, is_too_long, lacks_page}
-use Rattle.script_desk.specs.Desks.{Seen, IsDesk}
+use Rattle.script_rules.specs.script_desk.Desks.{Seen, IsDesk}
 use Rattle.script_text.specs.declared.ScriptFault.{ScriptFault}
 use Rattle.script_text.specs.declared.ScriptFault.TheVariants as fault
 

@@ -8,7 +8,7 @@ ghost use Rattle.journal_model.specs.ScriptRules.{IsScript};
 ghost use Rattle.script_text.specs.Steps.{Gives};
 
 use journal_model::Script;
-use script_desk::Desk;
+use script_rules::script_desk::Desk;
 use script_words::cut::len_of_line;
 use script_words::names::Names;
 use std::alloc::Global;

@@ -10,14 +10,14 @@ ghost use Rattle.journal_model.specs.MarkRules.{desk_at_end};
 ghost use Rattle.journal_model.specs.LineRules.{lacks_number, has_range_fault, is_too_long, lacks_page, len_of_vop_word};
 ghost use Rattle.journal_model.specs.FirstFault.{mark_here, with_access, with_mark, with_mark_line, with_line};
 ghost use Rattle.gpu_spaces.specs.Inside.{is_inside};
-ghost use Rattle.script_desk.specs.Desks.{IsDesk};
+ghost use Rattle.script_rules.specs.script_desk.Desks.{IsDesk};
 ghost use Rattle.script_text.specs.Steps.{IsClean, desk_next, has_few_pages};
 
 use crate::reader::put_job;
 use crate::values::{engine_of, first_of, zero_of};
 use journal_model::line::{Access, EngineWord, Line, Progress, VOpWord, VOpWords};
 use journal_model::{Command, Mark, MarkKind, Ops, VOp};
-use script_desk::Desk;
+use script_rules::script_desk::Desk;
 use script_rules::{addressed_lens_within, vops_of};
 use std::alloc::Global;
 use ttm_base::{BufId, NoMemory};

@@ -7,7 +7,7 @@ ghost use Rattle.journal_model.specs.FirstFault.{with_sizes, with_buffer, with_c
 ghost use Rattle.journal_model.specs.LineRules.{len_of_word, is_too_long};
 ghost use Rattle.journal_model.specs.Commands.{commands_of};
 ghost use Rattle.journal_model.specs.MarkRules.{desk_at_end};
-ghost use Rattle.script_desk.specs.Desks.{IsDesk};
+ghost use Rattle.script_rules.specs.script_desk.Desks.{IsDesk};
 ghost use Rattle.script_text.specs.Steps.{IsSteady, IsKnown, IsClean, Leads, desk_next};
 
 use crate::marks::{follow, put_access, put_mark_line, put_vsubmit};
@@ -22,8 +22,8 @@ use journal_model::line::{
 use journal_model::{
     Bytes, Command, CommandLists, Commands, Decl, Decls, MarkKind, Marks, Script, Sizes, TurnLines,
 };
-use script_desk::Desk;
 use script_lines::line;
+use script_rules::script_desk::Desk;
 use script_rules::{broken, lens_within};
 use script_words::cut::cut;
 use script_words::keywords::{can_come, keyword};

@@ -9,7 +9,7 @@ use Rattle.journal_model.specs.Complete.{is_complete}
 use Rattle.journal_model.specs.DeadEnd.{can_step}
 use Rattle.journal_model.specs.Legal.{World, world_of, state_of, next_entry}
 use Rattle.journal_model.specs.Scheduled.{Run, run_of, stepped, appended, scheduled, scheduled_actors, own_order, actor_of_turn}
-use Rattle.law_state.proofs.Turns.{run_good}
+use Rattle.laws.proofs.law_state.Turns.{run_good}
 use Rattle.device_core.specs.Kept.{Kept, entry_of, after_step, after_turn, next_actor, after_found}
 
 module _ (script : Script) (n : ℕ) where

@@ -10,8 +10,8 @@ use Rattle.command_words.specs.declared.Form.{Form}
 use Rattle.command_words.specs.declared.Form.TheVariants as form
 use Rattle.sim_drive.specs.Ends.{Kept, EndsAfter}
 pub use Rattle.law_legal.proofs.All.{keeps_laws}
-use Rattle.law_end.proofs.Ends.{schedule_completes}
-use Rattle.law_limit.proofs.Limits.{limit_fits}
+use Rattle.laws.proofs.law_end.Ends.{schedule_completes}
+use Rattle.laws.proofs.law_limit.Limits.{limit_fits}
 use Rattle.simulator.specs.declared.outcome.Outcome.{Outcome}
 use Rattle.simulator.specs.declared.outcome.Outcome.TheVariants as outcome
 use Rattle.simulator.specs.declared.outcome.Status.{Status}

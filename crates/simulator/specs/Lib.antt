@@ -1,3 +1,4 @@
+pub mod check_program
 pub mod Edges
 pub mod Outcomes
 pub mod Inputs

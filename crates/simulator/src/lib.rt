@@ -1,6 +1,7 @@
 //! The simulator from words and bytes to a report and a status.
 #![tactic(auto)]
 
+pub mod check_program;
 mod input;
 mod law;
 mod outcome;

@@ -3,7 +3,7 @@ ghost use Rattle.journal_model.specs.Holds as holds;
 ghost use Rattle.journal_model.specs.Choice as choices;
 
 use journal_model::Script;
-use rules_places::reach;
+use place_list::rules_places::reach;
 use ttm_base::{Mem, Place, Span};
 
 /// How many pages a memory type has.

@@ -6,6 +6,10 @@ mod blocks;
 #[cfg(test)]
 mod holes;
 #[cfg(test)]
+mod kernel_cases;
+#[cfg(test)]
+mod large_blocks;
+#[cfg(test)]
 mod lines;
 #[cfg(test)]
 mod numbers;

@@ -6,6 +6,15 @@ use std::alloc::Global;
 use std::io::{Error, ErrorKind, Result};
 use ttm_base::Actor;
 
+/// When parts that follow a device are compared with it.
+#[derive(Clone, Copy)]
+pub enum When {
+    /// At the start, and behind each entry.
+    EachEntry,
+    /// Once, behind all turns.
+    AtTheEnd,
+}
+
 /// What a program is given, and how.
 pub struct Case {
     pub name: String,
@@ -23,6 +32,8 @@ pub struct Case {
     pub to_the_end: bool,
     /// At the end, which frame each page of TT stands for.
     pub shows_aperture: bool,
+    /// Two devices are compared turn by turn, and parts that follow one of them then.
+    pub compared: Option<When>,
     pub text: Vec<u8>,
 }
 
@@ -38,6 +49,7 @@ impl Drop for Case {
             steps: _,
             to_the_end: _,
             shows_aperture: _,
+            compared: _,
             text: _,
         } = self;
     }
@@ -91,12 +103,25 @@ impl Case {
             steps: Vec::new(alloc),
             to_the_end: false,
             shows_aperture: false,
+            compared: None,
             text: Vec::new(alloc),
         })
     }
 
     /// Takes a line between the first and `text`.
     pub(crate) fn set(&mut self, alloc: Global, line: &str) -> Result<()> {
+        match line {
+            "to the end" => self.to_the_end = true,
+            "aperture" => self.shows_aperture = true,
+            "compare each entry" => self.compared = Some(When::EachEntry),
+            "compare at the end" => self.compared = Some(When::AtTheEnd),
+            _ => return self.set_list(alloc, line),
+        }
+        Ok(())
+    }
+
+    /// Takes a line with numbers or actors.
+    fn set_list(&mut self, alloc: Global, line: &str) -> Result<()> {
         if let Some(words) = line.strip_prefix("chunks ") {
             self.chunks = numbers(alloc, words)?;
         } else if let Some(words) = line.strip_prefix("read fails ") {
@@ -109,10 +134,6 @@ impl Case {
             }
         } else if let Some(count) = line.strip_prefix("letters ") {
             self.put_letters(alloc, count.parse::<u32>().map_err(|_| broken())?)?;
-        } else if line == "to the end" {
-            self.to_the_end = true;
-        } else if line == "aperture" {
-            self.shows_aperture = true;
         } else {
             return Err(broken());
         }

@@ -10,6 +10,8 @@
 //! steps ACTOR ..        whose turns these are: `tN`, `eN` or `r`
 //! to the end            after them, turns in the simulator's order until all is over
 //! aperture              at the end, which frame each page of TT stands for
+//! compare each entry    two devices are compared turn by turn, and behind each entry parts that follow one of them
+//! compare at the end    the same, but the parts once, behind all turns
 //! letters N             the text begins with so many letters x
 //! text
 //! LINE ..               the lines of the text
@@ -20,7 +22,7 @@
 mod case;
 mod table;
 
-pub use case::Case;
+pub use case::{Case, When};
 use std::io::{Error, ErrorKind};
 pub use table::Table;
 use ttm_base::NoMemory;

@@ -1,7 +1,9 @@
-//! Runs cases, and prints what came of each: of the simulator what it wrote and its status, of a device that named actors step the answer
-//! to each turn, and the report.
+//! Runs a table of cases (`test_cases`), and prints what came of each: of the simulator what it wrote and its status; of a device that
+//! named actors step the answer to each turn, and the report; of two devices that are compared a line, and what parts have.
 #![tactic(auto)]
 
+mod common;
+mod compared;
 mod simulated;
 mod stepped;
 
@@ -10,9 +12,11 @@ use std::io;
 use std::io::{BufRead, BufReader};
 use test_cases::{Case, Table};
 
-/// A case that names actors steps a device, any other runs the simulator.
+/// A case is a comparison of devices where it says so. Else one that names actors steps a device, and any other runs the simulator.
 fn run(rt: &HostRuntime, alloc: Global, case: &Case) -> io::Result<()> {
-    if case.steps.is_empty() {
+    if let Some(when) = case.compared {
+        compared::run(rt, alloc, case, when)
+    } else if case.steps.is_empty() {
         simulated::run(rt, alloc, case)
     } else {
         stepped::run(rt, alloc, case)

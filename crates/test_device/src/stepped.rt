@@ -1,7 +1,7 @@
+use crate::common::{device_for, print_aperture};
 use device_core::Device;
 use io_edge::{Sink, StdSink};
 use report_text::{WriteFault, write_report};
-use script_text::read_script;
 use std::alloc::Global;
 use std::io;
 use test_cases::{Case, no_memory};
@@ -70,22 +70,6 @@ fn go_to_the_end(device: &mut Device) -> io::Result<()> {
     Ok(())
 }
 
-fn print_frame(rt: &impl Print, frame: Option<u32>) -> io::Result<()> {
-    match frame {
-        Some(frame) => print!(rt; " {frame}"),
-        None => print!(rt; " -"),
-    }
-}
-
-/// Prints the frame that each page of TT stands for.
-fn print_aperture(rt: &impl Print, device: &Device) -> io::Result<()> {
-    print!(rt; "aperture")?;
-    for page in 0..device.script().sizes.tt {
-        print_frame(rt, device.rooms().parts().stores.aper.get(page))?;
-    }
-    println!(rt; "")
-}
-
 /// Writes the report of a device.
 fn write_device<K: Sink>(alloc: Global, device: &Device, sink: &mut K) -> Result<(), WriteFault> {
     let accounts = device.accounts();
@@ -98,14 +82,6 @@ fn print_report(rt: &HostRuntime, alloc: Global, device: &Device) {
     let _ = write_device(alloc, device, &mut StdSink::new(rt.stdout()));
 }
 
-/// A device that runs this script.
-fn device_for(alloc: Global, text: &[u8]) -> io::Result<Option<Device>> {
-    match read_script(alloc, text) {
-        Ok(script) => Ok(Some(Device::new(alloc, script).map_err(no_memory)?)),
-        Err(_) => Ok(None),
-    }
-}
-
 /// Takes the turns of a case, and prints what it asks for.
 fn run_on(rt: &HostRuntime, alloc: Global, case: &Case, device: &mut Device) -> io::Result<()> {
     take_steps(rt, device, case.steps.as_slice())?;
@@ -113,7 +89,7 @@ fn run_on(rt: &HostRuntime, alloc: Global, case: &Case, device: &mut Device) -> 
         go_to_the_end(device)?;
     }
     if case.shows_aperture {
-        print_aperture(rt, device)?;
+        print_aperture(rt, device.rooms())?;
     }
     print_report(rt, alloc, device);
     Ok(())
@@ -123,7 +99,7 @@ fn run_on(rt: &HostRuntime, alloc: Global, case: &Case, device: &mut Device) -> 
 pub fn run(rt: &HostRuntime, alloc: Global, case: &Case) -> io::Result<()> {
     let name = case.name.as_str();
     println!(rt; "case {name}")?;
-    match device_for(alloc, case.text.as_slice())? {
+    match device_for(alloc, case.text.as_slice()).map_err(no_memory)? {
         Some(mut device) => run_on(rt, alloc, case, &mut device),
         None => println!(rt; "no script"),
     }

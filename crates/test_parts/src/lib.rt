@@ -2,6 +2,8 @@
 #![tactic(auto)]
 
 #[cfg(test)]
+mod copies;
+#[cfg(test)]
 mod edges;
 #[cfg(test)]
 mod fences;
@@ -10,6 +12,12 @@ mod items;
 #[cfg(test)]
 mod lists;
 #[cfg(test)]
+mod maps;
+#[cfg(test)]
 mod reservations;
+#[cfg(test)]
+mod spaces;
+#[cfg(test)]
+mod tables;
 #[cfg(test)]
 mod tickets;

@@ -17,4 +17,8 @@ mod steps;
 #[cfg(test)]
 mod stores;
 #[cfg(test)]
+mod texts;
+#[cfg(test)]
 mod turns;
+#[cfg(test)]
+mod words;

@@ -6,6 +6,8 @@ mod counter;
 #[cfg(test)]
 mod gates;
 #[cfg(test)]
+mod mappings;
+#[cfg(test)]
 mod program;
 #[cfg(test)]
 mod tests;

@@ -13,7 +13,7 @@ use Rattle.journal_model.specs.declared.entry.Entry.{Entry}
 use Rattle.journal_model.specs.declared.entry.Kind.{Kind}
 use Rattle.journal_model.specs.Complete.{is_answer}
 use Rattle.simulator.specs.Ends.{Kept}
-use Rattle.law_over.proofs.Totals.{number_of, sum_same, all_answered}
+use Rattle.laws.proofs.law_over.Totals.{number_of, sum_same, all_answered}
 use Rattle.plain_memory.specs.Along as words
 use Rattle.plain_memory.specs.Mismatches.{mismatches_of}
 use Rattle.generated_load.specs.Loads.{IsLoad, load_script}

@@ -14,7 +14,7 @@ use Rattle.journal_model.specs.Complete.{is_complete, thread_numbers}
 use Rattle.journal_model.specs.Legal.{IsLegal}
 use Rattle.simulator.specs.Ends.{Kept}
 use Rattle.turn_lock.proofs.Prefixes.{prefix_trans}
-use Rattle.law_over.proofs.Stops.{last}
+use Rattle.laws.proofs.law_over.Stops.{last}
 use Rattle.simulator.proofs.RunLaws.{keeps_laws}
 use Rattle.thread_program.specs.Actors.{all_actors}
 use Rattle.thread_program.specs.Ran.{IsThreaded}

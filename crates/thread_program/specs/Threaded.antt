@@ -11,7 +11,7 @@ use Rattle.command_words.specs.declared.Form.{Form}
 use Rattle.simulator.specs.declared.outcome.Status.{Status}
 use Rattle.thread_program.specs.declared.launch.Launch.{Launch}
 use Rattle.thread_program.specs.declared.launch.Launch.TheVariants as launch
-use Rattle.check_program.specs.Ends.{EndsChecked}
+use Rattle.simulator.specs.check_program.Ends.{EndsChecked}
 use Rattle.thread_program.specs.Counted.{EndsCounted}
 use Rattle.thread_program.specs.Ran.{IsThreaded}
 

@@ -1,5 +1,5 @@
 use Rattle.ttm_base.specs.Cutting.{packets_of}
-use Rattle.law_cutting.proofs.Whole.{each_at}
+use Rattle.laws.proofs.law_cutting.Whole.{each_at}
 use Rattle.copy_packet.specs.Runs.{CanRun}
 use Rattle.law_packets.proofs.Ready.{ops_can_run}
 use Rattle.law_packets.proofs.packets_can_run.Goals as goal

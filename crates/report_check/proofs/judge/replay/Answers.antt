@@ -1,7 +1,7 @@
 use Rattle.std.proofs.Common.{◌≡◌, ◌^◌, ◌<◌, length, Some, refl, sym, subst, arith}
 use Rattle.std.specs.Prelude.{IfSome, slice_get}
 use Rattle.std.proofs.lemmas.Option.{slice_get_read}
-use Rattle.law_state.proofs.Rules.{rules_of}
+use Rattle.laws.proofs.law_state.Rules.{rules_of}
 use Rattle.journal_model.specs.Legal.{World}
 use Rattle.rules_holds.specs.Marked.{AreFrames}
 use Rattle.rules_stores.specs.Kept.{bytes_of}

@@ -1,7 +1,7 @@
 use Rattle.std.proofs.Common.{◌∙◌, sym, ap}
 use Rattle.journal_model.specs.PageSteps.{target_to_untake}
-use Rattle.room_turns.specs.Turns.{state_behind}
-use Rattle.room_turns.specs.Acting.{is_untake}
+use Rattle.room_state.specs.room_turns.Turns.{state_behind}
+use Rattle.room_state.specs.room_turns.Acting.{is_untake}
 use Rattle.room_device.proofs.Carried.{given_there, untake_entry}
 use Rattle.room_device.proofs.carries.untake.Goals as goal
 

@@ -1,7 +1,7 @@
 use Rattle.std.proofs.Common.{◌≡◌, Some, None, slice_get, ◌∙◌, sym, ap}
 use Rattle.journal_model.specs.declared.script.Script.{Script}
-use Rattle.room_turns.specs.Turns.{Kept, state_behind}
-use Rattle.room_turns.specs.Hunts.{list_of}
+use Rattle.room_state.specs.room_turns.Turns.{Kept, state_behind}
+use Rattle.room_state.specs.room_turns.Hunts.{list_of}
 use Rattle.room_device.specs.Finds.{tried_at}
 use Rattle.room_device.proofs.Founds.{having, lacking}
 use Rattle.room_device.proofs.search.first_found.Goals as goal

@@ -1,8 +1,8 @@
 use Rattle.std.proofs.Common.{◌≡◌, drop}
 use Rattle.ttm_base.specs.Placement.{first_places}
 use Rattle.journal_model.specs.Search.{first_choice}
-use Rattle.room_turns.specs.Turns.{state_behind}
-use Rattle.room_turns.specs.Hunts.{list_of}
+use Rattle.room_state.specs.room_turns.Turns.{state_behind}
+use Rattle.room_state.specs.room_turns.Hunts.{list_of}
 use Rattle.room_device.proofs.search.first_found.Given as goal
 
 -- the places before have no choice, and the rooms are as they were

@@ -1,9 +1,9 @@
 use Rattle.std.proofs.Common.{◌≡◌, Some, Ok, sym, ◌∙◌, ap, subst}
 use Rattle.ttm_base.specs.declared.Actor.TheVariants as actor
 use Rattle.journal_model.specs.declared.entry.Kind.TheVariants as kind
-use Rattle.room_turns.specs.Turns.{Kept, state_behind}
-use Rattle.room_turns.specs.Turns.{entry_of, step_of}
-use Rattle.room_turns.specs.Hunts.{seen}
+use Rattle.room_state.specs.room_turns.Turns.{Kept, state_behind}
+use Rattle.room_state.specs.room_turns.Turns.{entry_of, step_of}
+use Rattle.room_state.specs.room_turns.Hunts.{seen}
 use Rattle.room_device.specs.Finds.{found}
 use Rattle.room_device.proofs.Founds.{entry_takes, tells}
 use Rattle.room_device.proofs.search.take_target.Goals as goal

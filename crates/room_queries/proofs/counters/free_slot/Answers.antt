@@ -1,6 +1,6 @@
 use Rattle.std.proofs.Common.{◌∙◌}
 use Rattle.journal_model.specs.Legal.{state_of, stores_of}
-use Rattle.lemma_room_bytes.proofs.Lowest.{slot_first}
+use Rattle.room_ties.proofs.lemma_room_bytes.Lowest.{slot_first}
 use Rattle.room_queries.proofs.counters.free_slot.Goals as goal
 
 pub returns : goal.returns

@@ -2,7 +2,7 @@ use Rattle.std.proofs.Common.{subst}
 use Rattle.journal_model.specs.declared.line.Line.TheVariants as line
 use Rattle.journal_model.specs.declared.script.MarkKind.TheVariants as mark
 use Rattle.journal_model.specs.MarkRules.{desk_after}
-use Rattle.script_desk.specs.Desks.{IsDesk}
+use Rattle.script_rules.specs.script_desk.Desks.{IsDesk}
 use Rattle.script_text.proofs.Mapped.{vmap_pages, next_of}
 use Rattle.script_text.proofs.marks.follow.Goals as goal
 

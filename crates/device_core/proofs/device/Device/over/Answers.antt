@@ -1,8 +1,8 @@
 use Rattle.std.proofs.Common.{◌≡◌, false, sym, subst}
 use Rattle.std.specs.Prelude.{Bool, ◌↔◌}
 use Rattle.journal_model.specs.Legal.{state_of}
-use Rattle.law_sound.specs.Sound.{SomeGoesOn}
-use Rattle.law_sound.proofs.Orders.{until_the_end}
+use Rattle.laws.specs.law_sound.Sound.{SomeGoesOn}
+use Rattle.laws.proofs.law_sound.Orders.{until_the_end}
 use Rattle.device_core.specs.Kept.{Kept}
 use Rattle.device_core.proofs.device.Device.over.Goals as goal
 

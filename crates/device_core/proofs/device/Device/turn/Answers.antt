@@ -1,5 +1,5 @@
 use Rattle.std.proofs.Common.{refl}
-use Rattle.room_turns.specs.Turns.{entry_of}
+use Rattle.room_state.specs.room_turns.Turns.{entry_of}
 use Rattle.device_core.proofs.Mappings.{follows_made, follows_needed}
 use Rattle.device_core.proofs.device.Device.turn.Goals as goal
 

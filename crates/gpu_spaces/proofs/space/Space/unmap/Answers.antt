@@ -1,7 +1,7 @@
 use Rattle.std.proofs.Common.{◌≡◌, ◌+◌, []}
 use Rattle.journal_model.specs.declared.script.MarkKind.TheVariants as mark
 use Rattle.journal_model.specs.Spaces.{regions_after}
-use Rattle.law_spaces.specs.Sides.{sides}
+use Rattle.law_legal.specs.law_spaces.Sides.{sides}
 use Rattle.gpu_spaces.proofs.Small.{on_ok, sides_are_unmapped}
 use Rattle.gpu_spaces.proofs.space.Space.unmap.Goals as goal
 

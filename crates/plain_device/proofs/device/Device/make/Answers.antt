@@ -2,7 +2,7 @@ use Rattle.std.proofs.Common.{◌≡◌, ◌+◌, ◌^◌, ◌<◌, length, Ok, 
 use Rattle.journal_model.specs.Apply.{apply}
 use Rattle.journal_model.specs.Stores.{stores_after}
 use Rattle.rules_stores.specs.Kept.{BecomesBytes, bytes_of}
-use Rattle.law_state.proofs.Rules.{rules_of}
+use Rattle.laws.proofs.law_state.Rules.{rules_of}
 use Rattle.plain_device.specs.Kept.{entry_of}
 use Rattle.plain_device.proofs.EnactLaws.{can_store, of_ok, of_err}
 use Rattle.plain_device.proofs.DeviceLaws.{pushed_ready, held_same, held_more}

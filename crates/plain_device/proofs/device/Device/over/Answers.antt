@@ -2,9 +2,9 @@ use Rattle.std.proofs.Common.{◌≡◌, ◌∙◌, subst, sym, false}
 use Rattle.std.specs.Prelude.{Bool, ◌↔◌}
 use Rattle.journal_model.specs.Legal.{state_of}
 use Rattle.journal_model.specs.Complete.{is_complete}
-use Rattle.law_sound.specs.Sound.{SomeGoesOn}
+use Rattle.laws.specs.law_sound.Sound.{SomeGoesOn}
 use Rattle.rules_stores.specs.Kept.{bytes_of}
-use Rattle.law_sound.proofs.Orders.{until_the_end}
+use Rattle.laws.proofs.law_sound.Orders.{until_the_end}
 use Rattle.plain_device.proofs.DeviceLaws.{over}
 use Rattle.plain_device.proofs.device.Device.over.Goals as goal
 

@@ -1,5 +1,0 @@
-use Rattle.law_causes.proofs.Law.{all_caused}
-use Rattle.law_causes.proofs.entries_that_give_up_have_causes.Goals as goal
-
-pub returns : goal.returns
-returns c = λ script journal fits legal. all_caused script fits journal legal

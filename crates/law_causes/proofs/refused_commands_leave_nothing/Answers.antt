@@ -1,5 +1,0 @@
-use Rattle.law_causes.proofs.Law.{all_refusals}
-use Rattle.law_causes.proofs.refused_commands_leave_nothing.Goals as goal
-
-pub returns : goal.returns
-returns c = λ script journal t d fits legal h. all_refusals script fits journal t d legal h

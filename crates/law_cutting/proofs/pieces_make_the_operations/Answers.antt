@@ -1,5 +1,0 @@
-use Rattle.law_cutting.proofs.Whole.{all_parts_are_whole}
-use Rattle.law_cutting.proofs.pieces_make_the_operations.Goals as goal
-
-pub returns : goal.returns
-returns c = λ script ops m h. all_parts_are_whole script ops m h

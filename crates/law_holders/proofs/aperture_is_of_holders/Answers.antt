@@ -1,6 +1,0 @@
-use Rattle.law_holders.proofs.Mapped.{aperture_maps}
-use Rattle.journal_model.specs.Legal.{state_of}
-use Rattle.law_holders.proofs.aperture_is_of_holders.Goals as goal
-
-pub returns : goal.returns
-returns c = λ script journal page frame fits legal h. aperture_maps (state_of script journal).core page frame h

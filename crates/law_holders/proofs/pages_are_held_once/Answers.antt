@@ -1,7 +1,0 @@
-use Rattle.law_holders.proofs.HeldOnce.{held_once}
-use Rattle.law_owners.proofs.Law.{once_law}
-use Rattle.journal_model.specs.Legal.{state_of}
-use Rattle.law_holders.proofs.pages_are_held_once.Goals as goal
-
-pub returns : goal.returns
-returns c = λ script journal fits legal. held_once script (state_of script journal).core (once_law script journal fits legal)

@@ -1,5 +1,0 @@
-use Rattle.law_sound.proofs.Along.{goes_on_law}
-use Rattle.law_sound.proofs.some_actor_goes_on.Goals as goal
-
-pub returns : goal.returns
-returns c = λ script journal fits h unfinished. goes_on_law script journal fits h unfinished

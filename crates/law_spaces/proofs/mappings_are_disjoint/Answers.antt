@@ -1,6 +1,0 @@
-use Rattle.journal_model.specs.Spaces.{regions_of}
-use Rattle.law_spaces.proofs.Order.{rising_of, disjoint_of_rising}
-use Rattle.law_spaces.proofs.mappings_are_disjoint.Goals as goal
-
-pub returns : goal.returns
-returns c = λ requests some. disjoint_of_rising (regions_of requests) (rising_of requests some)

@@ -1,6 +1,0 @@
-use Rattle.std.proofs.Common.{ap}
-use Rattle.law_spaces.proofs.Points.{regions_are_the_space}
-use Rattle.law_spaces.proofs.mappings_are_the_space.Goals as goal
-
-pub returns : goal.returns
-returns c = λ requests some page. ap (λ f. f page) (regions_are_the_space requests some)

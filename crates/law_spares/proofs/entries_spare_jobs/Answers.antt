@@ -1,5 +1,0 @@
-use Rattle.law_spares.proofs.Law.{spares_law}
-use Rattle.law_spares.proofs.entries_spare_jobs.Goals as goal
-
-pub returns : goal.returns
-returns c = spares_law

@@ -1,6 +1,0 @@
-use Rattle.law_verdict.proofs.Law.{cut_reports_are_accepted}
-use Rattle.law_verdict.proofs.ScriptLines.{scripts_are_cut_off}
-use Rattle.law_verdict.proofs.reports_behind_their_script_are_accepted.Goals as goal
-
-pub returns : goal.returns
-returns c = record { cut = scripts_are_cut_off; accepted = cut_reports_are_accepted }

@@ -1,5 +1,0 @@
-use Rattle.law_verdict.proofs.Law.{accepted_is_not_rejected, rejected_once}
-use Rattle.law_verdict.proofs.texts_have_one_verdict.Goals as goal
-
-pub returns : goal.returns
-returns c = record { apart = accepted_is_not_rejected; once = rejected_once }

@@ -1,0 +1,1 @@
+//! Entries of searches lower the measure: dry places, fills, swapping out, victims caught and let go.

@@ -1,2 +1,0 @@
-//! Lemmas for `law_transparent::legal_journals_are_transparent`: jobs with operations, and writes.
-#![tactic(auto)]

@@ -1,2 +1,0 @@
-//! Lemmas for `law_transparent::legal_journals_are_transparent`: a view of a state by its bytes, and lemmas on it.
-#![tactic(auto)]

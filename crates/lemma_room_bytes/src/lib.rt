@@ -1,2 +1,0 @@
-//! Lemmas on the stores of a device: bytes, frames, slots and the aperture behind each kind of entry, and the bytes that commands show.
-#![tactic(auto)]

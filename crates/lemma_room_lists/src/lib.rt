@@ -1,2 +1,0 @@
-//! The words of the LRU's contracts are those of the definitions, on lists that both tell alike.
-#![tactic(auto)]

@@ -1,0 +1,42 @@
+ghost use Rattle.std.specs.Prelude.{◌≡◌};
+ghost use Rattle.journal_model.specs.State as state;
+ghost use Rattle.laws.specs.lemma_bytes_told.Told.{IsThere};
+ghost use Rattle.room_state.specs.room_turns.Turns.{state_behind};
+ghost use Rattle.room_ties.specs.room_steps.Lent.{as_buffer};
+ghost use Rattle.room_ties.specs.Bos.{unfenced};
+
+use bo_table::Bo;
+use room_state::room_turns::Rooms;
+use ttm_base::{BufId, Stamp};
+
+/// A buffer is live.
+pub(crate) fn is_live(rooms: &Rooms, b: BufId) -> bool
+    ensures { result ≡ state.is_live (state_behind rooms.now) b }
+{
+    let bos = &rooms.parts().bos;
+    if (b.0 as usize) < bos.len() {
+        bos.get(b).alive
+    } else {
+        false
+    }
+}
+
+/// Who holds a buffer.
+pub(crate) fn holder_of(rooms: &Rooms, b: BufId) -> Option<Stamp>
+    ensures { result ≡ (state.grip (state_behind rooms.now) b).holder }
+{
+    let bos = &rooms.parts().bos;
+    if (b.0 as usize) < bos.len() {
+        bos.get(b).resv.holder()
+    } else {
+        None
+    }
+}
+
+/// A live buffer.
+pub(crate) fn lent(rooms: &Rooms, b: BufId) -> &Bo
+    requires { IsThere (state_behind rooms.now) b }
+    ensures { as_buffer result.now ≡ unfenced (state.buffer (state_behind rooms.now) b) }
+{
+    rooms.parts().bos.get(b)
+}

@@ -1,0 +1,29 @@
+ghost use Rattle.std.specs.Prelude.{◌≡◌, true, IfOk, OnOk, OnErr};
+ghost use Rattle.ttm_base.specs.declared.Actor.TheVariants as actor;
+ghost use Rattle.journal_model.specs.Tasks.{task_of};
+ghost use Rattle.room_state.specs.room_turns.Turns.{state_behind};
+ghost use Rattle.room_state.specs.declared.room_turns.Step.TheVariants as answer;
+ghost use Rattle.room_state.specs.room_turns.Acting.{gives_up};
+ghost use Rattle.room_state.specs.room_turns.Turns.{after_step, entry_of, step_of};
+
+use journal_model::{Kind, Task};
+use room_state::room_turns::{Rooms, Step, make};
+use ttm_base::{Actor, NoMemory};
+
+/// A command is refused, in the stage Fail, whose search found no pages. Its buffer has no frame to give back and no target.
+///
+/// # Errors
+///
+/// Want of memory; nothing is changed.
+pub fn refuse(rooms: &mut Rooms, thread: u32) -> Result<Step, NoMemory>
+    requires { gives_up (task_of rooms.old.script (state_behind rooms.old) thread) ≡ true }
+    ensures step { IfOk result (λ step. step ≡ step_of (entry_of rooms.old (actor.Thread thread))) }
+    ensures always { IfOk result (λ step. step ≡ answer.Made) }
+    ensures made { OnOk result (rooms.new ≡ after_step rooms.old (entry_of rooms.old (actor.Thread thread))) }
+    ensures err { OnErr result (rooms.new ≡ rooms.old) }
+{
+    let Task::GiveUp(deny) = rooms.task(thread) else {
+        unreachable!()
+    };
+    make(rooms, Actor::Thread(thread), Kind::Refused { deny })
+}

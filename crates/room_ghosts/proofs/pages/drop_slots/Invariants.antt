@@ -1,8 +1,0 @@
-use Rattle.std.proofs.Common.{◌≡◌, take}
-use Rattle.std.specs.Prelude.{filter_map}
-use Rattle.journal_model.specs.Places.{slot_of}
-use Rattle.lemma_room_bytes.specs.GivenBack.{given_back}
-use Rattle.room_ghosts.proofs.pages.drop_slots.Given as goal
-
-abbrev pub invariant-loop-place : goal.invariant-loop-place
-invariant-loop-place l = l.swap ≡ record { held = given_back l.initial.swap.held (filter_map slot_of (take l.place-index l.places)); bytes = l.initial.swap.bytes }

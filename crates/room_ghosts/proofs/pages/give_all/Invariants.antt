@@ -1,6 +1,0 @@
-use Rattle.std.proofs.Common.{◌≡◌, take}
-use Rattle.lemma_room_bytes.specs.GivenBack.{given_back}
-use Rattle.room_ghosts.proofs.pages.give_all.Given as goal
-
-abbrev pub invariant-loop-frame : goal.invariant-loop-frame
-invariant-loop-frame l = l.pool ≡ given_back l.initial.pool (take l.frame-index l.frames)

@@ -1,0 +1,13 @@
+use Rattle.std.proofs.Common.{◌≡◌, length}
+use Rattle.journal_model.specs.Places.{pages_of}
+use Rattle.room_ties.specs.lemma_room_bytes.Mapped.{cleared}
+use Rattle.room_pages.specs.room_binds.Apertures.{AreBelow}
+use Rattle.room_pages.proofs.room_binds.apertures.clear_pages.Given as goal
+
+-- to clear the pages that are left clears all
+abbrev pub invariant-loop-page : goal.invariant-loop-page
+invariant-loop-page l =
+    (goal.iterator-loop-page).can_next l.page-iterator
+    × (goal.iterator-loop-page).is_finite l.page-iterator
+    × (cleared l.aper l.page-iterator ≡ cleared l.fn.aper (pages_of l.spans))
+    × AreBelow l.page-iterator (length l.aper)

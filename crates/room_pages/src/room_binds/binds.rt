@@ -1,0 +1,62 @@
+ghost use Rattle.std.specs.Prelude.{◌≡◌, ◌∷◌, ◌++◌, []};
+ghost use Rattle.ttm_base.specs.declared.Actor.TheVariants as actor;
+ghost use Rattle.journal_model.specs.declared.entry.Kind.TheVariants as kind;
+ghost use Rattle.journal_model.specs.Legal.{IsLegalNext, world_of};
+ghost use Rattle.lru_bulk.specs.Lists.{relisted};
+ghost use Rattle.room_ties.specs.Held.{AreHeld};
+
+use crate::room_binds::apertures::{give_mapped, map_target};
+use journal_model::{Entry, Script};
+use lru_bulk::Lru;
+use room_ties::Parts;
+use ttm_base::{BufId, Mem, Owner};
+
+/// Places a buffer on the list of another memory type, if it is on one.
+pub fn relist(lru: &mut Lru, b: BufId, mem: Mem)
+    ensures { lru.new ≡ relisted lru.old b mem }
+{
+    if lru.is_listed(b) {
+        lru.relist(b, mem);
+    }
+}
+
+/// A buffer goes from SYSTEM to its target in TT: its frames stay, and are mapped there.
+pub fn bind(
+    parts: &mut Parts,
+    script: &Script,
+    before: &[Entry],
+    entry: &Entry,
+    thread: u32,
+    b: BufId,
+)
+    requires held { AreHeld script.now before.now parts.old }
+    requires is { entry.now ≡ record { who = actor.Thread thread; kind = kind.Bind b } }
+    requires next { IsLegalNext script.now (world_of script.now before.now) entry.now }
+    ensures { AreHeld script.now (before.now ++ entry.now ∷ []) parts.new }
+{
+    parts.lru.members_stand_once();
+    let bo = parts.bos.get(b);
+    map_target(&mut parts.stores.aper, &mut parts.tt, b, bo.table.places());
+    parts.bos.bind(b);
+    relist(&mut parts.lru, b, Mem::Tt);
+}
+
+/// A buffer goes from TT to SYSTEM: its frames stay, and its pages of TT are free.
+pub fn unbind(
+    parts: &mut Parts,
+    script: &Script,
+    before: &[Entry],
+    entry: &Entry,
+    thread: u32,
+    b: BufId,
+)
+    requires held { AreHeld script.now before.now parts.old }
+    requires is { entry.now ≡ record { who = actor.Thread thread; kind = kind.Unbind b } }
+    requires next { IsLegalNext script.now (world_of script.now before.now) entry.now }
+    ensures { AreHeld script.now (before.now ++ entry.now ∷ []) parts.new }
+{
+    parts.lru.members_stand_once();
+    give_mapped(&mut parts.stores.aper, &mut parts.tt, Owner::Live(b));
+    parts.bos.unbind(b);
+    relist(&mut parts.lru, b, Mem::System);
+}

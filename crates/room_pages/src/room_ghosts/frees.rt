@@ -1,0 +1,108 @@
+ghost use Rattle.std.specs.Prelude.{◌≡◌, ◌<◌, ◌∷◌, ◌++◌, [], OnOk, OnErr};
+ghost use Rattle.ttm_base.specs.declared.Actor.TheVariants as actor;
+ghost use Rattle.journal_model.specs.declared.entry.Kind.TheVariants as kind;
+ghost use Rattle.journal_model.specs.Legal.{IsLegalNext, world_of};
+ghost use Rattle.room_ties.specs.Held.{AreHeld};
+ghost use Rattle.room_pages.specs.room_ghosts.Leaving.{off_list};
+
+use crate::give_frames;
+use crate::room_binds::{give_back, give_mapped, pass_on};
+use crate::room_ghosts::courses::has_freed;
+use crate::room_ghosts::leaving::ghost_of;
+use crate::room_ghosts::pages::drop_slots;
+use journal_model::{Entry, Script};
+use lru_bulk::Lru;
+use room_ties::Parts;
+use std::alloc::Global;
+use ttm_base::{BufId, NoMemory, Owner};
+
+/// Takes a buffer off its list, if it is on one.
+fn take_off(lru: &mut Lru, b: BufId)
+    ensures { lru.new ≡ off_list lru.old b }
+{
+    if lru.is_listed(b) {
+        lru.remove(b);
+    }
+}
+
+/// A buffer whose jobs are done is freed: all that it has is free, and its pages of TT are mapped no more.
+fn free_idle(
+    parts: &mut Parts,
+    script: &Script,
+    before: &[Entry],
+    entry: &Entry,
+    thread: u32,
+    b: BufId,
+)
+    requires held { AreHeld script.now before.now parts.old }
+    requires is { entry.now ≡ record { who = actor.Thread thread; kind = kind.Free b 0 } }
+    requires next { IsLegalNext script.now (world_of script.now before.now) entry.now }
+    ensures { AreHeld script.now (before.now ++ entry.now ∷ []) parts.new }
+{
+    parts.lru.members_stand_once();
+    let bo = parts.bos.get(b);
+    give_back(&mut parts.vram, Owner::Live(b));
+    give_mapped(&mut parts.stores.aper, &mut parts.tt, Owner::Live(b));
+    give_frames(&mut parts.pool, bo.table.places());
+    drop_slots(&mut parts.swap, bo.table.places());
+    parts.bos.kill(b);
+    take_off(&mut parts.lru, b);
+    has_freed(&mut parts.courses, thread, b);
+}
+
+/// A buffer that jobs still use is freed: a ghost has its spans and frames, which stay mapped, and its jobs.
+fn free_busy(
+    parts: &mut Parts,
+    alloc: Global,
+    script: &Script,
+    before: &[Entry],
+    entry: &Entry,
+    thread: u32,
+    b: BufId,
+    g: u64,
+) -> Result<(), NoMemory>
+    requires held { AreHeld script.now before.now parts.old }
+    requires is { entry.now ≡ record { who = actor.Thread thread; kind = kind.Free b g } }
+    requires next { IsLegalNext script.now (world_of script.now before.now) entry.now }
+    requires some { 0 < g }
+    ensures ok { OnOk result (AreHeld script.now (before.now ++ entry.now ∷ []) parts.new) }
+    ensures err { OnErr result (AreHeld script.now before.now parts.new) }
+{
+    parts.lru.members_stand_once();
+    let bo = parts.bos.get(b);
+    let left = ghost_of(alloc, bo, g)?;
+    parts.ghosts.push(left)?;
+    pass_on(&mut parts.vram, Owner::Live(b), Owner::Ghost(g));
+    pass_on(&mut parts.tt, Owner::Live(b), Owner::Ghost(g));
+    drop_slots(&mut parts.swap, bo.table.places());
+    parts.bos.kill(b);
+    take_off(&mut parts.lru, b);
+    has_freed(&mut parts.courses, thread, b);
+    parts.last_ghost = g;
+    Ok(())
+}
+
+/// A buffer is freed. Where jobs still use it, it leaves a ghost of that number, else the number is 0.
+pub fn free(
+    parts: &mut Parts,
+    alloc: Global,
+    script: &Script,
+    before: &[Entry],
+    entry: &Entry,
+    thread: u32,
+    b: BufId,
+    g: u64,
+) -> Result<(), NoMemory>
+    requires held { AreHeld script.now before.now parts.old }
+    requires is { entry.now ≡ record { who = actor.Thread thread; kind = kind.Free b g } }
+    requires next { IsLegalNext script.now (world_of script.now before.now) entry.now }
+    ensures ok { OnOk result (AreHeld script.now (before.now ++ entry.now ∷ []) parts.new) }
+    ensures err { OnErr result (AreHeld script.now before.now parts.new) }
+{
+    if g == 0 {
+        free_idle(parts, script, before, entry, thread, b);
+        Ok(())
+    } else {
+        free_busy(parts, alloc, script, before, entry, thread, b, g)
+    }
+}

@@ -1,0 +1,46 @@
+ghost use Rattle.std.specs.Prelude.{◌≡◌, IfOk};
+ghost use Rattle.room_pages.specs.room_ghosts.Leaving.{spans_if, all_jobs, ghost_of as left_by};
+
+use crate::room_binds::frames_in;
+use bo_table::Bo;
+use fence_core::FenceSet;
+use room_ties::Ghost;
+use std::alloc::Global;
+use ttm_base::{Mem, NoMemory, Spans, Usage};
+
+/// A copy of spans in a memory type, none where it isn't the one that is asked for.
+fn spans_in(alloc: Global, mem: Mem, mine: Mem, spans: &Spans) -> Result<Spans, NoMemory>
+    ensures { IfOk result (λ copy. copy ≡ spans_if mem mine spans.now) }
+{
+    if mem == mine {
+        spans.copy()
+    } else {
+        Ok(Spans::new(alloc))
+    }
+}
+
+/// A set of all jobs of another one.
+fn jobs_in(alloc: Global, set: &FenceSet) -> Result<FenceSet, NoMemory>
+    ensures { IfOk result (λ jobs. jobs ≡ all_jobs set.now) }
+{
+    let mut jobs = FenceSet::new(alloc, set.contexts())?;
+    jobs.add_all(set, Usage::Read);
+    Ok(jobs)
+}
+
+/// What a freed buffer leaves until its jobs are done.
+pub(crate) fn ghost_of(alloc: Global, bo: &Bo, g: u64) -> Result<Ghost, NoMemory>
+    ensures { IfOk result (λ ghost. ghost ≡ left_by bo.now g) }
+{
+    let vram = spans_in(alloc, bo.mem, Mem::Vram, &bo.spans)?;
+    let tt = spans_in(alloc, bo.mem, Mem::Tt, &bo.spans)?;
+    let frames = frames_in(alloc, bo.table.places())?;
+    let jobs = jobs_in(alloc, bo.resv.fences())?;
+    Ok(Ghost {
+        num: g,
+        vram,
+        tt,
+        frames,
+        jobs,
+    })
+}

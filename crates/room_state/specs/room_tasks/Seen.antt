@@ -1,0 +1,38 @@
+-- What tasks depend on, as the table of buffers tells it.
+use Rattle.std.specs.Prelude.{◌≡◌, Bool, not, [], Option, Some, None, length}
+use Rattle.bo_table.specs.declared.bo.Bo.{Bo}
+use Rattle.bo_table.specs.Seen.{Bos}
+use Rattle.ttm_base.specs.declared.BufId.{BufId}
+use Rattle.journal_model.specs.declared.script.Script.{Script}
+use Rattle.journal_model.specs.declared.script.Command.{Command}
+use Rattle.journal_model.specs.declared.state.Buffer.{Buffer}
+use Rattle.journal_model.specs.declared.state.State.{State}
+use Rattle.journal_model.specs.Ready.{is_ready}
+use Rattle.journal_model.specs.State.{new_buffer}
+use Rattle.room_ties.specs.room_steps.Lent.{as_buffer}
+
+-- a state with the buffers of a table, without their fences, and with their grips: no more is read
+abbrev pub seen : Bos → State
+seen t =
+    record {
+      core = record { buffers = t.buffers; jobs = []; ghosts = []; move_fence = None };
+      grips = t.grips;
+      lists = [];
+      last_stamp = 0;
+      last_ghost = 0;
+      last_jobs = [];
+      courses = [];
+    }
+
+-- a buffer that the table lends; where there is none, an empty one in SYSTEM
+abbrev pub standing : Option Bo → Buffer
+standing None = new_buffer 0
+standing (Some bo) = as_buffer bo
+
+-- a command's buffer isn't in place, or isn't filled
+unfoldable pub is_unready : Script → Bos → Command → BufId → Bool
+is_unready script t cmd b = not (is_ready script (seen t) cmd b)
+
+-- each buffer of the table has a grip
+abbrev pub HasGrips : Bos → Type 0
+HasGrips t = length t.grips ≡ length t.buffers

@@ -1,0 +1,84 @@
+ghost use Rattle.std.specs.Prelude.{◌≡◌, slice_get};
+ghost use Rattle.std.specs.Option.{option_copied};
+ghost use Rattle.journal_model.specs.Commands as commands;
+ghost use Rattle.journal_model.specs.Legal.{state_of};
+ghost use Rattle.journal_model.specs.Ready as ready;
+ghost use Rattle.journal_model.specs.State.{buffer};
+ghost use Rattle.journal_model.specs.Tasks as words;
+ghost use Rattle.room_ties.specs.Held.{AreHeld};
+ghost use Rattle.room_ties.specs.room_steps.Courses.{course_at};
+
+use crate::room_tasks::ready::unready;
+use crate::room_tasks::standing::live;
+use crate::room_tasks::tasks::{can_give, refusal, task_of_command};
+use journal_model::{Command, Course, Courses, Entry, Script, Task};
+use room_ties::Parts;
+use state_words::commands_of;
+use ttm_base::{BufId, Deny};
+
+/// The course of a thread, if the thread is there. Threads are numbered from 1.
+fn course_of(courses: &Courses, thread: u32) -> Option<&Course>
+    ensures { option_copied result ≡ course_at courses.now thread }
+{
+    if thread == 0 {
+        None
+    } else {
+        courses.items().get(thread as usize - 1)
+    }
+}
+
+/// The command that a thread is at, if one is left.
+fn command_of<'a>(script: &'a Script, course: &Course, thread: u32) -> Option<&'a Command>
+    ensures { option_copied result ≡ slice_get (commands.commands_of script.now thread) course.now.answered }
+{
+    commands_of(script, thread).get(course.answered as usize)
+}
+
+/// The named buffer at work: the first that isn't ready. Takes time by the command's operations, and by the spans and places of their buffers.
+pub fn first_unready(
+    parts: &Parts,
+    script: &Script,
+    before: &[Entry],
+    command: &Command,
+) -> Option<BufId>
+    requires { AreHeld script.now before.now parts.now }
+    ensures { result ≡ ready.first_unready script.now (state_of script.now before.now) command.now }
+{
+    unready(script, &parts.bos, command)
+}
+
+/// What a command may not ask of its buffer. Takes constant time.
+pub fn forbidden(
+    parts: &Parts,
+    script: &Script,
+    before: &[Entry],
+    command: &Command,
+) -> Option<Deny>
+    requires { AreHeld script.now before.now parts.now }
+    ensures { result ≡ words.forbidden (state_of script.now before.now) command.now }
+{
+    refusal(&parts.bos, command)
+}
+
+/// Something that a search took for a buffer can be given back. Takes constant time.
+pub fn gives_back(parts: &Parts, script: &Script, before: &[Entry], b: BufId) -> bool
+    requires { AreHeld script.now before.now parts.now }
+    ensures { result ≡ words.gives_back (buffer (state_of script.now before.now) b) }
+{
+    can_give(live(&parts.bos, b))
+}
+
+/// What a thread has to do next: nothing, where there is no such thread. Takes time by the operations of its command and the buffers that it
+/// holds, and by the spans and places of named buffers.
+pub fn task_of(parts: &Parts, script: &Script, before: &[Entry], thread: u32) -> Task
+    requires { AreHeld script.now before.now parts.now }
+    ensures { result ≡ words.task_of script.now (state_of script.now before.now) thread }
+{
+    let Some(course) = course_of(&parts.courses, thread) else {
+        return Task::Idle;
+    };
+    match command_of(script, course, thread) {
+        Some(command) => task_of_command(script, &parts.bos, course, command),
+        None => Task::Idle,
+    }
+}

@@ -1,0 +1,112 @@
+ghost use Rattle.std.specs.Prelude.{◌≡◌, find, flat_map};
+ghost use Rattle.std.specs.Option.{option_copied};
+ghost use Rattle.journal_model.specs.Commands.{buffers_of_op};
+ghost use Rattle.journal_model.specs.Ready as words;
+ghost use Rattle.room_state.specs.room_tasks.Seen.{is_unready, seen, standing, HasGrips};
+
+use crate::room_tasks::mentions::{buffers_of, mentions_of};
+use crate::room_tasks::standing::{has_all_frames, has_some_target, live, mem_of, spans_of};
+use bo_table::{Bo, BoTable};
+use journal_model::{Command, Script};
+use state_words::{compatible, declared_places, same_mem, size_of};
+use ttm_base::{BufId, Mem, Op};
+
+/// The buffer stands where its declared placement lets it.
+fn is_well_placed(script: &Script, b: BufId, bo: Option<&Bo>) -> bool
+    ensures { result ≡ words.is_well_placed script.now b (standing (option_copied bo.entry)) }
+{
+    let mem = mem_of(bo);
+    compatible(
+        mem,
+        spans_of(bo),
+        declared_places(script, b),
+        size_of(script, mem),
+    )
+}
+
+/// The buffer stands where the command wants it.
+fn meets(script: &Script, command: &Command, b: BufId, bo: Option<&Bo>) -> bool
+    ensures { result ≡ words.meets script.now command.now b (standing (option_copied bo.entry)) }
+{
+    match command {
+        Command::Submit { .. } | Command::Find { .. } => is_well_placed(script, b, bo),
+        Command::Move { mem, .. } => same_mem(mem_of(bo), *mem),
+        Command::SwapOut { .. } => same_mem(mem_of(bo), Mem::System),
+        _ => true,
+    }
+}
+
+/// No target, and it stands where the command wants it.
+pub(crate) fn is_in_place(script: &Script, command: &Command, b: BufId, bo: Option<&Bo>) -> bool
+    ensures { result ≡ words.is_in_place script.now command.now b (standing (option_copied bo.entry)) }
+{
+    !has_some_target(bo) && meets(script, command, b, bo)
+}
+
+/// The command reads or writes the buffer's bytes.
+fn uses_bytes(command: &Command) -> bool
+    ensures { result ≡ words.uses_bytes command.now }
+{
+    matches!(
+        command,
+        Command::Submit { .. } | Command::Write { .. } | Command::Read { .. }
+    )
+}
+
+/// In SYSTEM, each page that the command may use has a frame.
+fn is_filled(command: &Command, bo: Option<&Bo>) -> bool
+    ensures { result ≡ words.is_filled command.now (standing (option_copied bo.entry)) }
+{
+    !uses_bytes(command) || !same_mem(mem_of(bo), Mem::System) || has_all_frames(bo)
+}
+
+/// In place and filled.
+fn is_ready(script: &Script, bos: &BoTable, command: &Command, b: BufId) -> bool
+    requires { HasGrips bos.now }
+    ensures { result ≡ words.is_ready script.now (seen bos.now) command.now b }
+{
+    let bo = live(bos, b);
+    is_in_place(script, command, b, bo) && is_filled(command, bo)
+}
+
+/// The first buffer of an operation that isn't ready.
+#[tactic(auto, unfolding(crate::specs::room_tasks::Seen::is_unready))]
+fn unready_of(script: &Script, bos: &BoTable, command: &Command, op: &Op) -> Option<BufId>
+    requires { HasGrips bos.now }
+    ensures { result ≡ find (is_unready script.now bos.now command.now) (buffers_of_op op.now) }
+{
+    let (first, second) = buffers_of(op);
+    if !is_ready(script, bos, command, first) {
+        return Some(first);
+    }
+    match second {
+        Some(b) if !is_ready(script, bos, command, b) => Some(b),
+        _ => None,
+    }
+}
+
+/// The first buffer of operations that isn't ready.
+fn unready_in(script: &Script, bos: &BoTable, command: &Command, ops: &[Op]) -> Option<BufId>
+    requires { HasGrips bos.now }
+    ensures { result ≡ find (is_unready script.now bos.now command.now) (flat_map buffers_of_op ops.now) }
+{
+    for op in ops {
+        let found = unready_of(script, bos, command, op);
+        if found.is_some() {
+            return found;
+        }
+    }
+    None
+}
+
+/// The named buffer at work: the first that isn't ready.
+pub(crate) fn unready(script: &Script, bos: &BoTable, command: &Command) -> Option<BufId>
+    requires { HasGrips bos.now }
+    ensures { result ≡ words.first_unready script.now (seen bos.now) command.now }
+{
+    let mentions = mentions_of(command);
+    match mentions.own {
+        Some(b) if !is_ready(script, bos, command, b) => Some(b),
+        _ => unready_in(script, bos, command, mentions.ops),
+    }
+}

@@ -1,0 +1,52 @@
+//! What an actor's turn makes of the rooms: its next entry, or what it needs first.
+mod hunts;
+
+ghost use Rattle.std.specs.Prelude.{◌≡◌, Ok, IfOk, OnOk, OnErr};
+ghost use Rattle.room_state.specs.room_turns.Turns.{entry_by, entry_of, step_by, step_of, after_step};
+
+pub use crate::Rooms;
+pub use hunts::{Hunt, Sought, hunt_at_work, place_at, place_at_work, place_count};
+use journal_model::{Entry, Kind};
+use ttm_base::{Actor, Need, NoMemory};
+
+/// What an errand answers.
+#[derive(Clone, Copy)]
+pub enum Step {
+    /// The actor's next entry was made.
+    Made,
+    /// The actor has no entry before this has come; nothing is changed.
+    Need(Need),
+}
+
+/// Makes the entry that is the actor's next.
+///
+/// # Errors
+///
+/// Want of memory; nothing is changed.
+pub fn make(rooms: &mut Rooms, who: Actor, kind: Kind) -> Result<Step, NoMemory>
+    requires { entry_of rooms.old who ≡ Ok (record { who = who; kind = kind }) }
+    ensures step { IfOk result (λ step. step ≡ step_of (entry_of rooms.old who)) }
+    ensures made { OnOk result (rooms.new ≡ after_step rooms.old (entry_of rooms.old who)) }
+    ensures err { OnErr result (rooms.new ≡ rooms.old) }
+{
+    rooms.append(Entry { who, kind })?;
+    Ok(Step::Made)
+}
+
+/// Makes the entry of this kind, which is the actor's next; where the actor needs something first, it answers so.
+///
+/// # Errors
+///
+/// Want of memory; nothing is changed.
+pub fn turn(rooms: &mut Rooms, who: Actor, next: Result<Kind, Need>) -> Result<Step, NoMemory>
+    requires { entry_of rooms.old who ≡ entry_by who next }
+    ensures step { IfOk result (λ step. step ≡ step_of (entry_of rooms.old who)) }
+    ensures told { IfOk result (λ step. step ≡ step_by next) }
+    ensures made { OnOk result (rooms.new ≡ after_step rooms.old (entry_of rooms.old who)) }
+    ensures err { OnErr result (rooms.new ≡ rooms.old) }
+{
+    match next {
+        Ok(kind) => make(rooms, who, kind),
+        Err(need) => Ok(Step::Need(need)),
+    }
+}

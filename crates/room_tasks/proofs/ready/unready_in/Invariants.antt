@@ -1,8 +1,0 @@
-use Rattle.std.proofs.Common.{◌≡◌, find, flat_map}
-use Rattle.std.specs.Prelude.{drop}
-use Rattle.journal_model.specs.Commands.{buffers_of_op}
-use Rattle.room_tasks.specs.Seen.{is_unready}
-use Rattle.room_tasks.proofs.ready.unready_in.Given as goal
-
-abbrev pub invariant-loop-op : goal.invariant-loop-op
-invariant-loop-op l = find (is_unready l.script l.bos l.command) (flat_map buffers_of_op l.ops) ≡ find (is_unready l.script l.bos l.command) (flat_map buffers_of_op (drop l.op-index l.ops))

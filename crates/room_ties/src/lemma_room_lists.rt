@@ -1,0 +1,1 @@
+//! The words of the LRU's contracts are those of the definitions, on lists that both tell alike.

@@ -1,6 +1,0 @@
-use Rattle.std.proofs.Common.{◌≡◌, take}
-use Rattle.journal_model.specs.Lists.{taken_off}
-use Rattle.rules_parts.proofs.lists.taken_off.Given as goal
-
-abbrev pub invariant-loop-list : goal.invariant-loop-list
-invariant-loop-list l = l.rest ≡ taken_off (take l.list-index l.lists) l.b

@@ -1,7 +1,0 @@
-use Rattle.std.proofs.Common.{◌≡◌, take}
-use Rattle.std.specs.Prelude.{fold}
-use Rattle.journal_model.specs.Lists.{touched}
-use Rattle.rules_parts.proofs.lists.touched_all.Given as goal
-
-abbrev pub invariant-loop-b : goal.invariant-loop-b
-invariant-loop-b l = l.new ≡ fold (touched l.script l.buffers l.grips) l.lists (take l.b-index l.bs)

@@ -1,6 +1,0 @@
-//! Whose turn it is in the simulator's own order, and whether a state is over.
-#![tactic(auto)]
-
-mod schedule;
-
-pub use schedule::{is_over, next_actor, own_order};

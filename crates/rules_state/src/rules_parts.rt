@@ -1,0 +1,8 @@
+//! The parts of a plain state that entries change: buffers, the grips on them, the courses of threads, and the lists of buffers
+//! in eviction order, by memory type and priority (ttm_lru_item, ttm_lru_bulk_move).
+pub mod actors;
+pub mod buffers;
+pub mod grips;
+pub mod lists;
+
+pub use state_words::courses;

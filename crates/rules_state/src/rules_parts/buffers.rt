@@ -1,0 +1,244 @@
+#![tactic(auto, using(ttm_base::proofs::ListLaws::set_same))]
+
+ghost use Rattle.std.specs.Prelude.{◌≡◌, [], Some, None, unwrap_or, OnOk, OnErr, map, option_to_list, slice_set};
+ghost use Rattle.ttm_base.specs.declared.Usage.TheVariants as usage;
+ghost use Rattle.journal_model.specs.State.{changed, target_of, with_target};
+ghost use Rattle.journal_model.specs.ApplyPages.{with_loc, with_spans, with_kernel_fences, with_fence, without_frame, without_frames, bound, unbound};
+ghost use Rattle.journal_model.specs.ApplyVictims.{leaves_tt};
+ghost use Rattle.journal_model.specs.ApplyMoves.{moved, table_left};
+ghost use Rattle.rules_state.specs.rules_parts.Undo.{without_last_fence};
+
+use journal_model::{Buffer, Buffers, Table, Targets};
+use std::alloc::Global;
+use ttm_base::{BufId, Fence, JobId, Loc, Mem, NoMemory, Spans, Usage};
+
+/// Puts a buffer, or none, in the place of a declared one.
+pub fn put_buffer(buffers: &mut Buffers, b: BufId, buffer: Option<Buffer>)
+    ensures { buffers.new ≡ slice_set buffers.old b.0 buffer }
+{
+    let index = b.0 as usize;
+    if index < buffers.len() {
+        buffers.set(index, buffer);
+    }
+}
+
+/// Gives a page of a buffer another place, if the buffer is live.
+pub fn set_page(buffers: &mut Buffers, b: BufId, page: u32, place: Loc)
+    ensures { buffers.new ≡ changed (with_loc page place) buffers.old b }
+{
+    let index = b.0 as usize;
+    if index < buffers.len() {
+        if let Some(buffer) = buffers.get_mut(index) {
+            if (page as usize) < buffer.table.len() {
+                buffer.table.set(page as usize, place);
+            }
+        }
+    }
+}
+
+/// Puts another target, or none, in a memory type.
+pub fn set_target(targets: &mut Targets, mem: Mem, spans: Option<Spans>)
+    ensures { targets.new ≡ with_target mem spans targets.old }
+{
+    match mem {
+        Mem::System => targets.system = spans,
+        Mem::Tt => targets.tt = spans,
+        Mem::Vram => targets.vram = spans,
+    }
+}
+
+/// Gives a buffer a target, if it is live, and a fence that everyone waits for, if there is a job.
+pub fn give_target(
+    buffers: &mut Buffers,
+    b: BufId,
+    mem: Mem,
+    spans: Spans,
+    job: Option<JobId>,
+) -> Result<(), NoMemory>
+    ensures ok { OnOk result (buffers.new ≡ changed (λ x. with_kernel_fences (option_to_list job) (with_spans mem (Some spans) x)) buffers.old b) }
+    ensures err { OnErr result (buffers.new ≡ buffers.old) }
+{
+    let index = b.0 as usize;
+    if index < buffers.len() {
+        if let Some(buffer) = buffers.get_mut(index) {
+            if let Some(job) = job {
+                buffer.fences.push(Fence {
+                    job,
+                    usage: Usage::Kernel,
+                })?;
+            }
+            set_target(&mut buffer.targets, mem, Some(spans));
+        }
+    }
+    Ok(())
+}
+
+/// Takes a target from a buffer, if it is live.
+pub fn drop_target(buffers: &mut Buffers, b: BufId, mem: Mem)
+    ensures { buffers.new ≡ changed (with_spans mem None) buffers.old b }
+{
+    let index = b.0 as usize;
+    if index < buffers.len() {
+        if let Some(buffer) = buffers.get_mut(index) {
+            set_target(&mut buffer.targets, mem, None);
+        }
+    }
+}
+
+/// The place of a page once its frame was given back.
+fn without_its_frame(place: Loc) -> Loc
+    ensures { result ≡ without_frame place }
+{
+    match place {
+        Loc::Frame(_) | Loc::Zero => Loc::Zero,
+        Loc::Slot(slot) => Loc::Slot(slot),
+    }
+}
+
+/// Takes the frames out of a page table.
+pub fn drop_frames(table: &mut Table)
+    ensures { table.new ≡ map without_frame table.old }
+{
+    for i in 0..table.len() {
+        table.set(i, without_its_frame(table.at(i)));
+    }
+}
+
+/// Takes the frames from a buffer, if it is live.
+pub fn depopulate(buffers: &mut Buffers, b: BufId)
+    ensures { buffers.new ≡ changed without_frames buffers.old b }
+{
+    let index = b.0 as usize;
+    if index < buffers.len() {
+        if let Some(buffer) = buffers.get_mut(index) {
+            drop_frames(&mut buffer.table);
+        }
+    }
+}
+
+/// Sends a victim in TT to SYSTEM.
+pub fn leave_tt(alloc: Global, buffers: &mut Buffers, b: BufId)
+    ensures { buffers.new ≡ changed (λ x. leaves_tt x.mem x) buffers.old b }
+{
+    let index = b.0 as usize;
+    if index < buffers.len() {
+        if let Some(buffer) = buffers.get_mut(index) {
+            if let Mem::Tt = buffer.mem {
+                buffer.targets.system = Some(Spans::new(alloc));
+            }
+        }
+    }
+}
+
+/// Takes a target out, and gives its spans.
+fn take_target(alloc: Global, target: &mut Option<Spans>) -> Spans
+    ensures value { result ≡ unwrap_or target.old [] }
+    ensures after { target.new ≡ None }
+{
+    match target.take() {
+        Some(spans) => spans,
+        None => Spans::new(alloc),
+    }
+}
+
+/// Carries a buffer from SYSTEM to TT, if it is live.
+pub fn bind(alloc: Global, buffers: &mut Buffers, b: BufId)
+    ensures { buffers.new ≡ changed bound buffers.old b }
+{
+    let index = b.0 as usize;
+    if index < buffers.len() {
+        if let Some(buffer) = buffers.get_mut(index) {
+            buffer.mem = Mem::Tt;
+            buffer.spans = take_target(alloc, &mut buffer.targets.tt);
+        }
+    }
+}
+
+/// Carries a buffer from TT to SYSTEM, if it is live.
+pub fn unbind(alloc: Global, buffers: &mut Buffers, b: BufId)
+    ensures { buffers.new ≡ changed unbound buffers.old b }
+{
+    let index = b.0 as usize;
+    if index < buffers.len() {
+        if let Some(buffer) = buffers.get_mut(index) {
+            buffer.mem = Mem::System;
+            buffer.spans = Spans::new(alloc);
+            buffer.targets.system = None;
+        }
+    }
+}
+
+/// Takes the last fence from a buffer, if it is live.
+pub fn drop_last_fence(buffers: &mut Buffers, b: BufId)
+    ensures { buffers.new ≡ changed without_last_fence buffers.old b }
+{
+    let index = b.0 as usize;
+    if index < buffers.len() {
+        if let Some(buffer) = buffers.get_mut(index) {
+            buffer.fences.drop_last();
+        }
+    }
+}
+
+/// Gives a buffer one more fence, if it is live.
+pub fn add_fence(buffers: &mut Buffers, b: BufId, job: JobId, usage: Usage) -> Result<(), NoMemory>
+    ensures ok { OnOk result (buffers.new ≡ changed (with_fence job usage) buffers.old b) }
+    ensures err { OnErr result (buffers.new ≡ buffers.old) }
+{
+    let index = b.0 as usize;
+    if index < buffers.len() {
+        if let Some(buffer) = buffers.get_mut(index) {
+            buffer.fences.push(Fence { job, usage })?;
+        }
+    }
+    Ok(())
+}
+
+/// Leaves the frames of a buffer that was in this memory type: out of TT they stay behind.
+fn leave_table(mem: Mem, table: &mut Table)
+    ensures { table.new ≡ table_left mem table.old }
+{
+    if let Mem::Tt = mem {
+        for i in 0..table.len() {
+            table.set(i, Loc::Zero);
+        }
+    }
+}
+
+/// Takes the target of a memory type out, and gives its spans.
+fn take_spans(alloc: Global, targets: &mut Targets, mem: Mem) -> Spans
+    ensures value { result ≡ unwrap_or (target_of mem targets.old) [] }
+    ensures after { targets.new ≡ with_target mem None targets.old }
+{
+    match mem {
+        Mem::System => take_target(alloc, &mut targets.system),
+        Mem::Tt => take_target(alloc, &mut targets.tt),
+        Mem::Vram => take_target(alloc, &mut targets.vram),
+    }
+}
+
+/// Carries a buffer to its target in a memory type by a job, if it is live.
+pub fn carry(
+    alloc: Global,
+    buffers: &mut Buffers,
+    b: BufId,
+    mem: Mem,
+    job: JobId,
+) -> Result<(), NoMemory>
+    ensures ok { OnOk result (buffers.new ≡ changed (moved mem job) buffers.old b) }
+    ensures err { OnErr result (buffers.new ≡ buffers.old) }
+{
+    let index = b.0 as usize;
+    if index < buffers.len() {
+        if let Some(buffer) = buffers.get_mut(index) {
+            buffer.fences.push(Fence {
+                job,
+                usage: Usage::Kernel,
+            })?;
+            leave_table(buffer.mem, &mut buffer.table);
+            buffer.spans = take_spans(alloc, &mut buffer.targets, mem);
+            buffer.mem = mem;
+        }
+    }
+    Ok(())
+}

@@ -1,0 +1,200 @@
+ghost use Rattle.std.specs.Prelude.{◌≡◌, ◌++◌, IfOk, OnOk, fold, filter, length, map, not, option_copied, unwrap_or};
+ghost use Rattle.journal_model.specs.Lists as words;
+ghost use Rattle.rules_state.specs.rules_parts.Listing as listing;
+
+use crate::{declared_prio, grip_in, is_mate, is_member, list_number, live_in, without_buffer};
+use journal_model::{BufIds, Buffer, Grip, Lists, Script};
+use std::alloc::Global;
+use ttm_base::{BufId, Mem, NoMemory};
+
+/// The lists without a buffer.
+pub fn taken_off(alloc: Global, lists: &[BufIds], b: BufId) -> Result<Lists, NoMemory>
+    ensures { IfOk result (λ rest. rest ≡ words.taken_off lists.now b) }
+{
+    let mut rest = Lists::new(alloc);
+    for list in lists {
+        let kept = without_buffer(alloc, list.items(), b)?;
+        rest.push(kept)?;
+    }
+    Ok(rest)
+}
+
+/// Where a buffer comes in a list: behind the last of its mates, or at the end.
+fn place_in(script: &Script, list: &[BufId], b: BufId) -> usize
+    ensures { result ≡ unwrap_or (words.behind_last (words.is_mate script.now b) list.now) (length list.now) }
+{
+    let mut at = list.len();
+    for i in 0..list.len() {
+        if is_mate(script, b, list[i]) {
+            at = i + 1;
+        }
+    }
+    at
+}
+
+/// Puts a buffer into a list behind the last of its mates.
+#[tactic(auto, using(crate::proofs::rules_parts::OrderLaws::behind_last_within))]
+fn put_in(script: &Script, list: &mut BufIds, b: BufId) -> Result<(), NoMemory>
+    ensures { OnOk result (list.new ≡ words.placed_in (words.is_mate script.now b) b list.old) }
+{
+    let at = place_in(script, list.items(), b);
+    list.insert(at, b)
+}
+
+/// The memory type in whose lists a buffer stands, if any: that of a live buffer without pins.
+pub fn listed_mem(grip: Grip, buffer: Option<&Buffer>) -> Option<Mem>
+    ensures { result ≡ listing.listed_mem grip (option_copied buffer.entry) }
+{
+    match buffer {
+        Some(buffer) if grip.pins == 0 => Some(buffer.mem),
+        _ => None,
+    }
+}
+
+/// The lists with a buffer on that of a memory type and its priority alone, or on none.
+pub fn listed_in(
+    alloc: Global,
+    script: &Script,
+    lists: &[BufIds],
+    b: BufId,
+    mem: Option<Mem>,
+) -> Result<Lists, NoMemory>
+    ensures { IfOk result (λ new. new ≡ listing.listed_in script.now lists.now b mem) }
+{
+    let mut new = taken_off(alloc, lists, b)?;
+    if let Some(mem) = mem {
+        let at = list_number(mem, declared_prio(script, b));
+        if at < new.len() {
+            put_in(script, new.get_mut(at), b)?;
+        }
+    }
+    Ok(new)
+}
+
+/// The lists after a live buffer went to a memory type.
+pub fn relisted(
+    alloc: Global,
+    script: &Script,
+    buffers: &[Option<Buffer>],
+    grips: &[Grip],
+    lists: &[BufIds],
+    b: BufId,
+    mem: Mem,
+) -> Result<Lists, NoMemory>
+    ensures { IfOk result (λ new. new ≡ listing.relisted script.now buffers.now grips.now lists.now b mem) }
+{
+    let listed = listed_mem(grip_in(grips, b), live_in(buffers, b)).map(|_| mem);
+    listed_in(alloc, script, lists, b, listed)
+}
+
+/// The lists after a buffer was touched.
+#[tactic(auto, using(crate::proofs::rules_parts::ListingLaws::listed_as_in))]
+pub fn touched(
+    alloc: Global,
+    script: &Script,
+    buffers: &[Option<Buffer>],
+    grips: &[Grip],
+    lists: &[BufIds],
+    b: BufId,
+) -> Result<Lists, NoMemory>
+    ensures { IfOk result (λ new. new ≡ words.touched script.now buffers.now grips.now lists.now b) }
+{
+    let mem = listed_mem(grip_in(grips, b), live_in(buffers, b));
+    listed_in(alloc, script, lists, b, mem)
+}
+
+/// A second list of the same buffers.
+fn copied(alloc: Global, lists: &[BufIds]) -> Result<Lists, NoMemory>
+    ensures { IfOk result (λ copy. copy ≡ lists.now) }
+{
+    let mut copy = Lists::new(alloc);
+    for list in lists {
+        let same = list.copy()?;
+        copy.push(same)?;
+    }
+    Ok(copy)
+}
+
+/// The lists after buffers were touched, one after another.
+pub fn touched_all(
+    alloc: Global,
+    script: &Script,
+    buffers: &[Option<Buffer>],
+    grips: &[Grip],
+    lists: &[BufIds],
+    bs: &[BufId],
+) -> Result<Lists, NoMemory>
+    ensures { IfOk result (λ new. new ≡ fold (words.touched script.now buffers.now grips.now) lists.now bs.now) }
+{
+    let mut new = copied(alloc, lists)?;
+    for b in bs {
+        new = touched(alloc, script, buffers, grips, new.items(), *b)?;
+    }
+    Ok(new)
+}
+
+/// Adds the buffers of a list that are in a group to others.
+fn add_members(
+    script: &Script,
+    group: u32,
+    list: &[BufId],
+    found: &mut BufIds,
+) -> Result<(), NoMemory>
+    ensures { OnOk result (found.new ≡ found.old ++ filter (words.is_member script.now group) list.now) }
+{
+    for b in list {
+        if is_member(script, group, *b) {
+            found.push(*b)?;
+        }
+    }
+    Ok(())
+}
+
+/// Adds the buffers of a list that aren't in a group to others.
+fn add_others(
+    script: &Script,
+    group: u32,
+    list: &[BufId],
+    found: &mut BufIds,
+) -> Result<(), NoMemory>
+    ensures { OnOk result (found.new ≡ found.old ++ filter (λ b. not (words.is_member script.now group b)) list.now) }
+{
+    for b in list {
+        if !is_member(script, group, *b) {
+            found.push(*b)?;
+        }
+    }
+    Ok(())
+}
+
+/// A list with the members of a group behind the others.
+fn with_members_last(
+    alloc: Global,
+    script: &Script,
+    group: u32,
+    list: &[BufId],
+) -> Result<BufIds, NoMemory>
+    ensures { IfOk result (λ new. new ≡ words.members_last (words.is_member script.now group) list.now) }
+{
+    let mut new = BufIds::new(alloc);
+    add_others(script, group, list, &mut new)?;
+    add_members(script, group, list, &mut new)?;
+    Ok(new)
+}
+
+/// The lists, on each the members of a group behind the others.
+pub fn members_last(
+    alloc: Global,
+    script: &Script,
+    group: u32,
+    lists: &[BufIds],
+) -> Result<Lists, NoMemory>
+    ensures { IfOk result (λ new. new ≡ map (words.members_last (words.is_member script.now group)) lists.now) }
+{
+    let mut new = Lists::new(alloc);
+    for list in lists {
+        let moved = with_members_last(alloc, script, group, list.items())?;
+        new.push(moved)?;
+    }
+    Ok(new)
+}

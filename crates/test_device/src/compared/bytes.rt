@@ -1,0 +1,68 @@
+ghost use Rattle.std.specs.Prelude.{◌≡◌, ◌*◌, length};
+
+use super::difference::{Difference, Stop, agree};
+use device_core::Device;
+use room_ties::Parts;
+use rules_stores::{PlainStores, StorePage};
+
+/// Bytes of a page.
+const PAGE: u64 = 4096;
+
+/// Goes on only if the stores have these bytes on a page.
+pub fn compare_page(
+    stores: &PlainStores,
+    page: StorePage,
+    bytes: &[u8],
+    found: Difference,
+) -> Result<(), Stop> {
+    let mut wanted = [0; PAGE as usize];
+    stores.read(page, 0, &mut wanted);
+    agree(bytes == wanted.as_slice(), found)
+}
+
+/// Each page of VRAM.
+fn compare_vram(parts: &Parts, pages: u32, stores: &PlainStores) -> Result<(), Stop>
+    requires vram { length parts.now.stores.vram ≡ 4096 * pages }
+{
+    for page in 0..pages {
+        let bytes = parts.stores.vram.part(PAGE * page as u64, PAGE);
+        compare_page(stores, StorePage::Vram(page), bytes, Difference::Vram(page))?;
+    }
+    Ok(())
+}
+
+/// Each frame.
+fn compare_frames(parts: &Parts, frames: u32, stores: &PlainStores) -> Result<(), Stop>
+    requires frames { length parts.now.stores.frames ≡ 4096 * frames }
+{
+    for frame in 0..frames {
+        let bytes = parts.stores.frames.part(PAGE * frame as u64, PAGE);
+        compare_page(
+            stores,
+            StorePage::Frame(frame),
+            bytes,
+            Difference::Frame(frame),
+        )?;
+    }
+    Ok(())
+}
+
+/// Each slot, be it held or free.
+fn compare_slots(parts: &Parts, slots: u32, stores: &PlainStores) -> Result<(), Stop>
+    requires slots { length parts.now.swap.held ≡ slots }
+{
+    for slot in 0..slots {
+        let bytes = parts.swap.page(slot);
+        compare_page(stores, StorePage::Slot(slot), bytes, Difference::Slot(slot))?;
+    }
+    Ok(())
+}
+
+/// Goes on only if each page, frame and slot of a device has these bytes.
+pub fn compare_bytes(device: &Device, stores: &PlainStores) -> Result<(), Stop> {
+    let sizes = device.script().sizes;
+    let parts = device.rooms().parts();
+    compare_vram(parts, sizes.vram, stores)?;
+    compare_frames(parts, sizes.frames, stores)?;
+    compare_slots(parts, sizes.swap, stores)
+}

@@ -1,0 +1,197 @@
+ghost use Rattle.std.specs.Prelude.{OnOk, IfOk, IfSome};
+ghost use Rattle.test_device.specs.Steps.{AreInStep};
+
+use super::bytes::compare_bytes;
+use super::difference::{Difference, Stop, agree};
+use super::parts::compare_parts;
+use super::replay::Replay;
+use super::report::{line_that_differs, report_of};
+use crate::common::device_for;
+use device_core::Device;
+use io_edge::MemSink;
+use page_accounts::accounts_of;
+use std::alloc::Global;
+use test_cases::When;
+use ttm_base::{Actor, Logged, NoMemory, Turn};
+
+/// A device on its parts that is asked once more where memory was short.
+#[derive(Drop)]
+pub struct Asked {
+    pub device: Device,
+    /// How many turns it couldn't take for want of memory, and took when it was asked again.
+    pub refused: u64,
+}
+
+/// A device on its parts and a plain one, of the same script, and parts that are given the plain one's entries.
+#[derive(Drop)]
+pub struct Pair {
+    pub alloc: Global,
+    pub when: When,
+    pub asked: Asked,
+    pub replay: Replay,
+    /// How many turns were taken on both.
+    pub turns: u64,
+}
+
+impl Asked {
+    /// A turn of an actor.
+    fn step(&mut self, who: Actor) -> Result<Turn, NoMemory> {
+        match self.device.step(who) {
+            Ok(turn) => Ok(turn),
+            Err(NoMemory) => {
+                self.refused = self.refused.saturating_add(1);
+                self.device.step(who)
+            }
+        }
+    }
+
+    /// A turn in the simulator's order.
+    fn step_next(&mut self) -> Result<Option<Actor>, NoMemory> {
+        match self.device.step_next() {
+            Ok(found) => Ok(found),
+            Err(NoMemory) => {
+                self.refused = self.refused.saturating_add(1);
+                self.device.step_next()
+            }
+        }
+    }
+}
+
+impl Pair {
+    /// All of a text; none, where that is no script.
+    ///
+    /// # Errors
+    ///
+    /// Want of memory.
+    pub fn of(alloc: Global, text: &[u8], when: When) -> Result<Option<Pair>, NoMemory>
+        ensures { IfOk result (λ found. IfSome found (λ pair. AreInStep pair.replay.plain pair.replay.rooms)) }
+    {
+        let Some(device) = device_for(alloc, text)? else {
+            return Ok(None);
+        };
+        match Replay::of(alloc, text)? {
+            Some(replay) => Ok(Some(Pair {
+                alloc,
+                when,
+                asked: Asked { device, refused: 0 },
+                replay,
+                turns: 0,
+            })),
+            None => Ok(None),
+        }
+    }
+
+    /// The last job of each context that is done.
+    fn compare_done(&self) -> Result<(), Stop> {
+        let device = &self.asked.device;
+        for ctx in 0..=device.script().sizes.engines {
+            agree(
+                device.done(ctx) == self.replay.plain.done(ctx),
+                Difference::Done(ctx),
+            )?;
+        }
+        Ok(())
+    }
+
+    /// What is to be the same behind a turn: the number of entries, whether all is over, how far the contexts are.
+    fn compare_turn(&self) -> Result<(), Stop> {
+        let device = &self.asked.device;
+        let plain = &self.replay.plain;
+        agree(
+            device.journal().len() == plain.journal().len(),
+            Difference::Length,
+        )?;
+        agree(device.over() == plain.over(), Difference::Over)?;
+        self.compare_done()
+    }
+
+    /// What is to be the same at the start and behind an entry: beside that, what the parts tell, if they are compared then.
+    ///
+    /// # Errors
+    ///
+    /// A difference, or want of memory.
+    pub fn compare_entry(&self) -> Result<(), Stop>
+        requires { AreInStep self.now.replay.plain self.now.replay.rooms }
+    {
+        self.compare_turn()?;
+        match self.when {
+            When::EachEntry => compare_parts(&self.replay, self.alloc),
+            When::AtTheEnd => Ok(()),
+        }
+    }
+
+    /// A turn of an actor on both devices.
+    ///
+    /// # Errors
+    ///
+    /// A difference, or want of memory.
+    pub fn step(&mut self, who: Actor) -> Result<(), Stop>
+        requires { AreInStep self.old.replay.plain self.old.replay.rooms }
+        ensures { OnOk result (AreInStep self.new.replay.plain self.new.replay.rooms) }
+    {
+        self.turns = self.turns.saturating_add(1);
+        let turn = self.replay.step(who)?;
+        let here = self.asked.step(who)?;
+        agree(here == turn, Difference::Answer)?;
+        match turn {
+            Turn::Made(_) => self.compare_entry(),
+            Turn::Blocked(_) | Turn::Over => self.compare_turn(),
+        }
+    }
+
+    /// A turn in the simulator's order on both devices: whose it was, if somebody has an entry.
+    ///
+    /// # Errors
+    ///
+    /// A difference, or want of memory.
+    pub fn step_next(&mut self) -> Result<Option<Actor>, Stop>
+        requires { AreInStep self.old.replay.plain self.old.replay.rooms }
+        ensures { OnOk result (AreInStep self.new.replay.plain self.new.replay.rooms) }
+    {
+        let who = self.replay.step_next()?;
+        let here = self.asked.step_next()?;
+        agree(here == who, Difference::Next)?;
+        if who.is_some() {
+            self.turns = self.turns.saturating_add(1);
+        }
+        self.compare_entry()?;
+        Ok(who)
+    }
+
+    /// The report of the plain device.
+    fn report_by_definitions(&self) -> Result<MemSink, NoMemory> {
+        let plain = &self.replay.plain;
+        let accounts = accounts_of(self.alloc, plain.script(), plain.state())?;
+        report_of(self.alloc, plain.script(), plain.journal(), &accounts)
+    }
+
+    /// The report of the device on its parts.
+    fn report_on_parts(&self) -> Result<MemSink, NoMemory> {
+        let device = &self.asked.device;
+        let accounts = device.accounts();
+        report_of(self.alloc, device.script(), device.journal(), &accounts)
+    }
+
+    /// All entries, results and accounts.
+    fn compare_told(&self) -> Result<(), Stop> {
+        let wanted = self.report_by_definitions()?;
+        let here = self.report_on_parts()?;
+        match line_that_differs(here.bytes(), wanted.bytes()) {
+            Some(line) => Err(Stop::Differs(Difference::Line(line))),
+            None => Ok(()),
+        }
+    }
+
+    /// What is to be the same behind all turns: all entries, results, accounts and bytes, and what the parts tell.
+    ///
+    /// # Errors
+    ///
+    /// A difference, or want of memory.
+    pub fn compare_end(&self) -> Result<(), Stop>
+        requires { AreInStep self.now.replay.plain self.now.replay.rooms }
+    {
+        self.compare_told()?;
+        compare_bytes(&self.asked.device, self.replay.plain.stores())?;
+        compare_parts(&self.replay, self.alloc)
+    }
+}

@@ -1,0 +1,250 @@
+ghost use Rattle.std.specs.Prelude.{◌<◌, ◌≤◌, length};
+ghost use Rattle.laws.specs.lemma_bytes_told.Told.{IsThere};
+ghost use Rattle.room_state.specs.Kept.{state_behind};
+ghost use Rattle.test_device.specs.Steps.{AreInStep};
+
+use super::accounts::{accounts_in, are_same_accounts};
+use super::bytes::compare_page;
+use super::difference::{Difference, Stop, agree};
+use super::replay::Replay;
+use bo_table::BoTable;
+use journal_model::{Buffer, Script, State};
+use page_accounts::accounts_of;
+use room_state::Rooms;
+use rules_holds::{free_frame, free_slot, waited_before_read, waited_before_write};
+use rules_state::{declared_pages, list_number, live_in};
+use rules_stores::StorePage;
+use std::alloc::Global;
+use ttm_base::{BufId, JobId, Mem, PagePlace, Usage};
+
+/// Bytes of a page.
+const PAGE: u32 = 4096;
+
+/// The bytes of each page of a live buffer.
+fn compare_pages(replay: &Replay, b: BufId) -> Result<(), Stop>
+    requires { IsThere (state_behind replay.now.rooms) b }
+{
+    for page in 0..declared_pages(replay.plain.script(), b) {
+        let off = page.saturating_mul(PAGE);
+        let shown = replay.rooms.shown(b, off, PAGE)?;
+        let place = StorePage::of(&replay.plain.state().core, b, page);
+        compare_page(
+            replay.plain.stores(),
+            place,
+            shown.items(),
+            Difference::Bytes(b),
+        )?;
+    }
+    Ok(())
+}
+
+/// The jobs to wait for before a live buffer is used.
+fn compare_needs(replay: &Replay, b: BufId, buffer: &Buffer) -> Result<(), Stop>
+    requires { b.0 < length replay.now.rooms.script.buffers }
+{
+    let core = &replay.plain.state().core;
+    let rooms = &replay.rooms;
+    let same = rooms.need(b, Usage::Write) == waited_before_write(core, buffer)
+        && rooms.need(b, Usage::Read) == waited_before_read(core, buffer);
+    agree(same, Difference::Need(b))
+}
+
+/// The table has a live buffer of that number.
+fn is_alive(bos: &BoTable, b: BufId) -> bool {
+    (b.0 as usize) < bos.len() && bos.get(b).alive
+}
+
+/// What is to be known of a buffer.
+fn compare_buffer(replay: &Replay, b: BufId) -> Result<(), Stop>
+    requires step { AreInStep replay.now.plain replay.now.rooms }
+    requires declared { b.0 < length replay.now.rooms.script.buffers }
+{
+    let live = live_in(replay.plain.state().core.buffers.items(), b);
+    let same = is_alive(replay.rooms.bos(), b) == live.is_some();
+    agree(same, Difference::Live(b))?;
+    if let Some(buffer) = live {
+        compare_needs(replay, b, buffer)?;
+        compare_pages(replay, b)?;
+    }
+    Ok(())
+}
+
+/// How many buffers are declared. No script that has a spelling declares more than 32 bits hold.
+fn declared(script: &Script) -> u32
+    ensures { result ≤ length script.now.buffers }
+{
+    match u32::try_from(script.buffers.len()) {
+        Ok(count) => count,
+        Err(_) => 0,
+    }
+}
+
+fn compare_buffers(replay: &Replay) -> Result<(), Stop>
+    requires { AreInStep replay.now.plain replay.now.rooms }
+{
+    for i in 0..declared(replay.rooms.script()) {
+        compare_buffer(replay, BufId(i))?;
+    }
+    Ok(())
+}
+
+/// The frame that the plain device has at a page of TT.
+fn frame_at(state: &State, page: u32) -> Option<u32> {
+    match StorePage::named(&state.core, PagePlace::Aper(page)) {
+        StorePage::Frame(frame) => Some(frame),
+        _ => None,
+    }
+}
+
+/// The frame that each page of TT stands for.
+fn compare_aperture(replay: &Replay) -> Result<(), Stop> {
+    let aperture = &replay.rooms.parts().stores.aper;
+    for page in 0..replay.rooms.script().sizes.tt {
+        let wanted = frame_at(replay.plain.state(), page);
+        agree(aperture.get(page) == wanted, Difference::Aperture(page))?;
+    }
+    Ok(())
+}
+
+/// The buffer behind another in its list, if it is on one.
+fn listed_behind(rooms: &Rooms, b: BufId) -> Option<BufId> {
+    if rooms.lru().is_listed(b) {
+        rooms.lru().next(b)
+    } else {
+        None
+    }
+}
+
+/// A list of the parts has these buffers in this order.
+fn is_same_list(rooms: &Rooms, first: Option<BufId>, wanted: &[BufId]) -> bool {
+    let mut listed = first;
+    for b in wanted {
+        if listed != Some(*b) {
+            return false;
+        }
+        listed = listed_behind(rooms, *b);
+    }
+    listed.is_none()
+}
+
+/// The list of a memory type and priority.
+fn compare_list(replay: &Replay, mem: Mem, prio: u32) -> Result<(), Stop>
+    requires { prio < 4 }
+{
+    let number = list_number(mem, prio);
+    let first = replay.rooms.lru().first(mem, prio);
+    let same = match replay.plain.state().lists.items().get(number) {
+        Some(list) => is_same_list(&replay.rooms, first, list.items()),
+        None => first.is_none(),
+    };
+    agree(same, Difference::List(number))
+}
+
+/// The twelve lists.
+fn compare_lists(replay: &Replay) -> Result<(), Stop> {
+    for mem in [Mem::System, Mem::Tt, Mem::Vram] {
+        for prio in 0..4 {
+            compare_list(replay, mem, prio)?;
+        }
+    }
+    Ok(())
+}
+
+/// The first job of a context that isn't finished.
+fn head_of(state: &State, ctx: u32) -> Option<JobId> {
+    for job in state.core.jobs.pending() {
+        if job.id.ctx == ctx && !job.finished {
+            return Some(job.id);
+        }
+    }
+    None
+}
+
+/// The next and the first job of a context.
+fn compare_jobs_of(replay: &Replay, ctx: u32) -> Result<(), Stop>
+    requires { ctx ≤ replay.now.rooms.script.sizes.engines }
+{
+    let state = replay.plain.state();
+    let rooms = &replay.rooms;
+    let last = state
+        .last_jobs
+        .items()
+        .get(ctx as usize)
+        .map_or(0, |last| *last);
+    let same = last.checked_add(1) == Some(rooms.next_job(ctx))
+        && head_of(state, ctx) == rooms.head(ctx);
+    agree(same, Difference::Job(ctx))
+}
+
+fn compare_jobs(replay: &Replay) -> Result<(), Stop> {
+    for ctx in 0..=replay.rooms.script().sizes.engines {
+        compare_jobs_of(replay, ctx)?;
+    }
+    Ok(())
+}
+
+/// The last ticket and ghost, and the first ghost.
+fn compare_numbers(replay: &Replay) -> Result<(), Stop> {
+    let state = replay.plain.state();
+    let rooms = &replay.rooms;
+    let same = state.last_stamp.checked_add(1) == Some(rooms.next_stamp().0);
+    agree(same, Difference::Stamp)?;
+    let first = state.core.ghosts.items().first().map(|left| left.num);
+    let same = state.last_ghost.checked_add(1) == Some(rooms.next_ghost())
+        && first == rooms.first_ghost();
+    agree(same, Difference::Ghost)
+}
+
+/// How many entries there are, and whether all is over.
+fn compare_entries(replay: &Replay) -> Result<(), Stop> {
+    let plain = &replay.plain;
+    let rooms = &replay.rooms;
+    agree(plain.over() == rooms.over(), Difference::OverOnParts)?;
+    agree(
+        plain.journal().len() == rooms.journal().len(),
+        Difference::Given,
+    )
+}
+
+/// How many commands each thread has answered.
+fn compare_answered(replay: &Replay) -> Result<(), Stop> {
+    let kept = replay.rooms.parts().courses.items();
+    for (i, course) in replay.plain.state().courses.items().iter().enumerate() {
+        let answered = kept.get(i).map(|found| found.answered);
+        agree(answered == Some(course.answered), Difference::Answered(i))?;
+    }
+    Ok(())
+}
+
+/// The lowest free frame and slot.
+fn compare_free(replay: &Replay, alloc: Global) -> Result<(), Stop> {
+    let script = replay.plain.script();
+    let core = &replay.plain.state().core;
+    let frame = free_frame(alloc, script, core)?;
+    agree(replay.rooms.free_frame() == frame, Difference::FreeFrame)?;
+    let slot = free_slot(alloc, script, core)?;
+    agree(replay.rooms.free_slot() == slot, Difference::FreeSlot)
+}
+
+/// Pages, frames and slots that are held or free.
+fn compare_accounts(replay: &Replay, alloc: Global) -> Result<(), Stop> {
+    let script = replay.plain.script();
+    let wanted = accounts_of(alloc, script, replay.plain.state())?;
+    let found = accounts_in(replay.rooms.parts(), script);
+    agree(are_same_accounts(&found, &wanted), Difference::Accounts)
+}
+
+/// Goes on only if the parts tell what the plain device does.
+pub fn compare_parts(replay: &Replay, alloc: Global) -> Result<(), Stop>
+    requires { AreInStep replay.now.plain replay.now.rooms }
+{
+    compare_numbers(replay)?;
+    compare_entries(replay)?;
+    compare_answered(replay)?;
+    compare_jobs(replay)?;
+    compare_lists(replay)?;
+    compare_aperture(replay)?;
+    compare_free(replay, alloc)?;
+    compare_accounts(replay, alloc)?;
+    compare_buffers(replay)
+}

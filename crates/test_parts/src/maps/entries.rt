@@ -1,0 +1,113 @@
+use crate::maps::scripts::{A, B, MapLine, maps_of};
+use cpu_maps::CpuMaps;
+use std::process::Abort;
+use ttm_base::{BufId, PagePlace};
+
+/// Of each of a buffer's two pages a place, or none.
+type Pages = [Option<PagePlace>; 2];
+
+/// What happens to mappings.
+#[derive(Clone, Copy)]
+enum Event {
+    /// A thread reads or writes those pages of a buffer that have a place here.
+    Access(u32, BufId, Pages),
+    /// A page is swapped out.
+    PageLeaves(BufId, u32),
+    /// A buffer moves, or is freed.
+    BufferLeaves(BufId),
+    Unmap(u32, BufId),
+}
+
+const NONE: Pages = [None; 2];
+
+const FRAMES: Pages = [Some(PagePlace::Frame(0)), Some(PagePlace::Frame(1))];
+
+const VRAM: Pages = [Some(PagePlace::Vram(0)), Some(PagePlace::Vram(1))];
+
+const FIRST_FRAME: Pages = [Some(PagePlace::Frame(0)), None];
+
+const LAST_FRAME: Pages = [None, Some(PagePlace::Frame(1))];
+
+/// The entries of a thread's mapping.
+fn entries(maps: &CpuMaps, thread: u32, b: BufId) -> Pages {
+    [maps.entry(thread, b, 0), maps.entry(thread, b, 1)]
+}
+
+/// Which of a buffer's two pages fault.
+type Faults = [bool; 2];
+
+const BOTH: Faults = [true, true];
+
+const FIRST: Faults = [true, false];
+
+const NEITHER: Faults = [false, false];
+
+/// Does what happens, and gives the pages that fault.
+fn take_event(maps: &mut CpuMaps, event: Event) -> Faults {
+    let mut faults = NEITHER;
+    match event {
+        Event::Access(thread, b, places) => {
+            for page in 0..2 {
+                if let Some(place) = places[page as usize] {
+                    faults[page as usize] = maps.entry(thread, b, page).is_none();
+                    maps.fault_in(thread, b, page, place);
+                }
+            }
+        }
+        Event::PageLeaves(b, page) => maps.drop_page(b, page),
+        Event::BufferLeaves(b) => maps.drop_buffer(b),
+        Event::Unmap(thread, b) => maps.unmap(thread, b),
+    }
+    faults
+}
+
+/// A buffer is written and read in SYSTEM, read in VRAM, to which it comes through TT, and evicted and read: each access with the pages that
+/// fault, and the entries behind it.
+const ONE_BUFFER: [(Event, Faults, Pages); 7] = [
+    (Event::Access(1, A, FRAMES), BOTH, FRAMES),
+    (Event::Access(1, A, FIRST_FRAME), NEITHER, FRAMES),
+    (Event::BufferLeaves(A), NEITHER, NONE),
+    (Event::BufferLeaves(A), NEITHER, NONE),
+    (Event::Access(1, A, VRAM), BOTH, VRAM),
+    (Event::BufferLeaves(A), NEITHER, NONE),
+    (Event::Access(1, A, FIRST_FRAME), FIRST, FIRST_FRAME),
+];
+
+#[test]
+fn accesses_fault_once(rt: HostRuntime) {
+    let mut maps = maps_of(&rt, rt.alloc(), &[MapLine::Map(1, A)]);
+    for (event, faults, want) in ONE_BUFFER {
+        assert!(rt; take_event(&mut maps, event) == faults);
+        assert!(rt; entries(&maps, 1, A) == want);
+    }
+}
+
+/// Two threads map a buffer, and the first another one, too: the entries of the three mappings behind each event.
+const TWO_BUFFERS: [(Event, [Pages; 3]); 11] = [
+    (Event::Access(1, A, FRAMES), [FRAMES, NONE, NONE]),
+    (Event::Access(2, A, FRAMES), [FRAMES, FRAMES, NONE]),
+    (Event::Access(1, B, VRAM), [FRAMES, FRAMES, VRAM]),
+    (Event::PageLeaves(A, 0), [LAST_FRAME, LAST_FRAME, VRAM]),
+    (Event::PageLeaves(A, 2), [LAST_FRAME, LAST_FRAME, VRAM]),
+    (Event::Access(2, A, FIRST_FRAME), [LAST_FRAME, FRAMES, VRAM]),
+    (Event::Access(2, B, VRAM), [LAST_FRAME, FRAMES, VRAM]),
+    (Event::Unmap(2, B), [LAST_FRAME, FRAMES, VRAM]),
+    (Event::Unmap(1, A), [NONE, FRAMES, VRAM]),
+    (Event::BufferLeaves(A), [NONE, NONE, VRAM]),
+    (Event::BufferLeaves(B), [NONE, NONE, NONE]),
+];
+
+#[test]
+fn all_mappings_of_a_buffer_lose_a_page(rt: HostRuntime) {
+    let lines = [MapLine::Map(1, A), MapLine::Map(1, B), MapLine::Map(2, A)];
+    let mut maps = maps_of(&rt, rt.alloc(), &lines);
+    for (event, want) in TWO_BUFFERS {
+        take_event(&mut maps, event);
+        let left = [
+            entries(&maps, 1, A),
+            entries(&maps, 2, A),
+            entries(&maps, 1, B),
+        ];
+        assert!(rt; left == want);
+    }
+}

@@ -1,5 +1,0 @@
-//! Tests of the device's parts behind its journal: the table of buffers.
-#![tactic(auto)]
-
-#[cfg(test)]
-mod buffers;

@@ -1,0 +1,4 @@
+//! Tests of reading entries and reports.
+
+mod entries;
+mod reports;
