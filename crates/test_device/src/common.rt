@@ -1,3 +1,5 @@
+//! What stepped and compared cases have in common: a device for a text, and the aperture in print.
+
 use device_core::Device;
 use room_state::Rooms;
 use script_text::{ScriptFault, read_script};

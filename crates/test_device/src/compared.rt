@@ -1,3 +1,6 @@
+//! Comparison of two devices, that on its parts and that by the definitions: they take the same turns, and parts that are given the plain
+//! device's entries follow. A line tells that all agree, or what differs first.
+
 ghost use Rattle.std.specs.Prelude.{OnOk};
 ghost use Rattle.test_device.specs.Steps.{AreInStep};
 
