@@ -1,7 +1,7 @@
 -- Each legal entry keeps a good view of the state, and shows what is due.
 use Rattle.std.proofs.Common.{◌≡◌, ℕ, ◌+◌, Bool, true, false, List, [], Some, None, Ok, refl, sym, subst, ◌∙◌, ap, ⊎_elim}
 use Rattle.std.specs.Prelude.{slice_get, if◌then◌else◌, ◌==◌, ◌||◌, IsSome, unwrap_or, not}
-use Rattle.std.proofs.lemmas.Bool.{cases_eq, eq-eqb, ne_eqb}
+use Rattle.std.proofs.lemmas.Bool.{cases_eq, eq-eqb, false≢true, ne_eqb}
 use Rattle.ttm_base.specs.declared.Mem.{Mem}
 use Rattle.ttm_base.specs.declared.Mem.TheVariants as mem
 use Rattle.ttm_base.specs.declared.BufId.{BufId}
@@ -86,7 +86,7 @@ module _ (script : Script) (s : State) (bytes : Stores) (p : Plain) where
   still_viewed t (kind.NoPages b) e u = viewed_within script s.core p.dues p.memory bytes u
   still_viewed t (kind.Bulk group) e u = viewed_within script s.core p.dues p.memory bytes u
   still_viewed t (kind.Refused d) e u = viewed_within script s.core p.dues p.memory bytes u
-  still_viewed t k e u = cc
+  still_viewed t k e u = absurd (false≢true e)
 
   still_plain : (who : Actor) (k : Kind) → is_still k ≡ true → IsKindPlain script p who k
   still_plain who (kind.Packet n k piece) e = cc
