@@ -1,11 +1,13 @@
 -- A victim none of whose pages is due to go to a slot is let go.
 use Rattle.std.proofs.Common.{◌≡◌, ℕ, Bool, true, false, Option, Some, None, Ok, refl, ◌∙◌, ap}
 use Rattle.std.specs.Prelude.{◌&&◌, is_some}
+use Rattle.std.proofs.lemmas.Bool.{false≢true, true≢false}
 use Rattle.ttm_base.specs.declared.Actor.TheVariants as actor
 use Rattle.ttm_base.specs.declared.BufId.{BufId}
 use Rattle.journal_model.specs.declared.script.Script.{Script}
 use Rattle.journal_model.specs.declared.state.Course.{Course}
 use Rattle.journal_model.specs.declared.state.State.{State}
+use Rattle.journal_model.specs.declared.state.Stage.{Stage}
 use Rattle.journal_model.specs.declared.state.Stage.TheVariants as stage
 use Rattle.journal_model.specs.declared.state.Task.{Task}
 use Rattle.journal_model.specs.declared.state.Task.TheVariants as task
@@ -49,7 +51,7 @@ module _ (script : Script) (s : State) (b : BufId) where
   goes_by_frame : (q : Bool) (o : Option ℕ) → (q && is_some o) ≡ false → by_frame q o ≡ Ok (kind.Loose b)
   goes_by_frame false o h = refl
   goes_by_frame true None h = refl
-  goes_by_frame true (Some slot) h = cc
+  goes_by_frame true (Some slot) h = absurd (true≢false h)
 
   goes_by_cause : (o : Option Why) → can_swap script s (if_for_swap b o) ≡ false → by_cause o ≡ Ok (kind.Loose b)
   goes_by_cause None h = refl
@@ -60,15 +62,19 @@ module _ (script : Script) (s : State) (b : BufId) where
   goes : (c : Course) → can_swap script s (if_for_swap b (why_caught c b)) ≡ false → step_of_empty script s c b ≡ Ok (kind.Loose b)
   goes c h = goes_by_cause (why_caught c b) h
 
+abbrev is_empty : Stage → Bool
+is_empty stage.Empty = true
+is_empty x = false
+
 -- a victim is let go
 pub empty_next : (script : Script) (s : State) (t : ℕ) → stage_of (task_of script s t) ≡ stage.Empty → swap_out_due script s t ≡ false → (b : BufId) × (next script s (actor.Thread t) ≡ Ok (kind.Loose b))
 empty_next script s t empty h = by (task_of script s t) refl empty h
   where
     by : (x : Task) → task_of script s t ≡ x → stage_of x ≡ stage.Empty → can_swap script s (swapped_at (command_at_work script s t) (course s t) x) ≡ false → (b : BufId) × (next script s (actor.Thread t) ≡ Ok (kind.Loose b))
     by (task.Empty b) is e due =
-        let work = command_at script s t stage.Empty empty (λ i. cc) in
+        let work = command_at script s t stage.Empty empty (λ i. false≢true (ap is_empty i)) in
         (b, next_at script s t work.0 (task.Empty b) work.1 is ∙ goes script s b (course s t) due)
-    by x is e due = cc
+    by x is e due = absurd (false≢true (ap is_empty e))
 
 -- it is let go
 pub empty_lets_go : (r : Kept) (t : ℕ) → stage_of (task_of r.script (state_behind r) t) ≡ stage.Empty → swap_out_due r.script (state_behind r) t ≡ false → lets_go (entry_of r (actor.Thread t)) ≡ true
