@@ -2,7 +2,8 @@
 use Rattle.std.proofs.Common.{◌≡◌, ℕ, zero, suc, ◌+◌, ◌*◌, ◌-◌, ◌<◌, ◌≤◌, Bool, true, false, List, [], ◌∷◌, Option, Some, None, Ok, IsTrue, ap, refl, sym, ◌∙◌, subst, length, if◌then◌else◌, arith}
 use Rattle.std.specs.Prelude.{◌==◌, nat_lt, option_and_then, option_map, slice_get, unwrap_or}
 use Rattle.std.specs.List.{list_all}
-use Rattle.std.proofs.lemmas.Bool.{and_parts, ltb-true}
+use Rattle.std.proofs.lemmas.Bool.{and_parts, false≢true, ltb-true}
+use Rattle.std.proofs.lemmas.Option.{none-some}
 use Rattle.ttm_base.specs.declared.BufId.{BufId}
 use Rattle.ttm_base.specs.declared.Loc.{Loc}
 use Rattle.ttm_base.specs.declared.Loc.TheVariants as loc
@@ -162,18 +163,22 @@ module _ (script : Script) (journal : List Entry) (fits : IsTrue (is_script scri
             (step.step ∙ ap Ok k) t a mine g,
         g,
       )
-      by_test false mine g r k = cc
+      by_test false mine g r k = absurd (none-some a g)
+
+      is_result : Kind → Bool
+      is_result (kind.Result q) = true
+      is_result k = false
 
       result_of : (k : Kind) (r : Shown) → kind.Result r ≡ showing script (stores_of script journal) s e.who k → (q : Shown) × (k ≡ kind.Result q)
       result_of (kind.Result q) r g = (q, refl)
-      result_of (kind.Packet n j piece) r g = cc
-      result_of k r g = cc
+      result_of (kind.Packet n j piece) r g = absurd (false≢true (sym (ap is_result g)))
+      result_of k r g = absurd (false≢true (sym (ap is_result g)))
 
       by_kind : (k : Kind) → k ≡ showing script (stores_of script journal) s e.who step.kind →
           elim k as (λ _. Option Access) [ kind.Result r ↦ if is_by_thread t e.who then peek_or_poke script t (course s t).answered else None | _ ↦ None ] ≡ Some a →
           IsSettledFor s a × (peek_or_poke script t (course s t).answered ≡ Some a)
       by_kind (kind.Result r) is g = let q = result_of step.kind r is in by_test (is_by_thread t e.who) refl g q.0 q.1
-      by_kind k is g = cc
+      by_kind k is g = absurd (none-some a g)
 
   pub are_found : (e : Entry) → IsLegalNext script (world_of script journal) e → (t : ℕ) → AreFound script s (place_in s) (access_in script t (course s t).answered e)
   are_found e next_is t a h i meets =
