@@ -1,5 +1,10 @@
 -- The list that a pattern on a slice names part by part.
-use Rattle.std.proofs.Common.{◌≡◌, List, [], ◌∷◌, length, get_or, ap, ◌∙◌, arith}
+use Rattle.std.proofs.Common.{◌≡◌, refl, List, [], ◌∷◌, length, get_or, ap, ◌∙◌, arith}
+
+-- the first one, where the pattern doesn't name it
+pub first_again : {X : Type 0} (xs : List X) (d : X) → get_or xs 0 d ≡ get_or xs 0 (get_or xs 0 d)
+first_again [] d = refl
+first_again (x ∷ xs) d = refl
 
 one_is : {X : Type 0} (xs : List X) (a : X) → length xs ≡ 1 → a ≡ get_or xs 0 a → a ∷ [] ≡ xs
 one_is [] a h p = absurd (omega (arith, h))

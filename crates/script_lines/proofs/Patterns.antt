@@ -6,8 +6,8 @@ use Rattle.journal_model.specs.declared.line.Line.{Line}
 use Rattle.journal_model.specs.declared.line.Line.TheVariants as line
 use Rattle.journal_model.specs.declared.line.BufferHead.{BufferHead}
 use Rattle.journal_model.specs.Words.{Text}
-use Rattle.journal_model.specs.LineWords.{read_line, read_parts, buffer_line_of, lists_line, has_head_words, buffer_head_of, vmap_line, vunmap_line}
-use Rattle.journal_model.specs.Reading.{number_in, known}
+use Rattle.journal_model.specs.LineWords.{read_line, read_parts, buffer_line_of, lists_line, has_head_words, buffer_head_of, vmap_line, vunmap_line, op_words_of, submit_of_ops, submit_line, vop_words_of, vsubmit_of_ops, vsubmit_line}
+use Rattle.journal_model.specs.Reading.{number_in, known, engine_word_of}
 
 pub read_is : (how : Access) (names : List Text) (xs : List Text) (b off len : Text) → length xs ≡ 4 → b ≡ get_or xs 1 b → off ≡ get_or xs 2 off → len ≡ get_or xs 3 len
     → Some (read_parts how names b off len) ≡ read_line how names xs
@@ -66,3 +66,17 @@ vmap_is names (w ∷ x ∷ y ∷ z ∷ []) va n b off h p q r s = absurd (omega 
 vmap_is names (w ∷ x ∷ y ∷ z ∷ v ∷ []) va n b off h p q r s =
     ap (λ t. Some (vmap_parts names t n b off)) p ∙ ap (λ t. Some (vmap_parts names x t b off)) q ∙ ap (λ t. Some (vmap_parts names x y t off)) r ∙ ap (λ t. Some (vmap_parts names x y z t)) s
 vmap_is names (w ∷ x ∷ y ∷ z ∷ v ∷ u ∷ us) va n b off h p q r s = absurd (omega (arith, h))
+
+pub submit_is : (names xs : List Text) (engines : ℕ) (number : Text) → 2 ≤ length xs → number ≡ get_or xs 1 number
+    → submit_of_ops (engine_word_of engines number) (op_words_of names (take (length xs - 2) (drop 2 xs))) ≡ submit_line names engines xs
+submit_is names [] engines number h p = absurd (omega (arith, h))
+submit_is names (w ∷ []) engines number h p = absurd (omega (arith, h))
+submit_is names (w ∷ x ∷ ws) engines number h p =
+    ap (λ t. submit_of_ops (engine_word_of engines number) (op_words_of names t)) (rest_whole 2 (w ∷ x ∷ ws)) ∙ ap (λ t. submit_of_ops (engine_word_of engines t) (op_words_of names ws)) p
+
+pub vsubmit_is : (xs : List Text) (engines : ℕ) (number : Text) → 2 ≤ length xs → number ≡ get_or xs 1 number
+    → vsubmit_of_ops (engine_word_of engines number) (vop_words_of (take (length xs - 2) (drop 2 xs))) ≡ vsubmit_line engines xs
+vsubmit_is [] engines number h p = absurd (omega (arith, h))
+vsubmit_is (w ∷ []) engines number h p = absurd (omega (arith, h))
+vsubmit_is (w ∷ x ∷ ws) engines number h p =
+    ap (λ t. vsubmit_of_ops (engine_word_of engines number) (vop_words_of t)) (rest_whole 2 (w ∷ x ∷ ws)) ∙ ap (λ t. vsubmit_of_ops (engine_word_of engines t) (vop_words_of ws)) p
