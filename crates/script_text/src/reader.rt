@@ -329,33 +329,33 @@ fn accept(
         Line::Swap { size } => set_swap(progress, size),
         Line::Engines { size } => set_engines(progress, size),
         Line::Buffer { head, want, busy } => {
-            put_two_lists(alloc, names, progress, head, want, busy)?
+            return put_two_lists(alloc, names, progress, head, want, busy);
         }
-        Line::Placed { head, list } => put_one_list(alloc, names, progress, head, list)?,
-        Line::Thread => put_thread(alloc, progress)?,
-        Line::Turn { actors } => put_turn(alloc, progress, actors)?,
+        Line::Placed { head, list } => return put_one_list(alloc, names, progress, head, list),
+        Line::Thread => return put_thread(alloc, progress),
+        Line::Turn { actors } => return put_turn(alloc, progress, actors),
         Line::End => progress.phase = Phase::After,
-        Line::Plain { verb, b } => put(progress, plain_of(verb, first_of(b)))?,
+        Line::Plain { verb, b } => return put(progress, plain_of(verb, first_of(b))),
         Line::Write {
             access,
             b,
             off,
             bytes,
-        } => put_write(alloc, progress, access, b, off, bytes)?,
+        } => return put_write(alloc, progress, access, b, off, bytes),
         Line::Read {
             access,
             b,
             off,
             len,
-        } => put_read(progress, access, b, off, len)?,
-        Line::Move { b, mem } => put(progress, move_of(b, mem))?,
-        Line::Touch { group } => put(progress, touch_of(group))?,
-        Line::Submit { engine, ops } => put_submit(alloc, progress, engine, ops)?,
-        Line::Map { b } => put_map(progress, b)?,
-        Line::Unmap { b } => put_unmap(progress, b)?,
-        Line::Vmap { va, n, b, off } => put_vmap(progress, va, n, b, off)?,
-        Line::Vunmap { va, n } => put_vunmap(progress, va, n)?,
-        Line::Vsubmit { engine, ops } => put_vsubmit(alloc, desk, progress, engine, ops)?,
+        } => return put_read(progress, access, b, off, len),
+        Line::Move { b, mem } => return put(progress, move_of(b, mem)),
+        Line::Touch { group } => return put(progress, touch_of(group)),
+        Line::Submit { engine, ops } => return put_submit(alloc, progress, engine, ops),
+        Line::Map { b } => return put_map(progress, b),
+        Line::Unmap { b } => return put_unmap(progress, b),
+        Line::Vmap { va, n, b, off } => return put_vmap(progress, va, n, b, off),
+        Line::Vunmap { va, n } => return put_vunmap(progress, va, n),
+        Line::Vsubmit { engine, ops } => return put_vsubmit(alloc, desk, progress, engine, ops),
     }
     Ok(())
 }
