@@ -9,5 +9,6 @@ pub mod KindsTold
 pub mod KindsAgain
 pub mod EntryLaws
 pub mod HeadTold
+pub mod Picks
 pub mod ReportSteps
 pub mod Verdicts
