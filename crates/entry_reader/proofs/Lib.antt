@@ -9,6 +9,7 @@ pub mod KindsTold
 pub mod KindsAgain
 pub mod EntryLaws
 pub mod HeadTold
+pub mod ListedWords
 pub mod Picks
 pub mod ReportSteps
 pub mod Verdicts
