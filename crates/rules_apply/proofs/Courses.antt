@@ -1,0 +1,72 @@
+-- The state after a thread's command was armed or answered, or freed a buffer, in the words of the code.
+use Rattle.std.proofs.Common.{◌≡◌, ℕ, ◌+◌, ◌-◌, List, [], ◌∷◌, ◌++◌, Bool, true, false, Option, Some, None, sym, ap, subst, arith}
+use Rattle.std.proofs.lemmas.Bool.{false≢true}
+use Rattle.std.proofs.lemmas.Bool.Decides.{nat_tests}
+use Rattle.std.specs.Prelude.{◌≢◌, ◌==◌, IsSome, if◌then◌else◌, filter, flat_map, fold, slice_get, slice_set, unwrap_or}
+use Rattle.ttm_base.specs.declared.BufId.{BufId}
+use Rattle.ttm_base.specs.declared.JobId.{JobId}
+use Rattle.ttm_base.specs.declared.Op.{Op}
+use Rattle.ttm_base.specs.declared.Packet.{Packet}
+use Rattle.ttm_base.specs.Cutting.{packets_of}
+use Rattle.journal_model.specs.declared.script.Script.{Script}
+use Rattle.journal_model.specs.declared.script.Command.{Command}
+use Rattle.journal_model.specs.declared.state.State.{State}
+use Rattle.journal_model.specs.declared.state.Core.{Core}
+use Rattle.journal_model.specs.declared.state.Buffer.{Buffer}
+use Rattle.journal_model.specs.declared.state.Course.{Course}
+use Rattle.journal_model.specs.declared.state.Grip.{Grip}
+use Rattle.journal_model.specs.State.{buffer_in, course, has_buffer, new_course, no_grip, without_buffer}
+use Rattle.journal_model.specs.Commands.{command_at_work}
+use Rattle.journal_model.specs.Places.{packet_place}
+use Rattle.journal_model.specs.Waits.{jobs_before_use}
+use Rattle.journal_model.specs.Lists.{taken_off, touched}
+use Rattle.journal_model.specs.ApplyCommands.{after_free, after_result, ghost_of_freed, has_made, named_in, released, with_pins}
+use Rattle.journal_model.specs.ApplyJobs.{after_arm, ops_of, with_use}
+use Rattle.rules_apply.specs.Ready.{IsThread}
+
+-- a course that is there, by whether the thread's number is 0
+course_by : (none : Bool) (found : Option Course) (x : Course) → IsSome (if none then None else found) → found ≡ Some x → x ≡ unwrap_or (if none then None else found) (new_course 0)
+course_by true found x there e = absurd (false≢true there)
+course_by false found x there e = sym (ap (λ o. unwrap_or o (new_course 0)) e)
+
+-- the course that the code reads
+course_is : (s : State) (t : ℕ) (x : Course) → IsThread s t → slice_get s.courses (t - 1) ≡ Some x → x ≡ course s t
+course_is s t x there e = course_by (t == 0) (slice_get s.courses (t - 1)) x there e
+
+-- a job that was armed
+pub after_arm_is : (script : Script) (s : State) (t : ℕ) (job : JobId) (cmd : Option Command) (ops : List Op) (bs read used : List BufId) (waits : List JobId) (packets : List Packet) (core : Core) (last_jobs : List ℕ) (x : Course) →
+    IsThread s t → cmd ≡ command_at_work script s t → ops ≡ ops_of cmd → bs ≡ named_in cmd → read ≡ bs → used ≡ bs →
+    waits ≡ flat_map (jobs_before_use s.core ops) read → packets ≡ packets_of (λ b. packet_place (buffer_in s.core b)) ops →
+    core ≡ record s.core { jobs = s.core.jobs ++ record { id = job; waits = waits; packets = packets; ran = 0; finished = false } ∷ []; buffers = fold (with_use job ops) s.core.buffers used } →
+    last_jobs ≡ slice_set s.last_jobs job.ctx job.num → slice_get s.courses (t - 1) ≡ Some x →
+    record s { core = core; last_jobs = last_jobs; courses = slice_set s.courses (t - 1) (has_made x) } ≡ after_arm script s t job.ctx job.num
+after_arm_is script s t job cmd ops bs read used waits packets core last_jobs x there m o b r u w p k l e =
+    let y : x ≡ course s t = course_is s t x there e in rw (k, l, w, p, r, u, b, o, m, y)
+
+-- a command that was answered
+pub after_result_is : (script : Script) (s : State) (t : ℕ) (cmd : Option Command) (x next : Course) (held touching : List BufId) (grips read : List Grip) (buffers : List (Option Buffer)) (old lists : List (List BufId)) (courses : List Course) →
+    IsThread s t → cmd ≡ command_at_work script s t → slice_get s.courses (t - 1) ≡ Some x → next ≡ new_course (x.answered + 1) → held ≡ x.held → touching ≡ x.held →
+    grips ≡ with_pins cmd (released s.grips held) → buffers ≡ s.core.buffers → read ≡ grips → old ≡ s.lists →
+    lists ≡ fold (touched script buffers read) old (filter (has_buffer touching) (named_in cmd)) → courses ≡ slice_set s.courses (t - 1) next →
+    record s { grips = grips; lists = lists; courses = courses } ≡ after_result script s t
+after_result_is script s t cmd x next held touching grips read buffers old lists courses there m e n h u g b r o l k =
+    let y : x ≡ course s t = course_is s t x there e in rw (l, k, r, o, b, g, h, u, n, m, y)
+
+-- the number of the last ghost, by whether one was left
+pub last_ghost_left : (num old : ℕ) → num ≢ 0 → num ≡ (if num == 0 then old else num)
+last_ghost_left num old h = grind (arith, nat_tests)
+
+pub last_ghost_kept : (num old : ℕ) → num ≡ 0 → old ≡ (if num == 0 then old else num)
+last_ghost_kept num old h = grind (arith, nat_tests)
+
+-- a buffer that was freed
+pub after_free_is : (s z : State) (t : ℕ) (b : BufId) (num : ℕ) (x y : Course) (read held : List BufId) (old lists : List (List BufId)) (core : Core) (buffers : List (Option Buffer)) (grip : Grip) (grips : List Grip) (last_ghost : ℕ) →
+    IsThread s t → slice_get s.courses (t - 1) ≡ Some x → read ≡ x.held → held ≡ without_buffer read b → old ≡ s.lists → lists ≡ taken_off old b →
+    core ≡ record s.core { ghosts = (if num == 0 then s.core.ghosts else s.core.ghosts ++ ghost_of_freed s.core (buffer_in s.core b) num ∷ []) } →
+    buffers ≡ slice_set core.buffers b.0 None → grip ≡ no_grip → grips ≡ slice_set s.grips b.0 grip → last_ghost ≡ (if num == 0 then s.last_ghost else num) →
+    z ≡ record s { core = record core { buffers = buffers }; grips = grips; lists = lists; last_ghost = last_ghost } → slice_get z.courses (t - 1) ≡ Some y →
+    record z { courses = slice_set z.courses (t - 1) (record y { held = held; made = true }) } ≡ after_free s t b num
+after_free_is s z t b num x y read held old lists core buffers grip grips last_ghost there e r h o l k f g i n w d =
+    let before : x ≡ course s t = course_is s t x there e in
+    let now : y ≡ course s t = course_is s t y there (subst (λ (v : State). slice_get v.courses (t - 1) ≡ Some y) w d) in
+    rw (w, f, k, i, g, l, o, h, r, n, before, now)
