@@ -1,14 +1,13 @@
 #!/usr/bin/env python3
-"""The cases of the kernel's own tests of drm_mm and drm_buddy as lists of operations, with the answers that they must have.
+"""The cases of the kernel's own tests of drm_mm and drm_buddy as lists of operations, done by the C library and compared.
 
-usage: tools/kernel_cases.py --table mm|buddy        the cases of one at small sizes, as in crates/test_allocators/src/kernel_cases/src
-       tools/kernel_cases.py --write FOLDER          the cases at greater sizes, each as NAME and NAME.stdout, for allocator_replay
-       tools/kernel_cases.py --check                 the same, done by allocator_replay (unproved, as `rt try` builds it) and compared
+usage: tools/kernel_cases.py ARCHIVE [FLAG ..]     builds crates/mm_c/tests/operations.c with the archive and the FLAGs, and does each case
+       tools/kernel_cases.py --write FOLDER        writes each list as NAME, and the answers that it must have as NAME.stdout
 
 A case is written from what the kernel's case is to show (KUnit's drm_mm_test and drm_buddy_test of 6.1 and 6.12), not from its
 code: which requests get pages, where the case says so, and which get none. Each of these is asserted of a model, which knows only
 which pages are free, and takes for each request the hole or the block that the rule says, by looking at all of them. The
-answers of the lists are the model's.
+answers of the lists are the model's. Each case is done twice, on few pages and on many (some have more than 65,536).
 
 Left out are what isn't here: colours, scans for eviction, replaced nodes, the ONCE flag, clear tracking, blocks of a smallest size,
 and reserving no page or pages past the size, which no line of a list can say (crates/mm_c/tests/random_calls.c does that).
@@ -83,9 +82,6 @@ class Pages:
     def free_pages(self):
         return self.free.count(1)
 
-    def show(self, word, spans):
-        self.say(word, ",".join(f"{start}-{end}" for start, end in spans) or "-")
-
 
 class Ranges(Pages):
     def __init__(self, size):
@@ -127,7 +123,7 @@ class Ranges(Pages):
     def show_holes(self, must=None):
         holes = list(self.holes())
         assert must is None or must == holes, f"the model has {holes}"
-        self.show("holes", holes)
+        self.say("holes", ",".join(f"{start}-{end}" for start, end in holes) or "-")
 
     def at(self, number):
         return self.spans[number][0]
@@ -211,7 +207,7 @@ class Blocks(Pages):
                     blocks.append((at << order, at + 1 << order))
                 at = free.find(1, at + 1)
         assert must is None or must == sorted(blocks), f"the model has {blocks}"
-        self.show("blocks", sorted(blocks))
+        self.say("blocks", ",".join(f"{start}-{end}" for start, end in self.holes()) or "-")
 
     def must_be_whole(self):
         assert self.free_pages() == self.size
@@ -572,7 +568,7 @@ def buddy_range_bias(windows, chance, window=64):
     return b
 
 
-# the case, its measure in the test crate's table, and at greater size (some have more than 65,536 pages there)
+# the case, and its measure on few pages and on many
 CASES = [
     (mm_init, 7, 100_003),
     (mm_debug, 16, 131_072),
@@ -597,68 +593,81 @@ CASES = [
 ]
 
 
-def lists(column):
-    for case in CASES:
-        # (the same words write the same lists)
-        pages = case[0](case[column], random.Random(case[0].__name__))
-        yield case[0].__name__, pages.lines, pages.answers
+# Two lists whose answers are written out: blocks that are split and merged, and ranges that are held and let go; and an ID that isn't held, or is already.
+WORKED = [
+    (
+        "buddy_worked",
+        ["buddy 12", "alloc 1 3 0 12 - -", "free 1", "alloc 2 4 0 12 - contig", "alloc 3 8 0 12 - contig", "alloc 4 1 0 12 - -", "free 1", "alloc 2 1 0 12 topdown -"]
+        + ["free 3", "alloc 3 2 0 4 topdown -", "blocks"],
+        ["8-10,10-11", "ok", "8-12", "0-8", "none", "bad", "bad", "ok", "2-4", "0-2,4-8"],
+    ),
+    (
+        "mm_worked",
+        ["mm 12", "insert 1 4 1 0 12 low", "insert 2 4 1 0 12 high", "remove 1", "reserve 3 1 2", "reserve 4 1 3", "insert 4 1 1 0 12 best"]
+        + ["insert 5 6 2 0 12 best", "insert 6 1 1 0 12 low", "remove 9", "holes"],
+        ["0-4", "8-12", "ok", "ok", "none", "0-1", "2-8", "none", "bad", "-"],
+    ),
+]
 
 
-def print_table(word):
-    found = [it for it in lists(1) if it[0].startswith(word)]
-    print(f"//! The kernel's cases of its {'ranges' if word == 'mm' else 'blocks'} at small sizes, as `tools/kernel_cases.py --table {word}` prints them. The answers are a model's.")
-    print("use crate::Case;")
-    for name, lines, answers in found:
-        print()
-        print(f"const {name.upper()}: Case = (")
-        print(f'    "{lines[0]}",')
-        print("    &[")
-        for line, answer in zip(lines[1:], answers):
-            print(f'        ("{line}", "{answer}"),')
-        print("    ],")
-        print(");")
-    print()
-    print(f"pub const CASES: [Case; {len(found)}] = [")
-    for name, _lines, _answers in found:
-        print(f"    {name.upper()},")
-    print("];")
+def lists():
+    """Each list: its name, its lines, and their answers."""
+    yield from WORKED
+    for case, few, many in CASES:
+        for name, measure in ((case.__name__, few), (f"{case.__name__}_large", many)):
+            # (the same words write the same lists)
+            pages = case(measure, random.Random(case.__name__))
+            yield name, pages.lines, pages.answers
 
 
 def write(folder):
-    for name, lines, answers in lists(2):
+    for name, lines, answers in lists():
         (folder / name).write_text("".join(it + "\n" for it in lines))
         (folder / f"{name}.stdout").write_text("".join(it + "\n" for it in answers))
         print(f"{name}: {len(answers)} operations on {lines[0].split()[1]} pages", file=sys.stderr)
 
 
-def check():
+def difference(name, lines, answers, ran):
+    """The first answer that differs, or None."""
+    if ran.returncode:
+        return f"kernel cases: {name}: {ran.stderr.strip()}"
+    given = ran.stdout.splitlines()
+    for line, wanted, got in zip(lines[1:], answers, given):
+        if wanted != got:
+            return f"kernel cases: {name}: {line}: {got}, and not {wanted}"
+    return None if len(given) == len(answers) else f"kernel cases: {name}: {len(given)} answers, and not {len(answers)}"
+
+
+def check(archive, flags):
     with tempfile.TemporaryDirectory() as room:
-        write(pathlib.Path(room))
-        # (the last line counts the cases and what became of them)
-        ran = subprocess.run(["rt", "try", "--cases", room], cwd=TOP / "crates" / "allocator_replay", stdout=subprocess.PIPE, stderr=subprocess.STDOUT, text=True)
-        count = len(CASES)
-        well = ran.returncode == 0 and f"cases={count} ended={count} fault=0 differs=0 no-answer=0 " in ran.stdout
-        if not well:
-            print(ran.stdout, end="")
-        print(f"kernel cases: {'each of' if well else 'not all of'} {count} is answered as the model says")
-        sys.exit(0 if well else 1)
+        program, crate = f"{room}/operations", TOP / "crates" / "mm_c"
+        words = [os.environ.get("CC", "cc"), "-std=c11", "-O2", "-Wall", "-Wextra", "-Werror", f"-I{crate}/include", f"{crate}/tests/operations.c", archive, *flags, "-o", program]
+        if subprocess.run(words).returncode:
+            sys.exit("kernel cases: operations.c wasn't built")
+        count, faults = 0, []
+        for name, lines, answers in lists():
+            text = "".join(it + "\n" for it in lines)
+            ran = subprocess.run([program], input=text, capture_output=True, text=True)
+            faults.append(difference(name, lines, answers, ran))
+            count += 1
+    found = [it for it in faults if it]
+    print(*found, f"kernel cases: {count - len(found)} of {count} lists are answered as they must be", sep="\n")
+    sys.exit(1 if found else 0)
 
 
 def main():
     parser = argparse.ArgumentParser(description=__doc__, formatter_class=argparse.RawDescriptionHelpFormatter)
-    parser.add_argument("--table", choices=["mm", "buddy"])
     parser.add_argument("--write", type=pathlib.Path, metavar="FOLDER")
-    parser.add_argument("--check", action="store_true")
+    parser.add_argument("archive", nargs="?")
+    parser.add_argument("flags", nargs=argparse.REMAINDER)
     words = parser.parse_args()
-    if words.table:
-        print_table(words.table)
-    elif words.write:
+    if words.write:
         os.makedirs(words.write, exist_ok=True)
         write(words.write)
-    elif words.check:
-        check()
+    elif words.archive:
+        check(words.archive, words.flags)
     else:
-        parser.error("one of --table, --write and --check")
+        parser.error("an archive, or --write")
 
 
 if __name__ == "__main__":

@@ -6,11 +6,7 @@ mod blocks;
 #[cfg(test)]
 mod holes;
 #[cfg(test)]
-mod kernel_cases;
-#[cfg(test)]
 mod large_blocks;
-#[cfg(test)]
-mod lines;
 #[cfg(test)]
 mod numbers;
 #[cfg(test)]
