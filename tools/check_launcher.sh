@@ -11,8 +11,8 @@ trap 'rm -rf "$room"' EXIT
 mkdir -p "$room/bin" "$room/copy/tools"
 cp "$top/ttm" "$room/copy/ttm"
 cp "$top/tools/build_progress.py" "$room/copy/tools/"
-printf 'base:\nexplain_script:\nreport_picture: base\nttm: base\n' >"$room/copy/crates.txt"
-for name in base explain_script report_picture ttm; do
+printf 'base:\nbeside:\nttm: base\n' >"$room/copy/crates.txt"
+for name in base beside ttm; do
   mkdir -p "$room/copy/crates/$name/src"
   echo "fn main() {}" >"$room/copy/crates/$name/src/main.rt"
 done
@@ -65,24 +65,24 @@ ln -s copy/ttm "$room/ttm"
 echo whole >"$room/how"
 run "nothing is built" 0 "tried ttm: sim" 1 sim
 run "a status of an unproved run" 3 "tried ttm: sim 3" 1 sim 3
-run "another program, unproved" 2 "tried explain_script: 4 2" 1 explain 4 2
-run "a build" 0 "" 6 --build
+run "a viewer that isn't here" 1 "" 1 picture
+run "a build" 0 "" 2 --build
 run "a proved run" 0 "proved ttm: sim" 0 sim
 run "a status of a proved run" 5 "proved ttm: sim 5" 0 sim 5
-run "another program, proved" 0 "proved report_picture: stats json" 0 stats json
-run "nothing is left to build" 0 "" 3 --build
+run "nothing is left to build" 0 "" 1 --build
+echo "fn main() { beside(); }" >"$room/copy/crates/beside/src/main.rt"
+run "sources beside it have changed" 0 "proved ttm: sim" 0 sim
 echo "fn main() { base(); }" >"$room/copy/crates/base/src/main.rt"
 run "the sources below have changed" 0 "tried ttm: sim" 1 sim
-run "a program that doesn't stand on them" 0 "proved explain_script: 4 0" 0 explain 4 0
 for how in none cut; do
   echo "$how" >"$room/how"
-  run "a build that fails ($how)" 1 "" 5 --build
-  run "behind a build that failed ($how)" 0 "tried report_picture: stats x" 1 stats x
+  run "a build that fails ($how)" 1 "" 4 --build
+  run "after a build that failed ($how)" 0 "tried ttm: sim" 1 sim
 done
 echo mute >"$room/how"
 run "an unproved run without an answer" 1 "" 3 sim
 echo whole >"$room/how"
-run "a build behind one that failed" 0 "" 5 --build
+run "a build after one that failed" 0 "" 2 --build
 run "a proved run again" 0 "proved ttm: sim" 0 sim
 echo 'echo more' >>"$room/copy/crates/ttm/out/ttm"
 run "a program that isn't what was built" 0 "tried ttm: sim" 1 sim
