@@ -493,27 +493,6 @@ impl FreeBlocks {
         Some(found.piece.pages())
     }
 
-    /// Takes the block that `first_piece` answers: it is held from then on.
-    pub fn take_piece(&mut self, range: Span, topdown: bool, order: u32, whole: u32) -> Option<Span>
-        requires order { order ≤ whole }
-        requires whole { whole < 32 }
-        ensures first { FirstPieceOf (is_free self.old) (length self.old) range topdown order whole result }
-        ensures size { length self.new ≡ length self.old }
-        ensures taken { IfSome result (λ block. (page : ℕ) → is_free self.new page ≡ is_marked block false (is_free self.old page) page) }
-        ensures none { result ≡ None → self.new ≡ self.old }
-        ensures within { IfSome result (λ block. block.end ≤ length self.old) }
-        ensures small { IfSome result (λ block. block.end < 2 ^ 31) }
-    {
-        let request = Request {
-            order,
-            range,
-            topdown,
-        };
-        let found = self.find(request, whole)?;
-        self.split(found);
-        Some(found.piece.pages())
-    }
-
     /// The free block of an order inside a range that is split from the smallest: among equals the lowest, or for topdown the
     /// highest.
     pub fn candidate(&self, range: Span, topdown: bool, order: u32) -> Option<Span>

@@ -1,4 +1,4 @@
-ghost use Rattle.std.specs.Prelude.{◌≡◌, drop};
+ghost use Rattle.std.specs.Prelude.{◌≡◌};
 ghost use Rattle.std.specs.Iterator.{YieldsFirst, item_count};
 ghost use Rattle.place_list.specs.SpanPages.{pages_of};
 
@@ -35,22 +35,6 @@ impl<'a> PageCursor<'a> {
         }
     }
 
-    /// Passes over so many pages, or over all where fewer are left, in as many steps as spans are passed (xe_res_next).
-    pub fn skip_pages(&mut self, pages: u32)
-        ensures { self.new ≡ drop pages self.old }
-    {
-        let mut left = pages;
-        while left > self.here.end.saturating_sub(self.here.start) {
-            let Some((first, others)) = self.behind.split_first() else {
-                self.here.start = self.here.end;
-                return;
-            };
-            left -= self.here.end.saturating_sub(self.here.start);
-            self.here = *first;
-            self.behind = others;
-        }
-        self.here.start += left;
-    }
 }
 
 impl<'a> Iterator for PageCursor<'a> {

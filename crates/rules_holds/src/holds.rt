@@ -2,11 +2,11 @@ ghost use Rattle.std.specs.Prelude.{◌≡◌, ◌++◌, IfOk, OnOk, flat_map};
 ghost use Rattle.std.specs.List.{list_any};
 ghost use Rattle.ttm_base.specs.Holes as pages;
 ghost use Rattle.journal_model.specs.Holds as words;
-ghost use Rattle.rules_holds.specs.Held.{spans_of_slot, frames_of_slot, slots_of_slot};
+ghost use Rattle.rules_holds.specs.Held.{spans_of_slot, slots_of_slot};
 
 use journal_model::{Buffer, Core, Frames, Ghost, Script};
 use place_list::rules_places::same_mem;
-use rules_state::{frame_of, slot_of, target_spans};
+use rules_state::{slot_of, target_spans};
 use std::alloc::Global;
 use ttm_base::{Mem, NoMemory, Span, Spans};
 
@@ -103,61 +103,6 @@ pub fn is_free_beside(held: &[Span], page: u32) -> bool
     ensures { result ≡ pages.is_free_beside held.now page }
 {
     !is_held(held, page)
-}
-
-/// Puts the frames of a declared buffer behind others.
-fn push_frames(frames: &mut Frames, slot: &Option<Buffer>) -> Result<(), NoMemory>
-    ensures { OnOk result (frames.new ≡ frames.old ++ frames_of_slot slot.now) }
-{
-    if let Some(buffer) = slot {
-        for loc in buffer.table.items() {
-            if let Some(frame) = frame_of(*loc) {
-                frames.push(frame)?;
-            }
-        }
-    }
-    Ok(())
-}
-
-/// Puts numbers behind others.
-fn push_numbers(numbers: &mut Frames, more: &[u32]) -> Result<(), NoMemory>
-    ensures { OnOk result (numbers.new ≡ numbers.old ++ more.now) }
-{
-    for n in more {
-        numbers.push(*n)?;
-    }
-    Ok(())
-}
-
-/// The frames in the page tables of live buffers.
-fn live_frames(alloc: Global, buffers: &[Option<Buffer>]) -> Result<Frames, NoMemory>
-    ensures { IfOk result (λ frames. frames ≡ flat_map frames_of_slot buffers.now) }
-{
-    let mut frames = Frames::new(alloc);
-    for slot in buffers {
-        push_frames(&mut frames, slot)?;
-    }
-    Ok(frames)
-}
-
-/// Puts the frames of ghosts behind others.
-fn push_ghost_frames(frames: &mut Frames, ghosts: &[Ghost]) -> Result<(), NoMemory>
-    ensures { OnOk result (frames.new ≡ frames.old ++ flat_map (λ g. g.frames) ghosts.now) }
-{
-    for g in ghosts {
-        push_numbers(frames, g.frames.items())?;
-    }
-    Ok(())
-}
-
-/// All frames that buffers and ghosts hold.
-#[tactic(auto, using(crate::proofs::HeldLaws::live_frames_of))]
-pub fn held_frames(alloc: Global, core: &Core) -> Result<Frames, NoMemory>
-    ensures { IfOk result (λ frames. frames ≡ words.held_frames core.now) }
-{
-    let mut frames = live_frames(alloc, core.buffers.items())?;
-    push_ghost_frames(&mut frames, core.ghosts.items())?;
-    Ok(frames)
 }
 
 /// Puts the slots of a declared buffer behind others.

@@ -304,33 +304,6 @@ fn jobs_of(before: Before, run: FenceRun) -> JobRun
     }
 }
 
-/// The jobs that must be done before a buffer is written or read.
-fn jobs_before(alloc: Global, buffer: &Buffer, before: Before) -> Result<JobIds, NoMemory>
-    ensures { IfOk result (λ jobs. jobs ≡ jobs_before before buffer.now.fences) }
-{
-    let mut jobs = JobIds::new(alloc);
-    for run in buffer.fences.runs() {
-        jobs.push_run(jobs_of(before, *run))?;
-    }
-    Ok(jobs)
-}
-
-/// The jobs that must be done before the buffer is written, or moved.
-#[tactic(auto, using(crate::proofs::BeforeLaws::write_is))]
-pub fn jobs_before_write(alloc: Global, buffer: &Buffer) -> Result<JobIds, NoMemory>
-    ensures { IfOk result (λ jobs. jobs ≡ words.jobs_before_write buffer.now) }
-{
-    jobs_before(alloc, buffer, Before::Write)
-}
-
-/// The jobs that must be done before it is read.
-#[tactic(auto, using(crate::proofs::BeforeLaws::read_is))]
-pub fn jobs_before_read(alloc: Global, buffer: &Buffer) -> Result<JobIds, NoMemory>
-    ensures { IfOk result (λ jobs. jobs ≡ words.jobs_before_read buffer.now) }
-{
-    jobs_before(alloc, buffer, Before::Read)
-}
-
 /// Those of the jobs before a buffer is written or read that aren't done.
 fn unfinished_before(
     alloc: Global,
@@ -406,19 +379,6 @@ pub fn is_idle(core: &Core, buffer: &Buffer) -> bool
     ensures { result ≡ words.is_idle core.now buffer.now }
 {
     waited_before_write(core, buffer).is_none()
-}
-
-/// The jobs that a target waits for: in VRAM the one that moved the last victim out.
-pub fn jobs_before_target(alloc: Global, core: &Core, mem: Mem) -> Result<JobIds, NoMemory>
-    ensures { IfOk result (λ jobs. jobs ≡ words.jobs_before_target core.now mem) }
-{
-    let mut jobs = JobIds::new(alloc);
-    if let (Mem::Vram, Some(job)) = (mem, core.move_fence) {
-        if is_unfinished(core, job) {
-            jobs.push(job)?;
-        }
-    }
-    Ok(jobs)
 }
 
 /// The unfinished jobs that a job waits for at a buffer: all of one that it writes, those that change one that it only reads.

@@ -1,8 +1,7 @@
 use crate::making::{buffer_of, core_of, job_of, list, one, script_of, state_of};
 use journal_model::{Buffer, Command, Core, Course, Ghost, JobIds, Jobs, Script, State};
 use rules_holds::{
-    free_frame, free_slot, held_frames, held_slots, held_spans, jobs_before_read,
-    jobs_before_target, jobs_before_use, jobs_before_write, packets_of, unfinished,
+    free_frame, free_slot, held_slots, held_spans, jobs_before_use, packets_of, unfinished,
 };
 use rules_state::{
     asked_places, first_mentions, frames_of, in_order, named, new_course, pages_of, quest_at_work,
@@ -97,15 +96,13 @@ fn buffers_and_places_of_commands(rt: HostRuntime) {
 }
 
 #[test]
-fn pages_and_jobs_of_a_buffer(rt: HostRuntime) {
+fn pages_of_a_buffer(rt: HostRuntime) {
     let alloc = rt.alloc();
     let spans = [Span { start: 0, end: 2 }, Span { start: 5, end: 6 }];
     are(&rt, pages_of(alloc, &spans), &[0, 1, 5]);
     let buffer = read_buffer(&rt, alloc);
     are(&rt, frames_of(alloc, &buffer), &[0]);
     are(&rt, slots_of(alloc, &buffer), &[0]);
-    are_jobs(&rt, jobs_before_write(alloc, &buffer), &[JOB]);
-    are_jobs(&rt, jobs_before_read(alloc, &buffer), &[]);
     drop(buffer);
 }
 
@@ -138,7 +135,6 @@ fn what_is_held_and_what_is_free(rt: HostRuntime) {
         held_spans(alloc, Mem::Tt, &core),
         &[Span { start: 2, end: 4 }],
     );
-    are(&rt, held_frames(alloc, &core), &[0, 2]);
     are(&rt, held_slots(alloc, &core), &[0]);
     let script = script_of(&rt, alloc, SCRIPT);
     let frame = free_frame(alloc, &script, &core).expect(&rt, "a look");
@@ -163,7 +159,6 @@ fn packets_and_jobs_to_wait_for(rt: HostRuntime) {
     let core = read_core(&rt, alloc);
     are(&rt, packets_of(alloc, &core, &[PROBE]), PIECES);
     are_jobs(&rt, unfinished(alloc, &core, &[JOB]), &[JOB]);
-    are_jobs(&rt, jobs_before_target(alloc, &core, Mem::Vram), &[JOB]);
     are_jobs(&rt, jobs_before_use(alloc, &core, &[FILL], A), &[JOB]);
     drop(core);
 }

@@ -1,7 +1,0 @@
-use Rattle.std.proofs.Common.{◌≡◌, ◌++◌, take}
-use Rattle.std.specs.Prelude.{filter_map}
-use Rattle.journal_model.specs.Places.{frame_of}
-use Rattle.rules_holds.proofs.holds.push_frames.Given as goal
-
-abbrev pub invariant-loop-loc : goal.invariant-loop-loc
-invariant-loop-loc l = l.frames ≡ l.initial.frames ++ filter_map frame_of (take l.loc-index l.loc-items)

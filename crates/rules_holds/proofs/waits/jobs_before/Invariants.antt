@@ -1,8 +1,0 @@
-use Rattle.std.proofs.Common.{◌≡◌, take}
-use Rattle.std.specs.Prelude.{flat_map}
-use Rattle.journal_model.specs.JobRuns.{fences_of_run}
-use Rattle.rules_holds.specs.Before.{jobs_before}
-use Rattle.rules_holds.proofs.waits.jobs_before.Given as goal
-
-abbrev pub invariant-loop-run : goal.invariant-loop-run
-invariant-loop-run l = l.jobs ≡ jobs_before l.before (flat_map fences_of_run (take l.run-index l.run-items))
