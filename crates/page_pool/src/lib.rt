@@ -1,7 +1,9 @@
 //! The frames of system memory: which of them are held, and the lowest that is free (ttm_pool). Only `new` takes memory.
+#![tactic(auto)]
+
 ghost use Rattle.std.specs.Prelude.{◌≡◌, true, false, not, Some, IfOk, IfSome, IfNone, count_by, position, replicate, slice_get, slice_set};
 
-use crate::FreeMap;
+use free_map::FreeMap;
 use std::alloc::Global;
 use std::marker::Model;
 use ttm_base::NoMemory;

@@ -1,8 +1,10 @@
 //! The reservation of a buffer: who holds it, and the jobs that use the buffer (dma_resv).
+#![tactic(auto)]
+
 ghost use Rattle.std.specs.Prelude.{◌≡◌, ◌<◌, ◌↔◌, Some, None, IsSome, IsTrue, IsFalse, IfOk, length, replicate};
 ghost use Rattle.fence_core.specs.Fences.{nothing_kept, added, needed};
 
-use crate::{FenceSet, Timeline};
+use fence_core::{FenceSet, Timeline};
 use std::alloc::Global;
 use std::marker::Model;
 use ttm_base::{JobId, NoMemory, Stamp, Usage};
@@ -15,7 +17,7 @@ pub struct Resv {
 }
 
 impl Model for Resv {
-    ghost use Rattle.fence_core.specs.resv_object.Reservations.{Reservation};
+    ghost use Rattle.resv_object.specs.Reservations.{Reservation};
 
     ghost Value = { Reservation };
 
