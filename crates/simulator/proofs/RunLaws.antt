@@ -14,9 +14,9 @@ use Rattle.laws.proofs.law_end.Ends.{schedule_completes}
 use Rattle.laws.proofs.law_limit.Limits.{limit_fits}
 use Rattle.simulator.specs.declared.outcome.Outcome.{Outcome}
 use Rattle.simulator.specs.declared.outcome.Outcome.TheVariants as outcome
-use Rattle.simulator.specs.declared.outcome.Status.{Status}
-use Rattle.simulator.specs.declared.outcome.Status.TheVariants as status
-use Rattle.simulator.specs.Edges.{Edge}
+use Rattle.program_edges.specs.declared.status.Status.{Status}
+use Rattle.program_edges.specs.declared.status.Status.TheVariants as status
+use Rattle.program_edges.specs.Edges.{Edge}
 use Rattle.simulator.specs.Outcomes.{status_of}
 use Rattle.simulator.specs.Ends.{Comes, ComesWell, HasRun, IsRunOf, IsWell, IsWellRun, allowed, EndsWith, told, broken, cut, nothing, Ends}
 

@@ -9,11 +9,11 @@ use Rattle.command_words.specs.declared.Form.TheVariants as form
 pub use Rattle.sim_drive.specs.Ends.{Kept}
 use Rattle.sim_drive.specs.Ends.{EndsAfter}
 pub use Rattle.law_legal.specs.KeepsLaws.{KeepsLaws}
-use Rattle.simulator.specs.declared.outcome.Status.{Status}
-use Rattle.simulator.specs.declared.outcome.Status.TheVariants as status
+use Rattle.program_edges.specs.declared.status.Status.{Status}
+use Rattle.program_edges.specs.declared.status.Status.TheVariants as status
 use Rattle.simulator.specs.declared.outcome.Outcome.{Outcome}
 use Rattle.simulator.specs.declared.outcome.Outcome.TheVariants as outcome
-use Rattle.simulator.specs.Edges.{Edge, IsUntouched, IsFaultless, IsWritten, IsBroken, IsCut, WasCutOff}
+use Rattle.program_edges.specs.Edges.{Edge, IsUntouched, IsFaultless, IsWritten, IsBroken, IsCut, WasCutOff}
 use Rattle.simulator.specs.Inputs.{GaveScript, GaveFault}
 use Rattle.simulator.specs.Outcomes.{status_of, text_of}
 

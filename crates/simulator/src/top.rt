@@ -3,17 +3,17 @@ ghost use Rattle.journal_model.specs.ScriptRules.{is_script};
 ghost use Rattle.io_edge.specs.Written.{Writes};
 ghost use Rattle.command_words.specs.Forms.{form_of};
 ghost use Rattle.report_text.specs.WriteFault.{faults_after_writing};
-ghost use Rattle.simulator.specs.Edges.{Edge, IsUntouched};
+ghost use Rattle.program_edges.specs.Edges.{Edge, IsUntouched};
 ghost use Rattle.simulator.specs.Ends.{Comes, ComesSim, ComesRun, Ends};
 ghost use Rattle.simulator.specs.Outcomes.{text_of};
-ghost use Rattle.simulator.specs.Written.{status_after};
 
 use crate::input::{Input, read_input};
-use crate::outcome::{Outcome, Status};
+use crate::outcome::Outcome;
 use crate::tell::write_outcome;
 use command_words::{Form, Words, read_words};
 use io_edge::{Sink, Source};
 use journal_model::Script;
+use program_edges::{Status, status_after};
 use report_text::WriteFault;
 use sim_drive::{Device, drive, turn_limit};
 use std::alloc::Global;
@@ -57,17 +57,6 @@ fn outcome_of<S: Source>(alloc: Global, words: &Words, source: &mut S) -> Result
         Some(Form::Help) => Ok(Outcome::Help),
         Some(Form::Version) => Ok(Outcome::Version),
         Some(Form::Sim(turns)) => simulate(alloc, turns, source),
-    }
-}
-
-/// The status after the text of an outcome was written.
-pub fn status_after(status: Status, written: Result<(), WriteFault>) -> Status
-    ensures { result ≡ status_after status written }
-{
-    match written {
-        Ok(()) => status,
-        Err(WriteFault::Failed) => Status::WriteFault,
-        Err(WriteFault::NoMemory) => Status::NoMemory,
     }
 }
 

@@ -4,14 +4,14 @@ use Rattle.journal_model.specs.declared.script.Script.{Script}
 use Rattle.simulator.specs.Ends.{Kept}
 use Rattle.simulator.specs.declared.outcome.Outcome.{Outcome}
 use Rattle.simulator.specs.declared.outcome.Outcome.TheVariants as outcome
-use Rattle.simulator.specs.Edges.{Edge, IsUntouched, WasCutOff}
+use Rattle.program_edges.specs.Edges.{Edge, IsUntouched, WasCutOff}
 use Rattle.simulator.specs.Inputs.{GaveScript, GaveFault}
 use Rattle.simulator.specs.Ends.{Comes, EndsWith, Ends}
 use Rattle.command_words.specs.declared.Form.{Form}
-use Rattle.simulator.specs.declared.outcome.Status.{Status}
+use Rattle.program_edges.specs.declared.status.Status.{Status}
 use Rattle.thread_program.specs.declared.launch.Launch.{Launch}
 use Rattle.thread_program.specs.declared.launch.Launch.TheVariants as launch
-use Rattle.simulator.specs.check_program.Ends.{EndsChecked}
+use Rattle.check_program.specs.Ends.{EndsChecked}
 use Rattle.thread_program.specs.Counted.{EndsCounted}
 use Rattle.thread_program.specs.Ran.{IsThreaded}
 
