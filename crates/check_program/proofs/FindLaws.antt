@@ -1,19 +1,13 @@
--- What was found, and what was written of it.
-use Rattle.std.proofs.Common.{◌≡◌, ◌≤◌, Ok, Err, Result, inl, length, subst}
-use Rattle.io_edge.specs.Written.{Writes}
-use Rattle.report_text.specs.declared.report.WriteFault.{WriteFault}
-use Rattle.report_text.specs.declared.report.WriteFault.TheVariants as fault
-use Rattle.report_text.specs.WriteFault.{faults_after_writing}
+-- What was found.
+use Rattle.std.proofs.Common.{◌≡◌, ◌≤◌, inl, length, subst}
 use Rattle.journal_model.specs.declared.script.Script.{Script}
 use Rattle.journal_model.specs.Words.{Text}
 use Rattle.journal_model.specs.Verdict.{IsAccepted, IsRejected, check_limit, report_part, script_part}
 use Rattle.journal_model.specs.ScriptRules.{IsScript}
 use Rattle.program_edges.specs.Edges.{Edge, WasReadWhole}
-use Rattle.program_edges.specs.Written.{status_after}
 use Rattle.check_program.specs.declared.finding.Finding.{Finding}
 use Rattle.check_program.specs.declared.finding.Finding.TheVariants as finding
-use Rattle.check_program.specs.Finds.{Finds, FindsIn, FindsReport, status_of, text_of}
-use Rattle.check_program.specs.Ends.{EndsChecked, told, broken, cut}
+use Rattle.check_program.specs.Finds.{Finds, FindsIn, FindsReport}
 
 -- what is found in both parts is found in the bytes
 pub found : (bytes front behind : Text) (script : Script) → front ≡ script_part bytes → behind ≡ report_part bytes → IsScript front script →
@@ -31,11 +25,3 @@ found_whole source bytes read few finding.ReadFault h = absurd h
 found_whole source bytes read few (finding.BadScript n rule) h = record { bytes = bytes; read = read; few = few; finds = h }
 found_whole source bytes read few finding.Accepted h = record { bytes = bytes; read = read; few = few; finds = h }
 found_whole source bytes read few (finding.Rejected entry rule) h = inl (record { bytes = bytes; read = read; few = few; finds = h })
-
--- the promise, by what was written
-pub ends_after : {T : Type 0} (source sink : Edge) (f : Finding) (r : Result T WriteFault) → Finds source f
-    → Writes r sink.before sink.after (text_of f) → sink.faults_after ≡ faults_after_writing r sink.faults_before
-    → EndsChecked source sink (status_after (status_of f) r)
-ends_after source sink f (Ok x) found text faults = told f found (record { whole = text; faultless = faults })
-ends_after source sink f (Err fault.Failed) found text faults = broken f found (record { front = text; fault = faults })
-ends_after source sink f (Err fault.NoMemory) found text faults = cut f found (record { front = text; faultless = faults })

@@ -72,7 +72,7 @@ pub fn finding_in(alloc: Global, bytes: &[u8]) -> Result<Finding, NoMemory>
 }
 
 /// Reads all bytes of a source, at most one more than are looked at, and tells what they come to.
-pub(crate) fn read_finding<S: Source>(alloc: Global, source: &mut S) -> Result<Finding, NoMemory>
+pub fn read_finding<S: Source>(alloc: Global, source: &mut S) -> Result<Finding, NoMemory>
     ensures finds { IfOk result (Finds (record { before = S.left source.old; after = S.left source.new; faults_before = S.faults source.old; faults_after = S.faults source.new })) }
     ensures faults { OnErr result (S.faults source.new ≡ S.faults source.old) }
 {

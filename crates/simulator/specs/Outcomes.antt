@@ -7,6 +7,7 @@ use Rattle.sim_drive.specs.Ends.{Kept}
 use Rattle.program_edges.specs.declared.status.Status.{Status}
 use Rattle.program_edges.specs.declared.status.Status.TheVariants as status
 use Rattle.program_edges.specs.Texts.{bad_script_text}
+use Rattle.check_program.specs.Finds as finds
 use Rattle.simulator.specs.declared.outcome.Outcome.{Outcome}
 use Rattle.simulator.specs.declared.outcome.Outcome.TheVariants as outcome
 
@@ -22,6 +23,7 @@ status_of outcome.Version = status.Done
 status_of outcome.ReadFault = status.ReadFault
 status_of (outcome.BadScript n rule) = status.BadScript
 status_of (outcome.Ran k turns) = status_of_run k
+status_of (outcome.Judged f) = finds.status_of f
 
 -- what --help says
 abbrev pub help_text : Text
@@ -56,3 +58,4 @@ text_of outcome.Version = line (codes "ttm 0.1.0" ∷ [])
 text_of outcome.ReadFault = line (codes "read fault" ∷ [])
 text_of (outcome.BadScript n rule) = bad_script_text n rule
 text_of (outcome.Ran k turns) = run_text k turns
+text_of (outcome.Judged f) = finds.text_of f

@@ -1,6 +1,7 @@
 ghost use Rattle.std.specs.Prelude.{◌≡◌};
 ghost use Rattle.simulator.specs.Outcomes.{status_of, status_of_run};
 
+use check_program::Finding;
 use program_edges::Status;
 use sim_drive::Device;
 
@@ -15,6 +16,8 @@ pub enum Outcome {
     BadScript { line: u32, rule: u32 },
     /// A device after so many turns.
     Ran { device: Device, turns: u64 },
+    /// What was found in a script and the report behind it.
+    Judged(Finding),
 }
 
 impl Outcome {
@@ -28,6 +31,7 @@ impl Outcome {
             Outcome::ReadFault => Status::ReadFault,
             Outcome::BadScript { .. } => Status::BadScript,
             Outcome::Ran { device, .. } => status_of_run(device),
+            Outcome::Judged(finding) => finding.status(),
         }
     }
 }

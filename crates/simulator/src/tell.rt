@@ -6,6 +6,7 @@ ghost use Rattle.report_text.specs.WriteFault.{faults_after_writing};
 ghost use Rattle.simulator.specs.Outcomes.{help_text, run_text, text_of};
 
 use crate::outcome::Outcome;
+use check_program::write_finding;
 use io_edge::Sink;
 use program_edges::{write_bad_script, write_text};
 use report_text::{WriteFault, write_report};
@@ -99,5 +100,6 @@ pub fn write_outcome<K: Sink>(
         Outcome::ReadFault => write_text(b"read fault\n", sink),
         Outcome::BadScript { line, rule } => write_bad_script(alloc, *line, *rule, sink),
         Outcome::Ran { device, turns } => write_run(alloc, device, *turns, sink),
+        Outcome::Judged(finding) => write_finding(alloc, *finding, sink),
     }
 }

@@ -10,7 +10,6 @@ use crate::counts::write_counts;
 use crate::crowd::run_threads;
 use crate::drawn::read_drawn;
 use crate::launch::{Launch, read_launch};
-use check_program::check_top;
 use command_words::Words;
 use io_edge::{Sink, Source};
 use program_edges::{Status, status_after};
@@ -89,7 +88,7 @@ fn gen_top<R: Threads + Wait + Sync, K: Sink, G: Gate + Sync>(
     }
 }
 
-/// Does what the words ask, on threads where they ask for them, or with a verdict.
+/// Does what the words ask, on threads where they ask for them.
 pub fn ttm_top<R: Threads + Wait + Sync, S: Source, K: Sink, G: Gate + Sync>(
     rt: &R,
     alloc: Global,
@@ -105,7 +104,6 @@ pub fn ttm_top<R: Threads + Wait + Sync, S: Source, K: Sink, G: Gate + Sync>(
     match read_launch(words) {
         Some(Launch::Run) => run_top(rt, alloc, source, sink, gate),
         Some(Launch::Gen(number)) => gen_top(rt, alloc, number, sink, gate),
-        Some(Launch::Check) => check_top(alloc, source, sink),
         None => sim_top(alloc, words, source, sink),
     }
 }
