@@ -15,7 +15,7 @@ use Rattle.bo_table.proofs.Setting.{set_beyond}
 use Rattle.ttm_base.specs.declared.Loc.{Loc}
 use Rattle.ttm_base.specs.declared.Span.{Span}
 use Rattle.ttm_base.specs.declared.Mem.TheVariants.{System}
-use Rattle.fence_core.specs.resv_object.Reservations.{Reservation}
+use Rattle.resv_object.specs.Reservations.{Reservation}
 use Rattle.journal_model.specs.declared.state.Targets.{Targets}
 use Rattle.ttm_base.specs.declared.Loc.TheVariants as loc
 use Rattle.journal_model.specs.declared.script.Decl.{Decl}

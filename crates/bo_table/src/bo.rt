@@ -10,8 +10,8 @@ ghost use Rattle.journal_model.specs.ApplyMoves.{table_left};
 ghost use Rattle.bo_table.specs.Seen.{carried, IsDead, IsChanged, IsRegripped, IsReset, IsUsed};
 
 use crate::page_table::PageTable;
-use fence_core::resv_object::Resv;
 use journal_model::Targets;
+use resv_object::Resv;
 use std::alloc::Global;
 use ttm_base::{JobId, Loc, Mem, NoMemory, Spans, Stamp, Usage};
 

@@ -9,6 +9,7 @@ use Rattle.command_words.specs.declared.Form.TheVariants as form
 abbrev pub form_of_word : Text → Option Form
 form_of_word w =
     if bytes_eq w (codes "sim") then Some (form.Sim None)
+    else if bytes_eq w (codes "check") then Some form.Check
     else if bytes_eq w (codes "--help") then Some form.Help
     else if bytes_eq w (codes "--version") then Some form.Version
     else None

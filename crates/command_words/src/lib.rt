@@ -16,6 +16,8 @@ use ttm_base::{ItemList, NoMemory};
 pub enum Form {
     /// Run a script, with a limit of turns.
     Sim(Option<u64>),
+    /// Judge a report.
+    Check,
     Help,
     Version,
 }
@@ -93,6 +95,8 @@ fn form_of_one(word: &[u8]) -> Option<Form>
 {
     if is(word, b"sim") {
         Some(Form::Sim(None))
+    } else if is(word, b"check") {
+        Some(Form::Check)
     } else if is(word, b"--help") {
         Some(Form::Help)
     } else if is(word, b"--version") {

@@ -1,4 +1,3 @@
-pub mod resv_object
 pub mod Timelines
 pub mod Fences
 pub mod Sound

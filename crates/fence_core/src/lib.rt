@@ -2,7 +2,6 @@
 #![tactic(auto)]
 
 mod fence_set;
-pub mod resv_object;
 mod timeline;
 
 pub use fence_set::{FenceSet, Latest};

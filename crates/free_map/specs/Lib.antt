@@ -1,2 +1,1 @@
-pub mod page_pool
 pub mod Bits

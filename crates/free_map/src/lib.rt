@@ -11,7 +11,6 @@ use std::marker::Model;
 use ttm_base::NoMemory;
 
 mod bitmap;
-pub mod page_pool;
 mod words;
 
 /// For each number below a length whether it is held, seen as a list.

@@ -28,7 +28,7 @@ use Rattle.cpu_maps.specs.contracts.maps.CpuMaps as CpuMaps
 use Rattle.copy_packet.specs.contracts.stores.Stores as Stores
 use Rattle.fence_core.specs.contracts.timeline.Timeline as Timeline
 use Rattle.lru_bulk.specs.contracts.Lru as Lru
-use Rattle.free_map.specs.contracts.page_pool.PagePool as PagePool
+use Rattle.page_pool.specs.contracts.PagePool as PagePool
 use Rattle.swap_store.specs.contracts.SwapStore as SwapStore
 use Rattle.ttm_base.specs.contracts.item_list.ItemList as ItemList
 use Rattle.journal_model.specs.contracts.script.Script as Script

@@ -22,8 +22,8 @@ use Rattle.journal_model.specs.Next.{next}
 use Rattle.journal_model.specs.PageSteps.{first_frame_page, once_idle, step_of_empty, why_caught}
 use Rattle.journal_model.specs.Search.{Step}
 use Rattle.journal_model.specs.Tasks.{stage_of, task_of}
-use Rattle.room_device.specs.evict_core.Tasks.{lets_go}
-use Rattle.room_device.specs.swap_core.Due.{can_swap, if_for_swap, swap_out_due, swapped_at}
+use Rattle.evict_core.specs.Tasks.{lets_go}
+use Rattle.swap_core.specs.Due.{can_swap, if_for_swap, swap_out_due, swapped_at}
 use Rattle.room_state.specs.room_turns.Turns.{Kept, entry_of, state_behind}
 use Rattle.room_state.proofs.room_turns.Threads.{command_at, entry_is, next_at}
 

@@ -5,16 +5,15 @@ ghost use Rattle.journal_model.specs.Tasks.{stage_of, task_of};
 ghost use Rattle.room_state.specs.room_turns.Searching.{finds_choice};
 ghost use Rattle.room_state.specs.room_turns.Turns.{after_step, entry_of, state_behind, step_of};
 
-use crate::carries::{carry, untake};
-use crate::evict_core::{catch, dry, loose, skip};
-use crate::free::{hold, is_free_due};
-use crate::search::take_target;
-use crate::swap_core::{depopulate, fill, is_depopulate_due, is_swap_out_due, swap_out_page};
-use crate::validate_list::{act, lock, refuse, start};
+use evict_core::{catch, dry, loose, skip};
+use ghost_destroy::{hold, is_free_due};
 use journal_model::{Stage, Task};
+use move_pipeline::{carry, take_target, untake};
 use room_state::room_turns::{Rooms, Step};
 use std::alloc::Global;
+use swap_core::{depopulate, fill, is_depopulate_due, is_swap_out_due, swap_out_page};
 use ttm_base::{Need, NoMemory};
+use validate_list::{act, lock, refuse, start};
 
 /// A search that finds no pages catches a buffer to evict; without one, the place at work is dry.
 fn make_room(alloc: Global, rooms: &mut Rooms, thread: u32) -> Result<Step, NoMemory>

@@ -3,8 +3,8 @@ ghost use Rattle.ttm_base.specs.declared.Actor.TheVariants as actor;
 ghost use Rattle.room_state.specs.room_turns.Turns.{after_step, entry_of, step_of};
 
 use crate::engines::run;
-use crate::reaper::reap_first;
 use crate::threads::turn_of_thread;
+use ghost_destroy::reap_first;
 use room_state::room_turns::{Rooms, Step};
 use std::alloc::Global;
 use ttm_base::{Actor, Need, NoMemory};

@@ -4,7 +4,7 @@ ghost use Rattle.journal_model.specs.Places.{frame_of};
 ghost use Rattle.room_ties.specs.lemma_room_bytes.GivenBack.{given_back};
 ghost use Rattle.room_pages.specs.Tables.{AreHeldInTurn, frame_in};
 
-use free_map::page_pool::PagePool;
+use page_pool::PagePool;
 use ttm_base::Loc;
 
 /// Gives the frames of a page table back to the pool, in order.

@@ -5,9 +5,9 @@ use Rattle.report_text.specs.declared.report.WriteFault.{WriteFault}
 use Rattle.report_text.specs.declared.report.WriteFault.TheVariants as fault
 use Rattle.report_text.specs.WriteFault.{faults_after_writing}
 use Rattle.simulator.specs.declared.outcome.Outcome.{Outcome}
-use Rattle.simulator.specs.Edges.{Edge}
+use Rattle.program_edges.specs.Edges.{Edge}
 use Rattle.simulator.specs.Outcomes.{status_of, text_of}
-use Rattle.simulator.specs.Written.{status_after}
+use Rattle.program_edges.specs.Written.{status_after}
 use Rattle.simulator.specs.Ends.{EndsWith, told, broken, cut}
 
 pub ends_after : {T : Type 0} (comes : Outcome → Type 0) (source sink : Edge) (o : Outcome) (r : Result T WriteFault) → comes o

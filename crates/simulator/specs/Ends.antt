@@ -1,4 +1,4 @@
--- What the program promises of a run, for all words, sources and sinks.
+-- What the program promises of a run and of a verdict, for all words, sources and sinks.
 use Rattle.std.specs.Prelude.{◌≡◌, ℕ, true, Option, None, Some, min, unwrap_or}
 use Rattle.journal_model.specs.declared.script.Script.{Script}
 use Rattle.journal_model.specs.Legal.{IsLegal}
@@ -9,13 +9,15 @@ use Rattle.command_words.specs.declared.Form.TheVariants as form
 pub use Rattle.sim_drive.specs.Ends.{Kept}
 use Rattle.sim_drive.specs.Ends.{EndsAfter}
 pub use Rattle.law_legal.specs.KeepsLaws.{KeepsLaws}
-use Rattle.simulator.specs.declared.outcome.Status.{Status}
-use Rattle.simulator.specs.declared.outcome.Status.TheVariants as status
+use Rattle.program_edges.specs.declared.status.Status.{Status}
+use Rattle.program_edges.specs.declared.status.Status.TheVariants as status
 use Rattle.simulator.specs.declared.outcome.Outcome.{Outcome}
 use Rattle.simulator.specs.declared.outcome.Outcome.TheVariants as outcome
-use Rattle.simulator.specs.Edges.{Edge, IsUntouched, IsFaultless, IsWritten, IsBroken, IsCut, WasCutOff}
+use Rattle.program_edges.specs.Edges.{Edge, IsUntouched, IsFaultless, IsWritten, IsBroken, IsCut, WasCutOff}
 use Rattle.simulator.specs.Inputs.{GaveScript, GaveFault}
 use Rattle.simulator.specs.Outcomes.{status_of, text_of}
+use Rattle.check_program.specs.Finds.{Finds}
+use Rattle.check_program.specs.Ends.{EndsChecked}
 
 -- the turns that are allowed: those asked for, or the limit of the script, as far as 64 bits hold it
 abbrev pub allowed : Option ℕ → Script → ℕ
@@ -47,6 +49,12 @@ ComesSim turns source (outcome.Ran k taken) = HasRun source turns k taken
 ComesSim turns source outcome.Usage = ⊥
 ComesSim turns source outcome.Help = ⊥
 ComesSim turns source outcome.Version = ⊥
+ComesSim turns source (outcome.Judged f) = ⊥
+
+-- what a script and the report behind it come to
+abbrev pub ComesChecked : Edge → Outcome → Type 0
+ComesChecked source (outcome.Judged f) = Finds source f
+ComesChecked source o = ⊥
 
 -- what is asked and the source come to
 abbrev pub Comes : Option Form → Edge → Outcome → Type 0
@@ -54,6 +62,7 @@ Comes None source o = (o ≡ outcome.Usage) × IsUntouched source
 Comes (Some form.Help) source o = (o ≡ outcome.Help) × IsUntouched source
 Comes (Some form.Version) source o = (o ≡ outcome.Version) × IsUntouched source
 Comes (Some (form.Sim turns)) source o = ComesSim turns source o
+Comes (Some form.Check) source o = ComesChecked source o
 
 -- The status: that of the outcome where its text was written whole; else a write failed or memory ran out, and a front of the
 -- text was written, or nothing where memory ran out before there was an outcome.
@@ -77,7 +86,8 @@ IsWell asked o = Unit {0}
 abbrev pub ComesWell : Option Form → Edge → Outcome → Type 0
 ComesWell asked source o = Comes asked source o × IsWell asked o
 
--- how the simulator ends; never unfinished where no number of turns was asked for
+-- how the simulator ends; never unfinished where no number of turns was asked for, and with the verdict where one was asked for
 pub record Ends (asked : Option Form) (source sink : Edge) (s : Status) : Type 0 where
   pub ends : EndsWith (ComesWell asked source) source sink s
   pub finishes : asked ≡ Some (form.Sim None) → s ≡ status.Unfinished → ⊥
+  pub judges : asked ≡ Some form.Check → EndsChecked source sink s

@@ -6,7 +6,7 @@ use Rattle.journal_model.specs.FirstFault.{script_of, first_fault}
 use Rattle.journal_model.specs.ScriptRules.{IsScript}
 use Rattle.simulator.specs.declared.input.Input.{Input}
 use Rattle.simulator.specs.declared.input.Input.TheVariants as input
-use Rattle.simulator.specs.Edges.{Edge, WasReadWhole, WasReadTo, WasCutOff}
+use Rattle.program_edges.specs.Edges.{Edge, WasReadWhole, WasReadTo, WasCutOff}
 
 -- all bytes were read, and they are the spelling of the script
 pub record GaveScript (source : Edge) (script : Script) : Type 0 where

@@ -4,21 +4,12 @@ use Rattle.journal_model.specs.Words.{Text, line}
 use Rattle.journal_model.specs.Complete.{is_complete}
 use Rattle.journal_model.specs.ReportText.{report}
 use Rattle.sim_drive.specs.Ends.{Kept}
-use Rattle.simulator.specs.declared.outcome.Status.{Status}
-use Rattle.simulator.specs.declared.outcome.Status.TheVariants as status
+use Rattle.program_edges.specs.declared.status.Status.{Status}
+use Rattle.program_edges.specs.declared.status.Status.TheVariants as status
+use Rattle.program_edges.specs.Texts.{bad_script_text}
+use Rattle.check_program.specs.Finds as finds
 use Rattle.simulator.specs.declared.outcome.Outcome.{Outcome}
 use Rattle.simulator.specs.declared.outcome.Outcome.TheVariants as outcome
-
--- the exit status of the process
-abbrev pub code_of : Status → ℕ
-code_of status.Done = 0
-code_of status.Usage = 2
-code_of status.BadScript = 3
-code_of status.ReadFault = 4
-code_of status.WriteFault = 5
-code_of status.NoMemory = 6
-code_of status.Unfinished = 7
-code_of status.Rejected = 8
 
 -- of a device that has run
 abbrev pub status_of_run : Kept → Status
@@ -32,6 +23,7 @@ status_of outcome.Version = status.Done
 status_of outcome.ReadFault = status.ReadFault
 status_of (outcome.BadScript n rule) = status.BadScript
 status_of (outcome.Ran k turns) = status_of_run k
+status_of (outcome.Judged f) = finds.status_of f
 
 -- what --help says
 abbrev pub help_text : Text
@@ -52,10 +44,6 @@ help_text =
     ++ line (codes "5 (a write failed), 6 (no memory), 7 (not over after N turns) or 8 (the report isn't right)." ∷ [])
     ++ line (codes "Scripts and reports are described in docs/SPECIFICATION.md." ∷ [])
 
--- names the first broken line, and on it the least broken rule
-abbrev pub bad_script_text : ℕ → ℕ → Text
-bad_script_text n rule = codes "bad script: line " ++ decimal n ++ codes ", rule " ++ decimal rule ++ 10 ∷ []
-
 -- the report, behind a line that names the turns where it isn't complete
 abbrev pub run_text : Kept → ℕ → Text
 run_text k turns =
@@ -70,3 +58,4 @@ text_of outcome.Version = line (codes "ttm 0.1.0" ∷ [])
 text_of outcome.ReadFault = line (codes "read fault" ∷ [])
 text_of (outcome.BadScript n rule) = bad_script_text n rule
 text_of (outcome.Ran k turns) = run_text k turns
+text_of (outcome.Judged f) = finds.text_of f

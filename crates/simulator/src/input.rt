@@ -1,5 +1,5 @@
 ghost use Rattle.std.specs.Prelude.{◌≡◌, IfOk, OnErr};
-ghost use Rattle.simulator.specs.Edges.{Edge};
+ghost use Rattle.program_edges.specs.Edges.{Edge};
 ghost use Rattle.simulator.specs.Inputs.{Gave, Says};
 
 use io_edge::{ReadFault, Source, read_all};

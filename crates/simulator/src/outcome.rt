@@ -1,45 +1,9 @@
 ghost use Rattle.std.specs.Prelude.{◌≡◌};
-ghost use Rattle.simulator.specs.Outcomes.{code_of, status_of, status_of_run};
+ghost use Rattle.simulator.specs.Outcomes.{status_of, status_of_run};
 
+use check_program::Finding;
+use program_edges::Status;
 use sim_drive::Device;
-
-/// How a run of the program ended.
-#[derive(Clone, Copy, PartialEq, Eq)]
-pub enum Status {
-    /// All that was asked for was written.
-    Done,
-    /// The words ask for nothing that the program knows.
-    Usage,
-    /// The input is no script.
-    BadScript,
-    /// A read of the input failed.
-    ReadFault,
-    /// A write of the output failed.
-    WriteFault,
-    NoMemory,
-    /// The turns that were allowed are taken, and the journal isn't complete.
-    Unfinished,
-    /// The report isn't that of a legal, complete journal.
-    Rejected,
-}
-
-impl Status {
-    /// The exit status of the process.
-    pub fn code(self) -> u8
-        ensures { result ≡ code_of self }
-    {
-        match self {
-            Status::Done => 0,
-            Status::Usage => 2,
-            Status::BadScript => 3,
-            Status::ReadFault => 4,
-            Status::WriteFault => 5,
-            Status::NoMemory => 6,
-            Status::Unfinished => 7,
-            Status::Rejected => 8,
-        }
-    }
-}
 
 /// What words and input come to, before anything is written.
 #[derive(Drop)]
@@ -52,6 +16,8 @@ pub enum Outcome {
     BadScript { line: u32, rule: u32 },
     /// A device after so many turns.
     Ran { device: Device, turns: u64 },
+    /// What was found in a script and the report behind it.
+    Judged(Finding),
 }
 
 impl Outcome {
@@ -65,6 +31,7 @@ impl Outcome {
             Outcome::ReadFault => Status::ReadFault,
             Outcome::BadScript { .. } => Status::BadScript,
             Outcome::Ran { device, .. } => status_of_run(device),
+            Outcome::Judged(finding) => finding.status(),
         }
     }
 }

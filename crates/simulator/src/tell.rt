@@ -3,10 +3,12 @@ ghost use Rattle.io_edge.specs.Written.{Writes};
 ghost use Rattle.journal_model.specs.Words.{line as line_of};
 ghost use Rattle.journal_model.specs.ReportText.{report};
 ghost use Rattle.report_text.specs.WriteFault.{faults_after_writing};
-ghost use Rattle.simulator.specs.Outcomes.{bad_script_text, help_text, run_text, text_of};
+ghost use Rattle.simulator.specs.Outcomes.{help_text, run_text, text_of};
 
 use crate::outcome::Outcome;
-use io_edge::{Sink, write_all};
+use check_program::write_finding;
+use io_edge::Sink;
+use program_edges::{write_bad_script, write_text};
 use report_text::{WriteFault, write_report};
 use sim_drive::Device;
 use std::alloc::Global;
@@ -29,39 +31,10 @@ The exit status is 0 (done), 2 (unknown words), 3 (the input is no script), 4 (a
 Scripts and reports are described in docs/SPECIFICATION.md.
 ";
 
-fn bad_script_line(alloc: Global, line: u32, rule: u32) -> Result<String, NoMemory>
-    ensures { IfOk result (λ text. string_bytes text ≡ bad_script_text line rule) }
-{
-    Ok(format!(in alloc; "bad script: line {line}, rule {rule}\n")?)
-}
-
 fn unfinished_line(alloc: Global, turns: u64) -> Result<String, NoMemory>
     ensures { IfOk result (λ text. string_bytes text ≡ line_of (codes "unfinished" ∷ decimal turns ∷ [])) }
 {
     Ok(format!(in alloc; "unfinished {turns}\n")?)
-}
-
-/// Writes a text as one piece.
-pub fn write_text<K: Sink>(text: &[u8], sink: &mut K) -> Result<(), WriteFault>
-    ensures text { Writes result (K.written sink.old) (K.written sink.new) text.now }
-    ensures faults { K.faults sink.new ≡ faults_after_writing result (K.faults sink.old) }
-{
-    write_all(sink, text)?;
-    Ok(())
-}
-
-/// Writes the line that names the first broken line of a script and the rule.
-pub fn write_bad_script<K: Sink>(
-    alloc: Global,
-    line: u32,
-    rule: u32,
-    sink: &mut K,
-) -> Result<(), WriteFault>
-    ensures text { Writes result (K.written sink.old) (K.written sink.new) (bad_script_text line rule) }
-    ensures faults { K.faults sink.new ≡ faults_after_writing result (K.faults sink.old) }
-{
-    let text = bad_script_line(alloc, line, rule)?;
-    write_text(text.as_bytes(), sink)
 }
 
 fn write_unfinished<K: Sink>(alloc: Global, turns: u64, sink: &mut K) -> Result<(), WriteFault>
@@ -127,5 +100,6 @@ pub fn write_outcome<K: Sink>(
         Outcome::ReadFault => write_text(b"read fault\n", sink),
         Outcome::BadScript { line, rule } => write_bad_script(alloc, *line, *rule, sink),
         Outcome::Ran { device, turns } => write_run(alloc, device, *turns, sink),
+        Outcome::Judged(finding) => write_finding(alloc, *finding, sink),
     }
 }

@@ -3,17 +3,18 @@ ghost use Rattle.journal_model.specs.ScriptRules.{is_script};
 ghost use Rattle.io_edge.specs.Written.{Writes};
 ghost use Rattle.command_words.specs.Forms.{form_of};
 ghost use Rattle.report_text.specs.WriteFault.{faults_after_writing};
-ghost use Rattle.simulator.specs.Edges.{Edge, IsUntouched};
-ghost use Rattle.simulator.specs.Ends.{Comes, ComesSim, ComesRun, Ends};
+ghost use Rattle.program_edges.specs.Edges.{Edge, IsUntouched};
+ghost use Rattle.simulator.specs.Ends.{Comes, ComesChecked, ComesSim, ComesRun, Ends};
 ghost use Rattle.simulator.specs.Outcomes.{text_of};
-ghost use Rattle.simulator.specs.Written.{status_after};
 
 use crate::input::{Input, read_input};
-use crate::outcome::{Outcome, Status};
+use crate::outcome::Outcome;
 use crate::tell::write_outcome;
+use check_program::read_finding;
 use command_words::{Form, Words, read_words};
 use io_edge::{Sink, Source};
 use journal_model::Script;
+use program_edges::{Status, status_after};
 use report_text::WriteFault;
 use sim_drive::{Device, drive, turn_limit};
 use std::alloc::Global;
@@ -47,6 +48,15 @@ fn simulate<S: Source>(
     }
 }
 
+/// Reads a script and the report behind it, and judges it.
+fn judge<S: Source>(alloc: Global, source: &mut S) -> Result<Outcome, NoMemory>
+    ensures comes { IfOk result (ComesChecked (record { before = S.left source.old; after = S.left source.new; faults_before = S.faults source.old; faults_after = S.faults source.new })) }
+    ensures faults { OnErr result (S.faults source.new ≡ S.faults source.old) }
+{
+    let finding = read_finding(alloc, source)?;
+    Ok(Outcome::Judged(finding))
+}
+
 /// What the words and the source come to.
 fn outcome_of<S: Source>(alloc: Global, words: &Words, source: &mut S) -> Result<Outcome, NoMemory>
     ensures comes { IfOk result (Comes (form_of words.now) (record { before = S.left source.old; after = S.left source.new; faults_before = S.faults source.old; faults_after = S.faults source.new })) }
@@ -57,17 +67,7 @@ fn outcome_of<S: Source>(alloc: Global, words: &Words, source: &mut S) -> Result
         Some(Form::Help) => Ok(Outcome::Help),
         Some(Form::Version) => Ok(Outcome::Version),
         Some(Form::Sim(turns)) => simulate(alloc, turns, source),
-    }
-}
-
-/// The status after the text of an outcome was written.
-pub fn status_after(status: Status, written: Result<(), WriteFault>) -> Status
-    ensures { result ≡ status_after status written }
-{
-    match written {
-        Ok(()) => status,
-        Err(WriteFault::Failed) => Status::WriteFault,
-        Err(WriteFault::NoMemory) => Status::NoMemory,
+        Some(Form::Check) => judge(alloc, source),
     }
 }
 
@@ -100,7 +100,8 @@ pub fn tell_outcome<S: Source, K: Sink>(
     Ok(Told { outcome, written })
 }
 
-/// Does what the words ask: runs the script that the source gives, and writes the report of what it did to the sink.
+/// Does what the words ask: runs the script that the source gives and writes the report of what it did to the sink, or judges the report that
+/// follows the script and writes the verdict.
 pub fn sim_top<S: Source, K: Sink>(
     alloc: Global,
     words: &Words,

@@ -1,7 +1,7 @@
 ghost use Rattle.std.specs.Prelude.{◌≡◌, slice_set, true};
 
 use free_map::FreeMap;
-use free_map::page_pool::PagePool;
+use page_pool::PagePool;
 use std::process::Abort;
 
 /// The number is the lowest free one, and is taken.

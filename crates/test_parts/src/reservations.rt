@@ -1,6 +1,6 @@
 use crate::fences::emitted;
 use fence_core::Timeline;
-use fence_core::resv_object::Resv;
+use resv_object::Resv;
 use std::process::Abort;
 use ttm_base::{JobId, Stamp, Usage};
 

@@ -17,9 +17,9 @@ use Rattle.laws.proofs.law_over.Totals.{number_of, sum_same, all_answered}
 use Rattle.plain_memory.specs.Along as words
 use Rattle.plain_memory.specs.Mismatches.{mismatches_of}
 use Rattle.generated_load.specs.Loads.{IsLoad, load_script}
-use Rattle.simulator.specs.declared.outcome.Status.TheVariants as status
-use Rattle.simulator.specs.Edges.{Edge}
-use Rattle.simulator.specs.Written.{status_after}
+use Rattle.program_edges.specs.declared.status.Status.TheVariants as status
+use Rattle.program_edges.specs.Edges.{Edge}
+use Rattle.program_edges.specs.Written.{status_after}
 use Rattle.plain_memory.proofs.AlongLaws.{transparent_has_none}
 use Rattle.thread_program.specs.declared.counts.Counts.{Counts}
 use Rattle.thread_program.specs.Ran.{IsThreaded}

@@ -3,9 +3,9 @@ use Rattle.std.specs.Prelude.{◌≡◌, ℕ, [], ◌∷◌, ◌++◌, codes, de
 use Rattle.journal_model.specs.Words.{Text, line}
 use Rattle.simulator.specs.Ends.{Kept}
 use Rattle.generated_load.specs.Loads.{IsLoad, load_script}
-use Rattle.simulator.specs.declared.outcome.Status.{Status}
-use Rattle.simulator.specs.declared.outcome.Status.TheVariants as status
-use Rattle.simulator.specs.Edges.{Edge, IsUntouched, IsWritten, IsBroken, IsCut}
+use Rattle.program_edges.specs.declared.status.Status.{Status}
+use Rattle.program_edges.specs.declared.status.Status.TheVariants as status
+use Rattle.program_edges.specs.Edges.{Edge, IsUntouched, IsWritten, IsBroken, IsCut}
 use Rattle.thread_program.specs.declared.counts.Counts.{Counts}
 use Rattle.thread_program.specs.Ran.{IsThreaded}
 

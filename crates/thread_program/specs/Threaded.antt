@@ -4,14 +4,13 @@ use Rattle.journal_model.specs.declared.script.Script.{Script}
 use Rattle.simulator.specs.Ends.{Kept}
 use Rattle.simulator.specs.declared.outcome.Outcome.{Outcome}
 use Rattle.simulator.specs.declared.outcome.Outcome.TheVariants as outcome
-use Rattle.simulator.specs.Edges.{Edge, IsUntouched, WasCutOff}
+use Rattle.program_edges.specs.Edges.{Edge, IsUntouched, WasCutOff}
 use Rattle.simulator.specs.Inputs.{GaveScript, GaveFault}
 use Rattle.simulator.specs.Ends.{Comes, EndsWith, Ends}
 use Rattle.command_words.specs.declared.Form.{Form}
-use Rattle.simulator.specs.declared.outcome.Status.{Status}
+use Rattle.program_edges.specs.declared.status.Status.{Status}
 use Rattle.thread_program.specs.declared.launch.Launch.{Launch}
 use Rattle.thread_program.specs.declared.launch.Launch.TheVariants as launch
-use Rattle.simulator.specs.check_program.Ends.{EndsChecked}
 use Rattle.thread_program.specs.Counted.{EndsCounted}
 use Rattle.thread_program.specs.Ran.{IsThreaded}
 
@@ -29,10 +28,10 @@ ComesThreaded source (outcome.Ran k turns) = HasThreaded source k
 ComesThreaded source outcome.Usage = ⊥
 ComesThreaded source outcome.Help = ⊥
 ComesThreaded source outcome.Version = ⊥
+ComesThreaded source (outcome.Judged f) = ⊥
 
--- how the program ends: on threads or with a verdict where the words ask for that, and else as the simulator
+-- how the program ends: on threads where the words ask for them, and else as the simulator
 abbrev pub Launched : Option Launch → Option Form → Edge → Edge → Status → Type 0
 Launched (Some launch.Run) asked source sink s = EndsWith (ComesThreaded source) source sink s
 Launched (Some (launch.Gen n)) asked source sink s = IsUntouched source × EndsCounted n sink s
-Launched (Some launch.Check) asked source sink s = EndsChecked source sink s
 Launched None asked source sink s = Ends asked source sink s

@@ -9,8 +9,9 @@ ghost use Rattle.thread_program.specs.Ran.{IsThreaded};
 use io_edge::Sink;
 use itoa::Buffer;
 use plain_memory::{answers, command_count, mismatches};
+use program_edges::write_text;
 use report_text::WriteFault;
-use simulator::{Device, write_text};
+use simulator::Device;
 use std::alloc::Global;
 use ttm_base::NoMemory;
 

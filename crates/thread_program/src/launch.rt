@@ -11,8 +11,6 @@ pub enum Launch {
     Run,
     /// Draw a script from the number, and run it.
     Gen(u64),
-    /// Judge a report.
-    Check,
 }
 
 /// What the words ask beside the simulator, if they do.
@@ -21,7 +19,6 @@ pub fn read_launch(words: &Words) -> Option<Launch>
 {
     match words.items() {
         [word] if is(word.items(), b"run") => Some(Launch::Run),
-        [word] if is(word.items(), b"check") => Some(Launch::Check),
         [word, number] if is(word.items(), b"gen") => {
             plain_number(number.items()).map(Launch::Gen)
         }

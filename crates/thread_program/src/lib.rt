@@ -12,5 +12,5 @@ pub use actors::actors_of;
 pub use counts::Counts;
 pub use crowd::run_threads;
 pub use launch::{Launch, read_launch};
-pub use simulator::Status;
+pub use program_edges::Status;
 pub use top::ttm_top;

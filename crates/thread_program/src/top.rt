@@ -1,6 +1,6 @@
 ghost use Rattle.std.specs.Prelude.{◌≡◌, IfOk, OnErr};
 ghost use Rattle.command_words.specs.Forms.{form_of};
-ghost use Rattle.simulator.specs.Edges.{Edge};
+ghost use Rattle.program_edges.specs.Edges.{Edge};
 ghost use Rattle.simulator.specs.Ends.{EndsWith};
 ghost use Rattle.thread_program.specs.Counted.{EndsCounted, HasRunLoad};
 ghost use Rattle.thread_program.specs.Launches.{launch_of};
@@ -12,8 +12,8 @@ use crate::drawn::read_drawn;
 use crate::launch::{Launch, read_launch};
 use command_words::Words;
 use io_edge::{Sink, Source};
-use simulator::check_program::check_top;
-use simulator::{Device, Input, Outcome, Status, read_input, sim_top, status_after, write_outcome};
+use program_edges::{Status, status_after};
+use simulator::{Device, Input, Outcome, read_input, sim_top, write_outcome};
 use std::alloc::Global;
 use std::sync::Wait;
 use std::thread::Threads;
@@ -88,7 +88,7 @@ fn gen_top<R: Threads + Wait + Sync, K: Sink, G: Gate + Sync>(
     }
 }
 
-/// Does what the words ask, on threads where they ask for them, or with a verdict.
+/// Does what the words ask, on threads where they ask for them.
 pub fn ttm_top<R: Threads + Wait + Sync, S: Source, K: Sink, G: Gate + Sync>(
     rt: &R,
     alloc: Global,
@@ -104,7 +104,6 @@ pub fn ttm_top<R: Threads + Wait + Sync, S: Source, K: Sink, G: Gate + Sync>(
     match read_launch(words) {
         Some(Launch::Run) => run_top(rt, alloc, source, sink, gate),
         Some(Launch::Gen(number)) => gen_top(rt, alloc, number, sink, gate),
-        Some(Launch::Check) => check_top(alloc, source, sink),
         None => sim_top(alloc, words, source, sink),
     }
 }

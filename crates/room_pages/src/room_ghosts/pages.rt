@@ -3,7 +3,7 @@ ghost use Rattle.journal_model.specs.Places.{slot_of};
 ghost use Rattle.room_ties.specs.lemma_room_bytes.GivenBack.{given_back};
 ghost use Rattle.room_pages.specs.room_ghosts.InTurn.{AreHeldInTurn, AreHeldAlong};
 
-use free_map::page_pool::PagePool;
+use page_pool::PagePool;
 use swap_store::SwapStore;
 use ttm_base::Loc;
 

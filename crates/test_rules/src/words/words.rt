@@ -22,6 +22,8 @@ const ROWS: &[(&[&str], Option<Form>)] = &[
     (&["sim", "--turns", "18446744073709551616"], None),
     (&["sim", "--turns", "012"], None),
     (&["sim", "--turns"], None),
+    (&["check"], Some(Form::Check)),
+    (&["check", "1"], None),
     (&["--help"], Some(Form::Help)),
     (&["--version"], Some(Form::Version)),
     (&["Sim"], None),

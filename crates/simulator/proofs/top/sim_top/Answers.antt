@@ -1,9 +1,9 @@
 use Rattle.std.proofs.Common.{sym, ◌∙◌, ap, subst}
 use Rattle.command_words.specs.Forms.{form_of}
-use Rattle.simulator.specs.declared.outcome.Status.{Status}
-use Rattle.simulator.specs.Edges.{Edge}
+use Rattle.program_edges.specs.declared.status.Status.{Status}
+use Rattle.program_edges.specs.Edges.{Edge}
 use Rattle.simulator.specs.Ends.{ComesWell, Ends, nothing}
-use Rattle.simulator.specs.Written.{status_after}
+use Rattle.program_edges.specs.Written.{status_after}
 use Rattle.simulator.proofs.EndLaws.{ends_after}
 use Rattle.simulator.proofs.RunLaws.{well, ends_well}
 use Rattle.simulator.proofs.top.sim_top.Goals as goal

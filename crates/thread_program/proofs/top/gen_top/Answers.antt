@@ -1,6 +1,6 @@
 use Rattle.std.proofs.Common.{refl, sym, subst}
-use Rattle.simulator.specs.declared.outcome.Status.{Status}
-use Rattle.simulator.specs.Edges.{Edge}
+use Rattle.program_edges.specs.declared.status.Status.{Status}
+use Rattle.program_edges.specs.Edges.{Edge}
 use Rattle.thread_program.specs.Counted.{EndsCounted, nothing}
 use Rattle.thread_program.proofs.CountLaws.{ends_counted}
 use Rattle.thread_program.proofs.top.gen_top.Goals as goal

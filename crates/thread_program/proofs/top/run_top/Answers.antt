@@ -1,8 +1,8 @@
 use Rattle.std.proofs.Common.{refl, sym, ◌∙◌, ap, subst}
-use Rattle.simulator.specs.declared.outcome.Status.{Status}
-use Rattle.simulator.specs.Edges.{Edge}
+use Rattle.program_edges.specs.declared.status.Status.{Status}
+use Rattle.program_edges.specs.Edges.{Edge}
 use Rattle.simulator.specs.Ends.{EndsWith, nothing}
-use Rattle.simulator.specs.Written.{status_after}
+use Rattle.program_edges.specs.Written.{status_after}
 use Rattle.simulator.proofs.EndLaws.{ends_after}
 use Rattle.thread_program.specs.Threaded.{ComesThreaded}
 use Rattle.thread_program.proofs.top.run_top.Goals as goal

@@ -1,0 +1,14 @@
+//! Laws on what `check` tells, each as the contract of a function that does nothing.
+
+ghost use Rattle.check_program.specs.Exact.{ReportsAreValid, VerdictsAreExact};
+
+/// By what is promised of the word `check` (`EndsChecked`): where no read or write fails and memory suffices, it tells that bytes are a script and a
+/// valid report exactly where they are, and where they aren't, the one entry and the one rule.
+pub fn verdicts_are_exact()
+    ensures { VerdictsAreExact }
+{}
+
+/// Where no read or write fails and memory suffices, it tells that a script with the report of a legal, complete journal behind it is valid.
+pub fn reports_are_valid()
+    ensures { ReportsAreValid }
+{}

@@ -1,0 +1,18 @@
+use Rattle.std.proofs.Common.{◌≡◌, ◌∙◌, ap}
+use Rattle.std.specs.Prelude.{option_map}
+use Rattle.journal_model.specs.declared.script.Script.{Script}
+use Rattle.journal_model.specs.Choice.{reach_of}
+use Rattle.room_state.specs.room_turns.Turns.{state_behind}
+use Rattle.room_ties.specs.declared.parts.Ghost.{Ghost}
+use Rattle.evict_core.specs.Rows.{ghost_in}
+use Rattle.evict_core.proofs.Rows.{ghost_same}
+use Rattle.evict_core.proofs.keepers.ghost_in.Goals as goal
+
+pub returns : goal.returns
+returns c =
+    let r = c.args.rooms.now in
+    let s = state_behind r in
+    let reached : c.reach_of.result ≡ reach_of r.script c.args.place = c.reach_of.ensures ∙ ap (λ (x : Script). reach_of x c.args.place) c.script.ensures.script in
+    c.number_in.ensures
+    ∙ ap (λ w. option_map (λ (g : Ghost). g.num) (ghost_in c.args.place.mem w c.ghosts.result.now)) reached
+    ∙ ghost_same s.core.jobs s.last_jobs c.args.place.mem (reach_of r.script c.args.place) s.core.ghosts c.ghosts.result.now c.ghosts.ensures

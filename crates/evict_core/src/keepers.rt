@@ -1,0 +1,108 @@
+ghost use Rattle.std.specs.Prelude.{◌≡◌, IfOk, option_map};
+ghost use Rattle.journal_model.specs.Dry as words;
+ghost use Rattle.bo_table.specs.Seen.{grip_of};
+ghost use Rattle.room_state.specs.room_turns.Turns.{state_behind};
+ghost use Rattle.evict_core.specs.Rows as rows_of;
+
+use bo_table::Bo;
+use journal_model::{Cause, CauseRow, Causes, Script};
+use room_state::room_turns::Rooms;
+use room_ties::Ghost;
+use state_words::{intersects, reach_of, same_mem, target_of};
+use std::alloc::Global;
+use ttm_base::{BufId, Mem, NoMemory, Place, Span};
+
+/// The spans of a ghost in a memory type.
+fn ghost_spans(mem: Mem, left: &Ghost) -> &[Span]
+    ensures { result.now ≡ rows_of.ghost_spans mem left.now }
+{
+    match mem {
+        Mem::System => &[],
+        Mem::Tt => left.tt.items(),
+        Mem::Vram => left.vram.items(),
+    }
+}
+
+/// A ghost holds pages of a memory type.
+fn holds_in(mem: Mem, within: Span, left: &Ghost) -> bool
+    ensures { result ≡ rows_of.holds_in mem within left.now }
+{
+    intersects(ghost_spans(mem, left), within)
+}
+
+/// The number of the first ghost that holds such pages.
+fn number_in(ghosts: &[Ghost], mem: Mem, within: Span) -> Option<u64>
+    ensures { result ≡ option_map (λ g. g.num) (rows_of.ghost_in mem within ghosts.now) }
+{
+    match ghosts.iter().find(|g| holds_in(mem, within, g)) {
+        Some(left) => Some(left.num),
+        None => None,
+    }
+}
+
+/// The number of the first ghost that holds a page that the place reaches.
+pub(crate) fn ghost_in(rooms: &Rooms, place: Place) -> Option<u64>
+    ensures { result ≡ option_map (λ g. g.num) (words.ghost_in rooms.now.script (state_behind rooms.now) place) }
+{
+    number_in(rooms.ghosts(), place.mem, reach_of(rooms.script(), place))
+}
+
+/// Why a buffer can't be evicted: the first cause that holds.
+fn cause_of(script: &Script, place: Place, bo: &Bo) -> Cause
+    ensures { result ≡ words.cause_of script.now place (grip_of bo.now) (rows_of.buffer_of bo.now) }
+{
+    if bo.pins > 0 {
+        return Cause::Pinned;
+    }
+    match bo.resv.holder() {
+        Some(stamp) => Cause::Reserved(stamp),
+        None => {
+            if intersects(bo.spans.items(), reach_of(script, place)) {
+                Cause::Skipped
+            } else {
+                Cause::Outside
+            }
+        }
+    }
+}
+
+/// A live buffer has its resource or a target in the place's manager.
+fn is_kept_in(place: Place, bo: &Bo) -> bool
+    ensures { result ≡ rows_of.is_kept_in place bo.now }
+{
+    bo.alive && (same_mem(bo.mem, place.mem) || target_of(place.mem, &bo.targets).is_some())
+}
+
+/// The cause of such a buffer.
+fn row_in(script: &Script, place: Place, b: BufId, bo: &Bo) -> Option<CauseRow>
+    ensures { result ≡ rows_of.row_in script.now place b bo.now }
+{
+    if is_kept_in(place, bo) {
+        Some(CauseRow {
+            b,
+            cause: cause_of(script, place, bo),
+        })
+    } else {
+        None
+    }
+}
+
+/// Each live buffer with its resource or a target in the place's manager, in declared order, with the cause.
+///
+/// # Errors
+///
+/// Want of memory.
+pub(crate) fn causes(alloc: Global, rooms: &Rooms, place: Place) -> Result<Causes, NoMemory>
+    ensures { IfOk result (λ rows. rows ≡ words.causes rooms.now.script (state_behind rooms.now) place) }
+{
+    let _legal = rooms.journal();
+    let bos = rooms.bos();
+    let mut rows = Causes::new(alloc);
+    for i in 0..bos.len() {
+        let b = BufId(i as u32);
+        if let Some(row) = row_in(rooms.script(), place, b, bos.get(b)) {
+            rows.push(row)?;
+        }
+    }
+    Ok(rows)
+}

@@ -1,0 +1,151 @@
+ghost use Rattle.std.specs.Prelude.{◌≡◌, Ok, true, false, None, Some, IfOk, OnOk, OnErr, is_some};
+ghost use Rattle.ttm_base.specs.declared.Actor.TheVariants as actor;
+ghost use Rattle.journal_model.specs.declared.entry.Kind.TheVariants as kind_words;
+ghost use Rattle.journal_model.specs.declared.state.Stage.TheVariants as stage;
+ghost use Rattle.journal_model.specs.Tasks.{stage_of, task_of};
+ghost use Rattle.journal_model.specs.Search as words;
+ghost use Rattle.room_state.specs.room_turns.Turns.{state_behind};
+ghost use Rattle.room_state.specs.declared.room_turns.Step.TheVariants as step_words;
+ghost use Rattle.room_state.specs.room_turns.Searching.{finds_choice, hunt_of, victim_of};
+ghost use Rattle.room_state.specs.room_turns.Turns.{after_step, entry_of, step_of};
+ghost use Rattle.room_state.specs.room_turns.Hunts.{seen};
+ghost use Rattle.evict_core.specs.Tasks.{is_skip, lets_go};
+
+use crate::keepers::{causes, ghost_in};
+use crate::victims::{is_long_enough, victim};
+use journal_model::{DryWhy, Kind, Task, Why};
+use room_state::room_turns::{Hunt, Rooms, Step, hunt_at_work, make, place_at_work};
+use std::alloc::Global;
+use ttm_base::{Actor, BufId, Mem, Need, NoMemory};
+
+/// For what a victim of a place is caught.
+fn why_of(mem: Mem) -> Why
+    ensures { result ≡ words.why_of mem }
+{
+    match mem {
+        Mem::Vram => Why::Vram,
+        Mem::Tt => Why::Tt,
+        Mem::System => Why::Swap,
+    }
+}
+
+/// The buffer that is evicted for a search.
+fn victim_for(rooms: &Rooms, thread: u32, hunt: Hunt) -> Option<BufId>
+    requires { hunt_of rooms.now.script (state_behind rooms.now) thread ≡ Some (seen rooms.now.script hunt) }
+    ensures { result ≡ victim_of rooms.now.script (state_behind rooms.now) thread }
+{
+    let place = place_at_work(rooms.script(), hunt);
+    if !is_long_enough(rooms.script(), hunt.b, place) {
+        return None;
+    }
+    victim(rooms, rooms.course(thread).skips.items(), place)
+}
+
+/// The buffer that is evicted for a thread's search: none where the forced place at work is shorter than the buffer that looks for pages, or
+/// where no buffer in it may be evicted. Takes time by the lists of the place's memory type up to the first that may be, by the spans of their buffers, and
+/// by the buffers that were skipped.
+pub fn next_victim(rooms: &Rooms, thread: u32) -> Option<BufId>
+    requires { stage_of (task_of rooms.now.script (state_behind rooms.now) thread) ≡ stage.Search }
+    ensures { result ≡ victim_of rooms.now.script (state_behind rooms.now) thread }
+{
+    victim_for(rooms, thread, hunt_at_work(rooms, thread))
+}
+
+/// Catches the buffer that is evicted for a thread's search; false where there is none.
+///
+/// # Errors
+///
+/// Want of memory; nothing is changed.
+pub fn catch(rooms: &mut Rooms, thread: u32) -> Result<bool, NoMemory>
+    requires stage { stage_of (task_of rooms.old.script (state_behind rooms.old) thread) ≡ stage.Search }
+    requires none { finds_choice rooms.old.script (state_behind rooms.old) thread ≡ false }
+    ensures caught { IfOk result (λ caught. caught ≡ is_some (victim_of rooms.old.script (state_behind rooms.old) thread)) }
+    ensures made { result ≡ Ok true → rooms.new ≡ after_step rooms.old (entry_of rooms.old (actor.Thread thread)) }
+    ensures step { result ≡ Ok true → step_of (entry_of rooms.old (actor.Thread thread)) ≡ step_words.Made }
+    ensures none { result ≡ Ok false → rooms.new ≡ rooms.old }
+    ensures err { OnErr result (rooms.new ≡ rooms.old) }
+{
+    let hunt = hunt_at_work(rooms, thread);
+    let Some(v) = victim_for(rooms, thread, hunt) else {
+        return Ok(false);
+    };
+    let why = why_of(place_at_work(rooms.script(), hunt).mem);
+    make(rooms, Actor::Thread(thread), Kind::Catch { b: v, why })?;
+    Ok(true)
+}
+
+/// Makes the entry that the forced place at work of a search is dry.
+fn make_dry(rooms: &mut Rooms, thread: u32, hunt: Hunt, why: DryWhy) -> Result<Step, NoMemory>
+    requires { entry_of rooms.old (actor.Thread thread) ≡ Ok (record { who = actor.Thread thread; kind = kind_words.Dry hunt.b hunt.dry why }) }
+    ensures step { IfOk result (λ step. step ≡ step_of (entry_of rooms.old (actor.Thread thread))) }
+    ensures made { OnOk result (rooms.new ≡ after_step rooms.old (entry_of rooms.old (actor.Thread thread))) }
+    ensures err { OnErr result (rooms.new ≡ rooms.old) }
+{
+    let kind = Kind::Dry {
+        b: hunt.b,
+        k: hunt.dry,
+        why,
+    };
+    make(rooms, Actor::Thread(thread), kind)
+}
+
+/// Tells that the forced place at work of a thread's search is dry: it is shorter than the buffer, or each buffer in its memory type has a cause
+/// for which it isn't evicted. Where a ghost holds pages of it, the thread waits for the first such ghost.
+///
+/// # Errors
+///
+/// Want of memory; nothing is changed.
+pub fn dry(alloc: Global, rooms: &mut Rooms, thread: u32) -> Result<Step, NoMemory>
+    requires stage { stage_of (task_of rooms.old.script (state_behind rooms.old) thread) ≡ stage.Search }
+    requires none { finds_choice rooms.old.script (state_behind rooms.old) thread ≡ false }
+    requires nobody { victim_of rooms.old.script (state_behind rooms.old) thread ≡ None }
+    ensures step { IfOk result (λ step. step ≡ step_of (entry_of rooms.old (actor.Thread thread))) }
+    ensures made { OnOk result (rooms.new ≡ after_step rooms.old (entry_of rooms.old (actor.Thread thread))) }
+    ensures err { OnErr result (rooms.new ≡ rooms.old) }
+{
+    let hunt = hunt_at_work(rooms, thread);
+    let place = place_at_work(rooms.script(), hunt);
+    if !is_long_enough(rooms.script(), hunt.b, place) {
+        return make_dry(rooms, thread, hunt, DryWhy::Short);
+    }
+    if let Some(g) = ghost_in(rooms, place) {
+        return Ok(Step::Need(Need::Ghost(g)));
+    }
+    let rows = causes(alloc, rooms, place)?;
+    make_dry(rooms, thread, hunt, DryWhy::Of(rows))
+}
+
+/// Passes over a victim that found no room, when it has neither frame nor target left: its command tries it no more.
+///
+/// # Errors
+///
+/// Want of memory; nothing is changed.
+pub fn skip(rooms: &mut Rooms, thread: u32) -> Result<Step, NoMemory>
+    requires { is_skip (task_of rooms.old.script (state_behind rooms.old) thread) ≡ true }
+    ensures step { IfOk result (λ step. step ≡ step_of (entry_of rooms.old (actor.Thread thread))) }
+    ensures made { OnOk result (rooms.new ≡ after_step rooms.old (entry_of rooms.old (actor.Thread thread))) }
+    ensures err { OnErr result (rooms.new ≡ rooms.old) }
+{
+    match rooms.task(thread) {
+        Task::Skip(b) => make(rooms, Actor::Thread(thread), Kind::Skip { b }),
+        _ => unreachable!(),
+    }
+}
+
+/// Lets a victim go with which nothing is left to do.
+///
+/// # Errors
+///
+/// Want of memory; nothing is changed.
+pub fn loose(rooms: &mut Rooms, thread: u32) -> Result<Step, NoMemory>
+    requires stage { stage_of (task_of rooms.old.script (state_behind rooms.old) thread) ≡ stage.Empty }
+    requires goes { lets_go (entry_of rooms.old (actor.Thread thread)) ≡ true }
+    ensures step { IfOk result (λ step. step ≡ step_of (entry_of rooms.old (actor.Thread thread))) }
+    ensures made { OnOk result (rooms.new ≡ after_step rooms.old (entry_of rooms.old (actor.Thread thread))) }
+    ensures err { OnErr result (rooms.new ≡ rooms.old) }
+{
+    match rooms.task(thread) {
+        Task::Empty(b) => make(rooms, Actor::Thread(thread), Kind::Loose { b }),
+        _ => unreachable!(),
+    }
+}

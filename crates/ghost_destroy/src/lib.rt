@@ -1,0 +1,8 @@
+//! Buffers that are freed: held until their jobs are done, and reaped. Each call makes the one entry that its actor makes next, or says what it needs first.
+#![tactic(auto)]
+
+mod free;
+mod reaper;
+
+pub use free::{hold, is_free_due};
+pub use reaper::reap_first;

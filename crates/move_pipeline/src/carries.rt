@@ -1,0 +1,118 @@
+ghost use Rattle.std.specs.Prelude.{◌≡◌, ◌≤◌, Ok, true, IfOk, IsSome, OnOk, OnErr, option_map};
+ghost use Rattle.ttm_base.specs.declared.Actor.TheVariants as actor;
+ghost use Rattle.ttm_base.specs.declared.Need.TheVariants as need;
+ghost use Rattle.journal_model.specs.declared.state.Stage.TheVariants as stage;
+ghost use Rattle.journal_model.specs.declared.state.Task.TheVariants as task;
+ghost use Rattle.journal_model.specs.PageSteps as words;
+ghost use Rattle.journal_model.specs.State as state;
+ghost use Rattle.journal_model.specs.Tasks.{task_of, stage_of};
+ghost use Rattle.laws.specs.lemma_bytes_told.Told.{IsThere};
+ghost use Rattle.room_state.specs.room_turns.Turns.{state_behind};
+ghost use Rattle.room_ties.specs.room_steps.Lent.{as_buffer};
+ghost use Rattle.room_ties.specs.Bos.{unfenced};
+ghost use Rattle.room_state.specs.declared.room_turns.Step.TheVariants as answer;
+ghost use Rattle.room_state.specs.room_turns.Acting.{is_untake, job_before_unbind, made_unless};
+ghost use Rattle.room_state.specs.room_turns.Turns.{after_step, entry_of, step_of};
+
+use bo_table::Bo;
+use journal_model::{Kind, Left, Task};
+use room_state::room_turns::{Rooms, Step, make};
+use state_words::{is_caught, target_of};
+use ttm_base::{Actor, BufId, Mem, Need, NoMemory, Usage};
+
+/// A buffer goes back to SYSTEM once no job uses it.
+fn unbind(rooms: &mut Rooms, thread: u32, b: BufId) -> Result<Step, NoMemory>
+    requires { task_of rooms.old.script (state_behind rooms.old) thread ≡ task.Unbind b }
+    ensures step { IfOk result (λ step. step ≡ step_of (entry_of rooms.old (actor.Thread thread))) }
+    ensures made { OnOk result (rooms.new ≡ after_step rooms.old (entry_of rooms.old (actor.Thread thread))) }
+    ensures err { OnErr result (rooms.new ≡ rooms.old) }
+{
+    let _legal = rooms.journal();
+    if let Some(job) = rooms.need(b, Usage::Kernel) {
+        return Ok(Step::Need(Need::Fence(job)));
+    }
+    make(rooms, Actor::Thread(thread), Kind::Unbind { b })
+}
+
+/// A job moves a buffer to its target. What it leaves in VRAM is free at once if it is a victim, else a ghost's.
+fn kind_of_move(rooms: &Rooms, thread: u32, b: BufId, mem: Mem) -> Kind
+    requires { IsSome (state.course_of (state_behind rooms.now) thread) }
+    ensures { words.step_of_move (state_behind rooms.now) (state.course (state_behind rooms.now) thread) b mem ≡ Ok result }
+{
+    let left = if is_caught(rooms.course(thread), b) {
+        Left::Now
+    } else {
+        Left::Ghost(rooms.next_ghost())
+    };
+    Kind::Move {
+        b,
+        mem,
+        num: rooms.next_job(0),
+        left,
+    }
+}
+
+/// A buffer goes to what was found for it, in the stage Carry: from SYSTEM to TT, back, or by a job of the move engine. It isn't unbound while
+/// a job uses it.
+///
+/// # Errors
+///
+/// Want of memory; nothing is changed.
+pub fn carry(rooms: &mut Rooms, thread: u32) -> Result<Step, NoMemory>
+    requires { stage_of (task_of rooms.old.script (state_behind rooms.old) thread) ≡ stage.Carry }
+    ensures step { IfOk result (λ step. step ≡ step_of (entry_of rooms.old (actor.Thread thread))) }
+    ensures waits { IfOk result (λ step. step ≡ made_unless (option_map need.Fence (job_before_unbind (state_behind rooms.old) (task_of rooms.old.script (state_behind rooms.old) thread)))) }
+    ensures made { OnOk result (rooms.new ≡ after_step rooms.old (entry_of rooms.old (actor.Thread thread))) }
+    ensures err { OnErr result (rooms.new ≡ rooms.old) }
+{
+    match rooms.task(thread) {
+        Task::Bind(b) => make(rooms, Actor::Thread(thread), Kind::Bind { b }),
+        Task::Unbind(b) => unbind(rooms, thread, b),
+        Task::Move { b, mem } => {
+            let kind = kind_of_move(rooms, thread, b, mem);
+            make(rooms, Actor::Thread(thread), kind)
+        }
+        _ => unreachable!(),
+    }
+}
+
+/// A live buffer.
+fn lent(rooms: &Rooms, b: BufId) -> &Bo
+    requires { IsThere (state_behind rooms.now) b }
+    ensures { as_buffer result.now ≡ unfenced (state.buffer (state_behind rooms.now) b) }
+{
+    rooms.parts().bos.get(b)
+}
+
+/// The target to untake: VRAM, then TT, then SYSTEM.
+fn target_to_untake(bo: &Bo) -> Mem
+    ensures { result ≡ words.target_to_untake (as_buffer bo.now) }
+{
+    if target_of(Mem::Vram, &bo.targets).is_some() {
+        Mem::Vram
+    } else if target_of(Mem::Tt, &bo.targets).is_some() {
+        Mem::Tt
+    } else {
+        Mem::System
+    }
+}
+
+/// A target that a failed search took is given back, in the stage Fail, where there is one and no Depopulate is due.
+///
+/// # Errors
+///
+/// Want of memory; nothing is changed.
+pub fn untake(rooms: &mut Rooms, thread: u32) -> Result<Step, NoMemory>
+    requires { is_untake (state_behind rooms.old) (task_of rooms.old.script (state_behind rooms.old) thread) ≡ true }
+    ensures step { IfOk result (λ step. step ≡ step_of (entry_of rooms.old (actor.Thread thread))) }
+    ensures always { IfOk result (λ step. step ≡ answer.Made) }
+    ensures made { OnOk result (rooms.new ≡ after_step rooms.old (entry_of rooms.old (actor.Thread thread))) }
+    ensures err { OnErr result (rooms.new ≡ rooms.old) }
+{
+    let _legal = rooms.journal();
+    let Task::GiveBack(b) = rooms.task(thread) else {
+        unreachable!()
+    };
+    let mem = target_to_untake(lent(rooms, b));
+    make(rooms, Actor::Thread(thread), Kind::Untake { b, mem })
+}

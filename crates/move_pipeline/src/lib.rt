@@ -1,0 +1,8 @@
+//! The buffer of a search gets its pages, and goes to its target. Each call makes the one entry that the thread makes next, or says what it needs first.
+#![tactic(auto)]
+
+mod carries;
+mod search;
+
+pub use carries::{carry, untake};
+pub use search::take_target;

@@ -1,0 +1,102 @@
+ghost use Rattle.std.specs.Prelude.{◌≡◌, ◌<◌, Ok, true, false, Some, IfOk, OnErr, length};
+ghost use Rattle.ttm_base.specs.Placement.{first_places};
+ghost use Rattle.ttm_base.specs.declared.Actor.TheVariants as actor;
+ghost use Rattle.journal_model.specs.declared.state.Stage.TheVariants as stage;
+ghost use Rattle.journal_model.specs.Search.{first_choice};
+ghost use Rattle.journal_model.specs.Tasks.{stage_of, task_of};
+ghost use Rattle.room_state.specs.room_turns.Turns.{state_behind};
+ghost use Rattle.room_state.specs.declared.room_turns.Step.TheVariants as step_words;
+ghost use Rattle.room_state.specs.room_turns.Searching.{finds_choice};
+ghost use Rattle.room_state.specs.room_turns.Turns.{after_step, entry_of, step_of};
+ghost use Rattle.room_state.specs.room_turns.Hunts.{list_of, seen};
+ghost use Rattle.move_pipeline.specs.Finds as words;
+
+use journal_model::Kind;
+use room_state::room_turns::{
+    Hunt, Rooms, hunt_at_work, make, place_at, place_at_work, place_count,
+};
+use ttm_base::{Actor, BufId, FlaggedPlace, Mem, NoMemory, Place, Spans};
+
+/// The pages that a place has, with its memory type.
+fn found_at(rooms: &mut Rooms, b: BufId, place: Place) -> Result<Option<(Mem, Spans)>, NoMemory>
+    requires { b.0 < length rooms.old.script.buffers }
+    ensures found { IfOk result (λ found. found ≡ words.found_at rooms.old.script (state_behind rooms.old) b place) }
+    ensures same { rooms.new ≡ rooms.old }
+{
+    match rooms.choice(b, &place)? {
+        Some(spans) => Ok(Some((place.mem, spans))),
+        None => Ok(None),
+    }
+}
+
+/// The pages of a place, where it isn't tried under pressure alone.
+fn tried_at(
+    rooms: &mut Rooms,
+    b: BufId,
+    tried: FlaggedPlace,
+) -> Result<Option<(Mem, Spans)>, NoMemory>
+    requires { b.0 < length rooms.old.script.buffers }
+    ensures found { IfOk result (λ found. found ≡ words.tried_at rooms.old.script (state_behind rooms.old) b tried) }
+    ensures same { rooms.new ≡ rooms.old }
+{
+    if tried.fallback {
+        return Ok(None);
+    }
+    found_at(rooms, b, tried.place)
+}
+
+/// The pages of the first place with a choice, among those that are tried first.
+fn first_found(rooms: &mut Rooms, hunt: Hunt) -> Result<Option<(Mem, Spans)>, NoMemory>
+    requires { hunt.b.0 < length rooms.old.script.buffers }
+    ensures found { IfOk result (λ found. found ≡ first_choice rooms.old.script (state_behind rooms.old) hunt.b (first_places (list_of rooms.old.script hunt.b hunt.sought))) }
+    ensures same { rooms.new ≡ rooms.old }
+{
+    for at in 0..place_count(rooms.script(), hunt) {
+        let tried = place_at(rooms.script(), hunt, at);
+        if let Some(found) = tried_at(rooms, hunt.b, tried)? {
+            return Ok(Some(found));
+        }
+    }
+    Ok(None)
+}
+
+/// Not yet under pressure, the first place with a choice among those tried first; else the forced place at work.
+fn find(rooms: &mut Rooms, hunt: Hunt) -> Result<Option<(Mem, Spans)>, NoMemory>
+    requires { hunt.b.0 < length rooms.old.script.buffers }
+    ensures found { IfOk result (λ found. found ≡ words.found rooms.old.script (state_behind rooms.old) (seen rooms.old.script hunt)) }
+    ensures same { rooms.new ≡ rooms.old }
+{
+    if !hunt.forced {
+        if let Some(found) = first_found(rooms, hunt)? {
+            return Ok(Some(found));
+        }
+    }
+    let place = place_at_work(rooms.script(), hunt);
+    found_at(rooms, hunt.b, place)
+}
+
+/// Takes the pages that a thread's search finds, as the buffer's target; false where no place to try now has a choice.
+///
+/// # Errors
+///
+/// Want of memory; nothing is changed.
+pub fn take_target(rooms: &mut Rooms, thread: u32) -> Result<bool, NoMemory>
+    requires { stage_of (task_of rooms.old.script (state_behind rooms.old) thread) ≡ stage.Search }
+    ensures found { IfOk result (λ taken. taken ≡ finds_choice rooms.old.script (state_behind rooms.old) thread) }
+    ensures made { result ≡ Ok true → rooms.new ≡ after_step rooms.old (entry_of rooms.old (actor.Thread thread)) }
+    ensures step { result ≡ Ok true → step_of (entry_of rooms.old (actor.Thread thread)) ≡ step_words.Made }
+    ensures none { result ≡ Ok false → rooms.new ≡ rooms.old }
+    ensures err { OnErr result (rooms.new ≡ rooms.old) }
+{
+    let hunt = hunt_at_work(rooms, thread);
+    let Some((mem, spans)) = find(rooms, hunt)? else {
+        return Ok(false);
+    };
+    let kind = Kind::Take {
+        b: hunt.b,
+        mem,
+        spans,
+    };
+    make(rooms, Actor::Thread(thread), kind)?;
+    Ok(true)
+}

@@ -1,0 +1,70 @@
+//! The frames of system memory: which of them are held, and the lowest that is free (ttm_pool). Only `new` takes memory.
+#![tactic(auto)]
+
+ghost use Rattle.std.specs.Prelude.{◌≡◌, true, false, not, Some, IfOk, IfSome, IfNone, count_by, position, replicate, slice_get, slice_set};
+
+use free_map::FreeMap;
+use std::alloc::Global;
+use std::marker::Model;
+use ttm_base::NoMemory;
+
+/// For each frame whether it is held, seen as a list.
+pub struct PagePool {
+    frames: FreeMap,
+}
+
+/// By hand, so that no crate above proves how each part goes.
+impl Drop for PagePool {
+    fn drop(self) {
+        let Self { frames: _ } = self;
+    }
+}
+
+impl Model for PagePool {
+    ghost use Rattle.std.specs.Prelude.{Bool, List};
+
+    ghost Value = { List Bool };
+
+    ghost view = { λ p. p.frames };
+}
+
+impl PagePool {
+    /// So many frames, each of them free.
+    pub fn new(alloc: Global, frames: u32) -> Result<PagePool, NoMemory>
+        ensures { IfOk result (λ pool. pool ≡ replicate frames false) }
+    {
+        let frames = FreeMap::new(alloc, frames)?;
+        Ok(PagePool { frames })
+    }
+
+    /// Takes the lowest free frame, which is then held.
+    pub fn take(&mut self) -> Option<u32>
+        ensures lowest { result ≡ position not self.old }
+        ensures taken { IfSome result (λ frame. self.new ≡ slice_set self.old frame true) }
+        ensures none { IfNone result (self.new ≡ self.old) }
+    {
+        self.frames.take()
+    }
+
+    /// Gives a frame back that is held.
+    pub fn give(&mut self, frame: u32)
+        requires { slice_get self.old frame ≡ Some true }
+        ensures { self.new ≡ slice_set self.old frame false }
+    {
+        self.frames.give(frame);
+    }
+
+    /// How many frames are free.
+    pub fn free(&self) -> u32
+        ensures { result ≡ count_by not self.now }
+    {
+        self.frames.free()
+    }
+
+    /// The lowest free frame, which `take` would give.
+    pub fn first(&self) -> Option<u32>
+        ensures { result ≡ position not self.now }
+    {
+        self.frames.first()
+    }
+}

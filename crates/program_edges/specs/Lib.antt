@@ -1,0 +1,4 @@
+pub mod Edges
+pub mod Statuses
+pub mod Texts
+pub mod Written

@@ -1,0 +1,98 @@
+//! The reservation of a buffer: who holds it, and the jobs that use the buffer (dma_resv).
+#![tactic(auto)]
+
+ghost use Rattle.std.specs.Prelude.{◌≡◌, ◌<◌, ◌↔◌, Some, None, IsSome, IsTrue, IsFalse, IfOk, length, replicate};
+ghost use Rattle.fence_core.specs.Fences.{nothing_kept, added, needed};
+
+use fence_core::{FenceSet, Timeline};
+use std::alloc::Global;
+use std::marker::Model;
+use ttm_base::{JobId, NoMemory, Stamp, Usage};
+
+/// A reservation. Only `new` takes memory.
+#[derive(Drop)]
+pub struct Resv {
+    holder: Option<Stamp>,
+    fences: FenceSet,
+}
+
+impl Model for Resv {
+    ghost use Rattle.resv_object.specs.Reservations.{Reservation};
+
+    ghost Value = { Reservation };
+
+    ghost view = { λ r. record { holder = r.holder; fences = r.fences } };
+}
+
+impl Resv {
+    /// A reservation that nobody holds, with no job, for so many contexts.
+    pub fn new(alloc: Global, contexts: u32) -> Result<Resv, NoMemory>
+        ensures { IfOk result (λ resv. resv ≡ record { holder = None; fences = replicate contexts nothing_kept }) }
+    {
+        let fences = FenceSet::new(alloc, contexts)?;
+        Ok(Resv {
+            holder: None,
+            fences,
+        })
+    }
+
+    /// The ticket that holds it.
+    pub fn holder(&self) -> Option<Stamp>
+        ensures { result ≡ self.now.holder }
+    {
+        self.holder
+    }
+
+    /// Takes it with a ticket, unless it is held.
+    pub fn try_take(&mut self, stamp: Stamp) -> bool
+        ensures free { IsTrue result ↔ self.old.holder ≡ None }
+        ensures taken { IsTrue result → self.new ≡ record self.old { holder = Some stamp } }
+        ensures held { IsFalse result → self.new ≡ self.old }
+    {
+        if self.holder.is_some() {
+            return false;
+        }
+        self.holder = Some(stamp);
+        true
+    }
+
+    /// Lets it go.
+    pub fn release(&mut self)
+        requires { IsSome self.old.holder }
+        ensures { self.new ≡ record self.old { holder = None } }
+    {
+        self.holder = None;
+    }
+
+    /// Adds a job that uses the buffer.
+    pub fn add_fence(&mut self, job: JobId, usage: Usage)
+        requires known { job.ctx < length self.old.fences }
+        requires num { 0 < job.num }
+        ensures { self.new ≡ record self.old { fences = added self.old.fences job usage } }
+    {
+        self.fences.add(job, usage);
+    }
+
+    /// The job to wait for, among those of that usage and the lower ones that aren't done, as `FenceSet::need` names it.
+    pub fn need(&self, usage: Usage, line: &Timeline) -> Option<JobId>
+        requires { length self.now.fences ≡ length line.now }
+        ensures { result ≡ needed usage line.now self.now.fences }
+    {
+        self.fences.need(usage, line)
+    }
+
+    /// Lends the jobs that use the buffer.
+    pub fn fences(&self) -> &FenceSet
+        ensures { result.now ≡ self.now.fences }
+    {
+        &self.fences
+    }
+
+    /// Lets it go if it is held, and drops all jobs.
+    pub fn clear(&mut self)
+        ensures { self.new ≡ record { holder = None; fences = replicate (length self.old.fences) nothing_kept } }
+    {
+        self.holder = None;
+        self.fences.clear();
+    }
+}

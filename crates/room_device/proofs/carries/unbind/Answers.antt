@@ -1,5 +1,0 @@
-use Rattle.room_device.proofs.Carried.{unbound_declared}
-use Rattle.room_device.proofs.carries.unbind.Goals as goal
-
-pub need-requires : goal.need-requires
-need-requires c = unbound_declared c.args.rooms.now c.args.thread c.args.b c.requires c.journal-legal.ensures.fits c.journal-legal.ensures.legal

@@ -1,8 +1,0 @@
-use Rattle.std.proofs.Common.{◌≡◌}
-use Rattle.room_state.specs.room_turns.Turns.{state_behind}
-use Rattle.room_device.proofs.evict_core.Rows.{rows_up_to}
-use Rattle.room_device.proofs.evict_core.keepers.causes.Given as goal
-
--- the rows of the buffers before
-abbrev pub invariant-loop-i : goal.invariant-loop-i
-invariant-loop-i l = l.rows ≡ rows_up_to l.rooms.script (state_behind l.rooms).grips l.place (state_behind l.rooms).core.buffers l.i

@@ -1,0 +1,51 @@
+-- The first buffer that may give its frames, on the lists of SYSTEM or else on those of TT, found by a walk.
+use Rattle.std.proofs.Common.{◌≡◌, ◌∷◌, ◌++◌, Bool, true, false, List, Option, Some, None, refl, sym, ◌∙◌, ap}
+use Rattle.std.specs.Prelude.{◌&&◌, find, is_some, if◌then◌else◌}
+use Rattle.std.specs.Option.{option_or}
+use Rattle.std.proofs.lemmas.List.Folds.{find-append}
+use Rattle.ttm_base.specs.declared.BufId.{BufId}
+use Rattle.ttm_base.specs.declared.Mem.{Mem}
+use Rattle.ttm_base.specs.declared.Mem.TheVariants.{System, Tt}
+use Rattle.journal_model.specs.declared.state.State.{State}
+use Rattle.journal_model.specs.State.{buffer, grip}
+use Rattle.journal_model.specs.Dry.{has_frame, is_loose, swap_victim}
+use Rattle.journal_model.specs.Lists as state
+use Rattle.swap_core.specs.Rests.{in_order}
+
+module _ {X : Type 0} (p : X → Bool) (left rest : List X) (x : X) (goes : left ≡ x ∷ rest) where
+  pub find_here : p x ≡ true → find p left ≡ Some x
+  find_here h = ap (find p) goes ∙ by (p x) h
+    where
+      by : (q : Bool) → q ≡ true → (if q then Some x else find p rest) ≡ Some x
+      by true e = refl
+      by false e = cc
+
+  pub find_past : p x ≡ false → find p rest ≡ find p left
+  find_past h = sym (ap (find p) goes ∙ by (p x) h)
+    where
+      by : (q : Bool) → q ≡ false → (if q then Some x else find p rest) ≡ find p rest
+      by false e = refl
+      by true e = cc
+
+-- ---- one list behind another
+
+module _ {X : Type 0} (p : X → Bool) (xs ys : List X) where
+  pub found_first : (o : Option X) → o ≡ find p xs → is_some o ≡ true → o ≡ find p (xs ++ ys)
+  found_first (Some x) e h = ap (λ r. option_or r (find p ys)) e ∙ sym (find-append p xs ys)
+  found_first None e h = cc
+
+  pub found_second : (o r : Option X) → o ≡ find p xs → is_some o ≡ false → r ≡ find p ys → r ≡ find p (xs ++ ys)
+  found_second None r e h k = k ∙ ap (λ q. option_or q (find p ys)) e ∙ sym (find-append p xs ys)
+  found_second (Some x) r e h k = cc
+
+module _ (s : State) (lists : List (List BufId)) (same : lists ≡ s.lists) where
+  on : (mem : Mem) (o : Option BufId) → o ≡ find (λ b. is_loose (grip s b) && has_frame (buffer s b)) (in_order mem lists)
+      → o ≡ find (λ b. is_loose (grip s b) && has_frame (buffer s b)) (state.in_order s mem)
+  on mem o e = e ∙ ap (λ ls. find (λ b. is_loose (grip s b) && has_frame (buffer s b)) (in_order mem ls)) same
+
+  pub victim_first : (o : Option BufId) → o ≡ find (λ b. is_loose (grip s b) && has_frame (buffer s b)) (in_order System lists) → is_some o ≡ true → o ≡ swap_victim s
+  victim_first o e h = found_first (λ b. is_loose (grip s b) && has_frame (buffer s b)) (state.in_order s System) (state.in_order s Tt) o (on System o e) h
+
+  pub victim_second : (o r : Option BufId) → o ≡ find (λ b. is_loose (grip s b) && has_frame (buffer s b)) (in_order System lists) → is_some o ≡ false
+      → r ≡ find (λ b. is_loose (grip s b) && has_frame (buffer s b)) (in_order Tt lists) → r ≡ swap_victim s
+  victim_second o r e h k = found_second (λ b. is_loose (grip s b) && has_frame (buffer s b)) (state.in_order s System) (state.in_order s Tt) o r (on System o e) h (on Tt r k)

@@ -1,0 +1,86 @@
+ghost use Rattle.std.specs.Prelude.{◌≡◌, ◌&&◌, find, option_copied};
+ghost use Rattle.ttm_base.specs.declared.Mem.TheVariants.{Vram};
+ghost use Rattle.ttm_base.specs.Reach.{same_mem};
+ghost use Rattle.bo_table.specs.Seen.{grip_of};
+ghost use Rattle.journal_model.specs.State.{buffer, grip};
+ghost use Rattle.journal_model.specs.Dry as words;
+ghost use Rattle.room_state.specs.room_turns.Turns.{state_behind};
+ghost use Rattle.swap_core.specs.Lent.{IsLent};
+
+use crate::walk::Walk;
+use bo_table::Bo;
+use room_state::room_turns::Rooms;
+use ttm_base::{BufId, Mem};
+
+/// A buffer, if it is live.
+pub(crate) fn live(rooms: &Rooms, b: BufId) -> Option<&Bo>
+    ensures { IsLent (state_behind rooms.now) b (option_copied result) }
+{
+    let bos = &rooms.parts().bos;
+    if b.0 as usize >= bos.len() {
+        return None;
+    }
+    let bo = bos.get(b);
+    if bo.alive { Some(bo) } else { None }
+}
+
+/// A buffer is neither pinned nor reserved.
+fn is_loose(bo: &Bo) -> bool
+    ensures { result ≡ words.is_loose (grip_of bo.now) }
+{
+    bo.pins == 0 && bo.resv.holder().is_none()
+}
+
+/// A buffer has a frame.
+pub(crate) fn has_frame(rooms: &Rooms, b: BufId) -> bool
+    ensures { result ≡ words.has_frame (buffer (state_behind rooms.now) b) }
+{
+    match live(rooms, b) {
+        Some(bo) => bo.table.has_frame(),
+        None => false,
+    }
+}
+
+/// A buffer stands in VRAM and has a frame.
+pub(crate) fn has_frame_in_vram(rooms: &Rooms, b: BufId) -> bool
+    ensures { result ≡ (same_mem (buffer (state_behind rooms.now) b).mem Vram && words.has_frame (buffer (state_behind rooms.now) b)) }
+{
+    match live(rooms, b) {
+        Some(bo) => matches!(bo.mem, Mem::Vram) && bo.table.has_frame(),
+        None => false,
+    }
+}
+
+/// A buffer may give its frames to swap.
+fn is_swappable(rooms: &Rooms, b: BufId) -> bool
+    ensures { result ≡ (words.is_loose (grip (state_behind rooms.now) b) && words.has_frame (buffer (state_behind rooms.now) b)) }
+{
+    match live(rooms, b) {
+        Some(bo) => is_loose(bo) && bo.table.has_frame(),
+        None => false,
+    }
+}
+
+/// The first buffer of a walk that may give its frames to swap.
+fn first_swappable(rooms: &Rooms, walk: Walk) -> Option<BufId>
+    ensures { result ≡ find (λ b. words.is_loose (grip (state_behind rooms.now) b) && words.has_frame (buffer (state_behind rooms.now) b)) walk.entry }
+{
+    for b in walk {
+        if is_swappable(rooms, b) {
+            return Some(b);
+        }
+    }
+    None
+}
+
+/// The first buffer that may give its frames to swap: in SYSTEM by priority, then in TT (ttm_device_swapout).
+pub(crate) fn swap_victim(rooms: &Rooms) -> Option<BufId>
+    ensures { result ≡ words.swap_victim (state_behind rooms.now) }
+{
+    let lru = rooms.lru();
+    let first = first_swappable(rooms, Walk::new(lru, Mem::System));
+    if first.is_some() {
+        return first;
+    }
+    first_swappable(rooms, Walk::new(lru, Mem::Tt))
+}

@@ -1,0 +1,123 @@
+ghost use Rattle.std.specs.Prelude.{◌≡◌, ◌<◌, find, nat_lt, length, option_map, slice_get, unwrap_or, IfOk, OnOk, OnErr};
+ghost use Rattle.ttm_base.specs.declared.Actor.TheVariants as actor;
+ghost use Rattle.ttm_base.specs.declared.Loc.TheVariants as place;
+ghost use Rattle.journal_model.specs.declared.state.Stage.TheVariants as stage;
+ghost use Rattle.journal_model.specs.State.{buffer};
+ghost use Rattle.journal_model.specs.Dry as dry;
+ghost use Rattle.journal_model.specs.PageSteps as words;
+ghost use Rattle.journal_model.specs.Places.{loc_of};
+ghost use Rattle.journal_model.specs.Tasks.{stage_of, task_of};
+ghost use Rattle.room_state.specs.room_turns.Turns.{state_behind};
+ghost use Rattle.room_state.specs.room_turns.Acting.{made_unless};
+ghost use Rattle.room_state.specs.room_turns.Turns.{after_step, entry_of, step_of};
+ghost use Rattle.swap_core.specs.Due.{ghost_before_frame};
+
+use crate::buffers::{live, swap_victim};
+use journal_model::{Kind, Task, Why};
+use room_state::room_turns::{Rooms, Step, turn};
+use room_ties::Ghost;
+use ttm_base::{Actor, BufId, Loc, Need, NoMemory};
+
+/// Where a page stands.
+fn loc_at(places: &[Loc], page: u32) -> Loc
+    ensures { result ≡ unwrap_or (slice_get places.now page) place.Zero }
+{
+    match places.get(page as usize) {
+        Some(loc) => *loc,
+        None => Loc::Zero,
+    }
+}
+
+/// A fresh page, or one that comes back from swap.
+fn filled_by(b: BufId, page: u32, frame: u32, loc: Loc) -> Kind
+    ensures { result ≡ words.filled_by b page frame loc }
+{
+    match loc {
+        Loc::Slot(slot) => Kind::SwapIn {
+            b,
+            page,
+            slot,
+            frame,
+        },
+        Loc::Zero | Loc::Frame(_) => Kind::Populate { b, page, frame },
+    }
+}
+
+/// A buffer's next page without a frame gets one. In constant time.
+fn filled_with(rooms: &Rooms, b: BufId, frame: u32) -> Kind
+    ensures { result ≡ words.filled_by b (words.page_to_fill (buffer (state_behind rooms.now) b)) frame (loc_of (buffer (state_behind rooms.now) b) (words.page_to_fill (buffer (state_behind rooms.now) b))) }
+{
+    match live(rooms, b) {
+        Some(bo) => {
+            let page = bo.table.first_unfilled().unwrap_or(0);
+            filled_by(b, page, frame, loc_at(bo.table.places(), page))
+        }
+        None => Kind::Populate { b, page: 0, frame },
+    }
+}
+
+/// The number of the first of these ghosts that holds a frame.
+fn first_with_frame(ghosts: &[Ghost]) -> Option<u64>
+    ensures { result ≡ option_map (λ g. g.num) (find (λ g. nat_lt 0 (length g.frames)) ghosts.now) }
+{
+    match ghosts.iter().find(|g| g.frames.len() > 0) {
+        Some(first) => Some(first.num),
+        None => None,
+    }
+}
+
+/// A ghost will give a frame, or none is to be had.
+fn next_without_victim(rooms: &Rooms, b: BufId) -> Result<Kind, Need>
+    ensures { result ≡ words.step_without_victim (state_behind rooms.now) b }
+{
+    match first_with_frame(rooms.ghosts()) {
+        Some(g) => Err(Need::Ghost(g)),
+        None => Ok(Kind::NoPages { b }),
+    }
+}
+
+/// A victim for swap, where a slot is free.
+fn next_without_frame(rooms: &Rooms, b: BufId) -> Result<Kind, Need>
+    ensures { result ≡ words.step_without_frame rooms.now.script (state_behind rooms.now) b }
+{
+    if rooms.free_slot().is_none() {
+        return next_without_victim(rooms, b);
+    }
+    match swap_victim(rooms) {
+        Some(v) => Ok(Kind::Catch {
+            b: v,
+            why: Why::Swap,
+        }),
+        None => next_without_victim(rooms, b),
+    }
+}
+
+/// The next page with the lowest free frame; without one, a victim for swap.
+fn next_of_fill(rooms: &Rooms, b: BufId) -> Result<Kind, Need>
+    ensures { result ≡ words.step_of_fill rooms.now.script (state_behind rooms.now) b }
+{
+    match rooms.free_frame() {
+        Some(frame) => Ok(filled_with(rooms, b, frame)),
+        None => next_without_frame(rooms, b),
+    }
+}
+
+/// The buffer that the thread fills, in the stage Fill: its next page gets the lowest free frame, with zeros or with the bytes of its slot
+/// (ttm_tt_populate, ttm_tt_swapin). Where no frame is free a buffer is caught for swap, and where none can be the fill fails.
+///
+/// # Errors
+///
+/// Want of memory; nothing is changed.
+pub fn fill(rooms: &mut Rooms, thread: u32) -> Result<Step, NoMemory>
+    requires { stage_of (task_of rooms.old.script (state_behind rooms.old) thread) ≡ stage.Fill }
+    ensures step { IfOk result (λ step. step ≡ step_of (entry_of rooms.old (actor.Thread thread))) }
+    ensures waits { IfOk result (λ step. step ≡ made_unless (ghost_before_frame rooms.old.script (state_behind rooms.old))) }
+    ensures made { OnOk result (rooms.new ≡ after_step rooms.old (entry_of rooms.old (actor.Thread thread))) }
+    ensures err { OnErr result (rooms.new ≡ rooms.old) }
+{
+    let Task::Fill(b) = rooms.task(thread) else {
+        unreachable!()
+    };
+    let next = next_of_fill(rooms, b);
+    turn(rooms, Actor::Thread(thread), next)
+}

@@ -1,0 +1,39 @@
+ghost use Rattle.std.specs.Prelude.{◌≡◌, true, IfOk, OnOk, OnErr};
+ghost use Rattle.ttm_base.specs.declared.Actor.TheVariants as actor;
+ghost use Rattle.room_state.specs.room_turns.Turns.{state_behind};
+ghost use Rattle.room_state.specs.declared.room_turns.Step.TheVariants as answer;
+ghost use Rattle.room_state.specs.room_turns.Turns.{after_step, entry_of, step_of};
+ghost use Rattle.swap_core.specs.Due.{depopulate_due};
+
+use crate::buffers::has_frame_in_vram;
+use journal_model::{Kind, Task};
+use room_state::room_turns::{Rooms, Step, make};
+use ttm_base::{Actor, NoMemory};
+
+/// A thread's Depopulate is due: a buffer that gives back what its search took stands in VRAM and has a frame. Takes time as `Rooms::task` does.
+pub fn is_depopulate_due(rooms: &Rooms, thread: u32) -> bool
+    ensures { result ≡ depopulate_due rooms.now.script (state_behind rooms.now) thread }
+{
+    match rooms.task(thread) {
+        Task::GiveBack(b) => has_frame_in_vram(rooms, b),
+        _ => false,
+    }
+}
+
+/// A buffer in VRAM whose move failed gives its frames back, once its Depopulate is due (ttm_tt_unpopulate).
+///
+/// # Errors
+///
+/// Want of memory; nothing is changed.
+pub fn depopulate(rooms: &mut Rooms, thread: u32) -> Result<Step, NoMemory>
+    requires { depopulate_due rooms.old.script (state_behind rooms.old) thread ≡ true }
+    ensures step { IfOk result (λ step. step ≡ step_of (entry_of rooms.old (actor.Thread thread))) }
+    ensures always { IfOk result (λ step. step ≡ answer.Made) }
+    ensures made { OnOk result (rooms.new ≡ after_step rooms.old (entry_of rooms.old (actor.Thread thread))) }
+    ensures err { OnErr result (rooms.new ≡ rooms.old) }
+{
+    let Task::GiveBack(b) = rooms.task(thread) else {
+        unreachable!()
+    };
+    make(rooms, Actor::Thread(thread), Kind::Depopulate { b })
+}

@@ -1,0 +1,13 @@
+//! Frames and swap slots on the rooms: pages get frames, go to slots, and frames are given back (ttm_tt_populate, ttm_tt_swapin,
+//! ttm_tt_swapout, ttm_tt_unpopulate). Each call makes the one entry that the thread makes next, or says what it needs first.
+#![tactic(auto)]
+
+mod buffers;
+mod filling;
+mod giving;
+mod swapping;
+mod walk;
+
+pub use filling::fill;
+pub use giving::{depopulate, is_depopulate_due};
+pub use swapping::{is_swap_out_due, swap_out_page};

@@ -1,0 +1,145 @@
+ghost use Rattle.std.specs.Prelude.{◌≡◌, ◌≤◌, ◌<◌, Ok, Some, false, IfOk, OnOk, OnErr, length, option_map};
+ghost use Rattle.ttm_base.specs.declared.Actor.TheVariants as actor;
+ghost use Rattle.ttm_base.specs.declared.Need.TheVariants as need;
+ghost use Rattle.journal_model.specs.declared.script.Command.TheVariants as command;
+ghost use Rattle.journal_model.specs.declared.entry.Kind.TheVariants as kind;
+ghost use Rattle.journal_model.specs.declared.entry.Shown.TheVariants as shown;
+ghost use Rattle.journal_model.specs.declared.state.Stage.TheVariants as stage;
+ghost use Rattle.journal_model.specs.declared.state.Task.TheVariants as task;
+ghost use Rattle.journal_model.specs.PageSteps as steps;
+ghost use Rattle.journal_model.specs.Tasks.{task_of, stage_of};
+ghost use Rattle.laws.specs.lemma_bytes_told.Told.{IsThere};
+ghost use Rattle.room_state.specs.room_turns.Turns.{state_behind};
+ghost use Rattle.room_state.specs.room_turns.Acting.{entry_by, free_due, job_awaited, made_unless, swap_due, swaps};
+ghost use Rattle.room_state.specs.room_turns.Turns.{after_step, entry_of, step_of};
+ghost use Rattle.validate_list.specs.Acts.{act_of, IsActing};
+
+use crate::buffers::lent;
+use crate::enact::{Next, enact};
+use journal_model::{Command, Kind, Shown, Task};
+use room_state::room_turns::{Rooms, Step};
+use ttm_base::{BufId, Deny, JobId, Need, NoMemory, Usage};
+
+/// An answer that shows nothing.
+fn plain() -> Kind
+    ensures { result ≡ kind.Result shown.Plain }
+{
+    Kind::Result {
+        shown: Shown::Plain,
+    }
+}
+
+/// The entry, unless a job is waited for.
+fn unless_waiting(job: Option<JobId>, kind: Kind) -> Next
+    ensures { result ≡ steps.unless_waiting job kind }
+{
+    match job {
+        None => Ok(kind),
+        Some(job) => Err(Need::Fence(job)),
+    }
+}
+
+/// The bytes of a buffer are shown once no job changes them.
+fn next_of_read(rooms: &Rooms, b: BufId, off: u32, len: u32) -> Result<Next, NoMemory>
+    requires live { IsThere (state_behind rooms.now) b }
+    requires declared { b.0 < length rooms.now.script.buffers }
+    requires short { len ≤ 4096 }
+    ensures { IfOk result (λ next. next ≡ act_of rooms.now (command.Read b off len)) }
+{
+    if let Some(job) = rooms.need(b, Usage::Read) {
+        return Ok(Err(Need::Fence(job)));
+    }
+    let shown = Shown::Read(rooms.shown(b, off, len)?);
+    Ok(Ok(Kind::Result { shown }))
+}
+
+/// Where a buffer stands is shown.
+fn kind_of_find(rooms: &Rooms, b: BufId) -> Result<Kind, NoMemory>
+    requires { IsThere (state_behind rooms.now) b }
+    ensures { IfOk result (λ shows. act_of rooms.now (command.Find b) ≡ Ok shows) }
+{
+    let bo = lent(rooms, b);
+    let spans = bo.spans.copy()?;
+    let shown = Shown::Find { mem: bo.mem, spans };
+    Ok(Kind::Result { shown })
+}
+
+/// Nothing more can be swapped out: all of the buffer is, or no slot is free.
+fn kind_of_swapped(rooms: &Rooms, b: BufId) -> Kind
+    requires live { IsThere (state_behind rooms.now) b }
+    requires done { swaps rooms.now.script (state_behind rooms.now) (Some (command.SwapOut b)) ≡ false }
+    ensures { act_of rooms.now (command.SwapOut b) ≡ Ok result }
+{
+    if lent(rooms, b).table.has_frame() {
+        Kind::Refused { deny: Deny::NoSwap }
+    } else {
+        plain()
+    }
+}
+
+/// The command itself, once all is held, in place and filled.
+fn next_of_command(rooms: &Rooms, command: &Command) -> Result<Next, NoMemory>
+    requires { IsActing rooms.now command.now }
+    ensures { IfOk result (λ next. next ≡ act_of rooms.now command.now) }
+{
+    match command {
+        Command::Submit { engine, .. } => Ok(Ok(Kind::Arm {
+            engine: *engine,
+            num: rooms.next_job(*engine),
+        })),
+        Command::SwapOut { b } => Ok(Ok(kind_of_swapped(rooms, *b))),
+        Command::Write { b, .. } => Ok(unless_waiting(rooms.need(*b, Usage::Write), plain())),
+        Command::Read { b, off, len } => next_of_read(rooms, *b, *off, *len),
+        Command::Find { b } => Ok(Ok(kind_of_find(rooms, *b)?)),
+        Command::Free { .. } => unreachable!(),
+        _ => Ok(Ok(plain())),
+    }
+}
+
+/// The next step of a thread whose command itself is at work.
+fn next_of_act(rooms: &Rooms, thread: u32) -> Result<Next, NoMemory>
+    requires act { task_of rooms.now.script (state_behind rooms.now) thread ≡ task.Act }
+    requires no_free { free_due rooms.now.script (state_behind rooms.now) thread ≡ false }
+    requires no_swap { swap_due rooms.now.script (state_behind rooms.now) thread ≡ false }
+    ensures { IfOk result (λ next. entry_of rooms.now (actor.Thread thread) ≡ entry_by thread next) }
+{
+    let _legal = rooms.journal();
+    let Some(command) = rooms.command(thread) else {
+        unreachable!()
+    };
+    next_of_command(rooms, command)
+}
+
+/// The next step of a thread that answers, refuses or does what its command is for.
+fn next_of_task(rooms: &Rooms, thread: u32) -> Result<Next, NoMemory>
+    requires act { stage_of (task_of rooms.now.script (state_behind rooms.now) thread) ≡ stage.Act }
+    requires no_free { free_due rooms.now.script (state_behind rooms.now) thread ≡ false }
+    requires no_swap { swap_due rooms.now.script (state_behind rooms.now) thread ≡ false }
+    ensures { IfOk result (λ next. entry_of rooms.now (actor.Thread thread) ≡ entry_by thread next) }
+{
+    match rooms.task(thread) {
+        Task::Answer => Ok(Ok(plain())),
+        Task::Refuse(deny) => Ok(Ok(Kind::Refused { deny })),
+        Task::Act => next_of_act(rooms, thread),
+        _ => unreachable!(),
+    }
+}
+
+/// A command does what it is for, in the stage Act, once all its buffers are held, in place and filled; then it is answered. One that may not be
+/// asked of its buffer is refused. Neither a Free nor a SwapOut of a page is due: those are made by others.
+///
+/// # Errors
+///
+/// Want of memory; nothing is changed.
+pub fn act(rooms: &mut Rooms, thread: u32) -> Result<Step, NoMemory>
+    requires act { stage_of (task_of rooms.old.script (state_behind rooms.old) thread) ≡ stage.Act }
+    requires no_free { free_due rooms.old.script (state_behind rooms.old) thread ≡ false }
+    requires no_swap { swap_due rooms.old.script (state_behind rooms.old) thread ≡ false }
+    ensures step { IfOk result (λ step. step ≡ step_of (entry_of rooms.old (actor.Thread thread))) }
+    ensures waits { IfOk result (λ step. step ≡ made_unless (option_map need.Fence (job_awaited rooms.old.script (state_behind rooms.old) thread))) }
+    ensures made { OnOk result (rooms.new ≡ after_step rooms.old (entry_of rooms.old (actor.Thread thread))) }
+    ensures err { OnErr result (rooms.new ≡ rooms.old) }
+{
+    let next = next_of_task(rooms, thread)?;
+    enact(rooms, thread, next)
+}

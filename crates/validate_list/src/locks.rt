@@ -1,0 +1,70 @@
+ghost use Rattle.std.specs.Prelude.{◌≡◌, ◌≢◌, Some, IfOk, IsSome, OnOk, OnErr, option_map};
+ghost use Rattle.ttm_base.specs.declared.Actor.TheVariants as actor;
+ghost use Rattle.ttm_base.specs.declared.Need.TheVariants as need;
+ghost use Rattle.journal_model.specs.declared.state.Stage.TheVariants as stage;
+ghost use Rattle.journal_model.specs.declared.state.Task.TheVariants as task;
+ghost use Rattle.journal_model.specs.State.{course};
+ghost use Rattle.journal_model.specs.Next as words;
+ghost use Rattle.journal_model.specs.Tasks.{task_of, stage_of};
+ghost use Rattle.room_state.specs.room_turns.Turns.{state_behind};
+ghost use Rattle.room_state.specs.room_turns.Acting.{holder_awaited, made_unless};
+ghost use Rattle.room_state.specs.room_turns.Turns.{after_step, entry_of, step_of};
+
+use crate::buffers::{holder_of, is_live};
+use crate::enact::{Next, enact};
+use journal_model::{Course, Kind, Task};
+use room_state::room_turns::{Rooms, Step};
+use ttm_base::{BufId, Deny, Need, NoMemory, Stamp};
+use ww_ticket::{Decision, decide};
+
+/// What a thread with a ticket does at a live buffer that it wants to hold (wait-die): it reserves one that nobody holds. It backs off from an
+/// older holder if it holds something itself, and waits for any other.
+pub fn wait_die(course: &Course, mine: Stamp, b: BufId, holder: Option<Stamp>) -> Next
+    requires ticket { course.now.stamp ≡ Some mine }
+    requires other { holder ≢ Some mine }
+    ensures { result ≡ words.step_of_holder course.now b holder }
+{
+    match decide(mine, course.held.len() > 0, holder) {
+        Decision::Take => Ok(Kind::Reserve { b }),
+        Decision::Backoff(s) => Ok(Kind::Backoff { b, s }),
+        Decision::Wait(s) => Err(Need::Holder(s)),
+    }
+}
+
+/// The step of a thread at a buffer that it wants to hold.
+fn next_of_lock(rooms: &Rooms, thread: u32, b: BufId) -> Next
+    requires { task_of rooms.now.script (state_behind rooms.now) thread ≡ task.Lock b }
+    ensures { result ≡ words.step_of_lock (state_behind rooms.now) (course (state_behind rooms.now) thread) b }
+{
+    let _legal = rooms.journal();
+    if !is_live(rooms, b) {
+        return Ok(Kind::Refused {
+            deny: Deny::NoBuffer,
+        });
+    }
+    let course = rooms.course(thread);
+    let Some(mine) = course.stamp else {
+        unreachable!()
+    };
+    wait_die(course, mine, b, holder_of(rooms, b))
+}
+
+/// A thread reserves the next buffer that its command names, in the stage Lock, backs off from an older holder, or waits for the holder
+/// (`wait_die`). Where there is no such buffer the command is refused.
+///
+/// # Errors
+///
+/// Want of memory; nothing is changed.
+pub fn lock(rooms: &mut Rooms, thread: u32) -> Result<Step, NoMemory>
+    requires { stage_of (task_of rooms.old.script (state_behind rooms.old) thread) ≡ stage.Lock }
+    ensures step { IfOk result (λ step. step ≡ step_of (entry_of rooms.old (actor.Thread thread))) }
+    ensures waits { IfOk result (λ step. step ≡ made_unless (option_map need.Holder (holder_awaited rooms.old.script (state_behind rooms.old) thread))) }
+    ensures made { OnOk result (rooms.new ≡ after_step rooms.old (entry_of rooms.old (actor.Thread thread))) }
+    ensures err { OnErr result (rooms.new ≡ rooms.old) }
+{
+    let Task::Lock(b) = rooms.task(thread) else {
+        unreachable!()
+    };
+    let next = next_of_lock(rooms, thread, b);
+    enact(rooms, thread, next)
+}
