@@ -34,7 +34,6 @@ impl<'a> PageCursor<'a> {
             behind: spans,
         }
     }
-
 }
 
 impl<'a> Iterator for PageCursor<'a> {

@@ -10,8 +10,7 @@ mod waits;
 
 pub use free::{FrameMarks, count_free_frames, count_free_slots, free_frame, free_slot};
 pub use holds::{
-    ghost_spans, has_page, held_slots, held_spans, is_free_beside, push_spans,
-    spans_in,
+    ghost_spans, has_page, held_slots, held_spans, is_free_beside, push_spans, spans_in,
 };
 pub use packets::packets_of;
 pub use state_words::{is_written, use_of};
