@@ -1,4 +1,4 @@
-//! Gates that look at workers, and tests of the turn lock, of workers and of the program on threads with them; and verdicts on reports.
+//! Gates that look at workers, and tests of the turn lock, of workers and of the program on threads with them.
 #![tactic(auto)]
 
 #[cfg(test)]
@@ -11,8 +11,6 @@ mod mappings;
 mod program;
 #[cfg(test)]
 mod tests;
-#[cfg(test)]
-mod verdicts;
 #[cfg(test)]
 mod watch;
 #[cfg(test)]

@@ -8,7 +8,7 @@ use thread_program::{Status, ttm_top};
 use worker_pool::IdleGate;
 
 /// One thread that reads across a page border.
-pub const ONE_THREAD: &str = "ttm 1
+const ONE_THREAD: &str = "ttm 1
 vram range 0
 tt 0
 frames 2
@@ -23,7 +23,7 @@ end
 ";
 
 /// Its report: with one thread and no job there is one interleaving.
-pub const WHOLE: &str = "report 1
+const WHOLE: &str = "report 1
 journal 10
 1 t1 new a
 2 t1 result ok

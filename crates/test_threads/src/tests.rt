@@ -15,20 +15,8 @@ use worker_pool::{Gate, IdleGate};
 /// Room for the output of a run, in bytes.
 const ROOM: usize = 1 << 22;
 
-/// How input is read and output written: in pieces of so many bytes at most; the read and the write of these numbers fail, counted from 1.
-#[derive(Clone, Copy)]
-pub struct Edges {
-    pub chunk: usize,
-    pub read: u64,
-    pub write: u64,
-}
-
-/// No read and no write fails.
-const SOUND: Edges = Edges {
-    chunk: 4096,
-    read: 0,
-    write: 0,
-};
+/// How many bytes a read or a write moves at most.
+const CHUNK: usize = 4096;
 
 pub fn words_of(alloc: Global, words: &[&str]) -> Result<Words, NoMemory> {
     let mut list = Words::new(alloc);
@@ -46,23 +34,10 @@ pub fn run<R: Threads + Wait + Sync, G: Gate + Sync>(
     input: &[u8],
     gate: &G,
 ) -> Result<(Status, MemSink), NoMemory> {
-    run_by(rt, alloc, words, input, gate, SOUND)
-}
-
-/// The same, with other edges.
-pub fn run_by<R: Threads + Wait + Sync, G: Gate + Sync>(
-    rt: &R,
-    alloc: Global,
-    words: &[&str],
-    input: &[u8],
-    gate: &G,
-    edges: Edges,
-) -> Result<(Status, MemSink), NoMemory> {
     let words = words_of(alloc, words)?;
-    let chunk = edges.chunk.max(1);
     let input = Vec::from_slice(alloc, input)?;
-    let mut source = MemSource::new(input, chunk, vec![in alloc; edges.read]?);
-    let mut sink = MemSink::new(alloc, ROOM, chunk, vec![in alloc; edges.write]?)?;
+    let mut source = MemSource::new(input, CHUNK, Vec::new(alloc));
+    let mut sink = MemSink::new(alloc, ROOM, CHUNK, Vec::new(alloc))?;
     let status = ttm_top(rt, alloc, &words, &mut source, &mut sink, gate);
     Ok((status, sink))
 }
