@@ -1,5 +1,10 @@
+ghost use Rattle.std.specs.Prelude.{◌≡◌};
+
 use hole_tree::Holes;
+use std::marker::Brand;
 use std::process::Abort;
+use std::sync::ledger::{Blank, Ledger};
+use step_count::Steps;
 use ttm_base::{Mode, Span};
 
 const SHORT: Span = Span { start: 20, end: 22 };
@@ -11,15 +16,33 @@ const HIGH: Span = Span { start: 40, end: 42 };
 /// A request for so many pages within a first and a last page, and the hole for it.
 type Row = (Mode, u32, u32, u32, Option<Span>);
 
-/// The hole for each request.
+/// The hole for a request, by the call that counts steps.
+fn counted<L: Ledger>(holes: &Holes, row: &Row, blank: Blank) -> Option<Span>
+    requires name { blank.name ≡ L.name }
+    requires parts { blank.parts ≡ L.parts }
+    requires one_part { blank.parts ≡ 1 }
+{
+    let (mode, pages, first, last, _want) = row;
+    let mut steps = Steps::<L>::new(blank);
+    match mode {
+        Mode::Best => holes.best_counted(*pages, 1, *first, *last, &mut steps),
+        Mode::Low => holes.lowest_counted(*pages, 1, *first, *last, &mut steps),
+        Mode::High => holes.highest_counted(*pages, 1, *first, *last, &mut steps),
+    }
+}
+
+/// The hole for each request, also by the calls that count steps.
 fn assert_holes(rt: &impl Abort, holes: &Holes, rows: &[Row]) {
-    for (mode, pages, first, last, want) in rows {
+    for row in rows {
+        let (mode, pages, first, last, want) = row;
         let hole = match mode {
             Mode::Best => holes.best(*pages, 1, *first, *last),
             Mode::Low => holes.lowest(*pages, 1, *first, *last),
             Mode::High => holes.highest(*pages, 1, *first, *last),
         };
+        let counted = counted::<Brand>(holes, row, Blank::new(1));
         assert!(rt; hole == *want);
+        assert!(rt; counted == *want);
     }
 }
 

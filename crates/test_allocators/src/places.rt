@@ -160,10 +160,13 @@ const SPANS: [Span; 3] = [
     Span { start: 0, end: 3 },
 ];
 
+/// Their pages, in order.
+const PAGES: &[u32] = &[7, 8, 0, 1, 2];
+
 #[test]
 fn pages_of_spans_in_order(rt: HostRuntime) {
     let cursor = PageCursor::new(&SPANS);
     let walked: Vec<u32> = cursor.collect(rt.alloc()).expect(&rt, "pages");
-    assert!(rt; walked.as_slice() == [7, 8, 0, 1, 2]);
+    assert!(rt; walked.as_slice() == PAGES);
     drop(walked);
 }

@@ -88,6 +88,18 @@ fn moved<L: Ledger>(lru: &mut Lru, blank: Blank)
     lru.bulk_tail_counted(0, &mut steps);
 }
 
+/// Moves group 0 in a list of VRAM alone, and counts.
+fn moved_in<L: Ledger>(lru: &mut Lru, prio: u32, blank: Blank)
+    requires name { blank.name ≡ L.name }
+    requires parts { blank.parts ≡ L.parts }
+    requires one_part { blank.parts ≡ 1 }
+    requires prio { prio < 4 }
+    requires group { 0 < lru.old.groups }
+{
+    let mut steps = Steps::<L>::new(blank);
+    lru.bulk_tail_in(Mem::Vram, prio, 0, &mut steps);
+}
+
 const THREE: &[(u32, Option<u32>)] = &[(0, Some(0)), (1, None), (2, Some(0))];
 
 /// The victims in order, and the buffer that is listed behind each, with its priority.
@@ -123,6 +135,20 @@ fn bulk_of_two_hundred(rt: HostRuntime) {
     moved::<Brand>(&mut lru, Blank::new(1));
     let wanted = odd_before_even(&rt, rt.alloc());
     assert_order(&rt, &lru, 0, wanted.as_slice());
+    drop(lru);
+}
+
+const OTHER_LIST: &[(u32, Option<u32>)] = &[(3, Some(0)), (4, None)];
+
+#[test]
+fn bulk_of_one_list(rt: HostRuntime) {
+    let mut lru = Lru::new(rt.alloc(), 8, 1).expect(&rt, "lists");
+    list_all(&rt, &mut lru, 1, THREE);
+    list_all(&rt, &mut lru, 2, OTHER_LIST);
+    assert!(&rt; lru.can_add(BufId(7), Some(0)));
+    moved_in::<Brand>(&mut lru, 1, Blank::new(1));
+    assert_order(&rt, &lru, 1, &[1, 0, 2]);
+    assert_order(&rt, &lru, 2, &[3, 4]);
     drop(lru);
 }
 
