@@ -21,4 +21,5 @@ WORDS: Tuple[Word, ...] = (
     Word("explain", "explain", SCRIPT, "finds the first broken line of a script, and says what is wrong there"),
     Word("diagnose", "diagnose", SCRIPT, "says why the program refused a script or a report"),
     Word("plain", "plain", SCRIPT, "writes a script without its comments"),
+    Word("picture", "picture", REPORT, "draws a report as an SVG"),
 )
