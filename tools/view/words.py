@@ -22,4 +22,5 @@ WORDS: Tuple[Word, ...] = (
     Word("diagnose", "diagnose", SCRIPT, "says why the program refused a script or a report"),
     Word("plain", "plain", SCRIPT, "writes a script without its comments"),
     Word("picture", "picture", REPORT, "draws a report as an SVG"),
+    Word("stats", "stats", REPORT, "adds up a report, as tables or with `json` as JSON"),
 )
