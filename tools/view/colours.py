@@ -18,6 +18,7 @@ FREE = "#f4f5f7"
 LIVE = "#5f8fbf"
 GHOST = "#8a8f98"
 WAIT = "#b4540a"
+PALE = "#ffe2c2"
 BUSY = "#3d4a5c"
 
 
