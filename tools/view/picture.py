@@ -24,7 +24,8 @@ USAGE = """usage: ./ttm picture [--from A] [--to B] [FILE | SCRIPT REPORT] > FIL
 Draws a script with its report behind it (standard input, a file, or two files): pages down, entries across, engines, the reaper and threads.
 --from and --to leave out the entries before A and after B. Long runs are summed by column."""
 MOST_ENTRIES = 1200
-MOST_SHAPES = 6000
+MOST_SHAPES = 5000
+MOST_BYTES = 1_900_000
 
 
 class Wish(NamedTuple):
@@ -83,7 +84,7 @@ def picture(report: Report, wish: Wish) -> str:
     when = "in the end" if last == len(report.entries) else f"after entry {last:,}"
     if last - first < MOST_ENTRIES:
         svg = detailed(report, first, last, when)
-        if svg:
+        if svg and len(svg) <= MOST_BYTES:
             return svg
     columns = summed_up(report, first, last)
     each = -(-columns.entries // columns.count)
