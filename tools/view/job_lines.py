@@ -107,9 +107,9 @@ class JobLines:
         if buffer is None or offset is None or not length:
             return
         one = self.script.buffers[buffer]
-        if offset + length > one.bytes:
+        if offset + length > one.byte_size:
             cause = f"bytes {offset} to {offset + length - 1} pass the end of {one.name}"
-            line.fault(8, index, cause, f"{one.name} has {one.bytes} bytes, 0 to {one.bytes - 1}")
+            line.fault(8, index, cause, f"{one.name} has {one.byte_size} bytes, 0 to {one.byte_size - 1}")
 
     def _job_faults(self, line: Words, parts: List[Part]) -> None:
         """Notes a job of too many operations or buffers."""

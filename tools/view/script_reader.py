@@ -52,9 +52,8 @@ class ScriptReader:
         word = line.words[0]
         if not self._may_come(word):
             raise line.stop(0, self._why_not(word), self.expected(), 3)
-        for index, part in enumerate(line.words):
-            if not part:
-                raise self._wrong_space(line, index)
+        if "" in line.words:
+            raise self._wrong_space(line, line.words.index(""))
         if self.place in HEAD:
             self._head(line, word)
         elif word == "buffer":
@@ -187,9 +186,14 @@ class ScriptReader:
         return Actor("r", 0)
 
 
+PRINTABLE = bytes(range(0x20, 0x7F))
+
+
 def _breaks_text(data: bytes) -> Optional[Fault]:
     """Returns what is wrong in the bytes of a line with its line feed, before its words are looked at."""
     text = data[:-1] if data.endswith(b"\n") else data
+    if text and len(text) < len(data) and not text.translate(None, PRINTABLE):
+        return None
     for column, byte in enumerate(text, 1):
         if not 0x20 <= byte <= 0x7E:
             return Fault(2, column, 1, f"the byte 0x{byte:02x} may not stand in a script", "printable ASCII, 0x20 to 0x7e")
