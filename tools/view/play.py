@@ -59,10 +59,17 @@ def command_data(command: Command) -> Dict[str, object]:
     return {"verb": command.verb, "text": command.text, "buffers": command.buffers, "writes": writes, "packets": packets}
 
 
+def counted(count: int, word: str) -> str:
+    """Returns a count with its word."""
+    return f"{count} {word}" if count == 1 else f"{count} {word}s"
+
+
 def about(script: Script) -> str:
     """Returns the sizes of a script in a line."""
-    sizes = f"VRAM {script.vram} pages by {script.manager}, TT {script.tt} pages, {script.frames} frames, {script.swap} slots"
-    return f"{sizes}; {len(script.threads)} threads, {script.engines} engines and the move engine, {len(script.buffers)} buffers"
+    pages = f"VRAM {counted(script.vram, 'page')} by {script.manager}, TT {counted(script.tt, 'page')}"
+    sizes = f"{pages}, {counted(script.frames, 'frame')}, {counted(script.swap, 'slot')}"
+    actors = f"{counted(len(script.threads), 'thread')}, {counted(script.engines, 'engine')} and the move engine"
+    return f"{sizes}; {actors}, {counted(len(script.buffers), 'buffer')}"
 
 
 def data_of(report: Report) -> str:

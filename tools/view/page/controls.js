@@ -45,7 +45,7 @@ const START = "Before the first entry: no buffer is live, all memory is free, an
 function showEntry(number, line, { sentence, kernel }) {
   byId("slider").value = byId("number").value = number;
   byId("slider").setAttribute("aria-valuetext", `entry ${number} of ${lines.length}: ${line || "the start"}`);
-  byId("line").textContent = number ? `${number}  ${line}` : "the start";
+  byId("line").replaceChildren(make("span", null, number ? String(number) : ""), line || "the start");
   byId("sentence").textContent = sentence;
   say("");
   byId("kernel").textContent = kernel ? `Linux 6.1: ${kernel}` : "";
@@ -55,11 +55,18 @@ function showEntry(number, line, { sentence, kernel }) {
 function showArea(area, old) {
   const figure = byId(`area-${area}`);
   const now = owners[area];
-  const account = accountOf(now);
-  figure.querySelector(".account").textContent = now.length
-    ? `${now.length} ${AREA_UNITS[area]}: ${account.live} live, ${account.target} target, ${account.ghost} ghost, ${account.free} free` : "none in this script";
+  figure.querySelector(".account").textContent = accountText(area, now);
+  if (!now.length) return;
   figure.querySelector(".spans").textContent = areaText(script, now);
-  if (now.length) drawArea(figure.querySelector("canvas"), script, now, now.map((owner, page) => Number(owner !== old[page])));
+  drawArea(figure.querySelector("canvas"), script, now, now.map((owner, page) => Number(owner !== old[page])));
+}
+
+/** Says how many pages of an area are whose. */
+function accountText(area, now) {
+  if (!now.length) return "none in this script";
+  const account = accountOf(now);
+  const shares = ["live", "target", "ghost", "free"].filter((kind) => account[kind]).map((kind) => `${account[kind]} ${kind}`);
+  return `${counted(now.length, AREA_UNITS[area])}: ${shares.join(", ")}`;
 }
 
 /** Returns what each waiting thread waits for after `number` entries. */
@@ -132,7 +139,8 @@ function buildArea(area) {
   const tip = make("p", { class: "tip", hidden: "" });
   canvas.addEventListener("mousemove", (event) => showTip(area, canvas, tip, event));
   canvas.addEventListener("mouseleave", () => { tip.hidden = true; });
-  return make("section", { id: `area-${area}`, class: "area", "aria-labelledby": `title-${area}` }, title, make("div", null, canvas, tip), make("p", { class: "spans" }));
+  const parts = script.sizes[area] ? [make("div", null, canvas, tip), make("p", { class: "spans" })] : [];
+  return make("section", { id: `area-${area}`, class: "area", "aria-labelledby": `title-${area}` }, title, ...parts);
 }
 
 /** Says what a page is, beside the mouse. */

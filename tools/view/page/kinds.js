@@ -154,7 +154,7 @@ function moveText(state, [name, memory, number, left]) {
   const from = standing(buffer);
   const to = `${MEMORY_NAMES[memory]} ${spansText(buffer.targets[memory])}`;
   const waits = jobsText(unique(state.unfinished(buffer.fences)));
-  const head = `Job ${number} of the move engine will copy the ${counted(buffer.declared.pages, "page")} of ${name} from ${from} to ${to}, where ${name} stands from now on.`;
+  const head = `Job ${number} of the move engine will copy ${buffer.declared.pages === 1 ? "the page" : `the ${buffer.declared.pages} pages`} of ${name} from ${from} to ${to}, where ${name} stands from now on.`;
   const old = left === "now"
     ? " An eviction needs the old pages, so they are free at once: the job is the move fence, and whoever takes pages of VRAM before it is done waits for it."
     : ` Ghost ${left} keeps the old pages${buffer.memory === "tt" ? " and frames" : ""} until the job is done.`;

@@ -3,7 +3,7 @@
 
 const AREAS = ["vram", "tt", "frames", "swap"];
 const AREA_TITLES = { vram: "VRAM", tt: "TT", frames: "Frames", swap: "Swap slots" };
-const AREA_UNITS = { vram: "pages", tt: "pages", frames: "frames", swap: "slots" };
+const AREA_UNITS = { vram: "page", tt: "page", frames: "frame", swap: "slot" };
 
 const liveOwner = (index) => 2 * index + 1;
 const targetOwner = (index) => 2 * index + 2;
@@ -67,6 +67,5 @@ function ownerName(script, owner) {
 
 /** Says in words who has what of an area. */
 function areaText(script, owners) {
-  if (!owners.length) return "none in this script";
   return runsOf(owners).map(([first, last, owner]) => `${ownerName(script, owner)} ${spanText([first, last])}`).join(" · ");
 }

@@ -4,6 +4,7 @@
 const CELLS = [30, 26, 22, 18, 15, 12, 10, 8, 7, 6, 5, 4, 3, 2]; // pixels of a square with its gap
 const TALLEST = 150; // pixels of an area
 const GUTTER = 44; // pixels for the number of the first page of a row
+const EDGE = 1; // pixels above and left of the squares, for frames
 const LETTERS = 16; // the least square with letters
 
 const PATTERNS = new Map();
@@ -28,8 +29,8 @@ function columnsOf(most) {
 function drawArea(canvas, script, owners, changed) {
   const grid = gridOf(owners.length, canvas.parentElement.clientWidth);
   const scale = window.devicePixelRatio || 1;
-  const width = GUTTER + grid.columns * grid.cell;
-  const height = Math.max(1, grid.rows) * grid.cell;
+  const width = GUTTER + grid.columns * grid.cell + EDGE;
+  const height = grid.rows * grid.cell + EDGE;
   canvas.width = width * scale;
   canvas.height = height * scale;
   canvas.style.width = `${width}px`;
@@ -51,7 +52,7 @@ function drawRowNumbers(pen, grid, count) {
   pen.textBaseline = "middle";
   const every = Math.max(1, Math.ceil(12 / grid.cell));
   for (let row = 0; row * grid.columns < count; row += every) {
-    pen.fillText(String(row * grid.columns), GUTTER - 8, row * grid.cell + Math.max(grid.cell, 8) / 2);
+    pen.fillText(String(row * grid.columns), GUTTER - 8, EDGE + row * grid.cell + Math.max(grid.cell, 8) / 2);
   }
 }
 
@@ -67,7 +68,7 @@ function cutRun([first, last, owner], columns) {
 }
 
 function placeOf(grid, page) {
-  return [GUTTER + (page % grid.columns) * grid.cell, Math.floor(page / grid.columns) * grid.cell];
+  return [GUTTER + (page % grid.columns) * grid.cell, EDGE + Math.floor(page / grid.columns) * grid.cell];
 }
 
 function drawRun(pen, script, grid, [first, last, owner]) {
