@@ -1,7 +1,7 @@
 "use strict";
 // Starts the page, and shows the state after one entry at a time: the slider, the keys, the search and the clock.
 
-const NEAR = 12; // entries shown before and after the one at work
+const NEAR = 16; // entries shown before and after the one at work
 const PREPARED = 20000; // entries that are followed at a time while nothing else is to be done
 
 const byId = (id) => document.getElementById(id);
@@ -58,7 +58,12 @@ function showArea(area, old) {
   figure.querySelector(".account").textContent = accountText(area, now);
   if (!now.length) return;
   figure.querySelector(".spans").textContent = areaText(script, now);
-  drawArea(figure.querySelector("canvas"), script, now, now.map((owner, page) => Number(owner !== old[page])));
+  drawArea(figure.querySelector("canvas"), script, now, now.map((owner, page) => Number(owner !== old[page])), chosen());
+}
+
+/** Returns the index of the chosen buffer, or null. */
+function chosen() {
+  return byId("search").value ? script.byName.get(byId("search").value) : null;
 }
 
 /** Says how many pages of an area are whose. */
@@ -89,9 +94,10 @@ function showLines(number) {
   const first = Math.max(1, Math.min(number - NEAR, lines.length - 2 * NEAR));
   const items = [];
   for (let at = first; at <= Math.min(lines.length, first + 2 * NEAR); at += 1) {
-    const button = make("button", { tabindex: "-1", "aria-current": at === number ? "true" : null }, make("span", null, String(at)), lines[at - 1]);
+    const button = make("button", { tabindex: "-1", "aria-current": at === number ? "true" : null }, make("span", { style: `width:${String(lines.length).length}ch` }, String(at)), lines[at - 1]);
     button.addEventListener("click", () => show(at));
-    items.push(make("li", { class: at === number ? "now" : at > number ? "later" : null }, button));
+    const kinds = [at === number ? "now" : at > number ? "later" : "", chosen() !== null && names(lines[at - 1], byId("search").value) ? "chosen" : ""];
+    items.push(make("li", { class: kinds.join(" ") }, button));
   }
   byId("lines").replaceChildren(...items);
 }
@@ -181,6 +187,7 @@ function listen() {
   for (const [id, follow] of Object.entries(clicks)) byId(id).addEventListener("click", follow);
   byId("slider").addEventListener("input", () => show(Number(byId("slider").value)));
   byId("number").addEventListener("change", () => show(Number(byId("number").value)));
+  byId("search").addEventListener("change", again);
   byId("speed").addEventListener("change", () => clock && play(true));
   document.addEventListener("keydown", press);
   window.addEventListener("hashchange", () => show(Number(location.hash.slice(1))));

@@ -92,7 +92,7 @@ const SENTENCES = {
     return `${MEMORY_NAMES[why]} has no room. ${name} is the first buffer in its eviction order that may go: t${course.thread} catches it, to evict it.`;
   },
   loose(state, [name]) {
-    return `The victim ${name} has made room. It is let go, and is last in its list, as if it had just been used.`;
+    return `The victim ${name} has made room. It is let go, and counts as just used.`;
   },
   skip(state, [name]) {
     return `The victim ${name} found no way out. It is let go where it stands, and this command won't try to evict it again.`;
@@ -136,7 +136,7 @@ const SENTENCES = {
     return `The members of group ${group} go to the end of each list, in their order: they are evicted last.`;
   },
   result(state, words, course) {
-    const held = course.held.length ? ` ${named(state, course.held)} ${course.held.length === 1 ? "is" : "are"} let go, and last in the list, as just used.` : "";
+    const held = course.held.length ? ` ${named(state, course.held)} ${course.held.length === 1 ? "is let go, and counts" : "are let go, and count"} as just used.` : "";
     const shown = { read: ` It reads ${words[1]}.`, find: ` It stands in ${words[1]} ${words[2]}.` }[words[0]] || "";
     return `t${course.thread} has done ${commandText(state, course).replace(/,$/, ".")}${shown}${held}`;
   },
@@ -185,13 +185,13 @@ const KERNEL = {
   swapout: "ttm_tt_swapout() (ttm_tt.c)",
   nopages: "-ENOMEM of ttm_tt_populate() (ttm_tt.c)",
   arm: "drm_sched_job_arm() (sched_main.c), dma_resv_add_fence() (dma-resv.c)",
-  packet: "none: the card's ring runs it",
+  packet: "no function, the card's ring runs it",
   done: "dma_fence_signal() (dma-fence.c)",
   reap: "ttm_bo_delayed_delete() (ttm_bo.c)",
   bulk: "ttm_lru_bulk_move_tail() (ttm_resource.c)",
   result: "ttm_bo_unreserve() (ttm_bo_driver.h)",
   resultSubmit: "ttm_eu_fence_buffer_objects() (ttm_execbuf_util.c)",
-  resultAlone: "none: the ioctl returns",
+  resultAlone: "no function, the ioctl returns",
   refused: "an error of the ioctl; ttm_eu_backoff_reservation() on its way out (ttm_execbuf_util.c)",
 };
 

@@ -60,7 +60,7 @@ function tableText(buffer) {
   return parts.join(", ");
 }
 
-/** Shortens numbers in their order: 3 4 5 9 is `3-6,9-10`, spans without their last page. */
+/** Shortens numbers in their order: 3 4 5 9 is `3-6, 9`, spans without their last page. */
 function rangesText(numbers) {
   const spans = [];
   for (const number of numbers) {
@@ -69,7 +69,7 @@ function rangesText(numbers) {
     else spans.push([number, number + 1]);
   }
   const shown = spans.slice(0, 6).map(([first, last]) => (last === first + 1 ? String(first) : `${first}-${last}`));
-  return shown.join(",") + (spans.length > 6 ? ",.." : "");
+  return shown.join(", ") + (spans.length > 6 ? ", .." : "");
 }
 
 /** Says which thread holds a buffer, with its ticket. */
@@ -86,7 +86,7 @@ function fencesText(state, buffer) {
 function showThreads(script, state, actor, waits) {
   const rows = state.courses.map((course) => {
     const command = state.commandOf(course);
-    const what = command ? `${course.answered + 1} of ${script.threads[course.thread - 1].length}: ${command.text}` : "all answered";
+    const what = command ? `${course.answered + 1} ${command.text}` : "all answered";
     const victims = course.caught.flatMap((victim) => [sign(script, victim.index), ` for ${victim.why}${victim.fail ? `, ${victim.fail}` : ""} `]);
     const more = [course.skips.length ? `skips ${named(state, course.skips)}` : "", course.fail ? `failed: ${course.fail}` : ""].filter(Boolean).join("; ");
     const wait = waits.get(course.thread);
@@ -118,7 +118,7 @@ function showGhosts(script, state) {
 function showLists(script, state) {
   const rows = [];
   for (let priority = 0; priority < PRIORITIES; priority += 1) {
-    rows.push(row(null, `priority ${priority}`, ...MEMORIES.map((memory, at) => signs(script, state.lists[at][priority]))));
+    rows.push(row(null, `priority ${priority}`, ...MEMORIES.map((memory, at) => make("div", { class: "members" }, ...signs(script, state.lists[at][priority])))));
   }
   fillTable(document.getElementById("lists"), ["", ...MEMORIES.map((memory) => MEMORY_NAMES[memory])], rows, "");
 }

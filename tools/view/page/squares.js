@@ -1,11 +1,12 @@
 "use strict";
 // Draws pages, frames and slots as squares: a buffer's in its colour, a target hatched, a ghost grey with dots, free ones empty.
 
-const CELLS = [30, 26, 22, 18, 15, 12, 10, 8, 7, 6, 5, 4, 3, 2]; // pixels of a square with its gap
-const TALLEST = 150; // pixels of an area
+const CELLS = [28, 25, 22, 18, 15, 12, 10, 8, 7, 6, 5, 4, 3, 2]; // pixels of a square with its gap
+const TALLEST = 132; // pixels of an area
 const GUTTER = 44; // pixels for the number of the first page of a row
 const EDGE = 1; // pixels above and left of the squares, for frames
 const LETTERS = 16; // the least square with letters
+const FAINT = 0.25;
 
 const PATTERNS = new Map();
 
@@ -25,12 +26,12 @@ function columnsOf(most) {
   return Math.max(1, most);
 }
 
-/** Draws one area; `changed` tells which pages the entry gave another owner. */
-function drawArea(canvas, script, owners, changed) {
+/** Draws one area; `changed` tells which pages the entry gave another owner. Where a buffer is chosen, the pages of others are faint. */
+function drawArea(canvas, script, owners, changed, chosen) {
   const grid = gridOf(owners.length, canvas.parentElement.clientWidth);
   const scale = window.devicePixelRatio || 1;
   const width = GUTTER + grid.columns * grid.cell + EDGE;
-  const height = grid.rows * grid.cell + EDGE;
+  const height = Math.max(grid.rows * grid.cell, 10) + EDGE;
   canvas.width = width * scale;
   canvas.height = height * scale;
   canvas.style.width = `${width}px`;
@@ -41,7 +42,11 @@ function drawArea(canvas, script, owners, changed) {
   drawRowNumbers(pen, grid, owners.length);
   const rows = [];
   for (const run of runsOf(owners)) rows.push(...cutRun(run, grid.columns));
-  for (const run of rows) drawRun(pen, script, grid, run);
+  for (const run of rows) {
+    pen.globalAlpha = chosen === null || run[2] === 0 || (run[2] > 0 && bufferOf(run[2]) === chosen) ? 1 : FAINT;
+    drawRun(pen, script, grid, run);
+  }
+  pen.globalAlpha = 1;
   for (const run of rows) drawChanges(pen, grid, run, changed);
 }
 
@@ -52,7 +57,8 @@ function drawRowNumbers(pen, grid, count) {
   pen.textBaseline = "middle";
   const every = Math.max(1, Math.ceil(12 / grid.cell));
   for (let row = 0; row * grid.columns < count; row += every) {
-    pen.fillText(String(row * grid.columns), GUTTER - 8, EDGE + row * grid.cell + Math.max(grid.cell, 8) / 2);
+    const middle = EDGE + row * grid.cell + Math.max(grid.cell, 10) / 2;
+    if (row === 0 || middle + 4 <= grid.rows * grid.cell) pen.fillText(String(row * grid.columns), GUTTER - 8, middle);
   }
 }
 
