@@ -43,7 +43,7 @@ says() {
 # Whether nothing is left of what the launcher made for a while.
 leaves_nothing() {
   [ -z "$(ls "$room/tmp")" ] || fault "$1: files are left in the folder for temporary files: $(ls "$room/tmp")"
-  [ ! -e "$room/copy/crates/ttm/out/unproved/new" ] || fault "$1: a part of a build is left"
+  [ -z "$(find "$room/copy/crates/ttm/out/unproved" -name 'new*' 2>/dev/null)" ] || fault "$1: a part of a build is left"
 }
 
 # tries WHAT N: how many builds of an unproved program were begun since the last time
@@ -54,7 +54,7 @@ tries() {
   [ "$found" -eq "$2" ] || fault "$1: $found builds were begun, and not $2"
 }
 
-for case in words first_build fresh_or_not changed_sources failed_builds proved_builds two_at_once interrupted inputs comments explanations \
+for case in words first_build fresh_or_not changed_sources failed_builds proved_builds two_at_once edited_meanwhile interrupted inputs comments explanations \
   viewers no_python read_only installed; do
   "check_$case"
   leaves_nothing "$case"

@@ -22,7 +22,7 @@ find_input() {
   elif [ "${#files[@]}" -gt 0 ]; then
     make_room
     given=$room/given
-    cat -- "${files[@]}" >"$given" || stop 1
+    cat -- "${files[@]}" >"$given" || exit 1
   elif [ ! -e "/proc/$$/fd/0" ] || [ -d "/proc/$$/fd/0" ]; then
     given=
   elif is_file_at_start; then
@@ -30,7 +30,7 @@ find_input() {
   else
     make_room
     given=$room/given
-    head -c "$most_bytes" >"$given" || stop 1
+    head -c "$most_bytes" >"$given" || exit 1
   fi
 }
 
@@ -45,7 +45,7 @@ find_plain() {
   if has_viewers; then
     make_room
     plain=$room/plain
-    python3 "$top/tools/view" plain <"$given" >"$plain" || stop 1
+    python3 "$top/tools/view" plain <"$given" >"$plain" || exit 1
   else
     echo "ttm: comments need tools/view and python3, so they stay in the script" >&2
   fi
@@ -80,5 +80,5 @@ answer_program() {
   case $status in
     3 | 8) has_viewers && explain ;;
   esac
-  stop "$status"
+  exit "$status"
 }

@@ -67,11 +67,6 @@ remember() {
   fi
 }
 
-# Marks the program $1 as made from sources of the sum $2.
-mark() {
-  sums_of "$1" "$2" >"$1.made.new" && mv -f "$1.made.new" "$1.made"
-}
-
 # Sets `unproved` to an unproved program that is up to date, and makes it where there is none: beside the proved one, or where nothing can be
 # written there, in the user's cache.
 find_unproved() {
@@ -129,7 +124,7 @@ unlock() {
   exec 9>&-
 }
 
-# Runs a build, without the lock and in a group of processes of its own, which `stop` ends. Its status is the build's.
+# Runs a build, without the lock and in a group of processes of its own, which `clean` ends. Its status is the build's.
 run_build() {
   (trap - INT && exec setsid "$@") 9>&- </dev/null &
   child=$!
@@ -149,13 +144,15 @@ end_build() {
 stop_unbuilt() {
   tail -n 15 "$1" >&2
   echo "ttm: the program wasn't built; the whole log is $1" >&2
-  stop 1
+  exit 1
 }
 
-stop_if_changed() {
-  if [ "$1" != "$(sum_of_sources)" ]; then
+# Marks the program $1 as made from sources of the sum $2, which they were as its build began, and ends the launcher if they aren't any more.
+mark() {
+  sums_of "$1" "$2" >"$1.made.new" && mv -f "$1.made.new" "$1.made"
+  if ! is_fresh "$1"; then
     echo "ttm: sources changed while the program was built; build it again" >&2
-    stop 1
+    exit 1
   fi
 }
 
@@ -165,12 +162,11 @@ make_unproved() {
   stop_without_kit
   lock "$folder"
   if ! is_fresh "$unproved"; then
-    scrap=$folder/new
-    rm -rf "$scrap"
+    rm -rf "$folder"/new.*
+    scrap=$folder/new.$$
     mkdir "$scrap"
     sum=$(sum_of_sources)
     build_unproved "$scrap" "$folder/build.log"
-    stop_if_changed "$sum"
     rm -f "$unproved.made" "$unproved.seen"
     mv -f "$scrap/ttm" "$unproved" && mark "$unproved" "$sum"
     rm -rf "$scrap"
@@ -216,7 +212,6 @@ make_proved() {
     sum=$(sum_of_sources)
     run_build "$top/tools/build_progress.py" ttm "$folder/build.log"
     end_build || stop_unbuilt "$folder/build.log"
-    stop_if_changed "$sum"
     mark "$proved" "$sum"
   fi
   unlock

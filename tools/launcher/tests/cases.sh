@@ -117,6 +117,16 @@ check_two_at_once() {
   tries "two at once" 1
 }
 
+check_edited_meanwhile() {
+  local source=$room/copy/crates/base/src/main.rt
+  echo "fn main() { f1(); }" >"$source"
+  (sleep 0.7 && echo "fn main() { f2(); }" >"$source") &
+  expect "a source was edited while the program was built" 1 "" 3 sim
+  says "a source was edited while the program was built" "sources changed"
+  expect "a build after that" 0 "unproved: sim" 3 sim
+  tries "edited meanwhile" 2
+}
+
 # interrupt SIGNAL STATUS SECONDS WORD ..: the status of a run whose group of processes gets a signal
 interrupt() {
   local signal=$1 wanted=$2 seconds=$3 status
@@ -124,7 +134,7 @@ interrupt() {
   PATH=$whole "$room/ttm" "$@" >"$room/first" 2>&1 &
   sleep "$seconds"
   kill "-$signal" -- "-$!"
-  wait "$!"
+  { wait "$!"; } 2>/dev/null
   status=$?
   [ "$status" -eq "$wanted" ] || fault "$signal after $seconds s: status $status, and not $wanted"
   leaves_nothing "$signal after $seconds s"
