@@ -4,7 +4,7 @@ from __future__ import annotations
 
 from typing import Union
 
-from .apply_pages import ApplyPages, Told, require
+from .apply_pages import ApplyPages, Told
 from .entries import Backoff, Bulk, Catch, Dry, Loose, New, NoPages, Refused, Reserve, Result, Skip, Ticket
 from .limits import PINS
 from .script import SYSTEM, TT
@@ -22,14 +22,13 @@ class ApplyCommands(ApplyPages):
         })  # fmt: skip
 
     def begin(self, course: Course, number: int) -> None:
-        """Notes that entry `number` is one of this thread; it may begin a command."""
-        course.last_entry = number
-        if not course.first_entry:
-            command = course.command()
-            require(command is not None, f"thread {course.thread} has no command left")
-            course.first_entry = number
-            for tell in self.told["command_begun"]:
-                tell(course, command)
+        """Begins a command with entry `number`."""
+        command = course.command()
+        if command is None:
+            raise ValueError(f"thread {course.thread} has no command left")
+        course.first_entry = number
+        for tell in self.told["command_begun"]:
+            tell(course, command)
 
     def ticket(self, course: Course, entry: Ticket) -> None:
         course.stamp = self.state.last_stamp = entry.stamp
@@ -37,8 +36,10 @@ class ApplyCommands(ApplyPages):
 
     def reserve(self, course: Course, entry: Reserve) -> None:
         buffer = self.live(entry.buffer)
-        require(not buffer.holder, f"{buffer.declared.name} is reserved")
-        require(course.stamp > 0, "the thread has no ticket")
+        if buffer.holder:
+            raise ValueError(f"{buffer.declared.name} is reserved")
+        if not course.stamp:
+            raise ValueError("the thread has no ticket")
         buffer.holder = course.stamp
         course.held.append(entry.buffer)
 
@@ -55,14 +56,16 @@ class ApplyCommands(ApplyPages):
 
     def new(self, course: Course, entry: New) -> None:
         buffer = self.state.buffers[entry.buffer]
-        require(not buffer.is_live, f"{buffer.declared.name} is live")
+        if buffer.is_live:
+            raise ValueError(f"{buffer.declared.name} is live")
         buffer.clear(True)
         self.state.put_on(buffer)
         course.made = True
 
     def catch(self, course: Course, entry: Catch) -> None:
         buffer = self.live(entry.buffer)
-        require(not buffer.holder and course.stamp > 0, f"{buffer.declared.name} can't be caught")
+        if buffer.holder or not course.stamp:
+            raise ValueError(f"{buffer.declared.name} can't be caught")
         buffer.holder = course.stamp
         victim = Victim(entry.buffer, entry.why)
         if buffer.memory == TT:
@@ -76,7 +79,8 @@ class ApplyCommands(ApplyPages):
     def _let_go(self, course: Course, index: int) -> None:
         """Lets go of a caught victim."""
         kept = [victim for victim in course.caught if victim.buffer != index]
-        require(len(kept) < len(course.caught), "that buffer isn't caught")
+        if len(kept) == len(course.caught):
+            raise ValueError("that buffer isn't caught")
         course.caught = kept
         self.state.buffers[index].holder = 0
 
@@ -134,7 +138,8 @@ class ApplyCommands(ApplyPages):
     def _pin(self, course: Course, index: int, step: int) -> None:
         """Pins a buffer, which takes it off its list, or takes a pin away."""
         buffer = self.live(index)
-        require(0 <= buffer.pins + step <= PINS, f"{buffer.declared.name} has {buffer.pins} pins")
+        if not 0 <= buffer.pins + step <= PINS:
+            raise ValueError(f"{buffer.declared.name} has {buffer.pins} pins")
         if not buffer.pins:
             self.state.take_off(buffer)
         buffer.pins += step

@@ -5,7 +5,7 @@ from __future__ import annotations
 from typing import List, Optional
 
 from .apply_commands import ApplyCommands
-from .apply_pages import Told, require
+from .apply_pages import Told
 from .entries import Arm, Done, Free, Move, Packet, Reap
 from .observers import Moved
 from .script import TT, VRAM
@@ -21,7 +21,8 @@ class ApplyMoves(ApplyCommands):
 
     def _emit(self, course: Course, engine: int, number: int, packets: int) -> Job:
         """Makes a job, which nothing waits for yet."""
-        require((engine, number) not in self.state.jobs, f"there is a job {number} of engine {engine} already")
+        if (engine, number) in self.state.jobs:
+            raise ValueError(f"there is a job {number} of engine {engine} already")
         job = Job(engine, number, course.thread, course.answered + 1, packets, self.number)
         self.state.jobs[engine, number] = job
         self.state.last_job[engine] = number
@@ -37,7 +38,8 @@ class ApplyMoves(ApplyCommands):
 
     def _ghost(self, number: int, buffer: BufferState, jobs: List[Job]) -> Ghost:
         """Makes a ghost that has nothing yet."""
-        require(number > 0 and number not in self.state.ghosts, f"ghost {number} can't be made")
+        if number == 0 or number in self.state.ghosts:
+            raise ValueError(f"ghost {number} can't be made")
         ghost = Ghost(number, buffer.index, self.number)
         ghost.jobs = jobs
         self.state.ghosts[number] = ghost
@@ -59,7 +61,8 @@ class ApplyMoves(ApplyCommands):
 
     def free(self, course: Course, entry: Free) -> None:
         buffer = self.live(entry.buffer)
-        require(not buffer.targets, f"{buffer.declared.name} has a target")
+        if buffer.targets:
+            raise ValueError(f"{buffer.declared.name} has a target")
         ghost = self._ghost(entry.ghost, buffer, list(buffer.fences)) if entry.ghost else None
         for slot in buffer.slots:
             if slot is not None:
@@ -76,7 +79,8 @@ class ApplyMoves(ApplyCommands):
 
     def move(self, course: Course, entry: Move) -> None:
         buffer = self.live(entry.buffer)
-        require(buffer.memory in (VRAM, TT), f"{buffer.declared.name} isn't in vram or tt")
+        if buffer.memory not in (VRAM, TT):
+            raise ValueError(f"{buffer.declared.name} isn't in vram or tt")
         new = buffer.targets.pop(entry.memory)
         old, before = buffer.spans, buffer.memory
         job = self._emit(course, 0, entry.job, buffer.declared.pages)
@@ -100,7 +104,8 @@ class ApplyMoves(ApplyCommands):
     def arm(self, course: Course, entry: Arm) -> None:
         command = course.command()
         assert command is not None
-        require(command.verb == "submit" and command.engine == entry.engine, "the command at work isn't a submit to that engine")
+        if command.verb != "submit" or command.engine != entry.engine:
+            raise ValueError("the command at work isn't a submit to that engine")
         job = self._emit(course, entry.engine, entry.job, sum(op.packets() for op in command.operations))
         written = {op.buffer for op in command.operations if op.writes}
         for index in command.buffers:
@@ -111,7 +116,8 @@ class ApplyMoves(ApplyCommands):
 
     def packet(self, course: None, entry: Packet) -> None:
         job = self.state.jobs[entry.actor.number, entry.job]
-        require(job.ran == entry.packet and job.ran < job.packets, f"packet {job.ran} of {job.packets} would be next")
+        if job.ran != entry.packet or job.ran >= job.packets:
+            raise ValueError(f"packet {job.ran} of {job.packets} would be next")
         job.ran += 1
         if not job.begun:
             job.begun = self.number
@@ -120,7 +126,8 @@ class ApplyMoves(ApplyCommands):
 
     def done(self, course: None, entry: Done) -> None:
         job = self.state.jobs.pop((entry.actor.number, entry.job))
-        require(job.ran == job.packets, f"{job.ran} of its {job.packets} packets have run")
+        if job.ran != job.packets:
+            raise ValueError(f"{job.ran} of its {job.packets} packets have run")
         job.done = self.number
         for index in job.buffers:
             self.state.buffers[index].fences.pop(job, None)

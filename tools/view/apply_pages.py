@@ -11,12 +11,6 @@ from .state import KERNEL, BufferState, Course, Holder, State
 Told = Dict[str, List[Callable[..., None]]]
 
 
-def require(condition: bool, text: str) -> None:
-    """Raises ValueError where an entry can't be followed."""
-    if not condition:
-        raise ValueError(text)
-
-
 class ApplyPages:
     """Changes a state by the entries on targets and page tables. `handlers` has a method for each kind of entry; `number` is the entry's."""
 
@@ -35,11 +29,14 @@ class ApplyPages:
     def pass_span(self, area_name: str, span: Span, before: Optional[Holder], after: Optional[Holder]) -> None:
         """Gives pages of an area from one holder to another; None is free."""
         area = self.state.areas[area_name]
+        owner = area.owner
         first, last = span
         count = last - first
-        require(0 <= first < last <= area.size, f"{area_name} has {area.size} pages")
-        require(area.owner[first:last].count(before) == count, f"pages {first}-{last} of {area_name} aren't {_named(before)}")
-        area.owner[first:last] = [after] * count
+        if last > area.size:
+            raise ValueError(f"{area_name} has {area.size} pages")
+        if owner[first:last].count(before) != count:
+            raise ValueError(f"pages {first}-{last} of {area_name} aren't {_named(before)}")
+        owner[first:last] = [after] * count
         if before is None or after is None:
             bits = ((1 << count) - 1) << first
             if before is None:
@@ -59,8 +56,10 @@ class ApplyPages:
     def pass_one(self, area_name: str, page: int, before: Optional[Holder], after: Optional[Holder]) -> None:
         """Gives a frame or a slot from one holder to another; None is free."""
         area = self.frames if area_name == "frames" else self.slots
-        require(page < area.size, f"there are {area.size} {'frames' if area is self.frames else 'slots'}")
-        require(area.owner[page] == before, f"{'frame' if area is self.frames else 'slot'} {page} isn't {_named(before)}")
+        if page >= area.size:
+            raise ValueError(f"there are {area.size} {'frames' if area is self.frames else 'slots'}")
+        if area.owner[page] is not before:
+            raise ValueError(f"{'frame' if area is self.frames else 'slot'} {page} isn't {_named(before)}")
         area.owner[page] = after
         if before is None:
             area.free -= 1
@@ -72,7 +71,8 @@ class ApplyPages:
     def live(self, index: int) -> BufferState:
         """Returns a live buffer."""
         buffer = self.state.buffers[index]
-        require(buffer.is_live, f"{buffer.declared.name} isn't live")
+        if not buffer.is_live:
+            raise ValueError(f"{buffer.declared.name} isn't live")
         return buffer
 
     def relist(self, buffer: BufferState, memory: str) -> None:
@@ -83,9 +83,11 @@ class ApplyPages:
 
     def take(self, course: Course, entry: Take) -> None:
         buffer = self.live(entry.buffer)
-        require(entry.memory not in buffer.targets, f"there is a target in {entry.memory} already")
+        if entry.memory in buffer.targets:
+            raise ValueError(f"there is a target in {entry.memory} already")
         if entry.memory != SYSTEM:
-            require(sum(span.last - span.first for span in entry.spans) == buffer.declared.pages, "the spans haven't the buffer's pages")
+            if sum([last - first for first, last in entry.spans]) != buffer.declared.pages:
+                raise ValueError("the spans haven't the buffer's pages")
             self.pass_spans(entry.memory, entry.spans, None, buffer.as_target)
         buffer.targets[entry.memory] = entry.spans
         fence = self.state.move_fence
@@ -103,9 +105,12 @@ class ApplyPages:
 
     def _page(self, buffer: BufferState, page: int, slot: Optional[int]) -> None:
         """Requires that a page of a buffer has no frame, and this slot or none."""
-        require(page < len(buffer.frames), f"{buffer.declared.name} has {len(buffer.frames)} pages")
-        require(buffer.frames[page] is None, f"page {page} of {buffer.declared.name} has a frame")
-        require(buffer.slots[page] == slot, f"page {page} of {buffer.declared.name} isn't in {'no slot' if slot is None else 'that slot'}")
+        if page >= len(buffer.frames):
+            raise ValueError(f"{buffer.declared.name} has {len(buffer.frames)} pages")
+        if buffer.frames[page] is not None:
+            raise ValueError(f"page {page} of {buffer.declared.name} has a frame")
+        if buffer.slots[page] != slot:
+            raise ValueError(f"page {page} of {buffer.declared.name} isn't in {'no slot' if slot is None else 'that slot'}")
 
     def populate(self, course: Course, entry: Populate) -> None:
         buffer = self.live(entry.buffer)
@@ -125,10 +130,11 @@ class ApplyPages:
 
     def swap_out(self, course: Course, entry: SwapOut) -> None:
         buffer = self.live(entry.buffer)
-        require(entry.page < len(buffer.frames), f"{buffer.declared.name} has {len(buffer.frames)} pages")
+        if entry.page >= len(buffer.frames):
+            raise ValueError(f"{buffer.declared.name} has {len(buffer.frames)} pages")
         frame = buffer.frames[entry.page]
-        require(frame is not None, f"page {entry.page} of {buffer.declared.name} has no frame")
-        assert frame is not None
+        if frame is None:
+            raise ValueError(f"page {entry.page} of {buffer.declared.name} has no frame")
         self.pass_one("swap", entry.slot, None, buffer.as_live)
         self.pass_one("frames", frame, buffer.as_live, None)
         buffer.frames[entry.page], buffer.slots[entry.page] = None, entry.slot
@@ -149,14 +155,16 @@ class ApplyPages:
 
     def bind(self, course: Course, entry: Bind) -> None:
         buffer = self.live(entry.buffer)
-        require(buffer.memory == SYSTEM and TT in buffer.targets, f"{buffer.declared.name} isn't in sys with a target in tt")
+        if buffer.memory != SYSTEM or TT not in buffer.targets:
+            raise ValueError(f"{buffer.declared.name} isn't in sys with a target in tt")
         buffer.spans = buffer.targets.pop(TT)
         self.pass_spans("tt", buffer.spans, buffer.as_target, buffer.as_live)
         self.relist(buffer, TT)
 
     def unbind(self, course: Course, entry: Unbind) -> None:
         buffer = self.live(entry.buffer)
-        require(buffer.memory == TT, f"{buffer.declared.name} isn't in tt")
+        if buffer.memory != TT:
+            raise ValueError(f"{buffer.declared.name} isn't in tt")
         self.pass_spans("tt", buffer.spans, buffer.as_live, None)
         buffer.spans = ()
         buffer.targets.pop(SYSTEM, None)

@@ -2,6 +2,7 @@
 
 from __future__ import annotations
 
+import gc
 import os
 import sys
 from importlib import import_module
@@ -19,6 +20,7 @@ def main(args: List[str]) -> int:
     if not args or args[0] not in words:
         print(usage(), file=sys.stdout if args[:1] == ["--help"] else sys.stderr)
         return 0 if args[:1] == ["--help"] else USAGE
+    gc.disable()  # A viewer keeps what it reads until it ends, and looking for garbage among millions of entries takes half of its time.
     module = import_module(f".{words[args[0]].module}", __package__)
     try:
         status = int(module.main(args[1:]))

@@ -33,7 +33,7 @@ def need_words(line: Words, form: str) -> None:
     parts = form.split(" ")
     have = len(line.words)
     if have < len(parts):
-        raise line.stop(have, f"{parts[have]} is missing", form)
+        raise line.stop(have, f"{f'the word `{parts[have]}`' if parts[have].islower() else parts[have]} is missing", form)
     if have > len(parts):
         raise line.stop(len(parts), f"`{short(line.words[len(parts)])}` is one word too many", form)
 
@@ -99,7 +99,7 @@ class CommandLines:
         if length == 0:
             line.fault(8, index, "the length is 0", "a length of at least 1 byte")
         elif buffer is not None and offset is not None and length is not None:
-            size = self.script.buffers[buffer].bytes
+            size = self.script.buffers[buffer].byte_size
             if offset + length > size:
                 name = self.script.buffers[buffer].name
                 line.fault(8, index, f"bytes {offset} to {offset + length - 1} pass the end of {name}", f"{name} has {size} bytes, 0 to {size - 1}")

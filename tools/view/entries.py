@@ -199,6 +199,17 @@ VERBS: Dict[type, str] = {
 }  # fmt: skip
 
 
+ALPHABET = b"0123456789abcdefghijklmnopqrstuvwxyzABCDEFGHIJKLMNOPQRSTUVWXYZ ,:-\n"
+
+
+def first_odd_byte(data: bytes) -> int:
+    """Returns where the first byte stands that no report has, or a sign before a digit; -1 where each number can be read by `int`."""
+    odd = data.translate(None, ALPHABET)
+    places = [data.index(odd[:1])] if odd else []
+    places += [at for at in (data.find(b" -%d" % digit) for digit in range(10)) if at >= 0]
+    return min(places) if places else -1
+
+
 def number(word: str) -> int:
     """Reads a plain number of at most 20 digits; raises ValueError."""
     if not word.isdecimal() or len(word) > 20:
@@ -207,13 +218,13 @@ def number(word: str) -> int:
 
 
 def read_spans(word: str) -> Spans:
-    """Reads spans `F-L` joined by commas, or `-`; raises ValueError."""
+    """Reads spans `F-L` joined by commas, or `-`, of bytes without a `first_odd_byte`; raises ValueError."""
     if word == "-":
         return ()
     spans = []
     for part in word.split(","):
         first, last = part.split("-")
-        span = Span(number(first), number(last))
+        span = Span(int(first), int(last))
         if span.first >= span.last:
             raise ValueError(f"the span {part} has no pages")
         spans.append(span)

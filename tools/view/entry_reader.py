@@ -5,8 +5,8 @@ from __future__ import annotations
 from typing import Callable, Dict, List, Tuple
 
 from .entries import (
-    VERBS, Arm, Backoff, Bind, Bulk, Catch, Cause, Depopulate, Done, Dry, Entry, Free, Loose, Move, New, NoPages, Packet, Populate, Reap,
-    Refused, Reserve, Result, Skip, SwapIn, SwapOut, Take, Ticket, Unbind, Untake, number, read_spans, REASONS,
+    REASONS, VERBS, Arm, Backoff, Bind, Bulk, Catch, Cause, Depopulate, Done, Dry, Entry, Free, Loose, Move, New, NoPages, Packet, Populate, Reap,
+    Refused, Reserve, Result, Skip, SwapIn, SwapOut, Take, Ticket, Unbind, Untake, read_spans,
 )  # fmt: skip
 from .script import MEMORY_TYPES, SYSTEM, Actor, Script
 
@@ -23,7 +23,7 @@ def memory_type(word: str) -> str:
 class EntryReader:
     """Reads the words of entries of one script.
 
-    A reader gets the words of a line, of which the first two are the entry's number and the actor. It raises ValueError, KeyError or
+    The journal has no `first_odd_byte`. A reader gets the words of a line, of which the first two are the entry's number and the actor. It raises ValueError, KeyError or
     IndexError where they are no entry.
     """
 
@@ -49,15 +49,15 @@ class EntryReader:
 
     def ticket(self, actor: Actor, words: List[str]) -> Entry:
         _, _, _, stamp = words
-        return Ticket(actor, number(stamp))
+        return Ticket(actor, int(stamp))
 
     def backoff(self, actor: Actor, words: List[str]) -> Entry:
         _, _, _, buffer, stamp = words
-        return Backoff(actor, self.buffers[buffer], number(stamp))
+        return Backoff(actor, self.buffers[buffer], int(stamp))
 
     def free(self, actor: Actor, words: List[str]) -> Entry:
         _, _, _, buffer, ghost = words
-        return Free(actor, self.buffers[buffer], number(ghost))
+        return Free(actor, self.buffers[buffer], int(ghost))
 
     def take(self, actor: Actor, words: List[str]) -> Entry:
         _, _, _, buffer, memory, spans = words
@@ -72,15 +72,15 @@ class EntryReader:
 
     def populate(self, actor: Actor, words: List[str]) -> Entry:
         _, _, _, buffer, page, frame = words
-        return Populate(actor, self.buffers[buffer], number(page), number(frame))
+        return Populate(actor, self.buffers[buffer], int(page), int(frame))
 
     def swap_in(self, actor: Actor, words: List[str]) -> Entry:
         _, _, _, buffer, page, slot, frame = words
-        return SwapIn(actor, self.buffers[buffer], number(page), number(slot), number(frame))
+        return SwapIn(actor, self.buffers[buffer], int(page), int(slot), int(frame))
 
     def move(self, actor: Actor, words: List[str]) -> Entry:
         _, _, _, buffer, memory, job, ghost = words
-        return Move(actor, self.buffers[buffer], memory_type(memory), number(job), None if ghost == "now" else number(ghost))
+        return Move(actor, self.buffers[buffer], memory_type(memory), int(job), None if ghost == "now" else int(ghost))
 
     def catch(self, actor: Actor, words: List[str]) -> Entry:
         _, _, _, buffer, why = words
@@ -91,43 +91,43 @@ class EntryReader:
     def dry(self, actor: Actor, words: List[str]) -> Entry:
         _, _, _, buffer, place, causes = words
         if causes in ("short", "-"):
-            return Dry(actor, self.buffers[buffer], number(place), causes == "short", ())
-        return Dry(actor, self.buffers[buffer], number(place), False, tuple(self._cause(item) for item in causes.split(",")))
+            return Dry(actor, self.buffers[buffer], int(place), causes == "short", ())
+        return Dry(actor, self.buffers[buffer], int(place), False, tuple(self._cause(item) for item in causes.split(",")))
 
     def _cause(self, item: str) -> Cause:
         """Reads one cause of a dry place."""
         parts = item.split(":")
         if len(parts) == 3 and parts[1] == "reserved":
-            return Cause(self.buffers[parts[0]], "reserved", number(parts[2]))
+            return Cause(self.buffers[parts[0]], "reserved", int(parts[2]))
         if len(parts) != 2 or parts[1] not in ("pinned", "outside", "skipped"):
             raise ValueError(f"`{item[:24]}` is no cause")
         return Cause(self.buffers[parts[0]], parts[1], 0)
 
     def swap_out(self, actor: Actor, words: List[str]) -> Entry:
         _, _, _, buffer, page, slot = words
-        return SwapOut(actor, self.buffers[buffer], number(page), number(slot))
+        return SwapOut(actor, self.buffers[buffer], int(page), int(slot))
 
     def arm(self, actor: Actor, words: List[str]) -> Entry:
         _, _, _, engine, job = words
-        return Arm(actor, self.engines[engine], number(job))
+        return Arm(actor, self.engines[engine], int(job))
 
     def packet(self, actor: Actor, words: List[str]) -> Entry:
         if len(words) == 6:
-            return Packet(actor, number(words[3]), number(words[4]), words[5])
+            return Packet(actor, int(words[3]), int(words[4]), words[5])
         _, _, _, job, packet = words
-        return Packet(actor, number(job), number(packet), "")
+        return Packet(actor, int(job), int(packet), "")
 
     def done(self, actor: Actor, words: List[str]) -> Entry:
         _, _, _, job = words
-        return Done(actor, number(job))
+        return Done(actor, int(job))
 
     def reap(self, actor: Actor, words: List[str]) -> Entry:
         _, _, _, ghost = words
-        return Reap(actor, number(ghost))
+        return Reap(actor, int(ghost))
 
     def bulk(self, actor: Actor, words: List[str]) -> Entry:
         _, _, _, group = words
-        return Bulk(actor, number(group))
+        return Bulk(actor, int(group))
 
     def result(self, actor: Actor, words: List[str]) -> Entry:
         kind = words[3]
@@ -160,8 +160,18 @@ def read_entries(script: Script, lines: List[str]) -> Tuple[List[Entry], str]:
             actor, readers = actors[words[1]]
             add(readers[words[2]](actor, words))
     except KeyError as error:
-        return entries, f"`{str(error.args[0])[:24]}` is nothing that this script has, or this actor can do"
+        return entries, _unknown(reader, words, str(error.args[0])[:24])
     except (ValueError, IndexError) as error:
         text = str(error)
-        return entries, text if "`" in text or text.startswith("a ") else "the words of this entry are wrong"
+        return entries, text if "`" in text or text.startswith("a ") else "these aren't the words of an entry"
     return entries, ""
+
+
+def _unknown(reader: EntryReader, words: List[str], word: str) -> str:
+    """Says what a word is not that a line names."""
+    if words[1] not in reader.actors:
+        return f"the script has no actor `{word}`"
+    actor, readers = reader.actors[words[1]]
+    if words[2] not in readers:
+        return f"`{word}` is no entry of {'a thread' if actor.kind == 't' else 'an engine' if actor.kind == 'e' else 'the reaper'}"
+    return f"the script has no {'engine' if words[2] == 'arm' else 'buffer'} `{word}`"

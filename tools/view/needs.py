@@ -2,9 +2,10 @@
 
 from __future__ import annotations
 
-from typing import Dict, List, NamedTuple, Optional, Tuple
+from typing import Dict, List, NamedTuple, Optional, Set, Tuple
 
-from .script import SYSTEM, TT, VRAM, Command, Place, Span
+from .limits import PRIORITIES
+from .script import SYSTEM, TT, VRAM, Command, Place, Script, Span
 from .state import READ, BufferState, Course, Job, State, Victim
 
 Interest = Optional[str]
@@ -163,29 +164,38 @@ class Needs:
         """Tells whether a buffer in SYSTEM or TT without pins and holder has a frame."""
         return any(one.frame_count and one.memory != VRAM and not one.pins and not one.holder for one in self.state.buffers)
 
-    def _search(self, buffer: BufferState, first: List[Place], forced: List[Place], dry: int, skips: set) -> Optional[Need]:
+    def _search(self, buffer: BufferState, first: List[Place], forced: List[Place], dry: int, skips: Set[int]) -> Optional[Need]:
         """The need for a ghost where no place has a choice, and the forced place at work no victim."""
-        if any(self._has_choice(buffer, place) for place in first) or dry >= len(forced):
+        if not self.state.ghosts or dry >= len(forced):
             return None
         place = forced[dry]
-        if self._has_choice(buffer, place):
+        if place.memory == SYSTEM:
             return None
-        area = self.state.areas[place.memory]
-        reach = place.reach(area.size)
-        if reach.last - reach.first < buffer.declared.pages:
+        reach = place.reach(self.state.areas[place.memory].size)
+        ghost = self._ghost_in(place.memory, reach)
+        if ghost is None or reach.last - reach.first < buffer.declared.pages:
             return None
-        if any(self._is_victim(one, place.memory, reach, skips) for one in self.state.buffers):
+        if self._has_choice(buffer, place) or any(self._has_choice(buffer, one) for one in first if one is not place):
             return None
+        return None if self._has_victim(place.memory, reach, skips) else Need("ghost", buffer.index, ghost=ghost)
+
+    def _ghost_in(self, memory: str, reach: Span) -> Optional[int]:
+        """Returns the number of the first ghost that holds a page of a reach."""
         for ghost in self.state.ghosts.values():
-            if _meets(ghost.vram if place.memory == VRAM else ghost.tt, reach):
-                return Need("ghost", buffer.index, ghost=ghost.number)
+            spans = ghost.vram if memory == VRAM else ghost.tt
+            if spans and _meets(spans, reach):
+                return ghost.number
         return None
 
-    def _is_victim(self, one: BufferState, memory: str, reach: Span, skips: set) -> bool:
-        """Tells whether a buffer is evictable for a place."""
-        if not one.is_live or one.memory != memory or one.pins or one.holder or one.index in skips:
-            return False
-        return _meets(one.spans, reach)
+    def _has_victim(self, memory: str, reach: Span, skips: Set[int]) -> bool:
+        """Tells whether a buffer is evictable for a place: those on a list are live and have no pins."""
+        buffers, lists = self.state.buffers, self.state.lists
+        for priority in range(PRIORITIES):
+            for index in lists[memory, priority]:
+                one = buffers[index]
+                if not one.holder and index not in skips and _meets(one.spans, reach):
+                    return True
+        return False
 
     def _has_choice(self, buffer: BufferState, place: Place) -> bool:
         """Tells whether a place has room for a buffer as it stands."""
@@ -227,3 +237,13 @@ def _runs(free: int, pages: int) -> int:
 def _meets(spans: Tuple[Span, ...], reach: Span) -> bool:
     """Tells whether spans have a page in a reach."""
     return any(span.first < reach.last and reach.first < span.last for span in spans)
+
+
+def need_text(need: Need, script: Script) -> str:
+    """Says what a thread waits for, as `waits for e0 job 2, which uses a`."""
+    name = script.buffer_name(need.buffer)
+    if need.kind == "job":
+        return f"waits for {need.job}, which uses {name}"
+    if need.kind == "ghost":
+        return f"waits for ghost {need.ghost}, to get pages for {name}"
+    return f"waits for {name}, which ticket {need.stamp} holds"

@@ -29,7 +29,6 @@ class Replay:
         self.told_entry = told["entry"]
         self.waits = Waits(self.state, told["waited"])
         self.apply = ApplyMoves(self.state, told)
-        self._last: Optional[Course] = None
 
     def run(self) -> State:
         """Follows the whole journal, and returns the last state; raises ViewError where an entry can't be."""
@@ -41,17 +40,23 @@ class Replay:
         """Follows the journal, and gives each entry once the state is the one after it; raises ViewError."""
         apply, waits, told = self.apply, self.waits, self.told_entry
         handlers, courses = apply.handlers, self.state.courses
+        last: Optional[Course] = None
+        number = 0
         try:
             for number, entry in enumerate(self.report.entries, 1):
-                actor = entry[0]
-                course = courses[actor.number - 1] if actor.kind == "t" else None
-                if course is not self._last and self._last is not None:
-                    waits.look_at(self._last, number - 1)
-                if course is not None:
-                    waits.goes_on(course, number)
-                    apply.begin(course, number)
-                self._last = course
+                letter, index = entry[0]
+                course = courses[index - 1] if letter == "t" else None
                 self.number = apply.number = number
+                if course is not last:
+                    if last is not None:
+                        waits.look_at(last, number - 1)
+                    if course is not None:
+                        waits.goes_on(course, number)
+                    last = course
+                if course is not None:
+                    course.last_entry = number
+                    if not course.first_entry:
+                        apply.begin(course, number)
                 kind = type(entry)
                 handlers[kind](course, entry)
                 if waits.lockers or waits.seekers or waits.open:
@@ -61,8 +66,8 @@ class Replay:
                 yield entry
         except (KeyError, IndexError, ValueError, TypeError, AttributeError) as error:
             raise self.report.error(number, f"`{self.report.text(number)}` can't be what happens here: {_why(error)}") from None
-        if self._last is not None:
-            waits.look_at(self._last, self.number)
+        if last is not None:
+            waits.look_at(last, number)
         waits.end()
 
 

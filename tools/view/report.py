@@ -4,7 +4,7 @@ from __future__ import annotations
 
 from typing import List, NamedTuple, Optional, Sequence, Tuple
 
-from .entries import Entry, Spans, number, read_spans
+from .entries import Entry, Spans, first_odd_byte, number, read_spans
 from .entry_reader import read_entries
 from .errors import ViewError
 from .limits import REPORT_BYTES
@@ -197,6 +197,9 @@ def read_report(data: bytes, name: str = "standard input") -> Report:
         raise ViewError("there is no report behind the script", script_part.count(b"\n") + 1)
     if len(report_part) > REPORT_BYTES:
         raise ViewError(f"the report has more than {REPORT_BYTES} bytes", script_part.count(b"\n") + 1)
+    odd = first_odd_byte(report_part)
+    if odd >= 0:
+        raise ViewError(f"the byte 0x{report_part[odd]:02x} can't stand here in a report", data.count(b"\n", 0, len(script_part) + odd) + 1)
     lines = _Lines(report_part, script_part.count(b"\n") + 1)
     unfinished = lines.numbered("unfinished") if (lines.peek() or "").startswith("unfinished") else None
     lines.expect(f"report {script.version}")

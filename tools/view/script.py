@@ -47,8 +47,7 @@ class Place(NamedTuple):
         return Span(min(self.first, last), last)
 
 
-@dataclass(frozen=True)
-class Buffer:
+class Buffer(NamedTuple):
     """A buffer line. `index` counts from 0, `line` is the line of the file; `places` holds the lists of version 1 as flagged places."""
 
     index: int
@@ -62,7 +61,7 @@ class Buffer:
     text: str
 
     @property
-    def bytes(self) -> int:
+    def byte_size(self) -> int:
         """Returns the size in bytes."""
         return self.pages * PAGE_BYTES
 
@@ -96,8 +95,7 @@ def _borders(offset: int, length: int) -> int:
     return (offset + length - 1) // PAGE_BYTES - offset // PAGE_BYTES
 
 
-@dataclass(frozen=True)
-class Command:
+class Command(NamedTuple):
     """A command, or how it is written in version 2: `verb` is the core's (`read`, `write`, `submit`), `word` the file's (`peek` ..).
 
     `number` is the one that the report shows: marks don't count. `buffers` are the named ones in order of first mention.
@@ -119,8 +117,7 @@ class Command:
     operations: Tuple[Operation, ...] = ()
 
 
-@dataclass(frozen=True)
-class Mark:
+class Mark(NamedTuple):
     """A line `map`, `unmap`, `vmap` or `vunmap`; `after` is the number of the thread's commands above it."""
 
     thread: int
@@ -144,8 +141,7 @@ class Thread:
     marks: List[Mark] = field(default_factory=list)
 
 
-@dataclass(frozen=True)
-class Schedule:
+class Schedule(NamedTuple):
     """A `schedule` line."""
 
     line: int

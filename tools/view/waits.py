@@ -10,7 +10,8 @@ from .observers import Wait
 from .state import Course, State
 
 HOLDERS = frozenset((Reserve, Catch, Loose, Skip, Backoff, Result, Refused, Free, New))
-PLACES = frozenset((Take, Untake, Populate, SwapIn, SwapOut, Depopulate, Bind, Unbind, Move, Reap)) | HOLDERS
+FRAMES = frozenset((Populate, SwapIn, SwapOut, Depopulate))
+PLACES = frozenset((Take, Untake, Bind, Unbind, Move, Reap)) | HOLDERS
 
 
 class Waits:
@@ -19,6 +20,7 @@ class Waits:
     def __init__(self, state: State, tell: List[Callable[[Wait], None]]) -> None:
         self.state = state
         self.needs = Needs(state)
+        self.frames = state.areas["frames"]
         self.tell = tell
         self.open: Dict[int, Tuple[int, Need]] = {}
         self.lockers: Dict[int, Course] = {}
@@ -59,7 +61,7 @@ class Waits:
         if self.lockers and kind in HOLDERS:
             for course in list(self.lockers.values()):
                 self.look_at(course, number)
-        if self.seekers and kind in PLACES:
+        if self.seekers and (kind in PLACES or (kind in FRAMES and (self.open or not self.frames.free))):
             for course in list(self.seekers.values()):
                 if self.state.ghosts or course.thread in self.open:
                     self.look_at(course, number)

@@ -21,4 +21,10 @@ WORDS: Tuple[Word, ...] = (
     Word("explain", "explain", SCRIPT, "finds the first broken line of a script, and says what is wrong there"),
     Word("diagnose", "diagnose", SCRIPT, "says why the program refused a script or a report"),
     Word("plain", "plain", SCRIPT, "writes a script without its comments"),
+    Word("picture", "picture", REPORT, "draws a report as an SVG"),
+    Word("stats", "stats", REPORT, "adds up a report, as tables or with `json` as JSON"),
+    Word("trace", "trace", REPORT, "writes Chrome's trace events, which ui.perfetto.dev and chrome://tracing open"),
+    Word("schedule", "schedule", REPORT, "writes the script with schedule lines that make sim write the report again"),
+    Word("shuffle", "shuffle", SCRIPT, "shuffle N: writes the script with drawn interleaving number N as its schedule lines"),
+    Word("outcomes", "outcomes", SCRIPT, "outcomes N: runs N drawn interleavings, and says how often what came of them"),
 )
