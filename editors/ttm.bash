@@ -7,6 +7,7 @@ _ttm() {
     2)
       case ${COMP_WORDS[1]} in
         sim) words='--turns' ;;
+        picture) words='--from --to' ;;
         stats) words='json' ;;
       esac
       ;;

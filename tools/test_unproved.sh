@@ -47,7 +47,7 @@ try_crate() {
   local crate=$top/crates/$1 input=/dev/null words=()
   cd "$crate" || return 1
   if [ ! -f src/main.rt ]; then
-    rt try --test
+    rt try --test --seconds 600
     return
   fi
   [ -f stdin ] && input=stdin

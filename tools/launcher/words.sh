@@ -28,25 +28,27 @@ tell_version() {
 }
 
 tell_help() {
-  local who form what text
-  text="Runs scripts of a graphics memory manager (TTM), and shows what they report."$'\n'
+  local who form what text="Runs scripts of a graphics memory manager (TTM), and shows what they report."$'\n'
   while IFS='|' read -r who form what; do
     case $who in
-      program* | viewer* | launcher*) printf -v form 'ttm %-33s %s' "${form# }" "${what# }" && text+=$'\n'$form ;;
+      program* | viewer* | launcher*) form=${form# } text+=$'\n'"ttm ${form% }"$'\n'"    ${what# }" ;;
     esac
   done <"$commands"
   tell "$text
 
-FILE is a script, whose lines may begin with # or end with ' # ..'. REPORT is what the program wrote for it; without REPORT, FILE holds both, the
-report after the script. Without FILE, standard input is read:
+FILE is a script, whose lines may begin with # or end with ' # ..'. REPORT is
+what the program wrote for it; without REPORT, FILE holds both, the report after
+the script. Without FILE, standard input is read:
 
-ttm sim examples/one_page_eviction.ttm
-ttm check examples/one_page_eviction.ttm examples/one_page_eviction.report
-ttm sim --turns 100 < examples/one_page_eviction.ttm
+    ttm sim examples/one_page_eviction.ttm
+    ttm check examples/one_page_eviction.ttm examples/one_page_eviction.report
+    ttm sim --turns 100 < examples/one_page_eviction.ttm
 
-The exit status of sim, run, gen and check is 0 (done), 2 (unknown words), 3 (the input is no script), 4 (a read failed), 5 (a write failed),
-6 (no memory), 7 (not over after N turns) or 8 (the report isn't right); 1 says that the launcher failed, and 130 that it was interrupted.
-Scripts and reports are described in docs/SPECIFICATION.md."
+The exit status of sim, run, gen and check is 0 (done), 2 (unknown words), 3 (the
+input is no script), 4 (a read failed), 5 (a write failed), 6 (no memory), 7 (not
+over after N turns) or 8 (the report isn't right); 1 says that the launcher or a
+viewer failed, 130 that it was interrupted. docs/SPECIFICATION.md describes
+scripts and reports."
 }
 
 # Answers words that aren't listed as the program does.
