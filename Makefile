@@ -6,7 +6,7 @@
 # make clean        removes the unproved program and the C library's archive
 #
 # make libpearoar_mm.a    builds the allocators as a C library, unproved, in a minute or more (docs/C_LIBRARY.md)
-# make prove-c            proves and builds it, in an hour or less
+# make prove-c            proves it, with all crates below it, and builds it
 # make install-c          installs the C library alone: the archive, its headers and a file for pkg-config
 
 PREFIX ?= /usr/local
