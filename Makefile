@@ -2,7 +2,7 @@
 # make prove        proves and builds it, in an hour or more; from then on ./ttm runs the proved one
 # make test         runs all tests and examples, unproved
 # make install      installs the program (the proved one where it is up to date), the viewers, the man page, bash's completion and vim's files,
-#                   and the C library, to PREFIX (DESTDIR goes before it)
+#                   and the C library where it was built, to PREFIX (DESTDIR goes before it)
 # make clean        removes the unproved program and the C library's archive
 #
 # make libpearoar_mm.a    builds the allocators as a C library, unproved, in a minute or more (docs/C_LIBRARY.md)
@@ -23,8 +23,9 @@ prove:
 test:
 	./ttm test
 
-install: install-c
+install:
 	tools/install.sh "$(DESTDIR)$(PREFIX)"
+	[ ! -e libpearoar_mm.a ] || tools/install_c_library.sh "$(PREFIX)" "$(DESTDIR)"
 
 C_CRATES = ttm_base step_count hole_tree range_manager block_tree buddy_manager manager_walk mm_c
 C_SOURCES = $(wildcard $(C_CRATES:%=crates/%/src/*.rt))
