@@ -47,12 +47,12 @@ if ! "$top/tools/build_c_library.sh" $proof "$room/libpearoar_mm.a" >"$room/buil
 fi
 nm -g --defined-only "$room/libpearoar_mm.a" | awk '$2 ~ /[A-Z]/ && $3 !~ /^pearoar_/ { print $3; found = 1 } END { exit found }' ||
   fail "these names are global, and aren't its own"
-"$top/tools/install_c_library.sh" --archive "$room/libpearoar_mm.a" /usr "$room/installed" || fail "not installed"
+"$top/tools/install_c_library.sh" --archive "$room/libpearoar_mm.a" /opt/pearoar "$room/installed" || fail "not installed"
 
 # What a program needs to know of the library: by pkg-config where it is there.
-flags=(-I"$room/installed/usr/include" -L"$room/installed/usr/lib" -lpearoar_mm)
+flags=(-I"$room/installed/opt/pearoar/include" -L"$room/installed/opt/pearoar/lib" -lpearoar_mm)
 if command -v pkg-config >/dev/null; then
-  read -ra flags <<<"$(PKG_CONFIG_SYSROOT_DIR=$room/installed PKG_CONFIG_PATH=$room/installed/usr/lib/pkgconfig pkg-config --cflags --libs pearoar_mm)"
+  read -ra flags <<<"$(PKG_CONFIG_SYSROOT_DIR=$room/installed PKG_CONFIG_PATH=$room/installed/opt/pearoar/lib/pkgconfig pkg-config --cflags --libs pearoar_mm)"
 fi
 
 # build FILE PROGRAM COMPILER WORD ..: without a warning
