@@ -9,6 +9,56 @@
 #include <stdio.h>
 #include <stdlib.h>
 
+#ifdef PEAROAR_CHECK_HANDLES
+
+/* Tests the handle that begins with `library`, and passes it on. */
+static inline void *pearoar_check(void **library, int is_open, const char *call, const char *file, int line)
+{
+	if ((*library != NULL) == is_open)
+		return library;
+	fprintf(stderr, "%s:%d: %s: the handle is %s\n", file, line, call, is_open ? "closed" : "open");
+	abort();
+}
+
+static inline void pearoar_close_ranges(struct pearoar_ranges *ranges)
+{
+	pearoar_ranges_destroy(ranges);
+	ranges->library = NULL;
+}
+
+static inline void pearoar_close_blocks(struct pearoar_blocks *blocks)
+{
+	pearoar_blocks_destroy(blocks);
+	blocks->library = NULL;
+}
+
+#define PEAROAR_RANGES(h, is_open, call) ((struct pearoar_ranges *)pearoar_check(&(h)->library, is_open, call, __FILE__, __LINE__))
+#define PEAROAR_BLOCKS(h, is_open, call) ((struct pearoar_blocks *)pearoar_check(&(h)->library, is_open, call, __FILE__, __LINE__))
+
+#define pearoar_ranges_create(h, pages) pearoar_ranges_create(PEAROAR_RANGES(h, 0, "pearoar_ranges_create"), pages)
+#define pearoar_ranges_destroy(h) pearoar_close_ranges(PEAROAR_RANGES(h, 1, "pearoar_ranges_destroy"))
+#define pearoar_ranges_insert(h, request, span) pearoar_ranges_insert(PEAROAR_RANGES(h, 1, "pearoar_ranges_insert"), request, span)
+#define pearoar_ranges_reserve(h, first, last) pearoar_ranges_reserve(PEAROAR_RANGES(h, 1, "pearoar_ranges_reserve"), first, last)
+#define pearoar_ranges_remove(h, start) pearoar_ranges_remove(PEAROAR_RANGES(h, 1, "pearoar_ranges_remove"), start)
+#define pearoar_ranges_set_value(h, start, value) pearoar_ranges_set_value(PEAROAR_RANGES(h, 1, "pearoar_ranges_set_value"), start, value)
+#define pearoar_ranges_value(h, start, value) pearoar_ranges_value(PEAROAR_RANGES(h, 1, "pearoar_ranges_value"), start, value)
+#define pearoar_ranges_stats(h, stats) pearoar_ranges_stats(PEAROAR_RANGES(h, 1, "pearoar_ranges_stats"), stats)
+#define pearoar_ranges_lengths(h, free_pages, held_pages) pearoar_ranges_lengths(PEAROAR_RANGES(h, 1, "pearoar_ranges_lengths"), free_pages, held_pages)
+#define pearoar_ranges_next_held(h, from, span) pearoar_ranges_next_held(PEAROAR_RANGES(h, 1, "pearoar_ranges_next_held"), from, span)
+#define pearoar_ranges_next_hole(h, from, hole) pearoar_ranges_next_hole(PEAROAR_RANGES(h, 1, "pearoar_ranges_next_hole"), from, hole)
+#define pearoar_blocks_create(h, pages) pearoar_blocks_create(PEAROAR_BLOCKS(h, 0, "pearoar_blocks_create"), pages)
+#define pearoar_blocks_destroy(h) pearoar_close_blocks(PEAROAR_BLOCKS(h, 1, "pearoar_blocks_destroy"))
+#define pearoar_blocks_alloc(h, request, out, room, count) pearoar_blocks_alloc(PEAROAR_BLOCKS(h, 1, "pearoar_blocks_alloc"), request, out, room, count)
+#define pearoar_blocks_release(h, start, end) pearoar_blocks_release(PEAROAR_BLOCKS(h, 1, "pearoar_blocks_release"), start, end)
+#define pearoar_blocks_trim(h, start, end, keep) pearoar_blocks_trim(PEAROAR_BLOCKS(h, 1, "pearoar_blocks_trim"), start, end, keep)
+#define pearoar_blocks_set_value(h, start, value) pearoar_blocks_set_value(PEAROAR_BLOCKS(h, 1, "pearoar_blocks_set_value"), start, value)
+#define pearoar_blocks_value(h, start, value) pearoar_blocks_value(PEAROAR_BLOCKS(h, 1, "pearoar_blocks_value"), start, value)
+#define pearoar_blocks_stats(h, stats) pearoar_blocks_stats(PEAROAR_BLOCKS(h, 1, "pearoar_blocks_stats"), stats)
+#define pearoar_blocks_lengths(h, free_pages, held_pages) pearoar_blocks_lengths(PEAROAR_BLOCKS(h, 1, "pearoar_blocks_lengths"), free_pages, held_pages)
+#define pearoar_blocks_next_held(h, from, block) pearoar_blocks_next_held(PEAROAR_BLOCKS(h, 1, "pearoar_blocks_next_held"), from, block)
+
+#endif
+
 /* The first held span at page `from` or above it, and its value. */
 static inline enum pearoar_status pearoar_ranges_next_value(struct pearoar_ranges *ranges, uint32_t from, struct pearoar_span *span, uint64_t *value)
 {
@@ -136,55 +186,5 @@ static inline size_t pearoar_blocks_print(struct pearoar_blocks *blocks, uint64_
 	}
 	return out.length;
 }
-
-#ifdef PEAROAR_CHECK_HANDLES
-
-/* Tests the handle that begins with `library`, and passes it on. */
-static inline void *pearoar_check(void **library, int is_open, const char *call, const char *file, int line)
-{
-	if ((*library != NULL) == is_open)
-		return library;
-	fprintf(stderr, "%s:%d: %s: the handle is %s\n", file, line, call, is_open ? "closed" : "open");
-	abort();
-}
-
-static inline void pearoar_close_ranges(struct pearoar_ranges *ranges)
-{
-	pearoar_ranges_destroy(ranges);
-	ranges->library = NULL;
-}
-
-static inline void pearoar_close_blocks(struct pearoar_blocks *blocks)
-{
-	pearoar_blocks_destroy(blocks);
-	blocks->library = NULL;
-}
-
-#define PEAROAR_RANGES(h, is_open, call) ((struct pearoar_ranges *)pearoar_check(&(h)->library, is_open, call, __FILE__, __LINE__))
-#define PEAROAR_BLOCKS(h, is_open, call) ((struct pearoar_blocks *)pearoar_check(&(h)->library, is_open, call, __FILE__, __LINE__))
-
-#define pearoar_ranges_create(h, pages) pearoar_ranges_create(PEAROAR_RANGES(h, 0, "pearoar_ranges_create"), pages)
-#define pearoar_ranges_destroy(h) pearoar_close_ranges(PEAROAR_RANGES(h, 1, "pearoar_ranges_destroy"))
-#define pearoar_ranges_insert(h, request, span) pearoar_ranges_insert(PEAROAR_RANGES(h, 1, "pearoar_ranges_insert"), request, span)
-#define pearoar_ranges_reserve(h, first, last) pearoar_ranges_reserve(PEAROAR_RANGES(h, 1, "pearoar_ranges_reserve"), first, last)
-#define pearoar_ranges_remove(h, start) pearoar_ranges_remove(PEAROAR_RANGES(h, 1, "pearoar_ranges_remove"), start)
-#define pearoar_ranges_set_value(h, start, value) pearoar_ranges_set_value(PEAROAR_RANGES(h, 1, "pearoar_ranges_set_value"), start, value)
-#define pearoar_ranges_value(h, start, value) pearoar_ranges_value(PEAROAR_RANGES(h, 1, "pearoar_ranges_value"), start, value)
-#define pearoar_ranges_stats(h, stats) pearoar_ranges_stats(PEAROAR_RANGES(h, 1, "pearoar_ranges_stats"), stats)
-#define pearoar_ranges_lengths(h, free_pages, held_pages) pearoar_ranges_lengths(PEAROAR_RANGES(h, 1, "pearoar_ranges_lengths"), free_pages, held_pages)
-#define pearoar_ranges_next_held(h, from, span) pearoar_ranges_next_held(PEAROAR_RANGES(h, 1, "pearoar_ranges_next_held"), from, span)
-#define pearoar_ranges_next_hole(h, from, hole) pearoar_ranges_next_hole(PEAROAR_RANGES(h, 1, "pearoar_ranges_next_hole"), from, hole)
-#define pearoar_blocks_create(h, pages) pearoar_blocks_create(PEAROAR_BLOCKS(h, 0, "pearoar_blocks_create"), pages)
-#define pearoar_blocks_destroy(h) pearoar_close_blocks(PEAROAR_BLOCKS(h, 1, "pearoar_blocks_destroy"))
-#define pearoar_blocks_alloc(h, request, out, room, count) pearoar_blocks_alloc(PEAROAR_BLOCKS(h, 1, "pearoar_blocks_alloc"), request, out, room, count)
-#define pearoar_blocks_release(h, start, end) pearoar_blocks_release(PEAROAR_BLOCKS(h, 1, "pearoar_blocks_release"), start, end)
-#define pearoar_blocks_trim(h, start, end, keep) pearoar_blocks_trim(PEAROAR_BLOCKS(h, 1, "pearoar_blocks_trim"), start, end, keep)
-#define pearoar_blocks_set_value(h, start, value) pearoar_blocks_set_value(PEAROAR_BLOCKS(h, 1, "pearoar_blocks_set_value"), start, value)
-#define pearoar_blocks_value(h, start, value) pearoar_blocks_value(PEAROAR_BLOCKS(h, 1, "pearoar_blocks_value"), start, value)
-#define pearoar_blocks_stats(h, stats) pearoar_blocks_stats(PEAROAR_BLOCKS(h, 1, "pearoar_blocks_stats"), stats)
-#define pearoar_blocks_lengths(h, free_pages, held_pages) pearoar_blocks_lengths(PEAROAR_BLOCKS(h, 1, "pearoar_blocks_lengths"), free_pages, held_pages)
-#define pearoar_blocks_next_held(h, from, block) pearoar_blocks_next_held(PEAROAR_BLOCKS(h, 1, "pearoar_blocks_next_held"), from, block)
-
-#endif
 
 #endif
