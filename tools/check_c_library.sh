@@ -77,6 +77,10 @@ if command -v "${CXX:-c++}" >/dev/null; then
     ./y || fail "the library's version isn't the header's"
   done
 fi
+printf '%s\n' '#include <pearoar_mm.h>' 'int main(void) { struct pearoar_ranges r = PEAROAR_CLOSED; struct pearoar_span s; pearoar_ranges_create(&r, 8);' \
+  'return pearoar_ranges_insert(&r, &(struct pearoar_range_request){ .pages = 2, .last = 8 }, &s) != PEAROAR_DONE || s.end != 2; }' >literal.c
+build literal.c literal "$cc" -std=c99 -DPEAROAR_CHECK_HANDLES
+./literal || fail "a request that stands in a call isn't met"
 printf '#include <pearoar_mm.h>\nint main(void) { struct pearoar_ranges r = PEAROAR_CLOSED; return pearoar_ranges_remove(&r, 0) != PEAROAR_DONE; }\n' >closed.c
 build closed.c closed "$cc" -std=c99 -DPEAROAR_CHECK_HANDLES
 if { (ulimit -c 0 && ./closed) 2>said; } 2>/dev/null || ! grep -q "pearoar_ranges_remove: the handle is closed" said; then
