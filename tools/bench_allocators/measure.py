@@ -3,7 +3,7 @@
 
 usage: measure.py LIBRARY KERNEL.. [--loads WORD] [--live N,N,..] [--rounds N] [--jobs N]
 
-LIBRARY is libmm_c.a (README.md says how to make it), KERNEL a kernel's source, unpacked or the .tar.xz of the package linux-source-*.
+LIBRARY is libpearoar_mm.a (README.md says how to make it), KERNEL a kernel's source, unpacked or the .tar.xz of the package linux-source-*.
 Of several kernels each gets a column, and ratios are to the first that has the load. --loads takes the loads whose names have WORD in
 them. A run makes N rounds (1000), and another twice as many; what these take more, under valgrind, is shared among their 2 N calls.
 """
@@ -108,10 +108,9 @@ def build_kernel(source, room):
 
 
 def build_ours(library, room):
-    kit = Path(run("rt", "doc").stdout.strip()).parent
     made = room / "pearoar.o"
     run(CC, "-std=gnu11", "-O2", "-I", HERE, "-I", TOP / "crates/mm_c/include", "-c", HERE / "pearoar.c", "-o", made)
-    return link(room, [made, library, kit / "c/liblibc_c.a"])
+    return link(room, [made, library])
 
 
 def link(room, made):

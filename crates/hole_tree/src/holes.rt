@@ -7,6 +7,7 @@ ghost use Rattle.ttm_base.specs.declared.Mode.TheVariants.{Best, Low, High};
 ghost use Rattle.hole_tree.specs.Choosing.{chosen_hole};
 ghost use Rattle.hole_tree.specs.Leans.{IsBlank};
 ghost use Rattle.hole_tree.specs.HoleSet.{is_apart, is_disjoint, starts_at, ends_at, with_hole, without};
+ghost use Rattle.hole_tree.specs.Longest.{longest};
 ghost use Rattle.hole_tree.specs.Rising.{EndsBy};
 ghost use Rattle.hole_tree.specs.Trees.{IsBlankNode};
 
@@ -255,6 +256,20 @@ impl Holes {
             last,
         };
         self.choose::<Brand>(Mode::High, request, Blank::new(1))
+    }
+
+    /// How many holes there are.
+    pub fn hole_count(&self) -> usize
+        ensures { result ≡ length self.now.holes }
+    {
+        self.count
+    }
+
+    /// The pages of the longest hole, or 0 where there is none.
+    pub fn longest_hole(&self) -> u32
+        ensures { result ≡ longest self.now.holes }
+    {
+        self.by_start.longest()
     }
 
     /// The shortest such hole, where a step is a node that is opened.

@@ -115,7 +115,7 @@ impl Tree {
     }
 
     /// The length of its longest hole, or 0.
-    fn longest(&self) -> u32
+    pub(crate) fn longest(&self) -> u32
         ensures { result ≡ longest self.now.spans }
     {
         match &self.top {

@@ -1,4 +1,4 @@
-/* Takes and gives back pages of both managers, and prints what they hold. */
+/* Takes and gives back pages of both managers, with values of its own, and prints what they hold. */
 #include "pearoar_mm.h"
 
 #include <stdio.h>
@@ -24,9 +24,10 @@ static void print_ranges(struct pearoar_ranges *ranges)
 {
 	struct pearoar_span span;
 	uint32_t free_pages, held_pages;
+	uint64_t value;
 
-	for (uint32_t from = 0; pearoar_ranges_next_held(ranges, from, &span) == PEAROAR_DONE; from = span.end)
-		printf("  %u-%u: held\n", span.start, span.end);
+	for (uint32_t from = 0; pearoar_ranges_next_value(ranges, from, &span, &value) == PEAROAR_DONE; from = span.end)
+		printf("  %u-%u: held, value %llu\n", span.start, span.end, (unsigned long long)value);
 	for (uint32_t from = 0; pearoar_ranges_next_hole(ranges, from, &span) == PEAROAR_DONE; from = span.end)
 		printf("  %u-%u: free\n", span.start, span.end);
 	pearoar_ranges_lengths(ranges, &free_pages, &held_pages);
@@ -48,7 +49,10 @@ static void use_ranges(void)
 {
 	struct pearoar_ranges ranges = PEAROAR_CLOSED;
 	struct pearoar_range_request request = { .pages = 8, .align = 16, .first = 1, .last = 64, .mode = PEAROAR_LOW };
+	struct pearoar_range_stats stats;
 	struct pearoar_span span;
+	uint64_t value;
+	char text[512];
 
 	expect(pearoar_ranges_create(&ranges, 64), PEAROAR_DONE, "create");
 	expect(pearoar_ranges_reserve(&ranges, 0, 4), PEAROAR_DONE, "reserve");
@@ -67,11 +71,16 @@ static void use_ranges(void)
 	expect(pearoar_ranges_insert(&ranges, &request, &span), PEAROAR_NO_ROOM, "insert too many");
 	request.mode = 3;
 	expect(pearoar_ranges_insert(&ranges, &request, &span), PEAROAR_INVALID, "insert by an unknown mode");
+	expect(pearoar_ranges_set_value(&ranges, 16, 1234567890123), PEAROAR_DONE, "set a value");
+	expect(pearoar_ranges_set_value(&ranges, 17, 1), PEAROAR_NOT_HELD, "set a value where no span begins");
 	print_ranges(&ranges);
-	expect(pearoar_ranges_remove(&ranges, 16), PEAROAR_DONE, "remove");
+	pearoar_ranges_stats(&ranges, &stats);
+	printf("%u spans, %zu holes, the longest of %u pages\n", stats.spans, stats.holes, stats.longest_hole);
+	expect(pearoar_ranges_remove_value(&ranges, 16, &value), PEAROAR_DONE, "remove");
 	expect(pearoar_ranges_remove(&ranges, 16), PEAROAR_NOT_HELD, "remove what isn't held");
-	printf("without 16-24:\n");
-	print_ranges(&ranges);
+	printf("without 16-24, whose value was %llu:\n", (unsigned long long)value);
+	pearoar_ranges_print(&ranges, text, sizeof(text));
+	fputs(text, stdout);
 	pearoar_ranges_destroy(&ranges);
 }
 
@@ -80,7 +89,9 @@ static void use_blocks(void)
 	struct pearoar_blocks blocks = PEAROAR_CLOSED;
 	struct pearoar_block_request request = { .pages = 13, .first = 0, .last = 40, .flags = 0 };
 	struct pearoar_span out[4], by_address[4];
+	uint64_t value;
 	size_t count;
+	char text[512];
 
 	expect(pearoar_blocks_create(&blocks, 40), PEAROAR_DONE, "create");
 	expect(pearoar_blocks_alloc(&blocks, &request, out, 2, &count), PEAROAR_TOO_MANY, "alloc with little room");
@@ -102,15 +113,22 @@ static void use_blocks(void)
 	expect(pearoar_blocks_alloc(&blocks, &request, out, 4, &count), PEAROAR_INVALID, "alloc no pages");
 	printf("the first one cut to 5:\n");
 	print_blocks(&blocks);
-	for (size_t i = 1; i < 4; i++)
-		expect(pearoar_blocks_release(&blocks, out[i].start, out[i].end), PEAROAR_DONE, "release");
-	printf("without the others:\n");
-	print_blocks(&blocks);
+	expect(pearoar_blocks_set_value(&blocks, 32, 32), PEAROAR_DONE, "set a value");
+	expect(pearoar_blocks_release_value(&blocks, 4, 5, &value), PEAROAR_DONE, "release");
+	printf("4-5 had the value %llu\n", (unsigned long long)value);
+	expect(pearoar_blocks_release(&blocks, 0, 4), PEAROAR_DONE, "release");
+	expect(pearoar_blocks_release(&blocks, 12, 15), PEAROAR_DONE, "release");
+	expect(pearoar_blocks_value(&blocks, 32, &value), PEAROAR_DONE, "ask for a value");
+	printf("without the others, 32-37 with the value %llu, in pages of 65536 bytes:\n", (unsigned long long)value);
+	pearoar_blocks_print(&blocks, 65536, text, sizeof(text));
+	fputs(text, stdout);
 	pearoar_blocks_destroy(&blocks);
 }
 
 int main(void)
 {
+	if (pearoar_mm_version() / 100 != PEAROAR_MM_VERSION / 100)
+		return 1;
 	use_ranges();
 	use_blocks();
 	return 0;

@@ -12,6 +12,9 @@
  * One manager isn't for two threads at once: calls on it come one after the other, in an order that a lock or the like gives.
  * Calls on different managers have nothing to do with each other. No call may be made from a signal handler.
  *
+ * A program that is built with PEAROAR_CHECK_HANDLES defined tests the handle of each call, and ends by abort() where a create is given
+ * one that isn't closed or another call one that is; what was copied isn't seen.
+ *
  * Memory is malloc's, realloc's and free's. A call that needs it and doesn't get it returns PEAROAR_NO_MEMORY, and then, as after
  * each status but PEAROAR_DONE, the manager is as it was.
  */
@@ -20,6 +23,9 @@
 
 #include <stddef.h>
 #include <stdint.h>
+
+/* The version of this header: 10,000 times the first number, 100 times the second, and the third. */
+#define PEAROAR_MM_VERSION 10100
 
 #ifdef __cplusplus
 extern "C" {
@@ -33,20 +39,20 @@ enum pearoar_status {
 	PEAROAR_INVALID = 3,	/* an unknown mode or flag; no pages to allocate or to keep, or more to keep than there are (EINVAL) */
 	PEAROAR_NOT_HELD = 4,	/* nothing that is held is named so */
 	PEAROAR_TOO_MANY = 5,	/* the blocks are more than the array takes; none is held */
-	PEAROAR_NO_MORE = 6,	/* nothing more is held, or free, from the page on */
+	PEAROAR_NO_MORE = 6	/* nothing more is held, or free, from the page on */
 };
 
 /* Which hole an insert takes (DRM_MM_INSERT_BEST, _LOW, _HIGH). */
 enum pearoar_mode {
 	PEAROAR_BEST = 0,	/* the smallest that fits, of equals the lowest; the pages are its first */
 	PEAROAR_LOW = 1,	/* the lowest; the pages are its first */
-	PEAROAR_HIGH = 2,	/* the highest; the pages are its last */
+	PEAROAR_HIGH = 2	/* the highest; the pages are its last */
 };
 
 /* How blocks are taken (DRM_BUDDY_TOPDOWN_ALLOCATION, DRM_BUDDY_CONTIGUOUS_ALLOCATION). */
 enum pearoar_flags {
 	PEAROAR_TOPDOWN = 1,	/* among equals the highest block, in place of the lowest */
-	PEAROAR_CONTIGUOUS = 2,	/* one block, of the next power of two, of which the request's pages are kept */
+	PEAROAR_CONTIGUOUS = 2	/* one block, of the next power of two, of which the request's pages are kept */
 };
 
 struct pearoar_span {
@@ -66,6 +72,9 @@ struct pearoar_blocks {
 #if defined(__STDC_VERSION__) && __STDC_VERSION__ >= 201112L
 _Static_assert(sizeof(enum pearoar_status) == sizeof(uint32_t), "statuses are passed as 32 bits");
 #endif
+
+/* Tells the version of the library that is linked, as PEAROAR_MM_VERSION tells the header's. */
+uint32_t pearoar_mm_version(void);
 
 /* ---- Ranges: spans of any length, in holes (drm_mm) ---- */
 
@@ -93,6 +102,25 @@ enum pearoar_status pearoar_ranges_reserve(struct pearoar_ranges *ranges, uint32
 
 /* Lets the span go that begins at page `start` (drm_mm_remove_node). PEAROAR_NOT_HELD: none does. It takes no memory. */
 enum pearoar_status pearoar_ranges_remove(struct pearoar_ranges *ranges, uint32_t start);
+
+/*
+ * Sets the caller's own value of the span that begins at page `start`, 64 bits that mean nothing here. It is 0 until it is set, and 0 again
+ * once the span was removed. PEAROAR_NOT_HELD: no span begins there. It takes memory for the spans alone whose value was set.
+ */
+enum pearoar_status pearoar_ranges_set_value(struct pearoar_ranges *ranges, uint32_t start, uint64_t value);
+
+/* Writes the value of the span that begins at page `start` to `value`. PEAROAR_NOT_HELD: no span begins there. It takes no memory. */
+enum pearoar_status pearoar_ranges_value(struct pearoar_ranges *ranges, uint32_t start, uint64_t *value);
+
+struct pearoar_range_stats {
+	uint32_t free_pages, held_pages;
+	uint32_t spans;		/* how many are held */
+	uint32_t longest_hole;	/* its pages; 0 where no page is free */
+	size_t holes;		/* a hole is free pages side by side, as many as there are */
+};
+
+/* Counts what is held and what is free. It takes no memory, and always the same time. */
+void pearoar_ranges_stats(struct pearoar_ranges *ranges, struct pearoar_range_stats *stats);
 
 /* How many pages are free, and how many are held. */
 void pearoar_ranges_lengths(struct pearoar_ranges *ranges, uint32_t *free_pages, uint32_t *held_pages);
@@ -147,6 +175,29 @@ enum pearoar_status pearoar_blocks_release(struct pearoar_blocks *blocks, uint32
  */
 enum pearoar_status pearoar_blocks_trim(struct pearoar_blocks *blocks, uint32_t start, uint32_t end, uint32_t keep);
 
+/*
+ * Sets the caller's own value of the block that begins at page `start`, 64 bits that mean nothing here. It is 0 until it is set, and 0 again
+ * once the block was released; a trim keeps it. PEAROAR_NOT_HELD: no block begins there. It takes memory for the blocks alone whose value
+ * was set.
+ */
+enum pearoar_status pearoar_blocks_set_value(struct pearoar_blocks *blocks, uint32_t start, uint64_t value);
+
+/* Writes the value of the block that begins at page `start` to `value`. PEAROAR_NOT_HELD: no block begins there. It takes no memory. */
+enum pearoar_status pearoar_blocks_value(struct pearoar_blocks *blocks, uint32_t start, uint64_t *value);
+
+#define PEAROAR_ORDERS 31	/* a block of order n has 2^n pages */
+
+struct pearoar_block_stats {
+	uint32_t free_pages, held_pages;
+	size_t held_blocks;
+	size_t free_blocks[PEAROAR_ORDERS];	/* of each order; a free block is as large as it can be */
+};
+
+/*
+ * Counts what is held and what is free. It takes memory while it runs, and a search for each page. PEAROAR_NO_MEMORY: `stats` isn't written.
+ */
+enum pearoar_status pearoar_blocks_stats(struct pearoar_blocks *blocks, struct pearoar_block_stats *stats);
+
 /* How many pages are free, and how many are held. */
 void pearoar_blocks_lengths(struct pearoar_blocks *blocks, uint32_t *free_pages, uint32_t *held_pages);
 
@@ -164,5 +215,7 @@ void pearoar_spans_sort(struct pearoar_span *spans, size_t count);
 #ifdef __cplusplus
 }
 #endif
+
+#include "pearoar_mm_inline.h"
 
 #endif

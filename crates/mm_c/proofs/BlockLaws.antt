@@ -12,7 +12,7 @@ use Rattle.buddy_manager.proofs.ManagedLaws.{IsAt, held_at, let_go_one, trimmed_
 use Rattle.mm_c.specs.Kept.{AreBlocks}
 
 -- ranges and blocks are listed alike
-same_list : (s : ℕ) (es : List ℕ) → held_spans s es ≡ held_from s es
+pub same_list : (s : ℕ) (es : List ℕ) → held_spans s es ≡ held_from s es
 same_list s [] = refl
 same_list s (e ∷ es) = ap (λ rest. if nat_lt s e then record { start = s; end = e } ∷ rest else rest) (same_list (s + 1) es)
 

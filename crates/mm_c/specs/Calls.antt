@@ -6,10 +6,9 @@ use Rattle.ttm_base.specs.declared.Mode.TheVariants.{Best, Low, High}
 use Rattle.ttm_base.specs.Holes.{holes, is_free_beside}
 use Rattle.ttm_base.specs.RangeChoice.{range_choice}
 use Rattle.ttm_base.specs.BuddyChoice.{buddy_choice}
-use Rattle.range_manager.specs.Held.{Managed as Ranges}
-use Rattle.buddy_manager.specs.Held.{Managed as Blocks}
 use Rattle.mm_c.specs.declared.blocks.BlockRequest.{BlockRequest}
 use Rattle.mm_c.specs.declared.page_span.PageSpan.{PageSpan}
+use Rattle.mm_c.specs.States.{State}
 
 abbrev pub span_of : PageSpan → Span
 span_of s = record { start = s.start; end = s.end }
@@ -22,7 +21,7 @@ abbrev pub mode_of : ℕ → Option Mode
 mode_of n = if n == 0 then Some Best else if n == 1 then Some Low else if n == 2 then Some High else None
 
 -- the pages that an insert takes; an align of 0 is none
-abbrev pub range_for : Ranges → ℕ → ℕ → ℕ → Span → Option Span
+abbrev pub range_for : State → ℕ → ℕ → ℕ → Span → Option Span
 range_for m mode pages align range = elim (mode_of mode) [
   | Some md ↦ range_choice md (holes (is_free_beside m.held) m.size) pages (max 1 align) range
   | None ↦ None
@@ -40,5 +39,5 @@ abbrev pub is_block_request : BlockRequest → Bool
 is_block_request r = nat_lt 0 r.pages && nat_lt r.flags 4
 
 -- the blocks that an alloc takes
-abbrev pub blocks_for : Blocks → BlockRequest → Option (List Span)
+abbrev pub blocks_for : State → BlockRequest → Option (List Span)
 blocks_for m r = buddy_choice (is_free_beside m.held) m.size (record { start = r.first; end = r.last }) (is_topdown r.flags) (is_contiguous r.flags) r.pages

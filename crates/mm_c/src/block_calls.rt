@@ -1,13 +1,17 @@
 //! The calls of C on a buddy manager. Each takes the manager out of its handle and puts it back.
-ghost use Rattle.std.specs.Prelude.{◌≡◌, ◌≢◌, ◌↔◌, ◌+◌, ◌<◌, ◌≤◌, true, false, [], ◌∷◌, Some, None, Contains, IfSome, length};
+ghost use Rattle.std.specs.Prelude.{◌≡◌, ◌≢◌, ◌↔◌, ℕ, ◌+◌, ◌<◌, ◌≤◌, ◌==◌, true, false, [], ◌∷◌, Some, None, Contains, IfSome, length, count_by, slice_index, if◌then◌else◌};
+ghost use Rattle.std.specs.List.{find};
 ghost use Rattle.ttm_base.specs.Reach.{length_of};
+ghost use Rattle.hole_tree.specs.HoleSet.{starts_at};
 ghost use Rattle.buddy_manager.specs.Held.{with_block, with_blocks, without, is_held, pages_of};
 ghost use Rattle.manager_walk.specs.Walk.{IsNextHeld, NoneFrom};
 ghost use Rattle.mm_c.specs.Calls.{span_of, first_spans, is_block_request, blocks_for};
+ghost use Rattle.mm_c.specs.States.{free_blocks_of, has_order};
+ghost use Rattle.mm_c.specs.UserValues.{value_at};
 ghost use Rattle.mm_c.specs.declared.status.TheConstants.{DONE, NO_ROOM, NO_MEMORY, INVALID, NOT_HELD, TOO_MANY, NO_MORE};
 
 use crate::block_handle::BlockHandle;
-use crate::blocks::{BlockRequest, Blocks};
+use crate::blocks::{BlockRequest, BlockStats, Blocks};
 use crate::page_span::PageSpan;
 use crate::parts::Parts;
 use crate::status::{DONE, NO_MEMORY};
@@ -21,6 +25,7 @@ pub extern "C" fn pearoar_blocks_create(alloc: Global, blocks: &mut BlockHandle,
     ensures live { result ≡ DONE → blocks.new.live ≡ true }
     ensures size { result ≡ DONE → blocks.new.value.size ≡ pages }
     ensures held { result ≡ DONE → blocks.new.value.held ≡ [] }
+    ensures values { result ≡ DONE → blocks.new.value.values ≡ [] }
     ensures none { result ≢ DONE → blocks.new.live ≡ false }
     ensures status { Contains (DONE ∷ NO_MEMORY ∷ []) result }
 {
@@ -57,6 +62,7 @@ pub extern "C" fn pearoar_blocks_alloc(
     ensures fits { result ≡ DONE → count.new ≤ length out.old }
     ensures done { result ≡ DONE → blocks_for blocks.old.value request.now ≡ Some (first_spans count.new out.new) }
     ensures held { result ≡ DONE → blocks.new.value.held ≡ with_blocks (first_spans count.new out.new) blocks.old.value.held }
+    ensures values { blocks.new.value.values ≡ blocks.old.value.values }
     ensures too_many { result ≡ TOO_MANY → length out.old < count.new }
     ensures wanted { result ≡ TOO_MANY → IfSome (blocks_for blocks.old.value request.now) (λ spans. length spans ≡ count.new) }
     ensures no_room { result ≡ NO_ROOM → blocks_for blocks.old.value request.now ≡ None }
@@ -82,6 +88,7 @@ pub extern "C" fn pearoar_blocks_release(
     ensures live { blocks.new.live ≡ true }
     ensures size { blocks.new.value.size ≡ blocks.old.value.size }
     ensures held { result ≡ DONE → blocks.new.value.held ≡ without (record { start = start; end = end }) blocks.old.value.held }
+    ensures values { result ≡ DONE → (page : ℕ) → value_at blocks.new.value.values page ≡ (if page == start then 0 else value_at blocks.old.value.values page) }
     ensures not_held { (result ≡ NOT_HELD) ↔ (is_held (record { start = start; end = end }) blocks.old.value.held ≡ false) }
     ensures same { result ≢ DONE → blocks.new.value ≡ blocks.old.value }
     ensures status { Contains (DONE ∷ NOT_HELD ∷ []) result }
@@ -105,6 +112,7 @@ pub extern "C" fn pearoar_blocks_trim(
     ensures live { blocks.new.live ≡ true }
     ensures size { blocks.new.value.size ≡ blocks.old.value.size }
     ensures held { result ≡ DONE → blocks.new.value.held ≡ with_block (record { start = start; end = start + keep }) (without (record { start = start; end = end }) blocks.old.value.held) }
+    ensures values { blocks.new.value.values ≡ blocks.old.value.values }
     ensures not_held { (result ≡ NOT_HELD) ↔ (is_held (record { start = start; end = end }) blocks.old.value.held ≡ false) }
     ensures some { result ≡ DONE → 1 ≤ keep }
     ensures most { result ≡ DONE → keep ≤ length_of (record { start = start; end = end }) }
@@ -114,6 +122,72 @@ pub extern "C" fn pearoar_blocks_trim(
 {
     let mut manager = blocks.take(alloc).into_box();
     let status = manager.trim(Span { start, end }, keep);
+    blocks.put(Parts::of(manager));
+    status
+}
+
+/// Sets the caller's value of the block that begins at a page.
+#[unsafe(no_mangle)]
+pub extern "C" fn pearoar_blocks_set_value(
+    alloc: Global,
+    blocks: &mut BlockHandle,
+    start: u32,
+    value: u64,
+) -> u32
+    requires live { blocks.old.live ≡ true }
+    ensures live { blocks.new.live ≡ true }
+    ensures size { blocks.new.value.size ≡ blocks.old.value.size }
+    ensures held { blocks.new.value.held ≡ blocks.old.value.held }
+    ensures set { result ≡ DONE → (page : ℕ) → value_at blocks.new.value.values page ≡ (if page == start then value else value_at blocks.old.value.values page) }
+    ensures not_held { (result ≡ NOT_HELD) ↔ (find (starts_at start) blocks.old.value.held ≡ None) }
+    ensures same { result ≢ DONE → blocks.new.value ≡ blocks.old.value }
+    ensures status { Contains (DONE ∷ NO_MEMORY ∷ NOT_HELD ∷ []) result }
+{
+    let mut manager = blocks.take(alloc).into_box();
+    let status = manager.set_value(start, value);
+    blocks.put(Parts::of(manager));
+    status
+}
+
+/// Tells the caller's value of the block that begins at a page, which is 0 until it is set. It takes no memory.
+#[unsafe(no_mangle)]
+pub extern "C" fn pearoar_blocks_value(
+    alloc: Global,
+    blocks: &mut BlockHandle,
+    start: u32,
+    value: &mut u64,
+) -> u32
+    requires live { blocks.old.live ≡ true }
+    ensures live { blocks.new.live ≡ true }
+    ensures same { blocks.new.value ≡ blocks.old.value }
+    ensures value { result ≡ DONE → value.new ≡ value_at blocks.old.value.values start }
+    ensures not_held { (result ≡ NOT_HELD) ↔ (find (starts_at start) blocks.old.value.held ≡ None) }
+    ensures status { Contains (DONE ∷ NOT_HELD ∷ []) result }
+{
+    let manager = blocks.take(alloc).into_box();
+    let status = manager.value(start, value);
+    blocks.put(Parts::of(manager));
+    status
+}
+
+/// Counts what is held and what is free. It takes memory, and costs a search a page.
+#[unsafe(no_mangle)]
+pub extern "C" fn pearoar_blocks_stats(
+    alloc: Global,
+    blocks: &mut BlockHandle,
+    stats: &mut BlockStats,
+) -> u32
+    requires live { blocks.old.live ≡ true }
+    ensures live { blocks.new.live ≡ true }
+    ensures same { blocks.new.value ≡ blocks.old.value }
+    ensures held { result ≡ DONE → stats.new.held ≡ pages_of blocks.old.value.held }
+    ensures free { result ≡ DONE → stats.new.free + stats.new.held ≡ blocks.old.value.size }
+    ensures blocks { result ≡ DONE → stats.new.blocks ≡ length blocks.old.value.held }
+    ensures orders { result ≡ DONE → (order : ℕ) → order < 31 → slice_index stats.new.orders order ≡ count_by (has_order order) (free_blocks_of blocks.old.value) }
+    ensures status { Contains (DONE ∷ NO_MEMORY ∷ []) result }
+{
+    let mut manager = blocks.take(alloc).into_box();
+    let status = manager.stats(alloc, stats);
     blocks.put(Parts::of(manager));
     status
 }

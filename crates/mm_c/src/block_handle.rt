@@ -1,8 +1,8 @@
 //! A buddy manager as C has it.
 ghost use Rattle.std.specs.Prelude.{◌≡◌, Bool, true, false};
-ghost use Rattle.buddy_manager.specs.Held.{Managed};
 ghost use Rattle.std.specs.Global.{Global};
 ghost use Rattle.mm_c.specs.BlockOwned.{handle_owns};
+ghost use Rattle.mm_c.specs.States.{State};
 
 use crate::blocks::Blocks;
 use crate::parts::Parts;
@@ -16,7 +16,7 @@ pub struct BlockHandle {
     ptr: *mut u8,
     ghost heap: { Global },
     pub ghost live: { Bool },
-    pub ghost value: { Managed },
+    pub ghost value: { State },
 }
 
 impl Model for BlockHandle {

@@ -1,23 +1,32 @@
 //! What C asks of a buddy manager.
-ghost use Rattle.std.specs.Prelude.{◌≡◌, ◌≢◌, ◌↔◌, ℕ, ◌+◌, ◌<◌, ◌≤◌, true, false, [], ◌∷◌, Some, None, Contains, IfOk, IfSome, IfNone, length};
+ghost use Rattle.std.specs.Prelude.{◌≡◌, ◌≢◌, ◌↔◌, ℕ, ◌+◌, ◌<◌, ◌≤◌, ◌==◌, true, false, [], ◌∷◌, Some, None, Contains, IfOk, IfSome, IfNone, length, count_by, slice_index, if◌then◌else◌};
+ghost use Rattle.std.specs.List.{find};
 ghost use Rattle.ttm_base.specs.Holes.{is_free_beside};
 ghost use Rattle.ttm_base.specs.Reach.{length_of};
+ghost use Rattle.hole_tree.specs.HoleSet.{starts_at};
 ghost use Rattle.buddy_manager.specs.Held.{held_from, with_block, with_blocks, without, is_held, pages_of};
 ghost use Rattle.buddy_manager.specs.Taking.{AreTaken};
 ghost use Rattle.manager_walk.specs.Walk.{IsNextHeld, NoneFrom};
 ghost use Rattle.mm_c.specs.Calls.{span_of, first_spans, is_topdown, is_contiguous, is_block_request, blocks_for};
+ghost use Rattle.mm_c.specs.States.{free_blocks_of, has_order};
+ghost use Rattle.mm_c.specs.UserValues.{value_at};
 ghost use Rattle.mm_c.specs.declared.status.TheConstants.{DONE, NO_ROOM, NO_MEMORY, INVALID, NOT_HELD, TOO_MANY, NO_MORE};
 
-use crate::ends::{enter, next_from, no_ends};
+use crate::ends::{begins, block_count, enter, next_from, no_ends};
 use crate::page_span::{PageSpan, write};
 use crate::ranges::tell;
 use crate::status::{DONE, INVALID, NO_MEMORY, NO_ROOM, NOT_HELD, TOO_MANY};
+use crate::values::Values;
 use buddy_manager::{AllocFault, BuddyFlags, BuddyManager};
+use manager_walk::free_blocks;
 use std::alloc::Global;
 use std::marker::Model;
 use ttm_base::{NoMemory, Span, Spans};
 
-/// A buddy manager, seen as it is, with room for the blocks of a call, and where each block ends.
+/// The orders of blocks, since there are fewer than 2^31 pages.
+const ORDERS: usize = 31;
+
+/// A buddy manager with room for the blocks of a call, where each block ends, and the caller's values of the blocks by where they begin.
 #[derive(Drop)]
 pub struct Blocks {
     manager: BuddyManager,
@@ -27,16 +36,17 @@ pub struct Blocks {
     room: Spans,
     /// One block, so that giving it back takes no memory.
     one: Spans,
+    values: Values,
 }
 
 impl Model for Blocks {
-    ghost use Rattle.buddy_manager.specs.Held.{Managed};
+    ghost use Rattle.mm_c.specs.States.{State};
 
-    ghost Value = { Managed };
+    ghost Value = { State };
 
     ghost use Rattle.mm_c.specs.Kept.{AreBlocks};
 
-    ghost view = { λ b. b.manager };
+    ghost view = { λ b. record { size = b.manager.size; held = b.manager.held; values = b.values } };
 
     ghost invariant = { λ b. AreBlocks b.manager b.ends.items b.one };
 }
@@ -49,6 +59,38 @@ pub struct BlockRequest {
     pub first: u32,
     pub last: u32,
     pub flags: u32,
+}
+
+/// What is held and what is free, counted in pages and blocks.
+#[repr(C)]
+#[derive(Clone, Copy)]
+pub struct BlockStats {
+    pub free: u32,
+    pub held: u32,
+    /// How many blocks are held.
+    pub blocks: usize,
+    /// How many blocks are free, of each order, where each free block is as large as it can be.
+    pub orders: [usize; ORDERS],
+}
+
+/// How many blocks have so many pages.
+fn count_of(blocks: &[Span], pages: u32) -> usize
+    ensures { result ≡ count_by (λ block. length_of block == pages) blocks.now }
+{
+    blocks
+        .iter()
+        .filter(|block| block.end.saturating_sub(block.start) == pages)
+        .count()
+}
+
+/// Counts blocks by their orders.
+fn count_orders(blocks: &[Span], counts: &mut [usize])
+    requires { length counts.old ≡ 31 }
+    ensures { (order : ℕ) → order < 31 → slice_index counts.new order ≡ count_by (has_order order) blocks.now }
+{
+    for order in 0..ORDERS {
+        counts[order] = count_of(blocks, 1 << order);
+    }
 }
 
 impl BlockRequest {
@@ -84,6 +126,7 @@ impl Blocks {
     pub fn new(alloc: Global, pages: u32) -> Result<Box<Blocks>, NoMemory>
         ensures size { IfOk result (λ blocks. blocks.value.size ≡ pages) }
         ensures held { IfOk result (λ blocks. blocks.value.held ≡ []) }
+        ensures values { IfOk result (λ blocks. blocks.value.values ≡ []) }
     {
         let manager = BuddyManager::new(alloc, pages)?;
         let ends = no_ends(alloc, pages)?;
@@ -94,6 +137,7 @@ impl Blocks {
             ends,
             room: Spans::new(alloc),
             one,
+            values: Values::new(alloc),
         };
         Box::new(alloc, blocks).map_err(|_| NoMemory)
     }
@@ -105,6 +149,7 @@ impl Blocks {
         ensures fits { result ≡ DONE → count.new ≤ length out.old }
         ensures done { result ≡ DONE → blocks_for self.old request ≡ Some (first_spans count.new out.new) }
         ensures held { result ≡ DONE → self.new.held ≡ with_blocks (first_spans count.new out.new) self.old.held }
+        ensures values { self.new.values ≡ self.old.values }
         ensures too_many { result ≡ TOO_MANY → length out.old < count.new }
         ensures wanted { result ≡ TOO_MANY → IfSome (blocks_for self.old request) (λ spans. length spans ≡ count.new) }
         ensures no_room { result ≡ NO_ROOM → blocks_for self.old request ≡ None }
@@ -139,6 +184,7 @@ impl Blocks {
     pub fn release(&mut self, block: Span) -> u32
         ensures size { self.new.size ≡ self.old.size }
         ensures held { result ≡ DONE → self.new.held ≡ without block self.old.held }
+        ensures values { result ≡ DONE → (page : ℕ) → value_at self.new.values page ≡ (if page == block.start then 0 else value_at self.old.values page) }
         ensures not_held { (result ≡ NOT_HELD) ↔ (is_held block self.old.held ≡ false) }
         ensures same { result ≢ DONE → self.new ≡ self.old }
         ensures status { Contains (DONE ∷ NOT_HELD ∷ []) result }
@@ -149,6 +195,7 @@ impl Blocks {
         self.one.set(0, block);
         self.manager.release(&self.one);
         self.ends[block.start as usize] = 0;
+        self.values.clear(block.start);
         DONE
     }
 
@@ -156,6 +203,7 @@ impl Blocks {
     pub fn trim(&mut self, block: Span, keep: u32) -> u32
         ensures size { self.new.size ≡ self.old.size }
         ensures held { result ≡ DONE → self.new.held ≡ with_block (record { start = block.start; end = block.start + keep }) (without block self.old.held) }
+        ensures values { self.new.values ≡ self.old.values }
         ensures not_held { (result ≡ NOT_HELD) ↔ (is_held block self.old.held ≡ false) }
         ensures some { result ≡ DONE → 1 ≤ keep }
         ensures most { result ≡ DONE → keep ≤ length_of block }
@@ -171,6 +219,55 @@ impl Blocks {
         }
         self.manager.trim(block, keep);
         self.ends[block.start as usize] = block.start + keep;
+        DONE
+    }
+
+    /// Sets the caller's value of the block that begins at a page.
+    pub fn set_value(&mut self, start: u32, value: u64) -> u32
+        ensures size { self.new.size ≡ self.old.size }
+        ensures held { self.new.held ≡ self.old.held }
+        ensures set { result ≡ DONE → (page : ℕ) → value_at self.new.values page ≡ (if page == start then value else value_at self.old.values page) }
+        ensures not_held { (result ≡ NOT_HELD) ↔ (find (starts_at start) self.old.held ≡ None) }
+        ensures same { result ≢ DONE → self.new ≡ self.old }
+        ensures status { Contains (DONE ∷ NO_MEMORY ∷ NOT_HELD ∷ []) result }
+    {
+        if !begins(&self.ends, start) {
+            return NOT_HELD;
+        }
+        match self.values.set(start, value) {
+            Ok(()) => DONE,
+            Err(_) => NO_MEMORY,
+        }
+    }
+
+    /// Tells the caller's value of the block that begins at a page.
+    pub fn value(&self, start: u32, value: &mut u64) -> u32
+        ensures value { result ≡ DONE → value.new ≡ value_at self.now.values start }
+        ensures not_held { (result ≡ NOT_HELD) ↔ (find (starts_at start) self.now.held ≡ None) }
+        ensures status { Contains (DONE ∷ NOT_HELD ∷ []) result }
+    {
+        if !begins(&self.ends, start) {
+            return NOT_HELD;
+        }
+        *value = self.values.get(start);
+        DONE
+    }
+
+    /// Counts what is held and what is free. After a refusal nothing is told.
+    pub fn stats(&mut self, alloc: Global, stats: &mut BlockStats) -> u32
+        ensures same { self.new ≡ self.old }
+        ensures held { result ≡ DONE → stats.new.held ≡ pages_of self.old.held }
+        ensures free { result ≡ DONE → stats.new.free + stats.new.held ≡ self.old.size }
+        ensures blocks { result ≡ DONE → stats.new.blocks ≡ length self.old.held }
+        ensures orders { result ≡ DONE → (order : ℕ) → order < 31 → slice_index stats.new.orders order ≡ count_by (has_order order) (free_blocks_of self.old) }
+        ensures status { Contains (DONE ∷ NO_MEMORY ∷ []) result }
+    {
+        let Ok(free) = free_blocks(alloc, &mut self.manager) else {
+            return NO_MEMORY;
+        };
+        (stats.free, stats.held) = self.manager.lengths();
+        stats.blocks = block_count(&self.ends);
+        count_orders(free.items(), &mut stats.orders);
         DONE
     }
 

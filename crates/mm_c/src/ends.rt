@@ -1,6 +1,8 @@
 //! For each page where the block that begins there ends; a page where none begins has no end above it.
-ghost use Rattle.std.specs.Prelude.{◌≡◌, ◌<◌, ◌≤◌, ◌^◌, length, replicate, IfOk, IfSome, IfNone};
+ghost use Rattle.std.specs.Prelude.{◌≡◌, ◌<◌, ◌≤◌, ◌^◌, length, replicate, is_some, IfOk, IfSome, IfNone};
+ghost use Rattle.std.specs.List.{find};
 ghost use Rattle.ttm_base.specs.Holes.{is_free_beside};
+ghost use Rattle.hole_tree.specs.HoleSet.{starts_at};
 ghost use Rattle.buddy_manager.specs.Held.{held_from, with_blocks};
 ghost use Rattle.buddy_manager.specs.Taking.{AreTaken};
 ghost use Rattle.manager_walk.specs.Walk.{IsNextHeld, NoneFrom};
@@ -40,4 +42,26 @@ pub fn next_from(ends: &[u32], from: u32) -> Option<Span>
         }
     }
     None
+}
+
+/// A block begins at a page.
+pub fn begins(ends: &[u32], start: u32) -> bool
+    ensures { result ≡ is_some (find (starts_at start) (held_from 0 ends.now)) }
+{
+    let at = start as usize;
+    at < ends.len() && start < ends[at]
+}
+
+/// How many blocks there are.
+pub fn block_count(ends: &[u32]) -> usize
+    requires { length ends.now < 2 ^ 32 }
+    ensures { result ≡ length (held_from 0 ends.now) }
+{
+    let mut count = 0;
+    for start in 0..ends.len() as u32 {
+        if start < ends[start as usize] {
+            count += 1;
+        }
+    }
+    count
 }

@@ -12,3 +12,5 @@ mod range_handle;
 mod ranges;
 mod span_calls;
 mod status;
+mod values;
+mod version_call;

@@ -1,17 +1,20 @@
 //! The calls of C on a range manager. Each takes the manager out of its handle and puts it back.
-ghost use Rattle.std.specs.Prelude.{◌≡◌, ◌≢◌, ◌↔◌, ℕ, ◌+◌, ◌<◌, ◌≤◌, true, false, [], ◌∷◌, Some, None, Contains};
+ghost use Rattle.std.specs.Prelude.{◌≡◌, ◌≢◌, ◌↔◌, ℕ, ◌+◌, ◌<◌, ◌≤◌, ◌==◌, true, false, [], ◌∷◌, Some, None, Contains, length, if◌then◌else◌};
 ghost use Rattle.std.specs.List.{find};
 ghost use Rattle.ttm_base.specs.Holes.{has_page};
 ghost use Rattle.hole_tree.specs.HoleSet.{starts_at, without};
+ghost use Rattle.hole_tree.specs.Longest.{longest};
 ghost use Rattle.range_manager.specs.Held.{with_span, pages_of, is_open, HasTakenPage};
 ghost use Rattle.manager_walk.specs.Walk.{IsNextHeld, IsNextHole, NoneFrom, NoneOpen};
 ghost use Rattle.mm_c.specs.Calls.{span_of, mode_of, range_for};
+ghost use Rattle.mm_c.specs.States.{managed, holes_of};
+ghost use Rattle.mm_c.specs.UserValues.{value_at};
 ghost use Rattle.mm_c.specs.declared.status.TheConstants.{DONE, NO_ROOM, NO_MEMORY, INVALID, NOT_HELD, NO_MORE};
 
 use crate::page_span::PageSpan;
 use crate::parts::Parts;
 use crate::range_handle::RangeHandle;
-use crate::ranges::{RangeRequest, Ranges};
+use crate::ranges::{RangeRequest, RangeStats, Ranges};
 use crate::status::{DONE, NO_MEMORY};
 use std::alloc::Global;
 
@@ -22,6 +25,7 @@ pub extern "C" fn pearoar_ranges_create(alloc: Global, ranges: &mut RangeHandle,
     ensures live { result ≡ DONE → ranges.new.live ≡ true }
     ensures size { result ≡ DONE → ranges.new.value.size ≡ pages }
     ensures held { result ≡ DONE → ranges.new.value.held ≡ [] }
+    ensures values { result ≡ DONE → ranges.new.value.values ≡ [] }
     ensures none { result ≢ DONE → ranges.new.live ≡ false }
     ensures status { Contains (DONE ∷ NO_MEMORY ∷ []) result }
 {
@@ -56,6 +60,7 @@ pub extern "C" fn pearoar_ranges_insert(
     ensures size { ranges.new.value.size ≡ ranges.old.value.size }
     ensures done { result ≡ DONE → range_for ranges.old.value request.now.mode request.now.pages request.now.align (record { start = request.now.first; end = request.now.last }) ≡ Some (span_of span.new) }
     ensures held { result ≡ DONE → ranges.new.value.held ≡ with_span (span_of span.new) ranges.old.value.held }
+    ensures values { ranges.new.value.values ≡ ranges.old.value.values }
     ensures no_room { result ≡ NO_ROOM → range_for ranges.old.value request.now.mode request.now.pages request.now.align (record { start = request.now.first; end = request.now.last }) ≡ None }
     ensures invalid { (result ≡ INVALID) ↔ (mode_of request.now.mode ≡ None) }
     ensures same { result ≢ DONE → ranges.new.value ≡ ranges.old.value }
@@ -78,10 +83,11 @@ pub extern "C" fn pearoar_ranges_reserve(
     requires live { ranges.old.live ≡ true }
     ensures live { ranges.new.live ≡ true }
     ensures size { ranges.new.value.size ≡ ranges.old.value.size }
-    ensures free { result ≡ DONE → (page : ℕ) → has_page page (record { start = first; end = last }) ≡ true → is_open ranges.old.value page ≡ true }
+    ensures free { result ≡ DONE → (page : ℕ) → has_page page (record { start = first; end = last }) ≡ true → is_open (managed ranges.old.value) page ≡ true }
     ensures held { result ≡ DONE → ranges.new.value.held ≡ with_span (record { start = first; end = last }) ranges.old.value.held }
+    ensures values { ranges.new.value.values ≡ ranges.old.value.values }
     ensures empty { last ≤ first → result ≡ NO_ROOM }
-    ensures no_room { result ≡ NO_ROOM → first < last → HasTakenPage ranges.old.value (record { start = first; end = last }) }
+    ensures no_room { result ≡ NO_ROOM → first < last → HasTakenPage (managed ranges.old.value) (record { start = first; end = last }) }
     ensures same { result ≢ DONE → ranges.new.value ≡ ranges.old.value }
     ensures status { Contains (DONE ∷ NO_ROOM ∷ NO_MEMORY ∷ []) result }
 {
@@ -98,6 +104,7 @@ pub extern "C" fn pearoar_ranges_remove(alloc: Global, ranges: &mut RangeHandle,
     ensures live { ranges.new.live ≡ true }
     ensures size { ranges.new.value.size ≡ ranges.old.value.size }
     ensures held { result ≡ DONE → ranges.new.value.held ≡ without start ranges.old.value.held }
+    ensures values { result ≡ DONE → (page : ℕ) → value_at ranges.new.value.values page ≡ (if page == start then 0 else value_at ranges.old.value.values page) }
     ensures not_held { (result ≡ NOT_HELD) ↔ (find (starts_at start) ranges.old.value.held ≡ None) }
     ensures same { result ≢ DONE → ranges.new.value ≡ ranges.old.value }
     ensures status { Contains (DONE ∷ NOT_HELD ∷ []) result }
@@ -106,6 +113,71 @@ pub extern "C" fn pearoar_ranges_remove(alloc: Global, ranges: &mut RangeHandle,
     let status = manager.remove(start);
     ranges.put(Parts::of(manager));
     status
+}
+
+/// Sets the caller's value of the span that begins at a page.
+#[unsafe(no_mangle)]
+pub extern "C" fn pearoar_ranges_set_value(
+    alloc: Global,
+    ranges: &mut RangeHandle,
+    start: u32,
+    value: u64,
+) -> u32
+    requires live { ranges.old.live ≡ true }
+    ensures live { ranges.new.live ≡ true }
+    ensures size { ranges.new.value.size ≡ ranges.old.value.size }
+    ensures held { ranges.new.value.held ≡ ranges.old.value.held }
+    ensures set { result ≡ DONE → (page : ℕ) → value_at ranges.new.value.values page ≡ (if page == start then value else value_at ranges.old.value.values page) }
+    ensures not_held { (result ≡ NOT_HELD) ↔ (find (starts_at start) ranges.old.value.held ≡ None) }
+    ensures same { result ≢ DONE → ranges.new.value ≡ ranges.old.value }
+    ensures status { Contains (DONE ∷ NO_MEMORY ∷ NOT_HELD ∷ []) result }
+{
+    let mut manager = ranges.take(alloc).into_box();
+    let status = manager.set_value(start, value);
+    ranges.put(Parts::of(manager));
+    status
+}
+
+/// Tells the caller's value of the span that begins at a page, which is 0 until it is set. It takes no memory.
+#[unsafe(no_mangle)]
+pub extern "C" fn pearoar_ranges_value(
+    alloc: Global,
+    ranges: &mut RangeHandle,
+    start: u32,
+    value: &mut u64,
+) -> u32
+    requires live { ranges.old.live ≡ true }
+    ensures live { ranges.new.live ≡ true }
+    ensures same { ranges.new.value ≡ ranges.old.value }
+    ensures value { result ≡ DONE → value.new ≡ value_at ranges.old.value.values start }
+    ensures not_held { (result ≡ NOT_HELD) ↔ (find (starts_at start) ranges.old.value.held ≡ None) }
+    ensures status { Contains (DONE ∷ NOT_HELD ∷ []) result }
+{
+    let manager = ranges.take(alloc).into_box();
+    let status = manager.value(start, value);
+    ranges.put(Parts::of(manager));
+    status
+}
+
+/// Counts what is held and what is free. It takes no memory, and a step.
+#[unsafe(no_mangle)]
+pub extern "C" fn pearoar_ranges_stats(
+    alloc: Global,
+    ranges: &mut RangeHandle,
+    stats: &mut RangeStats,
+)
+    requires live { ranges.old.live ≡ true }
+    ensures live { ranges.new.live ≡ true }
+    ensures same { ranges.new.value ≡ ranges.old.value }
+    ensures held { stats.new.held ≡ pages_of ranges.old.value.held }
+    ensures free { stats.new.free + stats.new.held ≡ ranges.old.value.size }
+    ensures spans { stats.new.spans ≡ length ranges.old.value.held }
+    ensures holes { stats.new.holes ≡ length (holes_of ranges.old.value) }
+    ensures longest { stats.new.longest ≡ longest (holes_of ranges.old.value) }
+{
+    let manager = ranges.take(alloc).into_box();
+    *stats = manager.stats();
+    ranges.put(Parts::of(manager));
 }
 
 /// How many pages are free, and how many are held. It takes no memory.

@@ -1,8 +1,8 @@
 //! A range manager as C has it.
 ghost use Rattle.std.specs.Prelude.{◌≡◌, Bool, true, false};
-ghost use Rattle.range_manager.specs.Held.{Managed};
 ghost use Rattle.std.specs.Global.{Global};
 ghost use Rattle.mm_c.specs.RangeOwned.{handle_owns};
+ghost use Rattle.mm_c.specs.States.{State};
 
 use crate::parts::Parts;
 use crate::ranges::Ranges;
@@ -16,7 +16,7 @@ pub struct RangeHandle {
     ptr: *mut u8,
     ghost heap: { Global },
     pub ghost live: { Bool },
-    pub ghost value: { Managed },
+    pub ghost value: { State },
 }
 
 impl Model for RangeHandle {

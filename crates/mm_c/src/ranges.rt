@@ -1,35 +1,40 @@
 //! What C asks of a range manager.
-ghost use Rattle.std.specs.Prelude.{◌≡◌, ◌≢◌, ◌↔◌, ℕ, ◌+◌, ◌<◌, ◌≤◌, true, [], ◌∷◌, Some, None, Contains, IfOk};
+ghost use Rattle.std.specs.Prelude.{◌≡◌, ◌≢◌, ◌↔◌, ℕ, ◌+◌, ◌<◌, ◌≤◌, ◌==◌, true, [], ◌∷◌, Some, None, Contains, IfOk, length, if◌then◌else◌};
 ghost use Rattle.std.specs.List.{find};
 ghost use Rattle.ttm_base.specs.Holes.{has_page};
 ghost use Rattle.hole_tree.specs.HoleSet.{starts_at, without};
+ghost use Rattle.hole_tree.specs.Longest.{longest};
 ghost use Rattle.range_manager.specs.Held.{with_span, pages_of, is_open, HasTakenPage};
 ghost use Rattle.manager_walk.specs.Walk.{IsNextHeld, IsNextHole, NoneFrom, NoneOpen};
 ghost use Rattle.mm_c.specs.Calls.{span_of, mode_of, range_for};
+ghost use Rattle.mm_c.specs.States.{managed, holes_of};
+ghost use Rattle.mm_c.specs.UserValues.{value_at};
 ghost use Rattle.mm_c.specs.declared.status.TheConstants.{DONE, NO_ROOM, NO_MEMORY, INVALID, NOT_HELD, NO_MORE};
 
 use crate::page_span::PageSpan;
 use crate::status::{DONE, INVALID, NO_MEMORY, NO_MORE, NO_ROOM, NOT_HELD};
+use crate::values::Values;
 use manager_walk::{next_held, next_hole};
 use range_manager::{InsertFault, RangeManager};
 use std::alloc::Global;
 use std::marker::Model;
 use ttm_base::{Mode, NoMemory, Span};
 
-/// A range manager and its size, seen as the manager.
+/// A range manager, its size, and the caller's values of the spans by where they begin.
 #[derive(Drop)]
 pub struct Ranges {
     manager: RangeManager,
     size: u32,
+    values: Values,
 }
 
 impl Model for Ranges {
     ghost use Rattle.std.specs.Prelude.{◌≡◌};
-    ghost use Rattle.range_manager.specs.Held.{Managed};
+    ghost use Rattle.mm_c.specs.States.{State};
 
-    ghost Value = { Managed };
+    ghost Value = { State };
 
-    ghost view = { λ r. r.manager };
+    ghost view = { λ r. record { size = r.manager.size; held = r.manager.held; values = r.values } };
 
     ghost invariant = { λ r. r.manager.size ≡ r.size };
 }
@@ -43,6 +48,18 @@ pub struct RangeRequest {
     pub first: u32,
     pub last: u32,
     pub mode: u32,
+}
+
+/// What is held and what is free, counted in pages, spans and holes.
+#[repr(C)]
+#[derive(Clone, Copy)]
+pub struct RangeStats {
+    pub free: u32,
+    pub held: u32,
+    pub spans: u32,
+    /// The pages of the longest hole.
+    pub longest: u32,
+    pub holes: usize,
 }
 
 /// Which hole is taken: the smallest that fits, the lowest, or the highest.
@@ -86,11 +103,13 @@ impl Ranges {
     pub fn new(alloc: Global, pages: u32) -> Result<Box<Ranges>, NoMemory>
         ensures size { IfOk result (λ ranges. ranges.value.size ≡ pages) }
         ensures held { IfOk result (λ ranges. ranges.value.held ≡ []) }
+        ensures values { IfOk result (λ ranges. ranges.value.values ≡ []) }
     {
         let manager = RangeManager::new(alloc, pages)?;
         let ranges = Ranges {
             manager,
             size: pages,
+            values: Values::new(alloc),
         };
         Box::new(alloc, ranges).map_err(|_| NoMemory)
     }
@@ -99,6 +118,7 @@ impl Ranges {
         ensures size { self.new.size ≡ self.old.size }
         ensures done { result ≡ DONE → range_for self.old request.mode request.pages request.align (record { start = request.first; end = request.last }) ≡ Some (span_of span.new) }
         ensures held { result ≡ DONE → self.new.held ≡ with_span (span_of span.new) self.old.held }
+        ensures values { self.new.values ≡ self.old.values }
         ensures no_room { result ≡ NO_ROOM → range_for self.old request.mode request.pages request.align (record { start = request.first; end = request.last }) ≡ None }
         ensures invalid { (result ≡ INVALID) ↔ (mode_of request.mode ≡ None) }
         ensures same { result ≢ DONE → self.new ≡ self.old }
@@ -120,10 +140,11 @@ impl Ranges {
 
     pub fn reserve(&mut self, first: u32, last: u32) -> u32
         ensures size { self.new.size ≡ self.old.size }
-        ensures free { result ≡ DONE → (page : ℕ) → has_page page (record { start = first; end = last }) ≡ true → is_open self.old page ≡ true }
+        ensures free { result ≡ DONE → (page : ℕ) → has_page page (record { start = first; end = last }) ≡ true → is_open (managed self.old) page ≡ true }
         ensures held { result ≡ DONE → self.new.held ≡ with_span (record { start = first; end = last }) self.old.held }
+        ensures values { self.new.values ≡ self.old.values }
         ensures empty { last ≤ first → result ≡ NO_ROOM }
-        ensures no_room { result ≡ NO_ROOM → first < last → HasTakenPage self.old (record { start = first; end = last }) }
+        ensures no_room { result ≡ NO_ROOM → first < last → HasTakenPage (managed self.old) (record { start = first; end = last }) }
         ensures same { result ≢ DONE → self.new ≡ self.old }
         ensures status { Contains (DONE ∷ NO_ROOM ∷ NO_MEMORY ∷ []) result }
     {
@@ -143,6 +164,7 @@ impl Ranges {
     pub fn remove(&mut self, start: u32) -> u32
         ensures size { self.new.size ≡ self.old.size }
         ensures held { result ≡ DONE → self.new.held ≡ without start self.old.held }
+        ensures values { result ≡ DONE → (page : ℕ) → value_at self.new.values page ≡ (if page == start then 0 else value_at self.old.values page) }
         ensures not_held { (result ≡ NOT_HELD) ↔ (find (starts_at start) self.old.held ≡ None) }
         ensures same { result ≢ DONE → self.new ≡ self.old }
         ensures status { Contains (DONE ∷ NOT_HELD ∷ []) result }
@@ -150,9 +172,59 @@ impl Ranges {
         match self.manager.held_from(start) {
             Some(_) => {
                 self.manager.remove(start);
+                self.values.clear(start);
                 DONE
             }
             None => NOT_HELD,
+        }
+    }
+
+    /// Sets the caller's value of the span that begins at a page.
+    pub fn set_value(&mut self, start: u32, value: u64) -> u32
+        ensures size { self.new.size ≡ self.old.size }
+        ensures held { self.new.held ≡ self.old.held }
+        ensures set { result ≡ DONE → (page : ℕ) → value_at self.new.values page ≡ (if page == start then value else value_at self.old.values page) }
+        ensures not_held { (result ≡ NOT_HELD) ↔ (find (starts_at start) self.old.held ≡ None) }
+        ensures same { result ≢ DONE → self.new ≡ self.old }
+        ensures status { Contains (DONE ∷ NO_MEMORY ∷ NOT_HELD ∷ []) result }
+    {
+        if self.manager.held_from(start).is_none() {
+            return NOT_HELD;
+        }
+        match self.values.set(start, value) {
+            Ok(()) => DONE,
+            Err(_) => NO_MEMORY,
+        }
+    }
+
+    /// Tells the caller's value of the span that begins at a page.
+    pub fn value(&self, start: u32, value: &mut u64) -> u32
+        ensures value { result ≡ DONE → value.new ≡ value_at self.now.values start }
+        ensures not_held { (result ≡ NOT_HELD) ↔ (find (starts_at start) self.now.held ≡ None) }
+        ensures status { Contains (DONE ∷ NOT_HELD ∷ []) result }
+    {
+        if self.manager.held_from(start).is_none() {
+            return NOT_HELD;
+        }
+        *value = self.values.get(start);
+        DONE
+    }
+
+    /// What is held and what is free, counted.
+    pub fn stats(&self) -> RangeStats
+        ensures held { result.held ≡ pages_of self.now.held }
+        ensures free { result.free + result.held ≡ self.now.size }
+        ensures spans { result.spans ≡ length self.now.held }
+        ensures holes { result.holes ≡ length (holes_of self.now) }
+        ensures longest { result.longest ≡ longest (holes_of self.now) }
+    {
+        let (free, held) = self.manager.lengths();
+        RangeStats {
+            free,
+            held,
+            spans: self.manager.span_count(),
+            longest: self.manager.longest_hole(),
+            holes: self.manager.hole_count(),
         }
     }
 

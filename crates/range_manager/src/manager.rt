@@ -3,6 +3,7 @@ ghost use Rattle.std.specs.List.{find};
 ghost use Rattle.ttm_base.specs.Holes.{holes, has_page, is_free_beside};
 ghost use Rattle.ttm_base.specs.RangeChoice.{range_choice};
 ghost use Rattle.hole_tree.specs.HoleSet.{starts_at, without};
+ghost use Rattle.hole_tree.specs.Longest.{longest};
 ghost use Rattle.range_manager.specs.Held.{held_spans, with_span, pages_of, is_open, HasTakenPage};
 ghost use Rattle.range_manager.specs.Kept.{IsManaged};
 
@@ -215,5 +216,26 @@ impl RangeManager {
         ensures sum { result.0 + result.1 ≡ self.now.size }
     {
         (self.ends.len() as u32 - self.used, self.used)
+    }
+
+    /// How many spans are held.
+    pub fn span_count(&self) -> u32
+        ensures { result ≡ length self.now.held }
+    {
+        self.count
+    }
+
+    /// How many holes there are.
+    pub fn hole_count(&self) -> usize
+        ensures { result ≡ length (holes (is_free_beside self.now.held) self.now.size) }
+    {
+        self.holes.hole_count()
+    }
+
+    /// The pages of the longest hole, or 0 where there is none.
+    pub fn longest_hole(&self) -> u32
+        ensures { result ≡ longest (holes (is_free_beside self.now.held) self.now.size) }
+    {
+        self.holes.longest_hole()
     }
 }

@@ -1,6 +1,7 @@
 use Rattle.std.proofs.Common.{◌≡◌, true, [], ◌∷◌, set, ap, sym, subst, ◌∙◌, arith}
-use Rattle.buddy_manager.specs.Held.{Managed, is_held, without, AreHeld}
+use Rattle.buddy_manager.specs.Held.{is_held, without, AreHeld}
 use Rattle.mm_c.specs.Kept.{AreBlocks}
+use Rattle.mm_c.specs.States.{State}
 use Rattle.mm_c.proofs.BlockLaws.{block_at, released_one, set_single}
 use Rattle.mm_c.proofs.blocks.Blocks.release.Goals as goal
 use Rattle.mm_c.proofs.blocks.Blocks.release.Goals.{After-set, After-release}
@@ -30,4 +31,4 @@ pub invariant_of-self : goal.invariant_of-self
 invariant_of-self c = (given (goal.at.invariant_of-self c).After-release).1
 
 pub returns-clause-held : goal.returns-clause-held
-returns-clause-held c = λ _. (given (goal.at.returns-clause-held c).After-release).0 ∙ ap (λ (m : Managed). without c.args.block m.held) c.self.view_is
+returns-clause-held c = λ _. (given (goal.at.returns-clause-held c).After-release).0 ∙ ap (λ (m : State). without c.args.block m.held) c.self.view_is

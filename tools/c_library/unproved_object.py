@@ -1,11 +1,11 @@
 #!/usr/bin/env python3
-"""Builds crates/mm_c as a C library without proving it, as `rt lib` would, to be measured and for nothing else.
+"""Compiles crates/mm_c without proving it, to the object of a C library (tools/build_c_library.sh).
 
-usage: build_library.py LIBRARY.a
+usage: unproved_object.py OBJECT.o
 
-A library isn't built without its proof, a program is, for a try. So a copy of mm_c becomes a program whose `main` reaches what bench.c
-calls (unproved/reach.rt.in). The LLVM module that `rt try` makes of it is caught, the calls get their C names, the checks of a run that
-isn't proved are left out, as a proof does, and it is compiled with the flags of `rt run`. It takes a minute or two.
+A library isn't built without its proof, a program is, for a try. So a copy of mm_c becomes a program whose `main` reaches each call of C
+(reach.rt.in). The LLVM module that `rt try` makes of it is caught, the calls get their C names, the checks of a run that isn't proved are
+left out, as a proof does, and it is compiled with the flags of `rt run`. It takes a minute or two of processor time.
 """
 
 import os
@@ -21,7 +21,7 @@ HERE = Path(__file__).resolve().parent
 TOP = HERE.parent.parent
 LLVM_FLAGS = """-no-trap-after-noreturn -trap-unreachable -no-x86-call-frame-opt -disable-machine-licm -disable-postra-machine-licm
     -sink-common-insts=false""".split()
-CALL = re.compile(r'@"mm_c::(?:range|block)_calls::(pearoar_\w+)"')
+CALL = re.compile(r'@"mm_c::\w+::(pearoar_\w+)"')
 
 
 def needs():
@@ -42,10 +42,10 @@ def copy_crates(room):
     for crate in wanted:
         shutil.copytree(TOP / "crates" / crate, room / "crates" / crate, ignore=shutil.ignore_patterns("out"))
     source = room / "crates/mm_c/src"
-    (source / "main.rt").write_text((source / "lib.rt").read_text() + (HERE / "unproved/reach.rt.in").read_text())
+    (source / "main.rt").write_text((source / "lib.rt").read_text() + (HERE / "reach.rt.in").read_text())
     (source / "lib.rt").unlink()
     for kind in ("Range", "Block"):
-        text = (HERE / "unproved/handle.rt.in").read_text().replace("HANDLE", f"{kind}Handle").replace("MANAGER", f"{kind}s")
+        text = (HERE / "handle.rt.in").read_text().replace("HANDLE", f"{kind}Handle").replace("MANAGER", f"{kind}s")
         with (source / f"{kind.lower()}_handle.rt").open("a") as file:
             file.write(text)
 
@@ -79,7 +79,7 @@ def catch_module(room):
                 links.append(link)
         time.sleep(0.002)
     if not links or tried.returncode != 0:
-        sys.exit((room / "log").read_text() + "build_library.py: no module was made")
+        sys.exit((room / "log").read_text() + "unproved_object.py: no module was made")
     return max(links, key=lambda link: link.stat().st_size)
 
 
@@ -111,9 +111,7 @@ def main():
         made.write_text(as_library(made.read_text()))
         flags = [f"--sysroot={kit / 'toolchain'}", "-march=x86-64", "-O3", "-fPIE", "-ffunction-sections", "-fdata-sections"]
         flags += [word for flag in LLVM_FLAGS for word in ("-mllvm", flag)]
-        subprocess.run([*clang, *flags, "-c", "-x", "ir", made, "-o", room / "mm_c.o"], check=True)
-        Path(sys.argv[1]).unlink(missing_ok=True)
-        subprocess.run(["ar", "rcs", sys.argv[1], room / "mm_c.o"], check=True)
+        subprocess.run([*clang, *flags, "-c", "-x", "ir", made, "-o", sys.argv[1]], check=True)
 
 
 if __name__ == "__main__":

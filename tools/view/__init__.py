@@ -1,0 +1,1 @@
+"""Viewers of scripts and reports: what `./ttm` starts to look at them."""
