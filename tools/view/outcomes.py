@@ -114,9 +114,9 @@ def report_of(program: str, script: Script, seed: int) -> Observed:
     return observe(read_report(text + done.stdout))
 
 
-def outcomes_of(program: str, script: Script, count: int) -> Outcomes:
+def outcomes_of(script: Script, count: int) -> Outcomes:
     """Runs interleavings 1 to `count`, as many at a time as there are processors."""
-    found = Outcomes()
+    found, program = Outcomes(), program_of_environment()
     with concurrent.futures.ThreadPoolExecutor(os.cpu_count()) as pool:
         for start in range(1, count + 1, 64):
             seeds = range(start, min(start + 64, count + 1))
@@ -136,5 +136,5 @@ def program_of_environment() -> str:
 def main(args: List[str]) -> int:
     """Writes what the interleavings of a script, in a file or on standard input, lead to."""
     count, script = number_and_script(args, "how many interleavings are run", 1, MOST_RUNS)
-    print("\n".join(lines_of(outcomes_of(program_of_environment(), script, count))))
+    print("\n".join(lines_of(outcomes_of(script, count))))
     return 0

@@ -7,7 +7,6 @@ inside, and waits. An arrow leads from the entry that ends a wait to the wait. F
 from __future__ import annotations
 
 import json
-import re
 import sys
 from typing import Dict, List, Optional, Set
 
@@ -22,7 +21,6 @@ from .state import AREAS, Course, Ghost, Holder, Job
 FIRST_ENGINE = 101  # the number of the track of engine 0; threads have their own numbers
 REAPER = 201
 ENCODED = json.JSONEncoder(separators=(",", ":")).encode
-IS_PLAIN = re.compile(r'[ !#-\[\]-~]*', re.ASCII).fullmatch  # printable, and without quotes and backslashes
 COUNTERS = {"vram": "free pages of VRAM", "tt": "free pages of TT", "frames": "free frames", "swap": "free slots"}
 
 
@@ -83,9 +81,8 @@ class Trace(Observer):
         self.add(ph="f", bp="e", tid=track, ts=until, id=self.arrows, name="waited for", cat="wait")
 
     def entry(self, number: int, entry: Entry) -> None:
-        text = self.lines[number - 1].split(" ", 2)[2]
-        name = f'"{text}"' if IS_PLAIN(text) else ENCODED(text)
-        self.events.append(f'{self.heads[entry[0]]}{number},"name":{name}}}')
+        text = self.lines[number - 1].split(" ", 2)[2]  # has no byte that JSON must escape: `read_report` refuses those
+        self.events.append(f'{self.heads[entry[0]]}{number},"name":"{text}"}}')
         if self.changed:
             for area in self.changed:
                 self.count(area, number)

@@ -23,6 +23,7 @@ WORDS: Tuple[Word, ...] = (
     Word("plain", "plain", SCRIPT, "writes a script without its comments"),
     Word("picture", "picture", REPORT, "draws a report as an SVG"),
     Word("stats", "stats", REPORT, "adds up a report, as tables or with `json` as JSON"),
+    Word("play", "play", REPORT, "writes a page for a browser, to go through a report entry by entry"),
     Word("trace", "trace", REPORT, "writes Chrome's trace events, which ui.perfetto.dev and chrome://tracing open"),
     Word("schedule", "schedule", REPORT, "writes the script with schedule lines that make sim write the report again"),
     Word("shuffle", "shuffle", SCRIPT, "shuffle N: writes the script with drawn interleaving number N as its schedule lines"),
