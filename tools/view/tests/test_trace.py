@@ -95,7 +95,7 @@ class TraceTest(unittest.TestCase):
     def test_an_arrow_leads_from_the_job_to_the_read_that_waits(self) -> None:
         events = example_trace("pipelined_eviction")
         waits = [event for event in events if event.get("cat") == "wait" and event["ph"] == "X" and event["tid"] == 1]
-        self.assertEqual([(38, 2, "waits for e0 job 2, which uses a")], [(event["ts"], event["dur"], event["name"]) for event in waits])
+        self.assertEqual([(38, 2, "waits for job 2 of e0, a fence of a")], [(event["ts"], event["dur"], event["name"]) for event in waits])
         arrows = {event["id"]: event["ts"] for event in events if event["ph"] == "s" and event["tid"] == FIRST_ENGINE}
         self.assertIn(39, [arrows[event["id"]] for event in events if event["ph"] == "f" and event["tid"] == 1])
 
