@@ -7,10 +7,10 @@ distances.
 from __future__ import annotations
 
 BUFFERS = (
-    "#1f77b4 #e69f00 #009e73 #d55e00 #56b4e9 #cc79a7 #f0e442 #4b3f8f #90180c #90e4cc "
-    "#84546c #7884f0 #90c090 #a84818 #841860 #c0d884 #00cccc #4854b4 #f0c030 #549ccc "
-    "#605490 #6c7854 #30b46c #843c48 #d8d8fc #b4f0b4 #789cfc #786cd8 #247890 #9cc060 "
-    "#c0f084 #489c48 #c09ca8 #84d8a8 #546c3c #e46c48 #484878 #548478 #f0b4f0 #5484c0"
+    "#1f77b4 #e69f00 #009e73 #d55e00 #56b4e9 #cc79a7 #e8d84a #4b3f8f #842400 #84d8c0 "
+    "#48606c #6c1848 #a84818 #6cc084 #7890f0 #b4e49c #78c0c0 #b4cc6c #d8843c #48306c "
+    "#6c7854 #3060b4 #fcb4fc #48486c #605490 #7878d8 #906c84 #783c48 #780c24 #d86c78 "
+    "#903c24 #00d8e4 #848448 #30a8c0 #e49c60 #fc9c9c #6090cc #84609c #3c6c48 #3c9c9c"
 ).split()
 INK = "#1c2530"
 PAPER = "#ffffff"
@@ -18,6 +18,7 @@ FREE = "#f4f5f7"
 LIVE = "#5f8fbf"
 GHOST = "#8a8f98"
 WAIT = "#b4540a"
+PALE = "#ffe2c2"
 BUSY = "#3d4a5c"
 
 

@@ -33,7 +33,7 @@ def need_words(line: Words, form: str) -> None:
     parts = form.split(" ")
     have = len(line.words)
     if have < len(parts):
-        raise line.stop(have, f"{parts[have]} is missing", form)
+        raise line.stop(have, f"{f'the word `{parts[have]}`' if parts[have].islower() else parts[have]} is missing", form)
     if have > len(parts):
         raise line.stop(len(parts), f"`{short(line.words[len(parts)])}` is one word too many", form)
 

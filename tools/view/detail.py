@@ -19,7 +19,7 @@ WIDEST = 2400.0
 LEAST_WIDTH = 700.0
 TOP = 58.0
 # A move for each so many units of width, and at least so many moves, are drawn.
-MOVE_WIDTH = 36.0
+MOVE_WIDTH = 60.0
 LEAST_MOVES = 12
 
 

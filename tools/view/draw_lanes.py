@@ -2,18 +2,17 @@
 
 from __future__ import annotations
 
-from typing import List
+from typing import List, Sequence
 
 from .past import Doing, Past, Pause, Sign, Work
 from .scale import LEFT, Scale
 from .script import Script
-from .svg import Drawing, cut
+from .svg import Drawing, cut, width_of
 
 ENGINE_HEIGHT = 17.0
-THREAD_HEIGHT = 30.0
+THREAD_HEIGHT = 33.0
 BETWEEN = 22.0
-SMALL_LETTER = 5.4
-LETTER = 6.0
+SMALL = 8.5
 
 
 class Lanes:
@@ -60,22 +59,23 @@ class Lanes:
         name = f"e{work.engine} job {work.number} of t{work.thread}"
         if work.ready > work.head:
             title = f"{name} waits for {work.reason}, from entry {work.head} to {work.ready}"
-            self._wait(work.head, work.ready, y, ENGINE_HEIGHT - 3, title, "")
+            self._wait(work.head, work.ready, y, ENGINE_HEIGHT - 3, title, (work.reason,))
         x, right = self.scale.x(max(work.ready, work.head) + 1), self.scale.x(work.begun)
         if right > x:
             self.drawing.path("ready", f"M{x:.1f} {y + 7:.1f}H{right:.1f}", f"{name} may run, and others come first")
         x, right = right, self.scale.x(work.end + 1)
         self.drawing.rect("busy", x, y + 1.5, right - x, ENGINE_HEIGHT - 6, f"{name} runs from entry {work.begun} to {work.end}")
         label = str(work.number)
-        if right - x >= len(label) * SMALL_LETTER + 4:
+        if right - x >= width_of(label, SMALL) + 3:
             self.drawing.text("small mid light", (x + right) / 2, y + 10.2, label)
 
-    def _wait(self, start: int, end: int, y: float, height: float, title: str, label: str) -> None:
-        """Draws a wait; what a thread waits for stands in it where there is room."""
+    def _wait(self, start: int, end: int, y: float, height: float, title: str, labels: Sequence[str]) -> None:
+        """Draws a wait; the first label for which there is room stands in it."""
         x, right = self.scale.x(start + 1), self.scale.x(end + 1)
         self.drawing.rect("wait", x, y + 1.5, right - x, height - 3, title)
-        if label and right - x >= len(label) * SMALL_LETTER + 4:
-            self.drawing.text("small mid halo", (x + right) / 2, y + height / 2 + 3.2, label)
+        label = next((label for label in labels if right - x >= width_of(label, SMALL) + 3), "")
+        if label:
+            self.drawing.text("small mid warm", (x + right) / 2, y + height / 2 + 3.2, label)
 
     def _reaper(self) -> None:
         """Draws when ghosts are reaped, and when the first one waits for its jobs."""
@@ -83,7 +83,7 @@ class Lanes:
         y = self._lane("reaper", ENGINE_HEIGHT)
         for pause in self.past.pauses:
             if pause.actor == "r":
-                self._wait(pause.start, pause.end, y, ENGINE_HEIGHT - 3, _title(pause), "")
+                self._wait(pause.start, pause.end, y, ENGINE_HEIGHT - 3, _title(pause), pause.labels)
         self._entries("r", y + 1.5, ENGINE_HEIGHT - 6)
         self.drawing.close()
 
@@ -102,13 +102,13 @@ class Lanes:
                 self._command(doing, y)
         for pause in self.past.pauses:
             if pause.actor == name:
-                self._wait(pause.start, pause.end, y + 14.5, 13, _title(pause), pause.short)
+                self._wait(pause.start, pause.end, y + 14, 16, _title(pause), pause.labels)
         marked = {sign.entry for sign in self.past.signs if sign.thread == thread}
         self.past.entries[name] = [entry for entry in self.past.entries.get(name, []) if entry not in marked]
-        self._entries(name, y + 18, 5.5)
+        self._entries(name, y + 19.5, 5.5)
         for sign in self.past.signs:
             if sign.thread == thread:
-                self._sign(sign, y + 16)
+                self._sign(sign, y + 17.5)
         self.drawing.close()
 
     def _command(self, doing: Doing, y: float) -> None:
@@ -117,7 +117,7 @@ class Lanes:
         answer = f"; refused {doing.answer}" if doing.answer else ""
         title = f"t{doing.thread} {doing.number}: {cut(doing.text, 80)}; from entry {doing.start} to {doing.end}{answer}"
         self.drawing.rect("command", x, y, right - x, 14, title)
-        label = fitting(doing.text, int((right - x - 5) / LETTER))
+        label = fitting(doing.text, right - x - 5)
         if label:
             self.drawing.text("", x + 3, y + 10.4, label)
 
@@ -132,19 +132,14 @@ class Lanes:
         self.drawing.path("refused", path, title)
 
 
-def fitting(text: str, most: int) -> str:
-    """Returns as many words of a command as have room in `most` letters; two points stand for the others."""
-    if len(text) <= most:
-        return text
-    words = text.split(" ")
-    if len(words[0]) > most:
-        return ""
-    kept = words[0]
-    for word in words[1:]:
-        if len(kept) + len(word) + 4 > most:
-            break
-        kept += " " + word
-    return f"{kept} .." if len(kept) + 3 <= most else kept
+def fitting(text: str, room: float) -> str:
+    """Returns as many words of a command as there is room for; two points stand for the others."""
+    words = cut(text).split(" ")
+    for count in range(len(words), 0, -1):
+        label = " ".join(words[:count]) + (" .." if count < len(words) else "")
+        if width_of(label) <= room:
+            return label
+    return words[0] if width_of(words[0]) <= room else ""
 
 
 def _title(pause: Pause) -> str:
@@ -154,6 +149,7 @@ def _title(pause: Pause) -> str:
 
 def kinds_in(past: Past) -> List[str]:
     """Returns which kinds of marks there are, for the legend."""
-    found = [("wait", past.pauses or any(work.ready > work.head for work in past.works)), ("ready", any(work.begun > max(work.ready, work.head) for work in past.works))]
+    waits = past.pauses or any(work.ready > work.head for work in past.works)
+    late = any(work.begun > max(work.ready, work.head) + 1 for work in past.works)
     signs = {sign.kind for sign in past.signs}
-    return [kind for kind, is_there in found if is_there] + [kind for kind in ("backoff", "refused") if kind in signs]
+    return ["wait"] * bool(waits) + ["ready"] * late + [kind for kind in ("backoff", "refused") if kind in signs]

@@ -9,10 +9,10 @@ from .past import Past, Stretch, Way
 from .scale import LEFT, Rows, Scale, rows_of
 from .script import Script
 from .state import AREAS, Holder
-from .svg import Drawing, Point, cut
+from .svg import Drawing, Point, cut, width_of
 
 NAMES = {"vram": ("VRAM", "page"), "tt": ("TT", "page"), "frames": ("Frames", "frame"), "swap": ("Swap", "slot")}
-LETTER = 6.2
+DENSE = 10.0
 MARGIN = 12.0
 APART = 10.0
 LEAST_HEIGHT = 25.0
@@ -136,7 +136,7 @@ class Pages:
         """Draws all areas; labels stand beside the `lines` that are to be drawn above the boxes."""
         for area, rows in self.rows.items():
             put_margins(drawing, area, rows.size, rows.top, self.scale.right, self.past.ends[area])
-            drawing.open(area)
+            drawing.open(area, "dense" if rows.row < DENSE else "")
             drawing.rect("free", LEFT, rows.top, self.scale.width, rows.bottom - rows.top)
             for first, last in rows.folded:
                 title = f"{NAMES[area][0]} {first}-{last}: never held here"
@@ -154,7 +154,7 @@ class Pages:
         for one in grouped(held):
             text = name_of(self.script, one.holder)
             box = self._box(rows, one)
-            x = label_place(box, len(text) * LETTER, lines)
+            x = label_place(box, width_of(text, 9.5), lines)
             if x is not None:
                 drawing.text(label_kind(one.holder), x, box.y + box.height / 2 + 3.4, text)
 
@@ -166,17 +166,11 @@ class Pages:
     def _numbers(self, drawing: Drawing, rows: Rows) -> None:
         """Draws the numbers of pages at the left."""
         lowest = rows.top - 9
-        for page, y in self._marks(rows):
+        for page in rows.marks(10):
+            y = rows.y(page)
             if y >= lowest + 9:
                 drawing.text("small end", LEFT - 5, y + min(rows.row, 18) / 2 + 3, str(page))
                 lowest = y
-
-    def _marks(self, rows: Rows) -> List[Tuple[int, float]]:
-        """Returns pages that may be numbered, from the top down, with their places."""
-        folded = {first for first, _last in rows.folded}
-        pages = sorted(folded | {page for page in range(rows.size)} if rows.size <= 512 else folded | set(rows.pages[:-1]))
-        inside = {page for first, last in rows.folded for page in range(first + 1, last)}
-        return [(page, rows.y(page)) for page in pages if page not in inside]
 
 
 def draw_moves(drawing: Drawing, script: Script, ways: Sequence[Way], lines: Sequence[Line]) -> None:

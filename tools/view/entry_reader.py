@@ -160,8 +160,18 @@ def read_entries(script: Script, lines: List[str]) -> Tuple[List[Entry], str]:
             actor, readers = actors[words[1]]
             add(readers[words[2]](actor, words))
     except KeyError as error:
-        return entries, f"`{str(error.args[0])[:24]}` is nothing that this script has, or this actor can do"
+        return entries, _unknown(reader, words, str(error.args[0])[:24])
     except (ValueError, IndexError) as error:
         text = str(error)
-        return entries, text if "`" in text or text.startswith("a ") else "the words of this entry are wrong"
+        return entries, text if "`" in text or text.startswith("a ") else "these aren't the words of an entry"
     return entries, ""
+
+
+def _unknown(reader: EntryReader, words: List[str], word: str) -> str:
+    """Says what a word is not that a line names."""
+    if words[1] not in reader.actors:
+        return f"the script has no actor `{word}`"
+    actor, readers = reader.actors[words[1]]
+    if words[2] not in readers:
+        return f"`{word}` is no entry of {'a thread' if actor.kind == 't' else 'an engine' if actor.kind == 'e' else 'the reaper'}"
+    return f"the script has no {'engine' if words[2] == 'arm' else 'buffer'} `{word}`"

@@ -5,7 +5,7 @@ from __future__ import annotations
 from typing import Dict, List, NamedTuple, Optional, Tuple
 
 from .limits import ACCESS_BYTES, ALL_OPERATION_BYTES, JOB_BUFFERS, JOB_OPERATIONS, SPACE_BYTES
-from .line_words import Words, is_plain, short
+from .line_words import Words, is_plain, not_plain, short
 from .script import Operation, Script
 from .spaces import Address, Space, by_name
 
@@ -72,10 +72,10 @@ class JobLines:
         """Reads the number of an engine."""
         word, engines = line.words[1], self.script.engines
         if not is_plain(word):
-            line.fault(5, 1, f"the engine `{short(word)}` isn't a plain number", "the number of an engine, in digits without a leading zero")
+            line.fault(5, 1, not_plain("the engine", word), "the number of an engine")
             return 0
         if len(word) > 12 or not 1 <= int(word) <= engines:
-            right = f"an engine from 1 to {engines}, as line 6 has it" if engines else "a line `engines` that says how many there are; it says 0"
+            right = f"an engine from 1 to {engines}, as line 6 has it" if engines else "no job, or more engines: line 6 says `engines 0`"
             line.fault(11, 1, f"there is no engine {short(word)} for jobs", right)
             return 0
         return int(word)
@@ -188,10 +188,10 @@ def _shapes(line: Words, forms: Dict[str, str]) -> List[Tuple[int, str]]:
         while end < len(words) and words[end] != ";":
             end += 1
         if index == end:
-            raise line.stop(index, "an operation is missing", f"{', '.join(forms)} with its words")
+            raise line.stop(index, "an operation is missing", " or ".join(f"`{form}`" for form in forms.values()))
         verb = words[index]
         if verb not in forms:
-            raise line.stop(index, f"`{short(verb)}` is no operation", f"{', '.join(list(forms)[:-1])} or probe")
+            raise line.stop(index, f"`{short(verb)}` is no operation", "fill, copy, xor or probe")
         parts = forms[verb].split(" ")
         if end - index < len(parts):
             raise line.stop(end, f"{parts[end - index]} of the {verb} is missing", forms[verb])

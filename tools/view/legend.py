@@ -5,12 +5,12 @@ from __future__ import annotations
 from typing import Callable, Iterable, List, Tuple
 
 from .script import Script
-from .svg import Drawing, cut
+from .svg import Drawing, cut, width_of
 
 ROW = 17.0
 LEFT = 12.0
 SAMPLE = 20.0
-LETTER = 5.6
+GAP = 16.0
 
 Sample = Callable[[Drawing, float, float], None]
 
@@ -60,7 +60,7 @@ def rows_of(items: Iterable[Tuple[Sample, str]], width: float) -> List[List[Tupl
     rows: List[List[Tuple[Sample, str]]] = [[]]
     x = LEFT
     for sample, text in items:
-        needed = SAMPLE + len(text) * LETTER + 14
+        needed = SAMPLE + width_of(text) + GAP
         if rows[-1] and x + needed > width:
             rows.append([])
             x = LEFT
@@ -88,6 +88,6 @@ def draw(drawing: Drawing, top: float, width: float, groups: Iterable[List[Tuple
             for sample, text in row:
                 sample(drawing, x, y)
                 drawing.text("", x + SAMPLE, y + 8.6, text)
-                x += SAMPLE + len(text) * LETTER + 14
+                x += SAMPLE + width_of(text) + GAP
             y += ROW
     return y

@@ -44,8 +44,8 @@ class Words:
         self.faults: List[Fault] = []
 
     def column(self, index: int) -> int:
-        """Returns the column of a word, from 1; behind the last one, of where it would stand."""
-        return 1 + sum(len(word) + 1 for word in self.words[:index])
+        """Returns the column of a word, from 1; of a missing one, that of the line's end."""
+        return min(1 + sum(len(word) + 1 for word in self.words[:index]), len(self.text) + 1)
 
     def fault(self, rule: int, index: int, cause: str, right: str, start: int = 0, width: Optional[int] = None) -> None:
         """Notes what is wrong in a word, from its character `start` on."""
@@ -68,7 +68,7 @@ class Words:
         """Reads a number from `low` to `high`."""
         word = self.words[index]
         if not is_plain(word):
-            self.fault(5, index, f"{what} `{short(word)}` isn't a plain number", f"a number from {low} to {high}, in digits without a leading zero")
+            self.fault(5, index, not_plain(what, word), f"a number from {low} to {high}")
             return None
         if len(word) > 12 or not low <= int(word) <= high:
             self.fault(5, index, f"{what} {short(word)} is out of range", f"a number from {low} to {high}")
@@ -86,7 +86,7 @@ class Words:
             return self.names[word]
         if is_name(word):
             declared = ", ".join(list(self.names)[:12]) or "none"
-            right = f"a buffer that a line above declares ({declared}{', ..' if len(self.names) > 12 else ''})"
+            right = f"a buffer that a line above declares: {declared}{', ..' if len(self.names) > 12 else ''}"
             self.fault(6, index, f"no buffer has the name {word}", right)
         else:
             self.fault(6, index, f"`{short(word)}` can't be a name", NAME_RIGHT)
@@ -101,12 +101,19 @@ class Words:
         return 0
 
 
-NAME_RIGHT = "a lower-case letter, and at most seven lower-case letters or digits behind it"
+NAME_RIGHT = "a lower-case letter, then at most seven lower-case letters or digits"
 
 
 def is_name(word: str) -> bool:
     """Tells whether a word may be a buffer's name."""
     return 1 <= len(word) <= 8 and "a" <= word[0] <= "z" and NAME.issuperset(word)
+
+
+def not_plain(what: str, word: str) -> str:
+    """Says why a word isn't a plain number."""
+    if DIGITS.issuperset(word):
+        return f"{what} {short(word)} has a leading zero"
+    return f"{what} `{short(word)}` isn't a plain number"
 
 
 def short(word: str) -> str:

@@ -64,13 +64,13 @@ class Doing(NamedTuple):
 
 
 class Pause(NamedTuple):
-    """An actor has no legal entry after each entry from `start` to `end - 1`; `short` is `reason` in a word or two."""
+    """An actor has no legal entry after each entry from `start` to `end - 1`; `labels` say what it waits for in a few words, or fewer."""
 
     actor: str
     start: int
     end: int
     reason: str
-    short: str
+    labels: Tuple[str, ...]
 
 
 class Sign(NamedTuple):

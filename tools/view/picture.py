@@ -8,6 +8,7 @@ import sys
 from typing import List, NamedTuple, Optional, Tuple
 
 from . import report as reports
+from .describe import of_columns, of_past
 from .detail import Detail, unit_of
 from .errors import ViewError
 from .record import Recorder
@@ -23,7 +24,8 @@ USAGE = """usage: ./ttm picture [--from A] [--to B] [FILE | SCRIPT REPORT] > FIL
 Draws a script with its report behind it (standard input, a file, or two files): pages down, entries across, engines, the reaper and threads.
 --from and --to leave out the entries before A and after B. Long runs are summed by column."""
 MOST_ENTRIES = 1200
-MOST_SHAPES = 6000
+MOST_SHAPES = 5000
+MOST_BYTES = 1_900_000
 
 
 class Wish(NamedTuple):
@@ -82,12 +84,12 @@ def picture(report: Report, wish: Wish) -> str:
     when = "in the end" if last == len(report.entries) else f"after entry {last:,}"
     if last - first < MOST_ENTRIES:
         svg = detailed(report, first, last, when)
-        if svg:
+        if svg and len(svg) <= MOST_BYTES:
             return svg
     columns = summed_up(report, first, last)
     each = -(-columns.entries // columns.count)
     note = f"{entries_note(report, first, last)}; {columns.count} columns of up to {each:,} entries, shares are averages over a column"
-    return Summed(report.script, columns, title_of(report), note).svg("", when)
+    return Summed(report.script, columns, title_of(report), note).svg(of_columns(report.script, columns, note, when), when)
 
 
 def detailed(report: Report, first: int, last: int, when: str) -> str:
@@ -97,7 +99,8 @@ def detailed(report: Report, first: int, last: int, when: str) -> str:
     if past.shapes() > MOST_SHAPES:
         return ""
     scale = Scale(first, last, unit_of(last - first + 1))
-    return Detail(report.script, past, scale, title_of(report), entries_note(report, first, last)).svg("", when)
+    note = entries_note(report, first, last)
+    return Detail(report.script, past, scale, title_of(report), note).svg(of_past(report.script, past, note, when), when)
 
 
 def main(args: List[str]) -> int:

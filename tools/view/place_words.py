@@ -5,7 +5,7 @@ from __future__ import annotations
 from typing import List, Optional, Tuple
 
 from .limits import MANAGER_PAGES
-from .line_words import Words, is_plain, short
+from .line_words import Words, is_plain, not_plain, short
 from .script import MEMORY_TYPES, SYSTEM, Place
 
 FORM = "sys, tt or vram, then @F-L, +top and +contig as wanted, in this order"
@@ -73,13 +73,14 @@ def _reach(line: Words, index: int, start: int, memory: str, reach: str) -> Opti
         return None
     ends = reach.split("-")
     if len(ends) != 2 or not ends[0] or not ends[1]:
-        line.fault(7, index, f"`@{short(reach)}` isn't a span of pages", "@F-L with two numbers, the first page and the one behind the last", start, len(reach) + 1)
+        line.fault(7, index, f"`@{short(reach)}` isn't a span of pages", "@F-L with two numbers, the first page and the one after the last", start, len(reach) + 1)
         return None
     values: List[int] = []
     at = start + 1
     for word in ends:
         if not is_plain(word) or len(word) > 12 or int(word) > MANAGER_PAGES:
-            line.fault(5, index, f"the page `{short(word)}` is no plain number up to {MANAGER_PAGES}", f"a number from 0 to {MANAGER_PAGES}", at, len(word))
+            cause = f"the page {short(word)} is out of range" if is_plain(word) else not_plain("the page", word)
+            line.fault(5, index, cause, f"a number from 0 to {MANAGER_PAGES}", at, len(word))
             return None
         values.append(int(word))
         at += len(word) + 1

@@ -35,15 +35,15 @@ class Names:
         if type(entry) is Ticket:
             self.threads[entry.stamp] = entry.actor.number
 
-    def of(self, need: Need) -> Tuple[str, str]:
-        """Returns what a thread waits for, and the same in a word or two."""
+    def of(self, need: Need) -> Tuple[str, Tuple[str, ...]]:
+        """Returns what a thread waits for, and the same in a few words, and in fewer."""
         if need.job is not None:
-            return job_name(need.job), f"job {need.job.number}"
+            return job_name(need.job), (job_name(need.job), f"job {need.job.number}")
         if need.kind == "holder":
             name = self.script.buffer_name(need.buffer)
-            thread = self.threads.get(need.stamp)
-            return (f"t{thread} to let {name} go", f"{name}: t{thread}") if thread else (f"{name} to be let go", name)
-        return f"ghost {need.ghost}", f"g{need.ghost}"
+            thread = self.threads.get(need.stamp, 0)
+            return f"t{thread} to let {name} go", (f"t{thread} to let {name} go", f"t{thread} has {name}", name)
+        return f"ghost {need.ghost}", (f"ghost {need.ghost}", f"g{need.ghost}")
 
 
 def job_name(job: Job) -> str:
@@ -101,7 +101,7 @@ class Recorder(Observer):
         ready, last = last_done(ghost.jobs, until)
         if last is not None and ready > head and self._is_shown(head, ready):
             reason = f"{job_name(last)}, which uses ghost {ghost.number}"
-            self.past.pauses.append(Pause("r", head, ready, reason, f"g{ghost.number}"))
+            self.past.pauses.append(Pause("r", head, ready, reason, (job_name(last), f"job {last.number}")))
 
     def command_begun(self, course: Course, command: Command) -> None:
         self.commands[course.thread] = command, self.at

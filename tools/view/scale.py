@@ -69,6 +69,14 @@ class Rows:
         return self.places[at] + share * (self.places[at + 1] - self.places[at])
 
 
+    def marks(self, apart: float) -> List[int]:
+        """Returns pages to be numbered, from the top down: those where folded ones begin and end, and round ones at least so far apart."""
+        step = next((step for step in STEPS if step * self.row >= apart), STEPS[-1])
+        ends = {page for span in self.folded for page in span if page < self.size}
+        inside = {page for first, last in self.folded for page in range(-(-first // step) * step, last, step)}
+        return sorted(ends | (set(range(0, self.size, step)) - inside))
+
+
 HIGHEST_ROW = 17.0
 HIGH = 260.0
 FOLDED = 9.0
@@ -97,6 +105,7 @@ def rows_of(size: int, top: float, held: Iterable[Tuple[int, int]]) -> Rows:
     spans = joined(held)
     pages = sum(last - first for first, last in spans)
     row = min(HIGHEST_ROW, HIGH / max(pages, 1))
+    row = float(int(row)) if row >= 2 else row
     free = gaps(spans, size)
     rows = Rows(size, top, [0], [top], [one for one in free if (one[1] - one[0]) * row > 2.5 * FOLDED], row)
     folded = set(rows.folded)

@@ -8,12 +8,26 @@ from .command_lines import VERSION_ONE, VERSION_TWO, CommandLines, need_words
 from .comments import plain
 from .errors import ViewError
 from .limits import BUFFER_PAGES, BUFFERS, ENGINES, GROUPS, MANAGER_PAGES, PRIORITIES, SCHEDULE_ACTORS, SCRIPT_BYTES, SLOTS, THREADS
-from .line_words import NAME_RIGHT, BrokenLine, Fault, Words, is_name, is_plain, short
+from .line_words import NAME_RIGHT, BrokenLine, Fault, Words, is_name, is_plain, not_plain, short
 from .place_words import read_list
 from .script import Actor, Buffer, Place, Schedule, Script, Thread
 
 HEAD = ("ttm", "vram", "tt", "frames", "swap", "engines")
-HEAD_FORMS = {"ttm": "ttm 1` or `ttm 2", "vram": "vram range PAGES` or `vram buddy PAGES", "tt": "tt PAGES", "frames": "frames COUNT", "swap": "swap SLOTS", "engines": "engines COUNT"}
+HEAD_FORMS = {
+    "ttm": "ttm 1` or `ttm 2",
+    "vram": "vram range PAGES` or `vram buddy PAGES",
+    "tt": "tt PAGES",
+    "frames": "frames COUNT",
+    "swap": "swap SLOTS",
+    "engines": "engines COUNT",
+}
+EXPECTED = {
+    **{word: f"the line `{form}`" for word, form in HEAD_FORMS.items()},
+    "buffers": "a line `buffer ..`, `thread`, `schedule ..` or `end`",
+    "threads": "a command, or a line `thread`, `schedule ..` or `end`",
+    "schedule": "a line `schedule ..` or `end`",
+    "after": "nothing after `end`",
+}
 MOST = {"tt": MANAGER_PAGES, "frames": MANAGER_PAGES, "swap": SLOTS, "engines": ENGINES}
 BUFFER_FORMS = {
     1: "buffer NAME PAGES prio P group G align A want LIST busy LIST",
@@ -32,26 +46,19 @@ class BrokenScript(ViewError):
 
 
 class ScriptReader:
-    """Reads a script line by line. `place` tells how far it is: 0 to 5 the head's lines, then buffers, threads, schedule, after the end."""
+    """Reads a script line by line. `place` tells which lines may come next, a key of `EXPECTED`."""
 
     def __init__(self) -> None:
         self.script = Script()
         self.place = "ttm"
         self.commands = CommandLines(self.script)
 
-    def expected(self) -> str:
-        """Says which lines may come next."""
-        if self.place in HEAD_FORMS:
-            return f"the line `{HEAD_FORMS[self.place]}`"
-        words = {"buffers": "a line `buffer ..`, `thread`, `schedule ..` or `end`", "threads": "a command, or a line `thread`, `schedule ..` or `end`"}
-        return words.get(self.place) or ("a line `schedule ..` or `end`" if self.place == "schedule" else "nothing: `end` is the last line")
-
     def read(self, text: str, file_line: int) -> None:
         """Reads one line without its line feed; raises BrokenLine."""
         line = Words(text, self.script.names)
         word = line.words[0]
         if not self._may_come(word):
-            raise line.stop(0, self._why_not(word), self.expected(), 3)
+            raise line.stop(0, self._why_not(word), EXPECTED[self.place], 3)
         if "" in line.words:
             raise self._wrong_space(line, line.words.index(""))
         if self.place in HEAD:
@@ -84,7 +91,7 @@ class ScriptReader:
         if self.place == "threads" and word in VERSION_TWO:
             return f"`{word}` stands in scripts of version 2 only, and this one is of version 1"
         if self.place == "after":
-            return "a line stands behind `end`"
+            return "a line follows `end`"
         if word in HEAD or word in ("buffer", "thread", "schedule", "end") + VERSION_ONE + VERSION_TWO:
             return f"`{word}` may not stand here"
         return f"`{short(word)}` begins no line of a script"
@@ -117,6 +124,9 @@ class ScriptReader:
     def _buffer(self, line: Words, file_line: int) -> None:
         """Reads a buffer line."""
         script, form = self.script, BUFFER_FORMS[self.script.version]
+        other = "place" if script.version == 1 else "want"
+        if line.words[9:10] == [other]:
+            raise line.stop(9, f"`{other}` stands in scripts of version {3 - script.version}, and this one is of version {script.version}", form)
         need_words(line, form)
         for index, part in enumerate(form.split(" ")):
             if part.islower() and line.words[index] != part:
@@ -177,7 +187,7 @@ class ScriptReader:
             return Actor("r", 0)
         low, high, what = (1, len(self.script.threads), "thread") if word[0] == "t" else (0, self.script.engines, "engine")
         if not is_plain(word[1:]):
-            line.fault(5, index, f"`{short(word[1:])}` isn't a plain number", f"{word[0]} and the number of the {what}", 1)
+            line.fault(5, index, not_plain(f"the {what}", word[1:]), f"{word[0]} and the number of the {what}", 1)
         elif len(word) > 12 or not low <= int(word[1:]) <= high:
             right = f"{word[0]}{low} to {word[0]}{high}" if high > low else f"{word[0]}{low}" if high == low else "an actor of the script"
             line.fault(11, index, f"there is no {what} {short(word[1:])}", right)
@@ -226,7 +236,7 @@ def read_script(data: bytes, start: int = 1) -> Script:
         raise BrokenScript(line, number, fault, text)
     if reader.place != "after":
         end = bare.file_line(len(pieces) + 1) + start - 1
-        raise BrokenScript(end, len(pieces) + 1, Fault(3, 1, 1, "the script ends here", reader.expected()), "")
+        raise BrokenScript(end, len(pieces) + 1, Fault(3, 1, 1, "the script ends here", EXPECTED[reader.place]), "")
     reader.script.lines = [piece[:-1].decode("latin-1") for piece in pieces]
     reader.script.file_lines = [line + start - 1 for line in bare.lines]
     return reader.script

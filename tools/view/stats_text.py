@@ -2,7 +2,7 @@
 
 from __future__ import annotations
 
-from typing import Any, Iterable, List, Sequence, Tuple
+from typing import Any, Iterable, Sequence, Tuple
 
 from .stats_rows import Rows
 
@@ -13,6 +13,14 @@ SHORT = {
     "bytes_moved": "moved",
     "bytes_swapped_out": "swapped_out",
     "bytes_swapped_in": "swapped_in",
+}
+ABOUT = {
+    "NoBuffer": "{buffer} is dead",
+    "Exists": "{buffer} is live",
+    "Pinned": "{buffer} is pinned, {pins} times",
+    "NotPinned": "{buffer} isn't pinned",
+    "PinMax": "{buffer} is pinned {pins} times",
+    "NoSwap": "no slot is free for {buffer}",
 }
 MOST_ROWS = 40
 MOST_WAITS = 20
@@ -77,7 +85,7 @@ def _engine(row: Rows) -> Rows:
 
 def _refusal(row: Rows) -> Rows:
     """Returns the row of a refusal, its causes as reports write them."""
-    causes: List[str] = [f"{row['buffer']}{' has ' + str(row['pins']) + ' pins' if row['pins'] else ''}"] if row["buffer"] else []
+    causes = [ABOUT[row["refusal"]].format(buffer=row["buffer"], pins=row["pins"])] if row["buffer"] else []
     for cause in row["causes"]:
         causes.append(f"{cause['buffer']}: {'no frame' if cause['kind'] == 'nopages' else _dry(cause)}")
     where = f"t{row['thread']} {row['command']}"

@@ -28,6 +28,15 @@ def shown(value: float) -> str:
     return text[:-2] if text.endswith(".0") else text
 
 
+NARROW, WIDE = frozenset(" .,:;'|!ijlftrI()[]-"), frozenset("mwMW%@")
+
+
+def width_of(text: str, size: float = 10.0) -> float:
+    """Returns about how wide a text is in letters of this size."""
+    tenths = sum(3.6 if letter in NARROW else 8.9 if letter in WIDE else 6.0 for letter in text)
+    return tenths * size / 10
+
+
 def points(values: Iterable[Point]) -> str:
     """Returns corners as the attribute `points` has them."""
     return " ".join(f"{shown(x)},{shown(y)}" for x, y in values)
@@ -49,9 +58,9 @@ class Drawing:
         else:
             self.shapes.append(f"<{name} {attributes}/>\n")
 
-    def open(self, name: str) -> None:
-        """Begins a group of shapes with this id."""
-        self.shapes.append(f'<g id="{escaped(name)}">\n')
+    def open(self, name: str, kind: str = "") -> None:
+        """Begins a group of shapes with this id, and a class where one is given."""
+        self.shapes.append(f'<g id="{escaped(name)}"' + (f' class="{kind}">\n' if kind else ">\n"))
 
     def close(self) -> None:
         """Ends the last group."""

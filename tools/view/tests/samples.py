@@ -1,46 +1,65 @@
-"""Reports for tests: the examples, and drawn scripts as the program runs them."""
+"""Reports for tests: the examples, and reports that the program makes of drawn scripts."""
 
 from __future__ import annotations
 
-import os
-import subprocess
-from pathlib import Path
-from typing import List, Optional
+from functools import lru_cache
+from typing import List, Tuple
 
-from ..report import Report, read_report
+from view.report import Report, load, read_report
+
+from . import program
 from .random_scripts import RandomScript
 
-EXAMPLES = Path(__file__).resolve().parents[3] / "examples"
+
+def example(name: str) -> Report:
+    """Returns an example."""
+    path = program.EXAMPLES / f"{name}.ttm"
+    return load([str(path), str(path.with_suffix(".report"))])
 
 
-def program() -> Optional[str]:
-    """Returns the path of the program, or None where the environment names none."""
-    return os.environ.get("TTM_PROGRAM") or None
+@lru_cache(maxsize=None)
+def examples() -> List[Tuple[str, Report]]:
+    """Returns all examples with their names."""
+    return [(path.stem, example(path.stem)) for path in program.examples()]
 
 
-def output_of(words: List[str], data: bytes) -> bytes:
-    """Returns what the program writes, and requires that it ends well."""
-    path = program()
-    assert path is not None
-    return subprocess.run([path, *words], input=data, stdout=subprocess.PIPE, check=True).stdout
+@lru_cache(maxsize=None)
+def drawn_reports(count: int) -> List[Tuple[str, Report]]:
+    """Returns reports of so many drawn scripts of each version, with what they are drawn from."""
+    found: List[Tuple[str, Report]] = []
+    for seed in range(count):
+        for version in (1, 2):
+            script = RandomScript(seed, version).text().encode()
+            found.append((f"seed {seed}, version {version}", read_report(script + program.run(["sim"], script)[1])))
+    return found
 
 
-def example_names() -> List[str]:
-    """Returns the names of all examples."""
-    return sorted(path.stem for path in EXAMPLES.glob("*.ttm"))
+SIZES = {"vram": 4, "tt": 4, "frames": 4, "swap": 4}
 
 
-def example_script(name: str) -> bytes:
-    """Returns the script of an example."""
-    return (EXAMPLES / f"{name}.ttm").read_bytes()
+def written(threads: List[List[str]], journal: List[str], accounts: List[str], head: str = "", buffers: int = 1) -> bytes:
+    """Returns a script of these threads with a report of these entries, which have no numbers yet."""
+    script = ["ttm 1", "vram range 4", "tt 4", "frames 4", "swap 4", "engines 1"]
+    script += [f"buffer b{index} 1 prio 1 group - align 1 want vram busy vram" for index in range(buffers)]
+    for commands in threads:
+        script += ["thread", *commands]
+    lines = [f"{number} {entry}" for number, entry in enumerate(journal, 1)]
+    report = [*([head] if head else []), "report 1", f"journal {len(lines)}", *lines, "results", "accounts", *accounts, "end"]
+    return "\n".join([*script, "end", *report, ""]).encode()
 
 
-def example_report(name: str) -> Report:
-    """Returns the report of an example."""
-    return read_report(example_script(name) + (EXAMPLES / f"{name}.report").read_bytes(), name)
+FREE = [f"{name} size {size} free {size} live 0 target 0 ghost 0" for name, size in SIZES.items()]
 
 
-def drawn_report(seed: int, version: int) -> Report:
-    """Returns the report that `sim` writes for a drawn script."""
-    script = RandomScript(seed, version).text().encode()
-    return read_report(script + output_of(["sim"], script), f"drawn {seed}")
+def long_report(threads: int, commands: int) -> Report:
+    """Returns a report of threads that make and free a buffer each, in turn: five entries for two commands."""
+    entries: List[str] = []
+    stamp = 0
+    for _pair in range(commands // 2):
+        for thread in range(1, threads + 1):
+            stamp += 1
+            name = f"b{thread - 1}"
+            steps = (f"new {name}", "result ok", f"ticket {stamp}", f"reserve {name}", f"free {name} 0", "result ok")
+            entries += [f"t{thread} {step}" for step in steps]
+    commands_of = [[word for _pair in range(commands // 2) for word in (f"new b{thread}", f"free b{thread}")] for thread in range(threads)]
+    return read_report(written(commands_of, entries, FREE, buffers=threads))

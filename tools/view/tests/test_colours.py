@@ -25,7 +25,7 @@ AXES: Rows = (
     (0.0259040371, 0.7827717662, -0.8086757660),
 )
 # The least difference in Oklab that is seen at all is about 0.02.
-LEAST, LEAST_OF_EIGHT, LEAST_TO_FREE = 0.048, 0.075, 0.08
+LEAST, LEAST_OF_EIGHT, LEAST_TO_FREE = 0.047, 0.075, 0.12
 
 
 def times(rows: Rows, values: Triple) -> Triple:

@@ -1,0 +1,195 @@
+"""What `picture` draws: pages as the accounts have them, commands, real waits, and always an SVG of a bounded size."""
+
+import re
+import time
+import unittest
+import xml.dom.minidom
+from typing import Any, Dict, List, Tuple
+
+from view import docs_pictures
+from view.errors import ViewError
+from view.past import Past
+from view.picture import detailed, picture, range_of, read_words
+from view.record import Recorder
+from view.replay import Replay
+from view.report import Report, read_report
+from view.sums import KINDS, summed_up
+from view.svg import escaped
+
+from . import samples
+from .program import needs_program
+
+MOST_BYTES = 2_000_000
+
+
+def past_of(report: Report) -> Past:
+    """Returns what a report leaves to be drawn."""
+    recorder = Recorder(report.script, 1, len(report.entries))
+    return recorder.finish(Replay(report, recorder).run())
+
+
+def element(svg: Any, name: str) -> Any:
+    """Returns the element of an id of a parsed picture."""
+    return next(one for one in svg.getElementsByTagName("g") if one.getAttribute("id") == name)
+
+
+def right_end(rect: Any) -> float:
+    """Returns where a box ends."""
+    return float(rect.getAttribute("x")) + float(rect.getAttribute("width"))
+
+
+def last_column(rects: List[Any]) -> Dict[str, float]:
+    """Returns how high the boxes of live, target and ghost pages are that end where an area does."""
+    right = max(map(right_end, rects))
+    heights = {"live": 0.0, "target": 0.0, "ghost": 0.0}
+    for rect in rects:
+        kind = {"l": "live", "t": "target", "g": "ghost"}.get(rect.getAttribute("class")[0])
+        if kind and abs(right_end(rect) - right) < 0.05:
+            heights[kind] += float(rect.getAttribute("height"))
+    return heights
+
+
+def row_height(rects: List[Any]) -> float:
+    """Returns how high a page is drawn, by a box whose pages its title tells."""
+    for rect in rects:
+        found = re.search(r" (\d+)-(\d+), from entry", rect.firstChild.firstChild.data if rect.firstChild else "")
+        if found:
+            return float(rect.getAttribute("height")) / (int(found[2]) - int(found[1]))
+    return 1.0
+
+
+class Pictures(unittest.TestCase):
+    def check_ends(self, name: str, report: Report) -> None:
+        """Asserts that a picture is well formed, and that its last column and its counts are the report's accounts."""
+        text = picture(report, read_words([]))
+        svg = xml.dom.minidom.parseString(text)
+        self.assertLess(len(text), MOST_BYTES, name)
+        counts = [int(word) for line in re.findall(r">(free \d+, live \d+|target \d+, ghost \d+)<", text) for word in re.findall(r"\d+", line)]
+        sized = [account for account in report.accounts if account.size]
+        self.assertEqual(counts, [one for account in sized for one in account[2:]], name)
+        for account in sized if "columns of" not in text else []:
+            rects = element(svg, account.name).getElementsByTagName("rect")
+            row = row_height(rects)
+            pages = {kind: round(height / row) for kind, height in last_column(rects).items()}
+            self.assertEqual(pages, {"live": account.live, "target": account.target, "ghost": account.ghost}, (name, account.name))
+
+    def check_sums(self, name: str, report: Report) -> None:
+        """Asserts that sums end as the accounts say, and that the averages of columns are those of the states in them."""
+        count = len(report.entries)
+        columns = summed_up(report, 1, count)
+        for account in report.accounts:
+            ends = tuple(columns.level(account.name, kind).end() for kind in KINDS)
+            self.assertEqual(ends, (account.live, account.target, account.ghost), name)
+        replay = Replay(report)
+        lives: List[int] = []
+        for _entry in replay.steps():
+            lives.append(sum(replay.state.account(area)[2] for area in ("vram", "tt", "frames", "swap")))
+        totals = [sum(columns.level(area, "live").averages()[at] for area in ("vram", "tt", "frames", "swap")) for at in range(columns.count)] if count else []
+        for total, (first, end) in zip(totals, columns.spans()):
+            self.assertAlmostEqual(total, sum(lives[first - 1 : end - 1]) / (end - first), 6, name)
+
+    def test_examples_end_as_their_accounts_say(self) -> None:
+        for name, report in samples.examples():
+            self.check_ends(name, report)
+            self.check_sums(name, report)
+
+    @needs_program
+    def test_drawn_reports_end_as_their_accounts_say(self) -> None:
+        for number, (name, report) in enumerate(samples.drawn_reports(100)):
+            self.check_ends(name, report)
+            if number % 10 == 0:
+                self.check_sums(name, report)
+
+    def test_docs_have_what_is_drawn(self) -> None:
+        self.assertEqual(docs_pictures.main([]), 0)
+
+    def pauses(self, name: str) -> List[Tuple[str, int, int, str]]:
+        """Returns the waits of threads of an example."""
+        past = past_of(samples.example(name))
+        return [(one.actor, one.start, one.end, one.reason) for one in past.pauses if one.actor != "r"]
+
+    def test_one_page_eviction_has_no_wait(self) -> None:
+        self.assertEqual(self.pauses("one_page_eviction"), [])
+        svg = xml.dom.minidom.parseString(picture(samples.example("one_page_eviction"), read_words([])))
+        self.assertEqual([one for one in element(svg, "t1").getElementsByTagName("rect") if one.getAttribute("class") == "wait"], [])
+
+    def test_the_read_of_pipelined_eviction_waits_for_job_2(self) -> None:
+        self.assertEqual(self.pauses("pipelined_eviction"), [("t1", 37, 39, "job 2 of e0")])
+        svg = picture(samples.example("pipelined_eviction"), read_words([]))
+        self.assertIn("t1 waits for job 2 of e0, after entries 37 to 38", svg)
+
+    def test_holders_are_named(self) -> None:
+        self.assertEqual(self.pauses("younger_backs_off"), [("t1", 8, 9, "t2 to let b go"), ("t2", 9, 16, "t1 to let a go")])
+
+    def test_marks_are_no_commands(self) -> None:
+        past = past_of(samples.example("pages_fault_and_leave"))
+        told = [(one.text, one.number) for one in past.doings if one.start == 27 and one.end == 48]
+        self.assertEqual(told, [("find b", 7)])
+
+    def test_ranges_are_drawn(self) -> None:
+        report = samples.example("pipelined_eviction")
+        svg = picture(report, read_words(["--from", "17", "--to", "31"]))
+        xml.dom.minidom.parseString(svg)
+        self.assertIn("Entries 17 to 31 of 48", svg)
+        self.assertIn("after entry 31", svg)
+        self.assertNotIn(">new a<", svg)
+        whole = detailed(report, 1, 48, "in the end")
+        self.assertEqual(picture(report, read_words(["--from", "1", "--to", "99"])), whole)
+        with self.assertRaises(ViewError):
+            range_of(read_words(["--from", "49"]), 48)
+        for words in (["--from", "x"], ["--to"], ["--from", "0"], ["--wide"], ["a", "b", "c"]):
+            with self.assertRaises(ViewError):
+                read_words(words)
+
+    def test_a_range_ends_as_the_state_there(self) -> None:
+        report = samples.example("eviction_in_an_eviction")
+        for last in range(1, len(report.entries) + 1):
+            past_recorder = Recorder(report.script, 1, last)
+            replay = Replay(report)
+            for _entry in replay.steps():
+                if replay.number == last:
+                    break
+            svg = picture(report, read_words(["--to", str(last)]))
+            texts = re.findall(r">free (\d+), live (\d+)<", svg)
+            ends = [replay.state.account(area)[1:3] for area in ("vram", "tt", "frames", "swap")]
+            self.assertEqual([(int(free), int(live)) for free, live in texts], ends, (last, past_recorder.first))
+
+    def test_texts_are_escaped(self) -> None:
+        self.assertEqual(escaped('<a href="x">&\x00\ud800'), "&lt;a href=&quot;x&quot;&gt;&amp;??")
+        report = samples.example("one_page_eviction")._replace(name='/x/<b>&"\x01.ttm')
+        svg = picture(report, read_words([]))
+        xml.dom.minidom.parseString(svg)
+        self.assertIn('<title id="title">&lt;b&gt;&amp;&quot;?</title>', svg)
+
+    def test_odd_reports_are_drawn(self) -> None:
+        new = ["t1 new b0", "t1 result ok", "t1 ticket 1"]
+        odd = {
+            "empty": samples.written([], [], samples.FREE, buffers=0),
+            "without entries": samples.written([["new b0"]], [], samples.FREE),
+            "cut off": samples.written([["new b0", "find b0"]], new, samples.FREE, "unfinished 3"),
+            "256 buffers": samples.written([["new b0", "find b0"]], new, samples.FREE, buffers=256),
+        }
+        for name, data in odd.items():
+            svg = picture(read_report(data), read_words([]))
+            xml.dom.minidom.parseString(svg)
+            self.assertIn("</svg>", svg, name)
+
+    def test_broken_reports_are_told_by_line(self) -> None:
+        broken = samples.written([["new b0"]], ["t1 new b0", "t1 bind b0"], samples.FREE)
+        with self.assertRaises(ViewError) as raised:
+            picture(read_report(broken), read_words([]))
+        self.assertEqual(raised.exception.line, 14)
+
+    def test_long_runs_are_summed_in_a_bounded_size(self) -> None:
+        report = samples.long_report(16, 400)
+        start = time.process_time()
+        svg = picture(report, read_words([]))
+        xml.dom.minidom.parseString(svg)
+        self.assertLess(len(svg), MOST_BYTES)
+        self.assertIn("300 columns", svg)
+        self.assertLess(time.process_time() - start, 20)
+        self.assertLess(len(picture(report, read_words(["--from", "5001", "--to", "6200"]))), MOST_BYTES)
+
+
+if __name__ == "__main__":
+    unittest.main()
