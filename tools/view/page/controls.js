@@ -2,6 +2,7 @@
 // Starts the page, and shows the state after one entry at a time: the slider, the keys, the search and the clock.
 
 const NEAR = 16; // entries shown before and after the one at work
+const CALM = 400; // milliseconds without another entry, after which the address names the one shown
 const PREPARED = 20000; // entries that are followed at a time while nothing else is to be done
 
 const byId = (id) => document.getElementById(id);
@@ -16,6 +17,7 @@ const timeline = new Timeline(script, lines);
 let shown = -1;
 let owners = null;
 let clock = 0;
+let address = 0;
 
 /** Shows the state after `number` entries. */
 function show(number) {
@@ -49,7 +51,8 @@ function showEntry(number, line, { sentence, kernel }) {
   byId("sentence").textContent = sentence;
   say("");
   byId("kernel").textContent = kernel ? `Linux 6.1: ${kernel}` : "";
-  history.replaceState(null, "", `#${number}`);
+  clearTimeout(address);
+  address = setTimeout(() => history.replaceState(null, "", `#${number}`), CALM);
 }
 
 function showArea(area, old) {

@@ -2,8 +2,6 @@
 // What each kind of entry does, in a sentence, and the function of the kernel whose work it is.
 // The kernel's names and files are those of Linux 6.1. A function that 6.12 has in place of one follows it.
 
-const MEMORY_NAMES = { sys: "SYSTEM", tt: "TT", vram: "VRAM" };
-
 const spanText = ([first, last]) => `${first}-${last}`;
 const spansText = (spans) => spans.map(spanText).join(",") || "-";
 const counted = (count, word) => `${count} ${word}${count === 1 ? "" : "s"}`;
@@ -72,24 +70,25 @@ const SENTENCES = {
     return `${name} gives back its target in ${MEMORY_NAMES[memory]}${spans.length ? `, ${spansText(spans)}` : ""}: it can't get there.`;
   },
   populate(state, [name, page, frame]) {
-    return `Page ${page} of ${name} had nothing. It gets frame ${frame}, the lowest free one, filled with zeros.`;
+    const late = state.buffer(name).memory === "vram" ? " Its bytes are in VRAM until the move has copied them." : "";
+    return `Page ${page} of ${name} has no frame. It gets frame ${frame}, the lowest free one, filled with zeros.${late}`;
   },
   swapin(state, [name, page, slot, frame]) {
     return `Page ${page} of ${name} comes back from slot ${slot} into frame ${frame}. The slot is free.`;
   },
   depopulate(state, [name]) {
-    return `${name} gives back ${counted(framesOf(state.buffer(name)).length, "frame")}, which it had got for a move out of VRAM that can't be made.`;
+    return `${name} gives back ${counted(framesOf(state.buffer(name)).length, "frame")}, which it got for a move out of VRAM that can't be made.`;
   },
   bind(state, [name]) {
     return `Pages ${spansText(state.buffer(name).targets.tt)} of TT are mapped to the frames of ${name}, which now stands in TT. Nothing is copied, and nothing is waited for.`;
   },
   unbind(state, [name]) {
-    return `Pages ${spansText(state.buffer(name).spans)} of TT are unmapped and free. ${name} stands in SYSTEM with the frames that it had. Nothing is copied, but no job may use it any more.`;
+    return `Pages ${spansText(state.buffer(name).spans)} of TT are unmapped and free. ${name} stands in SYSTEM with the frames that it had. Nothing is copied; all its jobs are done.`;
   },
   move: moveText,
   catch(state, [name, why], course) {
     if (why === "swap") return `No frame is free. ${name} is the first buffer in eviction order that has one to give: t${course.thread} catches it, to swap it out.`;
-    return `${MEMORY_NAMES[why]} has no room. ${name} is the first buffer in its eviction order that may go: t${course.thread} catches it, to evict it.`;
+    return `The place has no room. ${name} is the first buffer in the eviction order of ${MEMORY_NAMES[why]} that may be evicted for it: t${course.thread} catches it.`;
   },
   loose(state, [name]) {
     return `The victim ${name} has made room. It is let go, and counts as just used.`;
@@ -98,10 +97,10 @@ const SENTENCES = {
     return `The victim ${name} found no way out. It is let go where it stands, and this command won't try to evict it again.`;
   },
   dry(state, [name, place, causes]) {
-    const head = `The search for ${name} gives up its place number ${place}`;
-    if (causes === "short") return `${head}: the place has fewer pages than ${name}.`;
-    if (causes === "-") return `${head}: its free pages don't fit, by alignment or block borders, and no buffer stands there.`;
-    return `${head}: there is no room, and no buffer to evict. ${causes.split(",").map(causeText).join("; ")}.`;
+    const head = `The search for ${name} gives up place ${place} of the forced round`;
+    if (causes === "short") return `${head}, which has fewer pages than ${name}.`;
+    if (causes === "-") return `${head}: its free pages don't fit, by alignment or block borders, and no buffer is there.`;
+    return `${head}, which has no room, and no buffer to evict: ${causes.split(",").map(causeText).join("; ")}.`;
   },
   swapout(state, [name, page, slot]) {
     return `Page ${page} of ${name} goes from frame ${state.buffer(name).frames[page]} to slot ${slot}, the lowest free one. The frame is free.`;
@@ -112,15 +111,15 @@ const SENTENCES = {
   arm(state, [engine, number], course) {
     const command = state.commandOf(course);
     const read = command.buffers.filter((index) => !command.writes.includes(index));
-    const uses = [[command.writes, "writes"], [read, "reads"]].filter(([indexes]) => indexes.length).map(([indexes, verb]) => `${verb} ${named(state, indexes)}`);
+    const uses = [[command.writes, "WRITE"], [read, "READ"]].filter(([indexes]) => indexes.length).map(([indexes, usage]) => `a ${usage} fence of ${named(state, indexes)}`);
     const fences = command.buffers.flatMap((index) => state.buffers[index].fences.filter((fence) => command.writes.includes(index) || fence.usage !== "READ"));
     const waits = jobsText(unique(state.unfinished(fences)));
-    return `Job ${number} goes to ${engine}: ${counted(command.packets, "packet")}; it ${listed(uses)}, and becomes a fence of each. ${waits ? `It waits for ${waits}.` : "It waits for nothing."}`;
+    return `Job ${number} goes to ${engine}, with ${counted(command.packets, "packet")}. It is ${listed(uses)} from now on, and waits for ${waits || "nothing"}.`;
   },
   packet(state, [number, packet, bytes], course, engine) {
     const job = state.jobs[engine][0];
     const shown = bytes ? ` It shows the bytes ${bytes.length > 64 ? `${bytes.slice(0, 64)}...` : bytes}.` : "";
-    const what = engine === 0 ? `copies page ${packet} of ${job.label}` : `runs packet ${Number(packet) + 1} of ${job.packets} of job ${number}, of ${job.label}`;
+    const what = engine === 0 ? `copies page ${packet} of ${job.label}` : `runs packet ${Number(packet) + 1} of ${job.packets} of job ${number} (${job.label})`;
     return `e${engine} ${what}.${shown}`;
   },
   done(state, [number], course, engine) {
@@ -133,17 +132,29 @@ const SENTENCES = {
     return `The jobs of ghost ${number} are done. What it kept is free: ${listed([...pages, ...frames]) || "nothing"}.`;
   },
   bulk(state, [group]) {
-    return `The members of group ${group} go to the end of each list, in their order: they are evicted last.`;
+    return `The members of group ${group} go to the end of each list, in their order: there they are evicted last.`;
   },
   result(state, words, course) {
-    const held = course.held.length ? ` ${named(state, course.held)} ${course.held.length === 1 ? "is let go, and counts" : "are let go, and count"} as just used.` : "";
-    const shown = { read: ` It reads ${words[1]}.`, find: ` It stands in ${words[1]} ${words[2]}.` }[words[0]] || "";
-    return `t${course.thread} has done ${commandText(state, course).replace(/,$/, ".")}${shown}${held}`;
+    const command = state.commandOf(course);
+    const name = command.buffers.length ? state.buffers[command.buffers[0]].declared.name : "";
+    const shown = { read: ` It reads ${words[1]}.`, find: ` ${name} stands in ${MEMORY_NAMES[words[1]]} ${words[2]}.`.replace(" -.", ".") }[words[0]] || "";
+    return `t${course.thread} has done ${commandText(state, course).replace(/,$/, ".")}${shown}${letGoText(state, course, command)}`;
   },
   refused(state, [why], course) {
     return `t${course.thread} is refused ${commandText(state, course)} with ${why}: ${REFUSALS[why]}. Moves and evictions that it made on the way stay.`;
   },
 };
+
+/** Says what becomes of the buffers that an answered command holds. */
+function letGoText(state, course, command) {
+  const change = { pin: 1, unpin: -1 }[command.verb] || 0;
+  const pinned = course.held.filter((index) => state.buffers[index].pins + change > 0);
+  const others = course.held.filter((index) => !pinned.includes(index));
+  const texts = [];
+  if (others.length) texts.push(` ${named(state, others)} ${others.length === 1 ? "is let go, and counts" : "are let go, and count"} as just used.`);
+  if (pinned.length) texts.push(` ${named(state, pinned)} ${pinned.length === 1 ? "is let go, and is" : "are let go, and are"} on no list while pinned.`);
+  return texts.join("");
+}
 
 function unique(jobs) {
   return jobs.filter((job, at) => jobs.findIndex((other) => other.engine === job.engine && other.number === job.number) === at);

@@ -3,6 +3,7 @@
 // That each entry can be followed was checked before the page was written.
 
 const MEMORIES = ["sys", "tt", "vram"];
+const MEMORY_NAMES = { sys: "SYSTEM", tt: "TT", vram: "VRAM" };
 const PRIORITIES = 4;
 
 /** Reads spans `F-L,F-L` or `-` into pairs. */
@@ -227,7 +228,7 @@ const APPLY = {
   },
   move(state, [name, memory, number, left]) {
     const buffer = state.buffer(name);
-    const label = `${name} from ${buffer.memory} to ${memory}`;
+    const label = `${name} from ${MEMORY_NAMES[buffer.memory]} to ${MEMORY_NAMES[memory]}`;
     const job = state.emit(0, Number(number), buffer.declared.pages, buffer.fences, label);
     if (left === "now") {
       state.moveFence = job.number;
@@ -268,7 +269,7 @@ const APPLY = {
     const command = state.commandOf(course);
     const uses = command.buffers.map((index) => [state.buffers[index], command.writes.includes(index) ? "WRITE" : "READ"]);
     const fences = uses.flatMap(([buffer, usage]) => buffer.fences.filter((fence) => usage === "WRITE" || fence.usage !== "READ"));
-    const job = state.emit(Number(engine.slice(1)), Number(number), command.packets, fences, `t${course.thread} ${course.answered + 1}`);
+    const job = state.emit(Number(engine.slice(1)), Number(number), command.packets, fences, `t${course.thread} command ${course.answered + 1}`);
     for (const [buffer, usage] of uses) state.addFence(buffer, job, usage);
   },
   packet(state, words, course, engine) {
