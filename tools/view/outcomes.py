@@ -22,6 +22,7 @@ MOST_RUNS = 1_000_000
 AT_A_TIME = 64
 MOST_ROWS = 8  # of one subject
 WIDEST = 60  # characters of an outcome
+WIDEST_SUBJECT = 110
 
 
 class Tally:
@@ -41,15 +42,15 @@ class Tally:
         """Yields a line for each outcome of a subject, the most frequent first."""
         counts = self.subjects[subject].most_common()
         for what, count in counts[:MOST_ROWS]:
-            yield f"    {shortened(what):<{WIDEST}} {count:>7}   shuffle {self.first[Fact(subject, what)]}"
+            yield f"    {shortened(what, WIDEST):<{WIDEST}} {count:>7}   shuffle {self.first[Fact(subject, what)]}"
         if len(counts) > MOST_ROWS:
             rest = sum(count for _, count in counts[MOST_ROWS:])
             yield f"    {f'{len(counts) - MOST_ROWS} others':<{WIDEST}} {rest:>7}"
 
 
-def shortened(text: str) -> str:
-    """Returns a text cut to the width of its column."""
-    return text if len(text) <= WIDEST else text[: WIDEST - 3] + "..."
+def shortened(text: str, widest: int) -> str:
+    """Returns a text cut to a number of characters."""
+    return text if len(text) <= widest else text[: widest - 3] + "..."
 
 
 class Outcomes:
@@ -82,7 +83,7 @@ def section(title: str, tally: Tally, subjects: List[str]) -> Iterator[str]:
     if subjects:
         yield from ("", title)
     for subject in subjects:
-        yield f"  {subject}"
+        yield f"  {shortened(subject, WIDEST_SUBJECT)}"
         yield from tally.rows(subject)
 
 

@@ -22,7 +22,9 @@ from .state import AREAS
 from .wait_text import wait_text
 
 PAGE = Path(__file__).resolve().parent / "page"
-CODE = ("state.js", "timeline.js", "owners.js", "squares.js", "kinds.js", "panels.js", "controls.js")  # in the order in which they run
+CODE = (  # in the order in which they run
+    "state.js", "apply.js", "timeline.js", "owners.js", "squares.js", "sentences.js", "kernel.js", "panels.js", "controls.js",
+)  # fmt: skip
 
 
 class Waiting(Observer):
@@ -83,7 +85,8 @@ def part(name: str) -> str:
 
 def page_of(report: Report) -> str:
     """Returns the page of a report."""
-    parts = {"title": html.escape(report.name), "style": part("play.css"), "data": data_of(report), "code": "\n".join(part(name) for name in CODE)}
+    code = "\n".join(part(name) for name in CODE)
+    parts = {"title": html.escape(report.name), "style": part("play.css"), "data": data_of(report), "code": code}
     pieces = part("play.html").split("{")
     filled = [pieces[0]]
     for piece in pieces[1:]:
