@@ -111,12 +111,11 @@ const APPLY = {
     const job = state.emit(Number(engine.slice(1)), Number(number), command.packets, fences, label);
     for (const [buffer, usage] of uses) state.addFence(buffer, job, usage);
   },
-  packet(state, words, course, engine) {
-    state.jobs[engine][0].ran += 1;
+  packet(state, [number], course, engine) {
+    state.jobs[engine].get(Number(number)).ran += 1;
   },
   done(state, [number], course, engine) {
-    state.jobs[engine].shift();
-    state.doneUpTo[engine] = Number(number);
+    state.jobs[engine].delete(Number(number));
   },
   reap(state, [number]) {
     state.ghosts = state.ghosts.filter((ghost) => ghost.number !== Number(number));

@@ -111,9 +111,9 @@ const MOST_JOBS = 6; // shown of an engine
 function showEngines(state, actor) {
   const rows = state.jobs.flatMap((jobs, engine) => {
     const mark = { class: actor === `e${engine}` ? "marked" : null };
-    if (!jobs.length) return [row(mark, `e${engine}`, "idle", "-", "-")];
-    const shown = jobs.slice(0, MOST_JOBS).map((job, at) => jobRow(state, job, at ? null : mark, at ? "" : `e${engine}`));
-    return jobs.length > MOST_JOBS ? [...shown, row(null, "", `and ${jobs.length - MOST_JOBS} more`, "", "")] : shown;
+    if (!jobs.size) return [row(mark, `e${engine}`, "idle", "-", "-")];
+    const shown = Array.from(jobs.values()).slice(0, MOST_JOBS).map((job, at) => jobRow(state, job, at ? null : mark, at ? "" : `e${engine}`));
+    return jobs.size > MOST_JOBS ? [...shown, row(null, "", `and ${jobs.size - MOST_JOBS} more`, "", "")] : shown;
   });
   fillTable(document.getElementById("engines"), ["engine", "job", "packets run", "waits for"], rows, "");
 }

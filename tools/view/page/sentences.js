@@ -53,7 +53,8 @@ function causeText(item) {
 function shownText(state, [kind, first, spans], command) {
   if (kind === "ok") return "";
   if (kind === "read") return ` It reads ${first}.`;
-  return ` ${nameOf(state, command.buffers[0])} stands in ${MEMORY_NAMES[first]}${spans === "-" ? "" : ` ${spans}`}.`;
+  const name = command.buffers.length ? nameOf(state, command.buffers[0]) : "it";
+  return ` ${name} stands in ${MEMORY_NAMES[first]}${spans === "-" ? "" : ` ${spans}`}.`;
 }
 
 /** Says what becomes of the buffers that an answered command holds. */
@@ -139,16 +140,16 @@ const SENTENCES = {
   },
   arm: armText,
   packet(state, [number, packet, bytes], course, engine) {
-    const job = state.jobs[engine][0];
+    const job = state.jobs[engine].get(Number(number));
     const shown = bytes ? ` It shows the bytes ${bytes.length > 64 ? `${bytes.slice(0, 64)}...` : bytes}.` : "";
     if (engine === 0) return `e0 copies page ${packet} of ${job.label}.`;
     return `e${engine} runs packet ${Number(packet) + 1} of ${job.packets} of job ${number} (${job.label}).${shown}`;
   },
   done(state, [number], course, engine) {
-    return `Job ${number} of e${engine} (${state.jobs[engine][0].label}) is done. Whoever waits for this fence may go on.`;
+    return `Job ${number} of e${engine} (${state.jobs[engine].get(Number(number)).label}) is done. Whoever waits for this fence may go on.`;
   },
   reap(state, [number]) {
-    const ghost = state.ghosts[0];
+    const ghost = state.ghosts.find((one) => one.number === Number(number));
     const pages = ghost.spans.length ? [`${spansText(ghost.spans)} of ${MEMORY_NAMES[ghost.memory]}`] : [];
     const frames = ghost.frames.length ? [counted(ghost.frames.length, "frame")] : [];
     return `The jobs of ghost ${number} are done. What it kept is free: ${listed([...pages, ...frames]) || "nothing"}.`;

@@ -19,8 +19,7 @@ class State {
     this.age = 0;
     this.buffers = script.buffers.map((declared) => deadBuffer(declared));
     this.lists = MEMORIES.map(() => Array.from({ length: PRIORITIES }, () => []));
-    this.jobs = Array.from({ length: script.engines + 1 }, () => []);
-    this.doneUpTo = new Array(script.engines + 1).fill(0);
+    this.jobs = Array.from({ length: script.engines + 1 }, () => new Map()); // the unfinished ones, by number
     this.ghosts = [];
     this.moveFence = 0;
     this.courses = script.threads.map((commands, index) => newCourse(index + 1, 0));
@@ -34,8 +33,7 @@ class State {
     this.age = State.ages += 1;
     other.buffers = this.buffers.map((buffer) => ({ ...buffer, targets: { ...buffer.targets } }));
     other.lists = this.lists.map((lists) => lists.map((members) => members.slice()));
-    other.jobs = this.jobs.map((jobs) => jobs.map((job) => ({ ...job })));
-    other.doneUpTo = this.doneUpTo.slice();
+    other.jobs = this.jobs.map((jobs) => new Map(Array.from(jobs, ([number, job]) => [number, { ...job }])));
     other.ghosts = this.ghosts.slice();
     other.courses = this.courses.map((course) => ({ ...course }));
     return other;
@@ -59,7 +57,7 @@ class State {
   }
 
   isDone(job) {
-    return job.number <= this.doneUpTo[job.engine];
+    return !this.jobs[job.engine].has(job.number);
   }
 
   unfinished(fences) {
@@ -120,7 +118,7 @@ class State {
       if (!waits.some((other) => other.engine === one.engine && other.number === one.number)) waits.push(one);
     }
     const job = { engine, number, packets, ran: 0, waits, label };
-    this.jobs[engine].push(job);
+    this.jobs[engine].set(number, job);
     return job;
   }
 

@@ -16,6 +16,7 @@ from ..report import Report
 from ..state import AREAS
 from ..trace import COUNTERS, FIRST_ENGINE, REAPER, main
 from . import program
+from .odd_reports import odd_reports
 from .samples import drawn_reports, examples
 
 
@@ -99,6 +100,12 @@ class TraceTest(unittest.TestCase):
         for name, report in drawn_reports(20):
             with self.subTest(name):
                 self.check(report, events_of(report))
+
+    def test_odd_reports(self) -> None:
+        for report in odd_reports(100):
+            with self.subTest(report.name):
+                entries = [event for event in events_of(report) if event["ph"] == "X" and event.get("cat") != "wait"]
+                self.assertEqual(len(report.entries), len(entries))
 
     def test_an_arrow_leads_from_the_job_to_the_read_that_waits(self) -> None:
         events = example_trace("pipelined_eviction")
