@@ -7,6 +7,8 @@ rt makes the crates below the program in the order of crates.txt's lists, each o
 out/rlib, with a file `stamp` once it is whole. So the last folder that has changed since the start is that of the crate at work, and all
 before it are done.
 """
+from __future__ import annotations
+
 import pathlib
 import subprocess
 import sys
@@ -16,16 +18,16 @@ TOP = pathlib.Path(__file__).resolve().parent.parent
 SECONDS = 0.5
 
 
-def order_of(program):
-    """The crates of the repository below a program in the order in which rt makes them, and then the program."""
+def order_of(program: str) -> list[str]:
+    """Returns the crates of the repository below a program in the order in which rt makes them, and then the program."""
     deps = {}
     for line in (TOP / "crates.txt").read_text().splitlines():
         name, colon, names = line.partition(":")
         if colon and not line.startswith("#"):
             deps[name.split()[0]] = names.split()
-    order = []
+    order: list[str] = []
 
-    def visit(name):
+    def visit(name: str) -> None:
         if name in deps and name not in order:
             for dep in deps[name]:
                 visit(dep)
@@ -35,15 +37,15 @@ def order_of(program):
     return order
 
 
-def changed_at(path):
+def changed_at(path: pathlib.Path) -> float:
     try:
         return path.stat().st_ctime
     except OSError:
         return 0.0
 
 
-def at_work(order, begun, last):
-    """The place in the order of the crate at work, which is never before the last one found."""
+def at_work(order: list[str], begun: float, last: int) -> int:
+    """Returns the place in `order` of the crate at work, which is never before `last`, the one found last."""
     for place in range(len(order) - 2, last - 1, -1):
         rlib = TOP / "crates" / order[place] / "out" / "rlib"
         if changed_at(rlib / "stamp") >= begun:
@@ -53,27 +55,35 @@ def at_work(order, begun, last):
     return last
 
 
-def main(program, log):
-    order = order_of(program)
+def tell(text: str) -> None:
+    print(f"ttm: {text}", file=sys.stderr, flush=True)
+
+
+def follow(made: subprocess.Popen, order: list[str]) -> int:
+    """Tells how far a build is until it ends, and returns its status."""
     begun, at, told = time.time(), 0, -1
+    while True:
+        at = at_work(order, begun, at)
+        if at != told:
+            minutes = int(time.time() - begun) // 60
+            tell(f"{at} of {len(order)} crates done, {order[at]} at work, {len(order) - at - 1} left, {minutes} min")
+            told = at
+        try:
+            return made.wait(SECONDS)
+        except subprocess.TimeoutExpired:
+            pass
+
+
+def main(program: str, log: str) -> int:
+    order = order_of(program)
     with open(log, "wb") as out:
         words = ["rt", "run", "--", "--help"]
         made = subprocess.Popen(words, cwd=TOP / "crates" / program, stdin=subprocess.DEVNULL, stdout=out, stderr=subprocess.STDOUT)
-        while True:
-            at = at_work(order, begun, at)
-            if at != told:
-                minutes = int(time.time() - begun) // 60
-                print(f"ttm: {at} of {len(order)} crates done, {order[at]} at work, {len(order) - at - 1} left, {minutes} min", file=sys.stderr, flush=True)
-                told = at
-            try:
-                status = made.wait(SECONDS)
-                break
-            except subprocess.TimeoutExpired:
-                pass
-    minutes = int(time.time() - begun) // 60
-    if status == 0:
-        print(f"ttm: {program} is proved and built, {minutes} min", file=sys.stderr)
-    return status
+        try:
+            return follow(made, order)
+        except KeyboardInterrupt:  # rt is told too, since it is of the same group of processes
+            made.wait()
+            return 130
 
 
 if __name__ == "__main__":

@@ -1,58 +1,67 @@
 #!/usr/bin/env bash
-# Runs each examples/NAME.ttm through the program and compares its output with examples/NAME.report; and one of them by other
-# words. It proves nothing: the program is built unproved by `rt try`, once, and runs for each example. It takes a minute or two. An
-# example without a report, or a report without an example, fails too. Each fault is a line that names the example; the exit status is 1
-# if there is one.
+# Runs each examples/NAME.ttm by ./ttm, with the program as it is built, proved or not (an unproved one is built where there is none), and compares
+# its output with examples/NAME.report, which `check` has to find right; and one of them by other words. An example without a report, or a report
+# without an example, fails too, and so does the script in README.md, if it isn't the example that it is named for. Each fault is a line that
+# names the example; the exit status is 1 if there is one. It takes some seconds.
 #
 # usage: tools/check_examples.sh [FOLDER]     FOLDER in place of examples/
 set -u
 top=$(cd "$(dirname "$0")/.." && pwd)
 examples=$(cd "${1:-$top/examples}" && pwd) || exit 1
-cases=$(mktemp -d)
-trap 'rm -rf "$cases" "$cases.log"' EXIT
-
+room=$(mktemp -d)
+trap 'rm -rf "$room"' EXIT
+program=$("$top/ttm" --program 2>"$room/said") || { cat "$room/said"; exit 1; }
 faults=0
 count=0
+
+fault() {
+  echo "examples: $1"
+  faults=1
+}
+
+# answers NAME STATUS FILE WORD ..: whether ./ttm ends with this status by these words, and writes what FILE has
+answers() {
+  local name=$1 wanted=$2 file=$3 status
+  shift 3
+  "$top/ttm" "$@" >"$room/out" 2>"$room/said" </dev/null
+  status=$?
+  count=$((count + 1))
+  [ "$status" -eq "$wanted" ] || fault "$name: status $status, not $wanted: $(tail -n 1 "$room/said")"
+  cmp "$file" "$room/out" >"$room/differs" 2>&1 || fault "$name: other output: $(cat "$room/differs")"
+}
+
 for report in "$examples"/*.report; do
-  if [ ! -f "${report%.report}.ttm" ]; then
-    echo "examples: $(basename "$report"): no script of that name"
-    faults=1
-  fi
+  [ -f "${report%.report}.ttm" ] || fault "$(basename "$report"): no script of that name"
 done
+echo valid >"$room/valid"
 for script in "$examples"/*.ttm; do
   name=$(basename "$script" .ttm)
-  if [ ! -f "$examples/$name.report" ]; then
-    echo "examples: $name.ttm: no report of that name"
-    faults=1
+  report=$examples/$name.report
+  if [ ! -f "$report" ]; then
+    fault "$name.ttm: no report of that name"
     continue
   fi
-  cp "$script" "$cases/$name"
-  cp "$examples/$name.report" "$cases/$name.stdout"
-  echo sim >"$cases/$name.args"
-  count=$((count + 1))
+  answers "$name" 0 "$report" sim "$script"
+  answers "$name, checked" 0 "$room/valid" check "$script" "$report"
 done
 
-# answers NAME TEXT WORD..: what the program writes by these words, with a script of one thread on standard input
-answers() {
-  cp "$top/examples/read_crosses_a_page.ttm" "$cases/$1"
-  printf "$2" >"$cases/$1.stdout"
-  printf '%s\n' "${@:3}" >"$cases/$1.args"
-  count=$((count + 1))
-}
-answers the_words_run "$(sed 's/$/\\n/' "$top/examples/read_crosses_a_page.report" | tr -d '\n')" run
-answers the_words_version 'ttm 0.1.0\n' --version
-answers the_words_of_nothing 'usage\n' Sim
-answers the_words_of_a_script_too_many 'usage\n' run 3
+# A script of one thread and no job has one interleaving, so `run` writes what `sim` does.
+one=$top/examples/read_crosses_a_page
+answers "run" 0 "$one.report" run "$one.ttm"
+printf 'rejected: entry 0, rule 1\n' >"$room/none"
+answers "a check of no report" 8 "$room/none" check "$one.ttm"
+"$program" --version >"$room/version"
+answers "the version" 0 "$room/version" --version
+echo usage >"$room/usage"
+answers "no such word" 2 "$room/usage" Sim
 
-(cd "$top/crates/ttm" && rt try --cases "$cases") >"$cases.log" 2>&1
-status=$?
-if [ "$status" -ne 0 ] || ! grep -q "^cases=$count ended=$count fault=0 differs=0 no-answer=0 " "$cases.log"; then
-  sed '/output=expected/d; s/^/examples: /' "$cases.log"
-  faults=1
-fi
+# The script in README.md runs as it is copied.
+awk '/^```/ { if (++fences == 2) exit; next } fences == 1' "$top/README.md" >"$room/readme.ttm"
+answers "README.md's script" 0 "$top/examples/one_page_eviction.report" sim "$room/readme.ttm"
+
 if [ "$faults" -eq 0 ]; then
-  echo "examples: each of $count is what the program writes"
+  echo "examples: each of $count runs writes what it should"
 else
-  echo "examples: not all are what the program writes"
+  echo "examples: not all runs write what they should"
 fi
 exit "$faults"

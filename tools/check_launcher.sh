@@ -1,91 +1,64 @@
 #!/usr/bin/env bash
-# Checks ./ttm on a copy of it, with a small program in place of the real one and a command rt that only pretends: that statuses and output
-# are the program's own in both ways, and that after a build that failed or was cut off no old program and no part of one is taken for
-# the proved one. Each fault is a line; the exit status is 1 if there is one. It takes a few seconds.
+# Checks ./ttm on a copy of it, with a small program in place of the real one, a kit and viewers that only pretend (tools/launcher/tests/pretend.sh),
+# and no other command on the PATH than it needs: statuses and output, what is built and when, what is read, and that nothing is left half.
+# Each fault is a line; the exit status is 1 if there is one. It takes a minute.
 #
 # usage: tools/check_launcher.sh
-set -u
+set -um
 top=$(cd "$(dirname "$0")/.." && pwd)
 room=$(mktemp -d)
 trap 'rm -rf "$room"' EXIT
-mkdir -p "$room/bin" "$room/copy/tools"
-cp "$top/ttm" "$room/copy/ttm"
-cp "$top/tools/build_progress.py" "$room/copy/tools/"
-printf 'base:\nexplain_script:\nreport_picture: base\nttm: base\n' >"$room/copy/crates.txt"
-for name in base explain_script report_picture ttm; do
-  mkdir -p "$room/copy/crates/$name/src"
-  echo "fn main() {}" >"$room/copy/crates/$name/src/main.rt"
-done
-
-# A program that writes its version, name and words, and ends with the status that its last word names. What `rt run` makes of the sources is
-# as `$room/how` says: whole, cut (a part, and no status 0), or none.
-cat >"$room/bin/rt" <<'RT'
-#!/usr/bin/env bash
-room=$(cd "$(dirname "$0")/.." && pwd)
-name=$(basename "$PWD")
-make() { printf '#!/bin/sh\necho "%s %s: $*"\nfor word; do :; done\ncase "$word" in [0-9]) exit "$word";; esac\n' "$1" "$name"; }
-case "$1" in
-  run)
-    [ "$*" = "run -- --help" ] || exit 9
-    echo "proving $name"
-    case "$(cat "$room/how")" in
-      whole) make proved >"out/$name" && chmod +x "out/$name" ;;
-      cut) printf '#!/bin/sh\necho half\n' >"out/$name"; chmod +x "out/$name"; echo "error: cut off"; exit 137 ;;
-      none) echo "error: a proof is missing"; exit 1 ;;
-    esac
-    ;;
-  try)
-    while [ "$1" != -- ]; do shift; done
-    shift
-    [ "$(cat "$room/how")" = mute ] && { echo "run=none proved=no" >&2; exit 2; }
-    make tried >"$room/tried" && sh "$room/tried" "$@"
-    status=$?
-    echo "run=ended status=$status runners=1 proved=no" >&2
-    exit "$status"
-    ;;
-esac
-RT
-chmod +x "$room/bin/rt"
-export PATH="$room/bin:$PATH"
-
-faults=0
-# run WHAT STATUS OUTPUT LINES WORD ..: status, standard output and the lines of standard error that this run of ./ttm has
-run() {
-  local what=$1 status=$2 output=$3 lines=$4 given told
-  shift 4
-  given=$("$room/ttm" "$@" 2>"$room/said" </dev/null)
-  told="status $? output '$given' lines $(wc -l <"$room/said")"
-  if [ "$told" != "status $status output '$output' lines $lines" ]; then
-    echo "launcher: $what: $told, and not status $status output '$output' lines $lines"
-    faults=1
-  fi
-}
+. "$top/tools/launcher/tests/pretend.sh"
+. "$top/tools/launcher/tests/cases.sh"
+pretend_repository
 ln -s copy/ttm "$room/ttm"
+mkdir "$room/tmp"
+export TMPDIR="$room/tmp" XDG_CACHE_HOME="$room/cache"
+whole=$room/bin:$room/tools
+faults=0
+count=0
 
-echo whole >"$room/how"
-run "nothing is built" 0 "tried ttm: sim" 1 sim
-run "a status of an unproved run" 3 "tried ttm: sim 3" 1 sim 3
-run "another program, unproved" 2 "tried explain_script: 4 2" 1 explain 4 2
-run "a build" 0 "" 6 --build
-run "a proved run" 0 "proved ttm: sim" 0 sim
-run "a status of a proved run" 5 "proved ttm: sim 5" 0 sim 5
-run "another program, proved" 0 "proved report_picture: stats json" 0 stats json
-run "nothing is left to build" 0 "" 3 --build
-echo "fn main() { base(); }" >"$room/copy/crates/base/src/main.rt"
-run "the sources below have changed" 0 "tried ttm: sim" 1 sim
-run "a program that doesn't stand on them" 0 "proved explain_script: 4 0" 0 explain 4 0
-for how in none cut; do
-  echo "$how" >"$room/how"
-  run "a build that fails ($how)" 1 "" 5 --build
-  run "behind a build that failed ($how)" 0 "tried report_picture: stats x" 1 stats x
+fault() {
+  echo "launcher: $1"
+  faults=1
+}
+
+# expect WHAT STATUS OUTPUT LINES WORD ..: the status, the standard output and the lines of standard error of this run of ./ttm, with `input` as
+# its standard input
+input=/dev/null
+expect() {
+  local what=$1 wanted="status $2 output '$3' lines $4" given told
+  shift 4
+  given=$(PATH=$whole "$room/ttm" "$@" 2>"$room/said" <"$input")
+  told="status $? output '$given' lines $(wc -l <"$room/said")"
+  count=$((count + 1))
+  [ "$told" = "$wanted" ] || fault "$what: $told, and not $wanted"
+}
+
+# says WHAT TEXT: a text that standard error of the last run has
+says() {
+  grep -qF -- "$2" "$room/said" || fault "$1: standard error doesn't say '$2'"
+}
+
+# Whether nothing is left of what the launcher made for a while.
+leaves_nothing() {
+  [ -z "$(ls "$room/tmp")" ] || fault "$1: files are left in the folder for temporary files: $(ls "$room/tmp")"
+  [ -z "$(find "$room/copy/crates/ttm/out/unproved" -name 'new*' 2>/dev/null)" ] || fault "$1: a part of a build is left"
+}
+
+# tries WHAT N: how many builds of an unproved program were begun since the last time
+tries() {
+  local found
+  found=$(cat "$room/tries" 2>/dev/null | wc -l)
+  rm -f "$room/tries"
+  [ "$found" -eq "$2" ] || fault "$1: $found builds were begun, and not $2"
+}
+
+for case in words first_build fresh_or_not changed_sources failed_builds proved_builds two_at_once edited_meanwhile interrupted inputs comments explanations \
+  viewers no_python read_only installed; do
+  "check_$case"
+  leaves_nothing "$case"
 done
-echo mute >"$room/how"
-run "an unproved run without an answer" 1 "" 3 sim
-echo whole >"$room/how"
-run "a build behind one that failed" 0 "" 5 --build
-run "a proved run again" 0 "proved ttm: sim" 0 sim
-echo 'echo more' >>"$room/copy/crates/ttm/out/ttm"
-run "a program that isn't what was built" 0 "tried ttm: sim" 1 sim
-[ -e "$room/crates" ] && { echo "launcher: files were made beside the link"; faults=1; }
-[ "$faults" -eq 0 ] && echo "launcher: the proved program is run where it is what was built, and the unproved one where not"
+[ -e "$room/crates" ] && fault "files were made beside the link"
+[ "$faults" -eq 0 ] && echo "launcher: each of $count runs answers as it should, by a program that is made from the sources as they are"
 exit "$faults"

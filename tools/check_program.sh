@@ -2,20 +2,17 @@
 # What the program does at its edges: by words, by real files and pipes, and where memory or threads are short. No contract speaks of
 # these, and no test of a crate can make them. It proves nothing. Each fault is a line; the exit status is 1 if there is one.
 #
-# usage: tools/check_program.sh [PROGRAM]     PROGRAM in place of one that is built here, unproved, which takes some minutes
+# usage: tools/check_program.sh [PROGRAM]     PROGRAM in place of the one that ./ttm runs, which is built unproved where there is none
 set -u
 top=$(cd "$(dirname "$0")/.." && pwd)
 work=$(mktemp -d)
 trap 'rm -rf "$work"' EXIT
-if [ $# -gt 0 ]; then
-  program=$(realpath "$1")
-else
-  program="$work/ttm"
-  "$top/tools/build_unproved.sh" "$program" >"$work/log" 2>&1 || { cat "$work/log" >&2; exit 1; }
-fi
-one="$top/examples/read_crosses_a_page.ttm"  # one thread and no job: one interleaving
+program=$(realpath "${1:-$("$top/ttm" --program)}") || exit 1
+one="$work/one"  # one thread and no job: one interleaving
 whole="$top/examples/read_crosses_a_page.report"
-many="$top/examples/younger_backs_off.ttm"
+many="$work/many"
+python3 "$top/tools/view" plain "$top/examples/read_crosses_a_page.ttm" >"$one" || exit 1
+python3 "$top/tools/view" plain "$top/examples/younger_backs_off.ttm" >"$many" || exit 1
 faults=0
 count=0
 

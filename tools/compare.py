@@ -5,8 +5,9 @@ usage: tools/compare.py ORACLE COUNT [FIRST_SEED] [--program FILE]
 
 ORACLE is a program with the words `random SEED [--v2]` (prints a valid script), `mangle SEED` (breaks the script on its
 standard input) and `sim` (runs a script as this program does). For each seed a script of each version, and the same
-broken, go through `./ttm sim` and `ORACLE sim`; status and every byte of the output must agree. The first difference is
-printed and ends the comparison with status 1. Build `./ttm` first (`./ttm --build`), or name a built program (`tools/build_unproved.sh FILE`).
+broken, go through `sim` of the program and of ORACLE; status and every byte of the output must agree. The first difference is
+printed and ends the comparison with status 1. FILE is a built program; without it that is the one which `./ttm` runs, built unproved where there
+is none.
 """
 import argparse
 import pathlib
@@ -34,8 +35,9 @@ def main():
     parser.add_argument("oracle")
     parser.add_argument("count", type=int)
     parser.add_argument("first", type=int, nargs="?", default=1)
-    parser.add_argument("--program", default=str(TTM))
+    parser.add_argument("--program", default="")
     asked = parser.parse_args()
+    asked.program = asked.program or subprocess.check_output([TTM, "--program"], text=True).strip()
     agreed = 0
     seed = asked.first
     statuses = {}

@@ -8,7 +8,7 @@ the script on its standard input) and `check` (judges a script with a report beh
 version of scripts, the reports of `sim`, of `run` and of `play` must be valid, and N random edits of each (20 where none is named)
 must get the same verdict from both, status and every byte: a byte changed, taken out or put in, a line less, a line twice, two lines
 that stand beside each other swapped, a number one higher, another actor. The first difference is printed and ends the comparison with
-status 1. FILE is run in place of `./ttm` (`tools/build_unproved.sh FILE` makes one).
+status 1. FILE is a built program; without it that is the one which `./ttm` runs, built unproved where there is none.
 """
 import argparse
 import collections
@@ -124,8 +124,9 @@ def main():
     parser.add_argument("count", type=int)
     parser.add_argument("first", type=int, nargs="?", default=1)
     parser.add_argument("--edits", type=int, default=20)
-    parser.add_argument("--program", default=str(TTM))
+    parser.add_argument("--program", default="")
     asked = parser.parse_args()
+    asked.program = asked.program or subprocess.check_output([TTM, "--program"], text=True).strip()
     verdicts = collections.Counter()
     scripts = reports = edited = 0
     for seed in range(asked.first, asked.first + asked.count):

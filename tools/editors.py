@@ -1,7 +1,8 @@
 #!/usr/bin/env python3
-"""Makes the files in editors/ for vim, VS Code and bash of the table editors/words.txt, and checks them. Needs Python alone.
+"""Makes the files in editors/ for vim and VS Code of the table editors/words.txt, and for bash of tools/launcher/commands.txt, and checks them.
+Needs Python alone.
 
-usage: tools/editors.py           whether the files are what the table makes; whether the grammar of VS Code shows the lines of
+usage: tools/editors.py           whether the files are what the tables make; whether the grammar of VS Code shows the lines of
                                   editors/lines.txt as that file says, and no line of examples/*.ttm as wrong; the same of vim, where there is
                                   a vim with syntax files; whether the words are those that scripts are read by
        tools/editors.py --write   writes the files
@@ -19,15 +20,15 @@ import tempfile
 TOP = pathlib.Path(__file__).resolve().parent.parent
 EDITORS = TOP / "editors"
 SCOPES = {"k": "keyword.control.ttm", "n": "constant.numeric.ttm", "b": "variable.other.ttm", "p": "support.type.ttm",
-          "h": "constant.other.ttm", "a": "entity.name.function.ttm", "!": "invalid.illegal.ttm"}
+          "h": "constant.other.ttm", "a": "entity.name.function.ttm", "#": "comment.line.number-sign.ttm", "!": "invalid.illegal.ttm"}
 GROUPS = {"k": ("ttmKeyword", "Keyword"), "n": ("ttmNumber", "Number"), "b": ("ttmName", "Identifier"), "p": ("ttmPlaces", "Type"),
-          "h": ("ttmBytes", "Constant"), "a": ("ttmActor", "Function"), "!": ("ttmError", "Error")}
+          "h": ("ttmBytes", "Constant"), "a": ("ttmActor", "Function"), "#": ("ttmComment", "Comment"), "!": ("ttmError", "Error")}
 LETTERS = {"NUMBER": "n", "GROUP": "n", "NAME": "b", "PLACES": "p", "BYTES": "h", "BYTE": "h", "ACTOR": "a"}
 
 
 class Table:
     def __init__(self):
-        self.classes, self.lines, self.jobs, self.calls = {}, [], {}, []
+        self.classes, self.lines, self.jobs = {}, [], {}
         for row in (EDITORS / "words.txt").read_text().splitlines():
             kind, _, words = row.partition(" ")
             if kind == "class":
@@ -36,8 +37,8 @@ class Table:
             elif kind == "job":
                 first, _, words = words.partition(" ")
                 self.jobs.setdefault(first, []).append(words.split(" "))
-            elif kind in ("line", "call"):
-                getattr(self, kind + "s").append(words.split(" "))
+            elif kind == "line":
+                self.lines.append(words.split(" "))
 
     def parts(self, words):
         """Each word's pattern and letter."""
@@ -56,6 +57,9 @@ def jobs_of(table):
         yield first, jobs, "(?:" + "|".join(" ".join(pattern for pattern, _ in parts) for parts in jobs) + ")"
 
 
+END = "(?=(?: +#.*)?$)"  # of a line: what is left of it is a comment, or nothing
+
+
 def vscode(table):
     def rule(parts, start, end):
         scopes = {str(i + 1): {"name": SCOPES[letter]} for i, (_, letter) in enumerate(parts)}
@@ -66,14 +70,15 @@ def vscode(table):
         "$schema": "https://raw.githubusercontent.com/martinring/tmlanguage/master/tmlanguage.json",
         "name": "TTM script",
         "scopeName": "source.ttm",
-        "patterns": [rule(parts, "^", "$") for parts in whole_lines(table)] + [
-            {"match": f"^({first}) ({number}) ({one}(?: ; {one})*)$",
+        "patterns": [{"match": "(?:^ *| +)(#.*)$", "captures": {"1": {"name": SCOPES["#"]}}}] + [
+            rule(parts, "^", END) for parts in whole_lines(table)] + [
+            {"match": f"^({first}) ({number}) ({one}(?: ; {one})*)" + END,
              "captures": {"1": {"name": SCOPES["k"]}, "2": {"name": SCOPES["n"]}, "3": {"patterns": [
                  *[rule(parts, "(?:^|(?<= ))", "(?= ;|$)") for parts in jobs], {"match": ";", "name": SCOPES["k"]}]}}}
             for first, jobs, one in jobs_of(table)] + [
-            {"match": f"^(schedule)((?: {actor})+)$",
+            {"match": f"^(schedule)((?: {actor})+)" + END,
              "captures": {"1": {"name": SCOPES["k"]}, "2": {"patterns": [{"match": actor, "name": SCOPES["a"]}]}}},
-            {"match": "^.+$", "name": SCOPES["!"]},
+            {"match": "^.+?(?= +#|$)", "name": SCOPES["!"]},
         ],
     }
 
@@ -84,11 +89,13 @@ def vim(table):
 
     text = ["\" Vim syntax file for scripts of ttm. Made by tools/editors.py of editors/words.txt.",
             "if exists(\"b:current_syntax\")", "  finish", "endif", "",
-            "syntax match ttmError /^.\\+$/"]
+            "syntax match ttmError /\\v^%( *#)@!.{-1,}\\ze%( +#.*)?$/",
+            "syntax match ttmComment /\\v%(^| )@1<=#.*$/"]
+    end = "%( +#.*)?$"
     number, actor = table.classes["NUMBER"], table.classes["ACTOR"]
     for i, parts in enumerate(whole_lines(table)):
         pattern = " ".join(vim_of(word) for word, _ in parts)
-        text.append(f"syntax match ttmLine{i} /\\v^{pattern}$/ contains=ttmWord{i}_0")
+        text.append(f"syntax match ttmLine{i} /\\v^{pattern}{end}/ contains=ttmComment,ttmWord{i}_0")
         for j, (word, letter) in enumerate(parts):
             then = f" nextgroup=ttmWord{i}_{j + 1} skipwhite" if j + 1 < len(parts) else ""
             text.append(f"syntax match ttmWord{i}_{j} /\\v{vim_of(word)}/ contained{then}")
@@ -96,7 +103,7 @@ def vim(table):
     for first, jobs, one in jobs_of(table):
         own = f"ttm{first.capitalize()}"
         firsts = ",".join(f"{own}Job{i}_0" for i in range(len(jobs)))
-        text.append(f"syntax match {own} /\\v^{first} {number} {vim_of(one)}%( ; {vim_of(one)})*$/ contains={own}Word,{own}End")
+        text.append(f"syntax match {own} /\\v^{first} {number} {vim_of(one)}%( ; {vim_of(one)})*{end}/ contains=ttmComment,{own}Word,{own}End")
         text.append(f"syntax match {own}Word /\\v^{first}/ contained nextgroup={own}Engine skipwhite")
         text.append(f"syntax match {own}Engine /\\v{number}/ contained nextgroup={firsts} skipwhite")
         text.append(f"syntax match {own}End /;/ contained nextgroup={firsts} skipwhite")
@@ -106,7 +113,7 @@ def vim(table):
                 then = f"{own}Job{i}_{j + 1}" if j + 1 < len(parts) else f"{own}End"
                 text.append(f"syntax match {own}Job{i}_{j} /\\v{vim_of(word)}/ contained nextgroup={then} skipwhite")
                 text.append(f"highlight default link {own}Job{i}_{j} {GROUPS[letter][0]}")
-    text.append(f"syntax match ttmSchedule /\\v^schedule%( {vim_of(actor)})+$/ contains=ttmScheduleWord,ttmActor")
+    text.append(f"syntax match ttmSchedule /\\v^schedule%( {vim_of(actor)})+{end}/ contains=ttmComment,ttmScheduleWord,ttmActor")
     text.append("syntax match ttmScheduleWord /\\v^schedule/ contained")
     text.append(f"syntax match ttmActor /\\v {vim_of(actor)}/hs=s+1 contained")
     text.append("highlight default link ttmScheduleWord ttmKeyword")
@@ -115,12 +122,23 @@ def vim(table):
     return "\n".join(text) + "\n"
 
 
-def bash(table):
-    firsts = " ".join(words[0] for words in table.calls)
-    text = ["# Completion of ./ttm for bash: source this file. Made by tools/editors.py of editors/words.txt.", "_ttm() {",
-            "  local word=${COMP_WORDS[COMP_CWORD]}", "  local words=", "  case $COMP_CWORD in", f"    1) words='{firsts}' ;;",
+def calls():
+    """Returns each word of ./ttm with the words that may follow it, in the order of the table."""
+    found = {}
+    for row in (TOP / "tools" / "launcher" / "commands.txt").read_text().splitlines():
+        kind, bar, rest = row.partition(" | ")
+        if bar and kind.rstrip("+") in ("program", "viewer", "launcher"):
+            first, *others = re.findall(r"[A-Za-z-]+", rest.partition(" | ")[0])
+            found[first] = [word for word in others if not word.isupper()]
+    return found
+
+
+def bash():
+    words = calls()
+    text = ["# Completion of ./ttm for bash: source this file. Made by tools/editors.py of tools/launcher/commands.txt.", "_ttm() {",
+            "  local word=${COMP_WORDS[COMP_CWORD]}", "  local words=", "  case $COMP_CWORD in", f"    1) words='{' '.join(words)}' ;;",
             "    2)", "      case ${COMP_WORDS[1]} in"]
-    text += [f"        {words[0]}) words='{' '.join(words[1:])}' ;;" for words in table.calls if len(words) > 1]
+    text += [f"        {first}) words='{' '.join(others)}' ;;" for first, others in words.items() if others]
     text += ["      esac", "      ;;", "  esac", "  COMPREPLY=($(compgen -W \"$words\" -- \"$word\"))", "}",
              "complete -o default -F _ttm ttm ./ttm"]
     return "\n".join(text) + "\n"
@@ -128,14 +146,16 @@ def bash(table):
 
 def package():
     return {"name": "ttm-scripts", "displayName": "TTM scripts", "version": "1.0.0", "engines": {"vscode": "^1.0.0"}, "contributes": {
-        "languages": [{"id": "ttm", "extensions": [".ttm"]}],
+        "languages": [{"id": "ttm", "extensions": [".ttm"], "configuration": "./language-configuration.json"}],
         "grammars": [{"language": "ttm", "scopeName": "source.ttm", "path": "./ttm.tmLanguage.json"}]}}
 
 
 def files(table):
     as_json = lambda value: json.dumps(value, indent=1) + "\n"
     return {"vscode/ttm.tmLanguage.json": as_json(vscode(table)), "vscode/package.json": as_json(package()),
-            "vim/syntax/ttm.vim": vim(table), "vim/ftdetect/ttm.vim": "autocmd BufRead,BufNewFile *.ttm setfiletype ttm\n", "ttm.bash": bash(table)}
+            "vscode/language-configuration.json": as_json({"comments": {"lineComment": "#"}}), "vim/syntax/ttm.vim": vim(table),
+            "vim/ftdetect/ttm.vim": "autocmd BufRead,BufNewFile *.ttm setfiletype ttm\n",
+            "vim/ftplugin/ttm.vim": "setlocal comments=:# commentstring=#\\ %s\n", "ttm.bash": bash()}
 
 
 def shown(rules, line):
@@ -191,7 +211,7 @@ quit!
         subprocess.run(words, stdin=subprocess.DEVNULL, capture_output=True, timeout=60)
         rows = said.read_text().split("\n")
     letters = ["".join(names.get(name, " ") for name in row.split(" ")[:-1]) for row in rows]
-    return ["".join(letter if byte != " " or letter == "!" else " " for byte, letter in zip(line, row)) for line, row in zip(lines, letters)]
+    return ["".join(letter if byte != " " or letter in "!#" else " " for byte, letter in zip(line, row)) for line, row in zip(lines, letters)]
 
 
 def faults():
@@ -199,7 +219,7 @@ def faults():
     for name, text in files(table).items():
         path = EDITORS / name
         if not path.is_file() or path.read_text() != text:
-            yield f"editors/{name} isn't what editors/words.txt makes: tools/editors.py --write"
+            yield f"editors/{name} isn't what its table makes: tools/editors.py --write"
     rows = [row for row in (EDITORS / "lines.txt").read_text().split("\n") if row and not row.startswith("#")]
     lines, wanted = rows[::2], [row.ljust(len(line)) for line, row in zip(rows[::2], rows[1::2])]
     rules = vscode(table)["patterns"]
@@ -217,7 +237,7 @@ def faults():
     for (path, line), seen in zip(examples, (by_vim or [])[len(lines):]):
         if "!" in seen:
             yield f"vim shows a line of {path.name} as wrong: {line}"
-    print("editors: the files are what the table makes" + ("" if by_vim else "; there is no vim that could be asked"))
+    print("editors: the files are what the tables make" + ("" if by_vim else "; there is no vim that could be asked"))
     sources = "".join(path.read_text() for path in (TOP / "crates").glob("script_*/src/*.rt"))
     firsts = [words[0] for words in [*table.lines, *(words for rows in table.jobs.values() for words in rows)]]
     for first in [*firsts, *table.jobs, "schedule"]:

@@ -1,0 +1,78 @@
+#!/usr/bin/env bash
+# Runs all tests and examples, and proves nothing: the tests of each crate that has some, by the kit's `rt try`; each program that has stored
+# output, on its stored input; the examples; and the viewers' own tests. Says which passed, and of those that failed the end of what they print.
+# The exit status is 1 if one failed. It takes some minutes.
+#
+# usage: tools/test_unproved.sh [NAME ..]     crates, `examples` and `viewers`; all of them where none is named
+set -u
+top=$(cd "$(dirname "$0")/.." && pwd)
+logs=$(mktemp -d)
+
+stop() {
+  trap '' INT TERM
+  kill $(jobs -p) 2>/dev/null
+  wait
+  rm -rf "$logs"
+  exit "$1"
+}
+trap 'stop 130' INT
+trap 'stop 143' TERM
+
+# The crates that have tests, and the programs with stored output.
+crates() {
+  (cd "$top/crates" && { grep -lr --include='*.rt' '^ *#\[test\]' */src; ls -d */stdout; } | sed 's:/.*::' | sort -u)
+}
+
+# Runs one of the tests, and says how it ended.
+try() {
+  local name=$1 begun=$SECONDS
+  if run "$name" >"$logs/$name" 2>&1 </dev/null; then
+    : >"$logs/$name.passed"
+    echo "test: $name passed, $((SECONDS - begun)) s"
+  else
+    echo "test: $name FAILED, $((SECONDS - begun)) s"$'\n'"$(tail -n 20 "$logs/$name" | sed 's/^/  | /')"
+  fi
+}
+
+run() {
+  case $1 in
+    examples) "$top/tools/check_examples.sh" ;;
+    viewers) "$top/tools/view/check.sh" ;;
+    *) try_crate "$1" ;;
+  esac
+}
+
+# (`--steps 1` leaves the interpreter out, which would only run the program a second time)
+try_crate() {
+  local crate=$top/crates/$1 input=/dev/null words=()
+  cd "$crate" || return 1
+  if [ ! -f src/main.rt ]; then
+    rt try --test --seconds 600
+    return
+  fi
+  [ -f stdin ] && input=stdin
+  [ -f args ] && mapfile -t words <args
+  rt try --steps 1 --seconds 600 -- "${words[@]}" <"$input" >"$logs/$1.out" && cmp "$logs/$1.out" stdout
+}
+
+if ! command -v rt >/dev/null; then
+  echo "test: the command rt of the Rattle kit isn't on the PATH" >&2
+  exit 1
+fi
+names=("$@")
+[ $# -gt 0 ] || mapfile -t names < <(crates; echo examples; echo viewers)
+most=$(nproc)
+for name in "${names[@]}"; do
+  while [ "$(jobs -pr | wc -l)" -ge "$most" ]; do
+    wait -n
+  done
+  try "$name" &
+done
+wait
+failed=()
+for name in "${names[@]}"; do
+  [ -e "$logs/$name.passed" ] || failed+=("$name")
+done
+rm -rf "$logs"
+echo "test: ${#names[@]} tried, ${#failed[@]} failed${failed[*]:+: ${failed[*]}}"
+[ "${#failed[@]}" -eq 0 ]
