@@ -8,9 +8,11 @@ top=$(cd "$(dirname "$0")/.." && pwd)
 work=$(mktemp -d)
 trap 'rm -rf "$work"' EXIT
 program=$(realpath "${1:-$("$top/ttm" --program)}") || exit 1
-one="$top/examples/read_crosses_a_page.ttm"  # one thread and no job: one interleaving
+one="$work/one"  # one thread and no job: one interleaving
 whole="$top/examples/read_crosses_a_page.report"
-many="$top/examples/younger_backs_off.ttm"
+many="$work/many"
+python3 "$top/tools/view" plain "$top/examples/read_crosses_a_page.ttm" >"$one" || exit 1
+python3 "$top/tools/view" plain "$top/examples/younger_backs_off.ttm" >"$many" || exit 1
 faults=0
 count=0
 

@@ -28,6 +28,7 @@ import sys
 import tempfile
 
 import compare_devices
+from view import comments
 
 TOP = pathlib.Path(__file__).resolve().parent.parent
 EXAMPLES = ("read_crosses_a_page", "one_page_eviction", "swap_out_and_in")
@@ -40,7 +41,8 @@ Ended = collections.namedtuple("Ended", "status out err")
 def rows():
     """The four scripts with their stored reports."""
     for name in EXAMPLES:
-        yield Row(name, *((TOP / "examples" / (name + kind)).read_bytes() for kind in (".ttm", ".report")))
+        script, report = ((TOP / "examples" / (name + kind)).read_bytes() for kind in (".ttm", ".report"))
+        yield Row(name, comments.plain(script).data, report)
     given, wanted = ((TOP / "crates/test_device" / it).read_bytes() for it in ("stdin", "stdout"))
     script = re.search(rb"^case %s sim\ntext\n(.*?)^end case$" % TESTED.encode(), given, re.M | re.S)[1]
     head = re.search(rb"^case %s, status 0, (\d+) bytes\n" % TESTED.encode(), wanted, re.M)

@@ -30,7 +30,7 @@ try() {
     : >"$logs/$name.passed"
     echo "test: $name passed, $((SECONDS - begun)) s"
   else
-    echo "test: $name FAILED, $((SECONDS - begun)) s"$'\n'"$(tail -n 20 "$logs/$name" | sed 's/^/  | /')"
+    echo "test: $name FAILED, $((SECONDS - begun)) s"$'\n'"$(grep -v ' ok$' "$logs/$name" | tail -n 20 | sed 's/^/  | /')"
   fi
 }
 

@@ -102,58 +102,85 @@ check_proved_builds() {
   tries "proofs" 1
 }
 
+# once FILE TEXT COMMAND ..: does this as soon as a file has a text
+once() {
+  local file=$1 text=$2
+  shift 2
+  for _moment in $(seq 600); do
+    grep -qF -- "$text" "$file" 2>/dev/null && break
+    sleep 0.05
+  done
+  "$@"
+}
+
 # The second waits, and takes what the first one has built.
 check_two_at_once() {
   local first
-  echo slow >"$room/how"
+  echo held >"$room/how"
+  rm -f "$room/said" "$room/go"
   echo "fn main() { f(); }" >"$room/copy/crates/base/src/main.rt"
   PATH=$whole "$room/ttm" sim >"$room/first" 2>&1 </dev/null &
   first=$!
-  sleep 0.5
-  expect "the second of two" 0 "unproved: sim" 2 sim
+  once "$room/said" "this one waits" touch "$room/go" &
+  once "$room/tries" . expect "the second of two" 0 "unproved: sim" 2 sim
   says "the second of two" "this one waits"
   wait "$first" || fault "the first of two: status $?"
   grep -q "unproved: sim" "$room/first" || fault "the first of two doesn't run"
   tries "two at once" 1
 }
 
+edit_and_go() {
+  echo "fn main() { f2(); }" >"$room/copy/crates/base/src/main.rt"
+  touch "$room/go"
+}
+
 check_edited_meanwhile() {
-  local source=$room/copy/crates/base/src/main.rt
-  echo "fn main() { f1(); }" >"$source"
-  (sleep 0.7 && echo "fn main() { f2(); }" >"$source") &
+  rm -f "$room/go"
+  echo "fn main() { f1(); }" >"$room/copy/crates/base/src/main.rt"
+  once "$room/tries" . edit_and_go &
   expect "a source was edited while the program was built" 1 "" 3 sim
   says "a source was edited while the program was built" "sources changed"
   expect "a build after that" 0 "unproved: sim" 3 sim
   tries "edited meanwhile" 2
 }
 
-# interrupt SIGNAL STATUS SECONDS WORD ..: the status of a run whose group of processes gets a signal
+# interrupt SIGNAL STATUS FILE WORD ..: the status of a run whose group of processes gets a signal, once there is this file
 interrupt() {
-  local signal=$1 wanted=$2 seconds=$3 status
+  local signal=$1 wanted=$2 file=$3 status
   shift 3
+  rm -f "$room/waits" "$room/tries"
   PATH=$whole "$room/ttm" "$@" >"$room/first" 2>&1 &
-  sleep "$seconds"
+  for _moment in $(seq 300); do
+    [ -e "$file" ] && break
+    sleep 0.1
+  done
+  [ -e "$file" ] || fault "$signal: no file ${file##*/}"
   kill "-$signal" -- "-$!"
   { wait "$!"; } 2>/dev/null
   status=$?
-  [ "$status" -eq "$wanted" ] || fault "$signal after $seconds s: status $status, and not $wanted"
-  leaves_nothing "$signal after $seconds s"
+  [ "$status" -eq "$wanted" ] || fault "$signal after ${file##*/}: status $status, and not $wanted"
+  [ ! -e "$room/waits" ] || ! kill -0 "$(cat "$room/waits")" 2>/dev/null || fault "$signal: the program goes on"
+  leaves_nothing "$signal after ${file##*/}"
 }
 
+# While a program is built, while one runs, and while its input is awaited.
 check_interrupted() {
+  rm -f "$room/go"
   echo "fn main() { g(); }" >"$room/copy/crates/base/src/main.rt"
-  for seconds in 0.3 0.8; do
-    interrupt INT 130 "$seconds" sim </dev/null
-    interrupt TERM 143 "$seconds" sim </dev/null
-  done
-  rm -f "$room/tries"
+  interrupt INT 130 "$room/tries" sim </dev/null
+  interrupt TERM 143 "$room/tries" sim </dev/null
   echo whole >"$room/how"
+  rm -f "$room/tries"
   expect "a build after one that was interrupted" 0 "unproved: sim" 3 sim
   tries "a build after one that was interrupted" 1
+  echo wait >"$room/text"
+  interrupt INT 130 "$room/waits" sim "$room/text" </dev/null
+  interrupt TERM 143 "$room/waits" sim < <(cat "$room/text")
   mkfifo "$room/pipe"
-  sleep 5 >"$room/pipe" &
-  interrupt INT 130 0.5 sim <"$room/pipe"
-  kill "$!" 2>/dev/null
+  sleep 10 >"$room/pipe" &
+  local writer=$!
+  interrupt INT 130 "$room/how" sim <"$room/pipe"
+  { kill "$writer" && wait "$writer"; } 2>/dev/null
   rm "$room/pipe"
 }
 

@@ -1,8 +1,10 @@
 # A copy of the launcher with a small repository around it, a kit that only pretends, and a viewer that only says what it is asked. Sourced by
 # tools/check_launcher.sh, which sets `top` and `room`.
 #
-# The program that the kit makes writes what made it, its words and its input, and ends with the status that a line `status N` of the input names.
-# What the kit makes of the sources is as $room/how says: whole, slow (whole, after a second), cut (a part of a program, and a fault), or none.
+# The program that the kit makes writes what made it, its words and its input, and ends with the status that a line `status N` of the input names; a
+# line `wait` has it write its number of a process to $room/waits, and wait.
+# What the kit makes of the sources is as $room/how says: whole, held (whole, once there is a file $room/go), cut (a part of a program, and a
+# fault), or none.
 
 pretend_repository() {
   mkdir -p "$room/copy/tools/view" "$room/copy/editors" "$room/bin" "$room/kit/bin" "$room/kit/toolchain/bin" "$room/tools"
@@ -23,8 +25,8 @@ pretend_repository() {
 
 # The folder of all commands that the launcher needs, but rt; and a sha256sum that counts its calls.
 pretend_tools() {
-  for name in bash sh env awk basename cat chmod cmp cp dirname find flock grep head install kill ln make mkdir mktemp mv readlink realpath rm sed setsid sleep sort tail \
-    tr wc xargs; do
+  for name in bash sh env awk basename cat chmod cmp cp dirname find flock grep head install kill ln make mkdir mktemp mv readlink realpath rm sed \
+    seq setsid sleep sort tail touch tr wc xargs; do
     ln -s "$(command -v "$name")" "$room/tools/$name"
   done
   printf '#!/bin/sh\necho . >>"%s/sums"\nexec %s "$@"\n' "$room" "$(command -v sha256sum)" >"$room/tools/sha256sum"
@@ -39,8 +41,10 @@ echo "MADE: $*"
 case $1 in gen | --help) exit 0 ;; esac
 input=$(cat)
 [ -z "$input" ] || echo "$input"
+[ "$input" != wait ] || { echo $$ >"ROOM/waits" && exec sleep 60; }
 exit "$(echo "$input" | awk '/^status / { status = $2 } END { print status + 0 }')"
 PROGRAM
+  sed -i "s:ROOM:$room:" "$room/kit/program"
   cat >"$room/bin/rt" <<'RT'
 #!/usr/bin/env bash
 room=$(cd "$(dirname "$0")/.." && pwd)
@@ -59,7 +63,7 @@ case "$1" in
   try)
     echo . >>"$room/tries"
     [ "$how" = none ] && { echo "error: no such name"; exit 2; }
-    [ "$how" = slow ] && sleep 1
+    until [ "$how" != held ] || [ -e "$room/go" ]; do sleep 0.05; done
     mkdir "$TMPDIR/rt-try"
     head -c 600000 /dev/zero >"$TMPDIR/rt-try/module.bc"
     : >"$TMPDIR/rt-try/module.1.o"

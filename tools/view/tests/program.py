@@ -8,6 +8,8 @@ import unittest
 from pathlib import Path
 from typing import Callable, List, Optional, Tuple, TypeVar
 
+from view.comments import plain
+
 PROGRAM = os.environ.get("TTM_PROGRAM", "")
 EXAMPLES = Path(__file__).resolve().parents[3] / "examples"
 Test = TypeVar("Test", bound=Callable[..., None])
@@ -19,8 +21,8 @@ def needs_program(test: Test) -> Test:
 
 
 def run(words: List[str], data: bytes) -> Tuple[int, bytes]:
-    """Returns the status of the program, and what it writes."""
-    done = subprocess.run([PROGRAM, *words], input=data, stdout=subprocess.PIPE, check=False)
+    """Returns the status of the program for an input without its comments, and what it writes."""
+    done = subprocess.run([PROGRAM, *words], input=plain(data).data, stdout=subprocess.PIPE, check=False)
     return done.returncode, done.stdout
 
 
