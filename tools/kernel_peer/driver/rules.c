@@ -6,6 +6,7 @@ static const char *const rule_names[RULES] = {
 	[RULE_TIE] = "tie", [RULE_SOLE] = "sole", [RULE_UNPIN] = "unpin", [RULE_CONTIG] = "contig",
 	[RULE_SHORT] = "short", [RULE_GHOST] = "ghost", [RULE_RETRY] = "retry", [RULE_SKIP] = "skip",
 	[RULE_FREED] = "freed", [RULE_REAP] = "reap", [RULE_NOTOUCH] = "notouch",
+	[RULE_BLOCK] = "block", [RULE_BUSY] = "busy", [RULE_ORDER] = "order",
 };
 static bool is_ours[RULES];
 
