@@ -11,7 +11,7 @@ from observed import Answer, Observed
 from orders import Order
 from scripts import Script
 
-RULES = ("tie", "sole", "unpin", "contig", "short", "ghost", "retry", "skip", "freed", "reap", "notouch", "block", "busy", "order")
+RULES = ("tie", "sole", "unpin", "contig", "short", "ghost", "retry", "skip", "freed", "reap", "notouch", "block", "busy", "order", "partial")
 
 
 class PeerFault(Exception):

@@ -53,9 +53,10 @@ KERNEL_6_1 = Kernel(
         "ttm_resource_manager_first",
         "ttm_resource_manager_next",
         "ttm_resource_compat",
+        "ttm_tt_populate",
     ),
     replaced=(("ttm_bo", "ttm_mem_evict_first"), ("ttm_bo", "ttm_bo_mem_space")),
-    driver=("placement", "rules_search", "rules_lists", "rules_places"),
+    driver=("placement", "rules_search", "rules_lists", "rules_places", "rules_pages"),
 )
 
 

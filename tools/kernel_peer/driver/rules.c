@@ -7,6 +7,7 @@ static const char *const rule_names[RULES] = {
 	[RULE_SHORT] = "short", [RULE_GHOST] = "ghost", [RULE_RETRY] = "retry", [RULE_SKIP] = "skip",
 	[RULE_FREED] = "freed", [RULE_REAP] = "reap", [RULE_NOTOUCH] = "notouch",
 	[RULE_BLOCK] = "block", [RULE_BUSY] = "busy", [RULE_ORDER] = "order",
+	[RULE_PARTIAL] = "partial",
 };
 static bool is_ours[RULES];
 
