@@ -10,7 +10,7 @@ enum rule {
 
 /* whether the project's rule stands in for the kernel's */
 bool ours(enum rule rule);
-/* a word per rule, joined by commas, or `all` */
+/* a word per rule, joined by commas; or `all`, or `none` */
 void swap_rules(const char *words);
 
 /* the victim of the search at work is about to leave (rules_search.c) */
