@@ -31,27 +31,27 @@ class Report:
 
 
 def simulate(text: str, turns: int | None = None, known: int = 0) -> Report:
-    """The report of a run of at most so many turns, without the entries that are known."""
+    """The report of a run of at most `turns` turns, without its first `known` entries."""
     limit = [] if turns is None else ["--turns", str(turns)]
     ran = subprocess.run([project_program(), "sim", *limit], input=text, capture_output=True, text=True, timeout=120, check=False)
     if ran.returncode not in ((0,) if turns is None else (0, UNFINISHED)):
         raise ProgramFault(f"status {ran.returncode}: {ran.stdout[:200]}{ran.stderr[:200]}")
     lines = ran.stdout.splitlines()
     at = 2 if ran.returncode == UNFINISHED else 1
-    behind = at + 1 + int(lines[at].split()[1])
-    entries = [line.split()[1:] for line in lines[at + 1 + known : behind]]
-    accounts = {line.split()[0]: line.split() for line in lines[behind:] if " size " in line}
+    end = at + 1 + int(lines[at].split()[1])
+    entries = [line.split()[1:] for line in lines[at + 1 + known : end]]
+    accounts = {line.split()[0]: line.split() for line in lines[end:] if " size " in line}
     return Report(entries, accounts)
 
 
 class Known:
-    """What the program's runs so far tell: who made each entry, and who had none at each point."""
+    """What the program's runs so far tell: the actor of each entry, and the actors that had none at each point."""
 
     def __init__(self, script: Script) -> None:
         self.script = script
         self.made: list[list[str]] = []  # entries that are accepted
-        self.ahead: deque[list[str]] = deque()  # entries behind them in the last run
-        self.idle: deque[set[str]] = deque([set()])  # who had no entry, before each of `ahead`
+        self.ahead: deque[list[str]] = deque()  # entries after them in the last run
+        self.idle: deque[set[str]] = deque([set()])  # actors without an entry, before each of `ahead`
         self.accounts: dict[str, list[str]] = {}  # of the last run
         self.runs = 0
 
