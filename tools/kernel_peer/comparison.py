@@ -1,0 +1,79 @@
+"""Compares the two sides on one script in one order, and finds the rules that explain how they differ."""
+
+from __future__ import annotations
+
+from dataclasses import dataclass
+
+from kernel_side import RULES, run_kernel
+from observed import Difference, Observed, first_difference
+from orders import Order
+from plain_memory import wrong_bytes
+from project_side import run_project
+from scripts import Script
+
+
+@dataclass
+class Comparison:
+    project: Observed
+    kernel: Observed
+    difference: Difference | None  # to the kernel as it is
+    rules: tuple[str, ...] | None  # which make the two equal when they are swapped; None where some run with them doesn't agree
+    shown: int  # reads and probes of both sides
+    wrong: list[str]  # those that show other bytes than a plain memory
+
+
+def are_equal(script: Script, order: Order, project: Observed, rules: tuple[str, ...]) -> bool:
+    return first_difference(project, run_kernel(script, order, rules)) is None
+
+
+def agrees_with_all(script: Script, order: Order, project: Observed) -> bool:
+    """Whether the two sides agree, with the number of ghosts after each command, where all rules are swapped."""
+    return first_difference(project, run_kernel(script, order, RULES), with_ghosts=order.lagging) is None
+
+
+def needed_rules(script: Script, order: Order, project: Observed) -> tuple[str, ...]:
+    """Rules that make the two sides equal, none of which can be left out, where all of them do."""
+    for rule in RULES:
+        if are_equal(script, order, project, (rule,)):
+            return (rule,)
+    needed = RULES
+    for rule in RULES:
+        fewer = tuple(other for other in needed if other != rule)
+        if are_equal(script, order, project, fewer):
+            needed = fewer
+    return needed
+
+
+def compare(script: Script, order: Order) -> Comparison:
+    project, kernel = run_project(script, order), run_kernel(script, order)
+    difference = first_difference(project, kernel)
+    rules: tuple[str, ...] | None = () if agrees_with_all(script, order, project) else None
+    if difference and rules is not None:
+        rules = needed_rules(script, order, project)
+    checked = [wrong_bytes(script, seen) for seen in (project, kernel)]
+    return Comparison(project, kernel, difference, rules, sum(n for n, _ in checked), [wrong for _, some in checked for wrong in some])
+
+
+def describe(script: Script, comparison: Comparison) -> str:
+    """Where the two sides part, and what explains it."""
+    difference = comparison.difference
+    if difference is None:
+        return "equal"
+    if not difference.answer:
+        return f"at the end, in {', '.join(difference.parts)}: {explanation(comparison)}"
+    answers = comparison.project.answers[: difference.answer]
+    thread = answers[-1].thread
+    command = script.threads[thread - 1][sum(answer.thread == thread for answer in answers) - 1]
+    lines = [f"answer {difference.answer}, t{thread} {command}: {explanation(comparison)}"]
+    for side, seen in (("project", comparison.project), ("kernel", comparison.kernel)):
+        answer = seen.answers[difference.answer - 1]
+        for part in difference.parts:
+            value = getattr(answer, part)
+            lines.append(f"  {side:8} {part:8} {' '.join(value) if isinstance(value, tuple) else value}")
+    return "\n".join(lines)
+
+
+def explanation(comparison: Comparison) -> str:
+    if comparison.rules is None:
+        return "no rules explain it"
+    return "equal with " + ", ".join(comparison.rules) + " swapped"

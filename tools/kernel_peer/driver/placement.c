@@ -1,0 +1,43 @@
+/* Places as kernel 6.1 has them: two lists, and a validation that doesn't look at pins. */
+#include "peer.h"
+#include "rules.h"
+
+bool driver_moves_pinned;
+const struct place_list whole_memory[3] = {
+	[TTM_PL_SYSTEM] = { 1, { { .mem_type = TTM_PL_SYSTEM } } },
+	[TTM_PL_TT] = { 1, { { .mem_type = TTM_PL_TT } } },
+	[TTM_PL_VRAM] = { 1, { { .mem_type = TTM_PL_VRAM } } },
+};
+
+void set_places(struct ttm_placement *placement, const struct ttm_place *place)
+{
+	placement->num_placement = placement->num_busy_placement = 1;
+	placement->placement = placement->busy_placement = place;
+}
+
+bool is_hop(const struct ttm_placement *placement)
+{
+	return placement->num_placement == 1 && (placement->placement->flags & TTM_PL_FLAG_TEMPORARY);
+}
+
+unsigned long resource_pages(const struct ttm_resource *res) { return res->num_pages; }
+
+const char *validate(struct peer_buffer *buffer, const struct place_list *wanted, const struct place_list *busy)
+{
+	struct ttm_operation_ctx ctx = { 0 };
+	struct ttm_placement placement = {
+		.num_placement = wanted->n, .placement = wanted->places,
+		.num_busy_placement = busy->n, .busy_placement = busy->places,
+	};
+	int ret;
+
+	if (buffer->tbo.pin_count && !driver_moves_pinned && !ttm_resource_compat(buffer->tbo.resource, &placement))
+		return "Pinned";
+	running->wants_pages = false;
+	ret = ttm_bo_validate(&buffer->tbo, &placement, &ctx);
+	if (!ret)
+		return NULL;
+	if (ret != -ENOMEM)
+		tell_note(" error%d", -ret);
+	return running->wants_pages ? "NoPages" : "NoSpace";
+}

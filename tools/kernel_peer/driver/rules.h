@@ -1,0 +1,39 @@
+/* The project's rules that can stand in for the kernel's, one by one. README.md says what each of them is. */
+#ifndef RULES_H
+#define RULES_H
+
+enum rule {
+	RULE_TIE, RULE_SOLE, RULE_UNPIN, RULE_CONTIG, RULE_SHORT, RULE_GHOST, RULE_RETRY, RULE_SKIP, RULE_FREED, RULE_REAP, RULE_NOTOUCH,
+	RULES
+};
+
+/* whether the project's rule stands in for the kernel's */
+bool ours(enum rule rule);
+/* a word per rule, joined by commas, or `all` */
+void swap_rules(const char *words);
+
+/* the victim of the search at work is about to leave (rules_search.c) */
+void note_victim(struct ttm_buffer_object *bo);
+/* the victim at work stayed where it was */
+bool could_not_leave(struct ttm_resource *res);
+/* no frame or slot was free for the command's own buffer */
+void note_no_pages(void);
+
+/* rule ghost, where frames are wanted: lets the others take a turn if a ghost has frames (rules_ghosts.c) */
+bool wait_for_ghost_frames(void);
+/* rule ghost: the search waits for a ghost with a page in the place's reach, if there is one */
+bool wait_for_ghost_in(struct ttm_resource_manager *man, const struct ttm_place *place);
+/* rule freed: the ghosts of a buffer don't keep it alive */
+void let_ghosts_forget(struct ttm_buffer_object *bo);
+
+/* whether the buffer object is one of the script, and not a ghost that TTM made (device.c) */
+bool is_buffer(struct ttm_buffer_object *bo);
+/* gives a slot of a shmem file back (stores.c) */
+void drop_slot(struct address_space *space, unsigned long i);
+
+/* what other kernels have otherwise (placement.c) */
+void set_places(struct ttm_placement *placement, const struct ttm_place *place);
+bool is_hop(const struct ttm_placement *placement);
+unsigned long resource_pages(const struct ttm_resource *res);
+
+#endif

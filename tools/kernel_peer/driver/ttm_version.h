@@ -1,0 +1,12 @@
+/* The headers of TTM, which have other names in later kernels. */
+#ifndef TTM_VERSION_H
+#define TTM_VERSION_H
+
+#include <linux/dma-resv.h>
+#include <drm/drm_mm.h>
+#include <drm/ttm/ttm_bo_driver.h>
+#include <drm/ttm/ttm_execbuf_util.h>
+#include <drm/ttm/ttm_placement.h>
+#include <drm/ttm/ttm_range_manager.h>
+
+#endif

@@ -1,0 +1,67 @@
+"""Runs the peer on a script, and reads what it tells."""
+
+from __future__ import annotations
+
+import os
+import subprocess
+from collections.abc import Iterable
+from pathlib import Path
+
+from observed import Answer, Observed
+from orders import Order
+from scripts import Script
+
+RULES = ("tie", "sole", "unpin", "contig", "short", "ghost", "retry", "skip", "freed", "reap", "notouch")
+
+
+class PeerFault(Exception):
+    """The peer ended in a fault: what it said."""
+
+
+def peer_program() -> Path:
+    return Path(os.environ.get("KERNEL_PEER_OUT", Path(__file__).resolve().parent / "build")) / "kernel_peer"
+
+
+def peer_words(order: Order, rules: Iterable[str]) -> list[str]:
+    words = [str(peer_program())]
+    if order.lagging:
+        words.append("--lagging")
+    if order.threads:
+        words += ["--order", order.threads]
+    if order.drains:
+        words += ["--drains", ",".join(str(k) if n is None else f"{k}:{n}" for k, n in order.drains)]
+    swapped = ",".join(rules)
+    return words + (["--swap", swapped] if swapped else [])
+
+
+def read_answers(lines: list[list[str]]) -> Observed:
+    seen = Observed()
+    for words in lines:
+        kind, rest = words[0], words[2:]
+        if kind == "R":
+            seen.answers.append(Answer(int(rest[0][1:]), " ".join(rest[1:]), (), "", "", 0))
+        elif kind == "V":
+            seen.answers[-1].victims = tuple(rest)
+        elif kind == "P":
+            seen.answers[-1].places = " ".join(rest)
+        elif kind == "D":
+            seen.answers[-1].done = " ".join(rest)
+        elif kind == "G":
+            seen.answers[-1].ghosts = int(rest[0])
+        elif kind == "X":
+            seen.answers[-1].notes = " ".join(rest)
+        elif kind == "J":
+            job = rest[0], int(rest[1])
+            seen.probes[job] = seen.probes.get(job, "") + rest[2]
+        elif kind == "A":
+            seen.accounts = " ".join(rest)
+        elif kind == "W":
+            seen.warnings = int(rest[0])
+    return seen
+
+
+def run_kernel(script: Script, order: Order, rules: Iterable[str] = ()) -> Observed:
+    ran = subprocess.run(peer_words(order, rules), input=script.text(), capture_output=True, text=True, timeout=60, check=False)
+    if ran.returncode:
+        raise PeerFault(ran.stderr[-600:])
+    return read_answers([line.split(" ") for line in ran.stdout.splitlines()])

@@ -1,0 +1,123 @@
+"""In which order threads, engines and the reaper go, on both sides."""
+
+from __future__ import annotations
+
+from collections.abc import Generator
+from dataclasses import dataclass
+from typing import Optional
+
+from scripts import Script, named_buffers
+
+ENDS_COMMAND = ("result", "refused")
+LOCK_STEPS = ("ticket", "reserve", "backoff")
+
+
+@dataclass(frozen=True)
+class Order:
+    """Which thread takes each turn, and whether jobs lag.
+
+    A thread's turn is a step of its lock (a ticket, a reservation, a back-off) or the rest of its command. In a round the reaper and each
+    engine, least number first, take one turn each. Where jobs lag there are rounds only while a thread waits for a job or a ghost, and in
+    drains; else all that can be done is done after each entry of a thread.
+    """
+
+    lagging: bool
+    threads: str = ""  # a digit a turn; behind its end the threads go round
+    drains: tuple[tuple[int, Optional[int]], ...] = ()  # after an answer (from 1) so many rounds, or None until nothing can be done
+
+
+EAGER = Order(lagging=False)
+
+# who takes a turn; told: the words of the entry that it made, or None
+Turns = Generator[str, Optional[list[str]], None]
+
+
+class ThreadState:
+    """How far a thread is, from its entries."""
+
+    def __init__(self, number: int, commands: tuple[str, ...]) -> None:
+        self.actor = f"t{number}"
+        self.commands = commands
+        self.answered = self.held = 0
+
+    @property
+    def is_over(self) -> bool:
+        return self.answered == len(self.commands)
+
+    @property
+    def is_locking(self) -> bool:
+        """Whether the command at work wants another reservation."""
+        command = self.commands[self.answered]
+        return not command.startswith("new ") and self.held < len(named_buffers(command))
+
+    def note(self, entry: list[str]) -> None:
+        if entry[0] == "reserve":
+            self.held += 1
+        elif entry[0] == "backoff":
+            self.held = 0
+        elif entry[0] in ENDS_COMMAND:
+            self.held = 0
+            self.answered += 1
+
+
+class TurnTaker:
+    """The turns of an order, told what each turn made."""
+
+    def __init__(self, script: Script, order: Order) -> None:
+        self.order = order
+        self.threads = [ThreadState(number, commands) for number, commands in enumerate(script.threads, 1)]
+        self.others = ["r"] + [f"e{number}" for number in range(script.engines)]
+        self.drains = dict(order.drains)
+        self.answered = 0
+        self.upcoming: list[str] = []  # who is likely to take the next turns
+
+    def turns(self) -> Turns:
+        wanted = [int(digit) - 1 for digit in self.order.threads]
+        at = 0
+        while not all(thread.is_over for thread in self.threads):
+            if at < len(wanted):
+                number = wanted[at] % len(self.threads)
+            else:
+                number = (at - len(wanted)) % len(self.threads)
+            at += 1
+            thread = self.threads[number]
+            if not thread.is_over:
+                yield from self.turn_of(thread)
+        yield from self.rounds(None)
+
+    def turn_of(self, thread: ThreadState) -> Turns:
+        """One turn: a step of the lock, or the rest of the command."""
+        while True:
+            self.upcoming = self.guess(thread)
+            entry = yield thread.actor
+            if entry is None:
+                if thread.is_locking:
+                    return  # another holds the buffer
+                yield from self.rounds(1)
+                continue
+            thread.note(entry)
+            if not self.order.lagging:
+                yield from self.rounds(None)
+            if entry[0] in ENDS_COMMAND:
+                self.answered += 1
+                if self.answered in self.drains:
+                    yield from self.rounds(self.drains[self.answered])
+            if entry[0] in ENDS_COMMAND + LOCK_STEPS:
+                return
+
+    def rounds(self, most: int | None) -> Turns:
+        """So many rounds, or until nothing can be done."""
+        self.upcoming = self.others * (most or 40) + self.guess(self.threads[0])
+        taken = 0
+        while most is None or taken < most:
+            taken += 1
+            did = False
+            for actor in self.others:
+                if (yield actor) is not None:
+                    did = True
+            if not did:
+                return
+
+    def guess(self, thread: ThreadState) -> list[str]:
+        """The thread goes on, and waits now and then."""
+        return [thread.actor] * 64 + (self.others + [thread.actor] * 24) * 60
