@@ -4,7 +4,7 @@ from __future__ import annotations
 
 from dataclasses import dataclass
 
-from kernel_side import RULES, run_kernel
+from kernel_side import known_rules, run_kernel
 from observed import Difference, Observed, first_difference
 from orders import Order
 from plain_memory import wrong_bytes
@@ -28,16 +28,16 @@ def are_equal(script: Script, order: Order, project: Observed, rules: tuple[str,
 
 def agrees_with_all(script: Script, order: Order, project: Observed) -> bool:
     """Whether the two sides agree, with the number of ghosts after each command, where all rules are swapped."""
-    return first_difference(project, run_kernel(script, order, RULES), with_ghosts=order.lagging) is None
+    return first_difference(project, run_kernel(script, order, known_rules()), with_ghosts=order.lagging) is None
 
 
 def needed_rules(script: Script, order: Order, project: Observed) -> tuple[str, ...]:
     """Rules that make the two sides equal, none of which can be left out, where all of them do."""
-    for rule in RULES:
+    for rule in known_rules():
         if are_equal(script, order, project, (rule,)):
             return (rule,)
-    needed = RULES
-    for rule in RULES:
+    needed = known_rules()
+    for rule in needed:
         fewer = tuple(other for other in needed if other != rule)
         if are_equal(script, order, project, fewer):
             needed = fewer

@@ -4,7 +4,7 @@ from __future__ import annotations
 
 import random
 from collections.abc import Callable
-from dataclasses import dataclass, field
+from dataclasses import dataclass, field, replace
 
 from orders import Order
 from scripts import PAGE, Script
@@ -26,6 +26,7 @@ class Family:
     few_frames: bool = False
     large: bool = False
     simple_lists: bool = False
+    flags: bool = False  # version 2: one list, with flags
 
 
 FAMILIES = {
@@ -39,6 +40,8 @@ FAMILIES = {
     "long": Family(groups=0.5, pins=0.4, ranges=0.5, tight=0.5, top=0.4, align=0.3, large=True),
 }
 
+FAMILIES.update({f"flags-{name}": replace(family, flags=True) for name, family in FAMILIES.items()})
+
 SIMPLE_LISTS = [("vram", "vram"), ("vram", "vram"), ("vram", "vram tt")]
 LISTS = SIMPLE_LISTS + [
     ("vram", "tt"),
@@ -49,6 +52,9 @@ LISTS = SIMPLE_LISTS + [
     ("tt", "vram"),
     ("vram tt", "vram tt"),
 ]
+FLAG_LISTS = ["vram", "vram tt+fallback", "vram+desired tt", "vram+desired tt+fallback", "vram+desired vram+fallback", "tt", "tt+fallback vram"]
+FLAG_LISTS += ["sys", "vram sys+fallback", "vram+desired tt sys+fallback", "tt+desired vram", "vram tt", "tt vram+fallback"]
+FLAGS = ["", "", "+desired", "+fallback"]
 ANY_MEMORY = ["vram"] * 8 + ["tt"] * 5 + ["sys"]
 
 
@@ -96,10 +102,11 @@ def draw_sizes(w: Writer) -> None:
         w.slots = 2000
 
 
-def draw_place(w: Writer, memory: str) -> str:
+def draw_place(w: Writer, wish: str) -> str:
     rng = w.rng
+    memory, *flag = wish.split("+")
     if memory == "sys":
-        return memory
+        return wish
     size = w.vram if memory == "vram" else w.tt
     place = memory
     if "ranges" in w.features and w.chance(0.5):
@@ -110,28 +117,41 @@ def draw_place(w: Writer, memory: str) -> str:
         place += "+top"
     if w.family.long_lists and w.chance(0.15):
         place += "+contig"
-    return place
+    return "+".join([place, *flag])
 
 
-def draw_lists(w: Writer) -> tuple[str, str]:
+def draw_flags(w: Writer) -> str:
+    """Wishes for one list of places, one of which at least isn't desired alone."""
+    if not w.family.long_lists:
+        return w.rng.choice(FLAG_LISTS[:5] if w.family.simple_lists else FLAG_LISTS)
+    wishes = [w.rng.choice(ANY_MEMORY) + w.rng.choice(FLAGS) for _ in range(w.rng.choice([1, 2, 3, 4, 6, 8]))]
+    if all(wish.endswith("+desired") for wish in wishes):
+        wishes[-1] = wishes[-1].removesuffix("+desired")
+    return " ".join(wishes)
+
+
+def draw_lists(w: Writer) -> str:
+    """The end of a buffer's line: its places."""
+    if w.family.flags:
+        return "place " + ",".join(draw_place(w, wish) for wish in draw_flags(w).split())
     if w.family.long_lists:
         wanted = " ".join(w.rng.choice(ANY_MEMORY) for _ in range(w.rng.choice([1, 1, 2, 3, 4])))
         busy = " ".join(w.rng.choice(ANY_MEMORY) for _ in range(w.rng.choice([1, 2, 3, 4])))
     else:
         wanted, busy = w.rng.choice(SIMPLE_LISTS if w.family.simple_lists else LISTS)
     drawn = [",".join(draw_place(w, memory) for memory in text.split()) for text in (wanted, busy)]
-    return drawn[0], drawn[1]
+    return f"want {drawn[0]} busy {drawn[1]}"
 
 
 def head_of(w: Writer) -> tuple[str, ...]:
-    lines = ["ttm 1", f"vram range {w.vram}", f"tt {w.tt}", f"frames {w.frames}", f"swap {w.slots}", "engines 2"]
+    lines = [f"ttm {2 if w.family.flags else 1}", f"vram range {w.vram}", f"tt {w.tt}", f"frames {w.frames}", f"swap {w.slots}", "engines 2"]
     has_priorities = w.chance(0.6)
     for number, pages in enumerate(w.pages):
-        wanted, busy = draw_lists(w)
+        places = draw_lists(w)
         priority = w.rng.randint(0, 3) if has_priorities else 1
         group = str(w.rng.randint(0, 1)) if "groups" in w.features and w.chance(0.7) else "-"
         align = w.rng.choice([1, 2, 3, 4]) if "align" in w.features and w.chance(0.5) else 1
-        lines.append(f"buffer b{number} {pages} prio {priority} group {group} align {align} want {wanted} busy {busy}")
+        lines.append(f"buffer b{number} {pages} prio {priority} group {group} align {align} {places}")
     return tuple(lines)
 
 

@@ -5,14 +5,12 @@ from __future__ import annotations
 import os
 import subprocess
 from collections.abc import Iterable
+from functools import lru_cache
 from pathlib import Path
 
 from observed import Answer, Observed
 from orders import Order
 from scripts import Script
-
-RULES = ("tie", "sole", "unpin", "contig", "short", "ghost", "retry", "skip", "freed", "reap", "notouch")
-
 
 class PeerFault(Exception):
     """The peer ended in a fault: what it said."""
@@ -20,6 +18,12 @@ class PeerFault(Exception):
 
 def peer_program() -> Path:
     return Path(os.environ.get("KERNEL_PEER_OUT", Path(__file__).resolve().parent / "build")) / "kernel_peer"
+
+
+@lru_cache
+def known_rules() -> tuple[str, ...]:
+    """The rules that can be swapped, which depend on the kernel."""
+    return tuple(subprocess.run([str(peer_program()), "--rules"], capture_output=True, text=True, check=True).stdout.split())
 
 
 def peer_words(order: Order, rules: Iterable[str]) -> list[str]:

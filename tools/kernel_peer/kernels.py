@@ -55,7 +55,29 @@ KERNEL_6_1 = Kernel(
         "ttm_resource_compat",
     ),
     replaced=(("ttm_bo", "ttm_mem_evict_first"), ("ttm_bo", "ttm_bo_mem_space")),
-    driver=("placement", "rules_search", "rules_lists", "rules_places"),
+    driver=("placement", "reaper", "rules_search", "rules_lists", "rules_places"),
+)
+
+
+KERNEL_6_12 = Kernel(
+    name="6.12",
+    sources=(
+        *(f"{TTM}/ttm_{name}.c" for name in ("bo", "bo_util", "resource", "tt", "device", "range_manager", "sys_manager")),
+        *(f"{TTM}/ttm_{name}.c" for name in ("execbuf_util", "module")),
+        *(name for name in BELOW_TTM if not name.endswith("drm_buddy.c")),
+    ),
+    headers=tuple(name for name in COMMON_HEADERS if "buddy" not in name),
+    wrapped=(
+        "drm_mm_insert_node_in_range",
+        "ttm_resource_move_to_lru_tail",
+        "ttm_resource_manager_first",
+        "ttm_resource_manager_next",
+        "ttm_resource_compatible",
+        "ttm_lru_walk_for_evict",
+    ),
+    replaced=(),
+    driver=("placement_6_12", "reaper_6_12", "rules_search_6_12", "rules_lists_6_12", "rules_places_6_12"),
+    defines=("PEER_KERNEL_6_12",),
 )
 
 
@@ -66,4 +88,5 @@ def kernel_of(source: Path) -> Kernel:
         raise SystemExit(f"{source} has no include/drm/ttm: unpack a kernel's source there")
     if "busy_placement" in placement.read_text():
         return KERNEL_6_1
+    return KERNEL_6_12
     raise SystemExit(f"{source} is a later kernel than 6.8, whose TTM this peer doesn't know")

@@ -1,11 +1,12 @@
 /*
  * Runs a script from standard input on the kernel's TTM, and tells what came of each command.
  *
+ *   kernel_peer --rules
  *   kernel_peer [--lagging] [--order THREADS] [--drains K,K:N..] [--swap RULE,RULE..] [--moves-pinned] [--verbose] < SCRIPT
  *
  * --lagging: engines and reaper take turns only while a thread waits, and after the commands named by --drains (N rounds after answer K, or
  * until nothing can be done); without it a job runs when it is emitted. --order: which thread takes each turn, a digit each. --swap: the
- * project's rules that stand in for the kernel's. --moves-pinned: the driver doesn't look at pins before a move.
+ * project's rules that stand in for the kernel's; --rules names them. --moves-pinned: the driver doesn't look at pins before a move.
  */
 #include "peer.h"
 #include "rules.h"
@@ -20,6 +21,10 @@ int main(int argc, char **argv)
 			jobs_lag = true;
 		else if (!strcmp(argv[i], "--moves-pinned"))
 			driver_moves_pinned = true;
+		else if (!strcmp(argv[i], "--rules")) {
+			print_rules();
+			return 0;
+		}
 		else if (!strcmp(argv[i], "--verbose"))
 			peer_verbose = true;
 		else if (!strcmp(argv[i], "--order") && i + 1 < argc)

@@ -41,3 +41,16 @@ const char *validate(struct peer_buffer *buffer, const struct place_list *wanted
 		tell_note(" error%d", -ret);
 	return running->wants_pages ? "NoPages" : "NoSpace";
 }
+
+/* TTM swaps out what stands on a list, by a trylock of its own, which a buffer of the command passes */
+int swap_out(struct peer_buffer *buffer)
+{
+	struct ttm_operation_ctx ctx = { .resv = buffer->tbo.base.resv, .allow_res_evict = true };
+	int ret;
+
+	spin_lock(&device.lru_lock);
+	ret = ttm_bo_swapout(&buffer->tbo, &ctx, GFP_KERNEL);
+	if (ret == -EBUSY)
+		spin_unlock(&device.lru_lock);
+	return ret;
+}

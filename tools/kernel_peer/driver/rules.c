@@ -6,6 +6,9 @@ static const char *const rule_names[RULES] = {
 	[RULE_TIE] = "tie", [RULE_SOLE] = "sole", [RULE_UNPIN] = "unpin", [RULE_CONTIG] = "contig",
 	[RULE_SHORT] = "short", [RULE_GHOST] = "ghost", [RULE_RETRY] = "retry", [RULE_SKIP] = "skip",
 	[RULE_FREED] = "freed", [RULE_REAP] = "reap", [RULE_NOTOUCH] = "notouch",
+#ifdef PEER_KERNEL_6_12
+	[RULE_STAY] = "stay",
+#endif
 };
 static bool is_ours[RULES];
 
@@ -26,4 +29,12 @@ void swap_rules(const char *words)
 			give_up("no rule", word);
 	}
 	free(copy);
+}
+
+void print_rules(void)
+{
+	int i;
+
+	for (i = 0; i < RULES; i++)
+		puts(rule_names[i]);
 }

@@ -4,13 +4,20 @@
 
 enum rule {
 	RULE_TIE, RULE_SOLE, RULE_UNPIN, RULE_CONTIG, RULE_SHORT, RULE_GHOST, RULE_RETRY, RULE_SKIP, RULE_FREED, RULE_REAP, RULE_NOTOUCH,
+#ifdef PEER_KERNEL_6_12
+	RULE_STAY,
+#endif
 	RULES
 };
+
+/* a search begins again at its first place */
+enum { SEARCH_AGAIN = 1234 };
 
 /* whether the project's rule stands in for the kernel's */
 bool ours(enum rule rule);
 /* a word per rule, joined by commas, or `all` */
 void swap_rules(const char *words);
+void print_rules(void);
 
 /* the victim of the search at work is about to leave (rules_search.c) */
 void note_victim(struct ttm_buffer_object *bo);
@@ -30,6 +37,11 @@ void let_ghosts_forget(struct ttm_buffer_object *bo);
 bool is_buffer(struct ttm_buffer_object *bo);
 /* gives a slot of a shmem file back (stores.c) */
 void drop_slot(struct address_space *space, unsigned long i);
+
+/* the ghosts from the oldest on: the one after a ghost, or the first after NULL (reaper.c) */
+struct ttm_buffer_object *next_ghost(struct ttm_buffer_object *ghost);
+/* a turn of the reaper; whether it destroyed a ghost */
+bool reaper_turn(void);
 
 /* what other kernels have otherwise (placement.c) */
 void set_places(struct ttm_placement *placement, const struct ttm_place *place);

@@ -2,9 +2,6 @@
 #include "peer.h"
 #include "rules.h"
 
-/* the search begins again at its first place */
-enum { AGAIN = 1234 };
-
 int real_ttm_bo_mem_space(struct ttm_buffer_object *bo, struct ttm_placement *placement, struct ttm_resource **mem,
 			  struct ttm_operation_ctx *ctx);
 int real_ttm_mem_evict_first(struct ttm_device *bdev, struct ttm_resource_manager *man, const struct ttm_place *place,
@@ -42,7 +39,7 @@ int ttm_bo_mem_space(struct ttm_buffer_object *bo, struct ttm_placement *placeme
 	running->search = &search;
 	do
 		ret = real_ttm_bo_mem_space(bo, placement, mem, ctx);
-	while (ret == -AGAIN);
+	while (ret == -SEARCH_AGAIN);
 	running->search = search.outer;
 	return ret;
 }
@@ -88,7 +85,7 @@ int ttm_mem_evict_first(struct ttm_device *bdev, struct ttm_resource_manager *ma
 	if (ret)
 		search->is_forced = true;
 	else if (ours(RULE_RETRY) && search->met_ghost && !search->is_forced && !search->is_hop && !search->outer)
-		return -AGAIN;
+		return -SEARCH_AGAIN;
 	if (ours(RULE_SKIP) && ret && eviction.victim && eviction.victim->resource == eviction.from) {
 		running->skipped[running->skips++] = eviction.victim;
 		ret = 0;
