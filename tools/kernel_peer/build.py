@@ -23,7 +23,7 @@ from kernels import Kernel, kernel_of
 HERE = Path(__file__).resolve().parent
 CC = os.environ.get("CC", "gcc")
 KERNEL_FLAGS = ["-std=gnu11", "-O1", "-g", "-fno-strict-aliasing", "-fno-strict-overflow", "-fno-delete-null-pointer-checks", "-D_GNU_SOURCE"]
-COMMON_DRIVER = ("main", "script", "threads", "turns", "engines", "stores", "device", "commands", "submit", "report", "rules", "rules_ghosts", "rules_holes", "buddy_vram")
+COMMON_DRIVER = ("main", "script", "threads", "turns", "engines", "stores", "device", "commands", "submit", "report", "rules", "rules_ghosts", "rules_holes", "rules_pages")
 INCLUDE = re.compile(r"^\s*#\s*include\s*<([^>]+)>", re.MULTILINE)
 
 

@@ -14,10 +14,11 @@ import sys
 from pathlib import Path
 
 from comparison import compare, describe
-from families import FAMILIES, make_order, make_script
+from families import FAMILIES
 from orders import Order
 from scripts import Script
 from tally import Tally
+from trials import make_order, make_trial
 
 MODES = ("eager", "lagging")
 
@@ -25,18 +26,18 @@ MODES = ("eager", "lagging")
 def compare_random(family: str, first: int, count: int) -> bool:
     tally = Tally(family)
     for number in range(first, first + count):
-        script = make_script(family, number)
+        trial = make_trial(family, number)
         for mode in MODES:
-            tally.add(number, mode, compare(script, make_order(family, number, script, mode == "lagging")))
+            tally.add(number, mode, compare(trial.script, make_order(family, number, trial, mode == "lagging")))
     print(tally.text())
     return tally.is_explained
 
 
 def compare_one(family: str, number: int, mode: str) -> bool:
-    script = make_script(family, number)
-    order = make_order(family, number, script, mode == "lagging")
-    comparison = compare(script, order)
-    print(f"{script.text()}{order}\n{describe(script, comparison)}")
+    trial = make_trial(family, number)
+    order = make_order(family, number, trial, mode == "lagging")
+    comparison = compare(trial.script, order)
+    print(f"{trial.script.text()}{order}\n{describe(trial.script, comparison)}")
     return comparison.rules is not None
 
 

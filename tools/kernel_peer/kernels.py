@@ -53,9 +53,10 @@ KERNEL_6_1 = Kernel(
         "ttm_resource_manager_first",
         "ttm_resource_manager_next",
         "ttm_resource_compat",
+        "ttm_tt_populate",
     ),
     replaced=(("ttm_bo", "ttm_mem_evict_first"), ("ttm_bo", "ttm_bo_mem_space")),
-    driver=("placement", "reaper", "rules_search", "rules_lists", "rules_places"),
+    driver=("placement", "reaper", "rules_search", "rules_lists", "rules_places", "buddy_vram"),
 )
 
 
@@ -74,9 +75,10 @@ KERNEL_6_12 = Kernel(
         "ttm_resource_manager_next",
         "ttm_resource_compatible",
         "ttm_lru_walk_for_evict",
+        "ttm_tt_populate",
     ),
     replaced=(),
-    driver=("placement_6_12", "reaper_6_12", "rules_search_6_12", "rules_lists_6_12", "rules_places_6_12"),
+    driver=("placement_6_12", "reaper_6_12", "rules_search_6_12", "rules_lists_6_12", "rules_places_6_12", "buddy_vram_6_12"),
     defines=("PEER_KERNEL_6_12",),
 )
 
@@ -88,5 +90,6 @@ def kernel_of(source: Path) -> Kernel:
         raise SystemExit(f"{source} has no include/drm/ttm: unpack a kernel's source there")
     if "busy_placement" in placement.read_text():
         return KERNEL_6_1
-    return KERNEL_6_12
-    raise SystemExit(f"{source} is a later kernel than 6.8, whose TTM this peer doesn't know")
+    if (source / TTM / "tests").exists() and "ttm_lru_walk_for_evict" in (source / "include/drm/ttm/ttm_bo.h").read_text():
+        return KERNEL_6_12
+    raise SystemExit(f"{source} is neither like 6.1 nor like 6.12, so this peer doesn't know its TTM")

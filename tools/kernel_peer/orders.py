@@ -39,6 +39,7 @@ class ThreadState:
         self.actor = f"t{number}"
         self.commands = commands
         self.answered = self.held = 0
+        self.has_ticket = False
 
     @property
     def is_over(self) -> bool:
@@ -50,7 +51,18 @@ class ThreadState:
         command = self.commands[self.answered]
         return not command.startswith("new ") and self.held < len(named_buffers(command))
 
+    @property
+    def lock_steps_left(self) -> int:
+        """How many turns are likely to be steps of the command's lock, the one at work among them."""
+        if self.is_over:
+            return 0
+        command = self.commands[self.answered]
+        if command.split()[0] in ("new", "touch"):
+            return 0
+        return len(named_buffers(command)) - self.held + (not self.has_ticket)
+
     def note(self, entry: list[str]) -> None:
+        self.has_ticket = entry[0] in LOCK_STEPS or (self.has_ticket and entry[0] not in ENDS_COMMAND)
         if entry[0] == "reserve":
             self.held += 1
         elif entry[0] == "backoff":
@@ -71,24 +83,25 @@ class TurnTaker:
         self.answered = 0
         self.upcoming: list[str] = []  # who is likely to take the next turns
 
+    def thread_at(self, turn: int) -> ThreadState:
+        """Which thread takes the turn: as the order says, and behind its end one after the other."""
+        threads, count = self.order.threads, len(self.threads)
+        number = int(threads[turn]) - 1 if turn < len(threads) else turn - len(threads)
+        return self.threads[number % count]
+
     def turns(self) -> Turns:
-        wanted = [int(digit) - 1 for digit in self.order.threads]
-        at = 0
+        turn = 0
         while not all(thread.is_over for thread in self.threads):
-            if at < len(wanted):
-                number = wanted[at] % len(self.threads)
-            else:
-                number = (at - len(wanted)) % len(self.threads)
-            at += 1
-            thread = self.threads[number]
+            thread = self.thread_at(turn)
+            turn += 1
             if not thread.is_over:
-                yield from self.turn_of(thread)
+                yield from self.turn_of(thread, turn)
         yield from self.rounds(None)
 
-    def turn_of(self, thread: ThreadState) -> Turns:
+    def turn_of(self, thread: ThreadState, turn: int) -> Turns:
         """One turn: a step of the lock, or the rest of the command."""
         while True:
-            self.upcoming = self.guess(thread)
+            self.upcoming = self.guess(thread, turn)
             entry = yield thread.actor
             if entry is None:
                 if thread.is_locking:
@@ -107,7 +120,8 @@ class TurnTaker:
 
     def rounds(self, most: int | None) -> Turns:
         """So many rounds, or until nothing can be done."""
-        self.upcoming = self.others * (most or 40) + self.guess(self.threads[0])
+        if self.order.lagging:
+            self.upcoming = self.others * (most or 40) + self.upcoming
         taken = 0
         while most is None or taken < most:
             taken += 1
@@ -118,6 +132,25 @@ class TurnTaker:
             if not did:
                 return
 
-    def guess(self, thread: ThreadState) -> list[str]:
+    def guess(self, thread: ThreadState, turn: int) -> list[str]:
+        """Who is likely to follow this turn of the thread: steps of locks as the order has them, up to the rest of a command."""
+        steps: list[str] = []
+        left = {state.actor: state.lock_steps_left for state in self.threads}
+        while left[thread.actor] and turn < len(self.order.threads):
+            steps += self.between
+            left[thread.actor] -= 1
+            thread = self.thread_at(turn)
+            steps.append(thread.actor)
+            turn += 1
+        return steps + self.guess_rest(thread)
+
+    def guess_rest(self, thread: ThreadState) -> list[str]:
         """The thread goes on, and waits now and then."""
-        return [thread.actor] * 64 + (self.others + [thread.actor] * 24) * 60
+        if self.order.lagging:
+            return [thread.actor] * 64 + (self.others + [thread.actor] * 24) * 40
+        return (self.between + [thread.actor]) * 50
+
+    @property
+    def between(self) -> list[str]:
+        """Who goes between two entries of threads."""
+        return [] if self.order.lagging else self.others * 9

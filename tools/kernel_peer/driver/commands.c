@@ -124,8 +124,10 @@ static const char *do_swapout(struct peer_buffer *buffer, char **words)
 	if (buffer->tbo.pin_count)
 		return "Pinned";
 	refusal = validate(buffer, &whole_memory[TTM_PL_SYSTEM], &whole_memory[TTM_PL_SYSTEM]);
-	if (refusal || !buffer->tbo.ttm || !ttm_tt_is_populated(buffer->tbo.ttm))
+	if (refusal || !has_frames(buffer->tbo.ttm))
 		return refusal;
+	if (ours(RULE_PARTIAL))
+		return swap_pages_out(&buffer->tbo) ? NULL : "NoSwap";
 	running->is_emptying = true;
 	ret = swap_out(buffer);
 	running->is_emptying = false;

@@ -75,7 +75,8 @@ static struct ttm_tt *tt_create(struct ttm_buffer_object *bo, uint32_t page_flag
 
 static void tt_destroy(struct ttm_device *bdev, struct ttm_tt *tt)
 {
-	(void)bdev;
+	if (has_frames(tt)) /* (only by rule partial) */
+		ttm_pool_free(&bdev->pool, tt);
 	ttm_tt_fini(tt);
 	kfree(tt);
 }

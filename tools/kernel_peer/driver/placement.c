@@ -22,6 +22,15 @@ bool is_hop(const struct ttm_placement *placement)
 
 unsigned long resource_pages(const struct ttm_resource *res) { return res->num_pages; }
 
+int move_to_system(struct ttm_buffer_object *bo)
+{
+	struct ttm_operation_ctx ctx = { 0 };
+	struct ttm_placement placement;
+
+	set_places(&placement, whole_memory[TTM_PL_SYSTEM].places);
+	return ttm_bo_validate(bo, &placement, &ctx);
+}
+
 const char *validate(struct peer_buffer *buffer, const struct place_list *wanted, const struct place_list *busy)
 {
 	struct ttm_operation_ctx ctx = { 0 };

@@ -22,6 +22,15 @@ bool is_hop(const struct ttm_placement *placement)
 
 unsigned long resource_pages(const struct ttm_resource *res) { return PFN_UP(res->size); }
 
+int move_to_system(struct ttm_buffer_object *bo)
+{
+	struct ttm_operation_ctx ctx = { 0 };
+	struct ttm_placement placement;
+
+	set_places(&placement, whole_memory[TTM_PL_SYSTEM].places);
+	return ttm_bo_validate(bo, &placement, &ctx);
+}
+
 /* the two lists of a script of version 1 as one: the first is desired, the second a fallback */
 static unsigned int join_lists(struct ttm_place *joined, const struct place_list *wanted, const struct place_list *busy)
 {

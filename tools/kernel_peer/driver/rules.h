@@ -4,9 +4,7 @@
 
 enum rule {
 	RULE_TIE, RULE_SOLE, RULE_UNPIN, RULE_CONTIG, RULE_SHORT, RULE_GHOST, RULE_RETRY, RULE_SKIP, RULE_FREED, RULE_REAP, RULE_NOTOUCH,
-#ifdef PEER_KERNEL_6_12
-	RULE_STAY,
-#endif
+	RULE_BLOCK, RULE_BUSY, RULE_ORDER, RULE_PARTIAL, RULE_STAY,
 	RULES
 };
 
@@ -32,6 +30,12 @@ bool wait_for_ghost_frames(void);
 bool wait_for_ghost_in(struct ttm_resource_manager *man, const struct ttm_place *place);
 /* rule freed: the ghosts of a buffer don't keep it alive */
 void let_ghosts_forget(struct ttm_buffer_object *bo);
+
+/* rule partial (rules_pages.c): whether the pages have frames, and what a reserved buffer in SYSTEM gives to swap: whether all of it */
+bool has_frames(const struct ttm_tt *tt);
+bool swap_pages_out(struct ttm_buffer_object *bo);
+/* moves a reserved buffer from TT to SYSTEM, when it is idle; 0 or an error (placement.c) */
+int move_to_system(struct ttm_buffer_object *bo);
 
 /* whether the buffer object is one of the script, and not a ghost that TTM made (device.c) */
 bool is_buffer(struct ttm_buffer_object *bo);

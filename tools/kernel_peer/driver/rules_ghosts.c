@@ -28,7 +28,7 @@ bool wait_for_ghost_frames(void)
 	if (!ours(RULE_GHOST))
 		return false;
 	for (bo = next_ghost(NULL); bo; bo = next_ghost(bo))
-		if (bo->ttm && ttm_tt_is_populated(bo->ttm)) {
+		if (has_frames(bo->ttm)) {
 			wait_a_round();
 			return true;
 		}

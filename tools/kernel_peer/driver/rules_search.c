@@ -1,4 +1,4 @@
-/* Rules short, skip and retry, which stand in the search for pages: before and after what the kernel's search does of a place. */
+/* Rules short, busy, skip and retry, which stand in the search for pages: before and after what the kernel's search does of a place. */
 #include "peer.h"
 #include "rules.h"
 
@@ -61,7 +61,8 @@ static int evict_one(struct ttm_resource_manager *man, const struct ttm_place *p
 	search->met_ghost = false;
 	eviction->outer = running->eviction;
 	running->eviction = eviction;
-	ret = real_ttm_mem_evict_first(&device, man, place, ctx, ticket);
+	/* (without a ticket a held victim isn't waited for) */
+	ret = real_ttm_mem_evict_first(&device, man, place, ctx, ours(RULE_BUSY) ? NULL : ticket);
 	running->eviction = eviction->outer;
 	if (ours(RULE_GHOST) && ret == -EBUSY && wait_for_ghost_in(man, place)) {
 		search->met_ghost = true;

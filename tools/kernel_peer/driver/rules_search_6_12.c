@@ -1,5 +1,5 @@
 /*
- * Rules short, ghost, skip and retry of kernel 6.12, which stand around its walk over the lists: what is done before and after it, and with
+ * Rules short, ghost, skip, retry and busy of kernel 6.12, which stand around its walk over the lists: what is done before and after it, and with
  * each buffer that it comes upon.
  */
 #include "peer.h"
@@ -79,6 +79,8 @@ static s64 walk_once(struct evict_walk *evict_walk, struct ttm_resource_manager 
 	struct walk_at_work here = { .ops = evict_walk->walk.ops, .outer = at_work };
 	s64 progress;
 
+	if (ours(RULE_BUSY)) /* without a ticket a held victim isn't waited for */
+		evict_walk->walk.ticket = NULL;
 	at_work = &here;
 	evict_walk->walk.ops = &victim_ops;
 	progress = __real_ttm_lru_walk_for_evict(&evict_walk->walk, &device, man, target);

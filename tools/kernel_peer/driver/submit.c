@@ -77,6 +77,42 @@ static bool read_submission(struct submission *s, char **words, int n)
 	return true;
 }
 
+/* which buffer is reserved next: the one that was held by another, if there was one, and else by their order; -1 at the end */
+static int next_missing(struct submission *s, const bool *held, int first)
+{
+	int i;
+
+	if (first >= 0 && !held[first])
+		return first;
+	for (i = 0; i < s->n; i++)
+		if (!held[i])
+			return i;
+	return -1;
+}
+
+/* rule order: after a back-off the other buffers are reserved, fenced and touched in their order, and not as the list has them then */
+static void reserve_in_order(struct submission *s)
+{
+	bool held[MAX_NAMED] = { false };
+	int at, i, first = -1;
+
+	ww_acquire_init(&s->ticket, &reservation_ww_class);
+	while ((at = next_missing(s, held, first)) >= 0) {
+		held[at] = !dma_resv_lock(s->buffers[at]->tbo.base.resv, &s->ticket);
+		if (held[at])
+			continue;
+		for (i = 0; i < s->n; i++) {
+			if (held[i])
+				dma_resv_unlock(s->buffers[i]->tbo.base.resv);
+			held[i] = false;
+		}
+		first = at;
+	}
+	for (i = 0; i < s->n; i++)
+		if (dma_resv_reserve_fences(s->buffers[i]->tbo.base.resv, 1))
+			peer_fault("no fences");
+}
+
 static void reserve(struct submission *s)
 {
 	int i;
@@ -87,7 +123,9 @@ static void reserve(struct submission *s)
 		s->entries[i].num_shared = s->is_written[i] ? 0 : 1;
 		list_add_tail(&s->entries[i].head, &s->list);
 	}
-	if (ttm_eu_reserve_buffers(&s->ticket, &s->list, false, NULL))
+	if (ours(RULE_ORDER))
+		reserve_in_order(s);
+	else if (ttm_eu_reserve_buffers(&s->ticket, &s->list, false, NULL))
 		peer_fault("no reservations");
 }
 

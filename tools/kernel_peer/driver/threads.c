@@ -7,7 +7,7 @@
 
 #include "peer.h"
 
-enum { STACK_SIZE = 1 << 18, MAX_COMMANDS = 4096 * MAX_THREADS };
+enum { STACK_SIZE = 1 << 20, MAX_COMMANDS = 4096 * MAX_THREADS };
 
 struct course {
 	struct thread thread;
