@@ -33,15 +33,18 @@ def agrees_with_all(script: Script, order: Order, project: Observed) -> bool:
 
 def needed_rules(script: Script, order: Order, project: Observed) -> tuple[str, ...]:
     """Rules that make the two sides equal, none of which can be left out, where all of them do."""
-    for rule in known_rules():
-        if are_equal(script, order, project, (rule,)):
-            return (rule,)
-    needed = known_rules()
-    for rule in needed:
-        fewer = tuple(other for other in needed if other != rule)
-        if are_equal(script, order, project, fewer):
-            needed = fewer
-    return needed
+
+    def needed_of(some: list[str], kept: list[str]) -> list[str]:
+        """Which of `some` are needed beside `kept`."""
+        if are_equal(script, order, project, tuple(kept)):
+            return []
+        if len(some) == 1:
+            return some
+        half = len(some) // 2
+        first = needed_of(some[:half], kept + some[half:])
+        return first + needed_of(some[half:], kept + first)
+
+    return tuple(needed_of(list(known_rules()), []))
 
 
 def compare(script: Script, order: Order) -> Comparison:

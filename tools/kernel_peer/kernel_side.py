@@ -26,6 +26,11 @@ def known_rules() -> tuple[str, ...]:
     return tuple(subprocess.run([str(peer_program()), "--rules"], capture_output=True, text=True, check=True).stdout.split())
 
 
+def has_flags() -> bool:
+    """Whether the kernel's places have flags, so that scripts of version 2 can be run."""
+    return "stay" in known_rules()
+
+
 def peer_words(order: Order, rules: Iterable[str]) -> list[str]:
     words = [str(peer_program())]
     if order.lagging:

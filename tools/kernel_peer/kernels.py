@@ -20,8 +20,8 @@ class Kernel:
     wrapped: tuple[str, ...]
     # functions called within the file: the peer's stands in for it, and it can be called as real_NAME
     replaced: tuple[tuple[str, str], ...]
-    # the driver's files that are this version's own
-    driver: tuple[str, ...]
+    # the folder of the driver's files that are this version's own
+    driver: str
     defines: tuple[str, ...] = ()
 
 
@@ -56,7 +56,7 @@ KERNEL_6_1 = Kernel(
         "ttm_tt_populate",
     ),
     replaced=(("ttm_bo", "ttm_mem_evict_first"), ("ttm_bo", "ttm_bo_mem_space")),
-    driver=("placement", "reaper", "rules_search", "rules_lists", "rules_places", "buddy_vram"),
+    driver="linux_6_1",
 )
 
 
@@ -78,7 +78,7 @@ KERNEL_6_12 = Kernel(
         "ttm_tt_populate",
     ),
     replaced=(),
-    driver=("placement_6_12", "reaper_6_12", "rules_search_6_12", "rules_lists_6_12", "rules_places_6_12", "buddy_vram_6_12"),
+    driver="linux_6_12",
     defines=("PEER_KERNEL_6_12",),
 )
 

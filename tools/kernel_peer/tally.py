@@ -8,9 +8,8 @@ from dataclasses import dataclass, field
 
 from comparison import Comparison
 
-# rules that the papers of the project call its own from the beginning
-MARKED = {"tie", "sole", "contig"}
-COLUMNS = ("scripts", "equal as it is", "equal with the marked", "equal with all", "commands", "before", "victims", "refused")
+# what the project has called its own rules from the beginning; the others were found by this comparison
+MARKED = {"tie", "sole", "contig", "block"}
 
 
 @dataclass

@@ -82,7 +82,7 @@ def draw_two(d: Drawing) -> Trial:
     threads = [common + draw_first(d, own[0]), draw_first(d, own[1])]
     for _ in range(draw_length(d)):
         thread = d.rng.randrange(2)
-        d.usable = own[thread] + own[2] * 2
+        d.usable = own[thread] + own[2] * 4
         threads[thread].append(draw_command(d))
     for thread in range(2):
         threads[thread] += [f"read b{x} 0 16" for x in own[thread] if x in d.alive]
@@ -115,7 +115,7 @@ def draw_drains(rng: random.Random, commands: int) -> tuple[tuple[int, int | Non
     """After which answers engines and reaper get on: some rounds, or until they come to rest."""
     if rng.random() < 0.4:
         return ()
-    often = rng.choice([0.05, 0.15, 0.4])
+    often = rng.choice([0.03, 0.08, 0.2])
     answers = [number for number in range(1, commands + 1) if rng.random() < often]
     if rng.random() < 0.5:
         return tuple((number, rng.choice([1, 2, 3, 5, 9])) for number in answers)

@@ -15,4 +15,14 @@
 #include <drm/ttm/ttm_placement.h>
 #include <drm/ttm/ttm_range_manager.h>
 
+/* the resource's link in a list of its manager's */
+static inline struct list_head *lru_link(struct ttm_resource *res)
+{
+#ifdef PEER_KERNEL_6_12
+	return &res->lru.link;
+#else
+	return &res->lru;
+#endif
+}
+
 #endif

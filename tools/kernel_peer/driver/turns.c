@@ -3,6 +3,19 @@
 #include "rules.h"
 
 bool jobs_lag;
+static bool is_reaping;
+static int reaped;
+
+void note_deletion(struct ttm_buffer_object *bo)
+{
+	if (is_reaping)
+		reaped++;
+	else if (running && bo->deleted) {
+		if (running->search)
+			running->search->met_ghost = true;
+		tell_note(" ghost");
+	}
+}
 
 int ghosts_of_device(void)
 {
@@ -12,6 +25,17 @@ int ghosts_of_device(void)
 	for (ghost = next_ghost(NULL); ghost; ghost = next_ghost(ghost))
 		n++;
 	return n;
+}
+
+/* whether a ghost was destroyed */
+static bool reaper_turn(void)
+{
+	int before = reaped;
+
+	is_reaping = true;
+	run_reaper();
+	is_reaping = false;
+	return reaped != before;
 }
 
 bool take_round(void)

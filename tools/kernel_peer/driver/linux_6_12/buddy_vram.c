@@ -1,5 +1,5 @@
 /* VRAM by blocks isn't there for kernel 6.12. */
-#include "peer.h"
+#include "../peer.h"
 
 int buddy_vram_init(struct ttm_device *bdev, unsigned long pages)
 {

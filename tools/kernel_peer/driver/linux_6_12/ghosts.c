@@ -1,17 +1,6 @@
 /* The reaper of kernel 6.12: a work item for each ghost, in the order in which they were queued. */
-#include "peer.h"
-#include "rules.h"
-
-static bool is_reaping;
-
-void note_deletion(struct ttm_buffer_object *bo)
-{
-	if (is_reaping || !running || !bo->deleted)
-		return;
-	if (running->search)
-		running->search->met_ghost = true;
-	tell_note(" ghost");
-}
+#include "../peer.h"
+#include "../rules.h"
 
 struct ttm_buffer_object *next_ghost(struct ttm_buffer_object *ghost)
 {
@@ -45,20 +34,15 @@ static bool is_due(struct ttm_buffer_object *ghost)
 	return dma_resv_test_signaled(ghost->base.resv, DMA_RESV_USAGE_BOOKKEEP) && !dma_resv_is_locked(ghost->base.resv);
 }
 
-bool reaper_turn(void)
+void run_reaper(void)
 {
 	struct ttm_buffer_object *ghost, *next;
-	bool did = false;
 
-	is_reaping = true;
 	for (ghost = next_ghost(NULL); ghost; ghost = next) {
 		next = ours(RULE_REAP) ? NULL : next_ghost(ghost);
 		if (!is_due(ghost))
 			continue;
 		list_del(&ghost->delayed_delete.entry);
 		ghost->delayed_delete.func(&ghost->delayed_delete);
-		did = true;
 	}
-	is_reaping = false;
-	return did;
 }

@@ -1,6 +1,6 @@
 /* Rule contig of kernel 6.1: whether a resource suits a place. */
-#include "peer.h"
-#include "rules.h"
+#include "../peer.h"
+#include "../rules.h"
 
 bool __real_ttm_resource_compat(struct ttm_resource *res, struct ttm_placement *placement);
 bool __wrap_ttm_resource_compat(struct ttm_resource *res, struct ttm_placement *placement);

@@ -1,13 +1,8 @@
 /* Places as kernel 6.12 has them: one list with flags, and a validation that looks at pins. */
-#include "peer.h"
-#include "rules.h"
+#include "../peer.h"
+#include "../rules.h"
 
 bool driver_moves_pinned; /* (this TTM doesn't) */
-const struct place_list whole_memory[3] = {
-	[TTM_PL_SYSTEM] = { 1, { { .mem_type = TTM_PL_SYSTEM } } },
-	[TTM_PL_TT] = { 1, { { .mem_type = TTM_PL_TT } } },
-	[TTM_PL_VRAM] = { 1, { { .mem_type = TTM_PL_VRAM } } },
-};
 
 void set_places(struct ttm_placement *placement, const struct ttm_place *place)
 {
@@ -15,21 +10,7 @@ void set_places(struct ttm_placement *placement, const struct ttm_place *place)
 	placement->placement = place;
 }
 
-bool is_hop(const struct ttm_placement *placement)
-{
-	return placement->num_placement == 1 && (placement->placement->flags & TTM_PL_FLAG_TEMPORARY);
-}
-
 unsigned long resource_pages(const struct ttm_resource *res) { return PFN_UP(res->size); }
-
-int move_to_system(struct ttm_buffer_object *bo)
-{
-	struct ttm_operation_ctx ctx = { 0 };
-	struct ttm_placement placement;
-
-	set_places(&placement, whole_memory[TTM_PL_SYSTEM].places);
-	return ttm_bo_validate(bo, &placement, &ctx);
-}
 
 /* the two lists of a script of version 1 as one: the first is desired, the second a fallback */
 static unsigned int join_lists(struct ttm_place *joined, const struct place_list *wanted, const struct place_list *busy)

@@ -1,6 +1,6 @@
 /* Rules short, busy, skip and retry, which stand in the search for pages: before and after what the kernel's search does of a place. */
-#include "peer.h"
-#include "rules.h"
+#include "../peer.h"
+#include "../rules.h"
 
 int real_ttm_bo_mem_space(struct ttm_buffer_object *bo, struct ttm_placement *placement, struct ttm_resource **mem,
 			  struct ttm_operation_ctx *ctx);
@@ -22,12 +22,6 @@ bool could_not_leave(struct ttm_resource *res)
 	return eviction && eviction->victim == res->bo && eviction->from == res;
 }
 
-void note_no_pages(void)
-{
-	if (!running->eviction)
-		running->wants_pages = true;
-}
-
 int ttm_bo_mem_space(struct ttm_buffer_object *bo, struct ttm_placement *placement, struct ttm_resource **mem,
 		     struct ttm_operation_ctx *ctx)
 {
@@ -42,13 +36,6 @@ int ttm_bo_mem_space(struct ttm_buffer_object *bo, struct ttm_placement *placeme
 	while (ret == -SEARCH_AGAIN);
 	running->search = search.outer;
 	return ret;
-}
-
-static bool is_short(struct ttm_resource_manager *man, const struct ttm_place *place)
-{
-	u64 end = place->lpfn && place->lpfn < man->size ? place->lpfn : man->size;
-
-	return end < place->fpfn || end - place->fpfn < PFN_UP(running->search->bo->base.size);
 }
 
 /* what the kernel's search does for one place, and which victim it took */
@@ -79,9 +66,9 @@ int ttm_mem_evict_first(struct ttm_device *bdev, struct ttm_resource_manager *ma
 	int ret = -EBUSY;
 
 	(void)bdev;
-	if (is_short(man, place))
+	if (is_short(man, place, running->search->bo))
 		tell_note(" short");
-	if (!is_short(man, place) || !ours(RULE_SHORT))
+	if (!is_short(man, place, running->search->bo) || !ours(RULE_SHORT))
 		ret = evict_one(man, place, ctx, ticket, &eviction);
 	if (ret)
 		search->is_forced = true;

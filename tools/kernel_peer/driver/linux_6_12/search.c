@@ -2,8 +2,8 @@
  * Rules short, ghost, skip, retry and busy of kernel 6.12, which stand around its walk over the lists: what is done before and after it, and with
  * each buffer that it comes upon.
  */
-#include "peer.h"
-#include "rules.h"
+#include "../peer.h"
+#include "../rules.h"
 
 s64 __real_ttm_lru_walk_for_evict(struct ttm_lru_walk *walk, struct ttm_device *bdev, struct ttm_resource_manager *man, s64 target);
 s64 __wrap_ttm_lru_walk_for_evict(struct ttm_lru_walk *walk, struct ttm_device *bdev, struct ttm_resource_manager *man, s64 target);
@@ -36,19 +36,6 @@ bool could_not_leave(struct ttm_resource *res)
 {
 	(void)res;
 	return false;
-}
-
-void note_no_pages(void)
-{
-	if (!running->eviction)
-		running->wants_pages = true;
-}
-
-static bool is_short(struct ttm_resource_manager *man, const struct evict_walk *walk)
-{
-	u64 end = walk->place->lpfn && walk->place->lpfn < man->size ? walk->place->lpfn : man->size;
-
-	return end < walk->place->fpfn || end - walk->place->fpfn < PFN_UP(walk->evictor->base.size);
 }
 
 /* what TTM does of a buffer, and whether that buffer stays where it is */
@@ -110,7 +97,7 @@ static s64 search_place(struct evict_walk *evict_walk, struct ttm_resource_manag
 {
 	s64 progress;
 
-	if (is_short(man, evict_walk)) {
+	if (is_short(man, evict_walk->place, evict_walk->evictor)) {
 		tell_note(" short");
 		if (ours(RULE_SHORT)) {
 			running->search->is_forced = true;

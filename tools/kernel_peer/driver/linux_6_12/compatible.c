@@ -1,6 +1,6 @@
 /* Rules contig and stay of kernel 6.12: whether a resource suits a list of places. */
-#include "peer.h"
-#include "rules.h"
+#include "../peer.h"
+#include "../rules.h"
 
 bool __real_ttm_resource_compatible(struct ttm_resource *res, struct ttm_placement *placement, bool evicting);
 bool __wrap_ttm_resource_compatible(struct ttm_resource *res, struct ttm_placement *placement, bool evicting);

@@ -1,20 +1,6 @@
 /* The reaper of kernel 6.1: one delayed work for the list of all ghosts. */
-#include "peer.h"
-#include "rules.h"
-
-static bool is_reaping;
-static int reaped;
-
-void note_deletion(struct ttm_buffer_object *bo)
-{
-	if (is_reaping)
-		reaped++;
-	else if (running && bo->deleted) {
-		if (running->search)
-			running->search->met_ghost = true;
-		tell_note(" ghost");
-	}
-}
+#include "../peer.h"
+#include "../rules.h"
 
 struct ttm_buffer_object *next_ghost(struct ttm_buffer_object *ghost)
 {
@@ -33,22 +19,18 @@ static void keep_oldest_ghost(struct list_head *others)
 	list_add(oldest, &device.ddestroy);
 }
 
-bool reaper_turn(void)
+void run_reaper(void)
 {
-	int before = reaped;
 	struct list_head others;
 
 	if (!device.wq.pending)
-		return false;
+		return;
 	INIT_LIST_HEAD(&others);
 	if (ours(RULE_REAP) && !list_empty(&device.ddestroy))
 		keep_oldest_ghost(&others);
 	device.wq.pending = false;
-	is_reaping = true;
 	device.wq.work.func(&device.wq.work);
-	is_reaping = false;
 	list_splice_tail(&others, &device.ddestroy);
 	if (!list_empty(&device.ddestroy))
 		device.wq.pending = true;
-	return reaped != before;
 }
