@@ -1,11 +1,12 @@
 #!/usr/bin/env bash
-# Runs each examples/NAME.ttm through the program and compares its output with examples/NAME.report; and one of them by other
-# words. It proves nothing: the program is built unproved by `rt try`, once, and runs for each example. It takes a minute or two. An
-# example without a report, or a report without an example, fails too. Each fault is a line that names the example; the exit status is 1
-# if there is one.
+# Runs each examples/NAME.ttm and each examples/kernel/NAME.ttm through the program and compares its output with the NAME.report
+# beside it; and one of them by other words. It proves nothing: the program is built unproved by `rt try`, once, and runs for each
+# example. It takes a minute or two. An example without a report, or a report without an example, fails too. Each fault is a line that
+# names the example; the exit status is 1 if there is one.
 #
 # usage: tools/check_examples.sh [FOLDER]     FOLDER in place of examples/
 set -u
+shopt -s nullglob
 top=$(cd "$(dirname "$0")/.." && pwd)
 examples=$(cd "${1:-$top/examples}" && pwd) || exit 1
 cases=$(mktemp -d)
@@ -13,21 +14,21 @@ trap 'rm -rf "$cases" "$cases.log"' EXIT
 
 faults=0
 count=0
-for report in "$examples"/*.report; do
+for report in "$examples"/*.report "$examples"/kernel/*.report; do
   if [ ! -f "${report%.report}.ttm" ]; then
     echo "examples: $(basename "$report"): no script of that name"
     faults=1
   fi
 done
-for script in "$examples"/*.ttm; do
+for script in "$examples"/*.ttm "$examples"/kernel/*.ttm; do
   name=$(basename "$script" .ttm)
-  if [ ! -f "$examples/$name.report" ]; then
-    echo "examples: $name.ttm: no report of that name"
+  if [ ! -f "${script%.ttm}.report" ] || [ -e "$cases/$name" ]; then
+    echo "examples: $name.ttm: no report of that name, or a second script of it"
     faults=1
     continue
   fi
   cp "$script" "$cases/$name"
-  cp "$examples/$name.report" "$cases/$name.stdout"
+  cp "${script%.ttm}.report" "$cases/$name.stdout"
   echo sim >"$cases/$name.args"
   count=$((count + 1))
 done

@@ -23,7 +23,6 @@ from kernels import Kernel, kernel_of
 HERE = Path(__file__).resolve().parent
 CC = os.environ.get("CC", "gcc")
 KERNEL_FLAGS = ["-std=gnu11", "-O1", "-g", "-fno-strict-aliasing", "-fno-strict-overflow", "-fno-delete-null-pointer-checks", "-D_GNU_SOURCE"]
-COMMON_DRIVER = ("main", "script", "threads", "turns", "engines", "stores", "device", "commands", "submit", "report", "rules", "rules_ghosts", "buddy_vram")
 INCLUDE = re.compile(r"^\s*#\s*include\s*<([^>]+)>", re.MULTILINE)
 
 
@@ -73,10 +72,10 @@ def compile_kernel(source: Path, kernel: Kernel, name: str, flags: list[str], ou
     return made
 
 
-def compile_driver(name: str, flags: list[str], out: Path) -> Path:
-    made = out / f"peer_{name}.o"
+def compile_driver(file: Path, flags: list[str], out: Path) -> Path:
+    made = out / f"peer_{file.stem}.o"
     flags = ["-isystem" if flag == "-I" else flag for flag in flags]  # warnings of the peer's own lines alone
-    run(CC, *flags, "-Wall", "-Wextra", "-Wno-sign-compare", "-c", HERE / "driver" / f"{name}.c", "-o", made)
+    run(CC, *flags, "-Wall", "-Wextra", "-Wno-sign-compare", "-c", file, "-o", made)
     return made
 
 
@@ -89,7 +88,8 @@ def build(source: Path, out: Path, sanitize: bool) -> Path:
     flags = [*KERNEL_FLAGS, *extra, *defines, "-I", out / "include", "-include", HERE / "shims/peer_kernel.h"]
     with ThreadPoolExecutor(2) as pool:
         made = [pool.submit(compile_kernel, source, kernel, name, flags, out / "objects") for name in kernel.sources]
-        made += [pool.submit(compile_driver, name, flags, out / "objects") for name in (*COMMON_DRIVER, *kernel.driver)]
+        files = sorted((HERE / "driver").glob("*.c")) + sorted((HERE / "driver" / kernel.driver).glob("*.c"))
+        made += [pool.submit(compile_driver, file, flags, out / "objects") for file in files]
         objects = [one.result() for one in made]
     program = out / "kernel_peer"
     run(CC, *extra, *(f"-Wl,--wrap={name}" for name in kernel.wrapped), *objects, "-o", program)

@@ -16,7 +16,7 @@ from dataclasses import dataclass
 from pathlib import Path
 from typing import Any
 
-from kernel_side import RULES, run_kernel
+from kernel_side import known_rules, run_kernel
 from observed import Difference, Observed, first_difference
 from orders import Order
 from project_side import observe, run_in_order, run_project
@@ -77,11 +77,11 @@ def faults_of(case: Case) -> list[str]:
     """What isn't as the case says."""
     script, order = case.script, case.order
     project = run_project(script, order)
-    others = tuple(rule for rule in RULES if rule != case.rule)
+    others = tuple(rule for rule in known_rules() if rule != case.rule)
     faults = [] if answers_of(case) == case.answers else [f"other answers than stored: {answers_of(case)}"]
     if first_difference(project, run_kernel(script, order, (case.rule,)), order.lagging):
         faults.append(f"differs though {case.rule} is swapped")
-    if first_difference(project, run_kernel(script, order, RULES), order.lagging):
+    if first_difference(project, run_kernel(script, order, known_rules()), order.lagging):
         faults.append("differs though all rules are swapped")
     if not first_difference(project, run_kernel(script, order, others)):
         faults.append(f"agrees with all rules but {case.rule} swapped")
@@ -92,7 +92,7 @@ def check_cases(cases: list[Case]) -> bool:
     faults = {case.name: faults_of(case) for case in cases}
     for name, some in faults.items():
         print(f"{name}: {'; '.join(some) if some else 'right'}")
-    missing = set(RULES) - {case.rule for case in load_cases()}
+    missing = set(known_rules()) - {case.rule for case in load_cases()}
     if missing:
         print(f"no case for {', '.join(sorted(missing))}")
     return not missing and not any(faults.values())

@@ -4,7 +4,7 @@ from __future__ import annotations
 
 from dataclasses import dataclass
 
-from kernel_side import RULES, run_each, run_kernel
+from kernel_side import known_rules, run_each, run_kernel
 from observed import Difference, Observed, first_difference
 from orders import Order
 from plain_memory import wrong_bytes
@@ -23,12 +23,13 @@ class Comparison:
 
 
 # the rules that are needed most often
-LIKELY = (("ghost",), ("tie",), ("short",), ("block",), ("busy",), ("skip",), ("partial",), ("notouch",))
+LIKELY = ("ghost", "tie", "short", "block", "stay", "busy", "skip", "partial", "notouch")
 
 
 def needed_rules(script: Script, order: Order, project: Observed) -> tuple[str, ...]:
     """Rules that make the two sides equal, none of which can be left out, where none of them doesn't and all of them do."""
-    for rules, kernel in zip(LIKELY, run_each(script, order, LIKELY)):
+    likely = [(rule,) for rule in LIKELY if rule in known_rules()]
+    for rules, kernel in zip(likely, run_each(script, order, likely)):
         if first_difference(project, kernel) is None:
             return rules
 
@@ -44,12 +45,12 @@ def needed_rules(script: Script, order: Order, project: Observed) -> tuple[str, 
         needed = [] if are_equal(kept + second) else needed_of(first, kept + second)
         return needed + ([] if are_equal(kept + needed) else needed_of(second, kept + needed))
 
-    return tuple(needed_of(list(RULES), []))
+    return tuple(needed_of(list(known_rules()), []))
 
 
 def compare(script: Script, order: Order) -> Comparison:
     project = run_project(script, order)
-    kernel, swapped = run_each(script, order, ((), RULES))
+    kernel, swapped = run_each(script, order, ((), known_rules()))
     difference = first_difference(project, kernel)
     rules: tuple[str, ...] | None = ()
     if first_difference(project, swapped, with_ghosts=order.lagging):

@@ -19,6 +19,9 @@ LISTS = SIMPLE_LISTS + [
     ("tt", "vram"),
     ("vram tt", "vram tt"),
 ]
+FLAG_LISTS = ["vram", "vram tt+fallback", "vram+desired tt", "vram+desired tt+fallback", "vram+desired vram+fallback", "tt", "tt+fallback vram"]
+FLAG_LISTS += ["sys", "vram sys+fallback", "vram+desired tt sys+fallback", "tt+desired vram", "vram tt", "tt vram+fallback"]
+FLAGS = ["", "", "+desired", "+fallback"]
 ANY_MEMORY = ["vram"] * 8 + ["tt"] * 5 + ["sys"]
 FEATURES = ("groups", "pins", "ranges", "tight", "top", "align")
 
@@ -87,27 +90,45 @@ def draw_place(d: Drawing, memory: str) -> str:
     return place
 
 
-def draw_lists(d: Drawing) -> list[str]:
-    """The places that are wanted, and those under pressure."""
+def draw_flagged(d: Drawing) -> str:
+    """A list of places with flags, one of which at least isn't desired alone."""
+    if d.family.long_lists:
+        wishes = [d.rng.choice(ANY_MEMORY) + d.rng.choice(FLAGS) for _ in range(d.rng.choice([1, 2, 3, 4, 6, 8]))]
+    else:
+        wishes = d.rng.choice(FLAG_LISTS[:5] if d.family.simple_lists else FLAG_LISTS).split()
+    if all(wish.endswith("+desired") for wish in wishes):
+        wishes[-1] = wishes[-1].replace("+desired", "")
+    drawn = []
+    for wish in wishes:
+        memory, plus, flag = wish.partition("+")
+        drawn.append(draw_place(d, memory) + plus + flag)
+    return ",".join(drawn)
+
+
+def draw_lists(d: Drawing) -> str:
+    """The end of a buffer's line: in version 1 the places that are wanted and those under pressure, in version 2 its one list."""
+    if d.family.flags:
+        return f"place {draw_flagged(d)}"
     if d.family.long_lists:
         lengths = d.rng.choice([1, 1, 2, 3, 4]), d.rng.choice([1, 2, 3, 4])
         lists = [[d.rng.choice(ANY_MEMORY) for _ in range(length)] for length in lengths]
     else:
         lists = [text.split() for text in d.rng.choice(SIMPLE_LISTS if d.family.simple_lists else LISTS)]
-    return [",".join(draw_place(d, memory) for memory in memories) for memories in lists]
+    wanted, busy = (",".join(draw_place(d, memory) for memory in memories) for memories in lists)
+    return f"want {wanted} busy {busy}"
 
 
 def draw_head(d: Drawing) -> tuple[str, ...]:
     manager = "buddy" if d.family.buddy else "range"
-    lines = ["ttm 1", f"vram {manager} {d.vram}", f"tt {d.tt}", f"frames {d.frames}", f"swap {d.slots}", "engines 2"]
+    lines = [f"ttm {2 if d.family.flags else 1}", f"vram {manager} {d.vram}", f"tt {d.tt}", f"frames {d.frames}", f"swap {d.slots}", "engines 2"]
     has_priorities = d.chance(0.6)
     alignments = [1, 2, 4] if d.family.buddy else [1, 2, 3, 4]
     for number, pages in enumerate(d.pages):
-        wanted, busy = draw_lists(d)
+        places = draw_lists(d)
         priority = d.rng.randint(0, 3) if has_priorities else 1
         group = str(d.rng.randint(0, 1)) if "groups" in d.features and d.chance(0.7) else "-"
         align = d.rng.choice(alignments) if "align" in d.features and d.chance(0.5) else 1
-        lines.append(f"buffer b{number} {pages} prio {priority} group {group} align {align} want {wanted} busy {busy}")
+        lines.append(f"buffer b{number} {pages} prio {priority} group {group} align {align} {places}")
     return tuple(lines)
 
 

@@ -2,7 +2,7 @@
 
 from __future__ import annotations
 
-from dataclasses import dataclass
+from dataclasses import dataclass, replace
 
 
 @dataclass(frozen=True)
@@ -23,6 +23,7 @@ class Family:
     few_frames: bool = False  # with slots to swap to
     large: bool = False  # more and larger buffers, and more commands
     buddy: bool = False  # VRAM by blocks
+    flags: bool = False  # version 2: one list, with flags
     holders: bool = False  # threads that hold one buffer after another
     rival: bool = False  # a second thread, with buffers of its own and common ones
 
@@ -41,3 +42,4 @@ FAMILIES = {
     "buddy": Family(groups=0.3, pins=0.3, ranges=0.5, tight=0.4, top=0.5, align=0.3, contig=0.3, too_long=0.1, buddy=True),
     "two": Family(groups=0.3, pins=0.3, ranges=0.3, tight=0.6, rival=True),
 }
+FAMILIES.update({f"flags-{name}": replace(family, flags=True) for name, family in FAMILIES.items() if not family.buddy})

@@ -20,7 +20,7 @@ from collections import Counter
 from concurrent.futures import ThreadPoolExecutor
 from pathlib import Path
 
-from kernel_side import RULES
+from kernel_side import has_flags, known_rules
 
 HERE = Path(__file__).resolve().parent
 SCRIPTS = {
@@ -37,9 +37,15 @@ SCRIPTS = {
     "buddy": 900,
     "two": 600,
 }
+FLAG_SCRIPTS = 100  # of each family but those of blocks, where the kernel has lists with flags
 MODES = ("eager", "lagging")
 COLUMNS = ("scripts", "equal as it is", "equal with the marked", "equal with all", "commands", "before", "victims", "refused")
 HUNDRED = 100
+
+
+def scripts_of_kernel() -> dict[str, int]:
+    """How many scripts of which families: of version 2 where the kernel has lists with flags."""
+    return {f"flags-{family}": FLAG_SCRIPTS for family in SCRIPTS if family != "buddy"} if has_flags() else SCRIPTS
 
 
 def compare_some(family: str, first: int, count: int, room: Path) -> None:
@@ -57,7 +63,7 @@ def compare_some(family: str, first: int, count: int, room: Path) -> None:
 def run_all(room: Path, first: int, share: int, jobs: int) -> None:
     room.mkdir(parents=True, exist_ok=True)
     chunks = []
-    for family, scripts in SCRIPTS.items():
+    for family, scripts in scripts_of_kernel().items():
         count = max(1, scripts * share // 100)
         chunks += [(at, family, min(HUNDRED, count - at)) for at in range(0, count, HUNDRED)]
     with ThreadPoolExecutor(jobs) as pool:
@@ -87,7 +93,7 @@ def row(name: str, mode: str, counts: Counter[str]) -> str:
 def print_tables(room: Path) -> bool:
     sums, others = read_counts(room)
     print("| family | engines | " + " | ".join(COLUMNS) + " |\n|---|---|" + "---:|" * len(COLUMNS))
-    for family in SCRIPTS:
+    for family in scripts_of_kernel():
         for mode in MODES:
             if (family, mode) in sums:
                 print(row(family, mode, sums[family, mode]))
@@ -95,7 +101,7 @@ def print_tables(room: Path) -> bool:
     for mode in MODES:
         print(row("sum", mode, totals[mode]))
     print("\n| rule | " + " | ".join(MODES) + " |\n|---|---:|---:|")
-    for rule in RULES:
+    for rule in known_rules():
         print(f"| `{rule}` | " + " | ".join(f"{totals[mode]['needs ' + rule]:,}" for mode in MODES) + " |")
     print(f"\n{sum(counts['shown'] for counts in sums.values()):,} reads and probes of both sides; {len(others)} lines of runs that aren't explained")
     print("\n".join(others))

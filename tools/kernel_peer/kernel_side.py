@@ -4,14 +4,13 @@ from __future__ import annotations
 
 import os
 from collections.abc import Iterable, Iterator, Sequence
+from functools import lru_cache
 from pathlib import Path
 
 from observed import Answer, Observed
 from orders import Order
 from processes import run_program
 from scripts import Script
-
-RULES = ("tie", "sole", "unpin", "contig", "short", "ghost", "retry", "skip", "freed", "reap", "notouch", "block", "busy", "order", "partial")
 
 
 class PeerFault(Exception):
@@ -20,6 +19,17 @@ class PeerFault(Exception):
 
 def peer_program() -> Path:
     return Path(os.environ.get("KERNEL_PEER_OUT", Path(__file__).resolve().parent / "build")) / "kernel_peer"
+
+
+@lru_cache(maxsize=None)
+def known_rules() -> tuple[str, ...]:
+    """The rules that can be swapped, which depend on the kernel."""
+    return tuple(run_program([str(peer_program()), "--rules"], "").output.split())
+
+
+def has_flags() -> bool:
+    """Whether the kernel's places have flags, so that scripts of version 2 can be run."""
+    return "stay" in known_rules()
 
 
 def peer_words(order: Order, runs: Iterable[Sequence[str]]) -> list[str]:

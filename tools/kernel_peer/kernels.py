@@ -20,8 +20,8 @@ class Kernel:
     wrapped: tuple[str, ...]
     # functions called within the file: the peer's stands in for it, and it can be called as real_NAME
     replaced: tuple[tuple[str, str], ...]
-    # the driver's files that are this version's own
-    driver: tuple[str, ...]
+    # the folder of the driver's files that are this version's own
+    driver: str
     defines: tuple[str, ...] = ()
 
 
@@ -56,7 +56,30 @@ KERNEL_6_1 = Kernel(
         "ttm_tt_populate",
     ),
     replaced=(("ttm_bo", "ttm_mem_evict_first"), ("ttm_bo", "ttm_bo_mem_space")),
-    driver=("placement", "rules_search", "rules_lists", "rules_places", "rules_pages"),
+    driver="linux_6_1",
+)
+
+
+KERNEL_6_12 = Kernel(
+    name="6.12",
+    sources=(
+        *(f"{TTM}/ttm_{name}.c" for name in ("bo", "bo_util", "resource", "tt", "device", "range_manager", "sys_manager")),
+        *(f"{TTM}/ttm_{name}.c" for name in ("execbuf_util", "module")),
+        *(name for name in BELOW_TTM if not name.endswith("drm_buddy.c")),
+    ),
+    headers=tuple(name for name in COMMON_HEADERS if "buddy" not in name),
+    wrapped=(
+        "drm_mm_insert_node_in_range",
+        "ttm_resource_move_to_lru_tail",
+        "ttm_resource_manager_first",
+        "ttm_resource_manager_next",
+        "ttm_resource_compatible",
+        "ttm_lru_walk_for_evict",
+        "ttm_tt_populate",
+    ),
+    replaced=(),
+    driver="linux_6_12",
+    defines=("PEER_KERNEL_6_12",),
 )
 
 
@@ -67,4 +90,6 @@ def kernel_of(source: Path) -> Kernel:
         raise SystemExit(f"{source} has no include/drm/ttm: unpack a kernel's source there")
     if "busy_placement" in placement.read_text():
         return KERNEL_6_1
-    raise SystemExit(f"{source} is a later kernel than 6.8, whose TTM this peer doesn't know")
+    if (source / TTM / "tests").exists() and "ttm_lru_walk_for_evict" in (source / "include/drm/ttm/ttm_bo.h").read_text():
+        return KERNEL_6_12
+    raise SystemExit(f"{source} is neither like 6.1 nor like 6.12, so this peer doesn't know its TTM")

@@ -12,7 +12,7 @@ import sys
 from collections.abc import Callable, Iterator
 
 from families import FAMILIES
-from kernel_side import RULES, PeerFault, run_each
+from kernel_side import PeerFault, known_rules, run_each
 from observed import first_difference
 from orders import Order
 from project_side import ProgramFault, run_project
@@ -106,7 +106,7 @@ def smallest(rule: str, family: str, numbers: range, lagging: bool) -> Script | 
 
 
 def main(words: list[str]) -> int:
-    if len(words) != 5 or words[0] not in RULES or words[1] not in FAMILIES or words[4] not in ("eager", "lagging"):
+    if len(words) != 5 or words[0] not in known_rules() or words[1] not in FAMILIES or words[4] not in ("eager", "lagging"):
         print(__doc__, file=sys.stderr)
         return 2
     first = int(words[2])

@@ -5,7 +5,7 @@ from __future__ import annotations
 
 import unittest
 
-from kernel_side import RULES, peer_words, read_answers
+from kernel_side import peer_words, read_answers
 from observed import Answer, Difference, Observed, first_difference
 from orders import Order
 from plain_memory import wrong_bytes
@@ -84,7 +84,6 @@ class Sides(unittest.TestCase):
     def test_the_words_of_the_peer(self) -> None:
         words = peer_words(Order(True, "12", ((3, None), (5, 2))), ((), ("tie", "skip")))
         self.assertEqual(words[1:], "--lagging --order 12 --drains 3,5:2 --swap none --swap tie,skip".split())
-        self.assertEqual(len(set(RULES)), len(RULES))
 
     def test_bytes_are_those_of_a_plain_memory(self) -> None:
         answers = [answer("ok"), answer("ok"), answer("read 22"), answer("ok")]

@@ -1,4 +1,4 @@
--- The twelve lists of buffers in eviction order, with the groups that move in bulk (ttm_lru_item, ttm_lru_bulk_move).
+-- The twelve lists of buffers in eviction order, with the groups that move in bulk (ttm_resource_manager's lru, ttm_lru_bulk_move).
 use Rattle.std.specs.Prelude.{◌≡◌, ℕ, ◌+◌, ◌*◌, ◌<◌, Bool, true, false, List, [], ◌∷◌, ◌++◌, Option, Some, None, ◌==◌, not, filter, map, unwrap_or, insert, length, replicate, slice_get, slice_set, slice_index_or, option_and_then, if◌then◌else◌}
 use Rattle.ttm_base.specs.declared.Mem.{Mem}
 use Rattle.ttm_base.specs.declared.BufId.{BufId}

@@ -1,6 +1,6 @@
-//! The twelve lists of buffers in eviction order, by memory type and priority, with bulk moves of groups (ttm_lru_item,
-//! ttm_lru_bulk_move). The nodes stand in a slab and are linked by their buffers' numbers. Each list is a ring through its
-//! end, and for each group and list the first and the last member are kept, so that a bulk move splices one range.
+//! The twelve lists of buffers in eviction order, by memory type and priority, with bulk moves of groups (the lists lru of
+//! ttm_resource_manager, ttm_lru_bulk_move). The nodes stand in a slab and are linked by their buffers' numbers. Each list is a ring
+//! through its end, and for each group and list the first and the last member are kept, so that a bulk move splices one range.
 #![tactic(auto)]
 
 ghost use Rattle.std.specs.Prelude.{◌≡◌, ◌+◌, ◌*◌, ◌<◌, ◌≤◌, ◌↔◌, ℕ, Some, None, IsSome, IsTrue, IfOk, OnOk, OnErr, length, slice_get};

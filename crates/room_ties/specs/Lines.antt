@@ -1,4 +1,4 @@
--- How far the jobs of each context are (dma_fence_context).
+-- How far the jobs of each context are (the contexts and sequence numbers of dma_fence).
 use Rattle.std.specs.Prelude.{◌≡◌, ℕ, ◌<◌, List, length}
 use Rattle.fence_core.specs.declared.timeline.Progress.{Progress}
 use Rattle.fence_core.specs.Timelines.{progress_of}

@@ -75,7 +75,7 @@ pub fn depopulate(state: &mut State, b: BufId)
     buffers::depopulate(&mut state.core.buffers, b);
 }
 
-/// A buffer goes from SYSTEM to TT (ttm_tt_bind).
+/// A buffer goes from SYSTEM to TT (ttm_bo_move_null).
 #[tactic(auto, using(crate::proofs::Rows::after_bind_is))]
 pub fn bind(alloc: Global, script: &Script, state: &mut State, b: BufId) -> Result<(), NoMemory>
     ensures ok { OnOk result (state.new ≡ after_bind script.now state.old b) }
@@ -95,7 +95,7 @@ pub fn bind(alloc: Global, script: &Script, state: &mut State, b: BufId) -> Resu
     Ok(())
 }
 
-/// A buffer goes from TT to SYSTEM (ttm_tt_unbind).
+/// A buffer goes from TT to SYSTEM (ttm_bo_wait_ctx, then a driver's unbind).
 #[tactic(auto, using(crate::proofs::Rows::after_unbind_is))]
 pub fn unbind(alloc: Global, script: &Script, state: &mut State, b: BufId) -> Result<(), NoMemory>
     ensures ok { OnOk result (state.new ≡ after_unbind script.now state.old b) }

@@ -1,5 +1,5 @@
 //! The parts of a plain state that entries change: buffers, the grips on them, the courses of threads, and the lists of buffers
-//! in eviction order, by memory type and priority (ttm_lru_item, ttm_lru_bulk_move).
+//! in eviction order, by memory type and priority (ttm_resource_manager's lru, ttm_lru_bulk_move).
 pub mod actors;
 pub mod buffers;
 pub mod grips;

@@ -115,10 +115,8 @@ static const char *do_read(struct peer_buffer *buffer, char **words)
 	return NULL;
 }
 
-/* TTM swaps out what stands on a list; the buffer's reservation is taken again by its own trylock */
 static const char *do_swapout(struct peer_buffer *buffer, char **words)
 {
-	struct ttm_operation_ctx ctx = { 0 };
 	const char *refusal;
 	int ret;
 
@@ -130,13 +128,8 @@ static const char *do_swapout(struct peer_buffer *buffer, char **words)
 		return refusal;
 	if (ours(RULE_PARTIAL))
 		return swap_pages_out(&buffer->tbo) ? NULL : "NoSwap";
-	ctx.resv = buffer->tbo.base.resv;
-	ctx.allow_res_evict = true;
 	running->is_emptying = true;
-	spin_lock(&device.lru_lock);
-	ret = ttm_bo_swapout(&buffer->tbo, &ctx, GFP_KERNEL);
-	if (ret == -EBUSY)
-		spin_unlock(&device.lru_lock);
+	ret = swap_out(buffer);
 	running->is_emptying = false;
 	return ret < 0 ? "NoSwap" : NULL;
 }

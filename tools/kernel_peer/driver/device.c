@@ -119,6 +119,10 @@ static int move(struct ttm_buffer_object *bo, bool evict, struct ttm_operation_c
 {
 	int ret;
 
+	if (!bo->resource) { /* it is new (6.12) */
+		ttm_bo_move_null(bo, to);
+		return 0;
+	}
 	if (needs_hop(bo->resource, to)) {
 		*hop = (struct ttm_place){ .mem_type = TTM_PL_TT, .flags = TTM_PL_FLAG_TEMPORARY };
 		return -EMULTIHOP;

@@ -1,12 +1,13 @@
 /*
  * Runs a script from standard input on the kernel's TTM, and tells what came of each command.
  *
+ *   kernel_peer --rules
  *   kernel_peer [--lagging] [--order THREADS] [--drains K,K:N..] [--swap RULE,RULE..].. [--moves-pinned] [--verbose] < SCRIPT
  *
  * --lagging: engines and reaper take turns only while a thread waits, and after the commands named by --drains (N rounds after answer K, or
  * until nothing can be done); without it a job runs when it is emitted. --order: which thread takes each turn, a digit each. --swap: the
- * project's rules that stand in for the kernel's; `none` for none. Of several --swap each makes a run of its own, and a line `S` with its rules
- * stands before what it tells. --moves-pinned: the driver doesn't look at pins before a move.
+ * project's rules that stand in for the kernel's, and `none` for none; --rules names them. Of several --swap each makes a run of its own, and a
+ * line `S` with its rules stands before what it tells. --moves-pinned: the driver doesn't look at pins before a move.
  */
 #include <sys/wait.h>
 #include <unistd.h>
@@ -20,6 +21,7 @@ struct words {
 	const char *order, *drains;
 	const char *rules[MAX_RUNS]; /* of each run */
 	int runs;
+	bool only_names_rules;
 };
 
 static void read_words(struct words *words, int argc, char **argv)
@@ -31,6 +33,8 @@ static void read_words(struct words *words, int argc, char **argv)
 			jobs_lag = true;
 		else if (!strcmp(argv[i], "--moves-pinned"))
 			driver_moves_pinned = true;
+		else if (!strcmp(argv[i], "--rules"))
+			words->only_names_rules = true;
 		else if (!strcmp(argv[i], "--verbose"))
 			peer_verbose = true;
 		else if (!strcmp(argv[i], "--order") && i + 1 < argc)
@@ -75,6 +79,10 @@ int main(int argc, char **argv)
 	int i;
 
 	read_words(&words, argc, argv);
+	if (words.only_names_rules) {
+		print_rules();
+		return 0;
+	}
 	read_script(stdin);
 	if (words.runs < 2) {
 		run(&words, words.runs ? words.rules[0] : "none");

@@ -4,9 +4,16 @@
 
 #include "ttm_version.h"
 
-enum { MAX_BUFFERS = 256, MAX_PLACES = 4, MAX_THREADS = 16, MAX_GROUPS = 16, MAX_ENGINES = 9, MAX_WORDS = 1024, MAX_SPANS = 4096 };
+enum { MAX_BUFFERS = 256, MAX_PLACES = 8, MAX_THREADS = 16, MAX_GROUPS = 16, MAX_ENGINES = 9, MAX_WORDS = 1024, MAX_SPANS = 4096 };
 
 /* ---- the script (script.c) ---- */
+
+/* which scripts can be run: those whose places the kernel has */
+#ifdef TTM_PL_FLAG_DESIRED
+enum { LAST_VERSION = 2 };
+#else
+enum { LAST_VERSION = 1 };
+#endif
 
 struct place_list {
 	int n;
@@ -16,7 +23,7 @@ struct declaration {
 	char name[16];
 	int pages, priority, alignment;
 	int group; /* -1 for none */
-	struct place_list wanted, busy;
+	struct place_list wanted, busy; /* of a script of version 2 `wanted` alone, with flags */
 	struct peer_buffer *live; /* NULL while the buffer is dead */
 };
 struct command_list {
@@ -24,6 +31,7 @@ struct command_list {
 	int n;
 };
 struct script {
+	int version;
 	bool buddy; /* VRAM is managed by blocks */
 	int vram_pages, tt_pages, frames, slots;
 	int engines; /* 1 to MAX_ENGINES: the move engine and those of the script */
@@ -56,6 +64,8 @@ const char *memory_name(int mem_type);
 u8 *page_bytes(struct ttm_buffer_object *bo, struct ttm_resource *res, unsigned long page);
 /* brings a reserved buffer to one of the places; NULL or the refusal (placement.c) */
 const char *validate(struct peer_buffer *buffer, const struct place_list *wanted, const struct place_list *busy);
+/* gives a reserved buffer's frames in SYSTEM to slots; an error if it can't (placement.c) */
+int swap_out(struct peer_buffer *buffer);
 extern const struct place_list whole_memory[3];
 extern bool driver_moves_pinned;
 

@@ -12,7 +12,7 @@ bool wait_for_ghost_in(struct ttm_resource_manager *man, const struct ttm_place 
 {
 	struct ttm_buffer_object *bo;
 
-	list_for_each_entry(bo, &device.ddestroy, ddestroy)
+	for (bo = next_ghost(NULL); bo; bo = next_ghost(bo))
 		if (bo->resource && ttm_manager_type(&device, bo->resource->mem_type) == man &&
 		    ttm_resource_intersects(&device, bo->resource, place, bo->base.size)) {
 			wait_a_round();
@@ -27,7 +27,7 @@ bool wait_for_ghost_frames(void)
 
 	if (!ours(RULE_GHOST))
 		return false;
-	list_for_each_entry(bo, &device.ddestroy, ddestroy)
+	for (bo = next_ghost(NULL); bo; bo = next_ghost(bo))
 		if (has_frames(bo->ttm)) {
 			wait_a_round();
 			return true;
@@ -46,7 +46,7 @@ void let_ghosts_forget(struct ttm_buffer_object *bo)
 	static struct ttm_buffer_object nobody = { .kref = { 1 << 30 } };
 	struct ttm_buffer_object *ghost;
 
-	list_for_each_entry(ghost, &device.ddestroy, ddestroy) {
+	for (ghost = next_ghost(NULL); ghost; ghost = next_ghost(ghost)) {
 		struct transfer *transfer = container_of(ghost, struct transfer, base);
 
 		if (is_buffer(ghost) || transfer->bo != bo)

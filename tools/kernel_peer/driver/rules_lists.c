@@ -1,15 +1,9 @@
-/* Rules sole and unpin, and what ghost and skip ask of the lists: calls between the kernel's files, which the linker leads here. */
+/* Rules sole and unpin, and which buffers a walk over the lists passes over for rules ghost and skip. */
 #include "peer.h"
 #include "rules.h"
 
 void __real_ttm_resource_move_to_lru_tail(struct ttm_resource *res);
 void __wrap_ttm_resource_move_to_lru_tail(struct ttm_resource *res);
-struct ttm_resource *__real_ttm_resource_manager_first(struct ttm_resource_manager *man, struct ttm_resource_cursor *cursor);
-struct ttm_resource *__wrap_ttm_resource_manager_first(struct ttm_resource_manager *man, struct ttm_resource_cursor *cursor);
-struct ttm_resource *__real_ttm_resource_manager_next(struct ttm_resource_manager *man, struct ttm_resource_cursor *cursor,
-						      struct ttm_resource *res);
-struct ttm_resource *__wrap_ttm_resource_manager_next(struct ttm_resource_manager *man, struct ttm_resource_cursor *cursor,
-						      struct ttm_resource *res);
 
 static bool is_sole_member(struct ttm_resource *res)
 {
@@ -33,12 +27,12 @@ void __wrap_ttm_resource_move_to_lru_tail(struct ttm_resource *res)
 			return;
 	}
 	if (ours(unpinned ? RULE_UNPIN : RULE_SOLE) && is_sole_member(res))
-		list_move_tail(&res->lru, &ttm_manager_type(bo->bdev, res->mem_type)->lru[bo->priority]);
+		list_move_tail(lru_link(res), &ttm_manager_type(bo->bdev, res->mem_type)->lru[bo->priority]);
 	else
 		__real_ttm_resource_move_to_lru_tail(res);
 }
 
-static bool is_passed_over(struct ttm_resource *res)
+bool is_passed_over(struct ttm_resource *res)
 {
 	int i;
 
@@ -48,23 +42,4 @@ static bool is_passed_over(struct ttm_resource *res)
 		if (running->skipped[i] == res->bo)
 			return true;
 	return false;
-}
-
-static struct ttm_resource *first_not_passed_over(struct ttm_resource_manager *man, struct ttm_resource_cursor *cursor,
-						  struct ttm_resource *res)
-{
-	while (res && is_passed_over(res))
-		res = __real_ttm_resource_manager_next(man, cursor, res);
-	return res;
-}
-
-struct ttm_resource *__wrap_ttm_resource_manager_first(struct ttm_resource_manager *man, struct ttm_resource_cursor *cursor)
-{
-	return first_not_passed_over(man, cursor, __real_ttm_resource_manager_first(man, cursor));
-}
-
-struct ttm_resource *__wrap_ttm_resource_manager_next(struct ttm_resource_manager *man, struct ttm_resource_cursor *cursor,
-						      struct ttm_resource *res)
-{
-	return first_not_passed_over(man, cursor, __real_ttm_resource_manager_next(man, cursor, res));
 }

@@ -66,6 +66,9 @@ static struct ttm_buffer_object *reserve_victim(int mem_type)
 		found = bo;
 		break;
 	}
+#ifdef PEER_KERNEL_6_12
+	ttm_resource_cursor_fini(&cursor);
+#endif
 	spin_unlock(&device.lru_lock);
 	return found;
 }

@@ -56,13 +56,19 @@ static void read_places(char *word, struct place_list *list)
 			place->flags |= TTM_PL_FLAG_TOPDOWN;
 		if (strstr(text, "+contig"))
 			place->flags |= TTM_PL_FLAG_CONTIGUOUS;
+#ifdef TTM_PL_FLAG_DESIRED
+		if (strstr(text, "+desired"))
+			place->flags |= TTM_PL_FLAG_DESIRED;
+		if (strstr(text, "+fallback"))
+			place->flags |= TTM_PL_FLAG_FALLBACK;
+#endif
 		range = strchr(text, '@');
 		if (range)
 			sscanf(range + 1, "%u-%u", &place->fpfn, &place->lpfn);
 	}
 }
 
-/* buffer NAME PAGES prio P group G align A want LIST busy LIST */
+/* buffer NAME PAGES prio P group G align A want LIST busy LIST, or in version 2 .. place LIST */
 static void read_declaration(char **words)
 {
 	struct declaration *declared = &script.declarations[script.declared++];
@@ -73,14 +79,16 @@ static void read_declaration(char **words)
 	declared->group = words[6][0] == '-' ? -1 : atoi(words[6]);
 	declared->alignment = atoi(words[8]);
 	read_places(words[10], &declared->wanted);
-	read_places(words[12], &declared->busy);
+	if (script.version == 1)
+		read_places(words[12], &declared->busy);
 }
 
 static void read_head(char **words)
 {
 	if (!strcmp(words[0], "ttm")) {
-		if (strcmp(words[1], "1"))
-			give_up("not a script of version 1", words[1]);
+		script.version = atoi(words[1]);
+		if (script.version > LAST_VERSION)
+			give_up("this kernel's places have no flags: version", words[1]);
 	} else if (!strcmp(words[0], "vram")) {
 		script.buddy = !strcmp(words[1], "buddy");
 		script.vram_pages = atoi(words[2]);

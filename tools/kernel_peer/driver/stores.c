@@ -99,8 +99,15 @@ void ttm_pool_free(struct ttm_pool *pool, struct ttm_tt *tt)
 	}
 }
 
+#ifdef PEER_KERNEL_6_12
+void ttm_pool_init(struct ttm_pool *pool, struct device *dev, int nid, bool use_dma_alloc, bool use_dma32)
+#else
 void ttm_pool_init(struct ttm_pool *pool, struct device *dev, bool use_dma_alloc, bool use_dma32)
+#endif
 {
+#ifdef PEER_KERNEL_6_12
+	pool->nid = nid;
+#endif
 	pool->dev = dev;
 	pool->use_dma_alloc = use_dma_alloc;
 	pool->use_dma32 = use_dma32;

@@ -19,41 +19,22 @@ void note_deletion(struct ttm_buffer_object *bo)
 
 int ghosts_of_device(void)
 {
-	struct list_head *at;
+	struct ttm_buffer_object *ghost;
 	int n = 0;
 
-	list_for_each(at, &device.ddestroy)
+	for (ghost = next_ghost(NULL); ghost; ghost = next_ghost(ghost))
 		n++;
 	return n;
 }
 
-/* rule reap: the oldest ghost alone, so the others aren't seen by this run of the work */
-static void keep_oldest_ghost(struct list_head *others)
-{
-	struct list_head *oldest = device.ddestroy.next;
-
-	list_del(oldest);
-	list_splice_init(&device.ddestroy, others);
-	list_add(oldest, &device.ddestroy);
-}
-
+/* whether a ghost was destroyed */
 static bool reaper_turn(void)
 {
 	int before = reaped;
-	struct list_head others;
 
-	if (!device.wq.pending)
-		return false;
-	INIT_LIST_HEAD(&others);
-	if (ours(RULE_REAP) && !list_empty(&device.ddestroy))
-		keep_oldest_ghost(&others);
-	device.wq.pending = false;
 	is_reaping = true;
-	device.wq.work.func(&device.wq.work);
+	run_reaper();
 	is_reaping = false;
-	list_splice_tail(&others, &device.ddestroy);
-	if (!list_empty(&device.ddestroy))
-		device.wq.pending = true;
 	return reaped != before;
 }
 

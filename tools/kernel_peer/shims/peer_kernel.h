@@ -17,5 +17,8 @@
 #include "pages.h"
 #include "tasks.h"
 #include "drm.h"
+#ifdef PEER_KERNEL_6_12
+#include "later.h"
+#endif
 
 #endif

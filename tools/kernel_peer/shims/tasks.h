@@ -26,7 +26,11 @@ struct dentry;
 #define ktime_get() ((ktime_t)0)
 long schedule_timeout(long timeout);
 
-struct work_struct { void (*func)(struct work_struct *work); };
+struct work_struct {
+	void (*func)(struct work_struct *work);
+	struct list_head entry; /* of a queue */
+};
+#define INIT_WORK(w, f) ((w)->func = (f))
 struct delayed_work {
 	struct work_struct work;
 	bool pending;

@@ -1,4 +1,4 @@
--- The jobs of a context as a line of numbers (dma_fence_context, drm_sched's rings).
+-- The jobs of a context as a line of numbers (dma_fence's context and seqno, drm_sched's rings).
 use Rattle.std.specs.Prelude.{◌≡◌, ℕ, ◌+◌, ◌-◌, ◌<◌, ◌≤◌, List, Some, ◌==◌, ◌&&◌, not, nat_le, filter, map, count_by, slice_get}
 use Rattle.ttm_base.specs.ListWords.{count_from}
 use Rattle.journal_model.specs.declared.state.Job.{Job}

@@ -1,4 +1,4 @@
--- The victims that entries name (ttm_bo_evict_first, ttm_global_swapout).
+-- The victims that entries name (ttm_mem_evict_first, ttm_global_swapout).
 use Rattle.std.specs.Prelude.{◌≡◌, ℕ, Bool, true, false, List, ◌∷◌, ◌++◌, Some, None, ◌&&◌, slice_get}
 use Rattle.std.specs.List.{list_any}
 use Rattle.ttm_base.specs.declared.Mem.TheVariants.{System, Tt}

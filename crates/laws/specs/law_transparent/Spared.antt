@@ -1,4 +1,4 @@
--- The aperture pages that an entry takes away or gives, against the packets that are left (ttm_tt_unbind behind fences).
+-- The aperture pages that an entry takes away or gives, against the packets that are left (a driver's unbind, after ttm_bo_wait_ctx).
 use Rattle.std.specs.Prelude.{◌≡◌, ℕ, ◌++◌, false, true, Some, slice_get}
 use Rattle.ttm_base.specs.declared.Packet.{Packet}
 use Rattle.ttm_base.specs.Packets.{packet_names}

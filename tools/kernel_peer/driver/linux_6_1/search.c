@@ -1,9 +1,6 @@
 /* Rules short, busy, skip and retry, which stand in the search for pages: before and after what the kernel's search does of a place. */
-#include "peer.h"
-#include "rules.h"
-
-/* the search begins again at its first place */
-enum { AGAIN = 1234 };
+#include "../peer.h"
+#include "../rules.h"
 
 int real_ttm_bo_mem_space(struct ttm_buffer_object *bo, struct ttm_placement *placement, struct ttm_resource **mem,
 			  struct ttm_operation_ctx *ctx);
@@ -25,12 +22,6 @@ bool could_not_leave(struct ttm_resource *res)
 	return eviction && eviction->victim == res->bo && eviction->from == res;
 }
 
-void note_no_pages(void)
-{
-	if (!running->eviction)
-		running->wants_pages = true;
-}
-
 int ttm_bo_mem_space(struct ttm_buffer_object *bo, struct ttm_placement *placement, struct ttm_resource **mem,
 		     struct ttm_operation_ctx *ctx)
 {
@@ -42,16 +33,9 @@ int ttm_bo_mem_space(struct ttm_buffer_object *bo, struct ttm_placement *placeme
 	running->search = &search;
 	do
 		ret = real_ttm_bo_mem_space(bo, placement, mem, ctx);
-	while (ret == -AGAIN);
+	while (ret == -SEARCH_AGAIN);
 	running->search = search.outer;
 	return ret;
-}
-
-static bool is_short(struct ttm_resource_manager *man, const struct ttm_place *place)
-{
-	u64 end = place->lpfn && place->lpfn < man->size ? place->lpfn : man->size;
-
-	return end < place->fpfn || end - place->fpfn < PFN_UP(running->search->bo->base.size);
 }
 
 /* what the kernel's search does for one place, and which victim it took */
@@ -82,14 +66,14 @@ int ttm_mem_evict_first(struct ttm_device *bdev, struct ttm_resource_manager *ma
 	int ret = -EBUSY;
 
 	(void)bdev;
-	if (is_short(man, place))
+	if (is_short(man, place, running->search->bo))
 		tell_note(" short");
-	if (!is_short(man, place) || !ours(RULE_SHORT))
+	if (!is_short(man, place, running->search->bo) || !ours(RULE_SHORT))
 		ret = evict_one(man, place, ctx, ticket, &eviction);
 	if (ret)
 		search->is_forced = true;
 	else if (ours(RULE_RETRY) && search->met_ghost && !search->is_forced && !search->is_hop && !search->outer)
-		return -AGAIN;
+		return -SEARCH_AGAIN;
 	if (ours(RULE_SKIP) && ret && eviction.victim && eviction.victim->resource == eviction.from) {
 		running->skipped[running->skips++] = eviction.victim;
 		ret = 0;

@@ -1,13 +1,8 @@
 /* Places as kernel 6.1 has them: two lists, and a validation that doesn't look at pins. */
-#include "peer.h"
-#include "rules.h"
+#include "../peer.h"
+#include "../rules.h"
 
 bool driver_moves_pinned;
-const struct place_list whole_memory[3] = {
-	[TTM_PL_SYSTEM] = { 1, { { .mem_type = TTM_PL_SYSTEM } } },
-	[TTM_PL_TT] = { 1, { { .mem_type = TTM_PL_TT } } },
-	[TTM_PL_VRAM] = { 1, { { .mem_type = TTM_PL_VRAM } } },
-};
 
 void set_places(struct ttm_placement *placement, const struct ttm_place *place)
 {
@@ -15,21 +10,7 @@ void set_places(struct ttm_placement *placement, const struct ttm_place *place)
 	placement->placement = placement->busy_placement = place;
 }
 
-bool is_hop(const struct ttm_placement *placement)
-{
-	return placement->num_placement == 1 && (placement->placement->flags & TTM_PL_FLAG_TEMPORARY);
-}
-
 unsigned long resource_pages(const struct ttm_resource *res) { return res->num_pages; }
-
-int move_to_system(struct ttm_buffer_object *bo)
-{
-	struct ttm_operation_ctx ctx = { 0 };
-	struct ttm_placement placement;
-
-	set_places(&placement, whole_memory[TTM_PL_SYSTEM].places);
-	return ttm_bo_validate(bo, &placement, &ctx);
-}
 
 const char *validate(struct peer_buffer *buffer, const struct place_list *wanted, const struct place_list *busy)
 {
@@ -49,4 +30,17 @@ const char *validate(struct peer_buffer *buffer, const struct place_list *wanted
 	if (ret != -ENOMEM)
 		tell_note(" error%d", -ret);
 	return running->wants_pages ? "NoPages" : "NoSpace";
+}
+
+/* TTM swaps out what stands on a list, by a trylock of its own, which a buffer of the command passes */
+int swap_out(struct peer_buffer *buffer)
+{
+	struct ttm_operation_ctx ctx = { .resv = buffer->tbo.base.resv, .allow_res_evict = true };
+	int ret;
+
+	spin_lock(&device.lru_lock);
+	ret = ttm_bo_swapout(&buffer->tbo, &ctx, GFP_KERNEL);
+	if (ret == -EBUSY)
+		spin_unlock(&device.lru_lock);
+	return ret;
 }

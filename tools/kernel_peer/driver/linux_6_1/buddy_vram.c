@@ -5,8 +5,8 @@
  */
 #include <drm/drm_buddy.h>
 
-#include "peer.h"
-#include "rules.h"
+#include "../peer.h"
+#include "../rules.h"
 
 struct buddy_manager {
 	struct ttm_resource_manager base;

@@ -1,4 +1,4 @@
-/* Rules tie and contig: which hole, and whether a resource suits a place. */
+/* Rule tie: which of the holes of equal length best fit takes. */
 #include "peer.h"
 #include "rules.h"
 
@@ -6,8 +6,6 @@ int __real_drm_mm_insert_node_in_range(struct drm_mm *mm, struct drm_mm_node *no
 				       u64 start, u64 end, enum drm_mm_insert_mode mode);
 int __wrap_drm_mm_insert_node_in_range(struct drm_mm *mm, struct drm_mm_node *node, u64 size, u64 alignment, unsigned long color,
 				       u64 start, u64 end, enum drm_mm_insert_mode mode);
-bool __real_ttm_resource_compat(struct ttm_resource *res, struct ttm_placement *placement);
-bool __wrap_ttm_resource_compat(struct ttm_resource *res, struct ttm_placement *placement);
 
 /* the shortest hole that has `node->size` pages in the range, the lowest among equals; whether there is one */
 static bool find_lowest_best(struct drm_mm *mm, struct drm_mm_node *node, u64 alignment, u64 start, u64 end)
@@ -41,29 +39,4 @@ int __wrap_drm_mm_insert_node_in_range(struct drm_mm *mm, struct drm_mm_node *no
 	if (!find_lowest_best(mm, node, alignment, start, end))
 		return -ENOSPC;
 	return drm_mm_reserve_node(mm, node);
-}
-
-static void without_contig(struct ttm_place *to, const struct ttm_place *from, unsigned int n)
-{
-	unsigned int i;
-
-	for (i = 0; i < n; i++) {
-		to[i] = from[i];
-		to[i].flags &= ~TTM_PL_FLAG_CONTIGUOUS;
-	}
-}
-
-bool __wrap_ttm_resource_compat(struct ttm_resource *res, struct ttm_placement *placement)
-{
-	struct ttm_place wanted[MAX_PLACES], busy[MAX_PLACES];
-	struct ttm_placement places = *placement;
-	static struct page_span spans[MAX_SPANS];
-
-	if (!ours(RULE_CONTIG) || spans_of(res, spans) > 1)
-		return __real_ttm_resource_compat(res, placement);
-	without_contig(wanted, placement->placement, placement->num_placement);
-	without_contig(busy, placement->busy_placement, placement->num_busy_placement);
-	places.placement = wanted;
-	places.busy_placement = busy;
-	return __real_ttm_resource_compat(res, &places);
 }
