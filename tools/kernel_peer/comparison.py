@@ -4,7 +4,7 @@ from __future__ import annotations
 
 from dataclasses import dataclass
 
-from kernel_side import known_rules, run_kernel
+from kernel_side import known_rules, run_each, run_kernel
 from observed import Difference, Observed, first_difference
 from orders import Order
 from plain_memory import wrong_bytes
@@ -22,36 +22,40 @@ class Comparison:
     wrong: list[str]  # those that show other bytes than a plain memory
 
 
-def are_equal(script: Script, order: Order, project: Observed, rules: tuple[str, ...]) -> bool:
-    return first_difference(project, run_kernel(script, order, rules)) is None
-
-
-def agrees_with_all(script: Script, order: Order, project: Observed) -> bool:
-    """Whether the two sides agree, with the number of ghosts after each command, where all rules are swapped."""
-    return first_difference(project, run_kernel(script, order, known_rules()), with_ghosts=order.lagging) is None
+# the rules that are needed most often
+LIKELY = ("ghost", "stay", "tie", "short", "block", "busy", "skip", "partial", "notouch")
 
 
 def needed_rules(script: Script, order: Order, project: Observed) -> tuple[str, ...]:
-    """Rules that make the two sides equal, none of which can be left out, where all of them do."""
+    """Rules that make the two sides equal, none of which can be left out, where none of them doesn't and all of them do."""
+    likely = [(rule,) for rule in LIKELY if rule in known_rules()]
+    for rules, kernel in zip(likely, run_each(script, order, likely)):
+        if first_difference(project, kernel) is None:
+            return rules
+
+    def are_equal(rules: list[str]) -> bool:
+        return first_difference(project, run_kernel(script, order, rules)) is None
 
     def needed_of(some: list[str], kept: list[str]) -> list[str]:
-        """Which of `some` are needed beside `kept`."""
-        if are_equal(script, order, project, tuple(kept)):
-            return []
+        """Which of `some` are needed beside `kept`, which aren't enough alone."""
         if len(some) == 1:
             return some
         half = len(some) // 2
-        first = needed_of(some[:half], kept + some[half:])
-        return first + needed_of(some[half:], kept + first)
+        first, second = some[:half], some[half:]
+        needed = [] if are_equal(kept + second) else needed_of(first, kept + second)
+        return needed + ([] if are_equal(kept + needed) else needed_of(second, kept + needed))
 
     return tuple(needed_of(list(known_rules()), []))
 
 
 def compare(script: Script, order: Order) -> Comparison:
-    project, kernel = run_project(script, order), run_kernel(script, order)
+    project = run_project(script, order)
+    kernel, swapped = run_each(script, order, ((), known_rules()))
     difference = first_difference(project, kernel)
-    rules: tuple[str, ...] | None = () if agrees_with_all(script, order, project) else None
-    if difference and rules is not None:
+    rules: tuple[str, ...] | None = ()
+    if first_difference(project, swapped, with_ghosts=order.lagging):
+        rules = None
+    elif difference:
         rules = needed_rules(script, order, project)
     checked = [wrong_bytes(script, seen) for seen in (project, kernel)]
     return Comparison(project, kernel, difference, rules, sum(n for n, _ in checked), [wrong for _, some in checked for wrong in some])

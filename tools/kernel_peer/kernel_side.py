@@ -4,7 +4,7 @@ from __future__ import annotations
 
 import os
 import subprocess
-from collections.abc import Iterable
+from collections.abc import Iterable, Iterator, Sequence
 from functools import lru_cache
 from pathlib import Path
 
@@ -31,7 +31,7 @@ def has_flags() -> bool:
     return "stay" in known_rules()
 
 
-def peer_words(order: Order, rules: Iterable[str]) -> list[str]:
+def peer_words(order: Order, runs: Iterable[Sequence[str]]) -> list[str]:
     words = [str(peer_program())]
     if order.lagging:
         words.append("--lagging")
@@ -39,8 +39,9 @@ def peer_words(order: Order, rules: Iterable[str]) -> list[str]:
         words += ["--order", order.threads]
     if order.drains:
         words += ["--drains", ",".join(str(k) if n is None else f"{k}:{n}" for k, n in order.drains)]
-    swapped = ",".join(rules)
-    return words + (["--swap", swapped] if swapped else [])
+    for rules in runs:
+        words += ["--swap", ",".join(rules) or "none"]
+    return words
 
 
 def read_answers(lines: list[list[str]]) -> Observed:
@@ -69,8 +70,20 @@ def read_answers(lines: list[list[str]]) -> Observed:
     return seen
 
 
-def run_kernel(script: Script, order: Order, rules: Iterable[str] = ()) -> Observed:
-    ran = subprocess.run(peer_words(order, rules), input=script.text(), capture_output=True, text=True, timeout=60, check=False)
+def run_each(script: Script, order: Order, runs: Sequence[Sequence[str]]) -> Iterator[Observed]:
+    """A run with each of the lists of rules swapped."""
+    ran = subprocess.run(peer_words(order, runs), input=script.text(), capture_output=True, text=True, timeout=60, check=False)
     if ran.returncode:
         raise PeerFault(ran.stderr[-600:])
-    return read_answers([line.split(" ") for line in ran.stdout.splitlines()])
+    told: list[list[str]] = [] if len(runs) > 1 else [[]]
+    for line in ran.stdout.splitlines():
+        if line.startswith("S "):
+            told.append([])
+        else:
+            told[-1].append(line)
+    return (read_answers([line.split(" ") for line in lines]) for lines in told)
+
+
+def run_kernel(script: Script, order: Order, rules: Sequence[str] = ()) -> Observed:
+    (seen,) = run_each(script, order, (rules,))
+    return seen

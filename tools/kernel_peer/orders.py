@@ -2,8 +2,9 @@
 
 from __future__ import annotations
 
-from collections.abc import Generator
+from collections.abc import Callable, Generator
 from dataclasses import dataclass
+from functools import partial
 from typing import Optional
 
 from scripts import Script, named_buffers
@@ -81,7 +82,7 @@ class TurnTaker:
         self.others = ["r"] + [f"e{number}" for number in range(script.engines)]
         self.drains = dict(order.drains)
         self.answered = 0
-        self.upcoming: list[str] = []  # who is likely to take the next turns
+        self.upcoming: Callable[[], list[str]] = list  # who is likely to take the turns behind this one
 
     def thread_at(self, turn: int) -> ThreadState:
         """Which thread takes the turn: as the order says, and behind its end one after the other."""
@@ -101,7 +102,7 @@ class TurnTaker:
     def turn_of(self, thread: ThreadState, turn: int) -> Turns:
         """One turn: a step of the lock, or the rest of the command."""
         while True:
-            self.upcoming = self.guess(thread, turn)
+            self.upcoming = partial(self.guess, thread, turn)
             entry = yield thread.actor
             if entry is None:
                 if thread.is_locking:
@@ -121,7 +122,7 @@ class TurnTaker:
     def rounds(self, most: int | None) -> Turns:
         """So many rounds, or until nothing can be done."""
         if self.order.lagging:
-            self.upcoming = self.others * (most or 40) + self.upcoming
+            self.upcoming = partial(self.guess_rounds, most, self.upcoming)
         taken = 0
         while most is None or taken < most:
             taken += 1
@@ -143,6 +144,10 @@ class TurnTaker:
             steps.append(thread.actor)
             turn += 1
         return steps + self.guess_rest(thread)
+
+    def guess_rounds(self, most: int | None, behind: Callable[[], list[str]]) -> list[str]:
+        """The rounds, and then whoever was likely before."""
+        return self.others * (most or 40) + behind()
 
     def guess_rest(self, thread: ThreadState) -> list[str]:
         """The thread goes on, and waits now and then."""

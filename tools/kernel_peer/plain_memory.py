@@ -26,7 +26,8 @@ class PlainMemory:
             source, length = int(op[4]), int(op[5])
             piece = self.bytes[op[3]][source : source + length]
             if op[0] == "xor":
-                piece = bytearray(a ^ b for a, b in zip(piece, to[at : at + length]))
+                mixed = int.from_bytes(piece, "big") ^ int.from_bytes(to[at : at + length], "big")
+                piece = bytearray(mixed.to_bytes(length, "big"))
             to[at : at + length] = piece
         return ""
 

@@ -4,6 +4,8 @@ from __future__ import annotations
 
 import os
 import subprocess
+from collections import deque
+from collections.abc import Callable
 from dataclasses import dataclass, field
 from pathlib import Path
 
@@ -28,16 +30,17 @@ class Report:
     accounts: dict[str, list[str]]
 
 
-def simulate(text: str, turns: int | None = None) -> Report:
+def simulate(text: str, turns: int | None = None, known: int = 0) -> Report:
+    """The report of a run of at most so many turns, without the entries that are known."""
     limit = [] if turns is None else ["--turns", str(turns)]
     ran = subprocess.run([project_program(), "sim", *limit], input=text, capture_output=True, text=True, timeout=120, check=False)
     if ran.returncode not in ((0,) if turns is None else (0, UNFINISHED)):
         raise ProgramFault(f"status {ran.returncode}: {ran.stdout[:200]}{ran.stderr[:200]}")
     lines = ran.stdout.splitlines()
     at = 2 if ran.returncode == UNFINISHED else 1
-    count = int(lines[at].split()[1])
-    entries = [line.split()[1:] for line in lines[at + 1 : at + 1 + count]]
-    accounts = {line.split()[0]: line.split() for line in lines[at + 1 + count :] if " size " in line}
+    behind = at + 1 + int(lines[at].split()[1])
+    entries = [line.split()[1:] for line in lines[at + 1 + known : behind]]
+    accounts = {line.split()[0]: line.split() for line in lines[behind:] if " size " in line}
     return Report(entries, accounts)
 
 
@@ -47,50 +50,48 @@ class Known:
     def __init__(self, script: Script) -> None:
         self.script = script
         self.made: list[list[str]] = []  # entries that are accepted
-        self.ahead: list[list[str]] = []  # entries behind them in the last run
-        self.idle: list[set[str]] = [set()]  # who had no entry, before each of `ahead`
+        self.ahead: deque[list[str]] = deque()  # entries behind them in the last run
+        self.idle: deque[set[str]] = deque([set()])  # who had no entry, before each of `ahead`
+        self.accounts: dict[str, list[str]] = {}  # of the last run
         self.runs = 0
 
-    def take(self, actor: str, upcoming: list[str]) -> list[str] | None:
+    def take(self, actor: str, upcoming: Callable[[], list[str]]) -> list[str] | None:
         """A turn of the actor: the entry that it makes, or None."""
         while actor not in self.idle[0]:
             if self.ahead and self.ahead[0][0] == actor:
-                self.idle.pop(0)
-                entry = self.ahead.pop(0)
+                self.idle.popleft()
+                entry = self.ahead.popleft()
                 self.made.append(entry)
                 return entry[1:]
-            self.ask([actor] + upcoming)
+            self.ask([actor] + upcoming())
         return None
 
     def ask(self, upcoming: list[str]) -> None:
         """Runs the program with the turns that are known and then the likely ones."""
         self.runs += 1
         known = [entry[0] for entry in self.made]
-        report = simulate(self.script.text(known + upcoming), len(known) + len(upcoming))
-        self.ahead = report.entries[len(known) :]
-        self.idle = [set()]
+        report = simulate(self.script.text(known + upcoming), len(known) + len(upcoming), len(known))
+        self.ahead, self.accounts = deque(report.entries), report.accounts
+        self.idle = deque([set()])
         at = 0
         for actor in upcoming:
-            if at < len(self.ahead) and self.ahead[at][0] == actor:
+            if at < len(report.entries) and report.entries[at][0] == actor:
                 at += 1
                 self.idle.append(set())
             else:
                 self.idle[-1].add(actor)
 
 
-def run_in_order(script: Script, order: Order) -> tuple[Report, list[str]]:
-    """The report of the whole run, and the actors of its schedule."""
+def run_in_order(script: Script, order: Order) -> Report:
+    """The report of the whole run. At its end nobody can do anything, so the last run of the program knew all of it."""
     known, taker = Known(script), TurnTaker(script, order)
     turns = taker.turns()
-    entry: list[str] | None = None
     try:
         actor = next(turns)
         while True:
-            entry = known.take(actor, taker.upcoming)
-            actor = turns.send(entry)
+            actor = turns.send(known.take(actor, taker.upcoming))
     except StopIteration:
-        schedule = [entry[0] for entry in known.made]
-        return simulate(script.text(schedule)), schedule
+        return Report(known.made, known.accounts)
 
 
 @dataclass
@@ -182,4 +183,4 @@ def observe(script: Script, report: Report) -> Observed:
 def run_project(script: Script, order: Order) -> Observed:
     if not order.lagging and not order.threads:
         return observe(script, simulate(script.text()))  # the program's own order
-    return observe(script, run_in_order(script, order)[0])
+    return observe(script, run_in_order(script, order))

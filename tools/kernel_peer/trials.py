@@ -113,9 +113,9 @@ def make_trial(name: str, number: int) -> Trial:
 
 def draw_drains(rng: random.Random, commands: int) -> tuple[tuple[int, int | None], ...]:
     """After which answers engines and reaper get on: some rounds, or until they come to rest."""
-    if rng.random() < 0.4:
+    if rng.random() < 0.5:
         return ()
-    often = rng.choice([0.03, 0.08, 0.2])
+    often = rng.choice([0.02, 0.06, 0.15])
     answers = [number for number in range(1, commands + 1) if rng.random() < often]
     if rng.random() < 0.5:
         return tuple((number, rng.choice([1, 2, 3, 5, 9])) for number in answers)

@@ -23,7 +23,7 @@ void swap_rules(const char *words)
 	int i;
 
 	for (word = strtok_r(copy, ",", &rest); word; word = strtok_r(NULL, ",", &rest)) {
-		bool all = !strcmp(word, "all"), known = all;
+		bool all = !strcmp(word, "all"), known = all || !strcmp(word, "none");
 
 		for (i = 0; i < RULES; i++)
 			if (rule_names[i] && (all || !strcmp(word, rule_names[i])))

@@ -13,7 +13,7 @@ enum { SEARCH_AGAIN = 1234 };
 
 /* whether the project's rule stands in for the kernel's */
 bool ours(enum rule rule);
-/* a word per rule, joined by commas, or `all` */
+/* a word per rule, joined by commas; or `all`, or `none` */
 void swap_rules(const char *words);
 void print_rules(void);
 
