@@ -6,6 +6,7 @@ usage: cases.py show [NAME..]   what both sides answer
        cases.py write           writes the answers of both sides and the schedule lines of the scripts
 
 A case is a script, cases/NAME.ttm, and an entry in cases/cases.json: its rule, its order, and the first answer in which the sides differ.
+For kernel 6.12 the entries are those of cases/cases_6_12.json.
 """
 
 from __future__ import annotations
@@ -25,6 +26,11 @@ from scripts import Script
 FOLDER = Path(__file__).resolve().parent / "cases"
 
 
+def entries_file() -> Path:
+    """The entries for the kernel at hand."""
+    return FOLDER / ("cases_6_12.json" if has_flags() else "cases.json")
+
+
 @dataclass(frozen=True)
 class Case:
     name: str
@@ -39,7 +45,7 @@ class Case:
 
 
 def load_cases() -> list[Case]:
-    return [read_case(row) for row in json.loads((FOLDER / "cases.json").read_text())]
+    return [read_case(row) for row in json.loads(entries_file().read_text())]
 
 
 def read_case(row: dict[str, Any]) -> Case:
@@ -113,7 +119,7 @@ def write_cases(cases: list[Case]) -> None:
         schedule = [entry[0] for entry in run_in_order(script, case.order).entries] if ordered else []
         (FOLDER / f"{case.name}.ttm").write_text(script.text(schedule))
         rows.append(case_row(Case(case.name, case.rule, case.about, case.order, answers_of(case))))
-    (FOLDER / "cases.json").write_text(json.dumps(rows, indent=1) + "\n")
+    entries_file().write_text(json.dumps(rows, indent=1) + "\n")
 
 
 def main(words: list[str]) -> int:

@@ -38,6 +38,26 @@ bool could_not_leave(struct ttm_resource *res)
 	return false;
 }
 
+/* rule retry: a search that has waited for a ghost begins again, as long as it isn't under pressure */
+static bool may_search_again(void)
+{
+	struct search *search = running->search;
+
+	return ours(RULE_RETRY) && !search->is_forced && !search->is_hop && !search->outer;
+}
+
+/* what TTM does of a ghost, but for taking its pages at once */
+static s64 process_ghost(struct evict_walk *evict_walk, struct ttm_buffer_object *bo)
+{
+	struct ttm_resource **res = evict_walk->res;
+	s64 ret;
+
+	evict_walk->res = NULL;
+	ret = at_work->ops->process_bo(&evict_walk->walk, bo);
+	evict_walk->res = res;
+	return ret > 0 ? -SEARCH_AGAIN : ret;
+}
+
 /* what TTM does of a buffer, and whether that buffer stays where it is */
 static s64 process_victim(struct ttm_lru_walk *walk, struct ttm_buffer_object *bo)
 {
@@ -46,6 +66,8 @@ static s64 process_victim(struct ttm_lru_walk *walk, struct ttm_buffer_object *b
 	struct eviction eviction = { .victim = bo, .from = bo->resource, .outer = running->eviction };
 	s64 ret;
 
+	if (bo->deleted && may_search_again())
+		return process_ghost(evict_walk, bo);
 	running->eviction = &eviction;
 	ret = at_work->ops->process_bo(walk, bo);
 	running->eviction = eviction.outer;
@@ -79,12 +101,10 @@ static s64 walk_once(struct evict_walk *evict_walk, struct ttm_resource_manager 
 /* rule ghost: as long as a ghost has pages in the place, waits for it and asks the place again */
 static s64 walk_and_wait(struct evict_walk *evict_walk, struct ttm_resource_manager *man, s64 target)
 {
-	struct search *search = running->search;
 	s64 progress = walk_once(evict_walk, man, target);
 
 	while (!progress && ours(RULE_GHOST) && wait_for_ghost_in(man, evict_walk->place)) {
-		search->met_ghost = true;
-		if (ours(RULE_RETRY) && !search->is_forced && !search->is_hop && !search->outer)
+		if (may_search_again())
 			return -SEARCH_AGAIN;
 		if (!ttm_resource_alloc(evict_walk->evictor, evict_walk->place, evict_walk->res))
 			return target;
