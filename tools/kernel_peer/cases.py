@@ -17,7 +17,7 @@ from dataclasses import dataclass
 from pathlib import Path
 from typing import Any
 
-from kernel_side import known_rules, run_kernel
+from kernel_side import has_flags, known_rules, run_kernel
 from observed import Difference, Observed, first_difference
 from orders import Order
 from project_side import observe, run_in_order, run_project

@@ -23,7 +23,7 @@ class Comparison:
 
 
 # the rules that are needed most often
-LIKELY = ("ghost", "tie", "short", "block", "stay", "busy", "skip", "partial", "notouch")
+LIKELY = ("ghost", "stay", "tie", "short", "block", "busy", "skip", "partial", "notouch")
 
 
 def needed_rules(script: Script, order: Order, project: Observed) -> tuple[str, ...]:
