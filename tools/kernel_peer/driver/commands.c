@@ -138,18 +138,21 @@ static const char *do_swapout(struct peer_buffer *buffer, char **words)
 
 static const char *with_buffer(struct declaration *declared, action *act, char **words)
 {
-	struct peer_buffer *buffer = declared->live;
+	struct peer_buffer *buffer;
 	struct ww_acquire_ctx ticket;
 	const char *refusal = "NoBuffer";
 
+	ww_acquire_init(&ticket, &reservation_ww_class);
+	give_way();
+	buffer = declared->live;
 	if (!buffer)
 		return refusal;
 	ttm_bo_get(&buffer->tbo);
-	ww_acquire_init(&ticket, &reservation_ww_class);
-	dma_resv_lock(buffer->tbo.base.resv, &ticket);
-	give_way();
-	if (declared->live == buffer)
+	lock_at_once(buffer->tbo.base.resv, &ticket);
+	if (declared->live == buffer) {
+		give_way();
 		refusal = act(buffer, words);
+	}
 	if (act == do_free && !refusal) {
 		dma_resv_unlock(buffer->tbo.base.resv);
 		if (ours(RULE_FREED))

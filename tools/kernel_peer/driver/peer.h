@@ -135,13 +135,16 @@ struct thread {
 	struct ttm_buffer_object *unpinned; /* by this command */
 	bool wants_pages; /* frames or slots were short for the command's own buffer */
 	bool is_emptying; /* the swapout is the command's own */
+	bool has_turn; /* for the lock that comes next */
 	char *victims, *notes, *answer;
 	size_t victims_size, notes_size, answer_size;
 };
 extern struct thread *running; /* NULL while engines and reaper take their turns */
 void run_threads(const char *order, const char *drains);
-/* another thread may go before the body of the command */
+/* another thread may go before the thread's next turn */
 void give_way(void);
+/* takes a reservation, for which the thread has its turn already */
+void lock_at_once(struct dma_resv *resv, struct ww_acquire_ctx *ticket);
 void tell(char **text, size_t *size, const char *format, ...) __attribute__((format(printf, 3, 4)));
 #define tell_victim(...) tell(&running->victims, &running->victims_size, __VA_ARGS__)
 #define tell_note(...) tell(&running->notes, &running->notes_size, __VA_ARGS__)

@@ -50,7 +50,19 @@ void give_way(void)
 	running = &course->thread;
 }
 
-void peer_before_lock(void) { give_way(); }
+void lock_at_once(struct dma_resv *resv, struct ww_acquire_ctx *ticket)
+{
+	running->has_turn = true;
+	dma_resv_lock(resv, ticket);
+}
+
+void peer_before_lock(void)
+{
+	if (running && running->has_turn)
+		running->has_turn = false;
+	else
+		give_way();
+}
 
 void peer_wait_for_lock(void)
 {
