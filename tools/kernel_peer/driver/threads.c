@@ -43,7 +43,7 @@ void give_way(void)
 {
 	struct course *course;
 
-	if (!running)
+	if (!running || script.threads == 1)
 		return;
 	course = course_of(running);
 	swapcontext(&course->context, &scheduler);
