@@ -3,7 +3,7 @@
 
 usage: cases.py show [NAME..]   what both sides answer
        cases.py check [NAME..]  whether they answer as cases/cases.json has it, agree where the rule is swapped, and differ where all others are
-       cases.py write           writes the answers of both sides, and the schedule lines of the scripts, anew
+       cases.py write           writes the answers of both sides and the schedule lines of the scripts
 
 A case is a script, cases/NAME.ttm, and an entry in cases/cases.json: its rule, its order, and the first answer in which the sides differ.
 For kernel 6.12 the entries are those of cases/cases_6_12.json.

@@ -4,7 +4,7 @@
 usage: figures.py run DIR [--first N] [--share PERCENT] [--jobs N]
        figures.py table DIR
 
-`run` compares so many scripts of each family, from number N on (60001), each with eager and with lagging engines, in N processes (2), and
+`run` compares some hundred scripts of each family, from number N on (60001), each with eager and with lagging engines, in N processes (2), and
 writes a file of each hundred into DIR; a hundred that is there isn't compared again. With --share it takes that part of each family. `table`
 prints the tables of the files in DIR. The exit status is 1 where a run isn't explained.
 """

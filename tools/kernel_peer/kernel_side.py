@@ -3,14 +3,15 @@
 from __future__ import annotations
 
 import os
-import subprocess
 from collections.abc import Iterable, Iterator, Sequence
 from functools import lru_cache
 from pathlib import Path
 
 from observed import Answer, Observed
 from orders import Order
+from processes import run_program
 from scripts import Script
+
 
 class PeerFault(Exception):
     """The peer ended in a fault: what it said."""
@@ -23,7 +24,7 @@ def peer_program() -> Path:
 @lru_cache
 def known_rules() -> tuple[str, ...]:
     """The rules that can be swapped, which depend on the kernel."""
-    return tuple(subprocess.run([str(peer_program()), "--rules"], capture_output=True, text=True, check=True).stdout.split())
+    return tuple(run_program([str(peer_program()), "--rules"], "").output.split())
 
 
 def has_flags() -> bool:
@@ -72,11 +73,11 @@ def read_answers(lines: list[list[str]]) -> Observed:
 
 def run_each(script: Script, order: Order, runs: Sequence[Sequence[str]]) -> Iterator[Observed]:
     """A run with each of the lists of rules swapped."""
-    ran = subprocess.run(peer_words(order, runs), input=script.text(), capture_output=True, text=True, timeout=60, check=False)
-    if ran.returncode:
-        raise PeerFault(ran.stderr[-600:])
+    ran = run_program(peer_words(order, runs), script.text())
+    if ran.status:
+        raise PeerFault(f"status {ran.status}: {ran.errors[-600:]}")
     told: list[list[str]] = [] if len(runs) > 1 else [[]]
-    for line in ran.stdout.splitlines():
+    for line in ran.output.splitlines():
         if line.startswith("S "):
             told.append([])
         else:

@@ -3,6 +3,7 @@
 from __future__ import annotations
 
 from dataclasses import dataclass, field
+from operator import attrgetter
 
 
 @dataclass
@@ -43,10 +44,10 @@ PARTS = ("thread", "result", "victims", "places", "done")
 
 def first_difference(one: Observed, other: Observed, with_ghosts: bool = False) -> Difference | None:
     parts = PARTS + (("ghosts",) if with_ghosts else ())
+    values = attrgetter(*parts)
     for number, (a, b) in enumerate(zip(one.answers, other.answers), 1):
-        differing = tuple(part for part in parts if getattr(a, part) != getattr(b, part))
-        if differing:
-            return Difference(number, differing)
+        if values(a) != values(b):
+            return Difference(number, tuple(part for part in parts if getattr(a, part) != getattr(b, part)))
     if len(one.answers) != len(other.answers):
         return Difference(0, ("answers",))
     differing = tuple(part for part in ("probes", "accounts") if getattr(one, part) != getattr(other, part))

@@ -23,13 +23,13 @@ class Order:
     """
 
     lagging: bool
-    threads: str = ""  # a digit a turn; behind its end the threads go round
-    drains: tuple[tuple[int, Optional[int]], ...] = ()  # after an answer (from 1) so many rounds, or None until nothing can be done
+    threads: str = ""  # a digit a turn; after its end the threads take turns one after the other
+    drains: tuple[tuple[int, Optional[int]], ...] = ()  # rounds after an answer (from 1); None until nothing can be done
 
 
 EAGER = Order(lagging=False)
 
-# who takes a turn; told: the words of the entry that it made, or None
+# gives the actor of each turn; is told the words of the entry that it made, or None
 Turns = Generator[str, Optional[list[str]], None]
 
 
@@ -82,10 +82,10 @@ class TurnTaker:
         self.others = ["r"] + [f"e{number}" for number in range(script.engines)]
         self.drains = dict(order.drains)
         self.answered = 0
-        self.upcoming: Callable[[], list[str]] = list  # who is likely to take the turns behind this one
+        self.upcoming: Callable[[], list[str]] = list  # the actors that are likely to take the next turns
 
     def thread_at(self, turn: int) -> ThreadState:
-        """Which thread takes the turn: as the order says, and behind its end one after the other."""
+        """Which thread takes the turn: as the order says, and after its end one after the other."""
         threads, count = self.order.threads, len(self.threads)
         number = int(threads[turn]) - 1 if turn < len(threads) else turn - len(threads)
         return self.threads[number % count]
@@ -134,7 +134,7 @@ class TurnTaker:
                 return
 
     def guess(self, thread: ThreadState, turn: int) -> list[str]:
-        """Who is likely to follow this turn of the thread: steps of locks as the order has them, up to the rest of a command."""
+        """The actors that are likely to follow this turn of the thread: steps of locks as the order has them, up to the rest of a command."""
         steps: list[str] = []
         left = {state.actor: state.lock_steps_left for state in self.threads}
         while left[thread.actor] and turn < len(self.order.threads):
@@ -145,9 +145,9 @@ class TurnTaker:
             turn += 1
         return steps + self.guess_rest(thread)
 
-    def guess_rounds(self, most: int | None, behind: Callable[[], list[str]]) -> list[str]:
-        """The rounds, and then whoever was likely before."""
-        return self.others * (most or 40) + behind()
+    def guess_rounds(self, most: int | None, after: Callable[[], list[str]]) -> list[str]:
+        """The rounds, and then the actors that were likely before."""
+        return self.others * (most or 40) + after()
 
     def guess_rest(self, thread: ThreadState) -> list[str]:
         """The thread goes on, and waits now and then."""
@@ -157,5 +157,5 @@ class TurnTaker:
 
     @property
     def between(self) -> list[str]:
-        """Who goes between two entries of threads."""
+        """The actors that go between two entries of threads."""
         return [] if self.order.lagging else self.others * 9

@@ -3,7 +3,6 @@
 from __future__ import annotations
 
 import os
-import subprocess
 from collections import deque
 from collections.abc import Callable
 from dataclasses import dataclass, field
@@ -11,6 +10,7 @@ from pathlib import Path
 
 from observed import Answer, Observed
 from orders import Order, TurnTaker
+from processes import run_program
 from scripts import Script
 
 UNFINISHED = 7  # the exit status of a run with --turns that isn't over
@@ -31,27 +31,27 @@ class Report:
 
 
 def simulate(text: str, turns: int | None = None, known: int = 0) -> Report:
-    """The report of a run of at most so many turns, without the entries that are known."""
+    """The report of a run of at most `turns` turns, without its first `known` entries."""
     limit = [] if turns is None else ["--turns", str(turns)]
-    ran = subprocess.run([project_program(), "sim", *limit], input=text, capture_output=True, text=True, timeout=120, check=False)
-    if ran.returncode not in ((0,) if turns is None else (0, UNFINISHED)):
-        raise ProgramFault(f"status {ran.returncode}: {ran.stdout[:200]}{ran.stderr[:200]}")
-    lines = ran.stdout.splitlines()
-    at = 2 if ran.returncode == UNFINISHED else 1
-    behind = at + 1 + int(lines[at].split()[1])
-    entries = [line.split()[1:] for line in lines[at + 1 + known : behind]]
-    accounts = {line.split()[0]: line.split() for line in lines[behind:] if " size " in line}
+    ran = run_program([project_program(), "sim", *limit], text)
+    if ran.status not in ((0,) if turns is None else (0, UNFINISHED)):
+        raise ProgramFault(f"status {ran.status}: {ran.output[:200]}{ran.errors[:200]}")
+    lines = ran.output.splitlines()
+    at = 2 if ran.status == UNFINISHED else 1
+    end = at + 1 + int(lines[at].split()[1])
+    entries = [line.split()[1:] for line in lines[at + 1 + known : end]]
+    accounts = {line.split()[0]: line.split() for line in lines[end:] if " size " in line}
     return Report(entries, accounts)
 
 
 class Known:
-    """What the program's runs so far tell: who made each entry, and who had none at each point."""
+    """What the program's runs so far tell: the actor of each entry, and the actors that had none at each point."""
 
     def __init__(self, script: Script) -> None:
         self.script = script
         self.made: list[list[str]] = []  # entries that are accepted
-        self.ahead: deque[list[str]] = deque()  # entries behind them in the last run
-        self.idle: deque[set[str]] = deque([set()])  # who had no entry, before each of `ahead`
+        self.ahead: deque[list[str]] = deque()  # entries after them in the last run
+        self.idle: deque[set[str]] = deque([set()])  # actors without an entry, before each of `ahead`
         self.accounts: dict[str, list[str]] = {}  # of the last run
         self.runs = 0
 
@@ -72,14 +72,13 @@ class Known:
         known = [entry[0] for entry in self.made]
         report = simulate(self.script.text(known + upcoming), len(known) + len(upcoming), len(known))
         self.ahead, self.accounts = deque(report.entries), report.accounts
-        self.idle = deque([set()])
-        at = 0
-        for actor in upcoming:
-            if at < len(report.entries) and report.entries[at][0] == actor:
-                at += 1
-                self.idle.append(set())
-            else:
-                self.idle[-1].add(actor)
+        self.idle = deque()
+        start = 0
+        for entry in report.entries:
+            at = upcoming.index(entry[0], start)
+            self.idle.append(set(upcoming[start:at]))
+            start = at + 1
+        self.idle.append(set(upcoming[start:]))
 
 
 def run_in_order(script: Script, order: Order) -> Report:

@@ -51,7 +51,7 @@ static unsigned long vram_page(struct ttm_resource *res, unsigned long page)
 			return spans[i].start + page;
 		page -= length;
 	}
-	peer_fault("page %lu lies behind a resource", page);
+	peer_fault("a resource has no page %lu", page);
 }
 
 u8 *page_bytes(struct ttm_buffer_object *bo, struct ttm_resource *res, unsigned long page)

@@ -1,6 +1,6 @@
 /*
  * The script's threads. One runs at a time; it gives way where it is about to ask for a reservation, before the body of its command, and after
- * it. Which one goes next is the caller's order; behind its end they go round.
+ * it. The caller's order says which one goes next; after its end they take turns one after the other.
  */
 #include <stdarg.h>
 #include <ucontext.h>
@@ -20,7 +20,7 @@ struct thread *running;
 static ucontext_t scheduler;
 static struct course courses[MAX_THREADS];
 static int answered;			       /* commands of all threads */
-static long drain_after[MAX_COMMANDS + 1]; /* rounds after so many answers */
+static long drain_after[MAX_COMMANDS + 1]; /* rounds after that many answers */
 
 void tell(char **text, size_t *size, const char *format, ...)
 {

@@ -1,6 +1,6 @@
 /*
- * Stands for linux/sched.h, linux/ktime.h and linux/workqueue.h: who sleeps lets the delayed work and the engines take their turns
- * (schedule_timeout, in driver/turns.c). Work that is queued runs in such turns alone; an irq_work runs at once.
+ * Stands for linux/sched.h, linux/ktime.h and linux/workqueue.h: a thread that sleeps lets the delayed work and the engines take
+ * their turns (schedule_timeout, in driver/turns.c). Work that is queued runs in such turns alone; an irq_work runs at once.
  */
 #ifndef PEER_TASKS_H
 #define PEER_TASKS_H

@@ -1,6 +1,6 @@
 /*
- * Stands for linux/ww_mutex.h and kernel/locking/ww_mutex.h in the way of wait-die: whoever asks for a lock that an older one holds backs off if
- * it holds another, and waits if not. A thread that waits gives way to the others (peer_wait_for_lock, in driver/threads.c).
+ * Stands for linux/ww_mutex.h and kernel/locking/ww_mutex.h in the way of wait-die: a thread that asks for a lock of an older one
+ * backs off if it holds another, and waits if not. A thread that waits gives way to the others (peer_wait_for_lock, in driver/threads.c).
  */
 #ifndef PEER_WW_MUTEX_H
 #define PEER_WW_MUTEX_H

@@ -123,7 +123,7 @@ static int take_projects_blocks(struct request *request, bool contiguous)
 			size /= 2;
 		}
 		if (take_exactly(request, found.start, min(left, size)))
-			peer_fault("a free block can't be had");
+			peer_fault("drm_buddy refuses a free block");
 	}
 	return 0;
 }
