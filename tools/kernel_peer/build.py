@@ -75,7 +75,7 @@ def compile_kernel(source: Path, kernel: Kernel, name: str, flags: list[str], ou
 def compile_driver(file: Path, flags: list[str], out: Path) -> Path:
     made = out / f"peer_{file.stem}.o"
     flags = ["-isystem" if flag == "-I" else flag for flag in flags]  # warnings of the peer's own lines alone
-    run(CC, *flags, "-Wall", "-Wextra", "-Wno-sign-compare", "-c", file, "-o", made)
+    run(CC, *flags, "-Wall", "-Wextra", "-c", file, "-o", made)
     return made
 
 

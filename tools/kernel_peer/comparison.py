@@ -74,7 +74,7 @@ def describe(script: Script, comparison: Comparison) -> str:
     lines = [f"answer {difference.answer}, t{thread} {command}: {explanation(comparison)}"]
     for side, seen in (("project", comparison.project), ("kernel", comparison.kernel)):
         answer = seen.answers[difference.answer - 1]
-        for part in difference.parts:
+        for part in (*difference.parts, *(("notes",) if answer.notes else ())):
             value = getattr(answer, part)
             lines.append(f"  {side:8} {part:8} {' '.join(value) if isinstance(value, tuple) else value}")
     return "\n".join(lines)

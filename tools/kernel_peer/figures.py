@@ -39,7 +39,16 @@ SCRIPTS = {
 }
 FLAG_SCRIPTS = 100  # of each family but those of blocks, where the kernel has lists with flags
 MODES = ("eager", "lagging")
-COLUMNS = ("scripts", "equal as it is", "equal with the marked", "equal with all", "commands", "before", "victims", "refused")
+COLUMNS = {
+    "scripts": "scripts",
+    "equal as it is": "equal as it is",
+    "equal with the marked": "equal with the four",
+    "equal with all": "equal with all",
+    "commands": "commands",
+    "before": "before the first difference",
+    "victims": "victims",
+    "refused": "refused",
+}
 HUNDRED = 100
 
 
@@ -92,7 +101,7 @@ def row(name: str, mode: str, counts: Counter[str]) -> str:
 
 def print_tables(room: Path) -> bool:
     sums, others = read_counts(room)
-    print("| family | engines | " + " | ".join(COLUMNS) + " |\n|---|---|" + "---:|" * len(COLUMNS))
+    print("| family | engines | " + " | ".join(COLUMNS.values()) + " |\n|---|---|" + "---:|" * len(COLUMNS))
     for family in scripts_of_kernel():
         for mode in MODES:
             if (family, mode) in sums:

@@ -21,7 +21,7 @@ def peer_program() -> Path:
     return Path(os.environ.get("KERNEL_PEER_OUT", Path(__file__).resolve().parent / "build")) / "kernel_peer"
 
 
-@lru_cache
+@lru_cache(maxsize=None)
 def known_rules() -> tuple[str, ...]:
     """The rules that can be swapped, which depend on the kernel."""
     return tuple(run_program([str(peer_program()), "--rules"], "").output.split())

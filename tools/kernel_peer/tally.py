@@ -8,7 +8,7 @@ from dataclasses import dataclass, field
 
 from comparison import Comparison
 
-# what the project has called its own rules from the beginning; the others were found by this comparison
+# rules that were chosen when the project began; the others came to light by this comparison
 MARKED = {"tie", "sole", "contig", "block"}
 
 

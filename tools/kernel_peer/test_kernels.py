@@ -34,7 +34,7 @@ class Kernels(unittest.TestCase):
             source, include = Path(name) / "source", Path(name) / "made"
             write(source / "a.c", "#include <linux/list.h>\n# include <linux/slab.h>\n")
             write(source / "include/linux/list.h", "#include <linux/types.h>\n")
-            kernel = Kernel("test", ("a.c",), ("include/linux/list.h",), (), (), "linux_6_1")
+            kernel = Kernel("test", ("a.c",), ("include/linux/list.h",), (), (), "")
             make_headers(source, kernel, include)
             self.assertEqual((include / "linux/list.h").read_text(), "#include <linux/types.h>\n")
             self.assertEqual([(include / f"linux/{one}.h").read_text() for one in ("types", "slab")], ["", ""])

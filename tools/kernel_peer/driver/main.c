@@ -6,8 +6,8 @@
  *
  * --lagging: engines and reaper take turns only while a thread waits, and after the commands named by --drains (N rounds after answer K, or
  * until nothing can be done); without it a job runs when it is emitted. --order: which thread takes each turn, a digit each. --swap: the
- * project's rules that stand in for the kernel's; `none` for none; --rules names them. Of several --swap each makes a run of its own, and a line `S` with its rules
- * stands before what it tells. --moves-pinned: the driver doesn't look at pins before a move.
+ * project's rules that stand in for the kernel's, and `none` for none; --rules names them. Of several --swap each makes a run of its own, and a
+ * line `S` with its rules stands before what it tells. --moves-pinned: the driver doesn't look at pins before a move.
  */
 #include <sys/wait.h>
 #include <unistd.h>
@@ -21,6 +21,7 @@ struct words {
 	const char *order, *drains;
 	const char *rules[MAX_RUNS]; /* of each run */
 	int runs;
+	bool only_names_rules;
 };
 
 static void read_words(struct words *words, int argc, char **argv)
@@ -32,10 +33,8 @@ static void read_words(struct words *words, int argc, char **argv)
 			jobs_lag = true;
 		else if (!strcmp(argv[i], "--moves-pinned"))
 			driver_moves_pinned = true;
-		else if (!strcmp(argv[i], "--rules")) {
-			print_rules();
-			exit(0);
-		}
+		else if (!strcmp(argv[i], "--rules"))
+			words->only_names_rules = true;
 		else if (!strcmp(argv[i], "--verbose"))
 			peer_verbose = true;
 		else if (!strcmp(argv[i], "--order") && i + 1 < argc)
@@ -80,6 +79,10 @@ int main(int argc, char **argv)
 	int i;
 
 	read_words(&words, argc, argv);
+	if (words.only_names_rules) {
+		print_rules();
+		return 0;
+	}
 	read_script(stdin);
 	if (words.runs < 2) {
 		run(&words, words.runs ? words.rules[0] : "none");
