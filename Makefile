@@ -21,5 +21,7 @@ test:
 install:
 	tools/install.sh "$(DESTDIR)$(PREFIX)"
 
+# The allocators as a library for C (docs/C_LIBRARY.md) have their targets here.
+
 clean:
 	rm -rf crates/ttm/out/unproved

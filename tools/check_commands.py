@@ -1,6 +1,7 @@
 #!/usr/bin/env python3
 """Checks that the man page and the list of changes say what the table of the words of ./ttm says (tools/launcher/commands.txt): each way in which
-./ttm is called, and the version, which is that of the program too. Each fault is a line; the exit status is 1 if there is one.
+./ttm is called, and the version, which is that of the program too; and that the viewers' words are those of tools/view. Each fault is a line; the
+exit status is 1 if there is one.
 
 usage: tools/check_commands.py
 """
@@ -12,18 +13,23 @@ import sys
 from typing import Iterator
 
 TOP = pathlib.Path(__file__).resolve().parent.parent
-KINDS = ("program", "viewer", "viewer+", "launcher")
+sys.path.insert(0, str(TOP / "tools"))
+
+from view.words import WORDS  # noqa: E402
+
+KINDS = ("program", "viewer", "launcher")
+OWN_WORDS = {"plain", "diagnose"}  # of the viewers, for the launcher alone
 
 
-def table() -> tuple[str, list[str]]:
-    """Returns the version, and each way to call ./ttm, in the order of the table."""
-    version, forms = "", []
+def table() -> tuple[str, dict[str, str]]:
+    """Returns the version, and each way to call ./ttm with who answers it, in the order of the table."""
+    version, forms = "", {}
     for row in (TOP / "tools/launcher/commands.txt").read_text().splitlines():
         columns = [column.strip() for column in row.split("|")]
         if columns[0] == "version":
             version = columns[1]
-        elif columns[0] in KINDS:
-            forms.append(columns[1])
+        elif columns[0].rstrip("+") in KINDS:
+            forms[columns[1]] = columns[0].rstrip("+")
     return version, forms
 
 
@@ -43,6 +49,9 @@ def faults() -> Iterator[str]:
     for form in told:
         if form not in forms:
             yield f"ttm.1 has `{form}`, which the table doesn't have"
+    viewers = {form.split()[0] for form, kind in forms.items() if kind == "viewer"}
+    for word in viewers ^ ({word.name for word in WORDS} - OWN_WORDS):
+        yield f"`{word}` is a word of the table or of the viewers, and not of both"
     if f'"ttm {version}"' not in page.splitlines()[0]:
         yield f"ttm.1 isn't the page of version {version}"
     changes = re.search(r"^## ([0-9.]+)", (TOP / "CHANGELOG.md").read_text(), re.M)
@@ -57,7 +66,7 @@ def main() -> int:
     for fault in found:
         print(f"commands: {fault}")
     if not found:
-        print("commands: the man page and the list of changes say what the table says")
+        print("commands: the man page, the list of changes and the viewers have the words of the table")
     return 1 if found else 0
 
 

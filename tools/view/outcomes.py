@@ -8,19 +8,21 @@ from __future__ import annotations
 
 import concurrent.futures
 import os
-import subprocess
 from collections import Counter
 from typing import Dict, Iterable, Iterator, List, Set
 
 from .errors import ViewError
 from .observed import Fact, Observed, observe
+from .program import program_path, simulate
 from .report import read_report
 from .script import Script
 from .shuffle import number_and_script, shuffled
 
 MOST_RUNS = 1_000_000
+AT_A_TIME = 64
 MOST_ROWS = 8  # of one subject
 WIDEST = 60  # characters of an outcome
+WIDEST_SUBJECT = 110
 
 
 class Tally:
@@ -40,15 +42,15 @@ class Tally:
         """Yields a line for each outcome of a subject, the most frequent first."""
         counts = self.subjects[subject].most_common()
         for what, count in counts[:MOST_ROWS]:
-            yield f"    {shortened(what):<{WIDEST}} {count:>7}   shuffle {self.first[Fact(subject, what)]}"
+            yield f"    {shortened(what, WIDEST):<{WIDEST}} {count:>7}   shuffle {self.first[Fact(subject, what)]}"
         if len(counts) > MOST_ROWS:
             rest = sum(count for _, count in counts[MOST_ROWS:])
             yield f"    {f'{len(counts) - MOST_ROWS} others':<{WIDEST}} {rest:>7}"
 
 
-def shortened(text: str) -> str:
-    """Returns a text cut to the width of its column."""
-    return text if len(text) <= WIDEST else text[: WIDEST - 3] + "..."
+def shortened(text: str, widest: int) -> str:
+    """Returns a text cut to a number of characters."""
+    return text if len(text) <= widest else text[: widest - 3] + "..."
 
 
 class Outcomes:
@@ -81,7 +83,7 @@ def section(title: str, tally: Tally, subjects: List[str]) -> Iterator[str]:
     if subjects:
         yield from ("", title)
     for subject in subjects:
-        yield f"  {subject}"
+        yield f"  {shortened(subject, WIDEST_SUBJECT)}"
         yield from tally.rows(subject)
 
 
@@ -104,33 +106,24 @@ def lines_of(found: Outcomes) -> Iterator[str]:
     yield from ("", "interleaving number N is that of ./ttm shuffle N")
 
 
-def report_of(program: str, script: Script, seed: int) -> Observed:
-    """Runs `sim` of the program on an interleaving, and returns what it led to."""
-    text = shuffled(script, seed).encode()
-    done = subprocess.run([program, "sim"], input=text, stdout=subprocess.PIPE, check=False)
-    if done.returncode:
-        said = done.stdout.decode("latin-1").split("\n", 1)[0][:80]
-        raise ViewError(f"`sim` of interleaving {seed} ended with status {done.returncode}: {said}")
-    return observe(read_report(text + done.stdout))
+def observed(script: Script, seed: int) -> Observed:
+    """Returns what `sim` of an interleaving leads to."""
+    text = shuffled(script, seed)
+    output = simulate(text)
+    if output is None:
+        raise ViewError(f"the program that TTM_PROGRAM names ({program_path() or 'none'}) can't be run, or took too long; ./ttm outcomes sets it")
+    return observe(read_report(text.encode() + output))
 
 
 def outcomes_of(script: Script, count: int) -> Outcomes:
     """Runs interleavings 1 to `count`, as many at a time as there are processors."""
-    found, program = Outcomes(), program_of_environment()
+    found = Outcomes()
     with concurrent.futures.ThreadPoolExecutor(os.cpu_count()) as pool:
-        for start in range(1, count + 1, 64):
-            seeds = range(start, min(start + 64, count + 1))
-            for seed, seen in zip(seeds, pool.map(lambda seed: report_of(program, script, seed), seeds)):
+        for start in range(1, count + 1, AT_A_TIME):
+            seeds = range(start, min(start + AT_A_TIME, count + 1))
+            for seed, seen in zip(seeds, pool.map(lambda seed: observed(script, seed), seeds)):
                 found.add(seen, seed)
     return found
-
-
-def program_of_environment() -> str:
-    """Returns the path of the program; raises ViewError where none is told."""
-    program = os.environ.get("TTM_PROGRAM", "")
-    if not program:
-        raise ViewError("the variable TTM_PROGRAM must name the program ttm; ./ttm outcomes sets it")
-    return program
 
 
 def main(args: List[str]) -> int:

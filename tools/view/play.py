@@ -13,14 +13,18 @@ from pathlib import Path
 from typing import Dict, List, Tuple
 
 from .colours import letters_on, of_buffer
+from .draw_pages import counted
 from .observers import Observer, Wait
 from .replay import Replay
 from .report import Report, load
 from .script import Buffer, Command, Script
 from .state import AREAS
+from .wait_text import wait_text
 
 PAGE = Path(__file__).resolve().parent / "page"
-CODE = ("state.js", "timeline.js", "owners.js", "squares.js", "kinds.js", "panels.js", "controls.js")  # in the order in which they run
+CODE = (  # in the order in which they run
+    "state.js", "apply.js", "timeline.js", "owners.js", "squares.js", "sentences.js", "kernel.js", "panels.js", "controls.js",
+)  # fmt: skip
 
 
 class Waiting(Observer):
@@ -31,16 +35,7 @@ class Waiting(Observer):
         self.waits: Dict[int, List[Tuple[int, int, str]]] = {}
 
     def waited(self, wait: Wait) -> None:
-        self.waits.setdefault(wait.thread, []).append((wait.since, wait.until or 0, self.text(wait)))
-
-    def text(self, wait: Wait) -> str:
-        """Says what a thread waits for."""
-        need, buffer = wait.need, self.script.buffer_name(wait.need.buffer)
-        if need.kind == "job" and need.job is not None:
-            return f"job {need.job.number} of e{need.job.engine}, a fence of {buffer}"
-        if need.kind == "ghost":
-            return f"ghost {need.ghost}, whose pages {buffer} needs"
-        return f"{buffer}, held by ticket {need.stamp}"
+        self.waits.setdefault(wait.thread, []).append((wait.since, wait.until or 0, wait_text(self.script, wait.need)))
 
 
 def buffer_data(buffer: Buffer) -> Dict[str, object]:
@@ -57,11 +52,6 @@ def command_data(command: Command) -> Dict[str, object]:
     writes = sorted({operation.buffer for operation in command.operations if operation.writes})
     packets = sum(operation.packets() for operation in command.operations)
     return {"verb": command.verb, "text": command.text, "buffers": command.buffers, "writes": writes, "packets": packets}
-
-
-def counted(count: int, word: str) -> str:
-    """Returns a count with its word."""
-    return f"{count} {word}" if count == 1 else f"{count} {word}s"
 
 
 def about(script: Script) -> str:
@@ -95,7 +85,8 @@ def part(name: str) -> str:
 
 def page_of(report: Report) -> str:
     """Returns the page of a report."""
-    parts = {"title": html.escape(report.name), "style": part("play.css"), "data": data_of(report), "code": "\n".join(part(name) for name in CODE)}
+    code = "\n".join(part(name) for name in CODE)
+    parts = {"title": html.escape(report.name), "style": part("play.css"), "data": data_of(report), "code": code}
     pieces = part("play.html").split("{")
     filled = [pieces[0]]
     for piece in pieces[1:]:

@@ -8,7 +8,7 @@ from __future__ import annotations
 
 import json
 import sys
-from typing import Dict, List, Optional, Set
+from typing import Dict, Iterable, List, Optional, Set
 
 from .entries import Entry
 from .errors import ViewError
@@ -17,10 +17,10 @@ from .replay import Replay
 from .report import Report, load
 from .script import Actor, Command
 from .state import AREAS, Course, Ghost, Holder, Job
+from .wait_text import wait_text
 
 FIRST_ENGINE = 101  # the number of the track of engine 0; threads have their own numbers
 REAPER = 201
-ENCODED = json.JSONEncoder(separators=(",", ":")).encode
 COUNTERS = {"vram": "free pages of VRAM", "tt": "free pages of TT", "frames": "free frames", "swap": "free slots"}
 
 
@@ -36,6 +36,11 @@ def title_of(actor: Actor) -> str:
     if actor.kind == "r":
         return "reaper"
     return f"engine {actor.number}" if actor.number else "engine 0 (moves)"
+
+
+def jobs_text(jobs: Iterable[Job]) -> str:
+    """Names jobs."""
+    return ", ".join(f"job {job.number} of e{job.engine}" for job in jobs)
 
 
 class Trace(Observer):
@@ -58,30 +63,34 @@ class Trace(Observer):
         self.tracks = {actor: track_of(actor) for actor in self.script.actors()}
         self.heads = {actor: f'{{"pid":1,"ph":"X","dur":1,"tid":{track},"ts":' for actor, track in self.tracks.items()}
 
-    def add(self, **event: object) -> None:
-        """Adds an event."""
-        self.events.append(ENCODED({"pid": 1, **event}))
+    def add(self, phase: str, track: int, at: int, rest: str) -> None:
+        """Adds an event of a track; `rest` is JSON too. No name but the report's has a byte that must be escaped: readers refuse those."""
+        self.events.append(f'{{"pid":1,"ph":"{phase}","tid":{track},"ts":{at}{rest}}}')
 
     def begin(self, track: int, at: int, name: str) -> None:
         """Begins a slice of a track."""
         self.open[track] = self.open.get(track, 0) + 1
-        self.add(ph="B", tid=track, ts=at, name=name)
+        self.add("B", track, at, f',"name":"{name}"')
 
     def end(self, track: int, at: int, answer: str = "") -> None:
         """Ends the slice of a track that began last."""
         self.open[track] -= 1
-        self.add(ph="E", tid=track, ts=at, **({"args": {"answer": answer}} if answer else {}))
+        self.add("E", track, at, f',"args":{{"answer":"{answer}"}}' if answer else "")
+
+    def wait(self, track: int, since: int, until: int, name: str) -> None:
+        """Adds a wait from the end of entry `since` to that of entry `until`."""
+        self.add("X", track, since + 1, f',"dur":{until - since},"cat":"wait","name":"{name}"')
 
     def wait_of(self, track: int, since: int, until: int, name: str) -> None:
-        """Adds a wait from the end of entry `since` to that of entry `until`, with an arrow from that one."""
-        self.add(ph="X", tid=track, ts=since + 1, dur=until - since, name=name, cat="wait")
+        """Adds a wait with an arrow from the entry `until`, which ends it."""
+        self.wait(track, since, until, name)
         self.arrows += 1
-        source = self.tracks[self.report.entries[until - 1].actor]
-        self.add(ph="s", tid=source, ts=until, id=self.arrows, name="waited for", cat="wait")
-        self.add(ph="f", bp="e", tid=track, ts=until, id=self.arrows, name="waited for", cat="wait")
+        arrow = f',"id":{self.arrows},"cat":"wait","name":"waited for"'
+        self.add("s", self.tracks[self.report.entries[until - 1].actor], until, arrow)
+        self.add("f", track, until, f'{arrow},"bp":"e"')
 
     def entry(self, number: int, entry: Entry) -> None:
-        text = self.lines[number - 1].split(" ", 2)[2]  # has no byte that JSON must escape: `read_report` refuses those
+        text = self.lines[number - 1].split(" ", 2)[2]
         self.events.append(f'{self.heads[entry[0]]}{number},"name":"{text}"}}')
         if self.changed:
             for area in self.changed:
@@ -104,20 +113,11 @@ class Trace(Observer):
         self.end(course.thread, number + 1, self.report.text(number))
 
     def waited(self, wait: Wait) -> None:
-        name = self.need_text(wait)
+        name = f"waits for {wait_text(self.script, wait.need)}"
         if wait.until is None:
-            self.add(ph="X", tid=wait.thread, ts=wait.since + 1, dur=len(self.report.entries) - wait.since, name=name, cat="wait")
+            self.wait(wait.thread, wait.since, len(self.report.entries), name)
         elif wait.until > wait.since:
             self.wait_of(wait.thread, wait.since, wait.until, name)
-
-    def need_text(self, wait: Wait) -> str:
-        """Says what a thread waits for."""
-        need, buffer = wait.need, self.script.buffer_name(wait.need.buffer)
-        if need.kind == "job":
-            return f"waits for {need.job}, which uses {buffer}"
-        if need.kind == "ghost":
-            return f"waits for ghost {need.ghost}, to get pages for {buffer}"
-        return f"waits for {buffer}, which ticket {need.stamp} holds"
 
     def moved(self, move: Moved) -> None:
         self.moves[move.job] = f"{self.script.buffer_name(move.buffer)} from {move.before} to {move.after}"
@@ -126,8 +126,7 @@ class Trace(Observer):
         track, head = FIRST_ENGINE + job.engine, max(job.emitted, self.idle_since[job.engine])
         last = max((other.done for other in job.waits), default=0)
         if last > head:
-            names = ", ".join(str(other) for other in job.waits if other.done > head)
-            self.wait_of(track, head, last, f"job {job.number} waits for {names}")
+            self.wait_of(track, head, last, f"job {job.number} waits for {jobs_text(other for other in job.waits if other.done > head)}")
         self.begin(track, job.begun, f"job {job.number}: {self.moves.pop(job, '') or f't{job.thread} {job.command}'}")
 
     def done(self, job: Job) -> None:
@@ -137,7 +136,7 @@ class Trace(Observer):
     def ghost_reaped(self, ghost: Ghost) -> None:
         head, last = max(ghost.made, self.reaped), max((job.done for job in ghost.jobs), default=0)
         if last > head:
-            self.wait_of(REAPER, head, last, f"ghost {ghost.number} waits for {', '.join(map(str, ghost.jobs))}")
+            self.wait_of(REAPER, head, last, f"ghost {ghost.number} waits for {jobs_text(ghost.jobs)}")
         self.reaped = ghost.reaped
 
     def close(self) -> None:
@@ -148,7 +147,7 @@ class Trace(Observer):
 
     def fail(self, error: ViewError) -> None:
         """Marks the entry that can't be followed."""
-        self.add(ph="i", s="g", tid=0, ts=error.line - self.report.first_line + 1, name=error.text)
+        self.add("i", 0, error.line - self.report.first_line + 1, f',"s":"g","name":{json.dumps(error.text)}')
 
 
 def names_of(trace: Trace) -> List[str]:

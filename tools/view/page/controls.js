@@ -2,12 +2,14 @@
 // Starts the page, and shows the state after one entry at a time: the slider, the keys, the search and the clock.
 
 const NEAR = 16; // entries shown before and after the one at work
+const CALM = 400; // milliseconds without another entry, after which the address names the one shown
 const PREPARED = 20000; // entries that are followed at a time while nothing else is to be done
 
 const byId = (id) => document.getElementById(id);
 const styles = getComputedStyle(document.documentElement);
 const MONO = styles.getPropertyValue("--mono");
-const COLOURS = Object.fromEntries(["ink", "paper", "quiet", "line", "free", "ghost", "ghostPaper", "accent"].map((name) => [name, styles.getPropertyValue(`--${name}`).trim()]));
+const COLOUR_NAMES = ["ink", "paper", "quiet", "line", "free", "ghost", "ghostPaper", "accent"];
+const COLOURS = Object.fromEntries(COLOUR_NAMES.map((name) => [name, styles.getPropertyValue(`--${name}`).trim()]));
 
 const script = JSON.parse(byId("data").textContent);
 const lines = script.journal === "" ? [] : script.journal.split("\n");
@@ -16,6 +18,7 @@ const timeline = new Timeline(script, lines);
 let shown = -1;
 let owners = null;
 let clock = 0;
+let address = 0;
 
 /** Shows the state after `number` entries. */
 function show(number) {
@@ -49,7 +52,8 @@ function showEntry(number, line, { sentence, kernel }) {
   byId("sentence").textContent = sentence;
   say("");
   byId("kernel").textContent = kernel ? `Linux 6.1: ${kernel}` : "";
-  history.replaceState(null, "", `#${number}`);
+  clearTimeout(address);
+  address = setTimeout(() => history.replaceState(null, "", `#${number}`), CALM);
 }
 
 function showArea(area, old) {
@@ -92,14 +96,19 @@ function waitsAfter(number) {
 /** Lists the entries around the one at work. */
 function showLines(number) {
   const first = Math.max(1, Math.min(number - NEAR, lines.length - 2 * NEAR));
-  const items = [];
-  for (let at = first; at <= Math.min(lines.length, first + 2 * NEAR); at += 1) {
-    const button = make("button", { tabindex: "-1", "aria-current": at === number ? "true" : null }, make("span", { style: `width:${String(lines.length).length}ch` }, String(at)), lines[at - 1]);
-    button.addEventListener("click", () => show(at));
-    const kinds = [at === number ? "now" : at > number ? "later" : "", chosen() !== null && names(lines[at - 1], byId("search").value) ? "chosen" : ""];
-    items.push(make("li", { class: kinds.join(" ") }, button));
-  }
-  byId("lines").replaceChildren(...items);
+  const last = Math.min(lines.length, first + 2 * NEAR);
+  byId("lines").replaceChildren(...Array.from({ length: last - first + 1 }, (_, at) => lineItem(first + at, number)));
+}
+
+function lineItem(at, number) {
+  const index = make("span", { style: `width:${String(lines.length).length}ch` }, String(at));
+  const button = make("button", { tabindex: "-1", "aria-current": at === number ? "true" : null }, index, lines[at - 1]);
+  button.addEventListener("click", () => show(at));
+  const item = make("li", null, button);
+  item.classList.toggle("now", at === number);
+  item.classList.toggle("later", at > number);
+  item.classList.toggle("chosen", chosen() !== null && names(lines[at - 1], byId("search").value));
+  return item;
 }
 
 /** Tells whether a line of the journal names a buffer. */
@@ -175,6 +184,7 @@ const KEYS = {
 
 /** Follows a key, but for those that a field or a button needs itself. */
 function press(event) {
+  if (event.key === "Escape") document.activeElement.blur();
   const isField = ["INPUT", "SELECT"].includes(event.target.tagName) && event.target.type !== "range";
   const isButton = event.target.tagName === "BUTTON" && event.key === " ";
   if (isField || isButton || event.ctrlKey || event.altKey || event.metaKey || !KEYS[event.key]) return;
@@ -183,8 +193,8 @@ function press(event) {
 }
 
 function listen() {
-  const clicks = { first: KEYS.Home, back: KEYS.ArrowLeft, run: KEYS[" "], forth: KEYS.ArrowRight, last: KEYS.End, previous: KEYS.p, next: KEYS.n };
-  for (const [id, follow] of Object.entries(clicks)) byId(id).addEventListener("click", follow);
+  const clicks = { first: "Home", back: "ArrowLeft", run: " ", forth: "ArrowRight", last: "End", previous: "p", next: "n" };
+  for (const [id, key] of Object.entries(clicks)) byId(id).addEventListener("click", KEYS[key]);
   byId("slider").addEventListener("input", () => show(Number(byId("slider").value)));
   byId("number").addEventListener("change", () => show(Number(byId("number").value)));
   byId("search").addEventListener("change", again);

@@ -11,9 +11,11 @@ function make(tag, attributes, ...children) {
   return element;
 }
 
-/** Fills a table with a row of headings and rows of cells. */
+/** Fills a table with a row of headings and rows of cells. The first heading is for screen readers alone. */
 function fillTable(table, headings, rows, empty) {
-  const head = make("thead", null, make("tr", null, ...headings.map((heading) => make("th", { scope: "col" }, heading))));
+  const [first, ...others] = headings;
+  const cells = [make("th", { scope: "col", "aria-label": first }), ...others.map((heading) => make("th", { scope: "col" }, heading))];
+  const head = make("thead", null, make("tr", null, ...cells));
   const none = make("tr", null, make("td", { colspan: headings.length, class: "none" }, empty));
   table.replaceChildren(head, make("tbody", null, ...(rows.length ? rows : [none])));
 }
@@ -33,19 +35,20 @@ function signs(script, indexes) {
   return indexes.length ? indexes.flatMap((index, at) => (at ? [" ", sign(script, index)] : [sign(script, index)])) : ["-"];
 }
 
+const BUFFER_HEADINGS = ["buffer", "pages", "stands in", "targets", "page table", "holder", "pins", "unfinished jobs"];
+
 function showBuffers(script, state, marked) {
-  const shown = state.buffers.filter((buffer) => buffer.live);
-  const rows = shown.map((buffer) => {
+  const rows = state.buffers.filter((buffer) => buffer.live).map((buffer) => {
     const { index, name, pages } = buffer.declared;
-    return row({ class: marked.includes(name) ? "marked" : null }, sign(script, index), String(pages), standing(buffer), targetsText(buffer),
-      tableText(buffer), holderText(state, buffer), String(buffer.pins || "-"), fencesText(state, buffer));
+    const cells = [String(pages), standing(buffer), targetsText(buffer), tableText(buffer), holderText(state, buffer), String(buffer.pins || "-")];
+    return row({ class: marked.includes(name) ? "marked" : null }, sign(script, index), ...cells, fencesText(state, buffer));
   });
-  fillTable(document.getElementById("buffers"), ["name", "pages", "stands in", "targets", "page table", "holder", "pins", "unfinished jobs"], rows, "no buffer is live");
+  fillTable(document.getElementById("buffers"), BUFFER_HEADINGS, rows, "no buffer is live");
 }
 
 function targetsText(buffer) {
   const targets = MEMORIES.filter((memory) => buffer.targets[memory]);
-  return targets.map((memory) => `${MEMORY_NAMES[memory]} ${spansText(buffer.targets[memory])}`.replace("SYSTEM -", "SYSTEM")).join("; ") || "-";
+  return targets.map((memory) => MEMORY_NAMES[memory] + (memory === "sys" ? "" : ` ${spansText(buffer.targets[memory])}`)).join("; ") || "-";
 }
 
 /** Says what the pages of a buffer's table are: frames, slots, or nothing. */
@@ -87,38 +90,61 @@ function showThreads(script, state, actor, waits) {
   const rows = state.courses.map((course) => {
     const command = state.commandOf(course);
     const what = command ? `${course.answered + 1} ${command.text}` : "all answered";
-    const victims = course.caught.flatMap((victim) => [sign(script, victim.index), ` for ${victim.why}${victim.fail ? `, ${victim.fail}` : ""} `]);
-    const more = [course.skips.length ? `skips ${named(state, course.skips)}` : "", course.fail ? `failed: ${course.fail}` : ""].filter(Boolean).join("; ");
+    const name = `t${course.thread}`;
     const wait = waits.get(course.thread);
-    return row({ class: actor === `t${course.thread}` ? "marked" : null }, `t${course.thread}`, make("span", { class: "command", title: what }, what),
-      String(course.stamp || "-"), signs(script, course.held), victims.length || more ? [...victims, more] : "-", wait ? make("b", null, wait) : "-");
+    return row({ class: actor === name ? "marked" : null }, name, make("span", { class: "command", title: what }, what),
+      String(course.stamp || "-"), signs(script, course.held), victimsText(script, state, course), wait ? make("b", null, wait) : "-");
   });
-  fillTable(document.getElementById("threads"), ["", "command", "ticket", "holds", "victims", "waits for"], rows, "no thread");
+  fillTable(document.getElementById("threads"), ["thread", "command", "ticket", "holds", "victims", "waits for"], rows, "no thread");
 }
+
+/** Says which victims a thread has, which it passes over, and how its search has failed. */
+function victimsText(script, state, course) {
+  const parts = course.caught.flatMap((victim) => [sign(script, victim.index), ` for ${victim.why}${victim.fail ? `, ${victim.fail}` : ""} `]);
+  if (course.skips.length) parts.push(`skips ${named(state, course.skips)} `);
+  if (course.fail) parts.push(`failed: ${course.fail}`);
+  return parts.length ? parts : ["-"];
+}
+
+const MOST_JOBS = 6; // shown of an engine
 
 function showEngines(state, actor) {
   const rows = state.jobs.flatMap((jobs, engine) => {
-    const mark = actor === `e${engine}` ? "marked" : null;
-    if (!jobs.length) return [row({ class: mark }, `e${engine}`, "idle", "-", "-")];
-    const first = jobs.slice(0, 6).map((job, at) => row({ class: at ? null : mark }, at ? "" : `e${engine}`, `job ${job.number}: ${job.label}`,
-      `${job.ran} of ${job.packets}`, state.unfinished(job.waits).map((wait) => `e${wait.engine} ${wait.number}`).join(", ") || "-"));
-    return jobs.length > 6 ? [...first, row(null, "", `and ${jobs.length - 6} more jobs`, "", "")] : first;
+    const mark = { class: actor === `e${engine}` ? "marked" : null };
+    if (!jobs.size) return [row(mark, `e${engine}`, "idle", "-", "-")];
+    const shown = Array.from(jobs.values()).slice(0, MOST_JOBS).map((job, at) => jobRow(state, job, at ? null : mark, at ? "" : `e${engine}`));
+    return jobs.size > MOST_JOBS ? [...shown, row(null, "", `and ${jobs.size - MOST_JOBS} more`, "", "")] : shown;
   });
-  fillTable(document.getElementById("engines"), ["", "job", "packets run", "waits for"], rows, "");
+  fillTable(document.getElementById("engines"), ["engine", "job", "packets run", "waits for"], rows, "");
 }
 
+function jobRow(state, job, attributes, head) {
+  return row(attributes, head, `job ${job.number}: ${job.label}`, `${job.ran} of ${job.packets}`, shortJobs(state, job.waits));
+}
+
+/** Names unfinished jobs in few letters. */
+function shortJobs(state, jobs) {
+  return state.unfinished(jobs).map((job) => `e${job.engine} ${job.number}`).join(", ") || "-";
+}
+
+const MOST_GHOSTS = 8; // shown
+
 function showGhosts(script, state) {
-  const rows = state.ghosts.slice(0, 8).map((ghost) => row(null, `g${ghost.number}`, [sign(script, ghost.of)],
-    ghost.spans.length ? `${MEMORY_NAMES[ghost.memory]} ${spansText(ghost.spans)}` : "-", ghost.frames.length ? rangesText(ghost.frames) : "-",
-    state.unfinished(ghost.jobs).map((job) => `e${job.engine} ${job.number}`).join(", ") || "nothing: it is reaped next"));
-  if (state.ghosts.length > 8) rows.push(row(null, "", `and ${state.ghosts.length - 8} more`, "", "", ""));
-  fillTable(document.getElementById("ghosts"), ["", "left by", "pages", "frames", "waits for"], rows, "none");
+  const rows = state.ghosts.slice(0, MOST_GHOSTS).map((ghost) => {
+    const pages = ghost.spans.length ? `${MEMORY_NAMES[ghost.memory]} ${spansText(ghost.spans)}` : "-";
+    const frames = ghost.frames.length ? rangesText(ghost.frames) : "-";
+    const waits = shortJobs(state, ghost.jobs);
+    return row(null, `g${ghost.number}`, sign(script, ghost.of), pages, frames, waits === "-" ? "the reaper" : waits);
+  });
+  const rest = state.ghosts.length - MOST_GHOSTS;
+  if (rest > 0) rows.push(row(null, "", `and ${rest} more`, "", "", ""));
+  fillTable(document.getElementById("ghosts"), ["ghost", "left by", "pages", "frames", "waits for"], rows, "none");
 }
 
 function showLists(script, state) {
-  const rows = [];
-  for (let priority = 0; priority < PRIORITIES; priority += 1) {
-    rows.push(row(null, `priority ${priority}`, ...MEMORIES.map((memory, at) => make("div", { class: "members" }, ...signs(script, state.lists[at][priority])))));
-  }
-  fillTable(document.getElementById("lists"), ["", ...MEMORIES.map((memory) => MEMORY_NAMES[memory])], rows, "");
+  const rows = Array.from({ length: PRIORITIES }, (_, priority) => {
+    const lists = state.lists.map((ofMemory) => make("div", { class: "members" }, ...signs(script, ofMemory[priority])));
+    return row(null, `priority ${priority}`, ...lists);
+  });
+  fillTable(document.getElementById("lists"), ["priority", ...MEMORIES.map((memory) => MEMORY_NAMES[memory])], rows, "");
 }

@@ -1,8 +1,9 @@
 "use strict";
-// The state that a journal leads to, entry by entry: sections 3 and 5 of docs/SPECIFICATION.md.
+// The state that a journal leads to, entry by entry: section 3 of docs/SPECIFICATION.md. `apply.js` has what entries change.
 // That each entry can be followed was checked before the page was written.
 
 const MEMORIES = ["sys", "tt", "vram"];
+const MEMORY_NAMES = { sys: "SYSTEM", tt: "TT", vram: "VRAM" };
 const PRIORITIES = 4;
 
 /** Reads spans `F-L,F-L` or `-` into pairs. */
@@ -18,8 +19,7 @@ class State {
     this.age = 0;
     this.buffers = script.buffers.map((declared) => deadBuffer(declared));
     this.lists = MEMORIES.map(() => Array.from({ length: PRIORITIES }, () => []));
-    this.jobs = Array.from({ length: script.engines + 1 }, () => []);
-    this.doneUpTo = new Array(script.engines + 1).fill(0);
+    this.jobs = Array.from({ length: script.engines + 1 }, () => new Map()); // the unfinished ones, by number
     this.ghosts = [];
     this.moveFence = 0;
     this.courses = script.threads.map((commands, index) => newCourse(index + 1, 0));
@@ -33,8 +33,7 @@ class State {
     this.age = State.ages += 1;
     other.buffers = this.buffers.map((buffer) => ({ ...buffer, targets: { ...buffer.targets } }));
     other.lists = this.lists.map((lists) => lists.map((members) => members.slice()));
-    other.jobs = this.jobs.map((jobs) => jobs.map((job) => ({ ...job })));
-    other.doneUpTo = this.doneUpTo.slice();
+    other.jobs = this.jobs.map((jobs) => new Map(Array.from(jobs, ([number, job]) => [number, { ...job }])));
     other.ghosts = this.ghosts.slice();
     other.courses = this.courses.map((course) => ({ ...course }));
     return other;
@@ -58,7 +57,7 @@ class State {
   }
 
   isDone(job) {
-    return job.number <= this.doneUpTo[job.engine];
+    return !this.jobs[job.engine].has(job.number);
   }
 
   unfinished(fences) {
@@ -119,8 +118,14 @@ class State {
       if (!waits.some((other) => other.engine === one.engine && other.number === one.number)) waits.push(one);
     }
     const job = { engine, number, packets, ran: 0, waits, label };
-    this.jobs[engine].push(job);
+    this.jobs[engine].set(number, job);
     return job;
+  }
+
+  /** Leaves what a buffer has to a new ghost, until jobs are done. */
+  leave(buffer, number, frames, jobs) {
+    const { memory, spans, declared } = buffer;
+    this.ghosts.push({ number: Number(number), of: declared.index, memory, spans, frames, jobs });
   }
 
   release(course) {
@@ -147,7 +152,8 @@ State.ages = 0;
 
 function deadBuffer(declared) {
   const nothing = new Int32Array(0);
-  return { declared, live: false, memory: "sys", spans: [], frames: nothing, slots: nothing, age: -1, targets: {}, pins: 0, holder: 0, fences: [] };
+  const table = { frames: nothing, slots: nothing, age: -1 };
+  return { declared, live: false, memory: "sys", spans: [], ...table, targets: {}, pins: 0, holder: 0, fences: [] };
 }
 
 function newCourse(thread, answered) {
@@ -157,157 +163,4 @@ function newCourse(thread, answered) {
 /** Returns the frames of a buffer's page table. */
 function framesOf(buffer) {
   return Array.from(buffer.frames).filter((frame) => frame >= 0);
-}
-
-/** What each kind of entry changes. */
-const APPLY = {
-  ticket(state, [stamp], course) {
-    course.stamp = Number(stamp);
-  },
-  reserve(state, [name], course) {
-    const buffer = state.buffer(name);
-    buffer.holder = course.stamp;
-    course.held = [...course.held, buffer.declared.index];
-  },
-  backoff(state, [name], course) {
-    state.release(course);
-    course.held = [];
-    course.first = state.buffer(name).declared.index;
-  },
-  new(state, [name]) {
-    const buffer = state.buffer(name);
-    const pages = buffer.declared.pages;
-    Object.assign(buffer, deadBuffer(buffer.declared), { live: true, frames: new Int32Array(pages).fill(-1), slots: new Int32Array(pages).fill(-1) });
-    state.putOn(buffer);
-  },
-  free(state, [name, number], course) {
-    const buffer = state.buffer(name);
-    if (Number(number)) {
-      const jobs = state.unfinished(buffer.fences);
-      state.ghosts.push({ number: Number(number), of: buffer.declared.index, memory: buffer.memory, spans: buffer.spans, frames: framesOf(buffer), jobs });
-    }
-    state.takeOff(buffer);
-    Object.assign(buffer, deadBuffer(buffer.declared));
-    course.held = course.held.filter((index) => index !== buffer.declared.index);
-  },
-  take(state, [name, memory, spans]) {
-    const buffer = state.buffer(name);
-    buffer.targets[memory] = readSpans(spans);
-    const fence = { engine: 0, number: state.moveFence };
-    if (memory === "vram" && state.moveFence && !state.isDone(fence)) state.addFence(buffer, fence, "KERNEL");
-  },
-  untake(state, [name, memory]) {
-    delete state.buffer(name).targets[memory];
-  },
-  populate(state, [name, page, frame]) {
-    state.table(state.buffer(name)).frames[page] = frame;
-  },
-  swapin(state, [name, page, slot, frame]) {
-    const buffer = state.table(state.buffer(name));
-    buffer.frames[page] = frame;
-    buffer.slots[page] = -1;
-  },
-  swapout(state, [name, page, slot]) {
-    const buffer = state.table(state.buffer(name));
-    buffer.frames[page] = -1;
-    buffer.slots[page] = slot;
-  },
-  depopulate(state, [name]) {
-    state.table(state.buffer(name)).frames.fill(-1);
-  },
-  bind(state, [name]) {
-    const buffer = state.buffer(name);
-    state.stand(buffer, "tt", buffer.targets.tt);
-    delete buffer.targets.tt;
-  },
-  unbind(state, [name]) {
-    const buffer = state.buffer(name);
-    delete buffer.targets.sys;
-    state.stand(buffer, "sys", []);
-  },
-  move(state, [name, memory, number, left]) {
-    const buffer = state.buffer(name);
-    const label = `${name} from ${buffer.memory} to ${memory}`;
-    const job = state.emit(0, Number(number), buffer.declared.pages, buffer.fences, label);
-    if (left === "now") {
-      state.moveFence = job.number;
-    } else {
-      const frames = buffer.memory === "tt" ? framesOf(buffer) : [];
-      state.ghosts.push({ number: Number(left), of: buffer.declared.index, memory: buffer.memory, spans: buffer.spans, frames, jobs: [job] });
-    }
-    if (buffer.memory === "tt") state.table(buffer).frames.fill(-1);
-    state.addFence(buffer, job, "KERNEL");
-    state.stand(buffer, memory, buffer.targets[memory]);
-    delete buffer.targets[memory];
-  },
-  catch(state, [name, why], course) {
-    const buffer = state.buffer(name);
-    buffer.holder = course.stamp;
-    if (buffer.memory === "tt") buffer.targets.sys = [];
-    course.caught = [...course.caught, { index: buffer.declared.index, why, fail: "" }];
-  },
-  loose(state, [name], course) {
-    const buffer = state.buffer(name);
-    state.letGo(course, buffer);
-    state.touch(buffer);
-  },
-  skip(state, [name], course) {
-    const buffer = state.buffer(name);
-    state.letGo(course, buffer);
-    course.skips = [...course.skips, buffer.declared.index];
-  },
-  dry(state, [name, place], course) {
-    const buffer = state.buffer(name);
-    const isVictim = course.caught.some((victim) => victim.index === buffer.declared.index);
-    if (isVictim || isLastPlace(state, course, buffer, Number(place))) state.fail(course, buffer, "NoSpace");
-  },
-  nopages(state, [name], course) {
-    state.fail(course, state.buffer(name), "NoPages");
-  },
-  arm(state, [engine, number], course) {
-    const command = state.commandOf(course);
-    const uses = command.buffers.map((index) => [state.buffers[index], command.writes.includes(index) ? "WRITE" : "READ"]);
-    const fences = uses.flatMap(([buffer, usage]) => buffer.fences.filter((fence) => usage === "WRITE" || fence.usage !== "READ"));
-    const job = state.emit(Number(engine.slice(1)), Number(number), command.packets, fences, `t${course.thread} ${course.answered + 1}`);
-    for (const [buffer, usage] of uses) state.addFence(buffer, job, usage);
-  },
-  packet(state, words, course, engine) {
-    state.jobs[engine][0].ran += 1;
-  },
-  done(state, [number], course, engine) {
-    state.jobs[engine].shift();
-    state.doneUpTo[engine] = Number(number);
-  },
-  reap(state, [number]) {
-    state.ghosts = state.ghosts.filter((ghost) => ghost.number !== Number(number));
-  },
-  bulk(state, [group]) {
-    const isMember = (index) => state.buffers[index].declared.group === Number(group);
-    state.lists = state.lists.map((lists) =>
-      lists.map((members) => [...members.filter((index) => !isMember(index)), ...members.filter(isMember)]));
-  },
-  result(state, words, course) {
-    const command = state.commandOf(course);
-    state.release(course);
-    if (command.verb === "pin" || command.verb === "unpin") {
-      const buffer = state.buffers[command.buffers[0]];
-      if (!buffer.pins) state.takeOff(buffer);
-      buffer.pins += command.verb === "pin" ? 1 : -1;
-    }
-    for (const index of command.buffers) {
-      if (course.held.includes(index) && !state.buffers[index].pins) state.touch(state.buffers[index]);
-    }
-    state.answer(course);
-  },
-  refused(state, words, course) {
-    state.release(course);
-    state.answer(course);
-  },
-};
-
-/** Tells whether a dry place is the last that the search of a named buffer has. */
-function isLastPlace(state, course, buffer, place) {
-  const isHop = Object.keys(buffer.targets).length > 0;
-  const verb = state.commandOf(course).verb;
-  return isHop || verb === "move" || verb === "swapout" || place + 1 >= buffer.declared.forced;
 }

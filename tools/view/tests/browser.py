@@ -13,7 +13,7 @@ from pathlib import Path
 from typing import Any, Optional
 
 NAMES = ("chromium", "chromium-browser", "google-chrome", "chrome")
-SECONDS = 120
+SECONDS = 300  # much more than a quiet machine takes
 WORDS = ("--headless", "--no-sandbox", "--disable-gpu", "--disable-dev-shm-usage", "--window-size=1440,1000", "--virtual-time-budget=2000", "--dump-dom")
 FOUND = re.compile(r'<pre id="found">(.*?)</pre>', re.DOTALL)
 

@@ -3,54 +3,24 @@
 from __future__ import annotations
 
 from functools import lru_cache
-from typing import List, Optional, Tuple
+from typing import List, Tuple
 
-from ..report import Report, read_report
-from .program import EXAMPLES, PROGRAM, run
-from .program import examples as example_paths
+from view.report import Report, load, read_report
+
+from . import program
 from .random_scripts import RandomScript
 
 
-def program() -> Optional[str]:
-    """Returns the path of the program, or None where the environment names none."""
-    return PROGRAM or None
-
-
-def output_of(words: List[str], data: bytes) -> bytes:
-    """Returns what the program writes, and requires that it ends well."""
-    status, output = run(words, data)
-    assert status == 0, output[:80]
-    return output
-
-
-def example_names() -> List[str]:
-    """Returns the names of all examples."""
-    return [path.stem for path in example_paths()]
-
-
-def example_script(name: str) -> bytes:
-    """Returns the script of an example."""
-    return (EXAMPLES / f"{name}.ttm").read_bytes()
-
-
 def example(name: str) -> Report:
-    """Returns the report of an example."""
-    return read_report(example_script(name) + (EXAMPLES / f"{name}.report").read_bytes(), name)
-
-
-example_report = example
+    """Returns an example."""
+    path = program.EXAMPLES / f"{name}.ttm"
+    return load([str(path), str(path.with_suffix(".report"))])
 
 
 @lru_cache(maxsize=None)
 def examples() -> List[Tuple[str, Report]]:
-    """Returns the reports of all examples with their names."""
-    return [(name, example(name)) for name in example_names()]
-
-
-def drawn_report(seed: int, version: int) -> Report:
-    """Returns the report that `sim` writes for a drawn script."""
-    script = RandomScript(seed, version).text().encode()
-    return read_report(script + output_of(["sim"], script), f"drawn {seed}")
+    """Returns all examples with their names."""
+    return [(path.stem, example(path.stem)) for path in program.examples()]
 
 
 @lru_cache(maxsize=None)
@@ -59,7 +29,8 @@ def drawn_reports(count: int) -> List[Tuple[str, Report]]:
     found: List[Tuple[str, Report]] = []
     for seed in range(count):
         for version in (1, 2):
-            found.append((f"seed {seed}, version {version}", drawn_report(seed, version)))
+            script = RandomScript(seed, version).text().encode()
+            found.append((f"seed {seed}, version {version}", read_report(script + program.run(["sim"], script)[1])))
     return found
 
 

@@ -18,9 +18,8 @@ from ..script_reader import read_script
 from ..shuffle import shuffled
 from ..turns import fitting_turns, room_for_turns, schedule_lines, with_turns
 from .random_scripts import RandomScript
-from .samples import output_of, program
+from .program import needs_program, run
 
-NO_PROGRAM = "TTM_PROGRAM names no program: what needs one isn't run"
 CONTENTION = """ttm 1
 vram range 2
 tt 3
@@ -52,6 +51,13 @@ end
 def drawn_scripts(count: int) -> List[bytes]:
     """Draws scripts in which three threads or more want the same buffers."""
     return [RandomScript(seed, 1 + seed % 2, commands=12, threads=6).text().encode() for seed in range(100, 100 + count)]
+
+
+def output_of(words: List[str], data: bytes) -> bytes:
+    """Returns what the program writes, and requires that it ends well."""
+    status, output = run(words, data)
+    assert status == 0, output[:200]
+    return output
 
 
 def journal(output: bytes) -> bytes:
@@ -100,7 +106,7 @@ class TurnsTest(unittest.TestCase):
             self.assertLessEqual(len(shuffled(read_script(text.encode()), seed)), SCRIPT_BYTES)
 
 
-@unittest.skipUnless(program(), NO_PROGRAM)
+@needs_program
 class ScheduleTest(unittest.TestCase):
     def test_sim_writes_the_report_of_a_run_again(self) -> None:
         for text in [CONTENTION.encode(), *drawn_scripts(19)]:
@@ -110,7 +116,7 @@ class ScheduleTest(unittest.TestCase):
             self.assertEqual(ran, output_of(["sim"], again))
 
 
-@unittest.skipUnless(program(), NO_PROGRAM)
+@needs_program
 class ShuffleTest(unittest.TestCase):
     def test_shuffles_give_many_journals_and_each_is_valid(self) -> None:
         script, journals = read_script(CONTENTION.encode()), set()
@@ -122,7 +128,7 @@ class ShuffleTest(unittest.TestCase):
         self.assertGreater(len(journals), 90)
 
 
-@unittest.skipUnless(program(), NO_PROGRAM)
+@needs_program
 class OutcomesTest(unittest.TestCase):
     def test_counts_are_those_of_the_reports(self) -> None:
         script, count = read_script(CONTENTION.encode()), 40

@@ -15,7 +15,9 @@ from ..errors import ViewError
 from ..report import Report
 from ..state import AREAS
 from ..trace import COUNTERS, FIRST_ENGINE, REAPER, main
-from .samples import EXAMPLES, drawn_report, example_names, example_report, example_script, program
+from . import program
+from .odd_reports import odd_reports
+from .samples import drawn_reports, examples
 
 
 def trace_of(*paths: Path) -> Tuple[int, List[Dict[str, Any]]]:
@@ -28,9 +30,18 @@ def trace_of(*paths: Path) -> Tuple[int, List[Dict[str, Any]]]:
 
 def example_trace(name: str) -> List[Dict[str, Any]]:
     """Returns the events of an example."""
-    status, events = trace_of(EXAMPLES / f"{name}.ttm", EXAMPLES / f"{name}.report")
+    status, events = trace_of(program.EXAMPLES / f"{name}.ttm", program.EXAMPLES / f"{name}.report")
     assert status == 0
     return events
+
+
+def changed(*changes: Tuple[str, str]) -> bytes:
+    """Returns the example `one_page_eviction` with changes in its report."""
+    text = (program.EXAMPLES / "one_page_eviction.report").read_text()
+    for old, new in changes:
+        assert old in text
+        text = text.replace(old, new, 1)
+    return (program.EXAMPLES / "one_page_eviction.ttm").read_bytes() + text.encode()
 
 
 def events_of(report: Report) -> List[Dict[str, Any]]:
@@ -80,22 +91,26 @@ class TraceTest(unittest.TestCase):
         self.assertEqual(starts.keys(), ends.keys())
 
     def test_examples(self) -> None:
-        for name in example_names():
+        for name, report in examples():
             with self.subTest(name):
-                self.check(example_report(name), example_trace(name))
+                self.check(report, example_trace(name))
 
-    @unittest.skipUnless(program(), "TTM_PROGRAM names no program: drawn reports aren't traced")
+    @program.needs_program
     def test_drawn_reports(self) -> None:
-        for seed in range(20):
-            for version in (1, 2):
-                report = drawn_report(seed, version)
-                with self.subTest(report.name):
-                    self.check(report, events_of(report))
+        for name, report in drawn_reports(20):
+            with self.subTest(name):
+                self.check(report, events_of(report))
+
+    def test_odd_reports(self) -> None:
+        for report in odd_reports(100):
+            with self.subTest(report.name):
+                entries = [event for event in events_of(report) if event["ph"] == "X" and event.get("cat") != "wait"]
+                self.assertEqual(len(report.entries), len(entries))
 
     def test_an_arrow_leads_from_the_job_to_the_read_that_waits(self) -> None:
         events = example_trace("pipelined_eviction")
         waits = [event for event in events if event.get("cat") == "wait" and event["ph"] == "X" and event["tid"] == 1]
-        self.assertEqual([(38, 2, "waits for e0 job 2, which uses a")], [(event["ts"], event["dur"], event["name"]) for event in waits])
+        self.assertEqual([(38, 2, "waits for job 2 of e0, a fence of a")], [(event["ts"], event["dur"], event["name"]) for event in waits])
         arrows = {event["id"]: event["ts"] for event in events if event["ph"] == "s" and event["tid"] == FIRST_ENGINE}
         self.assertIn(39, [arrows[event["id"]] for event in events if event["ph"] == "f" and event["tid"] == 1])
 
@@ -105,10 +120,9 @@ class TraceTest(unittest.TestCase):
         self.assertEqual({1: "thread 1", FIRST_ENGINE: "engine 0 (moves)", FIRST_ENGINE + 1: "engine 1", REAPER: "reaper"}, tracks)
 
     def test_a_report_that_cannot_be_followed_gives_a_trace_up_to_there(self) -> None:
-        report = (EXAMPLES / "one_page_eviction.report").read_text().replace("populate a 0 0", "populate a 0 3", 1)
         with TemporaryDirectory() as folder:
             path = Path(folder) / "odd"
-            path.write_bytes(example_script("one_page_eviction") + report.replace(" bind a", " unbind a", 1).encode())
+            path.write_bytes(changed((" bind a", " unbind a")))
             status, events = trace_of(path)
         self.assertEqual(1, status)
         self.assertIn("unbind a", [event["name"] for event in events if event["ph"] == "i"][0])
@@ -117,16 +131,15 @@ class TraceTest(unittest.TestCase):
     def test_odd_names_are_escaped(self) -> None:
         with TemporaryDirectory() as folder:
             path = Path(folder) / 'odd " \\ name'
-            path.write_bytes(example_script("one_page_eviction") + (EXAMPLES / "one_page_eviction.report").read_bytes())
+            path.write_bytes(changed())
             _, events = trace_of(path)
         self.assertIn(f"ttm: {path}", [event["args"]["name"] for event in events if event.get("name") == "process_name"])
 
     def test_bytes_that_json_escapes_are_in_no_report(self) -> None:
         for odd in ('"', "\\", "\x7f", "\x01"):
-            report = (EXAMPLES / "one_page_eviction.report").read_text().replace(" packet 1 0\n", f" packet 1 0 {odd}\n", 1)
             with TemporaryDirectory() as folder, self.assertRaises(ViewError):
                 path = Path(folder) / "odd"
-                path.write_bytes(example_script("one_page_eviction") + report.encode())
+                path.write_bytes(changed((" packet 1 0\n", f" packet 1 0 {odd}\n")))
                 trace_of(path)
 
     def test_areas_have_counters(self) -> None:
