@@ -6,7 +6,7 @@ from typing import List, Set
 
 from . import legend, style
 from .draw_lanes import Lanes, kinds_in
-from .draw_pages import Pages, draw_moves
+from .draw_pages import Pages, counted, draw_moves
 from .past import Past
 from .scale import LEFT, RIGHT, Scale
 from .script import Script
@@ -67,8 +67,13 @@ class Detail:
     def _titles(self, left_out: int) -> None:
         """Draws the title, and the note below it."""
         self.drawing.text("title", 12, 20, self.title)
-        more = f"; {left_out:,} moves aren't drawn, since they would cover the pages" if left_out else ""
-        self.drawing.text("note", 12, 36, self.note + more)
+        cut = self.past.cut_ways
+        parts = [self.note]
+        if left_out:
+            parts.append(f"{left_out:,} moves aren't drawn, since they would cover the pages")
+        if cut:
+            parts.append(f"{counted(cut, 'move')} that {'begins' if cut == 1 else 'begin'} before this or {'ends' if cut == 1 else 'end'} after it not drawn")
+        self.drawing.text("note", 12, 36, "; ".join(parts))
 
     def _axis(self, bottom: float) -> None:
         """Draws a faint line at round numbers of entries, and these numbers."""

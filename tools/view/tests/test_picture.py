@@ -4,9 +4,12 @@ import re
 import time
 import unittest
 import xml.dom.minidom
+from itertools import combinations
 from typing import Any, Dict, List, Tuple
 
 from view import docs_pictures
+from view.draw_pages import Box as Place
+from view.draw_pages import crosses
 from view.errors import ViewError
 from view.past import Past
 from view.picture import detailed, picture, range_of, read_words
@@ -14,7 +17,7 @@ from view.record import Recorder
 from view.replay import Replay
 from view.report import Report, read_report
 from view.sums import KINDS, summed_up
-from view.svg import escaped
+from view.svg import escaped, width_of
 
 from . import samples
 from .program import needs_program
@@ -56,6 +59,34 @@ def row_height(rects: List[Any]) -> float:
         if found:
             return float(rect.getAttribute("height")) / (int(found[2]) - int(found[1]))
     return 1.0
+
+
+SIZES = {"title": 14.0, "head": 11.0, "name": 9.5, "small": 8.5}
+Box = Tuple[float, float, float, float]
+
+
+def text_box(text: Any) -> Box:
+    """Returns about where a label is: left, top, right, bottom."""
+    kinds = text.getAttribute("class").split(" ")
+    size = next((SIZES[kind] for kind in kinds if kind in SIZES), 10.0)
+    width = width_of(text.firstChild.data, size)
+    share = 1.0 if "end" in kinds else 0.5 if "mid" in kinds or "name" in kinds else 0.0
+    left, base = float(text.getAttribute("x")) - share * width, float(text.getAttribute("y"))
+    return left, base - 0.72 * size, left + width, base
+
+
+def mark_box(mark: Any) -> Box:
+    """Returns where a cross or a triangle is."""
+    numbers = [float(word) for word in re.findall(r"-?[\d.]+", mark.getAttribute("points") or mark.getAttribute("d"))]
+    if mark.tagName == "polygon":
+        return min(numbers[::2]), min(numbers[1::2]), max(numbers[::2]), max(numbers[1::2])
+    x, y, size = numbers[:3]
+    return x, y, x + size, y + size
+
+
+def overlap(one: Box, other: Box) -> bool:
+    """Tells whether two boxes have more than an edge in common."""
+    return one[0] < other[2] - 0.5 and other[0] < one[2] - 0.5 and one[1] < other[3] - 0.5 and other[1] < one[3] - 0.5
 
 
 class Pictures(unittest.TestCase):
@@ -102,6 +133,38 @@ class Pictures(unittest.TestCase):
 
     def test_docs_have_what_is_drawn(self) -> None:
         self.assertEqual(docs_pictures.main([]), 0)
+
+    def test_labels_and_marks_stand_apart(self) -> None:
+        for name, report in samples.examples():
+            svg = xml.dom.minidom.parseString(picture(report, read_words([])))
+            boxes = [(text_box(text), text.firstChild.data) for text in svg.getElementsByTagName("text") if text.firstChild]
+            for kind in ("path", "polygon"):
+                marks = [one for one in svg.getElementsByTagName(kind) if one.getAttribute("class") in ("refused", "backoff")]
+                boxes += [(mark_box(one), one.getAttribute("class")) for one in marks]
+            for (one, what), (other, that) in combinations(boxes, 2):
+                self.assertFalse(overlap(one, other), (name, what, that, one, other))
+
+    def test_no_move_passes_through_a_label(self) -> None:
+        for name, report in samples.examples():
+            svg = xml.dom.minidom.parseString(picture(report, read_words([])))
+            names = [text_box(text) for text in svg.getElementsByTagName("text") if "name" in text.getAttribute("class")]
+            for path in svg.getElementsByTagName("path"):
+                if path.getAttribute("class") == "move" and path.firstChild:
+                    x, y, end, there = map(float, re.findall(r"[\d.]+", path.getAttribute("d")))
+                    for left, top, right, bottom in names:
+                        self.assertFalse(crosses(((x, y), (end, there)), Place(left, top, right - left, bottom - top)), name)
+
+    def test_arrows_point_where_moves_go(self) -> None:
+        svg = xml.dom.minidom.parseString(picture(samples.example("pipelined_eviction"), read_words([])))
+        lines = [one for one in svg.getElementsByTagName("path") if one.getAttribute("class") == "move" and one.firstChild]
+        tips = [one for one in svg.getElementsByTagName("polygon") if one.getAttribute("class") == "tip"]
+        self.assertEqual(len(lines), 3)
+        for line, tip in zip(lines, tips):
+            x, y, end, there = map(float, re.findall(r"[\d.]+", line.getAttribute("d")))
+            points = [float(word) for word in re.findall(r"[\d.]+", tip.getAttribute("points"))]
+            right, down = points[0] - (points[2] + points[4]) / 2, points[1] - (points[3] + points[5]) / 2
+            across, along = (end - x) * down - (there - y) * right, (end - x) * right + (there - y) * down
+            self.assertLess(abs(across), 0.05 * along)
 
     def pauses(self, name: str) -> List[Tuple[str, int, int, str]]:
         """Returns the waits of threads of an example."""
