@@ -9,7 +9,7 @@ from .apply_pages import Told
 from .entries import Arm, Done, Free, Move, Packet, Reap
 from .observers import Moved
 from .script import TT, VRAM
-from .state import KERNEL, MOST_WAITS, READ, WRITE, BufferState, Course, Ghost, Job, State
+from .state import KERNEL, READ, WRITE, BufferState, Course, Ghost, Job, State
 
 
 class ApplyMoves(ApplyCommands):
@@ -30,12 +30,7 @@ class ApplyMoves(ApplyCommands):
 
     def _fence(self, job: Job, buffer: BufferState, usage: str) -> None:
         """Makes a job wait for what a usage of a buffer must wait for, and a fence of the buffer."""
-        with_readers = usage != READ
-        if len(buffer.fences) > MOST_WAITS:
-            others = buffer.unfinished(with_readers)
-        else:
-            others = [other for other, kind in buffer.fences.items() if with_readers or kind != READ]
-        job.waits += [other for other in others if other not in job.waits]
+        job.waits += [other for other in buffer.unfinished(usage != READ) if other not in job.waits]
         buffer.add_fence(job, usage)
         job.buffers.append(buffer.index)
 

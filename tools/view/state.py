@@ -34,14 +34,11 @@ class Area:
         self.mask = (1 << size) - 1
 
 
-MOST_WAITS = 16
-
-
 class Job:
     """A job, from the entry that emits it (`emitted`) to its Done (`done`); entry numbers, 0 where there is none yet.
 
-    `waits` are the jobs that weren't done when it was emitted, of a buffer that has more than MOST_WAITS the last one of each engine;
-    `buffers` those that it is a fence of; `command` is the thread's at work.
+    `waits` are jobs that weren't done when it was emitted, for each buffer and engine the last; `buffers` those that it is a fence of;
+    `command` is the thread's at work.
     """
 
     __slots__ = ("engine", "number", "thread", "command", "buffers", "waits", "packets", "ran", "emitted", "begun", "done", "is_move")
