@@ -58,9 +58,10 @@ def read_words(args: List[str]) -> Wish:
 
 def range_of(wish: Wish, entries: int) -> Tuple[int, int]:
     """Returns the first and the last entry that are drawn; of an empty journal 1 and 0."""
-    first, last = wish.first or 1, min(wish.last or entries, entries)
+    wanted = entries if wish.last is None else wish.last
+    first, last = wish.first or 1, min(wanted, entries)
     if first > max(last, 1):
-        raise ViewError(f"there are no entries from {first} to {wish.last or entries}: the journal has {entries}")
+        raise ViewError(f"there are no entries from {first} to {wanted}: the journal has {entries}")
     return first, last
 
 
@@ -80,28 +81,28 @@ def entries_note(report: Report, first: int, last: int) -> str:
     return f"Entries {first:,} to {last:,} of {count:,}, from left to right"
 
 
-def picture(report: Report, wish: Wish) -> str:
-    """Returns the picture of a report: by entry where that isn't too much, else by column."""
+def picture(report: Report, wish: Wish, fault: str = "") -> str:
+    """Returns the picture of a report: by entry where that isn't too much, else by column. `fault` says why the rest isn't drawn."""
     first, last = range_of(wish, len(report.entries))
     when = "in the end" if last == len(report.entries) else f"after entry {last:,}"
     if last - first < MOST_ENTRIES:
-        svg = detailed(report, first, last, when)
+        svg = detailed(report, first, last, when, fault)
         if svg and len(svg) <= MOST_BYTES:
             return svg
     columns = summed_up(report, first, last)
     each = -(-columns.entries // columns.count)
-    note = f"{entries_note(report, first, last)}; {columns.count} columns of up to {each:,} entries, shares are averages over a column"
+    note = f"{entries_note(report, first, last)}; {columns.count} columns of up to {each:,} entries, shares are averages over a column{fault}"
     return Summed(report.script, columns, title_of(report), note).svg(of_columns(report.script, columns, note, when), when)
 
 
-def detailed(report: Report, first: int, last: int, when: str) -> str:
+def detailed(report: Report, first: int, last: int, when: str, fault: str = "") -> str:
     """Returns the picture of a report by entry, or nothing where it would have too many shapes."""
     recorder = Recorder(report.script, first, last)
     past = recorder.finish(run_to(Replay(report, recorder), last))
     if past.shapes() > MOST_SHAPES:
         return ""
     scale = Scale(first, last, unit_of(last - first + 1))
-    note = entries_note(report, first, last)
+    note = entries_note(report, first, last) + fault
     return Detail(report.script, past, scale, title_of(report), note).svg(of_past(report.script, past, note, when), when)
 
 
@@ -112,5 +113,18 @@ def main(args: List[str]) -> int:
         return 0
     gc.disable()
     wish = read_words(args)
-    sys.stdout.write(picture(reports.load(wish.paths), wish))
-    return 0
+    svg, status = followed(reports.load(wish.paths), wish)
+    sys.stdout.write(svg)
+    return status
+
+
+def followed(report: Report, wish: Wish) -> Tuple[str, int]:
+    """Returns the picture of a report and status 0, or of the entries before the first that can't be followed and status 1."""
+    try:
+        return picture(report, wish), 0
+    except ViewError as error:
+        entry = error.line - report.first_line + 1
+        if entry < 1 or (wish.first or 1) > max(entry - 1, 1):
+            raise
+        print(error.shown("picture"), file=sys.stderr)
+        return picture(report, wish._replace(last=entry - 1), f"; {error.text}"), 1

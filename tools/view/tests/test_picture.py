@@ -4,6 +4,8 @@ import re
 import time
 import unittest
 import xml.dom.minidom
+from contextlib import redirect_stderr
+from io import StringIO
 from itertools import combinations
 from typing import Any, Dict, List, Tuple
 
@@ -12,7 +14,7 @@ from view.draw_pages import Box as Place
 from view.draw_pages import crosses
 from view.errors import ViewError
 from view.past import Past
-from view.picture import detailed, picture, range_of, read_words
+from view.picture import detailed, followed, picture, range_of, read_words
 from view.record import Recorder
 from view.replay import Replay
 from view.report import Report, read_report
@@ -237,11 +239,23 @@ class Pictures(unittest.TestCase):
             xml.dom.minidom.parseString(svg)
             self.assertIn("</svg>", svg, name)
 
-    def test_broken_reports_are_told_by_line(self) -> None:
-        broken = samples.written([["new b0"]], ["t1 new b0", "t1 bind b0"], samples.FREE)
+    def test_broken_reports_are_drawn_up_to_the_fault(self) -> None:
+        broken = read_report(samples.written([["new b0"]], ["t1 new b0", "t1 bind b0"], samples.FREE))
         with self.assertRaises(ViewError) as raised:
-            picture(read_report(broken), read_words([]))
+            picture(broken, read_words([]))
         self.assertEqual(raised.exception.line, 14)
+        with redirect_stderr(StringIO()) as said:
+            svg, status = followed(broken, read_words([]))
+        xml.dom.minidom.parseString(svg)
+        self.assertEqual((status, said.getvalue()[:12]), (1, "picture:14: "))
+        self.assertIn("Entries 1 to 1 of 2", svg)
+        self.assertIn("entry 2: ", svg)
+        first = read_report(samples.written([["new b0"]], ["t1 bind b0"], samples.FREE))
+        with redirect_stderr(StringIO()):
+            svg, status = followed(first, read_words([]))
+        xml.dom.minidom.parseString(svg)
+        with self.assertRaises(ViewError):
+            followed(broken, read_words(["--from", "2"]))
 
     def test_long_runs_are_summed_in_a_bounded_size(self) -> None:
         report = samples.long_report(16, 400)
