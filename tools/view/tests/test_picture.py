@@ -97,7 +97,8 @@ class Pictures(unittest.TestCase):
         text = picture(report, read_words([]))
         svg = xml.dom.minidom.parseString(text)
         self.assertLess(len(text), MOST_BYTES, name)
-        counts = [int(word) for line in re.findall(r">(free \d+, live \d+|target \d+, ghost \d+)<", text) for word in re.findall(r"\d+", line)]
+        lines = re.findall(r">(free \d+, live \d+|target \d+, ghost \d+)<", text)
+        counts = [int(word) for line in lines for word in re.findall(r"\d+", line)]
         sized = [account for account in report.accounts if account.size]
         self.assertEqual(counts, [one for account in sized for one in account[2:]], name)
         for account in sized if "columns of" not in text else []:
