@@ -4,14 +4,19 @@ from __future__ import annotations
 
 from typing import Callable, Dict, List, Optional, Tuple
 
-from .entries import Backoff, Bind, Catch, Depopulate, Done, Free, Loose, Move, New, Populate, Reap, Refused, Reserve, Result, Skip, SwapIn, SwapOut, Take, Unbind, Untake
+from .entries import (
+    Backoff, Catch, Depopulate, Done, Free, Loose, Move, Populate, Reap, Refused, Reserve, Result, Skip, SwapIn, SwapOut, Take, Unbind, Untake,
+)  # fmt: skip
 from .needs import LOCK, SEEK, Need, Needs
 from .observers import Wait
 from .state import Course, State
 
-HOLDERS = frozenset((Reserve, Catch, Loose, Skip, Backoff, Result, Refused, Free, New))
-FRAMES = frozenset((Populate, SwapIn, SwapOut, Depopulate))
-PLACES = frozenset((Take, Untake, Bind, Unbind, Move, Reap)) | HOLDERS
+# What lets buffers go, and what reserves them; what frees places or ghosts, and what takes them.
+RELEASES = frozenset((Result, Refused, Backoff, Loose, Skip, Free))
+RESERVES = frozenset((Reserve, Catch))
+FREES = frozenset((Untake, Unbind, Move, Depopulate, SwapOut, Reap)) | RELEASES
+FRAMES = frozenset((Populate, SwapIn))
+TAKES = frozenset((Take, Move, Free, SwapOut, Result)) | RESERVES
 
 
 class Waits:
@@ -57,17 +62,25 @@ class Waits:
         self.seekers.pop(thread, None)
 
     def after(self, kind: type, number: int) -> None:
-        """Looks again at the threads of which an entry of this kind may change what they need."""
-        if self.lockers and kind in HOLDERS:
-            for course in list(self.lockers.values()):
-                self.look_at(course, number)
-        if self.seekers and (kind in PLACES or (kind in FRAMES and (self.open or not self.frames.free))):
-            for course in list(self.seekers.values()):
-                if self.state.ghosts or course.thread in self.open:
-                    self.look_at(course, number)
+        """Looks again at the threads of which an entry of this kind may change what they need.
+
+        One that waits is looked at where something is let go or freed, and one that doesn't where something is reserved or taken.
+        """
+        if self.lockers:
+            self._look_again(self.lockers, kind in RELEASES, kind in RESERVES, number)
+        if self.seekers:
+            takes = kind in TAKES or (kind in FRAMES and not self.frames.free)
+            self._look_again(self.seekers, kind in FREES, takes and bool(self.state.ghosts), number)
         if self.open and kind is Done:
             for thread in list(self.open):
                 self.look_at(self.state.courses[thread - 1], number)
+
+    def _look_again(self, courses: Dict[int, Course], looks_at_waiting: bool, looks_at_others: bool, number: int) -> None:
+        """Looks at those of these threads that wait, or at the others, or at all."""
+        if looks_at_waiting or looks_at_others:
+            for thread, course in list(courses.items()):
+                if looks_at_waiting if thread in self.open else looks_at_others:
+                    self.look_at(course, number)
 
     def end(self) -> None:
         """Ends all waits: the journal is over."""
