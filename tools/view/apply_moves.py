@@ -30,10 +30,8 @@ class ApplyMoves(ApplyCommands):
 
     def _fence(self, job: Job, buffer: BufferState, usage: str) -> None:
         """Makes a job wait for what a usage of a buffer must wait for, and a fence of the buffer."""
-        for other, kind in buffer.fences.items():
-            if (usage != READ or kind != READ) and other not in job.waits:
-                job.waits.append(other)
-        buffer.fences[job] = usage
+        job.waits += [other for other in buffer.unfinished(usage != READ) if other not in job.waits]
+        buffer.add_fence(job, usage)
         job.buffers.append(buffer.index)
 
     def _ghost(self, number: int, buffer: BufferState, jobs: List[Job]) -> Ghost:

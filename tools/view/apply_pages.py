@@ -92,7 +92,7 @@ class ApplyPages:
         buffer.targets[entry.memory] = entry.spans
         fence = self.state.move_fence
         if entry.memory == VRAM and fence is not None and not fence.done:
-            buffer.fences[fence] = KERNEL
+            buffer.add_fence(fence, KERNEL)
             fence.buffers.append(buffer.index)
         if not any(victim.buffer == entry.buffer for victim in course.caught):
             course.forced, course.dry = False, 0

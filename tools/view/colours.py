@@ -19,6 +19,7 @@ LIVE = "#5f8fbf"
 GHOST = "#8a8f98"
 WAIT = "#b4540a"
 PALE = "#ffe2c2"
+WARM = "#f0ad6e"
 BUSY = "#3d4a5c"
 
 

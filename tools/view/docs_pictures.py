@@ -34,7 +34,7 @@ def main(args: List[str]) -> int:
         if args == ["--write"]:
             path.write_text(svg, encoding="utf-8")
         elif path.read_text(encoding="utf-8") != svg:
-            print(f"pictures: docs/pictures/{path.name} isn't what is drawn of examples/{path.stem}; write it by {sys.argv[0]} --write")
+            print(f"pictures: docs/pictures/{path.name} isn't what is drawn of examples/{path.stem}; write it by tools/view/docs_pictures.py --write")
             status = 1
     return status
 

@@ -151,8 +151,11 @@ class Pages:
         for one in held:
             title = f"{whose(self.script, one.holder)}: {NAMES[area][0]} {one.first}-{one.last}, from entry {one.start} to {one.end}"
             drawing.rect(kind_of(one.holder), *self._box(rows, one), title)
+        whole = set(held)
         for one in grouped(held):
             text = name_of(self.script, one.holder)
+            if one not in whole and rows.row >= DENSE:
+                one = one._replace(first=(one.first + one.last - 1) // 2, last=(one.first + one.last - 1) // 2 + 1)
             box = self._box(rows, one)
             x = label_place(box, width_of(text, 9.5), lines)
             if x is not None:

@@ -6,7 +6,7 @@ from typing import Dict, List, NamedTuple, Optional, Set, Tuple
 
 from .limits import PRIORITIES
 from .script import SYSTEM, TT, VRAM, Command, Place, Script, Span
-from .state import READ, BufferState, Course, Job, State, Victim
+from .state import BufferState, Course, Job, State, Victim
 
 Interest = Optional[str]
 LOCK, SEEK = "lock", "seek"
@@ -95,12 +95,12 @@ class Needs:
         if command.verb == "write" or (command.verb == "swapout" and buffer.frame_count and self.state.areas["swap"].free):
             return self._idle(buffer)
         if command.verb == "read":
-            return self._fence(buffer, [job for job, usage in buffer.fences.items() if usage != READ])
+            return self._fence(buffer, buffer.unfinished(False))
         return None
 
     def _idle(self, buffer: BufferState) -> Optional[Need]:
         """The need for all jobs of a buffer."""
-        return self._fence(buffer, list(buffer.fences)) if buffer.fences else None
+        return self._fence(buffer, buffer.unfinished(True)) if buffer.fences else None
 
     def _fence(self, buffer: BufferState, jobs: List[Job]) -> Optional[Need]:
         """The need for the job of the greatest number in the least context."""

@@ -66,6 +66,8 @@ def range_of(wish: Wish, entries: int) -> Tuple[int, int]:
 
 def title_of(report: Report) -> str:
     """Returns the name of the script, as its file has it."""
+    if report.name == "standard input":
+        return "Report"
     name = os.path.basename(report.name)
     return cut(name[:-4] if name.endswith(".ttm") else name, 60)
 

@@ -37,7 +37,8 @@ class Area:
 class Job:
     """A job, from the entry that emits it (`emitted`) to its Done (`done`); entry numbers, 0 where there is none yet.
 
-    `waits` are the jobs that weren't done when it was emitted; `buffers` those that it is a fence of; `command` is the thread's at work.
+    `waits` are jobs that weren't done when it was emitted, for each buffer and engine the last; `buffers` those that it is a fence of;
+    `command` is the thread's at work.
     """
 
     __slots__ = ("engine", "number", "thread", "command", "buffers", "waits", "packets", "ran", "emitted", "begun", "done", "is_move")
@@ -80,12 +81,13 @@ class Ghost:
 class BufferState:
     """A buffer as it stands. `frames` and `slots` are its page table: of each page the frame or the slot, or None in both.
 
-    `fences` are its unfinished jobs, each with its usage. `holder` is the stamp that reserves it, or 0.
+    `fences` are its unfinished jobs, each with its usage, `last_fences` the last one of each engine, by whether it only reads. `holder` is the
+    stamp that reserves it, or 0.
     """
 
     __slots__ = (
         "declared", "index", "is_live", "memory", "spans", "frames", "slots", "frame_count", "slot_count", "targets", "pins", "holder",
-        "fences", "as_live", "as_target",
+        "fences", "last_fences", "as_live", "as_target",
     )  # fmt: skip
 
     def __init__(self, declared: Buffer) -> None:
@@ -107,6 +109,21 @@ class BufferState:
         self.frame_count = self.slot_count = self.pins = self.holder = 0
         self.targets: Dict[str, Spans] = {}
         self.fences: Dict[Job, str] = {}
+        self.last_fences: Dict[Tuple[int, bool], Job] = {}
+
+    def add_fence(self, job: Job, usage: str) -> None:
+        """Adds a job to the fences."""
+        self.fences[job] = usage
+        key = job.engine, usage == READ
+        if key not in self.last_fences or self.last_fences[key].number < job.number:
+            self.last_fences[key] = job
+
+    def unfinished(self, with_readers: bool) -> List[Job]:
+        """Returns the last unfinished job of each engine that uses the buffer; without readers those that only read it don't count.
+
+        An engine does its jobs in order, so all are done where these are.
+        """
+        return [job for (_engine, is_reader), job in self.last_fences.items() if not job.done and (with_readers or not is_reader)]
 
     def is_filled(self) -> bool:
         """Tells whether each page has a frame."""

@@ -18,7 +18,7 @@ STYLE = f"""text{{font:10px "DejaVu Sans",Verdana,sans-serif;fill:{colours.INK}}
 .busy{{fill:{colours.BUSY};stroke:#fff;stroke-width:.4}}.ready{{stroke:{colours.BUSY};stroke-width:1.2;stroke-dasharray:2 2;fill:none}}
 .wait{{fill:{colours.PALE};stroke:{colours.WAIT};stroke-width:.8}}
 .command{{fill:#e3ebf4;stroke:#7d8ca0;stroke-width:.6}}.entry{{fill:{colours.BUSY}}}
-path.ghost,path.wait{{stroke:none}}.pointed{{fill:#000;fill-opacity:0}}.count{{fill:#7b6a9c}}
+path.ghost{{stroke:none}}path.wait{{stroke:none;fill:{colours.WARM}}}.pointed{{fill:#000;fill-opacity:0}}.count{{fill:#7b6a9c}}
 .backoff{{fill:{colours.WAIT};stroke:#fff;stroke-width:.5}}.refused{{stroke:#b00020;stroke-width:2;fill:none}}
 """
 FIXED = f"""<pattern id="ghost" width="5" height="5" patternUnits="userSpaceOnUse"><path d="M0 0h5v5h-5z" fill="#d6d9de"/>\

@@ -126,8 +126,6 @@ class Summed:
             low = high
         self._titles([_shares_text(shares, column) for column in range(self.columns.count)], top, AREA_HEIGHT)
         drawing.close()
-        drawing.text("small end", LEFT - 5, top + 7, f"{size:,}")
-        drawing.text("small end", LEFT - 5, bottom, "0")
         self.y = bottom + APART
 
     def _entry_shares(self, actor: str) -> List[float]:

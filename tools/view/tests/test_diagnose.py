@@ -91,7 +91,8 @@ class Verdicts(unittest.TestCase):
         with tempfile.TemporaryDirectory() as room:
             path = Path(room) / "both"
             path.write_bytes(data)
-            self.assertIn(f"{os.fspath(path)}:16: ", rejected(os.fspath(path), data, (0, 1))[0])
+            line = data.count(b"\n")
+            self.assertIn(f"{os.fspath(path)}:{line}: ", rejected(os.fspath(path), data, (0, 1))[0])
 
 
 if __name__ == "__main__":
