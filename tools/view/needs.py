@@ -5,7 +5,7 @@ from __future__ import annotations
 from typing import Dict, List, NamedTuple, Optional, Set, Tuple
 
 from .limits import PRIORITIES
-from .script import SYSTEM, TT, VRAM, Command, Place, Script, Span
+from .script import SYSTEM, TT, VRAM, Command, Place, Span
 from .state import BufferState, Course, Job, State, Victim
 
 Interest = Optional[str]
@@ -237,13 +237,3 @@ def _runs(free: int, pages: int) -> int:
 def _meets(spans: Tuple[Span, ...], reach: Span) -> bool:
     """Tells whether spans have a page in a reach."""
     return any(span.first < reach.last and reach.first < span.last for span in spans)
-
-
-def need_text(need: Need, script: Script) -> str:
-    """Says what a thread waits for, as `waits for e0 job 2, which uses a`."""
-    name = script.buffer_name(need.buffer)
-    if need.kind == "job":
-        return f"waits for {need.job}, which uses {name}"
-    if need.kind == "ghost":
-        return f"waits for ghost {need.ghost}, to get pages for {name}"
-    return f"waits for {name}, which ticket {need.stamp} holds"
