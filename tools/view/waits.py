@@ -7,7 +7,7 @@ from typing import Callable, Dict, List, Optional, Tuple
 from .entries import (
     Backoff, Catch, Depopulate, Done, Free, Loose, Move, Populate, Reap, Refused, Reserve, Result, Skip, SwapIn, SwapOut, Take, Unbind, Untake,
 )  # fmt: skip
-from .needs import LOCK, SEEK, Need, Needs
+from .needs import LOCK, Need, Needs, Seek
 from .observers import Wait
 from .state import Course, State
 
@@ -29,22 +29,25 @@ class Waits:
         self.tell = tell
         self.open: Dict[int, Tuple[int, Need]] = {}
         self.lockers: Dict[int, Course] = {}
-        self.seekers: Dict[int, Course] = {}
+        self.seekers: Dict[int, Tuple[Course, Seek]] = {}
 
     def look_at(self, course: Course, number: int) -> None:
         """Looks at what a thread needs after entry `number`."""
         need, interest = self.needs.of(course)
-        thread = course.thread
         if interest == LOCK:
-            self.lockers[thread] = course
-        elif interest == SEEK:
-            self.seekers[thread] = course
-        old = self.open.get(thread)
+            self.lockers[course.thread] = course
+        elif callable(interest):
+            self.seekers[course.thread] = course, interest
+        self._note(course, need, number)
+
+    def _note(self, course: Course, need: Optional[Need], number: int) -> None:
+        """Notes what a thread needs after entry `number`, None for nothing."""
+        old = self.open.get(course.thread)
         if old is not None and old[1] != need:
             self.close(course, number)
             old = None
         if need is not None and old is None:
-            self.open[thread] = (number, need)
+            self.open[course.thread] = (number, need)
 
     def close(self, course: Course, until: Optional[int]) -> None:
         """Ends the wait of a thread."""
@@ -66,21 +69,19 @@ class Waits:
 
         One that waits is looked at where something is let go or freed, and one that doesn't where something is reserved or taken.
         """
-        if self.lockers:
-            self._look_again(self.lockers, kind in RELEASES, kind in RESERVES, number)
+        opened = self.open
+        if self.lockers and (kind in RELEASES or kind in RESERVES):
+            for course in [course for thread, course in self.lockers.items() if (kind in RELEASES) == (thread in opened)]:
+                self.look_at(course, number)
         if self.seekers:
-            takes = kind in TAKES or (kind in FRAMES and not self.frames.free)
-            self._look_again(self.seekers, kind in FREES, takes and bool(self.state.ghosts), number)
-        if self.open and kind is Done:
-            for thread in list(self.open):
+            frees = kind in FREES
+            takes = bool(self.state.ghosts) and (kind in TAKES or (kind in FRAMES and not self.frames.free))
+            if frees or takes:
+                for course, seek in [one for thread, one in self.seekers.items() if (frees if thread in opened else takes)]:
+                    self._note(course, seek(), number)
+        if opened and kind is Done:
+            for thread in [thread for thread, (_since, need) in opened.items() if need.job is not None and need.job.done]:
                 self.look_at(self.state.courses[thread - 1], number)
-
-    def _look_again(self, courses: Dict[int, Course], looks_at_waiting: bool, looks_at_others: bool, number: int) -> None:
-        """Looks at those of these threads that wait, or at the others, or at all."""
-        if looks_at_waiting or looks_at_others:
-            for thread, course in list(courses.items()):
-                if looks_at_waiting if thread in self.open else looks_at_others:
-                    self.look_at(course, number)
 
     def end(self) -> None:
         """Ends all waits: the journal is over."""
