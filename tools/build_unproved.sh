@@ -35,8 +35,6 @@ clean() {
   rm -rf "$work"
 }
 trap clean EXIT
-trap 'exit 130' INT
-trap 'exit 143' TERM
 
 # Prints the program's module, where it is whole: a small one is the kit's own, and where there is an object, the compiler has begun.
 whole_module() {

@@ -4,19 +4,19 @@
 # The exit status is 1 if one failed. It takes some minutes.
 #
 # usage: tools/test_unproved.sh [NAME ..]     crates, `examples` and `viewers`; all of them where none is named
-set -u
+set -um # (each test is a group of processes of its own, so that it can be ended)
 top=$(cd "$(dirname "$0")/.." && pwd)
 logs=$(mktemp -d)
 
-stop() {
+clean() {
   trap '' INT TERM
-  kill $(jobs -p) 2>/dev/null
+  for job in $(jobs -p); do
+    kill -INT -- "-$job"
+  done 2>/dev/null
   wait
   rm -rf "$logs"
-  exit "$1"
 }
-trap 'stop 130' INT
-trap 'stop 143' TERM
+trap clean EXIT
 
 # The crates that have tests, and the programs with stored output.
 crates() {
@@ -73,6 +73,5 @@ failed=()
 for name in "${names[@]}"; do
   [ -e "$logs/$name.passed" ] || failed+=("$name")
 done
-rm -rf "$logs"
 echo "test: ${#names[@]} tried, ${#failed[@]} failed${failed[*]:+: ${failed[*]}}"
 [ "${#failed[@]}" -eq 0 ]

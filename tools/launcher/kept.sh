@@ -58,13 +58,14 @@ is_fresh() {
 # Keeps the listing of the program $1, if it is still that of the sum $2. A file that was changed in the last two seconds could be changed again
 # with the same time, so nothing is kept then.
 remember() {
-  local new=$1.seen.$$
-  { listing "$1" >"$new"; } 2>/dev/null || return 0
-  if [ "$(sha256sum <"$new")" = "$2" ] && [ -z "$(sources -newerct '2 seconds ago' -print -quit)" ]; then
-    mv -f "$new" "$1.seen"
+  half=$1.seen.$$
+  { listing "$1" >"$half"; } 2>/dev/null || return 0
+  if [ "$(sha256sum <"$half")" = "$2" ] && [ -z "$(sources -newerct '2 seconds ago' -print -quit)" ]; then
+    mv -f "$half" "$1.seen"
   else
-    rm -f "$new"
+    rm -f "$half"
   fi
+  half=
 }
 
 # Sets `unproved` to an unproved program that is up to date, and makes it where there is none: beside the proved one, or where nothing can be
@@ -149,7 +150,9 @@ stop_unbuilt() {
 
 # Marks the program $1 as made from sources of the sum $2, which they were as its build began, and ends the launcher if they aren't any more.
 mark() {
-  sums_of "$1" "$2" >"$1.made.new" && mv -f "$1.made.new" "$1.made"
+  half=$1.made.new
+  sums_of "$1" "$2" >"$half" && mv -f "$half" "$1.made"
+  half=
   if ! is_fresh "$1"; then
     echo "ttm: sources changed while the program was built; build it again" >&2
     exit 1

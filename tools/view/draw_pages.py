@@ -69,7 +69,7 @@ def kind_of(holder: Holder) -> str:
 
 def label_kind(holder: Holder) -> str:
     """Returns the class of a holder's label."""
-    if holder.kind != "live":
+    if holder.kind != "live" or colours.round_of(holder.number):
         return "name halo"
     return "name light" if colours.letters_on(colours.of_buffer(holder.number)) == colours.PAPER else "name"
 
