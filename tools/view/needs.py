@@ -6,7 +6,7 @@ from functools import partial
 from typing import Callable, Dict, List, NamedTuple, Optional, Set, Tuple, Union
 
 from .limits import PRIORITIES
-from .script import SYSTEM, TT, VRAM, Command, Place, Script, Span
+from .script import SYSTEM, TT, VRAM, Command, Place, Span
 from .state import BufferState, Course, Job, State, Victim
 
 LOCK = "lock"
@@ -259,13 +259,3 @@ def _meets(spans: Tuple[Span, ...], reach: Span) -> bool:
         if span[0] < last and first < span[1]:
             return True
     return False
-
-
-def need_text(need: Need, script: Script) -> str:
-    """Says what a thread waits for, as `waits for e0 job 2, which uses a`."""
-    name = script.buffer_name(need.buffer)
-    if need.kind == "job":
-        return f"waits for {need.job}, which uses {name}"
-    if need.kind == "ghost":
-        return f"waits for ghost {need.ghost}, to get pages for {name}"
-    return f"waits for {name}, which ticket {need.stamp} holds"

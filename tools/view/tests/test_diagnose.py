@@ -68,8 +68,8 @@ class Verdicts(unittest.TestCase):
 
     def test_actors_that_must_wait(self) -> None:
         name, start = "pipelined_eviction", "an entry of another actor, since "
-        self.check(name, 39, "38 t1 result read aa", "t1 can't do anything here", f"{start}t1 waits for e0 job 2, which uses a")
-        self.check(name, 38, "37 e1 packet 1 0", "e1 can't do anything here", f"{start}e1 job 1 waits for e0 job 3")
+        self.check(name, 39, "38 t1 result read aa", "t1 can't do anything here", f"{start}t1 waits for job 2 of e0, a fence of a")
+        self.check(name, 38, "37 e1 packet 1 0", "e1 can't do anything here", f"{start}job 1 of e1 waits for job 3 of e0")
 
     def test_the_rest(self) -> None:
         line = "frames size 2 free 9 live 2 target 0 ghost 0"
