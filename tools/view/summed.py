@@ -103,7 +103,7 @@ class Summed:
                 self.drawing.rect("pointed", self.across.x(column), top, self.across.unit, height, title)
 
     def _area(self, area: str) -> None:
-        """Draws the shares of the pages of an area, and behind them who holds it in the end."""
+        """Draws the shares of the pages of an area, and to the right of them who holds it in the end."""
         size = self.script.size(area)
         drawing, top, bottom = self.drawing, self.y, self.y + AREA_HEIGHT
         ends = [self.columns.level(area, kind).end() for kind in KINDS]
