@@ -2,7 +2,7 @@
 #include "peer.h"
 #include "rules.h"
 
-/* done under the buffer's reservation; NULL or the refusal */
+/* Does a command with its reserved buffer, and answers NULL or the refusal. */
 typedef const char *action(struct peer_buffer *buffer, char **words);
 
 void let_go(struct ttm_buffer_object *bo, bool refused)
@@ -173,7 +173,7 @@ static const char *do_new(struct declaration *declared)
 	return NULL;
 }
 
-/* a bulk move asks that the members' reservations are held: by others, or by the command */
+/* Moves a group in bulk, for which the members' reservations must be held: by others, or by the command. */
 static const char *do_touch(int group)
 {
 	struct ttm_buffer_object *held[MAX_BUFFERS];

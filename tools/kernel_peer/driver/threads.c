@@ -117,7 +117,7 @@ static void begin_thread(int at)
 	makecontext(&course->context, (void (*)(void))run_commands, 1, at);
 }
 
-/* whether the thread got on */
+/* Gives the thread a turn, and tells whether it got on. */
 static bool take_turn(struct course *course)
 {
 	if (course->is_over)
