@@ -20,7 +20,7 @@ from typing import Any
 from kernel_side import has_flags, known_rules, run_kernel
 from observed import Difference, Observed, first_difference
 from orders import Order
-from project_side import observe, run_in_order, run_project
+from project_side import run_in_order, run_project
 from scripts import Script
 
 FOLDER = Path(__file__).resolve().parent / "cases"

@@ -3,7 +3,7 @@
 # once more under AddressSanitizer, and some random scripts of each family. It takes KERNEL_DIR (README.md), and TTM_PROGRAM or the launcher
 # at the top; it is no part of the gate. Faults are lines; the exit status is 1 if there is one. It takes some minutes.
 #
-# usage: tools/kernel_peer/check.sh [PERCENT]     of the scripts of each family that figures.py takes (2)
+# usage: tools/kernel_peer/check.sh [PERCENT]     of the scripts of each family that figures.py takes (5)
 set -u
 if [ -z "${KERNEL_DIR:-}" ]; then
   echo "kernel_peer: no kernel's source is given (KERNEL_DIR), so nothing was compared"
@@ -27,7 +27,7 @@ python3 "$here/cases.py" check >"$room/said" 2>&1 || fault
 export KERNEL_PEER_OUT="$room/plain"
 python3 "$here/build.py" >"$room/said" 2>&1 || { fault; exit 1; }
 python3 "$here/cases.py" check >"$room/said" 2>&1 || fault
-python3 "$here/figures.py" run "$room/figures" --share "${1:-2}" >"$room/said" 2>&1 || fault
+python3 "$here/figures.py" run "$room/figures" --share "${1:-5}" >"$room/said" 2>&1 || fault
 if [ "$faults" -eq 0 ]; then
   sed -n '/^| sum /p' "$room/said"
   echo "kernel_peer: each difference on these scripts is one of the rules that README.md names"

@@ -20,6 +20,7 @@ from collections import Counter
 from concurrent.futures import ThreadPoolExecutor
 from pathlib import Path
 
+from families import FAMILIES
 from kernel_side import has_flags, known_rules
 
 HERE = Path(__file__).resolve().parent
@@ -36,6 +37,7 @@ SCRIPTS = {
     "swap": 700,
     "buddy": 900,
     "two": 600,
+    "everything": 200,
 }
 FLAG_SCRIPTS = 100  # of each family but those of blocks, where the kernel has lists with flags
 MODES = ("eager", "lagging")
@@ -54,7 +56,7 @@ HUNDRED = 100
 
 def scripts_of_kernel() -> dict[str, int]:
     """How many scripts of which families: of version 2 where the kernel has lists with flags."""
-    return {f"flags-{family}": FLAG_SCRIPTS for family in SCRIPTS if family != "buddy"} if has_flags() else SCRIPTS
+    return {family: FLAG_SCRIPTS for family in FAMILIES if family.startswith("flags-")} if has_flags() else SCRIPTS
 
 
 def compare_some(family: str, first: int, count: int, room: Path) -> None:

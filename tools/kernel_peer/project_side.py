@@ -180,6 +180,6 @@ def observe(script: Script, report: Report) -> Observed:
 
 
 def run_project(script: Script, order: Order) -> Observed:
-    if not order.lagging and not order.threads:
+    if not order.lagging and len(script.threads) == 1:
         return observe(script, simulate(script.text()))  # the program's own order
     return observe(script, run_in_order(script, order))

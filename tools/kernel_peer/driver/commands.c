@@ -2,7 +2,7 @@
 #include "peer.h"
 #include "rules.h"
 
-/* done under the buffer's reservation; NULL or the refusal */
+/* Does a command with its reserved buffer, and answers NULL or the refusal. */
 typedef const char *action(struct peer_buffer *buffer, char **words);
 
 void let_go(struct ttm_buffer_object *bo, bool refused)
@@ -138,18 +138,21 @@ static const char *do_swapout(struct peer_buffer *buffer, char **words)
 
 static const char *with_buffer(struct declaration *declared, action *act, char **words)
 {
-	struct peer_buffer *buffer = declared->live;
+	struct peer_buffer *buffer;
 	struct ww_acquire_ctx ticket;
 	const char *refusal = "NoBuffer";
 
+	ww_acquire_init(&ticket, &reservation_ww_class);
+	give_way();
+	buffer = declared->live;
 	if (!buffer)
 		return refusal;
 	ttm_bo_get(&buffer->tbo);
-	ww_acquire_init(&ticket, &reservation_ww_class);
-	dma_resv_lock(buffer->tbo.base.resv, &ticket);
-	give_way();
-	if (declared->live == buffer)
+	lock_at_once(buffer->tbo.base.resv, &ticket);
+	if (declared->live == buffer) {
+		give_way();
 		refusal = act(buffer, words);
+	}
 	if (act == do_free && !refusal) {
 		dma_resv_unlock(buffer->tbo.base.resv);
 		if (ours(RULE_FREED))
@@ -170,7 +173,7 @@ static const char *do_new(struct declaration *declared)
 	return NULL;
 }
 
-/* a bulk move asks that the members' reservations are held: by others, or by the command */
+/* Moves a group in bulk, for which the members' reservations must be held: by others, or by the command. */
 static const char *do_touch(int group)
 {
 	struct ttm_buffer_object *held[MAX_BUFFERS];

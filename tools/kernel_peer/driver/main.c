@@ -58,7 +58,7 @@ static void run(const struct words *words, const char *rules)
 	report_end();
 }
 
-/* in a process of its own, since the kernel's files have variables that nothing sets back; the exit status */
+/* Runs in a process of its own, since the kernel's files have variables that nothing sets back, and answers whether it failed. */
 static int run_apart(const struct words *words, const char *rules)
 {
 	int status;

@@ -42,9 +42,9 @@ struct script {
 extern struct script script;
 void read_script(FILE *from);
 struct declaration *declaration_of(const char *name);
-/* cuts the line at its spaces; the number of words */
+/* Cuts the line at its spaces, and answers the number of words. */
 int split_words(char *line, char **words, int max);
-/* prints why the peer can't go on, and ends it with status 3 */
+/* Prints why the peer can't go on, and ends it with status 3. */
 void give_up(const char *why, const char *what) __attribute__((noreturn));
 
 /* ---- buffers and the device (device.c) ---- */
@@ -60,11 +60,11 @@ void make_device(void);
 struct peer_buffer *make_buffer(struct declaration *declared);
 const char *name_of(struct ttm_buffer_object *bo);
 const char *memory_name(int mem_type);
-/* a page's bytes, in VRAM or in a frame */
+/* Answers where the bytes of a page are, in VRAM or in a frame. */
 u8 *page_bytes(struct ttm_buffer_object *bo, struct ttm_resource *res, unsigned long page);
-/* brings a reserved buffer to one of the places; NULL or the refusal (placement.c) */
+/* Brings a reserved buffer to one of the places, and answers NULL or the refusal (placement.c). */
 const char *validate(struct peer_buffer *buffer, const struct place_list *wanted, const struct place_list *busy);
-/* gives a reserved buffer's frames in SYSTEM to slots; an error if it can't (placement.c) */
+/* Gives a reserved buffer's frames in SYSTEM to slots; an error if it can't (placement.c). */
 int swap_out(struct peer_buffer *buffer);
 extern const struct place_list whole_memory[3];
 extern bool driver_moves_pinned;
@@ -74,7 +74,7 @@ extern bool driver_moves_pinned;
 struct page_span { unsigned long start, end; };
 int buddy_vram_init(struct ttm_device *bdev, unsigned long pages);
 int buddy_spans(struct ttm_resource *res, struct page_span *spans);
-/* the spans of a resource outside SYSTEM, by whichever manager */
+/* Writes the spans of a resource, by whichever manager, and answers their number. */
 int spans_of(struct ttm_resource *res, struct page_span *spans);
 
 /* ---- frames and slots (stores.c) ---- */
@@ -91,9 +91,9 @@ void add_fill(struct job *job, u8 *to, int length, u8 byte);
 void add_copy(struct job *job, u8 *to, u8 *from, int length);
 void add_xor(struct job *job, u8 *to, u8 *from, int length);
 void add_probe(struct job *job, u8 *from, int length);
-/* the job waits for the unfinished fences of a reservation up to a usage */
+/* Has the job wait for the unfinished fences of a reservation up to a usage. */
 void wait_for_fences(struct job *job, struct dma_resv *resv, enum dma_resv_usage usage);
-/* gives the job to its engine; the caller gets a reference to its fence */
+/* Gives the job to its engine; the caller gets a reference to its fence. */
 struct dma_fence *emit(struct job *job);
 void make_engines(void);
 bool engine_turn(int context);
@@ -103,7 +103,7 @@ void print_probes(void);
 /* ---- turns of engines and reaper (turns.c) ---- */
 
 extern bool jobs_lag; /* engines take turns only while a thread waits, or in a drain */
-/* one turn of the reaper and of each engine; whether any of them did something */
+/* Gives the reaper and each engine a turn, and tells whether any of them did something. */
 bool take_round(void);
 void drain(long rounds);
 enum { UNTIL_REST = -1 };
@@ -135,13 +135,16 @@ struct thread {
 	struct ttm_buffer_object *unpinned; /* by this command */
 	bool wants_pages; /* frames or slots were short for the command's own buffer */
 	bool is_emptying; /* the swapout is the command's own */
+	bool has_turn; /* for the lock that comes next */
 	char *victims, *notes, *answer;
 	size_t victims_size, notes_size, answer_size;
 };
 extern struct thread *running; /* NULL while engines and reaper take their turns */
 void run_threads(const char *order, const char *drains);
-/* another thread may go before the body of the command */
+/* Lets other threads go before the thread's next turn. */
 void give_way(void);
+/* Takes a reservation, for which the thread has its turn already. */
+void lock_at_once(struct dma_resv *resv, struct ww_acquire_ctx *ticket);
 void tell(char **text, size_t *size, const char *format, ...) __attribute__((format(printf, 3, 4)));
 #define tell_victim(...) tell(&running->victims, &running->victims_size, __VA_ARGS__)
 #define tell_note(...) tell(&running->notes, &running->notes_size, __VA_ARGS__)
@@ -151,7 +154,7 @@ void tell(char **text, size_t *size, const char *format, ...) __attribute__((for
 
 void do_command(char **words, int n);
 const char *do_submit(char **words, int n);
-/* gives each page of the buffer a frame, unless it is in VRAM; NULL or the refusal */
+/* Gives each page of the buffer a frame, unless it is in VRAM, and answers NULL or the refusal. */
 const char *populate(struct peer_buffer *buffer);
 void let_go(struct ttm_buffer_object *bo, bool refused);
 

@@ -7,7 +7,7 @@ int __real_drm_mm_insert_node_in_range(struct drm_mm *mm, struct drm_mm_node *no
 int __wrap_drm_mm_insert_node_in_range(struct drm_mm *mm, struct drm_mm_node *node, u64 size, u64 alignment, unsigned long color,
 				       u64 start, u64 end, enum drm_mm_insert_mode mode);
 
-/* the shortest hole that has `node->size` pages in the range, the lowest among equals; whether there is one */
+/* Finds the shortest hole that has `node->size` pages in the range, the lowest among equals, and tells whether there is one. */
 static bool find_lowest_best(struct drm_mm *mm, struct drm_mm_node *node, u64 alignment, u64 start, u64 end)
 {
 	struct drm_mm_node *before;

@@ -49,7 +49,7 @@ bool swap_pages_out(struct ttm_buffer_object *bo)
 	return !has_frames(tt);
 }
 
-/* the first buffer on the lists of the memory type that has frames and is neither pinned nor held; it is reserved then */
+/* Reserves the first buffer on the lists of the memory type that has frames and is neither pinned nor held; NULL if there is none. */
 static struct ttm_buffer_object *reserve_victim(int mem_type)
 {
 	struct ttm_resource_manager *man = ttm_manager_type(&device, mem_type);
@@ -73,7 +73,7 @@ static struct ttm_buffer_object *reserve_victim(int mem_type)
 	return found;
 }
 
-/* whether there was a victim for swap and a slot for a page of it */
+/* Empties a victim as far as slots go, and tells whether there was one and a slot for a page of it. */
 static bool swap_victim_out(void)
 {
 	struct ttm_buffer_object *bo;

@@ -68,7 +68,7 @@ static void read_places(char *word, struct place_list *list)
 	}
 }
 
-/* buffer NAME PAGES prio P group G align A want LIST busy LIST, or in version 2 .. place LIST */
+/* Reads buffer NAME PAGES prio P group G align A want LIST busy LIST, or in version 2 .. place LIST */
 static void read_declaration(char **words)
 {
 	struct declaration *declared = &script.declarations[script.declared++];

@@ -21,7 +21,7 @@ struct submission {
 	struct ww_acquire_ctx ticket;
 };
 
-/* reads the operation at the words, and answers how many words it has */
+/* Reads the operation at the words, and answers how many words it has. */
 static int read_op(struct op *op, char **words)
 {
 	static const char *const names[] = { [OP_FILL] = "fill", [OP_COPY] = "copy", [OP_XOR] = "xor", [OP_PROBE] = "probe" };
@@ -44,7 +44,7 @@ static int read_op(struct op *op, char **words)
 	return 5;
 }
 
-/* adds a named buffer; whether it is live */
+/* Adds a named buffer, and tells whether it is live. */
 static bool add_buffer(struct submission *s, struct declaration *declared, bool is_written)
 {
 	int i;
@@ -61,7 +61,7 @@ static bool add_buffer(struct submission *s, struct declaration *declared, bool 
 	return true;
 }
 
-/* whether all named buffers are live */
+/* Reads a job, and tells whether all its buffers are live. */
 static bool read_submission(struct submission *s, char **words, int n)
 {
 	int at;
@@ -77,7 +77,7 @@ static bool read_submission(struct submission *s, char **words, int n)
 	return true;
 }
 
-/* which buffer is reserved next: the one that was held by another, if there was one, and else by their order; -1 at the end */
+/* Answers which buffer is reserved next: `first`, which was held by another, unless it is -1, and else by their order; -1 at the end. */
 static int next_missing(struct submission *s, const bool *held, int first)
 {
 	int i;
@@ -90,7 +90,7 @@ static int next_missing(struct submission *s, const bool *held, int first)
 	return -1;
 }
 
-/* rule order: after a back-off the other buffers are reserved, fenced and touched in their order, and not as the list has them then */
+/* Reserves by rule order: after a back-off the others are reserved, fenced and touched in their order, and not as the list has them then. */
 static void reserve_in_order(struct submission *s)
 {
 	bool held[MAX_NAMED] = { false };
@@ -164,7 +164,7 @@ static u8 *bytes_at(struct declaration *declared, long offset)
 	return page_bytes(bo, bo->resource, offset / PAGE_SIZE) + offset % PAGE_SIZE;
 }
 
-/* how much of an operation lies in one page of each of its buffers */
+/* Answers how many bytes of an operation, from `done` on, lie in one page of each of its buffers. */
 static long piece_of(const struct op *op, long done)
 {
 	long piece = min(op->length - done, (long)PAGE_SIZE - (op->to_offset + done) % (long)PAGE_SIZE);

@@ -43,14 +43,26 @@ void give_way(void)
 {
 	struct course *course;
 
-	if (!running)
+	if (!running || script.threads == 1)
 		return;
 	course = course_of(running);
 	swapcontext(&course->context, &scheduler);
 	running = &course->thread;
 }
 
-void peer_before_lock(void) { give_way(); }
+void lock_at_once(struct dma_resv *resv, struct ww_acquire_ctx *ticket)
+{
+	running->has_turn = true;
+	dma_resv_lock(resv, ticket);
+}
+
+void peer_before_lock(void)
+{
+	if (running && running->has_turn)
+		running->has_turn = false;
+	else
+		give_way();
+}
 
 void peer_wait_for_lock(void)
 {
@@ -105,7 +117,7 @@ static void begin_thread(int at)
 	makecontext(&course->context, (void (*)(void))run_commands, 1, at);
 }
 
-/* whether the thread got on */
+/* Gives the thread a turn, and tells whether it got on. */
 static bool take_turn(struct course *course)
 {
 	if (course->is_over)

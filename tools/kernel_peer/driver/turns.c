@@ -28,7 +28,7 @@ int ghosts_of_device(void)
 	return n;
 }
 
-/* whether a ghost was destroyed */
+/* Gives the reaper a turn, and tells whether a ghost was destroyed. */
 static bool reaper_turn(void)
 {
 	int before = reaped;

@@ -17,9 +17,9 @@ struct ww_mutex {
 	struct ww_acquire_ctx *ctx;
 };
 
-/* the thread is about to ask for a lock: others may go first */
+/* Lets other threads go before a lock is asked for. */
 void peer_before_lock(void);
-/* another has the lock: the others go until the thread's next turn */
+/* Gives the turn away, since another thread has the lock. */
 void peer_wait_for_lock(void);
 
 static inline void ww_mutex_init(struct ww_mutex *m, struct ww_class *class)

@@ -30,7 +30,7 @@ static struct buddy_resource *resource_of(struct ttm_resource *res) { return con
 
 /* ---- the kernel's choice ---- */
 
-/* gives back what the last block has more than was wanted */
+/* Gives back what the last block has more than was wanted. */
 static void trim_last_block(struct request *request, u64 surplus)
 {
 	struct drm_buddy_block *last = list_last_entry(request->blocks, struct drm_buddy_block, link);
@@ -65,7 +65,7 @@ static int take_kernels_blocks(struct request *request, bool contiguous)
 
 struct candidate { u64 start, whole; }; /* whole: the size of the free block that it is split from, or 0 for none */
 
-/* the block of the size in the range that a free block has, if it is better than the candidate */
+/* Takes the block of `size` bytes in the range that a free block has, if it is better than the candidate. */
 static void consider_free(struct request *request, u64 from, u64 whole, u64 size, struct candidate *best)
 {
 	u64 low = max(from, request->start), high = min(from + whole, request->end), start;

@@ -9,7 +9,7 @@ struct ttm_buffer_object *next_ghost(struct ttm_buffer_object *ghost)
 	return next == &device.ddestroy ? NULL : list_entry(next, struct ttm_buffer_object, ddestroy);
 }
 
-/* rule reap: the oldest ghost alone, so the others aren't seen by this run of the work */
+/* Keeps the oldest ghost alone, by rule reap, so the others aren't seen by this run of the work. */
 static void keep_oldest_ghost(struct list_head *others)
 {
 	struct list_head *oldest = device.ddestroy.next;

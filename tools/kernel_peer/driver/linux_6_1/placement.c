@@ -32,7 +32,7 @@ const char *validate(struct peer_buffer *buffer, const struct place_list *wanted
 	return running->wants_pages ? "NoPages" : "NoSpace";
 }
 
-/* TTM swaps out what stands on a list, by a trylock of its own, which a buffer of the command passes */
+/* Swaps a reserved buffer out: TTM takes its reservation by a trylock, but for one that the context names. */
 int swap_out(struct peer_buffer *buffer)
 {
 	struct ttm_operation_ctx ctx = { .resv = buffer->tbo.base.resv, .allow_res_evict = true };

@@ -38,7 +38,7 @@ int ttm_bo_mem_space(struct ttm_buffer_object *bo, struct ttm_placement *placeme
 	return ret;
 }
 
-/* what the kernel's search does for one place, and which victim it took */
+/* Does what the kernel's search does for one place, and notes the victim. */
 static int evict_one(struct ttm_resource_manager *man, const struct ttm_place *place, struct ttm_operation_ctx *ctx,
 		     struct ww_acquire_ctx *ticket, struct eviction *eviction)
 {
