@@ -6,7 +6,9 @@ usage: tools/check_docs.py [DOCUMENT ...]      without documents: README.md, exa
                                                docs/ARCHITECTURE.md and has its README.md, headed by its name (so do
                                                pages of a crate's parts, modules of its), and each law (public
                                                function of crates/law*) stands in docs/CLAIMS.md;
-                                               and that README.md has at most 7 KB and its table of sizes is right
+                                               that README.md has at most 7 KB and its table of sizes is right;
+                                               and that docs/CHANGING.md lists the files that name every kind or
+                                               every command (docs_lists.py)
        tools/check_docs.py --sizes             that table's rows
        tools/check_docs.py --closure MODULE    the definition files that MODULE rests on, as rows of a table
 
@@ -36,8 +38,10 @@ import pathlib
 import re
 import sys
 
+from docs_lists import faults_of_lists
+
 TOP = pathlib.Path(__file__).resolve().parent.parent
-FOLDERS = ("crates/", "docs/", "tools/", "examples/", ".ci/", "specs/", "proofs/", "must-fail/")
+FOLDERS = ("crates/", "docs/", "tools/", "examples/", ".ci/", "src/", "specs/", "proofs/", "must-fail/")
 KERNEL = ("ttm_", "drm_", "dma_", "ww_", "amdgpu_", "nouveau_", "radeon_", "reservation_ww_class", "swap_storage", "sg_table",
           "evict_flags", "busy_placement", "no_wait_gpu", "force_space")
 WORD = r"[A-Za-z_][A-Za-z0-9_]*"
@@ -164,7 +168,7 @@ def code_lines(path):
 
 
 def fault_of_file(text):
-    if text.startswith(("specs/", "proofs/", "must-fail/")):
+    if text.startswith(("src/", "specs/", "proofs/", "must-fail/")):
         text = "crates/*/" + text
     pattern = "/".join("*" if part.isupper() and part.isalpha() else part for part in text.split("/"))
     return None if glob.glob(str(TOP / pattern.rstrip("/"))) else f"no file {text}"
@@ -337,6 +341,15 @@ def missing_laws():
                 yield f"docs/CLAIMS.md:1: it doesn't have the law {law}"
 
 
+def faults_of_all(index):
+    """The faults that no single document shows: what is missing, and what isn't as the sources have it."""
+    yield from missing_crates(index)
+    yield from missing_laws()
+    yield from faults_of_pages(index)
+    yield from faults_of_readme()
+    yield from faults_of_lists(TOP, TOP / "docs" / "CHANGING.md")
+
+
 def main():
     words = sys.argv[1:]
     if words and words[0] == "--closure":
@@ -354,7 +367,7 @@ def main():
         *sorted((TOP / "crates").glob("*/*.md"))]
     index = Index()
     faults = 0
-    for fault in [] if words else [*missing_crates(index), *missing_laws(), *faults_of_pages(index), *faults_of_readme()]:
+    for fault in [] if words else faults_of_all(index):
         faults += 1
         print(fault)
     for document in documents:
