@@ -7,15 +7,16 @@ usage: tools/check_docs.py [DOCUMENT ...]      without documents: README.md, exa
                                                pages of a crate's parts, modules of its), and each law (public
                                                function of crates/law*) stands in docs/CLAIMS.md;
                                                that README.md has at most 7 KB and its table of sizes is right;
-                                               and that docs/CHANGING.md lists the files that name every kind or
-                                               every command (docs_lists.py)
+                                               that docs/CHANGING.md lists the files that name every kind or
+                                               every command (docs_lists.py); and that the documents of
+                                               PLAIN_ENGLISH have no phrases to avoid (docs_english.py)
        tools/check_docs.py --sizes             that table's rows
        tools/check_docs.py --closure MODULE    the definition files that MODULE rests on, as rows of a table
 
 In backquotes, outside of blocks of code, are checked:
 
   `crates/x/src/y.rt`, `docs/..`      a file or folder from the top; `*` stands for any part, and so does a part in
-                                      capitals (`crates/NAME/specs`)
+                                      capitals (`crates/NAME/specs`); `src/..` and `specs/..` are in any crate
   `crate::name`, `crate::Type::name`  a crate of the repository (or a library in crates.txt, which isn't looked into) and in it
                                       a function, type, variant, field, constant or re-export; modules may stand between
   `Type::name`, `module::name`        the same in any crate; `Type.name` too
@@ -31,6 +32,7 @@ Links `[..](path)` are checked from the document's folder, with their `#heading`
 `sum`, it is the sum of such rows above in the same table.
 
 A mark that a merge left is a fault, too. Each fault is a line `document:line: what`; the exit status is 1 if there is one.
+tools/test_check_docs.py tests the lists of files and the phrases.
 """
 import collections
 import glob
@@ -38,6 +40,7 @@ import pathlib
 import re
 import sys
 
+from docs_english import faults_of_english
 from docs_lists import faults_of_lists
 
 TOP = pathlib.Path(__file__).resolve().parent.parent
@@ -47,6 +50,8 @@ KERNEL = ("ttm_", "drm_", "dma_", "ww_", "amdgpu_", "nouveau_", "radeon_", "rese
 WORD = r"[A-Za-z_][A-Za-z0-9_]*"
 README_BYTES = 7 * 1024
 PAGE_BYTES = 4 * 1024
+# Documents without phrases to avoid (docs_english.py); others join them once they have none.
+PLAIN_ENGLISH = ("docs/CHANGING.md", "docs/CLAIMS.md", "docs/PROOF.md")
 SLACK = 5  # percent by which a rounded number of README.md may be off, so that it needn't follow each change
 
 
@@ -348,6 +353,7 @@ def faults_of_all(index):
     yield from faults_of_pages(index)
     yield from faults_of_readme()
     yield from faults_of_lists(TOP, TOP / "docs" / "CHANGING.md")
+    yield from faults_of_english(TOP, PLAIN_ENGLISH)
 
 
 def main():
