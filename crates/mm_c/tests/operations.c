@@ -10,7 +10,8 @@
  *   alloc ID PAGES FIRST LAST topdown|- contig|-         the blocks `F-L` joined by `,`, or `none`
  *   free ID                                              `ok`
  *   holes                                                all holes of ranges, `-` where there is none
- *   blocks                                               the free pages of blocks as spans, `-` where there is none
+ *   blocks                                               the free pages of blocks as spans, `-` where there is none, then for each order
+ *                                                        how many free blocks have it, where any has
  *
  * `bad` answers an ID that is in use where it mustn't be, or isn't where it must. A line that can't be read ends the program with 3.
  *
@@ -167,9 +168,10 @@ static void alloc(const char *line)
 	free(out);
 }
 
-/* Prints the free pages of blocks as spans. */
-static void show_free_pages(void)
+/* Prints the free pages of blocks as spans, and how many free blocks each order has. */
+static void show_free_blocks(void)
 {
+	struct pearoar_block_stats stats;
 	struct pearoar_span block;
 	uint32_t from = 0;
 	bool any = false;
@@ -187,7 +189,15 @@ static void show_free_pages(void)
 		}
 		from = block.end;
 	}
-	puts(any ? "" : "-");
+	if (!any)
+		putchar('-');
+	if (pearoar_blocks_stats(&blocks, &stats) != PEAROAR_DONE)
+		fail("no memory", "blocks");
+	for (unsigned order = 0; order < PEAROAR_ORDERS; order++) {
+		if (stats.free_blocks[order])
+			printf(" %u:%zu", order, stats.free_blocks[order]);
+	}
+	putchar('\n');
 }
 
 /* ---- both ---- */
@@ -241,7 +251,7 @@ static void do_blocks(const char *line)
 	else if (begins(line, "free "))
 		give_back(line, "free %u", true);
 	else if (!strcmp(line, "blocks\n"))
-		show_free_pages();
+		show_free_blocks();
 	else
 		fail("a line that can't be read", line);
 }
