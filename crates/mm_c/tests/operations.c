@@ -151,8 +151,9 @@ static void alloc(const char *line)
 	struct pearoar_block_request request = { 0, 0, 0, 0 };
 	struct pearoar_span *out;
 	char topdown[16], contig[16];
+	enum pearoar_status status;
 	unsigned id;
-	size_t count = 0;
+	size_t room, count = 0;
 
 	if (sscanf(line, "alloc %u %u %u %u %15s %15s", &id, &request.pages, &request.first, &request.last, topdown, contig) != 6 || id >= IDS)
 		fail("a line that can't be read", line);
@@ -161,10 +162,12 @@ static void alloc(const char *line)
 		return;
 	}
 	request.flags = (strcmp(topdown, "-") ? PEAROAR_TOPDOWN : 0) + (strcmp(contig, "-") ? PEAROAR_CONTIGUOUS : 0);
-	out = malloc(sizeof(*out) * (request.pages < size ? request.pages : size));
+	room = request.pages < size ? request.pages : size;
+	out = malloc(sizeof(*out) * room);
 	if (!out)
 		fail("no memory", line);
-	answer(pearoar_blocks_alloc(&blocks, &request, out, request.pages < size ? request.pages : size, &count), id, out, count, line);
+	status = pearoar_blocks_alloc(&blocks, &request, out, room, &count);
+	answer(status, id, out, count, line);
 	free(out);
 }
 
