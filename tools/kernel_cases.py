@@ -19,6 +19,7 @@ import random
 import subprocess
 import sys
 import tempfile
+from collections import Counter
 
 TOP = pathlib.Path(__file__).resolve().parent.parent
 MODES = ["best", "low", "high"]
@@ -207,7 +208,9 @@ class Blocks(Pages):
                     blocks.append((at << order, at + 1 << order))
                 at = free.find(1, at + 1)
         assert must is None or must == sorted(blocks), f"the model has {blocks}"
-        self.say("blocks", ",".join(f"{start}-{end}" for start, end in self.holes()) or "-")
+        spans = ",".join(f"{start}-{end}" for start, end in self.holes()) or "-"
+        orders = Counter((end - start).bit_length() - 1 for start, end in blocks)
+        self.say("blocks", spans + "".join(f" {order}:{orders[order]}" for order in sorted(orders)))
 
     def must_be_whole(self):
         assert self.free_pages() == self.size
@@ -599,7 +602,7 @@ WORKED = [
         "buddy_worked",
         ["buddy 12", "alloc 1 3 0 12 - -", "free 1", "alloc 2 4 0 12 - contig", "alloc 3 8 0 12 - contig", "alloc 4 1 0 12 - -", "free 1", "alloc 2 1 0 12 topdown -"]
         + ["free 3", "alloc 3 2 0 4 topdown -", "blocks"],
-        ["8-10,10-11", "ok", "8-12", "0-8", "none", "bad", "bad", "ok", "2-4", "0-2,4-8"],
+        ["8-10,10-11", "ok", "8-12", "0-8", "none", "bad", "bad", "ok", "2-4", "0-2,4-8 1:1 2:1"],
     ),
     (
         "mm_worked",

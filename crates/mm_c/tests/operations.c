@@ -10,7 +10,8 @@
  *   alloc ID PAGES FIRST LAST topdown|- contig|-         the blocks `F-L` joined by `,`, or `none`
  *   free ID                                              `ok`
  *   holes                                                all holes of ranges, `-` where there is none
- *   blocks                                               the free pages of blocks as spans, `-` where there is none
+ *   blocks                                               the free pages of blocks as spans, `-` where there is none, then for each order
+ *                                                        how many free blocks have it, where any has
  *
  * `bad` answers an ID that is in use where it mustn't be, or isn't where it must. A line that can't be read ends the program with 3.
  *
@@ -150,8 +151,9 @@ static void alloc(const char *line)
 	struct pearoar_block_request request = { 0, 0, 0, 0 };
 	struct pearoar_span *out;
 	char topdown[16], contig[16];
+	enum pearoar_status status;
 	unsigned id;
-	size_t count = 0;
+	size_t room, count = 0;
 
 	if (sscanf(line, "alloc %u %u %u %u %15s %15s", &id, &request.pages, &request.first, &request.last, topdown, contig) != 6 || id >= IDS)
 		fail("a line that can't be read", line);
@@ -160,16 +162,19 @@ static void alloc(const char *line)
 		return;
 	}
 	request.flags = (strcmp(topdown, "-") ? PEAROAR_TOPDOWN : 0) + (strcmp(contig, "-") ? PEAROAR_CONTIGUOUS : 0);
-	out = malloc(sizeof(*out) * (request.pages < size ? request.pages : size));
+	room = request.pages < size ? request.pages : size;
+	out = malloc(sizeof(*out) * room);
 	if (!out)
 		fail("no memory", line);
-	answer(pearoar_blocks_alloc(&blocks, &request, out, request.pages < size ? request.pages : size, &count), id, out, count, line);
+	status = pearoar_blocks_alloc(&blocks, &request, out, room, &count);
+	answer(status, id, out, count, line);
 	free(out);
 }
 
-/* Prints the free pages of blocks as spans. */
-static void show_free_pages(void)
+/* Prints the free pages of blocks as spans, and how many free blocks each order has. */
+static void show_free_blocks(void)
 {
+	struct pearoar_block_stats stats;
 	struct pearoar_span block;
 	uint32_t from = 0;
 	bool any = false;
@@ -187,7 +192,15 @@ static void show_free_pages(void)
 		}
 		from = block.end;
 	}
-	puts(any ? "" : "-");
+	if (!any)
+		putchar('-');
+	if (pearoar_blocks_stats(&blocks, &stats) != PEAROAR_DONE)
+		fail("no memory", "blocks");
+	for (unsigned order = 0; order < PEAROAR_ORDERS; order++) {
+		if (stats.free_blocks[order])
+			printf(" %u:%zu", order, stats.free_blocks[order]);
+	}
+	putchar('\n');
 }
 
 /* ---- both ---- */
@@ -241,7 +254,7 @@ static void do_blocks(const char *line)
 	else if (begins(line, "free "))
 		give_back(line, "free %u", true);
 	else if (!strcmp(line, "blocks\n"))
-		show_free_pages();
+		show_free_blocks();
 	else
 		fail("a line that can't be read", line);
 }

@@ -16,8 +16,8 @@ const HIGH: Span = Span { start: 40, end: 42 };
 /// A request for so many pages within a first and a last page, and the hole for it.
 type Row = (Mode, u32, u32, u32, Option<Span>);
 
-/// The hole for a request, by the call that counts steps.
-fn counted<L: Ledger>(holes: &Holes, row: &Row, blank: Blank) -> Option<Span>
+/// The hole for a request, by the call that counts steps, in the ledger that `blank` begins.
+fn counted_in<L: Ledger>(holes: &Holes, row: &Row, blank: Blank) -> Option<Span>
     requires name { blank.name ≡ L.name }
     requires parts { blank.parts ≡ L.parts }
     requires one_part { blank.parts ≡ 1 }
@@ -31,6 +31,11 @@ fn counted<L: Ledger>(holes: &Holes, row: &Row, blank: Blank) -> Option<Span>
     }
 }
 
+/// The hole for a request, by the call that counts steps.
+fn counted(holes: &Holes, row: &Row) -> Option<Span> {
+    counted_in::<Brand>(holes, row, Blank::new(1))
+}
+
 /// The hole for each request, also by the calls that count steps.
 fn assert_holes(rt: &impl Abort, holes: &Holes, rows: &[Row]) {
     for row in rows {
@@ -40,9 +45,8 @@ fn assert_holes(rt: &impl Abort, holes: &Holes, rows: &[Row]) {
             Mode::Low => holes.lowest(*pages, 1, *first, *last),
             Mode::High => holes.highest(*pages, 1, *first, *last),
         };
-        let counted = counted::<Brand>(holes, row, Blank::new(1));
         assert!(rt; hole == *want);
-        assert!(rt; counted == *want);
+        assert!(rt; counted(holes, row) == *want);
     }
 }
 
