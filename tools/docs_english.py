@@ -26,7 +26,7 @@ PHRASES = (
     Phrase(r"\bbehind\b", "after, or following"),
     Phrase(r"\bso many\b", "a number, or: that many"),
     Phrase(r"\bwant of\b|\bwants memory\b", "lack of, or: memory runs out"),
-    Phrase(r"(?:^|[.;|>*-] )Who\b[^?.|]*[.|]", "a subject: the thread that ..", ignore_case=False),
+    Phrase(r"(?:^|[.;|>*-] )Who\b(?:[^?.|\n]|\n(?!\n))*[.|]", "a subject: the thread that ..", ignore_case=False),
     Phrase(r"\b(?:that|if|where|of) who\b", "a subject: the thread that .."),
     Phrase(r"\b(?:stands?|stood|standing) (?:on|in|at)\b", "is in, uses, depends on"),
     Phrase(r"\bto be had\b", "available"),
