@@ -6,9 +6,9 @@ from typing import List, Sequence, Set
 
 from . import legend, style
 from .draw_lanes import Lanes, kinds_in
-from .draw_pages import Pages, counted, draw_moves
+from .draw_pages import MARGIN, Pages, counted, draw_moves
 from .past import Past
-from .scale import LEFT, RIGHT, Scale
+from .scale import RIGHT, Scale
 from .script import Script
 from .svg import Drawing, document
 
@@ -82,7 +82,7 @@ class Detail:
             self.drawing.text("small mid", x, bottom + 10, f"{entry:,}")
         if paths:
             self.drawing.shapes.append(f'<path class="axis" d="{"".join(paths)}"/>\n')
-        self.drawing.text("small end", LEFT - 5, bottom + 10, "entry")
+        self.drawing.text("small", MARGIN, bottom + 10, "entry")
 
     def _legend(self, top: float, has_moves: bool, has_folded: bool) -> float:
         """Draws what colours and marks mean, and returns where that ends."""

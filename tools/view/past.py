@@ -13,7 +13,7 @@ from .state import Holder
 
 
 class Stretch(NamedTuple):
-    """Pages of an area, from `first` up to `last`, that a holder has from one entry to another."""
+    """Pages of an area, from `first` up to `last`, that a holder has from one entry to another, the one before those shown at the earliest."""
 
     area: str
     first: int

@@ -21,7 +21,7 @@ from .svg import cut
 
 USAGE = """usage: ./ttm picture [--from A] [--to B] [FILE | SCRIPT REPORT] > FILE.svg
 
-Draws a script with its report behind it (standard input, a file, or two files): pages down, entries across, engines, the reaper and threads.
+Draws a script followed by its report (standard input, a file, or two files): pages down, entries across, engines, the reaper and threads.
 --from and --to leave out the entries before A and after B. Long runs are summed by column."""
 MOST_ENTRIES = 1200
 MOST_SHAPES = 5000
@@ -37,7 +37,7 @@ class Wish(NamedTuple):
 
 
 def read_words(args: List[str]) -> Wish:
-    """Reads the words behind `picture`; raises ViewError."""
+    """Reads the words that follow `picture`; raises ViewError."""
     paths: List[str] = []
     limits = {"--from": None, "--to": None}
     words = iter(args)

@@ -72,7 +72,7 @@ class Recorder(Observer):
         since = self.since[area]
         for page in range(first, last):
             if before is not None and self.at > self.first:
-                self.raw.append((area, before, since[page], self.at, page))
+                self.raw.append((area, before, max(since[page], self.first - 1), self.at, page))
             since[page] = self.at
 
     def emitted(self, job: Job) -> None:
@@ -153,7 +153,8 @@ class Recorder(Observer):
         """Ends what is still there after the last entry, and returns the past."""
         end = self.last + 1
         for name, area in state.areas.items():
-            self.raw += [(name, holder, self.since[name][page], end, page) for page, holder in enumerate(area.owner) if holder is not None]
+            since = [max(start, self.first - 1) for start in self.since[name]]
+            self.raw += [(name, holder, since[page], end, page) for page, holder in enumerate(area.owner) if holder is not None]
             self.past.ends[name] = state.account(name)[1:]
         for job in list(self.jobs):
             self._work(job, end)

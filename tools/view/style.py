@@ -13,7 +13,7 @@ STYLE = f"""text{{font:10px "DejaVu Sans",Verdana,sans-serif;fill:{colours.INK}}
 .name{{font-size:9.5px;text-anchor:middle}}.light{{fill:#fff}}.warm{{fill:#5a2a05}}.halo{{paint-order:stroke;stroke:#fff;stroke-width:2.6px;stroke-linejoin:round}}
 .free{{fill:{colours.FREE};stroke:#c3c9d1;stroke-width:.6}}.fold{{fill:url(#fold);stroke:#c3c9d1;stroke-width:.6}}
 .ghost{{fill:url(#ghost);stroke:#5d636c;stroke-width:.6}}
-.dense rect{{stroke:none}}.dense .ghost{{stroke:#5d636c;stroke-width:.4}}
+.dense rect{{stroke:none;shape-rendering:crispEdges}}.dense .ghost{{stroke:#5d636c;stroke-width:.4}}
 .live{{fill:{colours.LIVE}}}.target{{fill:url(#target)}}
 .axis{{stroke:#000;stroke-opacity:.1;stroke-width:.6;fill:none}}
 .back{{stroke:#fff;stroke-width:4;stroke-opacity:.85;fill:none}}

@@ -6,7 +6,7 @@ from typing import Dict, List, Sequence, Tuple
 
 from . import legend, style
 from .columns import Columns
-from .draw_pages import put_margins
+from .draw_pages import MARGIN, put_margins
 from .scale import LEFT, RIGHT, Scale
 from .script import Script
 from .state import AREAS
@@ -103,7 +103,7 @@ class Summed:
                 self.drawing.rect("pointed", self.across.x(column), top, self.across.unit, height, title)
 
     def _area(self, area: str) -> None:
-        """Draws the shares of the pages of an area, and behind them who holds it in the end."""
+        """Draws the shares of the pages of an area, and to the right of them who holds it in the end."""
         size = self.script.size(area)
         drawing, top, bottom = self.drawing, self.y, self.y + AREA_HEIGHT
         ends = [self.columns.level(area, kind).end() for kind in KINDS]
@@ -175,7 +175,7 @@ class Summed:
             self.drawing.text("small mid", x, self.y + 9, f"{entry:,}")
         if paths:
             self.drawing.shapes.append(f'<path class="axis" d="{"".join(paths)}"/>\n')
-        self.drawing.text("small end", LEFT - 5, self.y + 9, "entry")
+        self.drawing.text("small", MARGIN, self.y + 9, "entry")
 
     def _legend(self) -> float:
         """Draws what colours mean, and returns where that ends."""
