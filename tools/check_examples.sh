@@ -7,6 +7,7 @@
 # usage: tools/check_examples.sh [FOLDER]     FOLDER in place of examples/
 set -u
 top=$(cd "$(dirname "$0")/.." && pwd)
+. "$top/tools/launcher/input.sh"
 examples=$(cd "${1:-$top/examples}" && pwd) || exit 1
 room=$(mktemp -d)
 trap 'rm -rf "$room"' EXIT
@@ -43,6 +44,7 @@ for script in "$examples"/*.ttm; do
   fi
   answers "$name" 0 "$report" sim "$script"
   answers "$name, checked" 0 "$room/valid" check "$script" "$report"
+  without_comments <"$script" | cmp -s - <(python3 "$top/tools/view" plain "$script") || fault "$name: other comments for ./ttm than for the viewers"
 done
 
 # A script of one thread and no job has one interleaving, so `run` writes what `sim` does.

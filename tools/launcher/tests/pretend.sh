@@ -91,10 +91,7 @@ pretend_viewers() {
   cat >"$room/copy/tools/view/__main__.py" <<'VIEW'
 import os, sys
 word, *words = sys.argv[1:]
-if word == "plain":
-    lines = [line.split(b" #")[0].rstrip(b"\n") + b"\n" for line in sys.stdin.buffer if not line.startswith(b"#")]
-    sys.stdout.buffer.writelines(lines)
-elif word == "diagnose":
+if word == "diagnose":
     script, answer = open(words[2]).read().split("\n"), open(words[3]).read().split("\n")
     print("diagnose", *words[:2], os.environ["TTM_NAME"] + ":", script[0], "/", answer[0])
 else:
