@@ -68,7 +68,7 @@ run_program() {
 explain() {
   make_room
   "$program" "${words[@]}" <"$plain" >"$room/answer"
-  TTM_PROGRAM=$program TTM_NAME=$name python3 "$top/tools/view" diagnose "${words[0]}" "$status" "$given" "$room/answer" >&2
+  TTM_PROGRAM=$program TTM_NAME=$name TTM_REPORT=${files[1]-} python3 "$top/tools/view" diagnose "${words[0]}" "$status" "$given" "$room/answer" >&2
 }
 
 # Answers the words of the proved program.

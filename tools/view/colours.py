@@ -1,7 +1,7 @@
 """Colours of buffers: forty without a repeat, which differ also for people who don't tell red from green.
 
-They were searched for the greatest least distance under all three kinds of sight, behind eight that come first. The test computes the
-distances.
+Eight were chosen; the others were searched so that the least distance of two is as great as it can be, under all three kinds of sight. The
+test computes the distances.
 """
 
 from __future__ import annotations

@@ -67,7 +67,8 @@ class CommandLines:
     def _check(self, line: Words) -> None:
         """Stops at the least broken rule."""
         if self.count >= THREAD_LINES:
-            line.fault(12, 0, f"this is line {self.count + 1} of thread {len(self.script.threads)}", f"at most {THREAD_LINES} lines in a thread")
+            cause = f"this is line {self.count + 1} of thread {len(self.script.threads)}"
+            line.fault(12, 0, cause, f"at most {THREAD_LINES} lines in a thread")
         line.check()
 
     def _add(self, line: Words, verb: str, buffers: List[Optional[int]], **parts: object) -> None:
@@ -75,12 +76,14 @@ class CommandLines:
         thread = self.script.threads[-1]
         named = tuple(dict.fromkeys(buffer for buffer in buffers if buffer is not None))
         number = len(thread.commands) + 1
-        thread.commands.append(Command(thread.number, number, verb, line.words[0], self.file_line, line.text, named, **parts))  # type: ignore[arg-type]
+        command = Command(thread.number, number, verb, line.words[0], self.file_line, line.text, named)
+        thread.commands.append(command._replace(**parts) if parts else command)
 
     def _mark(self, line: Words, verb: str, **parts: object) -> None:
         """Adds a mark to the thread at work."""
         thread = self.script.threads[-1]
-        thread.marks.append(Mark(thread.number, len(thread.commands), verb, self.file_line, line.text, **parts))  # type: ignore[arg-type]
+        mark = Mark(thread.number, len(thread.commands), verb, self.file_line, line.text)
+        thread.marks.append(mark._replace(**parts))
 
     def _plain(self, line: Words, word: str) -> None:
         need_words(line, FORMS[word])
@@ -92,7 +95,8 @@ class CommandLines:
         """Notes a `peek`, `poke` or `unmap` of a buffer that the thread hasn't mapped."""
         if buffer is not None and buffer not in self.mapped:
             name = line.words[1]
-            line.fault(14, 1, f"the thread has not mapped {name} here", f"`map {name}` on a line above, in the same thread, without `unmap {name}` since")
+            right = f"`map {name}` on a line above, in the same thread, without `unmap {name}` since"
+            line.fault(14, 1, f"the thread has not mapped {name} here", right)
 
     def _range(self, line: Words, buffer: Optional[int], offset: Optional[int], length: Optional[int], index: int) -> None:
         """Notes a range of bytes that is empty or passes its buffer."""
@@ -172,9 +176,11 @@ class CommandLines:
             if buffer is not None and offset is not None and pages is not None:
                 has = self.script.buffers[buffer].pages
                 if offset + pages > has:
-                    line.fault(8, 4, f"pages {offset} to {offset + pages - 1} pass the end of {line.words[3]}", f"{line.words[3]} has the pages 0 to {has - 1}")
+                    cause = f"pages {offset} to {offset + pages - 1} pass the end of {line.words[3]}"
+                    line.fault(8, 4, cause, f"{line.words[3]} has the pages 0 to {has - 1}")
         if first is not None and pages is not None and first + pages > SPACE_PAGES:
-            line.fault(8, 1, f"pages {first} to {first + pages - 1} pass the end of the address space", f"pages 0 to {SPACE_PAGES - 1}")
+            cause = f"pages {first} to {first + pages - 1} pass the end of the address space"
+            line.fault(8, 1, cause, f"pages 0 to {SPACE_PAGES - 1}")
         self._check(line)
         assert first is not None and pages is not None
         if word == "vmap":

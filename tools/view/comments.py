@@ -53,7 +53,7 @@ def plain(data: bytes) -> Plain:
 
 
 def _split(data: bytes) -> List[bytes]:
-    """Cuts bytes behind each line feed alone."""
+    """Cuts bytes after each line feed, and nowhere else."""
     pieces = [piece + b"\n" for piece in data.split(b"\n")]
     pieces[-1] = pieces[-1][:-1]
     return pieces if pieces[-1] else pieces[:-1]

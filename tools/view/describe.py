@@ -38,7 +38,7 @@ def of_past(script: Script, past: Past, note: str, when: str) -> str:
     waits = [f"{one.actor} for {one.reason}, entries {one.start + 1} to {one.end}" for one in past.pauses if one.actor != "r"]
     refusals = [f"t{one.thread} {one.number} {one.answer} at entry {one.end}" for one in past.doings if one.answer]
     backoffs = [f"t{sign.thread} at entry {sign.entry}" for sign in past.signs if sign.kind == "backoff"]
-    sentences: List[str] = [f"{note}.", memory(script, ends, when), listed(moves, "move"), listed(waits, "real wait"), listed(backoffs, "backoff")]
+    sentences: List[str] = [note, memory(script, ends, when), listed(moves, "move"), listed(waits, "real wait"), listed(backoffs, "backoff")]
     return " ".join([*sentences, listed(refusals, "refusal")])
 
 
@@ -50,4 +50,4 @@ def of_columns(script: Script, columns: Columns, note: str, when: str) -> str:
             live, target, ghost = (columns.level(area, kind).end() for kind in KINDS)
             ends.append((area, (script.size(area) - live - target - ghost, live, target, ghost)))
     counts = ", ".join(f"{sum(columns.counted(kind)):,} {kind}" for kind in EVENTS)
-    return f"{note}. {memory(script, ends, when)} {counts}."
+    return f"{note} {memory(script, ends, when)} {counts}."

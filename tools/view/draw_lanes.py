@@ -32,10 +32,17 @@ class Lanes:
         for engine in range(self.script.engines + 1):
             self._engine(engine)
         self._reaper()
-        self.drawing.text("head", LEFT, self.bottom + 12, "Threads: commands, below them their entries, and real waits")
+        busy = [thread.number for thread in self.script.threads if self._acts(thread.number)]
+        idle = len(self.script.threads) - len(busy)
+        others = f" ({idle} {'thread does' if idle == 1 else 'threads do'} nothing here)" if idle else ""
+        self.drawing.text("head", LEFT, self.bottom + 12, f"Threads: commands, below them their entries, and real waits{others}")
         self.bottom += BETWEEN - 4
-        for thread in self.script.threads:
-            self._thread(thread.number)
+        for thread in busy:
+            self._thread(thread)
+
+    def _acts(self, thread: int) -> bool:
+        """Tells whether a thread has a command at work in what is drawn."""
+        return any(doing.thread == thread for doing in self.past.doings)
 
     def _lane(self, label: str, height: float) -> float:
         """Draws an empty lane, and returns where it begins."""

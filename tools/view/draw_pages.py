@@ -69,7 +69,7 @@ def kind_of(holder: Holder) -> str:
 
 def label_kind(holder: Holder) -> str:
     """Returns the class of a holder's label."""
-    if holder.kind != "live":
+    if holder.kind != "live" or colours.round_of(holder.number):
         return "name halo"
     return "name light" if colours.letters_on(colours.of_buffer(holder.number)) == colours.PAPER else "name"
 
@@ -149,7 +149,8 @@ class Pages:
         """Draws what is held of an area."""
         held = [one for one in self.past.stretches if one.area == area]
         for one in held:
-            title = f"{whose(self.script, one.holder)}: {NAMES[area][0]} {one.first}-{one.last}, from entry {one.start} to {one.end}"
+            start = f"from entry {one.start}" if one.start >= self.scale.first else f"from before entry {self.scale.first}"
+            title = f"{whose(self.script, one.holder)}: {NAMES[area][0]} {one.first}-{one.last}, {start} to {one.end}"
             drawing.rect(kind_of(one.holder), *self._box(rows, one), title)
         whole = set(held)
         for one in grouped(held):

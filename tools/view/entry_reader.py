@@ -23,14 +23,15 @@ def memory_type(word: str) -> str:
 class EntryReader:
     """Reads the words of entries of one script.
 
-    The journal has no `first_odd_byte`. A reader gets the words of a line, of which the first two are the entry's number and the actor. It raises ValueError, KeyError or
-    IndexError where they are no entry.
+    The journal has no `first_odd_byte`. A reader gets the words of a line, of which the first two are the entry's number and the actor. It
+    raises ValueError, KeyError or IndexError where they are no entry.
     """
 
     def __init__(self, script: Script) -> None:
         self.buffers = script.names
         self.engines = {f"e{engine}": engine for engine in range(1, script.engines + 1)}
-        thread: Dict[str, Reader] = {VERBS[kind]: self._of_buffer(kind) for kind in (Reserve, New, Depopulate, Bind, Unbind, Loose, Skip, NoPages)}
+        plain = (Reserve, New, Depopulate, Bind, Unbind, Loose, Skip, NoPages)
+        thread: Dict[str, Reader] = {VERBS[kind]: self._of_buffer(kind) for kind in plain}
         thread.update(ticket=self.ticket, backoff=self.backoff, free=self.free, take=self.take, untake=self.untake, populate=self.populate)
         thread.update(swapin=self.swap_in, move=self.move, catch=self.catch, dry=self.dry, swapout=self.swap_out, arm=self.arm)
         thread.update(bulk=self.bulk, result=self.result, refused=self.refused)

@@ -123,7 +123,8 @@ class JobLines:
                     continue
                 seen.append(buffer)
                 if len(seen) == JOB_BUFFERS + 1:
-                    line.fault(10, index, f"{line.words[index]} is buffer number {JOB_BUFFERS + 1} of the job", f"at most {JOB_BUFFERS} buffers in a job")
+                    cause = f"{line.words[index]} is buffer number {JOB_BUFFERS + 1} of the job"
+                    line.fault(10, index, cause, f"at most {JOB_BUFFERS} buffers in a job")
 
     def _by_name(self, line: Words, parts: List[Part], space: Space) -> List[Operation]:
         """Returns the operations by name of a job with addresses; notes what can't be."""
@@ -155,7 +156,8 @@ class JobLines:
         both = {one.buffer for one in space.met(op.address, op.length)} & {one.buffer for one in space.met(op.source, op.length)}
         if both:
             name = self.script.buffers[min(both)].name
-            line.fault(10, part.index + 2, f"pages of {name} are mapped in both ranges of the {op.verb}", f"ranges of a {op.verb} without a common buffer")
+            cause = f"pages of {name} are mapped in both ranges of the {op.verb}"
+            line.fault(10, part.index + 2, cause, f"ranges of a {op.verb} without a common buffer")
 
     def _is_large(self, line: Words, part: Part, operations: List[Operation]) -> bool:
         """Notes a job by name of too many operations or buffers."""
@@ -196,7 +198,8 @@ def _shapes(line: Words, forms: Dict[str, str]) -> List[Tuple[int, str]]:
         if end - index < len(parts):
             raise line.stop(end, f"{parts[end - index]} of the {verb} is missing", forms[verb])
         if end - index > len(parts):
-            raise line.stop(index + len(parts), f"`{short(words[index + len(parts)])}` is one word too many for the {verb}", f"{forms[verb]}, then ` ; ` before another")
+            cause = f"`{short(words[index + len(parts)])}` is one word too many for the {verb}"
+            raise line.stop(index + len(parts), cause, f"{forms[verb]}, then ` ; ` before another")
         shapes.append((index, verb))
         if end == len(words):
             return shapes

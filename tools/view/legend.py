@@ -1,8 +1,8 @@
-"""Draws what colours and marks mean."""
+"""Draws titles, and what colours and marks mean."""
 
 from __future__ import annotations
 
-from typing import Callable, Iterable, List, Tuple
+from typing import Callable, Iterable, List, Sequence, Tuple
 
 from .script import Script
 from .svg import Drawing, cut, width_of
@@ -43,6 +43,7 @@ SAMPLES = {
     "ready": (_ready, "it may run, and others come first"),
     "wait": (box("wait"), "waits: it has no entry yet"),
     "acts": (box("busy"), "the engine runs a job, or the actor makes entries"),
+    "waits": (box("waits"), "waits: it has no entry yet"),
     "command": (box("command"), "command"),
     "entry": (box("entry"), "entry"),
     "backoff": (_backoff, "backoff"),
@@ -53,6 +54,28 @@ SAMPLES = {
     "target": (box("target"), "target: held for a buffer that is still elsewhere"),
     "ghost": (box("ghost"), "ghost: left behind, still used by a job"),
 }
+
+
+def put_titles(drawing: Drawing, title: str, notes: Sequence[str], width: float) -> float:
+    """Draws a title and notes below it, each on lines of its own, and returns where they end."""
+    drawing.text("title", LEFT, 20, title)
+    y = 24.0
+    for note in notes:
+        for line in wrapped(note, width - 2 * LEFT):
+            y += 13
+            drawing.text("note", LEFT, y, line)
+    return y
+
+
+def wrapped(text: str, width: float) -> List[str]:
+    """Returns a text in lines that are at most so wide, as far as its words are."""
+    lines = [""]
+    for word in text.split(" "):
+        if lines[-1] and width_of(f"{lines[-1]} {word}") > width:
+            lines.append(word)
+        else:
+            lines[-1] = f"{lines[-1]} {word}".lstrip()
+    return lines
 
 
 def rows_of(items: Iterable[Tuple[Sample, str]], width: float) -> List[List[Tuple[Sample, str]]]:

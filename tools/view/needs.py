@@ -2,14 +2,14 @@
 
 from __future__ import annotations
 
-from typing import Dict, List, NamedTuple, Optional, Set, Tuple
+from functools import partial
+from typing import Callable, Dict, List, NamedTuple, Optional, Set, Tuple, Union
 
 from .limits import PRIORITIES
-from .script import SYSTEM, TT, VRAM, Command, Place, Script, Span
+from .script import SYSTEM, TT, VRAM, Command, Place, Span
 from .state import BufferState, Course, Job, State, Victim
 
-Interest = Optional[str]
-LOCK, SEEK = "lock", "seek"
+LOCK = "lock"
 
 
 class Need(NamedTuple):
@@ -22,11 +22,15 @@ class Need(NamedTuple):
     ghost: int = 0
 
 
+Seek = Callable[[], Optional[Need]]
+Interest = Union[None, str, Seek]
+
+
 class Needs:
     """Answers what threads need in a state.
 
     The second part of an answer tells what may change it before the thread's next entry: `lock` for who holds the buffers that the command
-    names, `seek` for what is free and what ghosts hold, None for nothing but the end of a job.
+    names; None for nothing but the end of a job; else what is free and what ghosts hold, and it is a function that answers again.
     """
 
     def __init__(self, state: State) -> None:
@@ -69,7 +73,7 @@ class Needs:
         if victim.why == "tt" or buffer.memory != VRAM or victim.fail:
             return None, None
         if not buffer.targets:
-            return self._search(buffer, [], self.whole_tt, 0, set()), SEEK
+            return self._search(buffer, [], self.whole_tt, 0, set())
         return self._fill(buffer)
 
     def _work(self, course: Course, command: Command) -> Tuple[Optional[Need], Interest]:
@@ -83,7 +87,7 @@ class Needs:
                     first, forced = self._lists(buffer, command)
                     if course.forced:
                         first = []
-                    return self._search(buffer, first, forced, course.dry, course.skips), SEEK
+                    return self._search(buffer, first, forced, course.dry, course.skips)
                 return self._carry(buffer, course)
             if command.verb in ("submit", "read", "write") and buffer.memory == SYSTEM and not buffer.is_filled():
                 return self._fill(buffer)
@@ -146,38 +150,50 @@ class Needs:
             return self._fill(buffer)
         if buffer.memory == VRAM and VRAM in targets:
             return None, None
-        return self._search(buffer, [], self.whole_tt, course.dry, course.skips), SEEK
+        return self._search(buffer, [], self.whole_tt, course.dry, course.skips)
 
     def _fill(self, buffer: BufferState) -> Tuple[Optional[Need], Interest]:
         """The next page without a frame needs a free one, or a swap victim, or a ghost that holds one."""
         if buffer.is_filled():
             return None, None
+        seek = partial(self._seek_frame, buffer)
+        return seek(), seek
+
+    def _seek_frame(self, buffer: BufferState) -> Optional[Need]:
+        """The need for a ghost where no frame is free, and no buffer can give one to swap."""
         state = self.state
         if state.areas["frames"].free or (state.areas["swap"].free and self._has_swap_victim()):
-            return None, SEEK
+            return None
         for ghost in state.ghosts.values():
             if ghost.frames:
-                return Need("ghost", buffer.index, ghost=ghost.number), SEEK
-        return None, SEEK
+                return Need("ghost", buffer.index, ghost=ghost.number)
+        return None
 
     def _has_swap_victim(self) -> bool:
         """Tells whether a buffer in SYSTEM or TT without pins and holder has a frame."""
         return any(one.frame_count and one.memory != VRAM and not one.pins and not one.holder for one in self.state.buffers)
 
-    def _search(self, buffer: BufferState, first: List[Place], forced: List[Place], dry: int, skips: Set[int]) -> Optional[Need]:
-        """The need for a ghost where no place has a choice, and the forced place at work no victim."""
-        if not self.state.ghosts or dry >= len(forced):
-            return None
+    def _search(self, buffer: BufferState, first: List[Place], forced: List[Place], dry: int, skips: Set[int]) -> Tuple[Optional[Need], Interest]:
+        """The first places have a choice, or the forced place at work has one, a victim or a ghost."""
+        if dry >= len(forced) or forced[dry].memory == SYSTEM:
+            return None, None
         place = forced[dry]
-        if place.memory == SYSTEM:
-            return None
         reach = place.reach(self.state.areas[place.memory].size)
-        ghost = self._ghost_in(place.memory, reach)
-        if ghost is None or reach.last - reach.first < buffer.declared.pages:
+        if reach.last - reach.first < buffer.declared.pages:
+            return None, None
+        seek = partial(self._seek_place, buffer, [place, *(one for one in first if one is not place)], reach, skips)
+        return seek(), seek
+
+    def _seek_place(self, buffer: BufferState, places: List[Place], reach: Span, skips: Set[int]) -> Optional[Need]:
+        """The need for a ghost where no place has a choice, and the first of them, which has this reach, no victim."""
+        memory = places[0].memory
+        ghost = self._ghost_in(memory, reach) if self.state.ghosts else None
+        if ghost is None:
             return None
-        if self._has_choice(buffer, place) or any(self._has_choice(buffer, one) for one in first if one is not place):
-            return None
-        return None if self._has_victim(place.memory, reach, skips) else Need("ghost", buffer.index, ghost=ghost)
+        for place in places:
+            if self._has_choice(buffer, place):
+                return None
+        return None if self._has_victim(memory, reach, skips) else Need("ghost", buffer.index, ghost=ghost)
 
     def _ghost_in(self, memory: str, reach: Span) -> Optional[int]:
         """Returns the number of the first ghost that holds a page of a reach."""
@@ -202,9 +218,11 @@ class Needs:
         if place.memory == SYSTEM:
             return True
         area = self.state.areas[place.memory]
-        reach = place.reach(area.size)
         pages = buffer.declared.pages
-        if reach.last - reach.first < pages or area.free < pages:
+        if area.free < pages:
+            return False
+        reach = place.reach(area.size)
+        if reach.last - reach.first < pages:
             return False
         free = (area.mask & ((1 << reach.last) - 1)) >> reach.first
         if place.memory == VRAM and self.state.script.manager == "buddy":
@@ -236,14 +254,8 @@ def _runs(free: int, pages: int) -> int:
 
 def _meets(spans: Tuple[Span, ...], reach: Span) -> bool:
     """Tells whether spans have a page in a reach."""
-    return any(span.first < reach.last and reach.first < span.last for span in spans)
-
-
-def need_text(need: Need, script: Script) -> str:
-    """Says what a thread waits for, as `waits for e0 job 2, which uses a`."""
-    name = script.buffer_name(need.buffer)
-    if need.kind == "job":
-        return f"waits for {need.job}, which uses {name}"
-    if need.kind == "ghost":
-        return f"waits for ghost {need.ghost}, to get pages for {name}"
-    return f"waits for {name}, which ticket {need.stamp} holds"
+    first, last = reach
+    for span in spans:
+        if span[0] < last and first < span[1]:
+            return True
+    return False

@@ -13,7 +13,7 @@ from .state import Holder
 
 
 class Stretch(NamedTuple):
-    """Pages of an area, from `first` up to `last`, that a holder has from one entry to another."""
+    """Pages of an area, from `first` up to `last`, that a holder has from one entry to another, the one before those shown at the earliest."""
 
     area: str
     first: int
@@ -84,7 +84,7 @@ class Sign(NamedTuple):
 
 @dataclass
 class Past:
-    """All of it, for the entries that are drawn."""
+    """All of it, for the entries that are drawn. `cut_ways` counts the moves that begin before them or end after them."""
 
     stretches: List[Stretch] = field(default_factory=list)
     ways: List[Way] = field(default_factory=list)
@@ -94,6 +94,7 @@ class Past:
     signs: List[Sign] = field(default_factory=list)
     entries: Dict[str, List[int]] = field(default_factory=dict)
     ends: Dict[str, Tuple[int, int, int, int]] = field(default_factory=dict)
+    cut_ways: int = 0
 
     def shapes(self) -> int:
         """Returns about how many shapes it takes to draw all of it."""

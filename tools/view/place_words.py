@@ -67,13 +67,14 @@ def _flags(line: Words, index: int, start: int, flags: List[str], version: int) 
 
 
 def _reach(line: Words, index: int, start: int, memory: str, reach: str) -> Optional[Tuple[int, int]]:
-    """Reads what stands behind the `@` of a place."""
+    """Reads what follows the `@` of a place."""
     if memory == SYSTEM:
         line.fault(7, index, "sys has no pages to choose from", "sys without @F-L", start, len(reach) + 1)
         return None
     ends = reach.split("-")
     if len(ends) != 2 or not ends[0] or not ends[1]:
-        line.fault(7, index, f"`@{short(reach)}` isn't a span of pages", "@F-L with two numbers, the first page and the one after the last", start, len(reach) + 1)
+        right = "@F-L with two numbers, the first page and the one after the last"
+        line.fault(7, index, f"`@{short(reach)}` isn't a span of pages", right, start, len(reach) + 1)
         return None
     values: List[int] = []
     at = start + 1
@@ -87,5 +88,6 @@ def _reach(line: Words, index: int, start: int, memory: str, reach: str) -> Opti
     first, last = values
     if first < last or (last == 0 and first != 0):
         return first, last
-    line.fault(7, index, f"the span {first}-{last} has no pages", "@F-L with L greater than F, or L 0 for the manager's size; for all pages no @", start, len(reach) + 1)
+    right = "@F-L with L greater than F, or L 0 for the manager's size; for all pages no @"
+    line.fault(7, index, f"the span {first}-{last} has no pages", right, start, len(reach) + 1)
     return None

@@ -66,12 +66,13 @@ class Recorder(Observer):
         self.free_from = [0] * (script.engines + 1)
         self.commands: Dict[int, Tuple[Command, int]] = {}
         self.ghosts_end = 0
+        self.moves_done: Dict[int, int] = {}
 
     def pages(self, area: str, first: int, last: int, before: Optional[Holder], after: Optional[Holder]) -> None:
         since = self.since[area]
         for page in range(first, last):
             if before is not None and self.at > self.first:
-                self.raw.append((area, before, since[page], self.at, page))
+                self.raw.append((area, before, max(since[page], self.first - 1), self.at, page))
             since[page] = self.at
 
     def emitted(self, job: Job) -> None:
@@ -79,6 +80,8 @@ class Recorder(Observer):
 
     def done(self, job: Job) -> None:
         self.jobs.pop(job, None)
+        if job.is_move:
+            self.moves_done[job.number] = self.at
         self._work(job, self.at)
 
     def _work(self, job: Job, until: int) -> None:
@@ -150,7 +153,8 @@ class Recorder(Observer):
         """Ends what is still there after the last entry, and returns the past."""
         end = self.last + 1
         for name, area in state.areas.items():
-            self.raw += [(name, holder, self.since[name][page], end, page) for page, holder in enumerate(area.owner) if holder is not None]
+            since = [max(start, self.first - 1) for start in self.since[name]]
+            self.raw += [(name, holder, since[page], end, page) for page, holder in enumerate(area.owner) if holder is not None]
             self.past.ends[name] = state.account(name)[1:]
         for job in list(self.jobs):
             self._work(job, end)
@@ -159,14 +163,15 @@ class Recorder(Observer):
         for thread in list(self.commands):
             self._doing(thread, end, "")
         self.past.stretches = _joined(self.raw)
-        self._end_ways(end)
+        self._end_ways()
         return self.past
 
-    def _end_ways(self, end: int) -> None:
-        """Gives each move the entry with which its job is done, and leaves those out that end before what is shown."""
-        done = {work.number: work.end for work in self.past.works if work.engine == 0}
-        ways = [way._replace(end=done.get(way.job, 0)) for way in self.past.ways]
-        self.past.ways = [way for way in ways if way.end >= self.first]
+    def _end_ways(self) -> None:
+        """Gives each move the entry with which its job is done; those that begin or end outside of what is shown are only counted."""
+        end = self.last + 1
+        ways = [way._replace(end=self.moves_done.get(way.job, end)) for way in self.past.ways]
+        self.past.ways = [way for way in ways if self.first <= way.start and way.end < end]
+        self.past.cut_ways = sum(way.end >= self.first for way in ways) - len(self.past.ways)
 
 
 def _joined(raw: List[Raw]) -> List[Stretch]:

@@ -4,7 +4,6 @@ from __future__ import annotations
 
 from typing import Callable, Dict, Iterator, List, Optional
 
-from . import entries as kinds
 from .apply_moves import ApplyMoves
 from .entries import Entry
 from .observers import EVENTS, Observer

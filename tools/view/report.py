@@ -1,4 +1,4 @@
-"""Reads a script with its report behind it: the journal as entries, results, accounts, and the parts of version 2."""
+"""Reads a script followed by its report: the journal as entries, results, accounts, and the parts of version 2."""
 
 from __future__ import annotations
 
@@ -194,7 +194,7 @@ def read_report(data: bytes, name: str = "standard input") -> Report:
     script_part, report_part = split_input(data)
     script = read_script(script_part)
     if not report_part:
-        raise ViewError("there is no report behind the script", script_part.count(b"\n") + 1)
+        raise ViewError("no report follows the script", script_part.count(b"\n") + 1)
     if len(report_part) > REPORT_BYTES:
         raise ViewError(f"the report has more than {REPORT_BYTES} bytes", script_part.count(b"\n") + 1)
     odd = first_odd_byte(report_part)
@@ -216,7 +216,7 @@ def read_report(data: bytes, name: str = "standard input") -> Report:
     faults, steps = _faults(lines), _steps(lines, script)
     lines.expect("end")
     if lines.peek() is not None:
-        raise lines.error("nothing is expected behind `end`")
+        raise lines.error("nothing is expected after `end`")
     return Report(script, entries, journal, first_line, results, accounts, faults, steps, unfinished, name)
 
 

@@ -98,8 +98,10 @@ class ScriptReader:
 
     def _wrong_space(self, line: Words, index: int) -> BrokenLine:
         """Returns what stops at a wrong space, where an empty word stands."""
-        fault = line.stop(index, "a space at the end of the line" if index == len(line.words) - 1 else "more than one space", "exactly one space between two words").fault
-        return BrokenLine(fault._replace(column=fault.column - (1 if index == len(line.words) - 1 else 0), width=1))
+        is_last = index == len(line.words) - 1
+        cause = "a space at the end of the line" if is_last else "more than one space"
+        fault = line.stop(index, cause, "exactly one space between two words").fault
+        return BrokenLine(fault._replace(column=fault.column - is_last, width=1))
 
     def _head(self, line: Words, word: str) -> None:
         """Reads one of the first six lines."""

@@ -58,7 +58,7 @@ class Job:
         self.is_move = engine == 0
 
     def __str__(self) -> str:
-        return f"e{self.engine} job {self.number}"
+        return f"job {self.number} of e{self.engine}"
 
 
 class Ghost:
@@ -205,7 +205,7 @@ class State:
             members.remove(buffer.index)
 
     def put_on(self, buffer: BufferState) -> None:
-        """Places a live buffer without pins on its list: behind the last of its group, or at the end."""
+        """Places a live buffer without pins on its list: after the last member of its group, or at the end."""
         if not buffer.is_live or buffer.pins:
             return
         members = self.lists[buffer.memory, buffer.declared.priority]

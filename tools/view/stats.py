@@ -18,7 +18,7 @@ from .totals import Totals
 
 USAGE = """usage: ./ttm stats [json] [FILE | SCRIPT REPORT]
 
-Adds up a script with its report behind it (standard input, a file, or two files): entries, memory, moves, evictions, ghosts, buffers, engines,
+Adds up a script followed by its report (standard input, a file, or two files): entries, memory, moves, evictions, ghosts, buffers, engines,
 threads, refusals and waits. With `json` one object, as tools/view/STATS.md says."""
 
 

@@ -4,6 +4,7 @@ from __future__ import annotations
 
 from typing import Any, Iterable, Sequence, Tuple
 
+from .draw_pages import counted
 from .stats_rows import Rows
 
 SHORT = {
@@ -17,12 +18,13 @@ SHORT = {
 ABOUT = {
     "NoBuffer": "{buffer} is dead",
     "Exists": "{buffer} is live",
-    "Pinned": "{buffer} is pinned, {pins} times",
+    "Pinned": "{buffer} has {pins}",
     "NotPinned": "{buffer} isn't pinned",
-    "PinMax": "{buffer} is pinned {pins} times",
+    "PinMax": "{buffer} has {pins}",
     "NoSwap": "no slot is free for {buffer}",
 }
 MOST_ROWS = 40
+MOST_CAUSES = 6
 MOST_WAITS = 20
 
 
@@ -85,7 +87,7 @@ def _engine(row: Rows) -> Rows:
 
 def _refusal(row: Rows) -> Rows:
     """Returns the row of a refusal, its causes as reports write them."""
-    causes = [ABOUT[row["refusal"]].format(buffer=row["buffer"], pins=row["pins"])] if row["buffer"] else []
+    causes = [ABOUT[row["refusal"]].format(buffer=row["buffer"], pins=counted(row["pins"], "pin"))] if row["buffer"] else []
     for cause in row["causes"]:
         causes.append(f"{cause['buffer']}: {'no frame' if cause['kind'] == 'nopages' else _dry(cause)}")
     where = f"t{row['thread']} {row['command']}"
@@ -95,7 +97,10 @@ def _refusal(row: Rows) -> Rows:
 
 def _dry(cause: Rows) -> str:
     """Returns why a place is dry."""
-    items = [f"{one['buffer']}:{one['why']}{':' + str(one['stamp']) if one['stamp'] else ''}" for one in cause["blockers"][:12]]
+    blockers = cause["blockers"]
+    items = [f"{one['buffer']}:{one['why']}{':' + str(one['stamp']) if one['stamp'] else ''}" for one in blockers[:MOST_CAUSES]]
+    if len(blockers) > MOST_CAUSES:
+        items.append(f"and {len(blockers) - MOST_CAUSES} more")
     return f"place {cause['place']} {'short' if cause['is_short'] else ','.join(items) or '-'}"
 
 

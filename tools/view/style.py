@@ -12,13 +12,16 @@ STYLE = f"""text{{font:10px "DejaVu Sans",Verdana,sans-serif;fill:{colours.INK}}
 .small{{font-size:8.5px;fill:#4a5565}}.end{{text-anchor:end}}.mid{{text-anchor:middle}}
 .name{{font-size:9.5px;text-anchor:middle}}.light{{fill:#fff}}.warm{{fill:#5a2a05}}.halo{{paint-order:stroke;stroke:#fff;stroke-width:2.6px;stroke-linejoin:round}}
 .free{{fill:{colours.FREE};stroke:#c3c9d1;stroke-width:.6}}.fold{{fill:url(#fold);stroke:#c3c9d1;stroke-width:.6}}
-.ghost{{fill:url(#ghost);stroke:#5d636c;stroke-width:.6}}.dense rect{{stroke:none}}.live{{fill:{colours.LIVE}}}.target{{fill:url(#target)}}
+.ghost{{fill:url(#ghost);stroke:#5d636c;stroke-width:.6}}
+.dense rect{{stroke:none;shape-rendering:crispEdges}}.dense .ghost{{stroke:#5d636c;stroke-width:.4}}
+.live{{fill:{colours.LIVE}}}.target{{fill:url(#target)}}
 .axis{{stroke:#000;stroke-opacity:.1;stroke-width:.6;fill:none}}
-.back{{stroke:#fff;stroke-width:4;stroke-opacity:.85;fill:none}}.move{{stroke:{colours.INK};stroke-width:1.6;fill:none}}.tip{{fill:{colours.INK}}}
+.back{{stroke:#fff;stroke-width:4;stroke-opacity:.85;fill:none}}
+.move{{stroke:{colours.INK};stroke-width:1.6;fill:none}}.tip{{fill:{colours.INK}}}
 .busy{{fill:{colours.BUSY};stroke:#fff;stroke-width:.4}}.ready{{stroke:{colours.BUSY};stroke-width:1.2;stroke-dasharray:2 2;fill:none}}
 .wait{{fill:{colours.PALE};stroke:{colours.WAIT};stroke-width:.8}}
 .command{{fill:#e3ebf4;stroke:#7d8ca0;stroke-width:.6}}.entry{{fill:{colours.BUSY}}}
-path.ghost{{stroke:none}}path.wait{{stroke:none;fill:{colours.WARM}}}.pointed{{fill:#000;fill-opacity:0}}.count{{fill:#7b6a9c}}
+path.ghost{{stroke:none}}.waits{{fill:{colours.WARM}}}.pointed{{fill:#000;fill-opacity:0}}.count{{fill:#7b6a9c}}
 .backoff{{fill:{colours.WAIT};stroke:#fff;stroke-width:.5}}.refused{{stroke:#b00020;stroke-width:2;fill:none}}
 """
 FIXED = f"""<pattern id="ghost" width="5" height="5" patternUnits="userSpaceOnUse"><path d="M0 0h5v5h-5z" fill="#d6d9de"/>\

@@ -6,7 +6,7 @@ from typing import Dict, List, Sequence, Tuple
 
 from . import legend, style
 from .columns import Columns
-from .draw_pages import put_margins
+from .draw_pages import MARGIN, put_margins
 from .scale import LEFT, RIGHT, Scale
 from .script import Script
 from .state import AREAS
@@ -14,7 +14,6 @@ from .sums import EVENTS, KINDS
 from .svg import Drawing, document
 
 WIDE = 900.0
-TOP = 66.0
 AREA_HEIGHT = 72.0
 LANE_HEIGHT = 26.0
 APART = 12.0
@@ -56,24 +55,24 @@ class Across:
 
 
 class Summed:
-    """The picture of sums, under a title and a note."""
+    """The picture of sums, under a title and notes."""
 
-    def __init__(self, script: Script, columns: Columns, title: str, note: str) -> None:
+    def __init__(self, script: Script, columns: Columns, title: str, notes: Sequence[str]) -> None:
         self.script = script
         self.columns = columns
         self.title = title
-        self.note = note
+        self.notes = notes
         self.across = Across(columns.count)
         self.drawing = Drawing()
         self.right = LEFT + WIDE
-        self.y = TOP
+        self.width = self.right + END_GAP + END_WIDTH + RIGHT
+        self.top = self.y = 0.0
 
     def svg(self, description: str, when: str) -> str:
         """Returns the picture; `when` says when the counts at the right are taken."""
         drawing = self.drawing
-        drawing.text("title", 12, 20, self.title)
-        drawing.text("note", 12, 36, self.note)
-        drawing.text("small", self.right + END_GAP + END_WIDTH + 8, TOP - 5, when)
+        self.top = self.y = legend.put_titles(drawing, self.title, self.notes, self.width) + 30
+        drawing.text("small", self.right + END_GAP + END_WIDTH + 8, self.top - 5, when)
         for area in AREAS:
             if self.script.size(area):
                 self._area(area)
@@ -89,8 +88,7 @@ class Summed:
             self._counts(kind)
         self._axis()
         bottom = self._legend()
-        width = self.right + END_GAP + END_WIDTH + RIGHT
-        return document(width, bottom + 8, self.title, description, style.classes([]), style.patterns([]), drawing.body())
+        return document(self.width, bottom + 8, self.title, description, style.classes([]), style.patterns([]), drawing.body())
 
     def _heading(self, text: str) -> None:
         """Draws a line above lanes."""
@@ -105,7 +103,7 @@ class Summed:
                 self.drawing.rect("pointed", self.across.x(column), top, self.across.unit, height, title)
 
     def _area(self, area: str) -> None:
-        """Draws the shares of the pages of an area, and behind them who holds it in the end."""
+        """Draws the shares of the pages of an area, and to the right of them who holds it in the end."""
         size = self.script.size(area)
         drawing, top, bottom = self.drawing, self.y, self.y + AREA_HEIGHT
         ends = [self.columns.level(area, kind).end() for kind in KINDS]
@@ -142,7 +140,7 @@ class Summed:
         drawing.rect("free", LEFT, top, WIDE, height)
         drawing.path(kind, band(self.across, bottom, height, [0.0] * len(acts), acts))
         if any(waits):
-            drawing.path("wait", band(self.across, bottom, height, acts, both))
+            drawing.path("waits", band(self.across, bottom, height, acts, both))
         word = "busy" if kind == "busy" else "entries"
         self._titles([f"{word} {one:.0%}, waits {other:.0%}" if one or other else "" for one, other in zip(acts, waits)], top, height)
         drawing.close()
@@ -173,16 +171,16 @@ class Summed:
         paths: List[str] = []
         for entry in scale.marks(70):
             x = scale.x(entry)
-            paths.append(f"M{x:.1f} {TOP:.0f}V{self.y:.0f}")
+            paths.append(f"M{x:.1f} {self.top:.0f}V{self.y:.0f}")
             self.drawing.text("small mid", x, self.y + 9, f"{entry:,}")
         if paths:
             self.drawing.shapes.append(f'<path class="axis" d="{"".join(paths)}"/>\n')
-        self.drawing.text("small end", LEFT - 5, self.y + 9, "entry")
+        self.drawing.text("small", MARGIN, self.y + 9, "entry")
 
     def _legend(self) -> float:
         """Draws what colours mean, and returns where that ends."""
         states = [kind for kind in KINDS if any(any(self.columns.level(area, kind).averages()) for area in AREAS)] + ["free"]
-        groups = [legend.mark_items(states), legend.mark_items(["acts", "wait"])]
+        groups = [legend.mark_items(states), legend.mark_items(["acts", "waits"])]
         return legend.draw(self.drawing, self.y + 24, self.right + RIGHT, groups)
 
 

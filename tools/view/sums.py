@@ -106,7 +106,7 @@ def run_to(replay: Replay, last: int) -> State:
     """Follows a journal up to an entry, and returns the state after it."""
     if last == len(replay.report.entries):
         return replay.run()
-    for _entry in replay.steps():
+    for _entry in replay.steps() if last else ():
         if replay.number == last:
             break
     replay.waits.end()

@@ -67,9 +67,10 @@ class Drawing:
         self.shapes.append("</g>\n")
 
     def rect(self, kind: str, x: float, y: float, width: float, height: float, title: str = "") -> None:
-        """Puts a box of a class."""
-        size = f'width="{shown(width)}" height="{shown(height)}"'
-        self._put("rect", f'class="{kind}" x="{shown(x)}" y="{shown(y)}" {size}', title)
+        """Puts a box of a class. Boxes side by side have their edge in common also where it is rounded."""
+        left, top = round(x, 1), round(y, 1)
+        size = f'width="{shown(round(x + width, 1) - left)}" height="{shown(round(y + height, 1) - top)}"'
+        self._put("rect", f'class="{kind}" x="{shown(left)}" y="{shown(top)}" {size}', title)
 
     def path(self, kind: str, path: str, title: str = "") -> None:
         """Puts a path of a class."""

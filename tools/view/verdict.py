@@ -7,7 +7,6 @@ from typing import Iterator, List, NamedTuple, Optional, Tuple
 from .entry_reader import read_entries
 from .errors import ViewError
 from .limits import REPORT_BYTES
-from .needs import need_text
 from .program import journal_of, simulate
 from .replay import Replay
 from .report import Report
@@ -15,6 +14,7 @@ from .rules import VERDICT_RULES
 from .script import Actor, Script
 from .script_reader import read_script, split_input
 from .turns import with_turns
+from .wait_text import wait_text
 
 
 class Said(NamedTuple):
@@ -32,7 +32,6 @@ class Rejected:
     def __init__(self, data: bytes, entry: int, rule: int) -> None:
         script_part, self.report_part = split_input(data)
         self.script: Script = read_script(script_part)
-        self.script_bytes = len(script_part)
         self.first = script_part.count(b"\n") + 1
         self.lines = self.report_part.decode("latin-1").split("\n")
         if not self.lines[-1]:
@@ -45,7 +44,7 @@ class Rejected:
         return tellers[self.rule]()
 
     def _line(self, index: int) -> str:
-        """Returns a line of the report from 0 on, or nothing behind its end."""
+        """Returns a line of the report from 0 on, or nothing after its end."""
         return self.lines[index] if index < len(self.lines) else ""
 
     def _at(self, index: int, cause: str, expected: str) -> Said:
@@ -116,7 +115,7 @@ class Rejected:
         return self._at(self.entry + 1, cause, f"an entry such as `{self.entry} {expected}`" if expected else VERDICT_RULES[5])
 
     def _rest(self) -> Said:
-        """Rule 6: something behind the journal."""
+        """Rule 6: what follows the journal."""
         start = self.entry + 1
         try:
             output = simulate(with_turns(self.script, self._actors(self.entry - 1)))
@@ -132,7 +131,7 @@ class Rejected:
 
 
 def _pairs(left: List[str], right: List[str]) -> Iterator[Tuple[Optional[str], Optional[str]]]:
-    """Pairs the lines of two texts, None behind the end of one."""
+    """Pairs the lines of two texts, None after the end of one."""
     for index in range(max(len(left), len(right))):
         yield (left[index] if index < len(left) else None, right[index] if index < len(right) else None)
 
@@ -145,7 +144,7 @@ def _blocked(replay: Replay, actor: Actor) -> str:
         if course.command() is None:
             return f"each command of {actor} is answered"
         need, _ = replay.waits.needs.of(course)
-        return f"{actor} {need_text(need, state.script)}" if need is not None else f"{actor} can't go on"
+        return f"{actor} waits for {wait_text(state.script, need)}" if need is not None else f"{actor} can't go on"
     if actor.kind == "r":
         return "no ghost can be reaped: there is none, or its jobs aren't done"
     job = next((job for job in state.jobs.values() if job.engine == actor.number), None)

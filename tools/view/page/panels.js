@@ -35,6 +35,7 @@ function signs(script, indexes) {
   return indexes.length ? indexes.flatMap((index, at) => (at ? [" ", sign(script, index)] : [sign(script, index)])) : ["-"];
 }
 
+const MOST_JOBS = 6; // shown of an engine or a buffer
 const BUFFER_HEADINGS = ["buffer", "pages", "stands in", "targets", "page table", "holder", "pins", "unfinished jobs"];
 
 function showBuffers(script, state, marked) {
@@ -83,7 +84,10 @@ function holderText(state, buffer) {
 }
 
 function fencesText(state, buffer) {
-  return state.unfinished(buffer.fences).map((fence) => `${fence.usage} e${fence.engine} ${fence.number}`).join(", ") || "-";
+  const fences = state.unfinished(buffer.fences);
+  const shown = fences.slice(0, MOST_JOBS).map((fence) => `${fence.usage} e${fence.engine} ${fence.number}`);
+  if (fences.length > MOST_JOBS) shown.push(`and ${fences.length - MOST_JOBS} more`);
+  return shown.join(", ") || "-";
 }
 
 function showThreads(script, state, actor, waits) {
@@ -106,8 +110,6 @@ function victimsText(script, state, course) {
   return parts.length ? parts : ["-"];
 }
 
-const MOST_JOBS = 6; // shown of an engine
-
 function showEngines(state, actor) {
   const rows = state.jobs.flatMap((jobs, engine) => {
     const mark = { class: actor === `e${engine}` ? "marked" : null };
@@ -124,7 +126,7 @@ function jobRow(state, job, attributes, head) {
 
 /** Names unfinished jobs in few letters. */
 function shortJobs(state, jobs) {
-  return state.unfinished(jobs).map((job) => `e${job.engine} ${job.number}`).join(", ") || "-";
+  return state.lastUnfinished(jobs).map((job) => `e${job.engine} ${job.number}`).join(", ") || "-";
 }
 
 const MOST_GHOSTS = 8; // shown

@@ -20,10 +20,9 @@ function commandText(state, course) {
   return `command ${course.answered + 1}, \`${state.commandOf(course).text}\``;
 }
 
-/** Names the unfinished jobs among fences, each once. */
+/** Names the last unfinished job of each engine among fences. */
 function unfinishedText(state, fences) {
-  const jobs = state.unfinished(fences);
-  return jobsText(jobs.filter((job, at) => jobs.findIndex((other) => other.engine === job.engine && other.number === job.number) === at));
+  return jobsText(state.lastUnfinished(fences));
 }
 
 const REFUSALS = {

@@ -111,13 +111,18 @@ class State {
     buffer.fences = [...others, { engine: job.engine, number: job.number, usage }];
   }
 
+  /** Returns the last unfinished job of each engine among fences. An engine does its jobs in order, so all are done where these are. */
+  lastUnfinished(fences) {
+    const last = new Map();
+    for (const fence of this.unfinished(fences)) {
+      if (!last.has(fence.engine) || last.get(fence.engine).number < fence.number) last.set(fence.engine, fence);
+    }
+    return Array.from(last.values());
+  }
+
   /** Emits a job of an engine that waits for the unfinished ones among `fences`. */
   emit(engine, number, packets, fences, label) {
-    const waits = [];
-    for (const one of this.unfinished(fences)) {
-      if (!waits.some((other) => other.engine === one.engine && other.number === one.number)) waits.push(one);
-    }
-    const job = { engine, number, packets, ran: 0, waits, label };
+    const job = { engine, number, packets, ran: 0, waits: this.lastUnfinished(fences), label };
     this.jobs[engine].set(number, job);
     return job;
   }

@@ -1,5 +1,5 @@
 "use strict";
-// Seeks the state after any entry: copies of the state are kept at every so many entries, and the rest is followed from the nearest one.
+// Seeks the state after any entry: it keeps copies of the state on the way, and follows the rest from the nearest one.
 
 const MOST_COPIES = 256;
 const LEAST_STEP = 64; // entries from one copy to the next

@@ -11,8 +11,8 @@ WORDS = (
     "16777217 4294967295 4294967296 01 -1 x 00 ff 0g FF 000 - want busy place prio group align fill copy xor probe range buddy"
 ).split()
 LINES = (
-    "thread|end|schedule t1 e0 r|schedule t9|new a|new b|find b|map a|map b|unmap a|peek a 0 1|poke a 0 00|vmap 0 1 a 0|vmap 1048575 1 a 0|vunmap 0 1|"
-    "vsubmit 1 fill 0 1 00|vsubmit 1 copy 0 4096 8|submit 1 fill a 0 1 00 ; probe a 0 1|read a 0 1|write a 0 00|touch 1|move a tt|pin a|ttm 2|tt 1"
+    "thread|end|schedule t1 e0 r|schedule t9|new a|new b|find b|map a|map b|unmap a|peek a 0 1|poke a 0 00|vmap 0 1 a 0|vmap 1048575 1 a 0|"
+    "vunmap 0 1|vsubmit 1 fill 0 1 00|vsubmit 1 copy 0 4096 8|submit 1 fill a 0 1 00 ; probe a 0 1|read a 0 1|write a 0 00|touch 1|move a tt|pin a|ttm 2|tt 1"
 ).split("|")
 
 
@@ -22,7 +22,8 @@ class Mutations:
     def __init__(self, seed: int) -> None:
         self.draw = random.Random(seed)
         self.kinds: List[Callable[[List[str], int], None]] = [
-            self.word, self.word, self.word, self.word, self.drop_word, self.add_word, self.drop_line, self.twice, self.swap, self.line, self.character,
+            self.word, self.word, self.word, self.word, self.drop_word, self.add_word, self.drop_line, self.twice, self.swap, self.line,
+            self.character,
         ]  # fmt: skip
 
     def broken(self, script: bytes) -> bytes:

@@ -14,7 +14,7 @@ function seen(state) {
     lists: state.lists.flat().map((members) => members.slice()),
     buffers: state.buffers.map((buffer) => [buffer.live, buffer.live ? standing(buffer) : "", targetsText(buffer), buffer.pins, buffer.holder,
       Array.from(buffer.frames), Array.from(buffer.slots), inOrder(state.unfinished(buffer.fences).map((fence) => [...job(fence), fence.usage]))]),
-    jobs: state.jobs.flatMap((jobs) => Array.from(jobs.values())).map((one) => [...job(one), one.ran, one.packets, inOrder(state.unfinished(one.waits).map(job))]),
+    jobs: state.jobs.flatMap((jobs) => Array.from(jobs.values())).map((one) => [...job(one), one.ran, one.packets, inOrder(state.lastUnfinished(one.waits).map(job))]),
     ghosts: state.ghosts.map((ghost) => [ghost.number, ghost.frames, inOrder(state.unfinished(ghost.jobs).map(job))]),
     courses: state.courses.map((course) => [course.answered, course.stamp, course.held, course.first, course.caught.map((victim) => [victim.index, victim.why, victim.fail]),
       course.skips.slice().sort((one, other) => one - other), course.fail]),

@@ -50,7 +50,8 @@ class RandomScript:
     def _buffer(self, index: int) -> str:
         """Draws a buffer line."""
         draw = self.draw
-        head = f"buffer b{index} {self.pages[index]} prio {draw.randint(0, 3)} group {draw.choice(('-', '0', '1', '15'))} align {draw.choice((1, 1, 2, 4))}"
+        priority, group, align = draw.randint(0, 3), draw.choice(("-", "0", "1", "15")), draw.choice((1, 1, 2, 4))
+        head = f"buffer b{index} {self.pages[index]} prio {priority} group {group} align {align}"
         if self.version == 1:
             lists = [",".join(self._place("") for _ in range(draw.randint(1, 4))) for _ in range(2)]
             return f"{head} want {lists[0]} busy {lists[1]}"

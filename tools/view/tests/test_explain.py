@@ -202,12 +202,15 @@ class Ends(unittest.TestCase):
         head = "".join(ONE.splitlines(True)[:6])
         buffers = "".join(f"buffer b{number} 1 prio 1 group - align 1 want sys busy sys\n" for number in range(17))
         job = " ; ".join(f"probe b{number} 0 1" for number in range(17))
-        self.check(f"{head}{buffers}thread\nsubmit 1 {job}\nend\n".encode(), 25, 10, "b16 is buffer number 17 of the job", "at most 16 buffers in a job")
+        script = f"{head}{buffers}thread\nsubmit 1 {job}\nend\n"
+        self.check(script.encode(), 25, 10, "b16 is buffer number 17 of the job", "at most 16 buffers in a job")
 
     def test_too_many_bytes_in_operations(self) -> None:
-        head = ONE.replace("buffer a 2", "buffer a 4096").replace("submit 1 fill a 0 1 00", "submit 1 " + many("fill a 0 16777216 00", 4, " ; ") + "\nsubmit 1 fill a 0 1 00")
+        last = "submit 1 fill a 0 1 00"
+        jobs = f"submit 1 {many('fill a 0 16777216 00', 4, ' ; ')}\n{last}"
+        script = ONE.replace("buffer a 2", "buffer a 4096").replace(last, jobs)
         right = "at most 67108864 bytes in the operations of all jobs of a script"
-        self.check(head.encode(), 13, 13, "the operations so far have 67108865 bytes", right)
+        self.check(script.encode(), 13, 13, "the operations so far have 67108865 bytes", right)
 
 
 class Comments(unittest.TestCase):

@@ -4,17 +4,22 @@ import re
 import time
 import unittest
 import xml.dom.minidom
+from contextlib import redirect_stderr
+from io import StringIO
+from itertools import combinations
 from typing import Any, Dict, List, Tuple
 
 from view import docs_pictures
+from view.draw_pages import Box as Place
+from view.draw_pages import crosses
 from view.errors import ViewError
 from view.past import Past
-from view.picture import detailed, picture, range_of, read_words
+from view.picture import detailed, followed, picture, range_of, read_words
 from view.record import Recorder
 from view.replay import Replay
 from view.report import Report, read_report
 from view.sums import KINDS, summed_up
-from view.svg import escaped
+from view.svg import escaped, width_of
 
 from . import samples
 from .program import needs_program
@@ -58,13 +63,42 @@ def row_height(rects: List[Any]) -> float:
     return 1.0
 
 
+SIZES = {"title": 14.0, "head": 11.0, "name": 9.5, "small": 8.5}
+Box = Tuple[float, float, float, float]
+
+
+def text_box(text: Any) -> Box:
+    """Returns about where a label is: left, top, right, bottom."""
+    kinds = text.getAttribute("class").split(" ")
+    size = next((SIZES[kind] for kind in kinds if kind in SIZES), 10.0)
+    width = width_of(text.firstChild.data, size)
+    share = 1.0 if "end" in kinds else 0.5 if "mid" in kinds or "name" in kinds else 0.0
+    left, base = float(text.getAttribute("x")) - share * width, float(text.getAttribute("y"))
+    return left, base - 0.72 * size, left + width, base
+
+
+def mark_box(mark: Any) -> Box:
+    """Returns where a cross or a triangle is."""
+    numbers = [float(word) for word in re.findall(r"-?[\d.]+", mark.getAttribute("points") or mark.getAttribute("d"))]
+    if mark.tagName == "polygon":
+        return min(numbers[::2]), min(numbers[1::2]), max(numbers[::2]), max(numbers[1::2])
+    x, y, size = numbers[:3]
+    return x, y, x + size, y + size
+
+
+def overlap(one: Box, other: Box) -> bool:
+    """Tells whether two boxes have more than an edge in common."""
+    return one[0] < other[2] - 0.5 and other[0] < one[2] - 0.5 and one[1] < other[3] - 0.5 and other[1] < one[3] - 0.5
+
+
 class Pictures(unittest.TestCase):
     def check_ends(self, name: str, report: Report) -> None:
         """Asserts that a picture is well formed, and that its last column and its counts are the report's accounts."""
         text = picture(report, read_words([]))
         svg = xml.dom.minidom.parseString(text)
         self.assertLess(len(text), MOST_BYTES, name)
-        counts = [int(word) for line in re.findall(r">(free \d+, live \d+|target \d+, ghost \d+)<", text) for word in re.findall(r"\d+", line)]
+        lines = re.findall(r">(free \d+, live \d+|target \d+, ghost \d+)<", text)
+        counts = [int(word) for line in lines for word in re.findall(r"\d+", line)]
         sized = [account for account in report.accounts if account.size]
         self.assertEqual(counts, [one for account in sized for one in account[2:]], name)
         for account in sized if "columns of" not in text else []:
@@ -102,6 +136,38 @@ class Pictures(unittest.TestCase):
 
     def test_docs_have_what_is_drawn(self) -> None:
         self.assertEqual(docs_pictures.main([]), 0)
+
+    def test_labels_and_marks_stand_apart(self) -> None:
+        for name, report in samples.examples():
+            svg = xml.dom.minidom.parseString(picture(report, read_words([])))
+            boxes = [(text_box(text), text.firstChild.data) for text in svg.getElementsByTagName("text") if text.firstChild]
+            for kind in ("path", "polygon"):
+                marks = [one for one in svg.getElementsByTagName(kind) if one.getAttribute("class") in ("refused", "backoff")]
+                boxes += [(mark_box(one), one.getAttribute("class")) for one in marks]
+            for (one, what), (other, that) in combinations(boxes, 2):
+                self.assertFalse(overlap(one, other), (name, what, that, one, other))
+
+    def test_no_move_passes_through_a_label(self) -> None:
+        for name, report in samples.examples():
+            svg = xml.dom.minidom.parseString(picture(report, read_words([])))
+            names = [text_box(text) for text in svg.getElementsByTagName("text") if "name" in text.getAttribute("class")]
+            for path in svg.getElementsByTagName("path"):
+                if path.getAttribute("class") == "move" and path.firstChild:
+                    x, y, end, there = map(float, re.findall(r"[\d.]+", path.getAttribute("d")))
+                    for left, top, right, bottom in names:
+                        self.assertFalse(crosses(((x, y), (end, there)), Place(left, top, right - left, bottom - top)), name)
+
+    def test_arrows_point_where_moves_go(self) -> None:
+        svg = xml.dom.minidom.parseString(picture(samples.example("pipelined_eviction"), read_words([])))
+        lines = [one for one in svg.getElementsByTagName("path") if one.getAttribute("class") == "move" and one.firstChild]
+        tips = [one for one in svg.getElementsByTagName("polygon") if one.getAttribute("class") == "tip"]
+        self.assertEqual(len(lines), 3)
+        for line, tip in zip(lines, tips):
+            x, y, end, there = map(float, re.findall(r"[\d.]+", line.getAttribute("d")))
+            points = [float(word) for word in re.findall(r"[\d.]+", tip.getAttribute("points"))]
+            right, down = points[0] - (points[2] + points[4]) / 2, points[1] - (points[3] + points[5]) / 2
+            across, along = (end - x) * down - (there - y) * right, (end - x) * right + (there - y) * down
+            self.assertLess(abs(across), 0.05 * along)
 
     def pauses(self, name: str) -> List[Tuple[str, int, int, str]]:
         """Returns the waits of threads of an example."""
@@ -174,11 +240,23 @@ class Pictures(unittest.TestCase):
             xml.dom.minidom.parseString(svg)
             self.assertIn("</svg>", svg, name)
 
-    def test_broken_reports_are_told_by_line(self) -> None:
-        broken = samples.written([["new b0"]], ["t1 new b0", "t1 bind b0"], samples.FREE)
+    def test_broken_reports_are_drawn_up_to_the_fault(self) -> None:
+        broken = read_report(samples.written([["new b0"]], ["t1 new b0", "t1 bind b0"], samples.FREE))
         with self.assertRaises(ViewError) as raised:
-            picture(read_report(broken), read_words([]))
+            picture(broken, read_words([]))
         self.assertEqual(raised.exception.line, 14)
+        with redirect_stderr(StringIO()) as said:
+            svg, status = followed(broken, read_words([]))
+        xml.dom.minidom.parseString(svg)
+        self.assertEqual((status, said.getvalue()[:12]), (1, "picture:14: "))
+        self.assertIn("Entries 1 to 1 of 2", svg)
+        self.assertIn("entry 2: ", svg)
+        first = read_report(samples.written([["new b0"]], ["t1 bind b0"], samples.FREE))
+        with redirect_stderr(StringIO()):
+            svg, status = followed(first, read_words([]))
+        xml.dom.minidom.parseString(svg)
+        with self.assertRaises(ViewError):
+            followed(broken, read_words(["--from", "2"]))
 
     def test_long_runs_are_summed_in_a_bounded_size(self) -> None:
         report = samples.long_report(16, 400)

@@ -68,6 +68,11 @@ def jobs_of(jobs: Any) -> List[List[int]]:
     return sorted([job.engine, job.number] for job in jobs if not job.done)
 
 
+def last_jobs(jobs: Any) -> List[List[int]]:
+    """Returns the last job of each engine among those that aren't done."""
+    return [list(job) for job in sorted(dict(jobs_of(jobs)).items())]
+
+
 def buffer_row(buffer: BufferState) -> List[Any]:
     """Returns a buffer as the page's check has it."""
     table = [[-1 if one is None else one for one in pages] for pages in (buffer.frames, buffer.slots)]
@@ -89,7 +94,7 @@ def seen(state: State) -> Dict[str, Any]:
         "accounts": [list(state.account(area)) for area in AREAS],
         "lists": [state.lists[memory, priority] for memory in MEMORY_TYPES for priority in range(4)],
         "buffers": [buffer_row(buffer) for buffer in state.buffers],
-        "jobs": [[job.engine, job.number, job.ran, job.packets, jobs_of(job.waits)] for job in jobs],
+        "jobs": [[job.engine, job.number, job.ran, job.packets, last_jobs(job.waits)] for job in jobs],
         "ghosts": [[ghost.number, ghost.frames, jobs_of(ghost.jobs)] for ghost in state.ghosts.values()],
         "courses": [course_row(course) for course in state.courses],
     }
@@ -172,7 +177,7 @@ class BrowserTest(unittest.TestCase):
             due = states_at(report, numbers)
             for number, state in found["states"]:
                 with self.subTest(report=report.name, entry=number):
-                    self.assertEqual(due[number], state)
+                    self.assertEqual(without_waits(due[number], report), without_waits(state, report))
 
     def test_last_accounts_are_those_of_the_report(self) -> None:
         for report, found in zip(self.reports, self.found["reports"]):
@@ -193,6 +198,13 @@ class BrowserTest(unittest.TestCase):
             accounts = zip(AREAS, due[number]["accounts"])
             self.assertEqual({area: account_text(area, account) for area, account in accounts}, step["accounts"], number)
         self.assertEqual([0, *range(1, 49), 47, 46, 45, 44, 43, 33, 48], [int(step["entry"]) for step in self.found["steps"]])
+
+
+def without_waits(state: Dict[str, Any], report: Report) -> Dict[str, Any]:
+    """Returns a state of a report that no program writes without what jobs wait for: there an engine may do its jobs in any order."""
+    if not report.name.startswith("odd "):
+        return state
+    return {**state, "jobs": [job[:4] for job in state["jobs"]]}
 
 
 def account_text(area: str, account: List[int]) -> str:

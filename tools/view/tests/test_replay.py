@@ -4,7 +4,6 @@ from __future__ import annotations
 
 import unittest
 from concurrent.futures import ThreadPoolExecutor
-from pathlib import Path
 from typing import Dict, List, Optional, Tuple
 
 from view.entries import Result
@@ -84,7 +83,8 @@ class Accounts(unittest.TestCase):
     def test_random_scripts(self) -> None:
         scripts = [RandomScript(seed, version).text().encode() for seed in range(100) for version in (1, 2)]
         with ThreadPoolExecutor(4) as pool:
-            for at, (script, (status, output)) in enumerate(zip(scripts, pool.map(lambda data: run(["run" if len(data) % 2 else "sim"], data), scripts))):
+            runs = pool.map(lambda data: run(["run" if len(data) % 2 else "sim"], data), scripts)
+            for at, (script, (status, output)) in enumerate(zip(scripts, runs)):
                 with self.subTest(at):
                     self.assertEqual(status, 0)
                     self.check(read_report(script + output))
@@ -107,7 +107,7 @@ class Waits(unittest.TestCase):
 
     def test_a_read_waits_for_the_move(self) -> None:
         waits = followed(example("pipelined_eviction"))[1].waits
-        self.assertEqual(job_names(waits), ["e0 job 2"])
+        self.assertEqual(job_names(waits), ["job 2 of e0"])
         self.assertEqual([(wait.thread, wait.command, wait.since, wait.until) for wait in waits], [(1, 7, 37, 39)])
 
     def test_a_write_waits_for_readers(self) -> None:
@@ -143,7 +143,8 @@ class Blocked(unittest.TestCase):
     def test_the_program_agrees(self) -> None:
         cases = [case for seed in range(12) for case in self.states(seed)]
         with ThreadPoolExecutor(4) as pool:
-            for (script, count, is_blocked), (_, output) in zip(cases, pool.map(lambda case: run(["sim", "--turns", str(case[1] + 1)], case[0]), cases)):
+            runs = pool.map(lambda case: run(["sim", "--turns", str(case[1] + 1)], case[0]), cases)
+            for (script, count, is_blocked), (_, output) in zip(cases, runs):
                 entries = int(output.split(b"journal ")[1].split(b"\n")[0])
                 self.assertEqual(entries == count, is_blocked, (script, count))
         self.assertTrue(any(case[2] for case in cases))

@@ -17,9 +17,11 @@ from view.tests.program import EXAMPLES, examples
 from view.words import REPORT, WORDS
 
 SCRIPT = "ttm 1\nvram range 1\ntt 1\nframes 1\nswap 0\nengines 0\nbuffer a 1 prio 1 group - align 1 want vram busy vram\nthread\nnew a\nend\n"
-ACCOUNTS = "vram size 1 free 1 live 0 target 0 ghost 0|tt size 1 free 1 live 0 target 0 ghost 0|frames size 1 free 1 live 0 target 0 ghost 0|swap size 0 free 0 live 0 target 0 ghost 0"
-REPORT_TEXT = "report 1\njournal 2\n1 t1 new a\n2 t1 result ok\nresults\nt1 1 ok\naccounts\n" + ACCOUNTS.replace("|", "\n") + "\nend\n"
-WORDS_OF_REPORTS = "0 1 2 3 9 99 -1 1_0 99999999999999999999 18446744073709551616 x a b zz t1 t2 t9 e0 e1 r - now 0-1 1-0 0-99 0-16385 sys tt vram short ok".split()
+ACCOUNTS = "".join(f"{name} size {size} free {size} live 0 target 0 ghost 0\n" for name, size in (("vram", 1), ("tt", 1), ("frames", 1), ("swap", 0)))
+REPORT_TEXT = f"report 1\njournal 2\n1 t1 new a\n2 t1 result ok\nresults\nt1 1 ok\naccounts\n{ACCOUNTS}end\n"
+WORDS_OF_REPORTS = (
+    "0 1 2 3 9 99 -1 1_0 99999999999999999999 18446744073709551616 x a b zz t1 t2 t9 e0 e1 r - now 0-1 1-0 0-99 0-16385 sys tt vram short ok"
+).split()
 
 
 def follow(data: bytes) -> None:
@@ -41,10 +43,11 @@ class Broken(unittest.TestCase):
         follow((SCRIPT + REPORT_TEXT).encode())
 
     def test_lines(self) -> None:
-        self.check(REPORT_TEXT, "", 11, "there is no report behind the script")
+        self.check(REPORT_TEXT, "", 11, "no report follows the script")
         self.check("report 1", "report 2", 11, "the line `report 1` is expected here")
         self.check("journal 2", "journal x", 12, "the line `journal` with a number is expected here")
-        self.check("journal 2", "journal 18446744073709551616", 12, "the journal should have 18446744073709551616 entries, and the report ends before")
+        count = 18446744073709551616
+        self.check("journal 2", f"journal {count}", 12, f"the journal should have {count} entries, and the report ends before")
         self.check("2 t1 result", "3 t1 result", 14, "entry 2: entry 2 is expected here")
         self.check("journal 2", "journal 1", 14, "the line `results` is expected here")
         self.check("1 t1 new", "1 t2 new", 13, "entry 1: the script has no actor `t2`")
@@ -54,7 +57,7 @@ class Broken(unittest.TestCase):
         self.check("t1 1 ok", "t1 2 ok", 16, "the script has no command 2 of thread 1")
         self.check("tt size 1", "tt size 2", 19, "the size of tt is 1 in the script")
         self.check("ghost 0\nend\n", "ghost 0\n", 22, "the line `end` is expected here")
-        self.check("ghost 0\nend\n", "ghost 0\nend\nend\n", 23, "nothing is expected behind `end`")
+        self.check("ghost 0\nend\n", "ghost 0\nend\nend\n", 23, "nothing is expected after `end`")
         self.check("frames size", "frames\tsize", 20, "the byte 0x09 can't stand here in a report")
 
     def test_entries_that_cant_be(self) -> None:
@@ -62,7 +65,8 @@ class Broken(unittest.TestCase):
         self.check("2 t1 result ok", "2 t1 populate a 0 1", 14, "entry 2: `populate a 0 1` can't be what happens here: there are 1 frames")
         self.check("2 t1 result ok", "2 t1 populate a 1 0", 14, "entry 2: `populate a 1 0` can't be what happens here: a has 1 pages")
         self.check("2 t1 result ok", "2 r reap 1", 14, "entry 2: `reap 1` can't be what happens here: it names what isn't there")
-        self.check("2 t1 result ok", "2 t1 take a vram 0-16385", 14, "entry 2: `take a vram 0-16385` can't be what happens here: the spans haven't the buffer's pages")
+        said = "entry 2: `take a vram 0-16385` can't be what happens here: the spans haven't the buffer's pages"
+        self.check("2 t1 result ok", "2 t1 take a vram 0-16385", 14, said)
         self.check("2 t1 result ok", "2 t1 take a vram 5-6", 14, "entry 2: `take a vram 5-6` can't be what happens here: vram has 1 pages")
 
     def test_sizes_are_refused_before_memory_is_taken(self) -> None:

@@ -55,7 +55,7 @@ def events_of(report: Report) -> List[Dict[str, Any]]:
 
 
 def slices(events: List[Dict[str, Any]]) -> Dict[int, List[Tuple[int, int, str]]]:
-    """Returns the slices of each track: first microsecond, the one behind the last, name. Requires that each that begins ends."""
+    """Returns the slices of each track: first microsecond, the one after the last, name. Requires that each that begins ends."""
     found: Dict[int, List[Tuple[int, int, str]]] = defaultdict(list)
     open_ones: Dict[int, List[Dict[str, Any]]] = defaultdict(list)
     for event in sorted((event for event in events if event["ph"] in "BEX"), key=lambda event: event["ts"]):
