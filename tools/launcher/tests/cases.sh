@@ -200,9 +200,9 @@ check_inputs() {
 
 check_comments() {
   local input=$room/text
-  printf '# one\ntwo # three\nfour\n' >"$room/text"
-  expect "comments on standard input" 0 $'unproved: sim\ntwo\nfour' 1 sim
-  expect "comments in a file" 0 $'unproved: run\ntwo\nfour' 1 run "$room/text"
+  printf '# one\ntwo # three # four\n  # five\nsix#seven  \neight   #' >"$room/text"
+  expect "comments on standard input" 0 $'unproved: sim\ntwo\nsix#seven  \neight' 1 sim
+  expect "comments in a file" 0 $'unproved: run\ntwo\nsix#seven  \neight' 1 run "$room/text"
 }
 
 check_explanations() {
@@ -225,7 +225,7 @@ check_viewers() {
 check_no_python() {
   local whole=$room/tools input=$room/text
   printf '# one\nstatus 3\n' >"$room/text"
-  expect "comments without python3" 3 $'unproved: sim\n# one\nstatus 3' 2 sim
+  expect "comments without python3" 3 $'unproved: sim\nstatus 3' 1 sim
   expect "a viewer without python3" 1 "" 1 picture
 }
 
