@@ -1,8 +1,8 @@
 #!/usr/bin/env bash
-# Runs each NAME.ttm of examples/ and its folders by ./ttm, with the program as it is built, proved or not (an unproved one is built where there is none), and compares
-# its output with the NAME.report beside it, which `check` has to find right; and one of them by other words. An example without a report, or a report
-# without an example, fails too, and so does the script in README.md, if it isn't the example that it is named for. Each fault is a line that
-# names the example; the exit status is 1 if there is one. It takes some seconds.
+# Runs each NAME.ttm of examples/ and its folders by ./ttm, with the program as it is built, proved or not (an unproved one is built where there
+# is none), and compares its output with the NAME.report beside it, which `check` has to find right; and one of them by other words. An example
+# without a report, or a report without an example, fails too, and so does the script in README.md, if it isn't the example that it is named for.
+# Each fault is a line that names the example; the exit status is 1 if there is one. It takes some seconds.
 #
 # usage: tools/check_examples.sh [FOLDER]     FOLDER in place of examples/
 set -u

@@ -29,7 +29,7 @@ pretend_repository() {
 pretend_tools() {
   for name in bash sh env awk basename cat chmod cmp cp dirname find flock grep head install kill ln make mkdir mktemp mv readlink realpath rm sed \
     seq setsid sleep sort tail touch tr wc xargs; do
-    ln -s "$(command -v "$name")" "$room/tools/$name"
+    ! command -v "$name" >/dev/null || ln -s "$(command -v "$name")" "$room/tools/$name"
   done
   printf '#!/bin/sh\necho . >>"%s/sums"\nexec %s "$@"\n' "$room" "$(command -v sha256sum)" >"$room/tools/sha256sum"
   printf '#!/bin/sh\nexec %s "$@"\n' "$(python3 -c 'import sys; print(sys.executable)')" >"$room/bin/python3"
