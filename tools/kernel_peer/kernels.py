@@ -90,6 +90,6 @@ def kernel_of(source: Path) -> Kernel:
         raise SystemExit(f"{source} has no include/drm/ttm: unpack a kernel's source there")
     if "busy_placement" in placement.read_text():
         return KERNEL_6_1
-    if (source / TTM / "tests").exists() and "ttm_lru_walk_for_evict" in (source / "include/drm/ttm/ttm_bo.h").read_text():
+    if "ttm_lru_walk_for_evict" in (source / "include/drm/ttm/ttm_bo.h").read_text():
         return KERNEL_6_12
     raise SystemExit(f"{source} is neither like 6.1 nor like 6.12, so this peer doesn't know its TTM")

@@ -23,6 +23,11 @@ class Kernels(unittest.TestCase):
             self.assertRaises(SystemExit, kernel_of, Path(name))
             write(placement, "struct ttm_placement { const struct ttm_place *busy_placement; };")
             self.assertEqual(kernel_of(Path(name)).name, "6.1")
+            write(placement, "struct ttm_placement { const struct ttm_place *placement; };")
+            write(Path(name) / "include/drm/ttm/ttm_bo.h", "")
+            self.assertRaises(SystemExit, kernel_of, Path(name))
+            write(Path(name) / "include/drm/ttm/ttm_bo.h", "s64 ttm_lru_walk_for_evict(struct ttm_lru_walk *walk);")
+            self.assertEqual(kernel_of(Path(name)).name, "6.12")
 
     def test_headers_are_the_kernels_own_or_empty(self) -> None:
         with tempfile.TemporaryDirectory() as name:

@@ -114,20 +114,12 @@ static int move_by_job(struct ttm_buffer_object *bo, bool evict, struct ttm_reso
 	return ret;
 }
 
-static int move(struct ttm_buffer_object *bo, bool evict, struct ttm_operation_ctx *ctx, struct ttm_resource *to,
-		struct ttm_place *hop)
+/* Moves a buffer between resources that need no hop. */
+static int carry(struct ttm_buffer_object *bo, bool evict, struct ttm_operation_ctx *ctx, struct ttm_resource *to)
 {
 	int ret;
 
-	if (!bo->resource) { /* it is new (6.12) */
-		ttm_bo_move_null(bo, to);
-		return 0;
-	}
-	if (needs_hop(bo->resource, to)) {
-		*hop = (struct ttm_place){ .mem_type = TTM_PL_TT, .flags = TTM_PL_FLAG_TEMPORARY };
-		return -EMULTIHOP;
-	}
-	if (bo->resource->mem_type == TTM_PL_SYSTEM) {
+	if (!bo->resource || bo->resource->mem_type == TTM_PL_SYSTEM) { /* (in 6.12 a new buffer has no resource) */
 		ttm_bo_move_null(bo, to);
 		return 0;
 	}
@@ -138,6 +130,21 @@ static int move(struct ttm_buffer_object *bo, bool evict, struct ttm_operation_c
 		return ret;
 	}
 	return move_by_job(bo, evict, to);
+}
+
+static int move(struct ttm_buffer_object *bo, bool evict, struct ttm_operation_ctx *ctx, struct ttm_resource *to,
+		struct ttm_place *hop)
+{
+	int ret;
+
+	if (bo->resource && needs_hop(bo->resource, to)) {
+		*hop = (struct ttm_place){ .mem_type = TTM_PL_TT, .flags = TTM_PL_FLAG_TEMPORARY };
+		return -EMULTIHOP;
+	}
+	ret = carry(bo, evict, ctx, to);
+	if (!ret)
+		note_moved(to);
+	return ret;
 }
 
 static void swap_notify(struct ttm_buffer_object *bo)

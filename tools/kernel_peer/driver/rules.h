@@ -25,6 +25,8 @@ bool could_not_leave(struct ttm_resource *res);
 void note_no_pages(void);
 /* Tells whether the place has fewer pages than the buffer. */
 bool is_short(struct ttm_resource_manager *man, const struct ttm_place *place, struct ttm_buffer_object *bo);
+/* Notes that a buffer has moved to the resource (rules_lists.c). */
+void note_moved(struct ttm_resource *res);
 /* Tells whether a walk over the lists leaves the resource out (rules_lists.c). */
 bool is_passed_over(struct ttm_resource *res);
 

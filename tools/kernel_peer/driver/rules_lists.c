@@ -32,6 +32,15 @@ void __wrap_ttm_resource_move_to_lru_tail(struct ttm_resource *res)
 		__real_ttm_resource_move_to_lru_tail(res);
 }
 
+/* Rule sole, of a move within a memory type: TTM puts the new resource in the list where the old one was. */
+void note_moved(struct ttm_resource *res)
+{
+	spin_lock(&device.lru_lock);
+	if (ours(RULE_SOLE) && is_sole_member(res))
+		list_move_tail(lru_link(res), &ttm_manager_type(&device, res->mem_type)->lru[res->bo->priority]);
+	spin_unlock(&device.lru_lock);
+}
+
 bool is_passed_over(struct ttm_resource *res)
 {
 	int i;

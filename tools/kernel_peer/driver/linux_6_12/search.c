@@ -77,7 +77,7 @@ static s64 process_victim(struct ttm_lru_walk *walk, struct ttm_buffer_object *b
 	if (!ours(RULE_SKIP))
 		return ret;
 	running->skipped[running->skips++] = bo;
-	return 0;
+	return ttm_resource_alloc(evict_walk->evictor, evict_walk->place, evict_walk->res) ? 0 : 1; /* the place is asked again */
 }
 
 static const struct ttm_lru_walk_ops victim_ops = { .process_bo = process_victim };
