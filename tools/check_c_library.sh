@@ -1,8 +1,9 @@
 #!/usr/bin/env bash
 # Builds the C library (tools/build_c_library.sh), installs it into a temporary folder, and there builds and runs what a user would: the example
 # of crates/mm_c by pkg-config alone, as C99 and as C++17 without a warning, with and without the test of handles, whose output is compared
-# with the .stdout beside it. Then it makes N random calls on each manager beside a model (crates/mm_c/tests/random_calls.c), and where there is
-# valgrind a tenth of them under it, for leaks. Where no C compiler ($CC, or else cc) builds a program, it says so in one line and succeeds.
+# with the .stdout beside it. Then it does the cases of the kernel's own tests (tools/kernel_cases.py), and makes N random calls on each manager
+# beside a model (crates/mm_c/tests/random_calls.c), and where there is valgrind a tenth of them under it, for leaks. Where no C compiler ($CC,
+# or else cc) builds a program, it says so in one line and succeeds.
 #
 # The library is proved first (--proved of tools/build_c_library.sh), unless --unproved says that it isn't.
 #
@@ -88,6 +89,8 @@ if { (ulimit -c 0 && ./closed) 2>said; } 2>/dev/null || ! grep -q "pearoar_range
 fi
 echo "c library: installed, and the example prints what it should"
 
+build "$top/tools/c_library/replay_operations.c" replay_operations "$cc" -std=c11
+"$top/tools/c_library/check_cases.sh" ./replay_operations || exit 1
 build "$crate/tests/random_calls.c" random_calls "$cc" -std=c11
 ./random_calls "$calls" || exit 1
 if command -v valgrind >/dev/null; then
