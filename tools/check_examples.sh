@@ -1,13 +1,14 @@
 #!/usr/bin/env bash
-# Runs each examples/NAME.ttm and examples/kernel/NAME.ttm by ./ttm, with the program as it is built, proved or not (an unproved one is built
-# where there is none), and compares its output with the NAME.report beside it, which `check` has to find right; and one of them by other
-# words. An example without a report, or a report without an example, fails too, and so does the script in README.md, if it isn't the example
-# that it is named for. Each fault is a line that names the example; the exit status is 1 if there is one. It takes some seconds.
+# Runs each NAME.ttm of examples/ and its folders by ./ttm, with the program as it is built, proved or not (an unproved one is built where there
+# is none), and compares its output with the NAME.report beside it, which `check` has to find right; and one of them by other words. An example
+# without a report, or a report without an example, fails too, and so does the script in README.md, if it isn't the example that it is named for.
+# Each fault is a line that names the example; the exit status is 1 if there is one. It takes some seconds.
 #
 # usage: tools/check_examples.sh [FOLDER]     FOLDER in place of examples/
 set -u
 shopt -s nullglob
 top=$(cd "$(dirname "$0")/.." && pwd)
+. "$top/tools/launcher/input.sh"
 examples=$(cd "${1:-$top/examples}" && pwd) || exit 1
 room=$(mktemp -d)
 trap 'rm -rf "$room"' EXIT
@@ -31,11 +32,11 @@ answers() {
   cmp "$file" "$room/out" >"$room/differs" 2>&1 || fault "$name: other output: $(cat "$room/differs")"
 }
 
-for report in "$examples"/*.report "$examples"/kernel/*.report; do
+for report in "$examples"/*.report "$examples"/*/*.report; do
   [ -f "${report%.report}.ttm" ] || fault "$(basename "$report"): no script of that name"
 done
 echo valid >"$room/valid"
-for script in "$examples"/*.ttm "$examples"/kernel/*.ttm; do
+for script in "$examples"/*.ttm "$examples"/*/*.ttm; do
   name=$(basename "$script" .ttm)
   report=${script%.ttm}.report
   if [ ! -f "$report" ]; then
@@ -44,6 +45,7 @@ for script in "$examples"/*.ttm "$examples"/kernel/*.ttm; do
   fi
   answers "$name" 0 "$report" sim "$script"
   answers "$name, checked" 0 "$room/valid" check "$script" "$report"
+  without_comments <"$script" | cmp -s - <(python3 "$top/tools/view" plain "$script") || fault "$name: other comments for ./ttm than for the viewers"
 done
 
 # A script of one thread and no job has one interleaving, so `run` writes what `sim` does.

@@ -3,7 +3,7 @@
 Needs Python alone.
 
 usage: tools/editors.py           whether the files are what the tables make; whether the grammar of VS Code shows the lines of
-                                  editors/lines.txt as that file says, and no line of examples/*.ttm as wrong; the same of vim, where there is
+                                  editors/lines.txt as that file says, and no line of a script in examples/ as wrong; the same of vim, where there is
                                   a vim with syntax files; whether the words are those that scripts are read by
        tools/editors.py --write   writes the files
 
@@ -223,7 +223,7 @@ def faults():
     rows = [row for row in (EDITORS / "lines.txt").read_text().split("\n") if row and not row.startswith("#")]
     lines, wanted = rows[::2], [row.ljust(len(line)) for line, row in zip(rows[::2], rows[1::2])]
     rules = vscode(table)["patterns"]
-    examples = [(path, line) for path in sorted((TOP / "examples").glob("*.ttm")) for line in path.read_text().splitlines()]
+    examples = [(path, line) for path in sorted((TOP / "examples").rglob("*.ttm")) for line in path.read_text().splitlines()]
     for line, want in zip(lines, wanted):
         if shown(rules, line) != want:
             yield f"VS Code shows '{line}' as '{shown(rules, line)}', and not '{want}'"

@@ -38,4 +38,4 @@ copy_tree "$top/editors/vim" "$place/share/vim/vimfiles"
 copy 644 "$place/share/doc/pearoar" "$top/README.md" "$top/CHANGELOG.md"
 copy 644 "$place/share/doc/pearoar/docs" "$top"/docs/*.md
 copy 644 "$place/share/doc/pearoar/docs/pictures" "$top"/docs/pictures/*
-copy 644 "$place/share/doc/pearoar/examples" "$top"/examples/*
+copy_tree "$top/examples" "$place/share/doc/pearoar/examples"

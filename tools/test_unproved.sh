@@ -1,7 +1,7 @@
 #!/usr/bin/env bash
 # Runs all tests and examples, and proves nothing: the tests of each crate that has some, by the kit's `rt try`; each program that has stored
-# output, on its stored input; the examples; and the viewers' own tests. Says which passed, and of those that failed the end of what they print.
-# The exit status is 1 if one failed. It takes some minutes.
+# output, built unproved, on its stored input; the examples; and the viewers' own tests. Says which passed, and of those that failed the end of what
+# they print. The exit status is 1 if one failed. It takes some minutes.
 #
 # usage: tools/test_unproved.sh [NAME ..]     crates, `examples` and `viewers`; all of them where none is named
 set -um # (each test is a group of processes of its own, so that it can be ended)
@@ -42,17 +42,25 @@ run() {
   esac
 }
 
-# (`--steps 1` leaves the interpreter out, which would only run the program a second time)
 try_crate() {
-  local crate=$top/crates/$1 input=/dev/null words=()
-  cd "$crate" || return 1
-  if [ ! -f src/main.rt ]; then
-    rt try --test --seconds 600
-    return
+  if [ -f "$top/crates/$1/src/main.rt" ]; then
+    try_program "$1"
+  else
+    cd "$top/crates/$1" && rt try --test --seconds 600
   fi
-  [ -f stdin ] && input=stdin
-  [ -f args ] && mapfile -t words <args
-  rt try --steps 1 --seconds 600 -- "${words[@]}" <"$input" >"$logs/$1.out" && cmp "$logs/$1.out" stdout
+}
+
+# Runs a program on what is stored for it, and compares.
+try_program() {
+  local crate=$top/crates/$1 program=$logs/$1.built input=/dev/null words=()
+  if [ "$1" = ttm ]; then
+    program=$("$top/ttm" --program) || return 1
+  else
+    "$top/tools/build_unproved.sh" --crate "$1" "$program" || return 1
+  fi
+  [ -f "$crate/stdin" ] && input=$crate/stdin
+  [ -f "$crate/args" ] && mapfile -t words <"$crate/args"
+  "$program" "${words[@]}" <"$input" >"$logs/$1.out" && cmp "$logs/$1.out" "$crate/stdout"
 }
 
 if ! command -v rt >/dev/null; then

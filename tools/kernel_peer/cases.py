@@ -126,13 +126,13 @@ def main(words: list[str]) -> int:
     if not words or words[0] not in ("show", "check", "write"):
         print(__doc__, file=sys.stderr)
         return 2
-    cases = [case for case in load_cases() if words[0] == "write" or not words[1:] or case.name in words[1:]]
+    if words[0] == "write":
+        write_cases(load_cases())
+        return 0
+    cases = [case for case in load_cases() if case.rule in known_rules() and (not words[1:] or case.name in words[1:])]
     if words[0] == "check":
         return 0 if check_cases(cases) else 1
-    if words[0] == "write":
-        write_cases(cases)
-    else:
-        show_cases(cases)
+    show_cases(cases)
     return 0
 
 

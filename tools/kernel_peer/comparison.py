@@ -22,16 +22,17 @@ class Comparison:
     wrong: list[str]  # those that show other bytes than a plain memory
 
 
-# the rules that are needed most often
-LIKELY = ("ghost", "stay", "tie", "short", "block", "busy", "skip", "partial", "notouch")
+# the rules that are needed most often, in two lots
+LIKELY = (("ghost", "stay", "tie", "block"), ("short", "busy", "skip", "partial", "notouch"))
 
 
 def needed_rules(script: Script, order: Order, project: Observed) -> tuple[str, ...]:
     """Rules that make the two sides equal, none of which can be left out, where none of them doesn't and all of them do."""
-    likely = [(rule,) for rule in LIKELY if rule in known_rules()]
-    for rules, kernel in zip(likely, run_each(script, order, likely)):
-        if first_difference(project, kernel) is None:
-            return rules
+    for lot in LIKELY:
+        likely = [(rule,) for rule in lot if rule in known_rules() and (order.lagging or rule != "ghost")]
+        for rules, kernel in zip(likely, run_each(script, order, likely)):
+            if first_difference(project, kernel) is None:
+                return rules
 
     def are_equal(rules: list[str]) -> bool:
         return first_difference(project, run_kernel(script, order, rules)) is None

@@ -43,4 +43,4 @@ FAMILIES = {
     "two": Family(groups=0.3, pins=0.3, ranges=0.3, tight=0.6, rival=True),
     "everything": Family(groups=0.5, pins=0.3, ranges=0.4, tight=0.6, top=0.3, align=0.2, contig=0.1, few_frames=True, buddy=True, rival=True),
 }
-FAMILIES.update({f"flags-{name}": replace(family, flags=True) for name, family in FAMILIES.items() if not family.buddy})
+FAMILIES.update({f"flags-{name}": replace(family, flags=True) for name, family in FAMILIES.items()})

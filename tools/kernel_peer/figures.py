@@ -21,7 +21,7 @@ from concurrent.futures import ThreadPoolExecutor
 from pathlib import Path
 
 from families import FAMILIES
-from kernel_side import has_flags, known_rules
+from kernel_side import has_blocks, has_flags, known_rules
 
 HERE = Path(__file__).resolve().parent
 SCRIPTS = {
@@ -39,7 +39,7 @@ SCRIPTS = {
     "two": 600,
     "everything": 200,
 }
-FLAG_SCRIPTS = 100  # of each family but those of blocks, where the kernel has lists with flags
+FLAG_SCRIPTS = 100  # of each family, where the kernel has lists with flags
 MODES = ("eager", "lagging")
 COLUMNS = {
     "scripts": "scripts",
@@ -56,7 +56,9 @@ HUNDRED = 100
 
 def scripts_of_kernel() -> dict[str, int]:
     """How many scripts of which families: of version 2 where the kernel has lists with flags."""
-    return {family: FLAG_SCRIPTS for family in FAMILIES if family.startswith("flags-")} if has_flags() else SCRIPTS
+    if not has_flags():
+        return SCRIPTS
+    return {name: FLAG_SCRIPTS for name, family in FAMILIES.items() if family.flags and (has_blocks() or not family.buddy)}
 
 
 def compare_some(family: str, first: int, count: int, room: Path) -> None:

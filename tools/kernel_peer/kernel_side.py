@@ -32,6 +32,11 @@ def has_flags() -> bool:
     return "stay" in known_rules()
 
 
+def has_blocks() -> bool:
+    """Whether the kernel's source has its buddy allocator, so that VRAM by blocks can be run."""
+    return "block" in known_rules()
+
+
 def peer_words(order: Order, runs: Iterable[Sequence[str]]) -> list[str]:
     words = [str(peer_program())]
     if order.lagging:

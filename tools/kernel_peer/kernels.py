@@ -2,7 +2,7 @@
 
 from __future__ import annotations
 
-from dataclasses import dataclass
+from dataclasses import dataclass, replace
 from pathlib import Path
 
 TTM = "drivers/gpu/drm/ttm"
@@ -65,9 +65,9 @@ KERNEL_6_12 = Kernel(
     sources=(
         *(f"{TTM}/ttm_{name}.c" for name in ("bo", "bo_util", "resource", "tt", "device", "range_manager", "sys_manager")),
         *(f"{TTM}/ttm_{name}.c" for name in ("execbuf_util", "module")),
-        *(name for name in BELOW_TTM if not name.endswith("drm_buddy.c")),
+        *(name.replace("drm/drm_buddy.c", "buddy.c") for name in BELOW_TTM),
     ),
-    headers=tuple(name for name in COMMON_HEADERS if "buddy" not in name),
+    headers=tuple(name.replace("drm/drm_buddy.h", "linux/gpu_buddy.h") for name in COMMON_HEADERS),
     wrapped=(
         "drm_mm_insert_node_in_range",
         "ttm_resource_move_to_lru_tail",
@@ -82,6 +82,13 @@ KERNEL_6_12 = Kernel(
     defines=("PEER_KERNEL_6_12",),
 )
 
+GPU_BUDDY = "drivers/gpu/buddy.c"
+
+
+def without_blocks(kernel: Kernel) -> Kernel:
+    """The version for a source of which `GPU_BUDDY` wasn't unpacked."""
+    return replace(kernel, sources=tuple(name for name in kernel.sources if name != GPU_BUDDY), defines=(*kernel.defines, "PEER_WITHOUT_BLOCKS"))
+
 
 def kernel_of(source: Path) -> Kernel:
     """The version of an unpacked source, told by its header of placements."""
@@ -91,5 +98,5 @@ def kernel_of(source: Path) -> Kernel:
     if "busy_placement" in placement.read_text():
         return KERNEL_6_1
     if "ttm_lru_walk_for_evict" in (source / "include/drm/ttm/ttm_bo.h").read_text():
-        return KERNEL_6_12
+        return KERNEL_6_12 if (source / GPU_BUDDY).exists() else without_blocks(KERNEL_6_12)
     raise SystemExit(f"{source} is neither like 6.1 nor like 6.12, so this peer doesn't know its TTM")

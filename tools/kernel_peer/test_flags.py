@@ -19,8 +19,8 @@ def lists_of(family: str, number: int) -> list[list[str]]:
 
 
 class FlagLists(unittest.TestCase):
-    def test_each_family_but_that_of_blocks_has_one_with_flags(self) -> None:
-        plain = {name for name, family in FAMILIES.items() if not family.flags and not family.buddy}
+    def test_each_family_has_one_with_flags(self) -> None:
+        plain = {name for name, family in FAMILIES.items() if not family.flags}
         self.assertEqual({f"flags-{name}" for name in plain}, {name for name, family in FAMILIES.items() if family.flags})
 
     def test_lists_are_right(self) -> None:

@@ -38,16 +38,19 @@ has_viewers() {
   [ -e "$top/tools/view" ] && command -v python3 >/dev/null
 }
 
+# Copies a script without its comments, as the viewers' `plain` does (tools/check_examples.sh compares the two): lines that begin with # go, and
+# what stands at a line's end from a blank and # on.
+without_comments() {
+  LC_ALL=C sed '/^ *#/d; s/ \{1,\}#.*//'
+}
+
 # Sets `plain` to a file that has the input without comments.
 find_plain() {
   plain=$given
-  LC_ALL=C grep -qF '#' <"$given" || return 0
-  if has_viewers; then
+  if LC_ALL=C grep -qF '#' <"$given"; then
     make_room
     plain=$room/plain
-    python3 "$top/tools/view" plain <"$given" >"$plain" || exit 1
-  else
-    echo "ttm: comments need tools/view and python3, so they stay in the script" >&2
+    without_comments <"$given" >"$plain" || exit 1
   fi
 }
 
@@ -65,7 +68,7 @@ run_program() {
 explain() {
   make_room
   "$program" "${words[@]}" <"$plain" >"$room/answer"
-  TTM_PROGRAM=$program TTM_NAME=$name python3 "$top/tools/view" diagnose "${words[0]}" "$status" "$given" "$room/answer" >&2
+  TTM_PROGRAM=$program TTM_NAME=$name TTM_REPORT=${files[1]-} python3 "$top/tools/view" diagnose "${words[0]}" "$status" "$given" "$room/answer" >&2
 }
 
 # Answers the words of the proved program.

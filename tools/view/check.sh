@@ -1,5 +1,5 @@
 #!/usr/bin/env bash
-# Runs the tests of the viewers, in less than a minute. TTM_PROGRAM names the built program; else ./ttm is asked for one, which it builds where
+# Runs the tests of the viewers, in half a minute of processor time. TTM_PROGRAM names the built program; else ./ttm is asked for one, which it builds where
 # there is none. Without a program the tests that need one are skipped, and a line says so.
 #
 # usage: tools/view/check.sh [TEST ..]      TEST as `python3 -m unittest` takes it, such as view.tests.test_explain

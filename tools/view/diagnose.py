@@ -1,8 +1,8 @@
 """`diagnose WORD STATUS INPUT [ANSWER]`: says why the program refused an input.
 
 WORD is the program's first word, STATUS its status (3 or 8), INPUT the file that it was given (before comments were left out), ANSWER the
-file of what it wrote. TTM_NAME in the environment is how to call the input; where that is a file of the script alone, lines of the report
-are counted from its own first one.
+file of what it wrote. In the environment TTM_NAME is how to call the input, and TTM_REPORT the report where that came from a file of its own, in
+which its lines are counted then.
 """
 
 from __future__ import annotations
@@ -43,14 +43,14 @@ def bad_script(name: str, data: bytes, answer: Optional[Tuple[int, int]]) -> Lis
     return [f"{place(name, line)}: rule {rule} is broken: {SCRIPT_RULES.get(rule, 'an unknown rule')}"]
 
 
-def rejected(name: str, data: bytes, answer: Tuple[int, int]) -> List[str]:
-    """Says why a report isn't that of its script."""
+def rejected(name: str, report_name: str, data: bytes, answer: Tuple[int, int]) -> List[str]:
+    """Says why a report isn't that of its script; `report_name` is empty where both are in one input."""
     entry, rule = answer
     report = Rejected(data, entry, rule)
     said = report.said()
     where = place(name, said.line)
-    if os.path.isfile(name) and os.path.getsize(name) == report.script_bytes:
-        where = place("the report", said.line - report.first + 1 if said.line else 0)
+    if report_name:
+        where = place(report_name, said.line - report.first + 1 if said.line else 0)
     lines = [f"{where}: {said.cause} (rule {rule})"]
     if said.shown:
         lines += marked(said.shown, 1, len(said.shown))[:1]
@@ -68,5 +68,5 @@ def main(args: List[str]) -> int:
     if status == "3":
         print("\n".join(bad_script(name, split_input(data)[0] if word == "check" else data, answer)))
     elif status == "8" and answer is not None and answer[1] in VERDICT_RULES:
-        print("\n".join(rejected(name, data, answer)))
+        print("\n".join(rejected(name, os.environ.get("TTM_REPORT", ""), data, answer)))
     return 0

@@ -128,36 +128,42 @@ class JobLines:
 
     def _by_name(self, line: Words, parts: List[Part], space: Space) -> List[Operation]:
         """Returns the operations by name of a job with addresses; notes what can't be."""
-        if any(fault.rule < 10 for fault in line.faults):
+        if line.least is not None and line.least.rule < 10:
             return []
-        is_mapped = True
+        if not all([self._is_mapped(line, part, space) for part in parts]):
+            any(self._twice(line, part, space) for part in parts)  # The first one counts.
+            return []
+        operations: List[Operation] = []
         for part in parts:
             assert part.address is not None
             self._twice(line, part, space)
-            for index, address in ((part.index + 1, part.address.address), (part.index + 2, part.address.source)):
-                page = None if address is None else space.unmapped(address, part.length)
-                if page is not None:
-                    is_mapped = False
-                    right = f"a `vmap` above, in the same thread, that maps page {page}"
-                    line.fault(15, index, f"page {page} of the address space isn't mapped here", right)
-        operations: List[Operation] = []
-        for part in parts if is_mapped else []:
-            assert part.address is not None
             operations += by_name(space, part.address) or []
             if self._is_large(line, part, operations):
                 break
         return operations
 
-    def _twice(self, line: Words, part: Part, space: Space) -> None:
-        """Notes a buffer that stands in both ranges of a copy or xor."""
+    def _is_mapped(self, line: Words, part: Part, space: Space) -> bool:
+        """Tells whether each page of an operation is mapped, and notes the first that isn't."""
+        assert part.address is not None
+        for index, address in ((part.index + 1, part.address.address), (part.index + 2, part.address.source)):
+            page = None if address is None else space.unmapped(address, part.length)
+            if page is not None:
+                right = f"a `vmap` above, in the same thread, that maps page {page}"
+                line.fault(15, index, f"page {page} of the address space isn't mapped here", right)
+                return False
+        return True
+
+    def _twice(self, line: Words, part: Part, space: Space) -> bool:
+        """Tells whether a buffer stands in both ranges of a copy or xor, and notes it."""
         op = part.address
         if op is None or op.source is None:
-            return
+            return False
         both = {one.buffer for one in space.met(op.address, op.length)} & {one.buffer for one in space.met(op.source, op.length)}
         if both:
             name = self.script.buffers[min(both)].name
             cause = f"pages of {name} are mapped in both ranges of the {op.verb}"
             line.fault(10, part.index + 2, cause, f"ranges of a {op.verb} without a common buffer")
+        return bool(both)
 
     def _is_large(self, line: Words, part: Part, operations: List[Operation]) -> bool:
         """Notes a job by name of too many operations or buffers."""

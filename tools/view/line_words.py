@@ -2,6 +2,7 @@
 
 from __future__ import annotations
 
+from itertools import accumulate
 from typing import Dict, List, NamedTuple, Optional
 
 from .limits import OFFSET
@@ -35,34 +36,42 @@ def is_plain(word: str) -> bool:
 
 
 class Words:
-    """The words of a line, and the faults found in it so far."""
+    """The words of a line, and of the faults found in it so far the one that counts: of the least rule, and of these the leftmost."""
 
     def __init__(self, text: str, names: Dict[str, int]) -> None:
         self.text = text
         self.words = text.split(" ")
         self.names = names
-        self.faults: List[Fault] = []
+        self.least: Optional[Fault] = None
+        self.columns: Optional[List[int]] = None
 
     def column(self, index: int) -> int:
         """Returns the column of a word, from 1; of a missing one, that of the line's end."""
-        return min(1 + sum(len(word) + 1 for word in self.words[:index]), len(self.text) + 1)
+        if self.columns is None:
+            self.columns = list(accumulate((len(word) + 1 for word in self.words), initial=1))
+        return min(self.columns[index], len(self.text) + 1)
 
     def fault(self, rule: int, index: int, cause: str, right: str, start: int = 0, width: Optional[int] = None) -> None:
-        """Notes what is wrong in a word, from its character `start` on."""
+        """Notes what is wrong in a word, from its character `start` on, unless a fault that counts more is known."""
+        if self.least is not None and self.least.rule < rule:
+            return
+        column = self.column(index) + start
+        if self.least is not None and (self.least.rule, self.least.column) <= (rule, column):
+            return
         if width is None:
             width = len(self.words[index]) - start if index < len(self.words) else 1
-        self.faults.append(Fault(rule, self.column(index) + start, max(width, 1), cause, right))
+        self.least = Fault(rule, column, max(width, 1), cause, right)
 
     def stop(self, index: int, cause: str, right: str, rule: int = 4) -> BrokenLine:
         """Returns what ends the reading of the line at this word."""
-        self.faults = []
         self.fault(rule, index, cause, right)
-        return BrokenLine(self.faults[0])
+        assert self.least is not None
+        return BrokenLine(self.least)
 
     def check(self) -> None:
         """Stops where the line has a fault."""
-        if self.faults:
-            raise BrokenLine(min(self.faults, key=lambda fault: (fault.rule, fault.column)))
+        if self.least is not None:
+            raise BrokenLine(self.least)
 
     def number(self, index: int, low: int, high: int, what: str) -> Optional[int]:
         """Reads a number from `low` to `high`."""

@@ -32,7 +32,6 @@ class Rejected:
     def __init__(self, data: bytes, entry: int, rule: int) -> None:
         script_part, self.report_part = split_input(data)
         self.script: Script = read_script(script_part)
-        self.script_bytes = len(script_part)
         self.first = script_part.count(b"\n") + 1
         self.lines = self.report_part.decode("latin-1").split("\n")
         if not self.lines[-1]:

@@ -7,10 +7,11 @@ static const char *const rule_names[RULES] = {
 	[RULE_SHORT] = "short", [RULE_GHOST] = "ghost", [RULE_RETRY] = "retry", [RULE_SKIP] = "skip",
 	[RULE_FREED] = "freed", [RULE_REAP] = "reap", [RULE_NOTOUCH] = "notouch",
 	[RULE_BUSY] = "busy", [RULE_ORDER] = "order", [RULE_PARTIAL] = "partial",
+#ifndef PEER_WITHOUT_BLOCKS
+	[RULE_BLOCK] = "block",
+#endif
 #ifdef PEER_KERNEL_6_12
 	[RULE_STAY] = "stay",
-#else
-	[RULE_BLOCK] = "block",
 #endif
 };
 static bool is_ours[RULES];

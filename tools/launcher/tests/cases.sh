@@ -200,9 +200,9 @@ check_inputs() {
 
 check_comments() {
   local input=$room/text
-  printf '# one\ntwo # three\nfour\n' >"$room/text"
-  expect "comments on standard input" 0 $'unproved: sim\ntwo\nfour' 1 sim
-  expect "comments in a file" 0 $'unproved: run\ntwo\nfour' 1 run "$room/text"
+  printf '# one\ntwo # three # four\n  # five\nsix#seven  \neight   #' >"$room/text"
+  expect "comments on standard input" 0 $'unproved: sim\ntwo\nsix#seven  \neight' 1 sim
+  expect "comments in a file" 0 $'unproved: run\ntwo\nsix#seven  \neight' 1 run "$room/text"
 }
 
 check_explanations() {
@@ -225,7 +225,7 @@ check_viewers() {
 check_no_python() {
   local whole=$room/tools input=$room/text
   printf '# one\nstatus 3\n' >"$room/text"
-  expect "comments without python3" 3 $'unproved: sim\n# one\nstatus 3' 2 sim
+  expect "comments without python3" 3 $'unproved: sim\nstatus 3' 1 sim
   expect "a viewer without python3" 1 "" 1 picture
 }
 
@@ -242,8 +242,9 @@ check_read_only() {
 }
 
 check_installed() {
-  local place=$room/place/usr/local
-  PATH=$whole make -s -C "$room/copy" install DESTDIR="$room/place" >"$room/said" 2>&1 </dev/null || fault "make install: $(cat "$room/said")"
+  local place=$room/place/usr/local install=(make -s -C "$room/copy" install "DESTDIR=$room/place")
+  command -v make >/dev/null || install=("$room/copy/tools/install.sh" "$place")
+  PATH=$whole "${install[@]}" >"$room/said" 2>&1 </dev/null || fault "make install: $(cat "$room/said")"
   for file in share/man/man1/ttm.1 share/bash-completion/completions/ttm share/vim/vimfiles/syntax/ttm.vim; do
     [ -f "$place/$file" ] || fault "make install: no file $file"
   done

@@ -19,7 +19,9 @@ pretend_repository() {
   done
   echo whole >"$room/how"
   pretend_tools
-  pretend_kit
+  pretend_program
+  pretend_rt
+  pretend_compilers
   pretend_viewers
 }
 
@@ -27,14 +29,14 @@ pretend_repository() {
 pretend_tools() {
   for name in bash sh env awk basename cat chmod cmp cp dirname find flock grep head install kill ln make mkdir mktemp mv readlink realpath rm sed \
     seq setsid sleep sort tail touch tr wc xargs; do
-    ln -s "$(command -v "$name")" "$room/tools/$name"
+    ! command -v "$name" >/dev/null || ln -s "$(command -v "$name")" "$room/tools/$name"
   done
   printf '#!/bin/sh\necho . >>"%s/sums"\nexec %s "$@"\n' "$room" "$(command -v sha256sum)" >"$room/tools/sha256sum"
   printf '#!/bin/sh\nexec %s "$@"\n' "$(python3 -c 'import sys; print(sys.executable)')" >"$room/bin/python3"
   chmod +x "$room/tools/sha256sum" "$room/bin/python3"
 }
 
-pretend_kit() {
+pretend_program() {
   cat >"$room/kit/program" <<'PROGRAM'
 #!/bin/sh
 echo "MADE: $*"
@@ -45,6 +47,9 @@ input=$(cat)
 exit "$(echo "$input" | awk '/^status / { status = $2 } END { print status + 0 }')"
 PROGRAM
   sed -i "s:ROOM:$room:" "$room/kit/program"
+}
+
+pretend_rt() {
   cat >"$room/bin/rt" <<'RT'
 #!/usr/bin/env bash
 room=$(cd "$(dirname "$0")/.." && pwd)
@@ -71,6 +76,10 @@ case "$1" in
     ;;
 esac
 RT
+  chmod +x "$room/bin/rt"
+}
+
+pretend_compilers() {
   cat >"$room/kit/toolchain/bin/clang" <<'CLANG'
 #!/usr/bin/env bash
 room=$(cd "$(dirname "$0")/../../.." && pwd)
@@ -84,17 +93,14 @@ room=$(cd "$(dirname "$0")/../.." && pwd)
 while [ "$1" != -o ]; do shift; done
 sed s/MADE/unproved/ "$room/kit/program" >"$2" && chmod +x "$2"
 LINK
-  chmod +x "$room/bin/rt" "$room/kit/toolchain/bin/clang" "$room/kit/bin/rattle-link"
+  chmod +x "$room/kit/toolchain/bin/clang" "$room/kit/bin/rattle-link"
 }
 
 pretend_viewers() {
   cat >"$room/copy/tools/view/__main__.py" <<'VIEW'
 import os, sys
 word, *words = sys.argv[1:]
-if word == "plain":
-    lines = [line.split(b" #")[0].rstrip(b"\n") + b"\n" for line in sys.stdin.buffer if not line.startswith(b"#")]
-    sys.stdout.buffer.writelines(lines)
-elif word == "diagnose":
+if word == "diagnose":
     script, answer = open(words[2]).read().split("\n"), open(words[3]).read().split("\n")
     print("diagnose", *words[:2], os.environ["TTM_NAME"] + ":", script[0], "/", answer[0])
 else:

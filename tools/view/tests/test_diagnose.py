@@ -2,10 +2,7 @@
 
 from __future__ import annotations
 
-import os
-import tempfile
 import unittest
-from pathlib import Path
 from typing import Callable, List
 
 from view.diagnose import answer_of, bad_script, rejected
@@ -42,7 +39,7 @@ class Verdicts(unittest.TestCase):
         self.assertEqual(status, 8)
         answer = answer_of(output.decode())
         assert answer is not None
-        return rejected("file", data, answer)
+        return rejected("file", "", data, answer)
 
     def check(self, name: str, line: int, new: str, cause: str, expected: str) -> None:
         """Checks what is said where a line of a report, from 0 on, is another."""
@@ -85,14 +82,10 @@ class Verdicts(unittest.TestCase):
         self.assertEqual(said[2], "    expected: an entry such as `10 t1 result read 00010200`")
 
     def test_a_report_in_a_file_of_its_own(self) -> None:
-        script = EXAMPLES / "no_pages.ttm"
-        data = script.read_bytes() + b"report 2\n"
-        self.assertIn("the report:1: ", rejected(str(script), data, (0, 1))[0])
-        with tempfile.TemporaryDirectory() as room:
-            path = Path(room) / "both"
-            path.write_bytes(data)
-            line = data.count(b"\n")
-            self.assertIn(f"{os.fspath(path)}:{line}: ", rejected(os.fspath(path), data, (0, 1))[0])
+        data = (EXAMPLES / "no_pages.ttm").read_bytes() + b"report 2\n"
+        line = data.count(b"\n")
+        self.assertTrue(rejected("both", "", data, (0, 1))[0].startswith(f"both:{line}: "))
+        self.assertTrue(rejected("script", "report", data, (0, 1))[0].startswith("report:1: "))
 
 
 if __name__ == "__main__":

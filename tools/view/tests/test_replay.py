@@ -12,8 +12,9 @@ from view.replay import Replay
 from view.report import Report, read_report
 from view.script import Command
 from view.state import AREAS, Course, Holder, State
-from view.tests.program import EXAMPLES, examples, needs_program, run
+from view.tests.program import examples, needs_program, run
 from view.tests.random_scripts import RandomScript
+from view.tests.samples import example
 
 
 class Watch(Observer):
@@ -42,12 +43,6 @@ def followed(report: Report) -> Tuple[State, Watch]:
     watch = Watch(report)
     watch.replay = Replay(report, watch)
     return watch.replay.run(), watch
-
-
-def example(name: str) -> Report:
-    """Reads an example with its report."""
-    path = EXAMPLES / f"{name}.ttm"
-    return read_report(path.read_bytes() + path.with_suffix(".report").read_bytes(), name)
 
 
 def job_names(waits: List[Wait]) -> List[str]:

@@ -16,9 +16,10 @@ bool __wrap_ttm_resource_compatible(struct ttm_resource *res, struct ttm_placeme
 {
 	struct ttm_place without_contig[2 * MAX_PLACES];
 	struct ttm_placement places = { .num_placement = placement->num_placement, .placement = without_contig };
+	static struct page_span spans[MAX_SPANS];
 	unsigned int i;
 
-	if (!ours(RULE_CONTIG))
+	if (!ours(RULE_CONTIG) || spans_of(res, spans) > 1)
 		return is_compatible(res, placement, evicting);
 	for (i = 0; i < places.num_placement; i++) {
 		without_contig[i] = placement->placement[i];

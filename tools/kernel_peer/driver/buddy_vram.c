@@ -1,12 +1,10 @@
 /*
- * VRAM by blocks: a resource manager over the kernel's drm_buddy, as amdgpu's (amdgpu_vram_mgr.c) and i915's (i915_ttm_buddy_manager.c) are.
- * Rule `block` takes the project's blocks in place of drm_buddy's: of the smallest free block that has one, the lowest, or for top-down the
+ * VRAM by blocks: a resource manager over the kernel's buddy allocator, as amdgpu's (amdgpu_vram_mgr.c) and i915's (i915_ttm_buddy_manager.c) are.
+ * Rule `block` takes the project's blocks in place of the kernel's: of the smallest free block that has one, the lowest, or for top-down the
  * highest; a contiguous request takes one block of the next power of two, cut; an alignment isn't looked at.
  */
-#include <drm/drm_buddy.h>
-
-#include "../peer.h"
-#include "../rules.h"
+#include "blocks.h"
+#include "rules.h"
 
 struct buddy_manager {
 	struct ttm_resource_manager base;
@@ -17,49 +15,8 @@ struct buddy_resource {
 	struct list_head blocks;
 	bool is_one_piece; /* asked for as contiguous */
 };
-/* a request, in bytes */
-struct request {
-	struct drm_buddy *buddy;
-	u64 start, end, size, block_size; /* block_size: no block is smaller */
-	bool topdown;
-	struct list_head *blocks;
-};
-
 static struct buddy_manager *manager_of(struct ttm_resource_manager *man) { return container_of(man, struct buddy_manager, base); }
 static struct buddy_resource *resource_of(struct ttm_resource *res) { return container_of(res, struct buddy_resource, base); }
-
-/* ---- the kernel's choice ---- */
-
-/* Gives back what the last block has more than was wanted. */
-static void trim_last_block(struct request *request, u64 surplus)
-{
-	struct drm_buddy_block *last = list_last_entry(request->blocks, struct drm_buddy_block, link);
-	LIST_HEAD(alone);
-
-	list_move_tail(&last->link, &alone);
-	drm_buddy_block_trim(request->buddy, drm_buddy_block_size(request->buddy, last) - surplus, &alone);
-	list_splice_tail(&alone, request->blocks);
-}
-
-static int take_kernels_blocks(struct request *request, bool contiguous)
-{
-	unsigned long flags = request->topdown ? DRM_BUDDY_TOPDOWN_ALLOCATION : 0;
-	u64 size = request->size;
-	int ret;
-
-	if (request->start || request->end != request->buddy->size)
-		flags |= DRM_BUDDY_RANGE_ALLOCATION;
-	if (request->start + size != request->end) {
-		if (contiguous)
-			size = request->block_size = roundup_pow_of_two(size);
-		else
-			size = round_up(size, request->block_size);
-	}
-	ret = drm_buddy_alloc_blocks(request->buddy, request->start, request->end, size, request->block_size, request->blocks, flags);
-	if (!ret && size > request->size)
-		trim_last_block(request, size - request->size);
-	return ret;
-}
 
 /* ---- the project's choice ---- */
 
