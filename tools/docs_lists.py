@@ -16,6 +16,9 @@ class FullTable:
     enum: str
 
 
+# A crate's folders of sources; out/, which a check leaves, is none.
+FOLDERS = ("src", "specs", "proofs")
+
 TABLES = (
     FullTable("files that name every command", "crates/journal_model/src/script.rt", "Command"),
     FullTable("files that name every kind", "crates/journal_model/src/entry.rt", "Kind"),
@@ -37,7 +40,8 @@ def files_of(top: pathlib.Path, table: FullTable) -> Dict[str, List[str]]:
     """Returns by crate the files, from the crate's folder, that name every variant of the table's enum."""
     wanted = variants((top / table.source).read_text(), table.enum)
     found: Dict[str, List[str]] = collections.defaultdict(list)
-    for path in sorted((top / "crates").glob("*/*/**/*")):
+    sources = (path for folder in FOLDERS for path in (top / "crates").glob(f"*/{folder}/**/*"))
+    for path in sorted(sources):
         if path.suffix in (".rt", ".antt") and wanted and wanted <= words_of(path.read_text()):
             crate, *rest = path.relative_to(top / "crates").parts
             found[crate].append("/".join(rest))
