@@ -15,3 +15,5 @@ mod places;
 mod ranges;
 #[cfg(test)]
 mod rooms;
+#[cfg(test)]
+mod tables;

@@ -1,0 +1,7 @@
+//! A number for each of many places, of which memory is taken for those pieces alone in which one was set.
+#![tactic(auto)]
+
+mod piece;
+mod table;
+
+pub use table::SparseTable;
