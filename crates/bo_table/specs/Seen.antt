@@ -1,4 +1,4 @@
--- What a table of buffers is seen as: buffers without their fences, grips, the latest jobs of each buffer, and how many pages it has.
+-- What a table of buffers is seen as: buffers without their fences, reservations, the latest jobs of each buffer, and how many pages it has.
 use Rattle.std.specs.Prelude.{◌≡◌, ℕ, List, [], Option, Some, None, map, option_map, length, replicate, slice_get, slice_set, unwrap_or, if◌then◌else◌}
 use Rattle.ttm_base.specs.declared.BufId.{BufId}
 use Rattle.ttm_base.specs.declared.JobId.{JobId}
@@ -8,8 +8,8 @@ use Rattle.fence_core.specs.declared.fence_set.Latest.{Latest}
 use Rattle.fence_core.specs.Fences.{nothing_kept, added}
 use Rattle.journal_model.specs.declared.script.Decl.{Decl}
 use Rattle.journal_model.specs.declared.state.Buffer.{Buffer}
-use Rattle.journal_model.specs.declared.state.Grip.{Grip}
-use Rattle.journal_model.specs.State.{no_grip, new_buffer, changed, regripped, target_spans, with_target}
+use Rattle.journal_model.specs.declared.state.Reservation.{Reservation}
+use Rattle.journal_model.specs.State.{no_reservation, new_buffer, changed, reservation_changed, target_spans, with_target}
 use Rattle.journal_model.specs.ApplyMoves.{table_left}
 use Rattle.bo_table.specs.declared.bo.Bo.{Bo}
 
@@ -17,7 +17,7 @@ use Rattle.bo_table.specs.declared.bo.Bo.{Bo}
 -- contexts, too
 pub record Bos : Type 0 where
   pub buffers : List (Option Buffer)
-  pub grips : List Grip
+  pub reservations : List Reservation
   pub fences : List (List Latest)
   pub pages : List ℕ
 
@@ -27,14 +27,14 @@ pub record Bos : Type 0 where
 abbrev pub body_of : Bo → Option Buffer
 body_of bo = if bo.alive then Some (record { mem = bo.mem; spans = bo.spans; table = bo.table; targets = bo.targets; fences = [] }) else None
 
-abbrev pub grip_of : Bo → Grip
-grip_of bo = record { pins = bo.pins; holder = bo.resv.holder }
+abbrev pub reservation_of : Bo → Reservation
+reservation_of bo = record { pins = bo.pins; holder = bo.resv.holder }
 
 abbrev pub seen : List Bo → Bos
 seen bos =
     record {
       buffers = map body_of bos;
-      grips = map grip_of bos;
+      reservations = map reservation_of bos;
       fences = map (λ bo. bo.resv.fences) bos;
       pages = map (λ bo. length bo.table) bos;
     }
@@ -42,14 +42,14 @@ seen bos =
 -- the buffer of that number
 pub record IsBo (t : Bos) (b : BufId) (bo : Bo) : Type 0 where
   pub body : slice_get t.buffers b.0 ≡ Some (body_of bo)
-  pub grip : slice_get t.grips b.0 ≡ Some (grip_of bo)
+  pub reservation : slice_get t.reservations b.0 ≡ Some (reservation_of bo)
   pub fences : slice_get t.fences b.0 ≡ Some bo.resv.fences
   pub pages : slice_get t.pages b.0 ≡ Some (length bo.table)
 
 -- dead, with so many pages, and sets of jobs of so many contexts
 pub record IsDead (count contexts : ℕ) (bo : Bo) : Type 0 where
   pub body : body_of bo ≡ None
-  pub grip : grip_of bo ≡ no_grip
+  pub reservation : reservation_of bo ≡ no_reservation
   pub fences : bo.resv.fences ≡ replicate contexts nothing_kept
   pub pages : length bo.table ≡ count
 
@@ -60,28 +60,28 @@ carried mem x = record x { mem = mem; spans = target_spans mem x; targets = with
 -- the buffer is another one, where it is live, and all else stays
 pub record IsChanged (f : Buffer → Buffer) (old new : Bo) : Type 0 where
   pub body : body_of new ≡ option_map f (body_of old)
-  pub grip : grip_of new ≡ grip_of old
+  pub reservation : reservation_of new ≡ reservation_of old
   pub fences : new.resv.fences ≡ old.resv.fences
   pub pages : length new.table ≡ length old.table
 
 -- it is held otherwise, and all else stays
-pub record IsRegripped (f : Grip → Grip) (old new : Bo) : Type 0 where
+pub record IsReservationChanged (f : Reservation → Reservation) (old new : Bo) : Type 0 where
   pub body : body_of new ≡ body_of old
-  pub grip : grip_of new ≡ f (grip_of old)
+  pub reservation : reservation_of new ≡ f (reservation_of old)
   pub fences : new.resv.fences ≡ old.resv.fences
   pub pages : length new.table ≡ length old.table
 
 -- made anew, or dead, with nothing that holds or uses it
 pub record IsReset (o : Option Buffer) (old new : Bo) : Type 0 where
   pub body : body_of new ≡ o
-  pub grip : grip_of new ≡ no_grip
+  pub reservation : reservation_of new ≡ no_reservation
   pub fences : new.resv.fences ≡ replicate (length old.resv.fences) nothing_kept
   pub pages : length new.table ≡ length old.table
 
 -- one job more uses it, and all else stays
 pub record IsUsed (job : JobId) (how : Usage) (old new : Bo) : Type 0 where
   pub body : body_of new ≡ body_of old
-  pub grip : grip_of new ≡ grip_of old
+  pub reservation : reservation_of new ≡ reservation_of old
   pub fences : new.resv.fences ≡ added old.resv.fences job how
   pub pages : length new.table ≡ length old.table
 
@@ -92,7 +92,7 @@ abbrev pub first_bos : List Decl → ℕ → Bos
 first_bos decls contexts =
     record {
       buffers = map (λ d. None) decls;
-      grips = map (λ d. no_grip) decls;
+      reservations = map (λ d. no_reservation) decls;
       fences = map (λ d. replicate contexts nothing_kept) decls;
       pages = map (λ d. d.pages) decls;
     }
@@ -110,7 +110,7 @@ abbrev pub with_reset : Option Buffer → Bos → BufId → Bos
 with_reset o t b =
     record {
       buffers = slice_set t.buffers b.0 o;
-      grips = slice_set t.grips b.0 no_grip;
+      reservations = slice_set t.reservations b.0 no_reservation;
       fences = slice_set t.fences b.0 (without_jobs (fences_at t.fences b));
       pages = t.pages;
     }
@@ -127,9 +127,9 @@ with_killed t b = with_reset None t b
 abbrev pub with_changed : (Buffer → Buffer) → Bos → BufId → Bos
 with_changed f t b = record t { buffers = changed f t.buffers b }
 
--- with another grip of one buffer
-abbrev pub with_grip : (Grip → Grip) → Bos → BufId → Bos
-with_grip f t b = record t { grips = regripped f t.grips b }
+-- with another reservation of one buffer
+abbrev pub with_reservation : (Reservation → Reservation) → Bos → BufId → Bos
+with_reservation f t b = record t { reservations = reservation_changed f t.reservations b }
 
 -- with one job more of a buffer
 abbrev pub with_use : JobId → Usage → Bos → BufId → Bos

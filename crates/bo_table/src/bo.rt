@@ -7,7 +7,7 @@ ghost use Rattle.journal_model.specs.ApplyCommands.{with_holder, pinned_more, pi
 ghost use Rattle.journal_model.specs.ApplyPages.{without_frames, with_loc, with_spans, bound, unbound};
 ghost use Rattle.journal_model.specs.ApplyVictims.{leaves_tt};
 ghost use Rattle.journal_model.specs.ApplyMoves.{table_left};
-ghost use Rattle.bo_table.specs.Seen.{carried, IsDead, IsChanged, IsRegripped, IsReset, IsUsed};
+ghost use Rattle.bo_table.specs.Seen.{carried, IsDead, IsChanged, IsReservationChanged, IsReset, IsUsed};
 
 use crate::page_table::PageTable;
 use journal_model::Targets;
@@ -200,14 +200,14 @@ impl Bo {
     /// Is held by a ticket.
     pub(crate) fn reserve(&mut self, stamp: Stamp)
         requires { self.old.resv.holder ≡ None }
-        ensures { IsRegripped (with_holder (Some stamp)) self.old self.new }
+        ensures { IsReservationChanged (with_holder (Some stamp)) self.old self.new }
     {
         let _taken = self.resv.try_take(stamp);
     }
 
     /// Is held by nobody.
     pub(crate) fn release(&mut self)
-        ensures { IsRegripped (with_holder None) self.old self.new }
+        ensures { IsReservationChanged (with_holder None) self.old self.new }
     {
         if self.resv.holder().is_some() {
             self.resv.release();
@@ -217,14 +217,14 @@ impl Bo {
     /// Is pinned once more.
     pub(crate) fn pin(&mut self)
         requires { self.old.pins < 255 }
-        ensures { IsRegripped pinned_more self.old self.new }
+        ensures { IsReservationChanged pinned_more self.old self.new }
     {
         self.pins += 1;
     }
 
     /// Is pinned once less, if it is pinned.
     pub(crate) fn unpin(&mut self)
-        ensures { IsRegripped pinned_less self.old self.new }
+        ensures { IsReservationChanged pinned_less self.old self.new }
     {
         self.pins = self.pins.saturating_sub(1);
     }

@@ -2,11 +2,11 @@
 
 ghost use Rattle.std.specs.Prelude.{◌≡◌, ◌<◌, [], Some, None, IfOk, length, slice_get};
 ghost use Rattle.std.specs.Option.{ForSome};
-ghost use Rattle.journal_model.specs.State.{grip_in};
+ghost use Rattle.journal_model.specs.State.{reservation_in};
 ghost use Rattle.journal_model.specs.ApplyCommands.{with_holder, pinned_more, pinned_less};
 ghost use Rattle.journal_model.specs.ApplyPages.{with_loc, with_spans, without_frames, bound, unbound};
 ghost use Rattle.journal_model.specs.ApplyVictims.{leaves_tt};
-ghost use Rattle.bo_table.specs.Seen.{carried, first_bos, IsBo, with_made, with_killed, with_changed, with_grip, with_use};
+ghost use Rattle.bo_table.specs.Seen.{carried, first_bos, IsBo, with_made, with_killed, with_changed, with_reservation, with_use};
 
 use crate::bo::Bo;
 use journal_model::Decl;
@@ -14,7 +14,7 @@ use std::alloc::Global;
 use std::marker::Model;
 use ttm_base::{BufId, ItemList, JobId, Loc, Mem, NoMemory, Spans, Stamp, Usage};
 
-/// Buffers by number, seen as the lists of buffers, of grips, of the jobs that use them, and of their numbers of pages. A change of a buffer that
+/// Buffers by number, seen as the lists of buffers, of reservations, of the jobs that use them, and of their numbers of pages. A change of a buffer that
 /// isn't there changes nothing. Only `new` takes memory. `make`, `drop_frames` and a `carry` out of TT take time by the pages of the buffer, `make`
 /// and `kill` by contexts, `set_page` at most up to the next page without a frame; all other calls take constant time.
 pub struct BoTable {
@@ -51,7 +51,7 @@ impl BoTable {
 
     /// How many buffers are declared.
     pub fn len(&self) -> usize
-        ensures { result ≡ length self.now.grips }
+        ensures { result ≡ length self.now.reservations }
     {
         self.bos.len()
     }
@@ -59,7 +59,7 @@ impl BoTable {
     /// Lends a buffer.
     #[tactic(auto, using(crate::proofs::TableLaws::lent))]
     pub fn get(&self, b: BufId) -> &Bo
-        requires { b.0 < length self.now.grips }
+        requires { b.0 < length self.now.reservations }
         ensures { IsBo self.now b result.now }
     {
         self.bos.get(b.0 as usize)
@@ -165,10 +165,10 @@ impl BoTable {
     }
 
     /// Reserves a buffer that nobody holds for a ticket (dma_resv_lock).
-    #[tactic(auto, using(crate::proofs::TableLaws::regripped_at, crate::proofs::TableLaws::regripped_beyond))]
+    #[tactic(auto, using(crate::proofs::TableLaws::reservation_changed_at, crate::proofs::TableLaws::reservation_changed_beyond))]
     pub fn reserve(&mut self, b: BufId, stamp: Stamp)
-        requires { (grip_in self.old.grips b).holder ≡ None }
-        ensures { self.new ≡ with_grip (with_holder (Some stamp)) self.old b }
+        requires { (reservation_in self.old.reservations b).holder ≡ None }
+        ensures { self.new ≡ with_reservation (with_holder (Some stamp)) self.old b }
     {
         let index = b.0 as usize;
         if index < self.bos.len() {
@@ -177,9 +177,9 @@ impl BoTable {
     }
 
     /// Ends the reservation of a buffer, if it is reserved (dma_resv_unlock).
-    #[tactic(auto, using(crate::proofs::TableLaws::regripped_at, crate::proofs::TableLaws::regripped_beyond))]
+    #[tactic(auto, using(crate::proofs::TableLaws::reservation_changed_at, crate::proofs::TableLaws::reservation_changed_beyond))]
     pub fn release(&mut self, b: BufId)
-        ensures { self.new ≡ with_grip (with_holder None) self.old b }
+        ensures { self.new ≡ with_reservation (with_holder None) self.old b }
     {
         let index = b.0 as usize;
         if index < self.bos.len() {
@@ -188,10 +188,10 @@ impl BoTable {
     }
 
     /// Pins a buffer once more (ttm_bo_pin).
-    #[tactic(auto, using(crate::proofs::TableLaws::regripped_at, crate::proofs::TableLaws::regripped_beyond))]
+    #[tactic(auto, using(crate::proofs::TableLaws::reservation_changed_at, crate::proofs::TableLaws::reservation_changed_beyond))]
     pub fn pin(&mut self, b: BufId)
-        requires { (grip_in self.old.grips b).pins < 255 }
-        ensures { self.new ≡ with_grip pinned_more self.old b }
+        requires { (reservation_in self.old.reservations b).pins < 255 }
+        ensures { self.new ≡ with_reservation pinned_more self.old b }
     {
         let index = b.0 as usize;
         if index < self.bos.len() {
@@ -200,9 +200,9 @@ impl BoTable {
     }
 
     /// Pins a buffer once less, if it is pinned (ttm_bo_unpin).
-    #[tactic(auto, using(crate::proofs::TableLaws::regripped_at, crate::proofs::TableLaws::regripped_beyond))]
+    #[tactic(auto, using(crate::proofs::TableLaws::reservation_changed_at, crate::proofs::TableLaws::reservation_changed_beyond))]
     pub fn unpin(&mut self, b: BufId)
-        ensures { self.new ≡ with_grip pinned_less self.old b }
+        ensures { self.new ≡ with_reservation pinned_less self.old b }
     {
         let index = b.0 as usize;
         if index < self.bos.len() {

@@ -3,10 +3,10 @@ use Rattle.std.proofs.Common.{◌≡◌, ℕ, ◌+◌, ◌-◌, ◌<◌, ◌≤�
 use Rattle.std.specs.Prelude.{IsSome, fold}
 use Rattle.bo_table.specs.declared.bo.Bo.{Bo}
 use Rattle.bo_table.specs.Seen.{Bos, IsBo}
-use Rattle.room_ties.specs.Bos.{AreBos}
+use Rattle.room_representation.specs.Bos.{AreBos}
 use Rattle.journal_model.specs.declared.script.Script.{Script}
 use Rattle.journal_model.specs.declared.entry.Entry.{Entry}
-use Rattle.journal_model.specs.declared.state.Grip.{Grip}
+use Rattle.journal_model.specs.declared.state.Reservation.{Reservation}
 use Rattle.journal_model.specs.declared.state.State.{State}
 use Rattle.journal_model.specs.Legal.{IsLegal, state_of}
 use Rattle.journal_model.specs.ScriptRules.{is_script}
@@ -75,22 +75,22 @@ module _ (script : Script) (journal before : List Entry) (e : Entry) (fits : IsT
       pub fits_pages : found.pages.end < 2 ^ 32
       fits_pages = few_pages script before e fits all t mine found found_n
 
-      -- a buffer of the state has its grip
-      pub known_grip : (jobs : List ℕ) (bos : Bos) → AreBos script (state_of script journal).core.buffers (state_of script journal).grips jobs bos → found.pages.b.0 < length bos.grips
-      known_grip jobs bos are =
+      -- a buffer of the state has its reservation
+      pub known_reservation : (jobs : List ℕ) (bos : Bos) → AreBos script (state_of script journal).core.buffers (state_of script journal).reservations jobs bos → found.pages.b.0 < length bos.reservations
+      known_reservation jobs bos are =
           let many = (good_law script fits journal legal).many in
-          let held = (sound_law script journal fits legal).owned.grips in
-          let same = ap length are.grips_are in
+          let held = (sound_law script journal fits legal).owned.reservations in
+          let same = ap length are.reservations_are in
           let low = known_buffer in
           omega (arith, many, held, same, low)
 
-      pub after_some : (grips : List Grip) (jobs : List ℕ) (bos : Bos) → AreBos script (state_of script journal).core.buffers grips jobs bos → (bo : Bo) → IsBo bos found.pages.b bo →
+      pub after_some : (reservations : List Reservation) (jobs : List ℕ) (bos : Bos) → AreBos script (state_of script journal).core.buffers reservations jobs bos → (bo : Bo) → IsBo bos found.pages.b bo →
           (areas met new : List Area) → met ≡ with_found found bo.mem bo.spans bo.table areas → new ≡ fold (with_end t answered) met script.marks → new ≡ areas_after script s e areas
-      after_some grips jobs bos are bo lent areas met new at put =
+      after_some reservations jobs bos are bo lent areas met new at put =
           let x = buffer s found.pages.b in
           let same : with_found found bo.mem bo.spans bo.table areas ≡ with_found found x.mem x.spans x.table areas =
-          found_same script (state_of script (before ++ e ∷ [])).core.buffers grips jobs bos
-          (subst (λ j. AreBos script (state_of script j).core.buffers grips jobs bos) last are) found.pages.b bo lent x (live_behind script before e fits all t mine found found_n) found areas refl in
+          found_same script (state_of script (before ++ e ∷ [])).core.buffers reservations jobs bos
+          (subst (λ j. AreBos script (state_of script j).core.buffers reservations jobs bos) last are) found.pages.b bo lent x (live_behind script before e fits all t mine found found_n) found areas refl in
           ends met new put
           ∙ ap (λ xs. fold (with_end t (n + 1)) xs script.marks) (at ∙ same)
           ∙ ap (λ o. fold (with_end t (n + 1)) (with_found_at (place_in s) o areas) script.marks) (sym found_n)

@@ -4,10 +4,10 @@ use Rattle.std.specs.Prelude.{map, option_and_then, option_map, slice_get}
 use Rattle.ttm_base.specs.declared.BufId.{BufId}
 use Rattle.bo_table.specs.declared.bo.Bo.{Bo}
 use Rattle.bo_table.specs.Seen.{Bos, IsBo, body_of}
-use Rattle.room_ties.specs.Bos.{AreBos, unfenced}
+use Rattle.room_representation.specs.Bos.{AreBos, unfenced}
 use Rattle.journal_model.specs.declared.script.Script.{Script}
 use Rattle.journal_model.specs.declared.state.Buffer.{Buffer}
-use Rattle.journal_model.specs.declared.state.Grip.{Grip}
+use Rattle.journal_model.specs.declared.state.Reservation.{Reservation}
 use Rattle.journal_model.specs.State.{live_in}
 use Rattle.cpu_maps.specs.declared.area.Area.{Area}
 use Rattle.map_follow.specs.declared.found.Found.{Found}
@@ -25,7 +25,7 @@ stands_at buffers b x h = by (slice_get buffers b.0) refl h
     by None e g = cc
     by (Some y) e g = e ∙ ap Some g
 
-module _ (script : Script) (buffers : List (Option Buffer)) (grips : List Grip) (last : List ℕ) (t : Bos) (are : AreBos script buffers grips last t)
+module _ (script : Script) (buffers : List (Option Buffer)) (reservations : List Reservation) (last : List ℕ) (t : Bos) (are : AreBos script buffers reservations last t)
     (b : BufId) (bo : Bo) (is : IsBo t b bo) (x : Buffer) (live : live_in buffers b ≡ Some x) where
   body : body_of bo ≡ Some (unfenced x)
   body =

@@ -34,9 +34,9 @@ use Rattle.laws.proofs.law_state.Moves.{thread_step, is_made_by, made_by_task}
 use Rattle.laws.proofs.law_state.Shown.{legal_step}
 use Rattle.laws.specs.law_jobs.JobLines.{done_of as done_among, numbers_of, unfinished_of}
 use Rattle.laws.proofs.law_jobs.Law.{line_law}
-use Rattle.room_ties.specs.Lines.{AreInLine, IsTimeline}
-use Rattle.room_ties.proofs.lemma_room_jobs.Heads.{IsEnd, end_of}
-use Rattle.room_ties.proofs.lemma_room_jobs.Changed.{done_elsewhere, done_end, ended, ends_keep}
+use Rattle.room_representation.specs.Lines.{AreInLine, IsTimeline}
+use Rattle.room_representation.proofs.lemma_room_jobs.Heads.{IsEnd, end_of}
+use Rattle.room_representation.proofs.lemma_room_jobs.Changed.{done_elsewhere, done_end, ended, ends_keep}
 use Rattle.device_core.specs.Done.{done_by, done_of, number_done}
 
 -- how many jobs of a context are done

@@ -27,7 +27,7 @@ use Rattle.journal_model.specs.Next.{next}
 use Rattle.journal_model.specs.Tasks.{stage_of, task_of}
 use Rattle.journal_model.specs.Legal.{World, shown_step}
 use Rattle.room_state.specs.room_turns.Turns.{Kept, state_behind, world_behind}
-use Rattle.room_state.specs.room_turns.Searching.{Hunt, finds_choice, hunt_of, place_at_work, victim_for, victim_of}
+use Rattle.room_state.specs.room_turns.Searching.{BufferSearch, finds_choice, buffer_search_of, place_at_work, victim_for, victim_of}
 use Rattle.room_state.specs.room_turns.Turns.{entry_of}
 use Rattle.room_state.proofs.room_turns.Threads.{command_at, entry_is, need_is, next_at}
 use Rattle.room_state.proofs.room_turns.Finds.{crowded_next}
@@ -35,7 +35,7 @@ use Rattle.evict_core.specs.Tasks.{lets_go}
 
 -- ---- searches
 
-module _ (r : Kept) (t : ℕ) (h : Hunt) (at : hunt_of r.script (state_behind r) t ≡ Some h) (p : Place) (is : p ≡ place_at_work h.quest) where
+module _ (r : Kept) (t : ℕ) (h : BufferSearch) (at : buffer_search_of r.script (state_behind r) t ≡ Some h) (p : Place) (is : p ≡ place_at_work h.place_search) where
   abbrev s : State
   s = state_behind r
 
@@ -61,28 +61,28 @@ module _ (r : Kept) (t : ℕ) (h : Hunt) (at : hunt_of r.script (state_behind r)
 
   module _ (none : finds_choice r.script s t ≡ false) where
     abbrev step_by_ghost : Option Ghost → Step
-    step_by_ghost o = elim o [ Some g ↦ Err (need.Ghost g.num) | None ↦ Ok (kind.Dry h.b h.quest.dry (dry.Of (causes r.script s p))) ]
+    step_by_ghost o = elim o [ Some g ↦ Err (need.Ghost g.num) | None ↦ Ok (kind.Dry h.b h.place_search.dry (dry.Of (causes r.script s p))) ]
 
     abbrev step_by_victim : Option BufId → Step
     step_by_victim o = elim o [ Some v ↦ Ok (kind.Catch v (why_of p.mem)) | None ↦ step_by_ghost (ghost_in r.script s p) ]
 
     abbrev step_by : Bool → Step
-    step_by q = elim q [ false ↦ Ok (kind.Dry h.b h.quest.dry dry.Short) | true ↦ step_by_victim found ]
+    step_by q = elim q [ false ↦ Ok (kind.Dry h.b h.place_search.dry dry.Short) | true ↦ step_by_victim found ]
 
     next_is : next r.script s (actor.Thread t) ≡ step_by long
-    next_is = crowded_next r.script s t h at none ∙ ap (step_of_crowded r.script s (course s t) h.b h.quest.dry) (sym is)
+    next_is = crowded_next r.script s t h at none ∙ ap (step_of_crowded r.script s (course s t) h.b h.place_search.dry) (sym is)
 
     -- the victim is caught
     pub entry_catches : (v : BufId) (w : Why) → Some v ≡ victim_of r.script s t → w ≡ why_of p.mem → entry_of r (actor.Thread t) ≡ Ok (record { who = actor.Thread t; kind = kind.Catch v w })
     entry_catches v w e why = entry_is r t (kind.Catch v w) refl (next_is ∙ by long found (sym victim_at ∙ sym e) ∙ ap (λ x. Ok (kind.Catch v x)) (sym why))
       where
-        by : (q : Bool) (o : Option BufId) → elim q [ true ↦ o | false ↦ None ] ≡ Some v → ◌≡◌ {A = Step} (elim q [ false ↦ Ok (kind.Dry h.b h.quest.dry dry.Short) | true ↦ step_by_victim o ]) (Ok (kind.Catch v (why_of p.mem)))
+        by : (q : Bool) (o : Option BufId) → elim q [ true ↦ o | false ↦ None ] ≡ Some v → ◌≡◌ {A = Step} (elim q [ false ↦ Ok (kind.Dry h.b h.place_search.dry dry.Short) | true ↦ step_by_victim o ]) (Ok (kind.Catch v (why_of p.mem)))
         by true o e = ap step_by_victim e
         by false o e = cc
 
     -- a place that is too short is dry
-    pub entry_short : long ≡ false → entry_of r (actor.Thread t) ≡ Ok (record { who = actor.Thread t; kind = kind.Dry h.b h.quest.dry dry.Short })
-    entry_short e = entry_is r t (kind.Dry h.b h.quest.dry dry.Short) refl (next_is ∙ ap step_by e)
+    pub entry_short : long ≡ false → entry_of r (actor.Thread t) ≡ Ok (record { who = actor.Thread t; kind = kind.Dry h.b h.place_search.dry dry.Short })
+    entry_short e = entry_is r t (kind.Dry h.b h.place_search.dry dry.Short) refl (next_is ∙ ap step_by e)
 
     module _ (e : long ≡ true) (nobody : victim_of r.script s t ≡ None) where
       unfound : found ≡ None
@@ -101,11 +101,11 @@ module _ (r : Kept) (t : ℕ) (h : Hunt) (at : hunt_of r.script (state_behind r)
 
       -- without one the place is dry
       pub entry_dry : (rows : List CauseRow) → None ≡ option_map (λ (x : Ghost). x.num) (ghost_in r.script s p) → rows ≡ causes r.script s p →
-          entry_of r (actor.Thread t) ≡ Ok (record { who = actor.Thread t; kind = kind.Dry h.b h.quest.dry (dry.Of rows) })
-      entry_dry rows f c = entry_is r t (kind.Dry h.b h.quest.dry (dry.Of rows)) refl (next_ghost ∙ by (ghost_in r.script s p) f)
+          entry_of r (actor.Thread t) ≡ Ok (record { who = actor.Thread t; kind = kind.Dry h.b h.place_search.dry (dry.Of rows) })
+      entry_dry rows f c = entry_is r t (kind.Dry h.b h.place_search.dry (dry.Of rows)) refl (next_ghost ∙ by (ghost_in r.script s p) f)
         where
-          by : (o : Option Ghost) → None ≡ option_map (λ (x : Ghost). x.num) o → step_by_ghost o ≡ Ok (kind.Dry h.b h.quest.dry (dry.Of rows))
-          by None f = ap (λ x. Ok (kind.Dry h.b h.quest.dry (dry.Of x))) (sym c)
+          by : (o : Option Ghost) → None ≡ option_map (λ (x : Ghost). x.num) o → step_by_ghost o ≡ Ok (kind.Dry h.b h.place_search.dry (dry.Of rows))
+          by None f = ap (λ x. Ok (kind.Dry h.b h.place_search.dry (dry.Of x))) (sym c)
           by (Some x) f = cc
 
 -- ---- victims

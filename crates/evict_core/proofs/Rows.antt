@@ -13,23 +13,23 @@ use Rattle.ttm_base.specs.declared.Place.{Place}
 use Rattle.ttm_base.specs.declared.Span.{Span}
 use Rattle.ttm_base.specs.Reach.{same_mem, intersects}
 use Rattle.bo_table.specs.declared.bo.Bo.{Bo}
-use Rattle.bo_table.specs.Seen.{Bos, IsBo, body_of, grip_of}
+use Rattle.bo_table.specs.Seen.{Bos, IsBo, body_of, reservation_of}
 use Rattle.bo_table.proofs.TableLaws.{get_map}
 use Rattle.journal_model.specs.declared.script.Script.{Script}
 use Rattle.journal_model.specs.declared.state.State.{State}
 use Rattle.journal_model.specs.declared.state.Buffer.{Buffer}
-use Rattle.journal_model.specs.declared.state.Grip.{Grip}
+use Rattle.journal_model.specs.declared.state.Reservation.{Reservation}
 use Rattle.journal_model.specs.declared.state.Job.{Job}
 use Rattle.journal_model.specs.declared.state.Ghost as state
 use Rattle.journal_model.specs.declared.entry.CauseRow.{CauseRow}
-use Rattle.journal_model.specs.State.{grip_in, has_target, no_grip, target_of}
+use Rattle.journal_model.specs.State.{reservation_in, has_target, no_reservation, target_of}
 use Rattle.journal_model.specs.ScriptRules.{is_script}
 use Rattle.journal_model.specs.Holds.{live_entry}
 use Rattle.journal_model.specs.Holds as holds
 use Rattle.journal_model.specs.Dry.{cause_of, cause_row, causes}
-use Rattle.room_ties.specs.declared.parts.Ghost.{Ghost}
-use Rattle.room_ties.specs.Bos.{AreBos, unfenced}
-use Rattle.room_ties.specs.Ghosts.{AreGhosts, IsGhost}
+use Rattle.room_representation.specs.declared.parts.Ghost.{Ghost}
+use Rattle.room_representation.specs.Bos.{AreBos, unfenced}
+use Rattle.room_representation.specs.Ghosts.{AreGhosts, IsGhost}
 use Rattle.evict_core.specs.Rows.{buffer_of, ghost_spans, ghost_in, row_in}
 
 -- ---- ghosts
@@ -61,22 +61,22 @@ few_buffers script h = grind (arith, nat_tests)
 
 module _ (script : Script) (place : Place) (b : BufId) (bo : Bo) where
   -- by whether it is kept in the manager
-  abbrev row_by : Grip → Buffer → Bool → Option CauseRow
+  abbrev row_by : Reservation → Buffer → Bool → Option CauseRow
   row_by g x q = if q then Some (record { b = b; cause = cause_of script place g x }) else None
 
   dead_row : bo.alive ≡ false → None ≡ row_in script place b bo
-  dead_row e = ap (λ q. row_by (grip_of bo) (buffer_of bo) (q && (same_mem bo.mem place.mem || is_some (target_of place.mem bo.targets)))) (sym e)
+  dead_row e = ap (λ q. row_by (reservation_of bo) (buffer_of bo) (q && (same_mem bo.mem place.mem || is_some (target_of place.mem bo.targets)))) (sym e)
 
-  live_row : bo.alive ≡ true → row_in script place b bo ≡ row_by (grip_of bo) (buffer_of bo) (same_mem (buffer_of bo).mem place.mem || has_target place.mem (buffer_of bo))
-  live_row e = ap (λ q. row_by (grip_of bo) (buffer_of bo) (q && (same_mem bo.mem place.mem || is_some (target_of place.mem bo.targets)))) e
+  live_row : bo.alive ≡ true → row_in script place b bo ≡ row_by (reservation_of bo) (buffer_of bo) (same_mem (buffer_of bo).mem place.mem || has_target place.mem (buffer_of bo))
+  live_row e = ap (λ q. row_by (reservation_of bo) (buffer_of bo) (q && (same_mem bo.mem place.mem || is_some (target_of place.mem bo.targets)))) e
 
 -- the row of a buffer that is lent is that of the state's
-pub row_same : (script : Script) (s : State) (place : Place) (b : BufId) (t : Bos) → AreBos script s.core.buffers s.grips s.last_jobs t → (bo : Bo) → IsBo t b bo →
-    (slot : Option Buffer) × (slice_get s.core.buffers b.0 ≡ Some slot) × (row_in script place b bo ≡ option_and_then (λ x. cause_row script s.grips place (b, x)) slot)
+pub row_same : (script : Script) (s : State) (place : Place) (b : BufId) (t : Bos) → AreBos script s.core.buffers s.reservations s.last_jobs t → (bo : Bo) → IsBo t b bo →
+    (slot : Option Buffer) × (slice_get s.core.buffers b.0 ≡ Some slot) × (row_in script place b bo ≡ option_and_then (λ x. cause_row script s.reservations place (b, x)) slot)
 row_same script s place b t are bo is = by (slice_get s.core.buffers b.0) refl
   where
-    same_grip : grip_in s.grips b ≡ grip_of bo
-    same_grip = ap (λ gs. grip_in gs b) (sym are.grips_are) ∙ ap (λ o. unwrap_or o no_grip) is.grip
+    same_reservation : reservation_in s.reservations b ≡ reservation_of bo
+    same_reservation = ap (λ gs. reservation_in gs b) (sym are.reservations_are) ∙ ap (λ o. unwrap_or o no_reservation) is.reservation
 
     lent : option_map (option_map unfenced) (slice_get s.core.buffers b.0) ≡ Some (body_of bo)
     lent = sym (get_map (option_map unfenced) s.core.buffers b.0) ∙ ap (λ bs. slice_get bs b.0) (sym are.buffers_are) ∙ is.body
@@ -85,16 +85,16 @@ row_same script s place b t are bo is = by (slice_get s.core.buffers b.0) refl
     none true e h = cc
     none false e h = sym (dead_row script place b bo e)
 
-    some : (x : Buffer) (q : Bool) → bo.alive ≡ q → (if q then Some (buffer_of bo) else None) ≡ Some (unfenced x) → row_in script place b bo ≡ cause_row script s.grips place (b, x)
+    some : (x : Buffer) (q : Bool) → bo.alive ≡ q → (if q then Some (buffer_of bo) else None) ≡ Some (unfenced x) → row_in script place b bo ≡ cause_row script s.reservations place (b, x)
     some x false e h = cc
     some x true e h =
         let seen : buffer_of bo ≡ unfenced x = cc in
         live_row script place b bo e
-        ∙ ap (λ (y : Buffer). row_by script place b bo (grip_of bo) y (same_mem y.mem place.mem || has_target place.mem y)) seen
-        ∙ ap (λ g. row_by script place b bo g x (same_mem x.mem place.mem || has_target place.mem x)) (sym same_grip)
+        ∙ ap (λ (y : Buffer). row_by script place b bo (reservation_of bo) y (same_mem y.mem place.mem || has_target place.mem y)) seen
+        ∙ ap (λ g. row_by script place b bo g x (same_mem x.mem place.mem || has_target place.mem x)) (sym same_reservation)
 
     by : (o : Option (Option Buffer)) → slice_get s.core.buffers b.0 ≡ o →
-        (slot : Option Buffer) × (slice_get s.core.buffers b.0 ≡ Some slot) × (row_in script place b bo ≡ option_and_then (λ x. cause_row script s.grips place (b, x)) slot)
+        (slot : Option Buffer) × (slice_get s.core.buffers b.0 ≡ Some slot) × (row_in script place b bo ≡ option_and_then (λ x. cause_row script s.reservations place (b, x)) slot)
     by None e = (let g : ◌≡◌ {A = Option (Option Buffer)} None (Some (body_of bo)) = sym (ap (option_map (option_map unfenced)) e) ∙ lent in cc)
     by (Some None) e =
         let g : Some (option_map unfenced None) ≡ Some (body_of bo) = sym (ap (option_map (option_map unfenced)) e) ∙ lent in
@@ -131,14 +131,14 @@ is_below (y ∷ xs) zero x e = omega arith
 is_below (y ∷ xs) (suc i) x e = let r = is_below xs i x e in omega (arith, r)
 
 -- the rows of the first buffers
-abbrev pub rows_up_to : Script → List Grip → Place → List (Option Buffer) → ℕ → List CauseRow
-rows_up_to script grips place slots n = filter_map (cause_row script grips place) (filter_map live_entry (enumerate_from 0 (take n slots)))
+abbrev pub rows_up_to : Script → List Reservation → Place → List (Option Buffer) → ℕ → List CauseRow
+rows_up_to script reservations place slots n = filter_map (cause_row script reservations place) (filter_map live_entry (enumerate_from 0 (take n slots)))
 
 -- with one more
-pub row_more : (script : Script) (grips : List Grip) (place : Place) (slots : List (Option Buffer)) (i : ℕ) (slot : Option Buffer) → slice_get slots i ≡ Some slot →
-    rows_up_to script grips place slots (i + 1) ≡ rows_up_to script grips place slots i ++ option_to_list (option_and_then (λ x. cause_row script grips place (record { 0 = i }, x)) slot)
-row_more script grips place slots i slot at =
-    let f = cause_row script grips place in
+pub row_more : (script : Script) (reservations : List Reservation) (place : Place) (slots : List (Option Buffer)) (i : ℕ) (slot : Option Buffer) → slice_get slots i ≡ Some slot →
+    rows_up_to script reservations place slots (i + 1) ≡ rows_up_to script reservations place slots i ++ option_to_list (option_and_then (λ x. cause_row script reservations place (record { 0 = i }, x)) slot)
+row_more script reservations place slots i slot at =
+    let f = cause_row script reservations place in
     let before = enumerate_from 0 (take i slots) in
     let below = is_below slots i slot at in
     let here : length (take i slots) ≡ i = length-take-le i slots (omega (arith, below)) in
@@ -153,5 +153,5 @@ row_more script grips place slots i slot at =
     ∙ ap (λ rows. filter_map f (filter_map live_entry before) ++ rows) (row_of_slot f i slot)
 
 -- behind the last one they are all
-pub rows_all : (script : Script) (s : State) (place : Place) (n : ℕ) → length s.core.buffers ≤ n → rows_up_to script s.grips place s.core.buffers n ≡ causes script s place
-rows_all script s place n h = ap (λ xs. filter_map (cause_row script s.grips place) (filter_map live_entry (enumerate_from 0 xs))) (take_all n s.core.buffers h)
+pub rows_all : (script : Script) (s : State) (place : Place) (n : ℕ) → length s.core.buffers ≤ n → rows_up_to script s.reservations place s.core.buffers n ≡ causes script s place
+rows_all script s place n h = ap (λ xs. filter_map (cause_row script s.reservations place) (filter_map live_entry (enumerate_from 0 xs))) (take_all n s.core.buffers h)

@@ -10,11 +10,11 @@ use Rattle.lru_bulk.specs.declared.nodes.Listing.{Listing}
 use Rattle.lru_bulk.specs.Lists.{Order, list_at, list_number, list_as, list_of, listing_of, behind}
 use Rattle.journal_model.specs.declared.script.Script.{Script}
 use Rattle.journal_model.specs.declared.state.State.{State}
-use Rattle.journal_model.specs.State.{has_buffer, grip_in}
+use Rattle.journal_model.specs.State.{has_buffer, reservation_in}
 use Rattle.journal_model.specs.Commands.{decl}
 use Rattle.journal_model.specs.Dry.{is_evictable, victim}
 use Rattle.laws.specs.law_lists.GoodLists.{GoodLists, stand_once}
-use Rattle.room_ties.specs.lemma_room_lists.Listed.{AreListed, listing_as}
+use Rattle.room_representation.specs.lemma_room_lists.Listed.{AreListed, listing_as}
 use Rattle.evict_core.specs.Walks.{from_on, left_from}
 use Rattle.evict_core.proofs.Walks.{behind_is, walked, find_four, or_next}
 
@@ -28,7 +28,7 @@ number_low System prio h = omega arith
 number_low Tt prio h = omega arith
 number_low Vram prio h = omega arith
 
-module _ (script : Script) (s : State) (good : GoodLists script s) (o : Order) (are : AreListed script s.core.buffers s.grips s.lists o) (mem : Mem) (prio : ℕ) (low : prio < 4) where
+module _ (script : Script) (s : State) (good : GoodLists script s) (o : Order) (are : AreListed script s.core.buffers s.reservations s.lists o) (mem : Mem) (prio : ℕ) (low : prio < 4) where
   abbrev the_list : List BufId
   the_list = list_at s.lists (list_number mem prio)
 
@@ -42,7 +42,7 @@ module _ (script : Script) (s : State) (good : GoodLists script s) (o : Order) (
   listing_is b h =
       let on = good.no_other (list_number mem prio) b (the_list, at_number, h) in
       let x : Listing = record { mem = on.buffer.mem; prio = (decl script b).prio; group = (decl script b).group } in
-      (x, are.listings_are b ∙ ap (listing_as script b (grip_in s.grips b).pins) on.live ∙ ap (λ n. listing_as script b n (Some on.buffer)) on.loose, sym on.number)
+      (x, are.listings_are b ∙ ap (listing_as script b (reservation_in s.reservations b).pins) on.live ∙ ap (λ n. listing_as script b n (Some on.buffer)) on.loose, sym on.number)
 
   pub next_asks : (b : BufId) → has_buffer the_list b ≡ true → IsSome (listing_of o b)
   next_asks b h = rw (listing_is b h).1 refl

@@ -7,13 +7,13 @@ use Rattle.ttm_base.specs.declared.Place.{Place}
 use Rattle.ttm_base.specs.declared.Span.{Span}
 use Rattle.ttm_base.specs.Reach.{same_mem, intersects}
 use Rattle.bo_table.specs.declared.bo.Bo.{Bo}
-use Rattle.bo_table.specs.Seen.{grip_of}
+use Rattle.bo_table.specs.Seen.{reservation_of}
 use Rattle.journal_model.specs.declared.script.Script.{Script}
 use Rattle.journal_model.specs.declared.state.Buffer.{Buffer}
 use Rattle.journal_model.specs.declared.entry.CauseRow.{CauseRow}
 use Rattle.journal_model.specs.State.{target_of}
 use Rattle.journal_model.specs.Dry.{cause_of}
-use Rattle.room_ties.specs.declared.parts.Ghost.{Ghost}
+use Rattle.room_representation.specs.declared.parts.Ghost.{Ghost}
 
 -- a lent buffer, without its fences
 abbrev pub buffer_of : Bo → Buffer
@@ -25,7 +25,7 @@ is_kept_in place bo = bo.alive && (same_mem bo.mem place.mem || is_some (target_
 
 -- then why it can't be evicted
 abbrev pub row_in : Script → Place → BufId → Bo → Option CauseRow
-row_in script place b bo = if is_kept_in place bo then Some (record { b = b; cause = cause_of script place (grip_of bo) (buffer_of bo) }) else None
+row_in script place b bo = if is_kept_in place bo then Some (record { b = b; cause = cause_of script place (reservation_of bo) (buffer_of bo) }) else None
 
 -- the spans of a ghost in a memory type
 abbrev pub ghost_spans : Mem → Ghost → List Span

@@ -1,13 +1,13 @@
 ghost use Rattle.std.specs.Prelude.{◌≡◌, IfOk, option_map};
 ghost use Rattle.journal_model.specs.Dry as words;
-ghost use Rattle.bo_table.specs.Seen.{grip_of};
+ghost use Rattle.bo_table.specs.Seen.{reservation_of};
 ghost use Rattle.room_state.specs.room_turns.Turns.{state_behind};
 ghost use Rattle.evict_core.specs.Rows as rows_of;
 
 use bo_table::Bo;
 use journal_model::{Cause, CauseRow, Causes, Script};
+use room_representation::Ghost;
 use room_state::room_turns::Rooms;
-use room_ties::Ghost;
 use state_words::{intersects, reach_of, same_mem, target_of};
 use std::alloc::Global;
 use ttm_base::{BufId, Mem, NoMemory, Place, Span};
@@ -49,7 +49,7 @@ pub(crate) fn ghost_in(rooms: &Rooms, place: Place) -> Option<u64>
 
 /// Why a buffer can't be evicted: the first cause that holds.
 fn cause_of(script: &Script, place: Place, bo: &Bo) -> Cause
-    ensures { result ≡ words.cause_of script.now place (grip_of bo.now) (rows_of.buffer_of bo.now) }
+    ensures { result ≡ words.cause_of script.now place (reservation_of bo.now) (rows_of.buffer_of bo.now) }
 {
     if bo.pins > 0 {
         return Cause::Pinned;

@@ -6,15 +6,17 @@ ghost use Rattle.journal_model.specs.Tasks.{stage_of, task_of};
 ghost use Rattle.journal_model.specs.Search as words;
 ghost use Rattle.room_state.specs.room_turns.Turns.{state_behind};
 ghost use Rattle.room_state.specs.declared.room_turns.Step.TheVariants as step_words;
-ghost use Rattle.room_state.specs.room_turns.Searching.{finds_choice, hunt_of, victim_of};
+ghost use Rattle.room_state.specs.room_turns.Searching.{finds_choice, buffer_search_of, victim_of};
 ghost use Rattle.room_state.specs.room_turns.Turns.{after_step, entry_of, step_of};
-ghost use Rattle.room_state.specs.room_turns.Hunts.{seen};
+ghost use Rattle.room_state.specs.room_turns.BufferSearches.{seen};
 ghost use Rattle.evict_core.specs.Tasks.{is_skip, lets_go};
 
 use crate::keepers::{causes, ghost_in};
 use crate::victims::{is_long_enough, victim};
 use journal_model::{DryWhy, Kind, Task, Why};
-use room_state::room_turns::{Hunt, Rooms, Step, hunt_at_work, make, place_at_work};
+use room_state::room_turns::{
+    BufferSearch, Rooms, Step, buffer_search_at_work, make, place_at_work,
+};
 use std::alloc::Global;
 use ttm_base::{Actor, BufId, Mem, Need, NoMemory};
 
@@ -30,12 +32,12 @@ fn why_of(mem: Mem) -> Why
 }
 
 /// The buffer that is evicted for a search.
-fn victim_for(rooms: &Rooms, thread: u32, hunt: Hunt) -> Option<BufId>
-    requires { hunt_of rooms.now.script (state_behind rooms.now) thread ≡ Some (seen rooms.now.script hunt) }
+fn victim_for(rooms: &Rooms, thread: u32, buffer_search: BufferSearch) -> Option<BufId>
+    requires { buffer_search_of rooms.now.script (state_behind rooms.now) thread ≡ Some (seen rooms.now.script buffer_search) }
     ensures { result ≡ victim_of rooms.now.script (state_behind rooms.now) thread }
 {
-    let place = place_at_work(rooms.script(), hunt);
-    if !is_long_enough(rooms.script(), hunt.b, place) {
+    let place = place_at_work(rooms.script(), buffer_search);
+    if !is_long_enough(rooms.script(), buffer_search.b, place) {
         return None;
     }
     victim(rooms, rooms.course(thread).skips.items(), place)
@@ -48,7 +50,7 @@ pub fn next_victim(rooms: &Rooms, thread: u32) -> Option<BufId>
     requires { stage_of (task_of rooms.now.script (state_behind rooms.now) thread) ≡ stage.Search }
     ensures { result ≡ victim_of rooms.now.script (state_behind rooms.now) thread }
 {
-    victim_for(rooms, thread, hunt_at_work(rooms, thread))
+    victim_for(rooms, thread, buffer_search_at_work(rooms, thread))
 }
 
 /// Catches the buffer that is evicted for a thread's search; false where there is none.
@@ -65,25 +67,30 @@ pub fn catch(rooms: &mut Rooms, thread: u32) -> Result<bool, NoMemory>
     ensures none { result ≡ Ok false → rooms.new ≡ rooms.old }
     ensures err { OnErr result (rooms.new ≡ rooms.old) }
 {
-    let hunt = hunt_at_work(rooms, thread);
-    let Some(v) = victim_for(rooms, thread, hunt) else {
+    let buffer_search = buffer_search_at_work(rooms, thread);
+    let Some(v) = victim_for(rooms, thread, buffer_search) else {
         return Ok(false);
     };
-    let why = why_of(place_at_work(rooms.script(), hunt).mem);
+    let why = why_of(place_at_work(rooms.script(), buffer_search).mem);
     make(rooms, Actor::Thread(thread), Kind::Catch { b: v, why })?;
     Ok(true)
 }
 
 /// Makes the entry that the forced place at work of a search is dry.
-fn make_dry(rooms: &mut Rooms, thread: u32, hunt: Hunt, why: DryWhy) -> Result<Step, NoMemory>
-    requires { entry_of rooms.old (actor.Thread thread) ≡ Ok (record { who = actor.Thread thread; kind = kind_words.Dry hunt.b hunt.dry why }) }
+fn make_dry(
+    rooms: &mut Rooms,
+    thread: u32,
+    buffer_search: BufferSearch,
+    why: DryWhy,
+) -> Result<Step, NoMemory>
+    requires { entry_of rooms.old (actor.Thread thread) ≡ Ok (record { who = actor.Thread thread; kind = kind_words.Dry buffer_search.b buffer_search.dry why }) }
     ensures step { IfOk result (λ step. step ≡ step_of (entry_of rooms.old (actor.Thread thread))) }
     ensures made { OnOk result (rooms.new ≡ after_step rooms.old (entry_of rooms.old (actor.Thread thread))) }
     ensures err { OnErr result (rooms.new ≡ rooms.old) }
 {
     let kind = Kind::Dry {
-        b: hunt.b,
-        k: hunt.dry,
+        b: buffer_search.b,
+        k: buffer_search.dry,
         why,
     };
     make(rooms, Actor::Thread(thread), kind)
@@ -103,16 +110,16 @@ pub fn dry(alloc: Global, rooms: &mut Rooms, thread: u32) -> Result<Step, NoMemo
     ensures made { OnOk result (rooms.new ≡ after_step rooms.old (entry_of rooms.old (actor.Thread thread))) }
     ensures err { OnErr result (rooms.new ≡ rooms.old) }
 {
-    let hunt = hunt_at_work(rooms, thread);
-    let place = place_at_work(rooms.script(), hunt);
-    if !is_long_enough(rooms.script(), hunt.b, place) {
-        return make_dry(rooms, thread, hunt, DryWhy::Short);
+    let buffer_search = buffer_search_at_work(rooms, thread);
+    let place = place_at_work(rooms.script(), buffer_search);
+    if !is_long_enough(rooms.script(), buffer_search.b, place) {
+        return make_dry(rooms, thread, buffer_search, DryWhy::Short);
     }
     if let Some(g) = ghost_in(rooms, place) {
         return Ok(Step::Need(Need::Ghost(g)));
     }
     let rows = causes(alloc, rooms, place)?;
-    make_dry(rooms, thread, hunt, DryWhy::Of(rows))
+    make_dry(rooms, thread, buffer_search, DryWhy::Of(rows))
 }
 
 /// Passes over a victim that found no room, when it has neither frame nor target left: its command tries it no more.

@@ -2,7 +2,7 @@ ghost use Rattle.std.specs.Prelude.{◌≡◌, ◌<◌, ◌&&◌, ◌||◌, not,
 ghost use Rattle.journal_model.specs.Choice.{reach_of as reached};
 ghost use Rattle.journal_model.specs.Dry as words;
 ghost use Rattle.lru_bulk.specs.Lists.{list_at, list_number};
-ghost use Rattle.bo_table.specs.Seen.{grip_of};
+ghost use Rattle.bo_table.specs.Seen.{reservation_of};
 ghost use Rattle.room_state.specs.room_turns.Turns.{state_behind};
 ghost use Rattle.evict_core.specs.Walks as walks;
 
@@ -28,7 +28,7 @@ fn stands_in(bo: &Bo, mem: Mem, within: Span) -> bool
 
 /// A buffer is neither pinned nor held.
 fn is_loose(bo: &Bo) -> bool
-    ensures { result ≡ words.is_loose (grip_of bo.now) }
+    ensures { result ≡ words.is_loose (reservation_of bo.now) }
 {
     bo.pins == 0 && bo.resv.holder().is_none()
 }

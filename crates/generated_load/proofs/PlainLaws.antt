@@ -8,7 +8,7 @@ use Rattle.journal_model.specs.declared.script.Script.{Script}
 use Rattle.journal_model.specs.declared.script.Command.{Command}
 use Rattle.journal_model.specs.Words.{Text, line}
 use Rattle.journal_model.specs.Spelling.{buffer_line, command_words, turn_line, spelling}
-use Rattle.journal_model.specs.MarkRules.{Desk, empty_desk, have_marks}
+use Rattle.journal_model.specs.MarkRules.{ThreadMappings, empty_thread_mappings, have_marks}
 use Rattle.law_legal.specs.law_items.Items.{Item, Asks, ComesFrom, commands_in, marks_in, numbered, item_text, items_text, item_fits, all_along, items_fit}
 use Rattle.law_legal.proofs.law_items.ListFacts.{has_few}
 use Rattle.law_legal.proofs.law_items.Tests.{both, joint}
@@ -56,13 +56,13 @@ comes s h = record { threads = threads_plain s.threads; marks = h ∙ numbered_p
 
 -- ---- they keep the rules of marks
 
-fits_from : (s : Script) (d : Desk) (cs : List Command) → all_along (item_fits s) d (plain cs) ≡ true
+fits_from : (s : Script) (d : ThreadMappings) (cs : List Command) → all_along (item_fits s) d (plain cs) ≡ true
 fits_from s d [] = refl
 fits_from s d (c ∷ cs) = fits_from s d cs
 
 all_fit : (s : Script) (ts : List (List Command)) → list_all (items_fit s) (map plain ts) ≡ true
 all_fit s [] = refl
-all_fit s (cs ∷ ts) = joint (items_fit s (plain cs)) (list_all (items_fit s) (map plain ts)) (fits_from s empty_desk cs) (all_fit s ts)
+all_fit s (cs ∷ ts) = joint (items_fit s (plain cs)) (list_all (items_fit s) (map plain ts)) (fits_from s empty_thread_mappings cs) (all_fit s ts)
 
 few_plain : (ts : List (List Command)) → list_all has_few ts ≡ true → list_all has_few (map plain ts) ≡ true
 few_plain [] h = refl

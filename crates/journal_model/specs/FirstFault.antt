@@ -40,7 +40,7 @@ use Rattle.journal_model.specs.Cut.{cut_at, lines_of}
 use Rattle.journal_model.specs.LineWords.{keyword_of, may_come, line_of}
 use Rattle.journal_model.specs.LineRules.{rule_broken, lens_of_line, vop_in, named_job}
 use Rattle.journal_model.specs.Commands.{commands_of}
-use Rattle.journal_model.specs.MarkRules.{desk_at_end}
+use Rattle.journal_model.specs.MarkRules.{thread_mappings_at_end}
 use Rattle.journal_model.specs.CommandRules.{is_between}
 
 -- ---- the parts of a line
@@ -148,7 +148,7 @@ with_submit p c lens = record p { script = record (p.script) { threads = onto_la
 
 -- the operations of the job by name
 abbrev pub named_ops : Script → List VOpWord → List Op
-named_ops script ops = unwrap_or (named_job (desk_at_end script) ops) []
+named_ops script ops = unwrap_or (named_job (thread_mappings_at_end script) ops) []
 
 -- what the lines say, with a line that breaks no rule
 abbrev pub with_line : Progress → Line → Progress

@@ -28,7 +28,7 @@ use Rattle.journal_model.specs.State.{same_buffer, has_buffer}
 use Rattle.journal_model.specs.CommandRules.{is_between}
 use Rattle.journal_model.specs.ScriptRules.{is_name}
 use Rattle.journal_model.specs.ByName.{job_by_name}
-use Rattle.journal_model.specs.MarkRules.{Desk, desk_at_end, has_apart_ranges}
+use Rattle.journal_model.specs.MarkRules.{ThreadMappings, thread_mappings_at_end, has_apart_ranges}
 
 -- ---- rule 5: a number isn't plain or is out of its range
 
@@ -260,11 +260,11 @@ vop_in (vop_word.Probe addr len) = vop.Probe (unwrap_or addr 0) (unwrap_or len 0
 vop_in vop_word.Malformed = vop.Probe 0 0
 
 -- a buffer stands in both ranges of a copy or xor with addresses, as far as their pages are mapped
-abbrev pub has_buffer_twice : Desk → VOpWord → Bool
+abbrev pub has_buffer_twice : ThreadMappings → VOpWord → Bool
 has_buffer_twice d op = not (has_apart_ranges d.regions (vop_in op))
 
 -- the job by name, if each page is mapped at the line
-abbrev pub named_job : Desk → List VOpWord → Option (List Op)
+abbrev pub named_job : ThreadMappings → List VOpWord → Option (List Op)
 named_job d ops = job_by_name d.regions (map vop_in ops)
 
 -- more than 64 operations or 16 buffers, where each page is mapped
@@ -273,7 +273,7 @@ is_big_named_job (Some ops) = nat_lt 64 (length ops) || nat_lt 16 (length (first
 is_big_named_job None = false
 
 -- in a line
-abbrev pub has_job_fault : Desk → Line → Bool
+abbrev pub has_job_fault : ThreadMappings → Line → Bool
 has_job_fault d (line.Submit engine ops) = list_any names_one_twice ops || is_big_job ops
 has_job_fault d (line.Vsubmit engine ops) = list_any (has_buffer_twice d) ops || is_big_named_job (named_job d ops)
 has_job_fault d _ = false
@@ -348,12 +348,12 @@ is_too_long p l = nat_lt 67108864 (p.lens + lens_of_line l)
 -- ---- rule 14: a map of a buffer that the thread has mapped, and an unmap, peek or poke of one that it hasn't
 
 -- the thread has mapped the buffer at the line
-abbrev pub has_mapped : Desk → Option BufId → Bool
+abbrev pub has_mapped : ThreadMappings → Option BufId → Bool
 has_mapped d (Some b) = has_buffer d.mapped b
 has_mapped d None = false
 
 -- in a line
-abbrev pub has_map_fault : Desk → Line → Bool
+abbrev pub has_map_fault : ThreadMappings → Line → Bool
 has_map_fault d (line.Map b) = has_mapped d b
 has_map_fault d (line.Unmap b) = not (has_mapped d b)
 has_map_fault d (line.Read access.Mapped b off len) = not (has_mapped d b)
@@ -363,7 +363,7 @@ has_map_fault d _ = false
 -- ---- rule 15: a page of a range of addresses isn't mapped at the line
 
 -- in a line
-abbrev pub lacks_page : Desk → Line → Bool
+abbrev pub lacks_page : ThreadMappings → Line → Bool
 lacks_page d (line.Vsubmit engine ops) = is_none (named_job d ops)
 lacks_page d _ = false
 
@@ -377,10 +377,10 @@ rule_broken p l =
     else if lacks_place l then Some 7
     else if has_range_fault p.script l then Some 8
     else if has_byte_fault l then Some 9
-    else if has_job_fault (desk_at_end p.script) l then Some 10
+    else if has_job_fault (thread_mappings_at_end p.script) l then Some 10
     else if lacks_actor l then Some 11
     else if is_one_too_many p l then Some 12
     else if is_too_long p l then Some 13
-    else if has_map_fault (desk_at_end p.script) l then Some 14
-    else if lacks_page (desk_at_end p.script) l then Some 15
+    else if has_map_fault (thread_mappings_at_end p.script) l then Some 14
+    else if lacks_page (thread_mappings_at_end p.script) l then Some 15
     else None

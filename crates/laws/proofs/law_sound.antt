@@ -4,7 +4,7 @@ pub mod Bufs
 pub mod JobsBack
 pub mod Steadies
 pub mod Owners
-pub mod Grips
+pub mod Reservations
 pub mod OwnedKeeps
 pub mod Along
 pub mod Orders

@@ -12,5 +12,5 @@ ghost use Rattle.laws.specs.law_views.GoodViews.{HasGoodView};
 /// plain memory has.
 pub fn views_are_good()
     ensures { (script : Script) (journal : List Entry) → IsTrue (is_script script) → IsLegal script journal
-        → HasGoodView script (state_of script journal).core (plain_of script journal).dues (plain_of script journal).memory (stores_of script journal) }
+        → HasGoodView script (state_of script journal).core (plain_of script journal).owed_probes (plain_of script journal).memory (stores_of script journal) }
 {}

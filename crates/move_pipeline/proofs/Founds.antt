@@ -13,12 +13,12 @@ use Rattle.journal_model.specs.declared.state.State.{State}
 use Rattle.journal_model.specs.declared.entry.Kind.TheVariants as kind
 use Rattle.journal_model.specs.State.{course}
 use Rattle.journal_model.specs.Choice.{choice}
-use Rattle.journal_model.specs.Search.{first_choice, step_of_quest}
+use Rattle.journal_model.specs.Search.{first_choice, step_of_place_search}
 use Rattle.room_state.specs.room_turns.Turns.{Kept, state_behind}
-use Rattle.room_state.specs.room_turns.Searching.{Hunt, finds_choice, has_choice, hunt_of, place_at_work}
+use Rattle.room_state.specs.room_turns.Searching.{BufferSearch, finds_choice, has_choice, buffer_search_of, place_at_work}
 use Rattle.room_state.specs.room_turns.Turns.{entry_of}
 use Rattle.room_state.proofs.room_turns.Threads.{entry_is}
-use Rattle.room_state.proofs.room_turns.Hunted.{hunter_next}
+use Rattle.room_state.proofs.room_turns.BufferSearched.{buffer_searcher_next}
 use Rattle.room_state.proofs.room_turns.Finds.{takes_first, takes_forced, takes_last}
 use Rattle.move_pipeline.specs.Finds.{found, found_at, or_else, tried_at}
 
@@ -58,32 +58,32 @@ module _ (script : Script) (s : State) (b : BufId) where
 
 -- ---- all of a search
 
-module _ (script : Script) (s : State) (h : Hunt) where
+module _ (script : Script) (s : State) (h : BufferSearch) where
   abbrev at_work : Option (Mem × List Span)
-  at_work = found_at script s h.b (place_at_work h.quest)
+  at_work = found_at script s h.b (place_at_work h.place_search)
 
   -- the places tried first aren't tried, or have none, or have one
   abbrev by_first : Bool → Option (Mem × List Span) → Option (Mem × List Span)
   by_first q o = or_else (elim q [ true ↦ None | false ↦ o ]) at_work
 
-  not_forced : (o : Option (Mem × List Span)) → h.quest.forced ≡ false → o ≡ first_choice script s h.b (first_places h.quest.list) → found script s h ≡ or_else o at_work
-  not_forced o f e = ap (λ q. by_first q (first_choice script s h.b (first_places h.quest.list))) f ∙ ap (λ o. or_else o at_work) (sym e)
+  not_forced : (o : Option (Mem × List Span)) → h.place_search.forced ≡ false → o ≡ first_choice script s h.b (first_places h.place_search.list) → found script s h ≡ or_else o at_work
+  not_forced o f e = ap (λ q. by_first q (first_choice script s h.b (first_places h.place_search.list))) f ∙ ap (λ o. or_else o at_work) (sym e)
 
-  pub first_one : (x : Mem × List Span) → h.quest.forced ≡ false → Some x ≡ first_choice script s h.b (first_places h.quest.list) → Some x ≡ found script s h
+  pub first_one : (x : Mem × List Span) → h.place_search.forced ≡ false → Some x ≡ first_choice script s h.b (first_places h.place_search.list) → Some x ≡ found script s h
   first_one x f e = sym (not_forced (Some x) f e)
 
-  pub last_one : h.quest.forced ≡ false → None ≡ first_choice script s h.b (first_places h.quest.list) → at_work ≡ found script s h
+  pub last_one : h.place_search.forced ≡ false → None ≡ first_choice script s h.b (first_places h.place_search.list) → at_work ≡ found script s h
   last_one f e = sym (not_forced None f e)
 
-  pub forced_one : h.quest.forced ≡ true → at_work ≡ found script s h
-  forced_one f = sym (ap (λ q. by_first q (first_choice script s h.b (first_places h.quest.list))) f)
+  pub forced_one : h.place_search.forced ≡ true → at_work ≡ found script s h
+  forced_one f = sym (ap (λ q. by_first q (first_choice script s h.b (first_places h.place_search.list))) f)
 
   -- something is found where a place has a choice
   found_where : is_some (found script s h) ≡ has_choice script s h
-  found_where = by h.quest.forced (first_choice script s h.b (first_places h.quest.list)) (choice script s.core h.b (place_at_work h.quest))
+  found_where = by h.place_search.forced (first_choice script s h.b (first_places h.place_search.list)) (choice script s.core h.b (place_at_work h.place_search))
     where
       by : (f : Bool) (o : Option (Mem × List Span)) (p : Option (List Span)) →
-          is_some (or_else (elim f [ true ↦ None | false ↦ o ]) (option_map (λ spans. ((place_at_work h.quest).mem, spans)) p)) ≡ (not f && is_some o || is_some p)
+          is_some (or_else (elim f [ true ↦ None | false ↦ o ]) (option_map (λ spans. ((place_at_work h.place_search).mem, spans)) p)) ≡ (not f && is_some o || is_some p)
       by true o None = refl
       by true o (Some spans) = refl
       by false None None = refl
@@ -91,20 +91,20 @@ module _ (script : Script) (s : State) (h : Hunt) where
       by false (Some x) p = refl
 
   -- and it is what the search takes
-  found_taken : (x : Mem × List Span) → found script s h ≡ Some x → (c : Course) → step_of_quest script s c h.b h.quest ≡ Ok (kind.Take h.b x.0 x.1)
-  found_taken x e c = by h.quest.forced (first_choice script s h.b (first_places h.quest.list)) (choice script s.core h.b (place_at_work h.quest)) refl refl refl e
+  found_taken : (x : Mem × List Span) → found script s h ≡ Some x → (c : Course) → step_of_place_search script s c h.b h.place_search ≡ Ok (kind.Take h.b x.0 x.1)
+  found_taken x e c = by h.place_search.forced (first_choice script s h.b (first_places h.place_search.list)) (choice script s.core h.b (place_at_work h.place_search)) refl refl refl e
     where
-      by : (f : Bool) (o : Option (Mem × List Span)) (p : Option (List Span)) → h.quest.forced ≡ f → first_choice script s h.b (first_places h.quest.list) ≡ o → choice script s.core h.b (place_at_work h.quest) ≡ p →
-          or_else (elim f [ true ↦ None | false ↦ o ]) (option_map (λ spans. ((place_at_work h.quest).mem, spans)) p) ≡ Some x → step_of_quest script s c h.b h.quest ≡ Ok (kind.Take h.b x.0 x.1)
+      by : (f : Bool) (o : Option (Mem × List Span)) (p : Option (List Span)) → h.place_search.forced ≡ f → first_choice script s h.b (first_places h.place_search.list) ≡ o → choice script s.core h.b (place_at_work h.place_search) ≡ p →
+          or_else (elim f [ true ↦ None | false ↦ o ]) (option_map (λ spans. ((place_at_work h.place_search).mem, spans)) p) ≡ Some x → step_of_place_search script s c h.b h.place_search ≡ Ok (kind.Take h.b x.0 x.1)
       by true o None f a d g = cc
-      by true o (Some spans) f a d g = let same : ((place_at_work h.quest).mem, spans) ≡ x = cc in takes_forced script s c h spans f d ∙ ap (λ (y : Mem × List Span). Ok (kind.Take h.b y.0 y.1)) same
+      by true o (Some spans) f a d g = let same : ((place_at_work h.place_search).mem, spans) ≡ x = cc in takes_forced script s c h spans f d ∙ ap (λ (y : Mem × List Span). Ok (kind.Take h.b y.0 y.1)) same
       by false (Some y) p f a d g = let same : y ≡ x = cc in takes_first script s c h y f a ∙ ap (λ (z : Mem × List Span). Ok (kind.Take h.b z.0 z.1)) same
       by false None None f a d g = cc
-      by false None (Some spans) f a d g = let same : ((place_at_work h.quest).mem, spans) ≡ x = cc in takes_last script s c h spans f a d ∙ ap (λ (y : Mem × List Span). Ok (kind.Take h.b y.0 y.1)) same
+      by false None (Some spans) f a d g = let same : ((place_at_work h.place_search).mem, spans) ≡ x = cc in takes_last script s c h spans f a d ∙ ap (λ (y : Mem × List Span). Ok (kind.Take h.b y.0 y.1)) same
 
 -- ---- of a thread
 
-module _ (r : Kept) (t : ℕ) (h : Hunt) (at : hunt_of r.script (state_behind r) t ≡ Some h) where
+module _ (r : Kept) (t : ℕ) (h : BufferSearch) (at : buffer_search_of r.script (state_behind r) t ≡ Some h) where
   finds_as : finds_choice r.script (state_behind r) t ≡ has_choice r.script (state_behind r) h
   finds_as = ap (λ o. elim o [ Some h ↦ has_choice r.script (state_behind r) h | None ↦ false ]) at
 
@@ -114,4 +114,4 @@ module _ (r : Kept) (t : ℕ) (h : Hunt) (at : hunt_of r.script (state_behind r)
 
   -- what it finds is taken next
   pub entry_takes : (x : Mem × List Span) → Some x ≡ found r.script (state_behind r) h → entry_of r (actor.Thread t) ≡ Ok (record { who = actor.Thread t; kind = kind.Take h.b x.0 x.1 })
-  entry_takes x e = entry_is r t (kind.Take h.b x.0 x.1) refl (hunter_next r.script (state_behind r) t h at ∙ found_taken r.script (state_behind r) h x (sym e) (course (state_behind r) t))
+  entry_takes x e = entry_is r t (kind.Take h.b x.0 x.1) refl (buffer_searcher_next r.script (state_behind r) t h at ∙ found_taken r.script (state_behind r) h x (sym e) (course (state_behind r) t))

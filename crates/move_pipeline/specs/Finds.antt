@@ -10,7 +10,7 @@ use Rattle.journal_model.specs.declared.script.Script.{Script}
 use Rattle.journal_model.specs.declared.state.State.{State}
 use Rattle.journal_model.specs.Choice.{choice}
 use Rattle.journal_model.specs.Search.{first_choice}
-use Rattle.room_state.specs.room_turns.Searching.{Hunt, place_at_work}
+use Rattle.room_state.specs.room_turns.Searching.{BufferSearch, place_at_work}
 
 -- a place with a choice: its memory type, and the pages
 abbrev pub found_at : Script → State → BufId → Place → Option (Mem × List Span)
@@ -26,9 +26,9 @@ or_else (Some f) o = Some f
 or_else None o = o
 
 -- not yet under pressure, the first place with a choice among those tried first
-abbrev pub found_first : Script → State → Hunt → Option (Mem × List Span)
-found_first script s h = elim h.quest.forced [ true ↦ None | false ↦ first_choice script s h.b (first_places h.quest.list) ]
+abbrev pub found_first : Script → State → BufferSearch → Option (Mem × List Span)
+found_first script s h = elim h.place_search.forced [ true ↦ None | false ↦ first_choice script s h.b (first_places h.place_search.list) ]
 
 -- else the forced place at work
-abbrev pub found : Script → State → Hunt → Option (Mem × List Span)
-found script s h = or_else (found_first script s h) (found_at script s h.b (place_at_work h.quest))
+abbrev pub found : Script → State → BufferSearch → Option (Mem × List Span)
+found script s h = or_else (found_first script s h) (found_at script s h.b (place_at_work h.place_search))

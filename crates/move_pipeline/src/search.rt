@@ -8,12 +8,12 @@ ghost use Rattle.room_state.specs.room_turns.Turns.{state_behind};
 ghost use Rattle.room_state.specs.declared.room_turns.Step.TheVariants as step_words;
 ghost use Rattle.room_state.specs.room_turns.Searching.{finds_choice};
 ghost use Rattle.room_state.specs.room_turns.Turns.{after_step, entry_of, step_of};
-ghost use Rattle.room_state.specs.room_turns.Hunts.{list_of, seen};
+ghost use Rattle.room_state.specs.room_turns.BufferSearches.{list_of, seen};
 ghost use Rattle.move_pipeline.specs.Finds as words;
 
 use journal_model::Kind;
 use room_state::room_turns::{
-    Hunt, Rooms, hunt_at_work, make, place_at, place_at_work, place_count,
+    BufferSearch, Rooms, buffer_search_at_work, make, place_at, place_at_work, place_count,
 };
 use ttm_base::{Actor, BufId, FlaggedPlace, Mem, NoMemory, Place, Spans};
 
@@ -46,14 +46,17 @@ fn tried_at(
 }
 
 /// The pages of the first place with a choice, among those that are tried first.
-fn first_found(rooms: &mut Rooms, hunt: Hunt) -> Result<Option<(Mem, Spans)>, NoMemory>
-    requires { hunt.b.0 < length rooms.old.script.buffers }
-    ensures found { IfOk result (λ found. found ≡ first_choice rooms.old.script (state_behind rooms.old) hunt.b (first_places (list_of rooms.old.script hunt.b hunt.sought))) }
+fn first_found(
+    rooms: &mut Rooms,
+    buffer_search: BufferSearch,
+) -> Result<Option<(Mem, Spans)>, NoMemory>
+    requires { buffer_search.b.0 < length rooms.old.script.buffers }
+    ensures found { IfOk result (λ found. found ≡ first_choice rooms.old.script (state_behind rooms.old) buffer_search.b (first_places (list_of rooms.old.script buffer_search.b buffer_search.sought))) }
     ensures same { rooms.new ≡ rooms.old }
 {
-    for at in 0..place_count(rooms.script(), hunt) {
-        let tried = place_at(rooms.script(), hunt, at);
-        if let Some(found) = tried_at(rooms, hunt.b, tried)? {
+    for at in 0..place_count(rooms.script(), buffer_search) {
+        let tried = place_at(rooms.script(), buffer_search, at);
+        if let Some(found) = tried_at(rooms, buffer_search.b, tried)? {
             return Ok(Some(found));
         }
     }
@@ -61,18 +64,18 @@ fn first_found(rooms: &mut Rooms, hunt: Hunt) -> Result<Option<(Mem, Spans)>, No
 }
 
 /// Not yet under pressure, the first place with a choice among those tried first; else the forced place at work.
-fn find(rooms: &mut Rooms, hunt: Hunt) -> Result<Option<(Mem, Spans)>, NoMemory>
-    requires { hunt.b.0 < length rooms.old.script.buffers }
-    ensures found { IfOk result (λ found. found ≡ words.found rooms.old.script (state_behind rooms.old) (seen rooms.old.script hunt)) }
+fn find(rooms: &mut Rooms, buffer_search: BufferSearch) -> Result<Option<(Mem, Spans)>, NoMemory>
+    requires { buffer_search.b.0 < length rooms.old.script.buffers }
+    ensures found { IfOk result (λ found. found ≡ words.found rooms.old.script (state_behind rooms.old) (seen rooms.old.script buffer_search)) }
     ensures same { rooms.new ≡ rooms.old }
 {
-    if !hunt.forced {
-        if let Some(found) = first_found(rooms, hunt)? {
+    if !buffer_search.forced {
+        if let Some(found) = first_found(rooms, buffer_search)? {
             return Ok(Some(found));
         }
     }
-    let place = place_at_work(rooms.script(), hunt);
-    found_at(rooms, hunt.b, place)
+    let place = place_at_work(rooms.script(), buffer_search);
+    found_at(rooms, buffer_search.b, place)
 }
 
 /// Takes the pages that a thread's search finds, as the buffer's target; false where no place to try now has a choice.
@@ -88,12 +91,12 @@ pub fn take_target(rooms: &mut Rooms, thread: u32) -> Result<bool, NoMemory>
     ensures none { result ≡ Ok false → rooms.new ≡ rooms.old }
     ensures err { OnErr result (rooms.new ≡ rooms.old) }
 {
-    let hunt = hunt_at_work(rooms, thread);
-    let Some((mem, spans)) = find(rooms, hunt)? else {
+    let buffer_search = buffer_search_at_work(rooms, thread);
+    let Some((mem, spans)) = find(rooms, buffer_search)? else {
         return Ok(false);
     };
     let kind = Kind::Take {
-        b: hunt.b,
+        b: buffer_search.b,
         mem,
         spans,
     };

@@ -19,11 +19,11 @@ use Rattle.journal_model.specs.declared.script.Command.{Command}
 use Rattle.journal_model.specs.declared.script.Command.TheVariants as command
 use Rattle.journal_model.specs.declared.state.State.{State}
 use Rattle.journal_model.specs.declared.state.Job.{Job}
-use Rattle.journal_model.specs.declared.state.Grip.{Grip}
+use Rattle.journal_model.specs.declared.state.Reservation.{Reservation}
 use Rattle.journal_model.specs.declared.state.Buffer.{Buffer}
 use Rattle.journal_model.specs.declared.state.Course.{Course}
-use Rattle.journal_model.specs.declared.state.Aim.{Aim}
-use Rattle.journal_model.specs.declared.state.Aim.TheVariants.{Asked, Hop}
+use Rattle.journal_model.specs.declared.state.SearchAim.{SearchAim}
+use Rattle.journal_model.specs.declared.state.SearchAim.TheVariants.{Asked, Hop}
 use Rattle.journal_model.specs.declared.state.Task.{Task}
 use Rattle.journal_model.specs.declared.state.Task.TheVariants as task
 use Rattle.journal_model.specs.declared.entry.Kind.{Kind}
@@ -32,10 +32,10 @@ use Rattle.journal_model.specs.State.{buffer, course, course_of, live_in, new_bu
 use Rattle.journal_model.specs.Commands.{commands_of, command_at_work, decl, undeclared, asked_places}
 use Rattle.journal_model.specs.ScriptRules.{is_script, is_decl, is_place_list, has_sizes, has_distinct_names, is_turn_line}
 use Rattle.journal_model.specs.CommandRules.{is_between, is_command, command_len}
-use Rattle.journal_model.specs.MarkRules.{has_few_lines, have_marks, are_in_order, is_in_thread, marks_fit, empty_desk}
+use Rattle.journal_model.specs.MarkRules.{has_few_lines, have_marks, are_in_order, is_in_thread, marks_fit, empty_thread_mappings}
 use Rattle.journal_model.specs.Complete.{thread_numbers}
 use Rattle.journal_model.specs.Waits.{same_job}
-use Rattle.journal_model.specs.Search.{Quest, quest, is_caught, through_tt, step_of_quest}
+use Rattle.journal_model.specs.Search.{PlaceSearch, place_search, is_caught, through_tt, step_of_place_search}
 use Rattle.journal_model.specs.PageSteps.{next_job}
 use Rattle.journal_model.specs.Next.{next, step_of_task, step_of_act, step_of_start}
 use Rattle.journal_model.specs.Stores.{Stores, showing}
@@ -47,7 +47,7 @@ use Rattle.laws.proofs.law_state.Lists.{get_within}
 use Rattle.laws.proofs.law_state.JobsKeep.{all_at}
 use Rattle.laws.proofs.law_state.Rules.{Rules, rules_of, declared_pages}
 use Rattle.laws.proofs.law_state.Moves.{ThreadStep, thread_step}
-use Rattle.laws.proofs.law_state.Courses.{is_dry_below, quest_dry}
+use Rattle.laws.proofs.law_state.Courses.{is_dry_below, place_search_dry}
 use Rattle.laws.proofs.law_state.Pins.{HasPinLeft, result_pins, at_number}
 use Rattle.laws.proofs.law_state.GoodStates.{table_pages}
 use Rattle.rules_state.specs.rules_parts.Pins.{HasPinsLeft}
@@ -72,7 +72,7 @@ fourth a b c d e t = grind arith
 
 lines_of : (script : Script) → IsTrue (is_script script) → list_all (has_few_lines script) (thread_numbers script) ≡ true
 lines_of script h =
-    fourth ((script.version == 2) || (length script.marks == 0)) (are_in_order script.marks) (list_all (is_in_thread script) script.marks) (list_all (has_few_lines script) (thread_numbers script)) (list_all (λ t. marks_fit script t 0 empty_desk (commands_of script t)) (thread_numbers script))
+    fourth ((script.version == 2) || (length script.marks == 0)) (are_in_order script.marks) (list_all (is_in_thread script) script.marks) (list_all (has_few_lines script) (thread_numbers script)) (list_all (λ t. marks_fit script t 0 empty_thread_mappings (commands_of script t)) (thread_numbers script))
     (tenth (is_between 1 2 script.version) (has_sizes script) (nat_le (length script.buffers) 256) (list_all (is_decl script.version) script.buffers) (has_distinct_names script.buffers) (nat_le (length script.threads) 16) (list_all (list_all (is_command script)) script.threads) (nat_le (sum_by (sum_by command_len) script.threads) 67108864) (list_all (is_turn_line script) script.turns) (have_marks script) h)
 
 no_commands : (script : Script) (t : ℕ) → length script.threads < t → length (commands_of script t) ≤ 4096
@@ -140,11 +140,11 @@ asked_few script r (command.Read c off len) b = decl_places script r b
 asked_few script r (command.Touch group) b = decl_places script r b
 asked_few script r (command.Submit engine ops) b = decl_places script r b
 
-quest_few : (script : Script) → Rules script → (cmd : Command) (c : Course) (b : BufId) (aim : Aim) → length (forced_places (quest script cmd c b aim).list) ≤ 8
-quest_few script r cmd c b Asked = asked_few script r cmd b
-quest_few script r cmd c b Hop = by (is_caught c b)
+place_search_few : (script : Script) → Rules script → (cmd : Command) (c : Course) (b : BufId) (aim : SearchAim) → length (forced_places (place_search script cmd c b aim).list) ≤ 8
+place_search_few script r cmd c b Asked = asked_few script r cmd b
+place_search_few script r cmd c b Hop = by (is_caught c b)
   where
-    picked : Bool → Quest
+    picked : Bool → PlaceSearch
     picked q = if q then record { list = through_tt; forced = false; dry = 0 } else record { list = through_tt; forced = c.forced; dry = c.dry }
 
     by : (q : Bool) → length (forced_places (picked q).list) ≤ 8
@@ -213,7 +213,7 @@ tasks_dry script r s c cmd task.Idle k h = grind (arith, common_steps)
 tasks_dry script r s c cmd task.Answer k h = grind (arith, common_steps)
 tasks_dry script r s c cmd task.Start k h = start_dry s cmd k h
 tasks_dry script r s c cmd (task.Lock x) k h = grind (arith, common_steps)
-tasks_dry script r s c cmd (task.Search x aim) k h = dry_below_more (length (forced_places (quest script cmd c x aim).list)) 8 k (quest_few script r cmd c x aim) (quest_dry script s c x (quest script cmd c x aim) k h)
+tasks_dry script r s c cmd (task.Search x aim) k h = dry_below_more (length (forced_places (place_search script cmd c x aim).list)) 8 k (place_search_few script r cmd c x aim) (place_search_dry script s c x (place_search script cmd c x aim) k h)
 tasks_dry script r s c cmd (task.Bind x) k h = grind (arith, common_steps)
 tasks_dry script r s c cmd (task.Unbind x) k h = grind (arith, common_steps)
 tasks_dry script r s c cmd (task.Move x mem) k h = grind (arith, common_steps)
@@ -241,19 +241,19 @@ can_answer script s n k t cmd h here =
     let few = few_commands script k.fits t in
     record { there = here; room = omega (arith, inside, few) }
 
-same_pins : (grips : List Grip) (o : Option Command) → HasPinLeft grips o → HasPinsLeft grips o
-same_pins grips None h = tt
-same_pins grips (Some (command.Pin b)) h = h
-same_pins grips (Some (command.Unpin b)) h = tt
-same_pins grips (Some (command.New b)) h = tt
-same_pins grips (Some (command.Free b)) h = tt
-same_pins grips (Some (command.Find b)) h = tt
-same_pins grips (Some (command.SwapOut b)) h = tt
-same_pins grips (Some (command.Write b off bytes)) h = tt
-same_pins grips (Some (command.Read b off len)) h = tt
-same_pins grips (Some (command.Move b mem)) h = tt
-same_pins grips (Some (command.Touch group)) h = tt
-same_pins grips (Some (command.Submit engine ops)) h = tt
+same_pins : (reservations : List Reservation) (o : Option Command) → HasPinLeft reservations o → HasPinsLeft reservations o
+same_pins reservations None h = tt
+same_pins reservations (Some (command.Pin b)) h = h
+same_pins reservations (Some (command.Unpin b)) h = tt
+same_pins reservations (Some (command.New b)) h = tt
+same_pins reservations (Some (command.Free b)) h = tt
+same_pins reservations (Some (command.Find b)) h = tt
+same_pins reservations (Some (command.SwapOut b)) h = tt
+same_pins reservations (Some (command.Write b off bytes)) h = tt
+same_pins reservations (Some (command.Read b off len)) h = tt
+same_pins reservations (Some (command.Move b mem)) h = tt
+same_pins reservations (Some (command.Touch group)) h = tt
+same_pins reservations (Some (command.Submit engine ops)) h = tt
 
 all_from : {X : Type 0} (p : X → Bool) (xs : List X) → ((i : ℕ) (x : X) → slice_get xs i ≡ Some x → p x ≡ true) → list_all p xs ≡ true
 all_from p [] h = refl
@@ -327,7 +327,7 @@ thread_ready script s n k t (kind.Packet m p piece) h = can_run script s n k (re
 thread_ready script s n k t (kind.Done m) h = tt
 thread_ready script s n k t (kind.Reap g) h = tt
 thread_ready script s n k t (kind.Bulk group) h = thread_is_there script s t (kind.Bulk group) h
-thread_ready script s n k t (kind.Result shown) h = let st = thread_step script s t (kind.Result shown) h in record { answer = can_answer script s n k t st.cmd st.at_work (thread_is_there script s t (kind.Result shown) h); pins = same_pins s.grips (command_at_work script s t) (result_pins script s t shown k.courses st) }
+thread_ready script s n k t (kind.Result shown) h = let st = thread_step script s t (kind.Result shown) h in record { answer = can_answer script s n k t st.cmd st.at_work (thread_is_there script s t (kind.Result shown) h); pins = same_pins s.reservations (command_at_work script s t) (result_pins script s t shown k.courses st) }
 thread_ready script s n k t (kind.Refused d) h = let st = thread_step script s t (kind.Refused d) h in can_answer script s n k t st.cmd st.at_work (thread_is_there script s t (kind.Refused d) h)
 
 engine_ready : (script : Script) (s : State) (n : ℕ) → Known script s n → (e : ℕ) (k : Kind) → is_of_engine k ≡ true → IsReadyFor script s (actor.Engine e) k

@@ -15,7 +15,7 @@ use Rattle.journal_model.specs.CommandRules.{command_len, is_between, is_command
 use Rattle.journal_model.specs.Commands.{commands_of, decl, undeclared}
 use Rattle.journal_model.specs.Complete.{thread_numbers}
 use Rattle.journal_model.specs.Marks.{marks_at}
-use Rattle.journal_model.specs.MarkRules.{Desk, are_in_order, are_marks, desk_after, empty_desk, has_few_lines, have_marks, is_in_thread, is_mark, is_page_range, is_way, marks_fit}
+use Rattle.journal_model.specs.MarkRules.{ThreadMappings, are_in_order, are_marks, thread_mappings_after, empty_thread_mappings, has_few_lines, have_marks, is_in_thread, is_mark, is_page_range, is_way, marks_fit}
 use Rattle.journal_model.specs.ScriptRules.{has_distinct_names, has_sizes, is_decl, is_script, is_turn_line}
 use Rattle.report_mappings.specs.Requests.{are_in_spaces, is_in_space}
 
@@ -46,7 +46,7 @@ module _ (script : Script) (decls : list_all (is_decl script.version) script.buf
   vunmap_fits : (va n : ℕ) → is_page_range va n ≡ true → (nat_le 1 n && nat_le (va + n) 1048576) ≡ true
   vunmap_fits va n h = grind (arith, nat_tests)
 
-  mark_fits : (d : Desk) (k : MarkKind) → is_mark script d k ≡ true → is_in_space k ≡ true
+  mark_fits : (d : ThreadMappings) (k : MarkKind) → is_mark script d k ≡ true → is_in_space k ≡ true
   mark_fits d (mark.Vmap va n b off) h = vmap_fits va n off (decl script b).pages (is_declared script b) (few_pages script.version script.buffers b.0 decls) h
   mark_fits d (mark.Vunmap va n) h = vunmap_fits va n h
   mark_fits d (mark.Map b) h = refl
@@ -54,7 +54,7 @@ module _ (script : Script) (decls : list_all (is_decl script.version) script.buf
   mark_fits d mark.Mapped h = refl
   mark_fits d (mark.Vsubmit ops) h = refl
 
-  way_fits : (d : Desk) (k : MarkKind) (cmd : Option Command) → is_way d k cmd ≡ true → is_in_space k ≡ true
+  way_fits : (d : ThreadMappings) (k : MarkKind) (cmd : Option Command) → is_way d k cmd ≡ true → is_in_space k ≡ true
   way_fits d (mark.Vmap va n b off) cmd h = cc
   way_fits d (mark.Vunmap va n) cmd h = cc
   way_fits d (mark.Map b) cmd h = refl
@@ -62,25 +62,25 @@ module _ (script : Script) (decls : list_all (is_decl script.version) script.buf
   way_fits d mark.Mapped cmd h = refl
   way_fits d (mark.Vsubmit ops) cmd h = refl
 
-  all_fit : (d : Desk) (ks : List MarkKind) (cmd : Option Command) → are_marks script d ks cmd ≡ true → list_all is_in_space ks ≡ true
+  all_fit : (d : ThreadMappings) (ks : List MarkKind) (cmd : Option Command) → are_marks script d ks cmd ≡ true → list_all is_in_space ks ≡ true
   all_fit d [] cmd h = refl
   all_fit d (k ∷ []) cmd h = and_from (is_in_space k) true (⊎_elim (mark_fits d k) (way_fits d k cmd) (or_cases (is_mark script d k) (is_way d k cmd) h)) refl
   all_fit d (k ∷ j ∷ ks) cmd h =
-      let p = and_parts (is_mark script d k) (are_marks script (desk_after d k) (j ∷ ks) cmd) h in
-      and_from (is_in_space k) (list_all is_in_space (j ∷ ks)) (mark_fits d k p.0) (all_fit (desk_after d k) (j ∷ ks) cmd p.1)
+      let p = and_parts (is_mark script d k) (are_marks script (thread_mappings_after d k) (j ∷ ks) cmd) h in
+      and_from (is_in_space k) (list_all is_in_space (j ∷ ks)) (mark_fits d k p.0) (all_fit (thread_mappings_after d k) (j ∷ ks) cmd p.1)
 
   -- ---- those of a thread
 
-  above_each : (t n : ℕ) (d : Desk) (cmds : List Command) (at : ℕ) → marks_fit script t n d cmds ≡ true → n ≤ at → at ≤ n + length cmds
+  above_each : (t n : ℕ) (d : ThreadMappings) (cmds : List Command) (at : ℕ) → marks_fit script t n d cmds ≡ true → n ≤ at → at ≤ n + length cmds
       → list_all is_in_space (marks_at script t at) ≡ true
   above_each t n d [] at h low high =
       let e : n ≡ at = omega (arith, low, high) in
       subst (λ m. list_all is_in_space (marks_at script t m) ≡ true) e (all_fit d (marks_at script t n) None h)
   above_each t n d (cmd ∷ cmds) at h low high =
-      let p = and_parts (are_marks script d (marks_at script t n) (Some cmd)) (marks_fit script t (n + 1) (fold desk_after d (marks_at script t n)) cmds) h in
+      let p = and_parts (are_marks script d (marks_at script t n) (Some cmd)) (marks_fit script t (n + 1) (fold thread_mappings_after d (marks_at script t n)) cmds) h in
       ⊎_elim
       (λ e. subst (λ m. list_all is_in_space (marks_at script t m) ≡ true) e (all_fit d (marks_at script t n) (Some cmd) p.0))
-      (λ ne. above_each t (n + 1) (fold desk_after d (marks_at script t n)) cmds at p.1 (grind arith) (omega (arith, high)))
+      (λ ne. above_each t (n + 1) (fold thread_mappings_after d (marks_at script t n)) cmds at p.1 (grind arith) (omega (arith, high)))
       (cases_eq n at)
 
   -- ---- each mark
@@ -122,7 +122,7 @@ module _ (script : Script) (decls : list_all (is_decl script.version) script.buf
           ∙ h)).0
 
   module _ (own : list_all (is_in_thread script) script.marks ≡ true)
-      (fit : list_all (λ t. marks_fit script t 0 empty_desk (commands_of script t)) (thread_numbers script) ≡ true) where
+      (fit : list_all (λ t. marks_fit script t 0 empty_thread_mappings (commands_of script t)) (thread_numbers script) ≡ true) where
     mark_at_fits : (i : ℕ) (m : Mark) → slice_get script.marks i ≡ Some m → is_in_thread script m ≡ true → is_in_space m.kind ≡ true
     mark_at_fits i m at h =
         let p = and_parts (is_between 1 (length script.threads) m.thread) (nat_le m.after (length (commands_of script m.thread))) h in
@@ -131,8 +131,8 @@ module _ (script : Script) (decls : list_all (is_decl script.version) script.buf
         let high = leb-true m.thread (length script.threads) q.1 in
         let last = leb-true m.after (length (commands_of script m.thread)) p.1 in
         kept_fits script.marks i m at
-        (above_each m.thread 0 empty_desk (commands_of script m.thread) m.after
-        (listed (λ t. marks_fit script t 0 empty_desk (commands_of script t)) (length script.threads) 1 m.thread fit low (omega (arith, high)))
+        (above_each m.thread 0 empty_thread_mappings (commands_of script m.thread) m.after
+        (listed (λ t. marks_fit script t 0 empty_thread_mappings (commands_of script t)) (length script.threads) 1 m.thread fit low (omega (arith, high)))
         (omega arith) (omega (arith, last)))
 
     from_each : (p q : Mark → Bool) (xs : List Mark) → list_all p xs ≡ true → ((i : ℕ) (m : Mark) → slice_get xs i ≡ Some m → p m ≡ true → q m ≡ true) → list_all q xs ≡ true
@@ -162,7 +162,7 @@ fits_spaces script h =
     let order = ((script.version == 2) || (length script.marks == 0)) && are_in_order script.marks in
     let own = list_all (is_in_thread script) script.marks in
     let few = list_all (has_few_lines script) (thread_numbers script) in
-    let fit = list_all (λ t. marks_fit script t 0 empty_desk (commands_of script t)) (thread_numbers script) in
+    let fit = list_all (λ t. marks_fit script t 0 empty_thread_mappings (commands_of script t)) (thread_numbers script) in
     let q = and_parts ((order && own) && few) fit p.1 in
     let r = and_parts (order && own) few q.0 in
     marks_in_spaces script (decls_of script p.0) (and_parts order own r.0).1 q.1

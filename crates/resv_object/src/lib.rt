@@ -17,9 +17,9 @@ pub struct Resv {
 }
 
 impl Model for Resv {
-    ghost use Rattle.resv_object.specs.Reservations.{Reservation};
+    ghost use Rattle.resv_object.specs.ReservationObjects.{ReservationObject};
 
-    ghost Value = { Reservation };
+    ghost Value = { ReservationObject };
 
     ghost view = { λ r. record { holder = r.holder; fences = r.fences } };
 }

@@ -22,11 +22,11 @@ use Rattle.journal_model.specs.Legal.{state_of}
 use Rattle.laws.proofs.law_owners.Accounts.{account_law}
 use Rattle.laws.proofs.law_state.GoodStates.{good_law}
 use Rattle.laws.proofs.law_sound.Along.{sound_law}
-use Rattle.room_ties.specs.declared.parts.Parts.{Parts}
-use Rattle.room_ties.specs.declared.parts.Ghost.{Ghost}
-use Rattle.room_ties.specs.Bos.{unfenced}
-use Rattle.room_ties.specs.Ghosts.{AreGhosts, IsGhost}
-use Rattle.room_ties.specs.Held.{AreHeld}
+use Rattle.room_representation.specs.declared.parts.Parts.{Parts}
+use Rattle.room_representation.specs.declared.parts.Ghost.{Ghost}
+use Rattle.room_representation.specs.Bos.{unfenced}
+use Rattle.room_representation.specs.Ghosts.{AreGhosts, IsGhost}
+use Rattle.room_representation.specs.Held.{AreHeld}
 use Rattle.room_accounts.specs.declared.counts.Holding.{Holding}
 use Rattle.room_accounts.specs.declared.counts.Holding.TheVariants.{Pages, Targets, Frames, Slots}
 use Rattle.room_accounts.specs.Amounts.{amount, amount_where_live, amount_of_ghost}
@@ -146,12 +146,12 @@ module _ (script : Script) (journal : List Entry) (p : Parts) (held : AreHeld sc
   -- what all buffers hold of it
   of_buffers : (what : Holding) → sum_by (amount_where_live what) p.bos.buffers ≡ sum_by (amount_where_live what) core.buffers
   of_buffers what =
-      ap (sum_by (amount_where_live what)) held.ties.bos.buffers_are
+      ap (sum_by (amount_where_live what)) held.represents.bos.buffers_are
       ∙ summed_seen (amount_where_live what) (amount_where_live what) (option_map unfenced) (unfenced_amount what) core.buffers
 
   -- and all ghosts
   of_ghosts : (what : Holding) → sum_by (amount_of_ghost what) p.ghosts ≡ sum_by (amount_in_state what) core.ghosts
-  of_ghosts what = ghost_sum what core.jobs (state_of script journal).last_jobs core.ghosts p.ghosts held.ties.ghosts
+  of_ghosts what = ghost_sum what core.jobs (state_of script journal).last_jobs core.ghosts p.ghosts held.represents.ghosts
 
   pub pages_are : (mem : Mem) (size : ℕ) → total (account_of mem script core) ≡ size → size < 2 ^ 32 → pages_counted mem size p ≡ account_of mem script core
   pages_are mem size t s =
@@ -182,19 +182,19 @@ module _ (script : Script) (journal : List Entry) (p : Parts) (held : AreHeld sc
 
   -- the buffers of the table are the declared ones
   pub many_buffers : length p.bos.buffers ≡ length script.buffers
-  many_buffers = ap length held.ties.bos.buffers_are ∙ same (option_map unfenced) core.buffers ∙ (good_law script held.fits journal held.legal).many
+  many_buffers = ap length held.represents.bos.buffers_are ∙ same (option_map unfenced) core.buffers ∙ (good_law script held.fits journal held.legal).many
     where
       same : {X Y : Type 0} (f : X → Y) (xs : List X) → length (map f xs) ≡ length xs
       same f [] = refl
       same f (x ∷ xs) = ap suc (same f xs)
 
   -- and can be lent
-  pub many_lent : length script.buffers ≤ length p.bos.grips
+  pub many_lent : length script.buffers ≤ length p.bos.reservations
   many_lent =
       let many = (good_law script held.fits journal held.legal).many in
-      let grips = (sound_law script journal held.fits held.legal).owned.grips in
-      let same = ap length held.ties.bos.grips_are in
-      omega (arith, many, grips, same)
+      let reservations = (sound_law script journal held.fits held.legal).owned.reservations in
+      let same = ap length held.represents.bos.reservations_are in
+      omega (arith, many, reservations, same)
 
 -- a script has few buffers
 pub few_buffers : (script : Script) → IsTrue (is_script script) → length script.buffers ≤ 256

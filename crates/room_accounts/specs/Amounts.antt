@@ -7,7 +7,7 @@ use Rattle.journal_model.specs.Places.{frames_of, slots_of}
 use Rattle.journal_model.specs.Holds.{spans_in}
 use Rattle.journal_model.specs.Account.{count_spans}
 use Rattle.bo_table.specs.declared.bo.Bo.{Bo}
-use Rattle.room_ties.specs.declared.parts.Ghost.{Ghost}
+use Rattle.room_representation.specs.declared.parts.Ghost.{Ghost}
 use Rattle.room_accounts.specs.declared.counts.Holding.{Holding}
 use Rattle.room_accounts.specs.declared.counts.Holding.TheVariants.{Pages, Targets, Frames, Slots}
 

@@ -2,7 +2,7 @@
 use Rattle.std.specs.Prelude.{ℕ, ◌+◌, ◌-◌, min, sum_by}
 use Rattle.ttm_base.specs.declared.Mem.{Mem}
 use Rattle.journal_model.specs.Account.{Account}
-use Rattle.room_ties.specs.declared.parts.Parts.{Parts}
+use Rattle.room_representation.specs.declared.parts.Parts.{Parts}
 use Rattle.room_accounts.specs.declared.counts.Holding.{Holding}
 use Rattle.room_accounts.specs.declared.counts.Holding.TheVariants.{Pages, Targets, Frames, Slots}
 use Rattle.room_accounts.specs.Amounts.{amount_where_live, amount_of_ghost}

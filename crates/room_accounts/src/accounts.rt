@@ -2,12 +2,12 @@ ghost use Rattle.std.specs.Prelude.{◌≡◌, ◌≤◌, length};
 ghost use Rattle.journal_model.specs.Legal.{state_of};
 ghost use Rattle.report_text.specs.Accounts.{AreAccountsOf, told};
 ghost use Rattle.room_accounts.specs.Counted.{counted, pages_counted, frames_counted, slots_counted};
-ghost use Rattle.room_ties.specs.Held.{AreHeld};
+ghost use Rattle.room_representation.specs.Held.{AreHeld};
 
 use crate::counts::{Holding, count_buffers, count_ghosts};
 use journal_model::{Entry, Script};
 use report_text::{Account, Accounts};
-use room_ties::Parts;
+use room_representation::Parts;
 use ttm_base::Mem;
 
 /// What isn't held is free.
@@ -26,7 +26,7 @@ fn account(size: u32, live: u64, target: u64, ghosts: u64) -> Account
 /// The pages of VRAM or TT.
 fn pages_of(mem: Mem, size: u32, parts: &Parts, many: u32) -> Account
     requires all { length parts.now.bos.buffers ≡ many }
-    requires lent { many ≤ length parts.now.bos.grips }
+    requires lent { many ≤ length parts.now.bos.reservations }
     ensures { told result ≡ pages_counted mem size parts.now }
 {
     let live = count_buffers(Holding::Pages(mem), &parts.bos, many);
@@ -38,7 +38,7 @@ fn pages_of(mem: Mem, size: u32, parts: &Parts, many: u32) -> Account
 /// The frames.
 fn frames_of(size: u32, parts: &Parts, many: u32) -> Account
     requires all { length parts.now.bos.buffers ≡ many }
-    requires lent { many ≤ length parts.now.bos.grips }
+    requires lent { many ≤ length parts.now.bos.reservations }
     ensures { told result ≡ frames_counted size parts.now }
 {
     let live = count_buffers(Holding::Frames, &parts.bos, many);
@@ -49,7 +49,7 @@ fn frames_of(size: u32, parts: &Parts, many: u32) -> Account
 /// The slots.
 fn slots_of(size: u32, parts: &Parts, many: u32) -> Account
     requires all { length parts.now.bos.buffers ≡ many }
-    requires lent { many ≤ length parts.now.bos.grips }
+    requires lent { many ≤ length parts.now.bos.reservations }
     ensures { told result ≡ slots_counted size parts.now }
 {
     account(size, count_buffers(Holding::Slots, &parts.bos, many), 0, 0)

@@ -8,7 +8,7 @@ ghost use Rattle.room_accounts.specs.Amounts.{amount, amount_where_live, amount_
 
 use bo_table::{Bo, BoTable};
 use journal_model::Targets;
-use room_ties::Ghost;
+use room_representation::Ghost;
 use state_words::{length_of, same_mem, slot_of, target_of};
 use ttm_base::{BufId, Loc, Mem, Span};
 
@@ -76,7 +76,7 @@ fn count_in(what: Holding, bo: &Bo) -> u64
 /// How much all of so many buffers have of it, as far as 64 bits hold it.
 pub(crate) fn count_buffers(what: Holding, bos: &BoTable, many: u32) -> u64
     requires all { length bos.now.buffers ≡ many }
-    requires lent { many ≤ length bos.now.grips }
+    requires lent { many ≤ length bos.now.reservations }
     ensures { result ≡ min (sum_by (amount_where_live what) bos.now.buffers) 18446744073709551615 }
 {
     let mut count = 0u64;

@@ -20,13 +20,13 @@ use Rattle.journal_model.specs.declared.script.Command.TheVariants as command
 use Rattle.journal_model.specs.declared.state.State.{State}
 use Rattle.journal_model.specs.declared.state.Buffer.{Buffer}
 use Rattle.journal_model.specs.declared.state.Course.{Course}
-use Rattle.journal_model.specs.declared.state.Grip.{Grip}
+use Rattle.journal_model.specs.declared.state.Reservation.{Reservation}
 use Rattle.journal_model.specs.declared.state.Task.{Task}
 use Rattle.journal_model.specs.declared.entry.Entry.{Entry}
 use Rattle.journal_model.specs.declared.entry.Kind.{Kind}
 use Rattle.journal_model.specs.declared.entry.Kind.TheVariants as kind
 use Rattle.journal_model.specs.declared.entry.Shown.{Shown}
-use Rattle.journal_model.specs.State.{buffer, course, grip, grip_in, has_buffer, live_in, new_buffer}
+use Rattle.journal_model.specs.State.{buffer, course, reservation, reservation_in, has_buffer, live_in, new_buffer}
 use Rattle.journal_model.specs.ApplyCommands.{held_as_named, on_to_next, released, with_pins}
 use Rattle.journal_model.specs.Commands.{command_at_work, decl, named}
 use Rattle.journal_model.specs.CommandRules.{is_command}
@@ -49,24 +49,24 @@ use Rattle.laws.proofs.law_sound.Bufs.{has_new, none_missing}
 use Rattle.laws.proofs.law_sound.Gifts.{Gives, answers, acts, seeks, fills}
 use Rattle.laws.proofs.law_sound.Turns.{Turn, Works, answer, act}
 use Rattle.laws.specs.lemma_bytes_told.Told.{IsThere}
-use Rattle.room_ties.specs.lemma_room_bytes.Mapped.{HasStoresAfter}
-use Rattle.room_ties.proofs.lemma_room_bytes.Places.{IsReached, page_there}
-use Rattle.room_ties.proofs.lemma_room_bytes.Reached.{write_reached, write_ready}
-use Rattle.room_ties.proofs.lemma_room_bytes.Writes.{result_stores, write_stores}
-use Rattle.room_ties.proofs.lemma_room_jobs.Packets.{nothing_beyond}
-use Rattle.room_ties.specs.lemma_room_lists.Listed.{AreListed, listing_as}
-use Rattle.room_ties.proofs.lemma_room_lists.KindLaws.{released_unseen}
-use Rattle.room_ties.proofs.lemma_room_lists.ScriptLaws.{may_be_listed}
-use Rattle.room_ties.specs.declared.parts.Parts.{Parts}
-use Rattle.room_ties.specs.Bos.{AreBos, unfenced}
-use Rattle.room_ties.specs.Held.{AreHeld}
-use Rattle.room_ties.specs.Pages.{AreStores}
-use Rattle.room_ties.specs.Ties.{Ties}
+use Rattle.room_representation.specs.lemma_room_bytes.Mapped.{HasStoresAfter}
+use Rattle.room_representation.proofs.lemma_room_bytes.Places.{IsReached, page_there}
+use Rattle.room_representation.proofs.lemma_room_bytes.Reached.{write_reached, write_ready}
+use Rattle.room_representation.proofs.lemma_room_bytes.Writes.{result_stores, write_stores}
+use Rattle.room_representation.proofs.lemma_room_jobs.Packets.{nothing_beyond}
+use Rattle.room_representation.specs.lemma_room_lists.Listed.{AreListed, listing_as}
+use Rattle.room_representation.proofs.lemma_room_lists.KindLaws.{released_unseen}
+use Rattle.room_representation.proofs.lemma_room_lists.ScriptLaws.{may_be_listed}
+use Rattle.room_representation.specs.declared.parts.Parts.{Parts}
+use Rattle.room_representation.specs.Bos.{AreBos, unfenced}
+use Rattle.room_representation.specs.Held.{AreHeld}
+use Rattle.room_representation.specs.Pages.{AreStores}
+use Rattle.room_representation.specs.Represents.{Represents}
 use Rattle.state_words.proofs.Pins.{pins-released}
-use Rattle.room_ties.specs.room_steps.Courses.{command_in, course_at, course_in, with_course_by}
-use Rattle.room_ties.proofs.room_steps.Few.{few_commands}
-use Rattle.room_ties.proofs.room_steps.Lent.{is_below, is_there, lent_below, stands_at}
-use Rattle.room_ties.proofs.room_steps.Steps.{held_after}
+use Rattle.room_representation.specs.room_steps.Courses.{command_in, course_at, course_in, with_course_by}
+use Rattle.room_representation.proofs.room_steps.Few.{few_commands}
+use Rattle.room_representation.proofs.room_steps.Lent.{is_below, is_there, lent_below, stands_at}
+use Rattle.room_representation.proofs.room_steps.Steps.{held_after}
 use Rattle.room_jobs.specs.Bodies.{body_at}
 use Rattle.room_jobs.specs.Listings.{AreRelisted, CanRelist}
 use Rattle.room_jobs.specs.Writes.{CanWrite, HasWritten}
@@ -109,16 +109,16 @@ write_range : (script : Script) (b : BufId) (off : ℕ) (values : List ℕ) → 
 write_range script b off values h = record { short = grind (arith, nat_tests); inside = grind (arith, nat_tests) }
 
 -- an unpinned buffer has a pin
-unpin_some : (s : State) (b : BufId) → forbidden s (command.Unpin b) ≡ None → 0 < (grip s b).pins
-unpin_some s b h = by (grip s b).pins h
+unpin_some : (s : State) (b : BufId) → forbidden s (command.Unpin b) ≡ None → 0 < (reservation s b).pins
+unpin_some s b h = by (reservation s b).pins h
   where
     by : (n : ℕ) → ◌≡◌ {A = Option _} (if n == 0 then Some deny.NotPinned else None) None → 0 < n
     by n h = grind (arith, nat_tests)
 
 -- letting go keeps how many buffers there are
-length_released : (bs : List BufId) (grips : List Grip) → length (released grips bs) ≡ length grips
-length_released [] grips = refl
-length_released (b ∷ bs) grips = length_released bs _ ∙ length-set grips b.0 _
+length_released : (bs : List BufId) (reservations : List Reservation) → length (released reservations bs) ≡ length reservations
+length_released [] reservations = refl
+length_released (b ∷ bs) reservations = length_released bs _ ∙ length-set reservations b.0 _
 
 -- ---- the entry
 
@@ -137,10 +137,10 @@ module _ (script : Script) (journal : List Entry) (p : Parts) (entry : Entry) (t
 
   -- the thread is there, and at a command; its commands can be counted
   pub answer_there : IsSome (course_at p.courses t)
-  answer_there = subst (λ (cs : List Course). IsSome (course_at cs t)) (sym held.ties.courses) stepped.here
+  answer_there = subst (λ (cs : List Course). IsSome (course_at cs t)) (sym held.represents.courses) stepped.here
 
   command_is : command_in script p.courses t ≡ Some stepped.step.cmd
-  command_is = ap (λ cs. command_in script cs t) held.ties.courses ∙ stepped.at
+  command_is = ap (λ cs. command_in script cs t) held.represents.courses ∙ stepped.at
 
   pub answer_command : IsSome (command_in script p.courses t)
   answer_command = subst (λ (o : Option Command). IsSome o) (sym command_is) refl
@@ -149,7 +149,7 @@ module _ (script : Script) (journal : List Entry) (p : Parts) (entry : Entry) (t
   answer_room =
       let few = few_commands script held.fits t in
       let inside = ((sound_law script journal held.fits held.legal).owned.steady t).answered in
-      let same = ap (λ (cs : List Course). (course_in cs t).answered) held.ties.courses in
+      let same = ap (λ (cs : List Course). (course_in cs t).answered) held.represents.courses in
       omega (arith, few, inside, same)
 
   module _ (cmd : Command) (at : command_in script p.courses t ≡ Some cmd) where
@@ -177,7 +177,7 @@ module _ (script : Script) (journal : List Entry) (p : Parts) (entry : Entry) (t
     in_table : live_in p.bos.buffers b ≡ Some (unfenced (buffer s b))
     in_table =
         ap (option_and_then (λ x. x))
-        (ap (λ xs. slice_get xs b.0) held.ties.bos.buffers_are ∙ get_map (option_map unfenced) s.core.buffers b.0 ∙ ap (option_map (option_map unfenced)) (stands_at s.core.buffers b (buffer s b) live))
+        (ap (λ xs. slice_get xs b.0) held.represents.bos.buffers_are ∙ get_map (option_map unfenced) s.core.buffers b.0 ∙ ap (option_map (option_map unfenced)) (stands_at s.core.buffers b (buffer s b) live))
 
     body_is : body_at p.bos b ≡ unfenced (buffer s b)
     body_is = ap (λ (o : Option Buffer). unwrap_or o (new_buffer 0)) in_table
@@ -195,18 +195,18 @@ module _ (script : Script) (journal : List Entry) (p : Parts) (entry : Entry) (t
       let live = is_live (command.Unpin b) (at ∙ ap Some e) b refl (has_new [] b) in
       let inside = below b live in
       let many = (good_law script held.fits journal held.legal).many in
-      let room = held.ties.lists.room_is in
+      let room = held.represents.lists.room_is in
       record {
         live = is_body b live;
         below = lent_below script journal p held b live;
         declared = omega (arith, inside, many);
         known = omega (arith, inside, room);
         absent = λ one.
-            held.ties.lists.listings_are b
-            ∙ ap (λ n. listing_as script b n (live_in s.core.buffers b)) (ap (λ (gs : List Grip). (grip_in gs b).pins) (sym held.ties.bos.grips_are) ∙ one)
+            held.represents.lists.listings_are b
+            ∙ ap (λ n. listing_as script b n (live_in s.core.buffers b)) (ap (λ (gs : List Reservation). (reservation_in gs b).pins) (sym held.represents.bos.reservations_are) ∙ one)
             ∙ ap (listing_as script b 1) live;
         prio = (may_be_listed script b held.fits).prio;
-        group = subst (λ n. IsGroup n (decl script b).group) (sym held.ties.lists.groups_are) (may_be_listed script b held.fits).group;
+        group = subst (λ n. IsGroup n (decl script b).group) (sym held.represents.lists.groups_are) (may_be_listed script b held.fits).group;
       }
 
   table_long : (b : BufId) → IsThere s b → length (buffer s b).table ≡ (decl script b).pages
@@ -232,38 +232,38 @@ module _ (script : Script) (journal : List Entry) (p : Parts) (entry : Entry) (t
         pages = λ i l.
             let at_page = reached b off values work i l in
             subst (HasPageOf p.stores) (sym (ap (λ (x : Buffer). page_at x i) (body_is b live) ∙ page_unfenced (buffer s b) i))
-            (page_there script s.core (once_law script journal held.fits held.legal) b i (aperture s.core) (stores_of script journal) p.stores held.ties.stores (page_at (buffer s b) i) refl at_page.within at_page.some);
+            (page_there script s.core (once_law script journal held.fits held.legal) b i (aperture s.core) (stores_of script journal) p.stores held.represents.stores (page_at (buffer s b) i) refl at_page.within at_page.some);
       }
 
-  pub answer_pins : (cmd : Command) (bos : Bos) → command_in script p.courses t ≡ Some cmd → bos ≡ record p.bos { grips = released p.bos.grips (course_in p.courses t).held } → (b : BufId) → cmd ≡ command.Pin b →
-      (grip_in bos.grips b).pins < 255
+  pub answer_pins : (cmd : Command) (bos : Bos) → command_in script p.courses t ≡ Some cmd → bos ≡ record p.bos { reservations = released p.bos.reservations (course_in p.courses t).held } → (b : BufId) → cmd ≡ command.Pin b →
+      (reservation_in bos.reservations b).pins < 255
   answer_pins cmd bos at g b e =
-      let few : (grip_in s.grips b).pins < 255 = subst (HasPinLeft s.grips) (at_work (command.Pin b) (at ∙ ap Some e)) (result_pins script s t step.0 (courses_law script journal held.legal) stepped.step) in
-      let same : (grip_in bos.grips b).pins ≡ (grip_in s.grips b).pins =
-      ap (λ (x : Bos). (grip_in x.grips b).pins) g ∙ pins-released p.bos.grips (course_in p.courses t).held b ∙ ap (λ (gs : List Grip). (grip_in gs b).pins) held.ties.bos.grips_are in
+      let few : (reservation_in s.reservations b).pins < 255 = subst (HasPinLeft s.reservations) (at_work (command.Pin b) (at ∙ ap Some e)) (result_pins script s t step.0 (courses_law script journal held.legal) stepped.step) in
+      let same : (reservation_in bos.reservations b).pins ≡ (reservation_in s.reservations b).pins =
+      ap (λ (x : Bos). (reservation_in x.reservations b).pins) g ∙ pins-released p.bos.reservations (course_in p.courses t).held b ∙ ap (λ (gs : List Reservation). (reservation_in gs b).pins) held.represents.bos.reservations_are in
       omega (arith, few, same)
 
   -- ---- behind it
 
-  room_for : (b : BufId) → IsThere s b → b.0 < length (released s.grips (course s t).held)
+  room_for : (b : BufId) → IsThere s b → b.0 < length (released s.reservations (course s t).held)
   room_for b live =
       let inside = below b live in
-      let many = (sound_law script journal held.fits held.legal).owned.grips in
-      let same = length_released (course s t).held s.grips in
+      let many = (sound_law script journal held.fits held.legal).owned.reservations in
+      let same = length_released (course s t).held s.reservations in
       omega (arith, inside, many, same)
 
-  is_held_for : (cmd : Command) → command_in script p.courses t ≡ Some cmd → IsHeldFor p.bos s.core.buffers (released s.grips (course s t).held) (course s t).held cmd
+  is_held_for : (cmd : Command) → command_in script p.courses t ≡ Some cmd → IsHeldFor p.bos s.core.buffers (released s.reservations (course s t).held) (course s t).held cmd
   is_held_for (command.Pin b) at = (is_held (command.Pin b) at b refl (has_new [] b), room_for b (is_live (command.Pin b) at b refl (has_new [] b)))
   is_held_for (command.Unpin b) at =
       let live = is_live (command.Unpin b) at b refl (has_new [] b) in
-      let pins = pins-released s.grips (course s t).held b in (
+      let pins = pins-released s.reservations (course s t).held b in (
         is_held (command.Unpin b) at b refl (has_new [] b),
         room_for b live,
         record {
           buffer = buffer s b;
           live = live;
           mem = ap (λ (x : Buffer). x.mem) (body_is b live);
-          pins = ap (λ (gs : List Grip). (grip_in gs b).pins) held.ties.bos.grips_are ∙ sym pins;
+          pins = ap (λ (gs : List Reservation). (reservation_in gs b).pins) held.represents.bos.reservations_are ∙ sym pins;
           some = subst (λ n. 0 < n) (sym pins) (unpin_some s b (acting (command.Unpin b) at refl).allowed);
           below = below b live;
         },
@@ -281,7 +281,7 @@ module _ (script : Script) (journal : List Entry) (p : Parts) (entry : Entry) (t
   unwritten cmd at never st is =
       result_stores script s (stores_of script journal) (actor.Thread t) r st
       (λ b off values e. never b off values (let both : Some cmd ≡ Some (command.Write b off values) = sym (at_work cmd at) ∙ e in cc))
-      (subst (λ x. AreStores script.sizes (aperture s.core) (stores_of script journal) x) (sym is) held.ties.stores)
+      (subst (λ x. AreStores script.sizes (aperture s.core) (stores_of script journal) x) (sym is) held.represents.stores)
 
   written_stores : (cmd : Command) → command_in script p.courses t ≡ Some cmd → (st : Stores) → HasWritten p.bos cmd p.stores st → HasStoresAfter script s (stores_of script journal) (actor.Thread t) (kind.Result r) st
   written_stores (command.Write b off values) at st h =
@@ -289,7 +289,7 @@ module _ (script : Script) (journal : List Entry) (p : Parts) (entry : Entry) (t
       let live = (write_ready script journal held.fits held.legal t r b off values legal_as work).live in
       write_stores script s (stores_of script journal) (actor.Thread t) r st b off values work
       (subst (λ (x : PageBytes). AreStores script.sizes (aperture s.core) x st) (ap (λ x. put_bytes x off values (stores_of script journal)) (body_is b live) ∙ put_unfenced (buffer s b) off values (stores_of script journal))
-      (h script.sizes (aperture s.core) (stores_of script journal) held.ties.stores))
+      (h script.sizes (aperture s.core) (stores_of script journal) held.represents.stores))
   written_stores (command.New c) at st h = unwritten (command.New c) at (λ b off values e. cc) st h
   written_stores (command.Free c) at st h = unwritten (command.Free c) at (λ b off values e. cc) st h
   written_stores (command.Pin c) at st h = unwritten (command.Pin c) at (λ b off values e. cc) st h
@@ -302,37 +302,37 @@ module _ (script : Script) (journal : List Entry) (p : Parts) (entry : Entry) (t
   written_stores (command.Submit engine ops) at st h = unwritten (command.Submit engine ops) at (λ b off values e. cc) st h
 
   pub answer_held : (cmd : Command) (courses : List Course) (bos : Bos) (o : Order) (st : Stores) → command_in script p.courses t ≡ Some cmd → AreRelisted script p.bos (course_in p.courses t).held cmd p.lru o → HasWritten p.bos cmd p.stores st →
-      bos ≡ record p.bos { grips = with_pins (Some cmd) (released p.bos.grips (course_in p.courses t).held) } → courses ≡ with_course_by on_to_next p.courses t → AreMembersListed p.lru →
+      bos ≡ record p.bos { reservations = with_pins (Some cmd) (released p.bos.reservations (course_in p.courses t).held) } → courses ≡ with_course_by on_to_next p.courses t → AreMembersListed p.lru →
       AreHeld script (journal ++ entry ∷ []) (record p { courses = courses; bos = bos; lru = o; stores = st })
   answer_held cmd courses bos o st at l w g c members =
       let world = world_of script journal in
-      let ties = held.ties in
+      let represents = held.represents in
       let q : Parts = record p { courses = courses; bos = bos; lru = o; stores = st } in
       let work = at_work cmd at in
-      let gs = released s.grips (course s t).held in
-      let table : bos ≡ record p.bos { grips = with_pins (command_at_work script s t) (released s.grips (course s t).held) } =
-      g ∙ ap (λ (x : List Grip). record p.bos { grips = with_pins (Some cmd) (released x (course_in p.courses t).held) }) ties.bos.grips_are
-      ∙ ap (λ (cs : List Course). record p.bos { grips = with_pins (Some cmd) (released s.grips (course_in cs t).held) }) ties.courses
-      ∙ ap (λ (a : Option Command). record p.bos { grips = with_pins a (released s.grips (course s t).held) }) (sym work) in
-      let relisted = subst (λ (cs : List Course). AreRelisted script p.bos (course_in cs t).held cmd p.lru o) ties.courses l in
-      let listed = answered_lists script s.core.buffers gs s.lists p.lru o p.bos (course s t) (released_unseen script s.core.buffers s.grips s.lists p.lru (course s t).held ties.lists) members cmd (is_held_for cmd at) relisted in
+      let gs = released s.reservations (course s t).held in
+      let table : bos ≡ record p.bos { reservations = with_pins (command_at_work script s t) (released s.reservations (course s t).held) } =
+      g ∙ ap (λ (x : List Reservation). record p.bos { reservations = with_pins (Some cmd) (released x (course_in p.courses t).held) }) represents.bos.reservations_are
+      ∙ ap (λ (cs : List Course). record p.bos { reservations = with_pins (Some cmd) (released s.reservations (course_in cs t).held) }) represents.courses
+      ∙ ap (λ (a : Option Command). record p.bos { reservations = with_pins a (released s.reservations (course s t).held) }) (sym work) in
+      let relisted = subst (λ (cs : List Course). AreRelisted script p.bos (course_in cs t).held cmd p.lru o) represents.courses l in
+      let listed = answered_lists script s.core.buffers gs s.lists p.lru o p.bos (course s t) (released_unseen script s.core.buffers s.reservations s.lists p.lru (course s t).held represents.lists) members cmd (is_held_for cmd at) relisted in
       held_after script journal p q entry held legal
-      (subst (λ (y : Entry). Ties script (world_after script world y).state (world_after script world y).stores q) (sym is)
+      (subst (λ (y : Entry). Represents script (world_after script world y).state (world_after script world y).stores q) (sym is)
       (record {
         bos = subst (λ x. AreBos script s.core.buffers (with_pins (command_at_work script s t) gs) s.last_jobs x) (sym table)
-            (record { buffers_are = ties.bos.buffers_are; grips_are = refl; fences_are = ties.bos.fences_are; pages_are = ties.bos.pages_are });
-        line = ties.line;
-        rings = ties.rings;
-        ghosts = ties.ghosts;
-        vram = ties.vram;
-        tt = ties.tt;
-        pool = ties.pool;
-        swap = slots_kept script.sizes (held_slots s.core) (stores_of script journal) (written s (command_at_work script s t) (stores_of script journal)) p.swap ties.no_more
-            (λ k o. ap (λ (a : Option Command). written s a (stores_of script journal) (slot k) o) work ∙ slots_same cmd at k o) ties.swap;
+            (record { buffers_are = represents.bos.buffers_are; reservations_are = refl; fences_are = represents.bos.fences_are; pages_are = represents.bos.pages_are });
+        line = represents.line;
+        rings = represents.rings;
+        ghosts = represents.ghosts;
+        vram = represents.vram;
+        tt = represents.tt;
+        pool = represents.pool;
+        swap = slots_kept script.sizes (held_slots s.core) (stores_of script journal) (written s (command_at_work script s t) (stores_of script journal)) p.swap represents.no_more
+            (λ k o. ap (λ (a : Option Command). written s a (stores_of script journal) (slot k) o) work ∙ slots_same cmd at k o) represents.swap;
         stores = written_stores cmd at st w;
         lists = subst (λ (a : Option Command). AreListed script s.core.buffers (with_pins a gs) (fold (touched script s.core.buffers (with_pins a gs)) s.lists (held_as_named (course s t) a)) o) (sym work) listed;
-        courses = c ∙ ap (λ cs. with_course_by on_to_next cs t) ties.courses;
-        stamp = ties.stamp;
-        ghost = ties.ghost;
+        courses = c ∙ ap (λ cs. with_course_by on_to_next cs t) represents.courses;
+        stamp = represents.stamp;
+        ghost = represents.ghost;
         no_more = nothing_beyond script.sizes (stores_after script s (actor.Thread t) (kind.Result r) (stores_of script journal));
       }))

@@ -44,19 +44,19 @@ use Rattle.laws.proofs.law_counters.Law.{counters_law}
 use Rattle.laws.proofs.law_transparent.Carried.{told_law}
 use Rattle.laws.specs.lemma_bytes_told.Told as told
 use Rattle.laws.specs.lemma_bytes_told.Told.{IsThere, Told}
-use Rattle.room_ties.specs.declared.parts.Parts.{Parts}
-use Rattle.room_ties.specs.Fences.{AreFences, WaitsFor, fences_of, is_emitted, with_use_in}
-use Rattle.room_ties.specs.Held.{AreHeld}
-use Rattle.room_ties.specs.Ties.{Ties}
-use Rattle.room_ties.proofs.lemma_room_jobs.Later.{IsLater, fences_later}
-use Rattle.room_ties.proofs.lemma_room_jobs.Lists.{both}
-use Rattle.room_ties.proofs.lemma_room_jobs.Sets.{fences_armed, set_length, waits_armed, waits_length, waits_none}
-use Rattle.room_ties.proofs.lemma_room_jobs.Armed.{armed_job, armed_tied}
-use Rattle.room_ties.proofs.lemma_room_jobs.Emitted.{emitted_now, later_more}
-use Rattle.room_ties.proofs.lemma_room_jobs.LegalJobs.{arm_number}
-use Rattle.room_ties.specs.room_steps.Courses.{course_at, course_in, with_course_by}
-use Rattle.room_ties.proofs.room_steps.Lent.{lent_below}
-use Rattle.room_ties.proofs.room_steps.Steps.{held_still, step_as, thread_there}
+use Rattle.room_representation.specs.declared.parts.Parts.{Parts}
+use Rattle.room_representation.specs.Fences.{AreFences, WaitsFor, fences_of, is_emitted, with_use_in}
+use Rattle.room_representation.specs.Held.{AreHeld}
+use Rattle.room_representation.specs.Represents.{Represents}
+use Rattle.room_representation.proofs.lemma_room_jobs.Later.{IsLater, fences_later}
+use Rattle.room_representation.proofs.lemma_room_jobs.Lists.{both}
+use Rattle.room_representation.proofs.lemma_room_jobs.Sets.{fences_armed, set_length, waits_armed, waits_length, waits_none}
+use Rattle.room_representation.proofs.lemma_room_jobs.Armed.{armed_job, armed_represented}
+use Rattle.room_representation.proofs.lemma_room_jobs.Emitted.{emitted_now, later_more}
+use Rattle.room_representation.proofs.lemma_room_jobs.LegalJobs.{arm_number}
+use Rattle.room_representation.specs.room_steps.Courses.{course_at, course_in, with_course_by}
+use Rattle.room_representation.proofs.room_steps.Lent.{lent_below}
+use Rattle.room_representation.proofs.room_steps.Steps.{held_still, step_as, thread_there}
 use Rattle.room_jobs.specs.Standing.{standing_names}
 use Rattle.room_jobs.specs.Uses.{AreWide, HaveContext, with_uses, with_waits}
 use Rattle.room_jobs.specs.Work.{work_of}
@@ -151,7 +151,7 @@ module _ (script : Script) (journal : List Entry) (p : Parts) (entry : Entry) (t
 
   -- courses tell the command at work
   work_is : work_of script p.courses t ≡ cmd
-  work_is = ap (λ cs. work_of script cs t) held.ties.courses
+  work_is = ap (λ cs. work_of script cs t) held.represents.courses
 
   -- each buffer that it names is live
   named_there : (b : BufId) → has_buffer (named_in cmd) b ≡ true → IsThere s b
@@ -163,7 +163,7 @@ module _ (script : Script) (journal : List Entry) (p : Parts) (entry : Entry) (t
 
   -- the sets of jobs are those of the buffers
   sets : AreFences s.last_jobs s.core.buffers p.bos.fences
-  sets = held.ties.bos.fences_are
+  sets = held.represents.bos.fences_are
 
   -- each for all contexts
   wide : AreWide (length s.last_jobs) p.bos.fences
@@ -177,17 +177,17 @@ module _ (script : Script) (journal : List Entry) (p : Parts) (entry : Entry) (t
   pub arm_there : IsSome (course_at p.courses t)
   arm_there = thread_there script journal p held t (kind.Arm engine n) entry is legal refl
 
-  pub arm_declared : (o : Option Command) (bs : List BufId) → o ≡ work_of script p.courses t → bs ≡ named_in o → All (λ b. b.0 < length p.bos.grips) bs
+  pub arm_declared : (o : Option Command) (bs : List BufId) → o ≡ work_of script p.courses t → bs ≡ named_in o → All (λ b. b.0 < length p.bos.reservations) bs
   arm_declared o bs w e k d l =
       let same : bs ≡ named_in cmd = e ∙ ap named_in (w ∙ work_is) in
       let b = slice_index_or bs k d in
       lent_below script journal p held b (named_there b (ap (λ ds. has_buffer ds b) (sym same) ∙ has_each bs k d l))
 
   pub arm_wide : (contexts : ℕ) → contexts ≡ length p.line → AreWide contexts p.bos.fences
-  arm_wide contexts c i set e = wide i set e ∙ sym (c ∙ held.ties.line.contexts)
+  arm_wide contexts c i set e = wide i set e ∙ sym (c ∙ held.represents.line.contexts)
 
   pub arm_ring : engine < length p.rings
-  arm_ring = let same = held.ties.rings.contexts in let k = known in omega (arith, same, k)
+  arm_ring = let same = held.represents.rings.contexts in let k = known in omega (arith, same, k)
 
   pub arm_num : 0 < n
   arm_num = let num = number in omega (arith, num)
@@ -197,7 +197,7 @@ module _ (script : Script) (journal : List Entry) (p : Parts) (entry : Entry) (t
       set ≡ with_waits ops p.bos.fences (replicate contexts nothing_kept) bs → WaitsFor s.core.jobs s.last_jobs (flat_map (jobs_before_use s.core (ops_of cmd)) (named_in cmd)) set
   waits o ops bs contexts set w oe be c e =
       let same : set ≡ with_waits (ops_of cmd) p.bos.fences (replicate (length s.last_jobs) nothing_kept) (named_in cmd) =
-      e ∙ ap (λ k. with_waits ops p.bos.fences (replicate k nothing_kept) bs) (c ∙ held.ties.line.contexts)
+      e ∙ ap (λ k. with_waits ops p.bos.fences (replicate k nothing_kept) bs) (c ∙ held.represents.line.contexts)
       ∙ ap₂ (λ os ds. with_waits os p.bos.fences (replicate (length s.last_jobs) nothing_kept) ds) (oe ∙ ap ops_of (w ∙ work_is)) (be ∙ ap named_in (w ∙ work_is)) in
       subst (λ x. WaitsFor s.core.jobs s.last_jobs (flat_map (jobs_before_use s.core (ops_of cmd)) (named_in cmd)) x) (sym same)
       (waits_armed s.core s.last_jobs p.bos.fences sets (ops_of cmd) (named_in cmd) named_live [] (replicate (length s.last_jobs) nothing_kept) (waits_none s.core.jobs s.last_jobs))
@@ -205,11 +205,11 @@ module _ (script : Script) (journal : List Entry) (p : Parts) (entry : Entry) (t
   pub arm_waits : (o : Option Command) (ops : List Op) (bs : List BufId) (contexts : ℕ) (set : List Latest) → o ≡ work_of script p.courses t → ops ≡ ops_of o → bs ≡ named_in o → contexts ≡ length p.line →
       set ≡ with_waits ops p.bos.fences (replicate contexts nothing_kept) bs → length set ≡ length p.rings
   arm_waits o ops bs contexts set w oe be c e =
-      waits_length s.core.jobs s.last_jobs (flat_map (jobs_before_use s.core (ops_of cmd)) (named_in cmd)) set (waits o ops bs contexts set w oe be c e) ∙ sym held.ties.rings.contexts
+      waits_length s.core.jobs s.last_jobs (flat_map (jobs_before_use s.core (ops_of cmd)) (named_in cmd)) set (waits o ops bs contexts set w oe be c e) ∙ sym held.represents.rings.contexts
 
   -- its packets
   names : standing_names p.bos ≡ (λ b. packet_place (buffer_in s.core b))
-  names = names_same s.core p.bos held.ties.bos.buffers_are (ap length held.ties.bos.grips_are ∙ (sound_law script journal held.fits held.legal).owned.grips)
+  names = names_same s.core p.bos held.represents.bos.buffers_are (ap length held.represents.bos.reservations_are ∙ (sound_law script journal held.fits held.legal).owned.reservations)
 
   -- are those of the state
   packets_are : (o : Option Command) (ops : List Op) (packets : List Packet) → o ≡ work_of script p.courses t → ops ≡ ops_of o → packets ≡ packets_of (standing_names p.bos) ops →
@@ -225,11 +225,11 @@ module _ (script : Script) (journal : List Entry) (p : Parts) (entry : Entry) (t
       omega (arith, long, few, most)
 
   pub arm_known : engine < length p.line
-  arm_known = let same = held.ties.line.contexts in let k = known in omega (arith, same, k)
+  arm_known = let same = held.represents.line.contexts in let k = known in omega (arith, same, k)
 
   pub arm_emitted : (progress_of p.line engine).emitted < 2 ^ 63
   arm_emitted =
-      subst (λ m. m < 2 ^ 63) (sym (ap (λ (x : Progress). x.emitted) (held.ties.line.each engine known))) ((counters_law script journal held.fits held.legal).jobs engine)
+      subst (λ m. m < 2 ^ 63) (sym (ap (λ (x : Progress). x.emitted) (held.represents.line.each engine known))) ((counters_law script journal held.fits held.legal).jobs engine)
 
   pub arm_context : HaveContext engine p.bos.fences
   arm_context i set e = let l = wide i set e in let k = known in omega (arith, l, k)
@@ -254,18 +254,18 @@ module _ (script : Script) (journal : List Entry) (p : Parts) (entry : Entry) (t
       (fences_later s.core.jobs s.last_jobs (s.core.jobs ++ more ∷ []) (slice_set s.last_jobs engine n) later s.core.buffers p.bos.fences sets)
 
   -- all parts, by the words of the state
-  tied : (set : List Latest) → WaitsFor s.core.jobs s.last_jobs (flat_map (jobs_before_use s.core (ops_of cmd)) (named_in cmd)) set → (bos : Bos) → bos ≡ with_uses job (ops_of cmd) p.bos (named_in cmd) →
-      Ties script (after_submit s t job (ops_of cmd) (named_in cmd)) (stores_of script journal)
+  represented : (set : List Latest) → WaitsFor s.core.jobs s.last_jobs (flat_map (jobs_before_use s.core (ops_of cmd)) (named_in cmd)) set → (bos : Bos) → bos ≡ with_uses job (ops_of cmd) p.bos (named_in cmd) →
+      Represents script (after_submit s t job (ops_of cmd) (named_in cmd)) (stores_of script journal)
       (record p {
         bos = bos;
         line = with_emitted p.line engine;
         rings = with_pushed p.rings (record { job = job; waits = set; packets = packets_of (λ b. packet_place (buffer_in s.core b)) (ops_of cmd); ran = 0 });
         courses = with_course p.courses t (has_made (course s t));
       })
-  tied set w bos e =
+  represented set w bos e =
       let is : bos ≡ record p.bos { fences = fold (λ l b. with_use_in job (use_of (ops_of cmd) b) l b) p.bos.fences (named_in cmd) } = e ∙ uses_are job (ops_of cmd) (named_in cmd) p.bos in
       let fences : bos.fences ≡ fold (λ l b. with_use_in job (use_of (ops_of cmd) b) l b) p.bos.fences (named_in cmd) = ap (λ (x : Bos). x.fences) is in
-      armed_tied script s (stores_of script journal) p held.ties t job (ops_of cmd) (named_in cmd) known number set w bos (is ∙ ap (λ fs. record p.bos { fences = fs }) (sym fences))
+      armed_represented script s (stores_of script journal) p held.represents t job (ops_of cmd) (named_in cmd) known number set w bos (is ∙ ap (λ fs. record p.bos { fences = fs }) (sym fences))
       (subst (λ fs. AreFences (slice_set s.last_jobs engine n) (fold (with_use job (ops_of cmd)) s.core.buffers (named_in cmd)) fs) (sym fences) sets_then)
 
   -- the parts tell the journal with the entry
@@ -277,14 +277,14 @@ module _ (script : Script) (journal : List Entry) (p : Parts) (entry : Entry) (t
       let uses : bos ≡ with_uses job (ops_of cmd) p.bos (named_in cmd) = ue ∙ ap₂ (λ os ds. with_uses job os p.bos ds) (oe ∙ ap ops_of (w ∙ work_is)) (be ∙ ap named_in (w ∙ work_is)) in
       let pushed : rings ≡ with_pushed p.rings (record { job = job; waits = set; packets = packets_of (λ b. packet_place (buffer_in s.core b)) (ops_of cmd); ran = 0 }) =
       re ∙ ap (λ ps. with_pushed p.rings (record { job = job; waits = set; packets = ps; ran = 0 })) (packets_are o ops packets w oe pe) in
-      let made : courses ≡ with_course p.courses t (has_made (course s t)) = ce ∙ ap (λ cs. with_course p.courses t (has_made (course_in cs t))) held.ties.courses in
+      let made : courses ≡ with_course p.courses t (has_made (course s t)) = ce ∙ ap (λ cs. with_course p.courses t (has_made (course_in cs t))) held.represents.courses in
       held_still script journal p (record p { bos = bos; line = line; rings = rings; courses = courses }) entry (record { who = actor.Thread t; kind = kind.Arm engine n }) held is legal refl
-      (subst (λ x. Ties script (after_submit s t job (ops_of cmd) (named_in cmd)) (stores_of script journal) (record p { bos = bos; line = line; rings = rings; courses = x })) (sym made)
-      (subst (λ x. Ties script (after_submit s t job (ops_of cmd) (named_in cmd)) (stores_of script journal) (record p { bos = bos; line = line; rings = x; courses = with_course p.courses t (has_made (course s t)) })) (sym pushed)
-      (subst (λ x. Ties script (after_submit s t job (ops_of cmd) (named_in cmd)) (stores_of script journal) (record p {
+      (subst (λ x. Represents script (after_submit s t job (ops_of cmd) (named_in cmd)) (stores_of script journal) (record p { bos = bos; line = line; rings = rings; courses = x })) (sym made)
+      (subst (λ x. Represents script (after_submit s t job (ops_of cmd) (named_in cmd)) (stores_of script journal) (record p { bos = bos; line = line; rings = x; courses = with_course p.courses t (has_made (course s t)) })) (sym pushed)
+      (subst (λ x. Represents script (after_submit s t job (ops_of cmd) (named_in cmd)) (stores_of script journal) (record p {
         bos = bos;
         line = x;
         courses = with_course p.courses t (has_made (course s t));
         rings = with_pushed p.rings (record { job = job; waits = set; packets = packets_of (λ b. packet_place (buffer_in s.core b)) (ops_of cmd); ran = 0 });
       })) (sym le)
-      (tied set (waits o ops bs contexts set w oe be c se) bos uses))))
+      (represented set (waits o ops bs contexts set w oe be c se) bos uses))))

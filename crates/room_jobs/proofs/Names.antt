@@ -11,7 +11,7 @@ use Rattle.journal_model.specs.State.{buffer_in, live_in, new_buffer}
 use Rattle.journal_model.specs.Places.{name_in, packet_place}
 use Rattle.bo_table.specs.Seen.{Bos}
 use Rattle.bo_table.proofs.TableLaws.{get_map}
-use Rattle.room_ties.specs.Bos.{unfenced}
+use Rattle.room_representation.specs.Bos.{unfenced}
 use Rattle.room_jobs.specs.Standing.{standing_names}
 
 -- names don't depend on fences
@@ -37,7 +37,7 @@ at_least : (i n : ℕ) → nat_lt i n ≡ false → n ≤ i
 at_least i n h = grind (arith, nat_tests)
 
 -- of a table that has the buffers of the state
-pub names_same : (c : Core) (t : Bos) → t.buffers ≡ map (option_map unfenced) c.buffers → length t.grips ≡ length c.buffers → standing_names t ≡ (λ b. packet_place (buffer_in c b))
+pub names_same : (c : Core) (t : Bos) → t.buffers ≡ map (option_map unfenced) c.buffers → length t.reservations ≡ length c.buffers → standing_names t ≡ (λ b. packet_place (buffer_in c b))
 names_same c t h g = λ k b i. at b i k
   where
     live : (b : BufId) (i : ℕ) → packet_place (unwrap_or (live_in t.buffers b) (new_buffer 0)) i ≡ packet_place (buffer_in c b) i
@@ -45,11 +45,11 @@ names_same c t h g = λ k b i. at b i k
         ap (λ xs. packet_place (unwrap_or (live_in xs b) (new_buffer 0)) i) h
         ∙ ap (λ o. packet_place (unwrap_or (option_and_then (λ y. y) o) (new_buffer 0)) i) (get_map (option_map unfenced) c.buffers b.0) ∙ place_at (slice_get c.buffers b.0) i
 
-    by : (b : BufId) (i : ℕ) (q : Bool) → nat_lt b.0 (length t.grips) ≡ q → packet_place (unwrap_or (if q then live_in t.buffers b else None) (new_buffer 0)) i ≡ packet_place (buffer_in c b) i
+    by : (b : BufId) (i : ℕ) (q : Bool) → nat_lt b.0 (length t.reservations) ≡ q → packet_place (unwrap_or (if q then live_in t.buffers b else None) (new_buffer 0)) i ≡ packet_place (buffer_in c b) i
     by b i true e = live b i
     by b i false e =
-        let past : length c.buffers ≤ b.0 = (let l = at_least b.0 (length t.grips) e in omega (arith, l, g)) in
+        let past : length c.buffers ≤ b.0 = (let l = at_least b.0 (length t.reservations) e in omega (arith, l, g)) in
         ap (λ (o : Option (Option Buffer)). packet_place (unwrap_or (option_and_then (λ y. y) o) (new_buffer 0)) i) (sym (nothing_past c.buffers b.0 past))
 
     at : (b : BufId) (i : ℕ) → standing_names t b i ≡ packet_place (buffer_in c b) i
-    at b i = by b i (nat_lt b.0 (length t.grips)) refl
+    at b i = by b i (nat_lt b.0 (length t.reservations)) refl

@@ -17,13 +17,13 @@ use Rattle.journal_model.specs.declared.script.Command.TheVariants as command
 use Rattle.journal_model.specs.declared.state.Buffer.{Buffer}
 use Rattle.journal_model.specs.Places.{page_at, page_in}
 use Rattle.journal_model.specs.Stores.{is_there, put_bytes, within}
-use Rattle.room_ties.specs.Bos.{unfenced}
-use Rattle.room_ties.specs.Pages.{AreSlots, AreStores, HasNoMore}
-use Rattle.room_ties.specs.lemma_room_bytes.Shown.{is_in_stores}
-use Rattle.room_ties.proofs.lemma_room_jobs.Packets.{within_same}
-use Rattle.room_ties.specs.room_steps.Lent.{as_buffer}
-use Rattle.room_ties.proofs.room_steps.Lent.{body_is}
-use Rattle.room_ties.proofs.lemma_room_bytes.Writes.{write_step}
+use Rattle.room_representation.specs.Bos.{unfenced}
+use Rattle.room_representation.specs.Pages.{AreSlots, AreStores, HasNoMore}
+use Rattle.room_representation.specs.lemma_room_bytes.Shown.{is_in_stores}
+use Rattle.room_representation.proofs.lemma_room_jobs.Packets.{within_same}
+use Rattle.room_representation.specs.room_steps.Lent.{as_buffer}
+use Rattle.room_representation.proofs.room_steps.Lent.{body_is}
+use Rattle.room_representation.proofs.lemma_room_bytes.Writes.{write_step}
 use Rattle.room_jobs.specs.Bodies.{body_at}
 use Rattle.room_jobs.specs.Writes.{CanWrite, HavePages, HasPut, HasWritten}
 

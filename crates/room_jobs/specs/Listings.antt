@@ -8,11 +8,11 @@ use Rattle.journal_model.specs.declared.script.Script.{Script}
 use Rattle.journal_model.specs.declared.script.Command.{Command}
 use Rattle.journal_model.specs.declared.script.Command.TheVariants as command
 use Rattle.journal_model.specs.declared.state.Buffer.{Buffer}
-use Rattle.journal_model.specs.declared.state.Grip.{Grip}
-use Rattle.journal_model.specs.State.{grip_in, has_buffer, live_in}
+use Rattle.journal_model.specs.declared.state.Reservation.{Reservation}
+use Rattle.journal_model.specs.State.{reservation_in, has_buffer, live_in}
 use Rattle.journal_model.specs.Commands.{decl, named}
 use Rattle.journal_model.specs.Lists.{touched}
-use Rattle.room_ties.specs.lemma_room_lists.Listed.{AreListed}
+use Rattle.room_representation.specs.lemma_room_lists.Listed.{AreListed}
 use Rattle.room_jobs.specs.Bodies.{body_at}
 
 -- the buffer taken off its list, if it is on one
@@ -26,25 +26,25 @@ unlisted o b = unlisted_as o b (listing_of o b)
 -- the buffer listed again, if it is its last pin that goes
 abbrev pub unpinned : Script → Bos → Order → BufId → Order
 unpinned script bos o b =
-    if (grip_in bos.grips b).pins == 1
+    if (reservation_in bos.reservations b).pins == 1
     then added o b (record { mem = (body_at bos b).mem; prio = (decl script b).prio; group = (decl script b).group })
     else o
 
 -- a buffer whose last pin goes may be listed again
 pub record CanRelist (script : Script) (bos : Bos) (o : Order) (b : BufId) : Type 0 where
   pub live : live_in bos.buffers b ≡ Some (body_at bos b)
-  pub below : b.0 < length bos.grips
+  pub below : b.0 < length bos.reservations
   pub declared : b.0 < length script.buffers
   pub known : b.0 < length o.listings
-  pub absent : (grip_in bos.grips b).pins ≡ 1 → listing_of o b ≡ None
+  pub absent : (reservation_in bos.reservations b).pins ≡ 1 → listing_of o b ≡ None
   pub prio : (decl script b).prio < 4
   pub group : IsGroup o.groups (decl script b).group
 
 -- buffers count as just used, one after another: where the order was that of a state, it is that of the state with them touched
 abbrev pub AreTouched : List BufId → Order → Order → Type 0
 AreTouched bs old new =
-    (script : Script) (buffers : List (Option Buffer)) (grips : List Grip) (lists : List (List BufId)) → AreListed script buffers grips lists old →
-    AreListed script buffers grips (fold (touched script buffers grips) lists bs) new
+    (script : Script) (buffers : List (Option Buffer)) (reservations : List Reservation) (lists : List (List BufId)) → AreListed script buffers reservations lists old →
+    AreListed script buffers reservations (fold (touched script buffers reservations) lists bs) new
 
 -- by command: the buffer of a pin is on no list, that of an unpin is on one once no pin is left, those of any other that are held are touched
 abbrev pub AreRelisted : Script → Bos → List BufId → Command → Order → Order → Type 0

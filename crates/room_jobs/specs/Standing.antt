@@ -22,7 +22,7 @@ frame_place table page = place.Frame (unwrap_or (frame_of (unwrap_or (slice_get 
 
 -- the buffer of that number, if the table has one and it is live
 abbrev pub standing_in : Bos → BufId → Option Buffer
-standing_in t b = if nat_lt b.0 (length t.grips) then live_in t.buffers b else None
+standing_in t b = if nat_lt b.0 (length t.reservations) then live_in t.buffers b else None
 
 -- a page of VRAM, an aperture page of a buffer in TT, or the frame of a buffer in SYSTEM; frame 0 where there is no such buffer
 abbrev pub standing_names : Bos → PageMap

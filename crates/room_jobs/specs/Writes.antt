@@ -12,7 +12,7 @@ use Rattle.journal_model.specs.declared.state.Buffer.{Buffer}
 use Rattle.journal_model.specs.State.{live_in}
 use Rattle.journal_model.specs.Places.{page_at}
 use Rattle.journal_model.specs.Stores.{put_bytes}
-use Rattle.room_ties.specs.Pages.{AreStores}
+use Rattle.room_representation.specs.Pages.{AreStores}
 use Rattle.room_jobs.specs.Bodies.{body_at}
 
 -- the stores have each page of a buffer before the end of a range
@@ -27,7 +27,7 @@ HasPut x off values old new =
 -- the bytes of a write can be put
 pub record CanWrite (bos : Bos) (st : Stores) (b : BufId) (off : ℕ) (values : List ℕ) : Type 0 where
   pub live : live_in bos.buffers b ≡ Some (body_at bos b)
-  pub below : b.0 < length bos.grips
+  pub below : b.0 < length bos.reservations
   pub short : off + length values < 2 ^ 32
   pub pages : HavePages st (body_at bos b) (off + length values)
 

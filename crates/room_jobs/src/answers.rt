@@ -2,14 +2,14 @@ ghost use Rattle.std.specs.Prelude.{◌≡◌, ◌∷◌, ◌++◌, [], OnOk, On
 ghost use Rattle.ttm_base.specs.declared.Actor.TheVariants as actor;
 ghost use Rattle.journal_model.specs.declared.entry.Kind.TheVariants as kind;
 ghost use Rattle.journal_model.specs.Legal.{IsLegalNext, world_of};
-ghost use Rattle.room_ties.specs.Held.{AreHeld};
+ghost use Rattle.room_representation.specs.Held.{AreHeld};
 
 use crate::listings::relist;
 use crate::pins::change_pins;
 use crate::writes::write;
 use journal_model::{Entry, Script, Shown};
-use room_ties::Parts;
-use room_ties::room_steps::{command_of, go_on, held_by, release_all};
+use room_representation::Parts;
+use room_representation::room_steps::{command_of, go_on, held_by, release_all};
 use state_words::named;
 use std::alloc::Global;
 use ttm_base::NoMemory;

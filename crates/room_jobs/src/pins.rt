@@ -1,7 +1,7 @@
 ghost use Rattle.std.specs.Prelude.{◌≡◌, ◌<◌, Some};
 ghost use Rattle.ttm_base.specs.declared.BufId.{BufId as Id};
 ghost use Rattle.journal_model.specs.declared.script.Command.TheVariants as command_of;
-ghost use Rattle.journal_model.specs.State.{grip_in};
+ghost use Rattle.journal_model.specs.State.{reservation_in};
 ghost use Rattle.journal_model.specs.ApplyCommands.{with_pins};
 
 use bo_table::BoTable;
@@ -9,8 +9,8 @@ use journal_model::Command;
 
 /// Changes the pins of a buffer as the command asks (ttm_bo_pin, ttm_bo_unpin).
 pub(crate) fn change_pins(bos: &mut BoTable, command: &Command)
-    requires { (b : Id) → command.now ≡ command_of.Pin b → (grip_in bos.old.grips b).pins < 255 }
-    ensures { bos.new ≡ record bos.old { grips = with_pins (Some command.now) bos.old.grips } }
+    requires { (b : Id) → command.now ≡ command_of.Pin b → (reservation_in bos.old.reservations b).pins < 255 }
+    ensures { bos.new ≡ record bos.old { reservations = with_pins (Some command.now) bos.old.reservations } }
 {
     match command {
         Command::Pin { b } => bos.pin(*b),

@@ -28,7 +28,7 @@ pub(crate) fn waits_at(
     ops: &[Op],
     bs: &[BufId],
 ) -> Result<FenceSet, NoMemory>
-    requires declared { All (λ b. b.0 < length bos.now.grips) bs.now }
+    requires declared { All (λ b. b.0 < length bos.now.reservations) bs.now }
     requires wide { AreWide contexts bos.now.fences }
     ensures { IfOk result (λ waits. waits ≡ with_waits ops.now bos.now.fences (replicate contexts nothing_kept) bs.now) }
 {

@@ -1,7 +1,7 @@
 ghost use Rattle.std.specs.Prelude.{◌≡◌, IsSome, IfOk, option_copied};
 ghost use Rattle.journal_model.specs.ApplyJobs as rows;
 ghost use Rattle.journal_model.specs.ApplyCommands as commands;
-ghost use Rattle.room_ties.specs.room_steps.Courses.{course_at};
+ghost use Rattle.room_representation.specs.room_steps.Courses.{course_at};
 ghost use Rattle.room_jobs.specs.Work.{work_of};
 
 use journal_model::{BufIds, Command, Courses, Script};

@@ -16,7 +16,7 @@ use Rattle.journal_model.specs.PageSteps.{next_ghost}
 use Rattle.journal_model.specs.Places.{name_in, name_in_spans, packet_place}
 use Rattle.journal_model.specs.State.{buffer, target_spans}
 use Rattle.laws.specs.lemma_bytes_told.Told.{IsThere, Told, still, moves_up, moves_across, moves_down, evicts}
-use Rattle.room_ties.specs.Bos.{unfenced}
+use Rattle.room_representation.specs.Bos.{unfenced}
 use Rattle.room_moves.specs.Copies.{copies}
 
 -- ---- by kind

@@ -49,42 +49,42 @@ use Rattle.laws.proofs.law_state.Rules.{rules_of}
 use Rattle.laws.specs.law_state.GoodState.{last_number}
 use Rattle.laws.proofs.law_transparent.Carried.{told_law}
 use Rattle.laws.specs.lemma_bytes_told.Told.{Told}
-use Rattle.room_ties.specs.lemma_room_lists.Listed.{AreListed}
-use Rattle.room_ties.proofs.lemma_room_lists.KindLaws.{move_lists}
-use Rattle.room_ties.specs.lemma_room_spans.Calls as calls
-use Rattle.room_ties.specs.lemma_room_spans.Owned.{HoldsAsIn}
-use Rattle.room_ties.proofs.lemma_room_spans.Entries.{thread_spans, move_fresh, next_ghost_fresh}
-use Rattle.room_ties.proofs.lemma_room_spans.MoveFence.{behind_fence}
-use Rattle.room_ties.specs.declared.parts.Ghost.{Ghost}
-use Rattle.room_ties.specs.declared.parts.Parts.{Parts}
-use Rattle.room_ties.specs.Bos.{AreBos, unfenced}
-use Rattle.room_ties.specs.Fences.{set_at, fences_of}
-use Rattle.room_ties.specs.Ghosts.{AreGhosts}
-use Rattle.room_ties.specs.Held.{AreHeld}
-use Rattle.room_ties.specs.Lines.{IsTimeline}
-use Rattle.room_ties.specs.Managers.{IsVram, IsTt}
-use Rattle.room_ties.specs.MoveFences.{IsMoveFence}
-use Rattle.room_ties.specs.Pages.{AreSlots, AreStores}
-use Rattle.room_ties.specs.RingJobs.{AreRings}
-use Rattle.room_ties.proofs.lemma_room_jobs.GhostSteps.{ghosts_push}
-use Rattle.room_ties.proofs.lemma_room_jobs.Later.{IsLater, ghosts_later, move_later}
-use Rattle.room_ties.proofs.lemma_room_jobs.Sets.{set_length}
-use Rattle.room_ties.proofs.lemma_room_jobs.Told.{unfenced_as}
-use Rattle.room_ties.proofs.lemma_room_jobs.BufferSets.{move_id, move_job, empty_set, before_write, moved_fences, moved_ghost}
-use Rattle.room_ties.proofs.lemma_room_jobs.Emitted.{later_more, move_now, rings_more, timeline_more}
-use Rattle.room_ties.proofs.lemma_room_jobs.LegalJobs.{move_number}
-use Rattle.room_ties.proofs.lemma_room_jobs.Packets.{within_same}
-use Rattle.room_ties.specs.lemma_room_bytes.GivenBack.{given_back, slots_left}
-use Rattle.room_ties.proofs.lemma_room_bytes.Behind.{pool_behind}
-use Rattle.room_ties.proofs.lemma_room_bytes.Held.{no_slots}
-use Rattle.room_ties.proofs.lemma_room_bytes.SlotKinds.{move_slots}
-use Rattle.room_ties.proofs.lemma_room_bytes.LegalEntries.{next_tells, no_slots_in_tt}
-use Rattle.room_ties.specs.lemma_room_bytes.Mapped.{HasStoresAfter}
-use Rattle.room_ties.proofs.lemma_room_bytes.Entries.{move_in_tie, move_out_tie}
-use Rattle.room_ties.proofs.lemma_room_bytes.Holders.{target_inside}
-use Rattle.room_ties.specs.room_steps.Lent.{as_buffer}
-use Rattle.room_ties.proofs.room_steps.Lent.{lent_below, lent_is, stands_at}
-use Rattle.room_ties.proofs.room_steps.Steps.{held_still, step_as}
+use Rattle.room_representation.specs.lemma_room_lists.Listed.{AreListed}
+use Rattle.room_representation.proofs.lemma_room_lists.KindLaws.{move_lists}
+use Rattle.room_representation.specs.lemma_room_spans.Calls as calls
+use Rattle.room_representation.specs.lemma_room_spans.Owned.{HoldsAsIn}
+use Rattle.room_representation.proofs.lemma_room_spans.Entries.{thread_spans, move_fresh, next_ghost_fresh}
+use Rattle.room_representation.proofs.lemma_room_spans.MoveFence.{behind_fence}
+use Rattle.room_representation.specs.declared.parts.Ghost.{Ghost}
+use Rattle.room_representation.specs.declared.parts.Parts.{Parts}
+use Rattle.room_representation.specs.Bos.{AreBos, unfenced}
+use Rattle.room_representation.specs.Fences.{set_at, fences_of}
+use Rattle.room_representation.specs.Ghosts.{AreGhosts}
+use Rattle.room_representation.specs.Held.{AreHeld}
+use Rattle.room_representation.specs.Lines.{IsTimeline}
+use Rattle.room_representation.specs.Managers.{IsVram, IsTt}
+use Rattle.room_representation.specs.MoveFences.{IsMoveFence}
+use Rattle.room_representation.specs.Pages.{AreSlots, AreStores}
+use Rattle.room_representation.specs.RingJobs.{AreRings}
+use Rattle.room_representation.proofs.lemma_room_jobs.GhostSteps.{ghosts_push}
+use Rattle.room_representation.proofs.lemma_room_jobs.Later.{IsLater, ghosts_later, move_later}
+use Rattle.room_representation.proofs.lemma_room_jobs.Sets.{set_length}
+use Rattle.room_representation.proofs.lemma_room_jobs.Told.{unfenced_as}
+use Rattle.room_representation.proofs.lemma_room_jobs.BufferSets.{move_id, move_job, empty_set, before_write, moved_fences, moved_ghost}
+use Rattle.room_representation.proofs.lemma_room_jobs.Emitted.{later_more, move_now, rings_more, timeline_more}
+use Rattle.room_representation.proofs.lemma_room_jobs.LegalJobs.{move_number}
+use Rattle.room_representation.proofs.lemma_room_jobs.Packets.{within_same}
+use Rattle.room_representation.specs.lemma_room_bytes.GivenBack.{given_back, slots_left}
+use Rattle.room_representation.proofs.lemma_room_bytes.Behind.{pool_behind}
+use Rattle.room_representation.proofs.lemma_room_bytes.Held.{no_slots}
+use Rattle.room_representation.proofs.lemma_room_bytes.SlotKinds.{move_slots}
+use Rattle.room_representation.proofs.lemma_room_bytes.LegalEntries.{next_tells, no_slots_in_tt}
+use Rattle.room_representation.specs.lemma_room_bytes.Mapped.{HasStoresAfter}
+use Rattle.room_representation.proofs.lemma_room_bytes.Entries.{move_in_representation, move_out_representation}
+use Rattle.room_representation.proofs.lemma_room_bytes.Holders.{target_inside}
+use Rattle.room_representation.specs.room_steps.Lent.{as_buffer}
+use Rattle.room_representation.proofs.room_steps.Lent.{lent_below, lent_is, stands_at}
+use Rattle.room_representation.proofs.room_steps.Steps.{held_still, step_as}
 use Rattle.room_pages.specs.room_binds.Apertures.{AreBelow}
 use Rattle.room_moves.specs.Copies.{copies}
 use Rattle.room_moves.specs.Lefts.{ghost_of, left_by_move}
@@ -138,7 +138,7 @@ module _ (script : Script) (journal : List Entry) (p : Parts) (entry : Entry) (t
   -- ---- the buffer that is lent
 
   -- the buffer can be lent
-  pub move_below : b.0 < length p.bos.grips
+  pub move_below : b.0 < length p.bos.reservations
   move_below = lent_below script journal p held b move.live
 
   module _ (bo : Bo) (lent : IsBo p.bos b bo) where
@@ -154,7 +154,7 @@ module _ (script : Script) (journal : List Entry) (p : Parts) (entry : Entry) (t
     set_wide : length bo.resv.fences ≡ length s.last_jobs
     set_wide =
         let at : slice_get p.bos.fences b.0 ≡ Some (set_of (length s.last_jobs) (fences_of (Some x))) =
-        ap (λ xs. slice_get xs b.0) held.ties.bos.fences_are.sets_are ∙ get_map (λ o. set_of (length s.last_jobs) (fences_of o)) s.core.buffers b.0
+        ap (λ xs. slice_get xs b.0) held.represents.bos.fences_are.sets_are ∙ get_map (λ o. set_of (length s.last_jobs) (fences_of o)) s.core.buffers b.0
         ∙ ap (option_map (λ o. set_of (length s.last_jobs) (fences_of o))) (stands_at s.core.buffers b x move.live) in
         let both : Some bo.resv.fences ≡ Some (set_of (length s.last_jobs) (fences_of (Some x))) = sym lent.fences ∙ at in
         let same : bo.resv.fences ≡ set_of (length s.last_jobs) (fences_of (Some x)) = cc in
@@ -171,7 +171,7 @@ module _ (script : Script) (journal : List Entry) (p : Parts) (entry : Entry) (t
     module _ (contexts : ℕ) (many : contexts ≡ length p.line) where
       -- the timeline has the state's contexts
       contexts_are : contexts ≡ length s.last_jobs
-      contexts_are = many ∙ held.ties.line.contexts
+      contexts_are = many ∙ held.represents.line.contexts
 
       -- so has the buffer's set
       pub move_wide : length bo.resv.fences ≡ contexts
@@ -193,7 +193,7 @@ module _ (script : Script) (journal : List Entry) (p : Parts) (entry : Entry) (t
       pub move_waits : (waits : List Latest) → waits ≡ all_added Read (replicate contexts nothing_kept) bo.resv.fences → length waits ≡ length p.rings
       move_waits waits e =
           let wide = length-all_added (replicate contexts nothing_kept) bo.resv.fences (move_wide ∙ sym (length-replicate contexts nothing_kept)) ∙ length-replicate contexts nothing_kept in
-          ap length e ∙ wide ∙ contexts_are ∙ sym held.ties.rings.contexts
+          ap length e ∙ wide ∙ contexts_are ∙ sym held.represents.rings.contexts
 
     -- its packets are those of the definition
     packets_same : (packets : List Packet) → packets ≡ copies (length bo.table) mem (target_spans mem (as_buffer bo)) bo.mem bo.spans → packets ≡ move_packets x mem
@@ -210,19 +210,19 @@ module _ (script : Script) (journal : List Entry) (p : Parts) (entry : Entry) (t
     pub move_has : mem ≡ Tt → AreBelow (pages_of (target_spans Tt (as_buffer bo))) (length p.stores.aper)
     move_has e =
         subst (λ (y : Buffer). AreBelow (pages_of (target_spans Tt y)) (length p.stores.aper)) (sym lent_here)
-        (λ k page at. subst (λ m. page < m) (sym held.ties.stores.aper_size) (target_inside script s.core (once_law script journal held.fits held.legal) page b x k move.live at))
+        (λ k page at. subst (λ m. page < m) (sym held.represents.stores.aper_size) (target_inside script s.core (once_law script journal held.fits held.legal) page b x k move.live at))
 
   -- the move engine has a ring
   pub move_ring : 0 < length p.rings
-  move_ring = subst (λ m. 0 < m) (sym held.ties.rings.contexts) known
+  move_ring = subst (λ m. 0 < m) (sym held.represents.rings.contexts) known
 
   -- and a place in the timeline
   pub move_line : 0 < length p.line
-  move_line = subst (λ m. 0 < m) (sym held.ties.line.contexts) known
+  move_line = subst (λ m. 0 < m) (sym held.represents.line.contexts) known
 
   -- whose next number fits
   pub move_emitted : (progress_of p.line 0).emitted < 2 ^ 63
-  move_emitted = subst (λ (q : Progress). q.emitted < 2 ^ 63) (sym (held.ties.line.each 0 known)) ((counters_law script journal held.fits held.legal).jobs 0)
+  move_emitted = subst (λ (q : Progress). q.emitted < 2 ^ 63) (sym (held.represents.line.each 0 known)) ((counters_law script journal held.fits held.legal).jobs 0)
 
   -- ---- managers
 
@@ -232,20 +232,20 @@ module _ (script : Script) (journal : List Entry) (p : Parts) (entry : Entry) (t
 
   -- a new ghost holds nothing yet
   fresh : (mine : Mem) → mine ≢ System → (r : Resources) → HoldsAsIn (size_of script mine) mine s r → CanLeave l r
-  fresh mine out r tie = by l refl
+  fresh mine out r representation = by l refl
     where
       by : (o : Left) → l ≡ o → CanLeave o r
       by left.Now e = tt
       by (left.Ghost g) e =
           ap (λ g. holds (owner.Ghost g) r.held) (move.next g e)
-          ∙ next_ghost_fresh script journal held.fits held.legal mine out (ghosts_law script journal held.fits held.legal).first below r tie
+          ∙ next_ghost_fresh script journal held.fits held.legal mine out (ghosts_law script journal held.fits held.legal).first below r representation
 
   -- the calls on a manager may be made
   can : (mine : Mem) → mine ≢ System → (r : Resources) → HoldsAsIn (size_of script mine) mine s r → CanCarry b l r
-  can mine out r tie =
+  can mine out r representation =
       record {
-        leaves = fresh mine out r tie;
-        arrives = move_fresh script journal held.fits held.legal mine out (ghosts_law script journal held.fits held.legal).first below r tie t b mem n l told;
+        leaves = fresh mine out r representation;
+        arrives = move_fresh script journal held.fits held.legal mine out (ghosts_law script journal held.fits held.legal).first below r representation t b mem n l told;
       }
 
   vram_out : Vram ≢ System
@@ -256,11 +256,11 @@ module _ (script : Script) (journal : List Entry) (p : Parts) (entry : Entry) (t
 
   -- on that of VRAM
   pub move_vram : CanCarry b l p.vram.resources
-  move_vram = can Vram vram_out p.vram.resources held.ties.vram.held_as
+  move_vram = can Vram vram_out p.vram.resources held.represents.vram.held_as
 
   -- and on that of TT
   pub move_tt : CanCarry b l p.tt
-  move_tt = can Tt tt_out p.tt held.ties.tt
+  move_tt = can Tt tt_out p.tt held.represents.tt
 
   -- the job can join the buffer's
   pub move_joins : (mid : Bos) → mid ≡ with_changed (carried mem) p.bos b → (bo : Bo) → IsBo p.bos b bo → ForSome (slice_get mid.fences b.0) (λ set. 0 < length set)
@@ -292,7 +292,7 @@ module _ (script : Script) (journal : List Entry) (p : Parts) (entry : Entry) (t
   rings_then rings waits packets w k e =
       subst (λ r. AreRings jobs_then last_then r)
       (sym (e ∙ ap₂ (λ a c. with_pushed p.rings (record { job = move_id n; waits = a; packets = c; ran = 0 })) w k))
-      (rings_more s.core.jobs s.last_jobs job known num refl p.rings held.ties.rings (all_added Read (empty_set s) (set_at p.bos.fences b)) (before_write s p.bos.fences held.ties.bos.fences_are b x move.live))
+      (rings_more s.core.jobs s.last_jobs job known num refl p.rings held.represents.rings (all_added Read (empty_set s) (set_at p.bos.fences b)) (before_write s p.bos.fences held.represents.bos.fences_are b x move.live))
 
   -- what is left stands behind the other ghosts
   ghosts_then : (ghosts : List Ghost) (ghost : Option Ghost) → ghost ≡ left_by_move (length s.last_jobs) (unfenced x) (move_id n) l → ghosts ≡ p.ghosts ++ option_to_list ghost →
@@ -300,28 +300,28 @@ module _ (script : Script) (journal : List Entry) (p : Parts) (entry : Entry) (t
   ghosts_then ghosts ghost g e = subst (λ rs. AreGhosts jobs_then last_then (ghosts_left x (move_id n) l s.core.ghosts) rs) (sym (e ∙ ap (λ o. p.ghosts ++ option_to_list o) g)) (by l)
     where
       before : AreGhosts jobs_then last_then s.core.ghosts p.ghosts
-      before = ghosts_later s.core.jobs s.last_jobs jobs_then last_then later s.core.ghosts p.ghosts held.ties.ghosts
+      before = ghosts_later s.core.jobs s.last_jobs jobs_then last_then later s.core.ghosts p.ghosts held.represents.ghosts
 
       by : (o : Left) → AreGhosts jobs_then last_then (ghosts_left x (move_id n) o s.core.ghosts) (p.ghosts ++ option_to_list (left_by_move (length s.last_jobs) (unfenced x) (move_id n) o))
       by left.Now = subst (λ rs. AreGhosts jobs_then last_then s.core.ghosts rs) (sym (append-nil p.ghosts)) before
       by (left.Ghost g) =
           ghosts_push jobs_then last_then s.core.ghosts p.ghosts before _ (ghost_of (length s.last_jobs) (unfenced x) (move_id n) g)
-          (moved_ghost s p.bos.fences held.ties.bos.fences_are b x move.live mem n known num g (ghost_of (length s.last_jobs) (unfenced x) (move_id n) g) refl refl refl (frames_unfenced x.mem x) refl)
+          (moved_ghost s p.bos.fences held.represents.bos.fences_are b x move.live mem n known num g (ghost_of (length s.last_jobs) (unfenced x) (move_id n) g) refl refl refl (frames_unfenced x.mem x) refl)
 
   -- the buffer stands at its target, with the job
-  bos_then : (mid bos : Bos) → mid ≡ with_changed (carried mem) p.bos b → bos ≡ with_use (move_id n) Kernel mid b → AreBos script (changed (moved mem (move_id n)) s.core.buffers b) s.grips last_then bos
+  bos_then : (mid bos : Bos) → mid ≡ with_changed (carried mem) p.bos b → bos ≡ with_use (move_id n) Kernel mid b → AreBos script (changed (moved mem (move_id n)) s.core.buffers b) s.reservations last_then bos
   bos_then mid bos m e =
-      subst (λ y. AreBos script (changed (moved mem (move_id n)) s.core.buffers b) s.grips last_then y) (sym (e ∙ ap (λ y. with_use (move_id n) Kernel y b) m))
+      subst (λ y. AreBos script (changed (moved mem (move_id n)) s.core.buffers b) s.reservations last_then y) (sym (e ∙ ap (λ y. with_use (move_id n) Kernel y b) m))
       (record {
-        buffers_are = ap (λ xs. changed (carried mem) xs b) held.ties.bos.buffers_are ∙ sym (unfenced_as (moved mem (move_id n)) (carried mem) (λ y. refl) s.core.buffers b);
-        grips_are = held.ties.bos.grips_are;
-        fences_are = moved_fences s p.bos.fences held.ties.bos.fences_are b x move.live mem n known num;
-        pages_are = held.ties.bos.pages_are;
+        buffers_are = ap (λ xs. changed (carried mem) xs b) held.represents.bos.buffers_are ∙ sym (unfenced_as (moved mem (move_id n)) (carried mem) (λ y. refl) s.core.buffers b);
+        reservations_are = held.represents.bos.reservations_are;
+        fences_are = moved_fences s p.bos.fences held.represents.bos.fences_are b x move.live mem n known num;
+        pages_are = held.represents.bos.pages_are;
       })
 
   -- a manager holds what the state tells
   spans_then : (mine : Mem) → mine ≢ System → (r : Resources) → HoldsAsIn (size_of script mine) mine s r → HoldsAsIn (size_of script mine) mine (applied script s (actor.Thread t) (kind.Move b mem n l)) (calls.carried mine mem b l r)
-  spans_then mine out r tie = thread_spans script journal held.fits held.legal mine out (ghosts_law script journal held.fits held.legal).first below r tie t (kind.Move b mem n l) step told
+  spans_then mine out r representation = thread_spans script journal held.fits held.legal mine out (ghosts_law script journal held.fits held.legal).first below r representation t (kind.Move b mem n l) step told
 
   -- the move fence is the state's
   fence_then : (r : Resources) → r.move_fence ≡ p.vram.resources.move_fence → IsMoveFence last_then (move_fence_left (move_id n) l s.core.move_fence) (with_fence_left (move_id n) l r).move_fence
@@ -330,25 +330,25 @@ module _ (script : Script) (journal : List Entry) (p : Parts) (entry : Entry) (t
       by : (o : Left) → IsMoveFence last_then (move_fence_left (move_id n) o s.core.move_fence) (with_fence_left (move_id n) o r).move_fence
       by left.Now = move_now s.core.jobs s.last_jobs job known num refl
       by (left.Ghost g) =
-          subst (λ k. IsMoveFence last_then s.core.move_fence k) (sym e) (move_later s.core.jobs s.last_jobs jobs_then last_then later s.core.move_fence p.vram.resources.move_fence held.ties.vram.fence)
+          subst (λ k. IsMoveFence last_then s.core.move_fence k) (sym e) (move_later s.core.jobs s.last_jobs jobs_then last_then later s.core.move_fence p.vram.resources.move_fence held.represents.vram.fence)
 
   -- to set it changes no holding
-  fenced_tie : (r : Resources) → HoldsAsIn script.sizes.vram Vram (applied script s (actor.Thread t) (kind.Move b mem n l)) r → HoldsAsIn script.sizes.vram Vram (applied script s (actor.Thread t) (kind.Move b mem n l)) (with_fence_left (move_id n) l r)
-  fenced_tie r tie = by l
+  fenced_representation : (r : Resources) → HoldsAsIn script.sizes.vram Vram (applied script s (actor.Thread t) (kind.Move b mem n l)) r → HoldsAsIn script.sizes.vram Vram (applied script s (actor.Thread t) (kind.Move b mem n l)) (with_fence_left (move_id n) l r)
+  fenced_representation r representation = by l
     where
       by : (o : Left) → HoldsAsIn script.sizes.vram Vram (applied script s (actor.Thread t) (kind.Move b mem n l)) (with_fence_left (move_id n) o r)
-      by left.Now = record { size_is = tie.size_is; owners = tie.owners; each = tie.each }
-      by (left.Ghost g) = tie
+      by left.Now = record { size_is = representation.size_is; owners = representation.owners; each = representation.each }
+      by (left.Ghost g) = representation
 
-  -- so the manager of VRAM is tied
+  -- so the manager of VRAM is represented
   vram_then : (mid v : room.Vram) → mid.resources ≡ calls.carried Vram mem b l p.vram.resources → room.spans_of_kind mid.kind ≡ room.spans_of_kind p.vram.kind → v.resources ≡ with_fence_left (move_id n) l mid.resources →
       room.spans_of_kind v.kind ≡ room.spans_of_kind mid.kind → IsVram script.sizes last_then (applied script s (actor.Thread t) (kind.Move b mem n l)).core.buffers (applied script s (actor.Thread t) (kind.Move b mem n l)).core.ghosts (move_fence_left (move_id n) l s.core.move_fence) v
   vram_then mid v m rule e rule_then =
       let now : v.resources ≡ with_fence_left (move_id n) l (calls.carried Vram mem b l p.vram.resources) = e ∙ ap (with_fence_left (move_id n) l) m in
       record {
-        rule = rule_then ∙ rule ∙ held.ties.vram.rule;
+        rule = rule_then ∙ rule ∙ held.represents.vram.rule;
         held_as = subst (λ r. HoldsAsIn script.sizes.vram Vram (applied script s (actor.Thread t) (kind.Move b mem n l)) r) (sym now)
-            (fenced_tie (calls.carried Vram mem b l p.vram.resources) (spans_then Vram vram_out p.vram.resources held.ties.vram.held_as));
+            (fenced_representation (calls.carried Vram mem b l p.vram.resources) (spans_then Vram vram_out p.vram.resources held.represents.vram.held_as));
         fence = subst (λ (r : Resources). IsMoveFence last_then (move_fence_left (move_id n) l s.core.move_fence) r.move_fence) (sym now)
             (fence_then (calls.carried Vram mem b l p.vram.resources) (behind_fence Vram (kind.Move b mem n l) p.vram.resources));
       }
@@ -357,7 +357,7 @@ module _ (script : Script) (journal : List Entry) (p : Parts) (entry : Entry) (t
   swap_then : AreSlots script.sizes.swap (held_slots (applied script s (actor.Thread t) (kind.Move b mem n l)).core) (within script.sizes (stores_of script journal)) p.swap
   swap_then =
       subst (λ js. AreSlots script.sizes.swap (held_slots (applied script s (actor.Thread t) (kind.Move b mem n l)).core) (within script.sizes (stores_of script journal)) (record { held = given_back p.swap.held js; bytes = p.swap.bytes })) (by x.mem refl)
-      (move_slots script s (actor.Thread t) (stores_of script journal) p.swap held.ties.swap b move.live mem n l (owner_law script journal held.fits held.legal).slots)
+      (move_slots script s (actor.Thread t) (stores_of script journal) p.swap held.represents.swap b move.live mem n l (owner_law script journal held.fits held.legal).slots)
     where
       by : (m : Mem) → x.mem ≡ m → slots_left m x ≡ []
       by Tt e = no_slots x.table (no_slots_in_tt script held.fits journal held.legal b x move.live e)
@@ -375,10 +375,10 @@ module _ (script : Script) (journal : List Entry) (p : Parts) (entry : Entry) (t
       by : (m : Mem) → mem ≡ m → HasStoresAfter script s (stores_of script journal) (actor.Thread t) (kind.Move b mem n l) (record p.stores { aper = mapped_in m p.stores.aper x })
       by Vram e =
           subst (λ m. HasStoresAfter script s (stores_of script journal) (actor.Thread t) (kind.Move b m n l) p.stores) (sym e)
-          (move_out_tie script journal held.fits held.legal p.stores held.ties.stores t n b l (subst (λ m. IsLegalNext script (world_of script journal) (record { who = actor.Thread t; kind = kind.Move b m n l })) e legal_move))
+          (move_out_representation script journal held.fits held.legal p.stores held.represents.stores t n b l (subst (λ m. IsLegalNext script (world_of script journal) (record { who = actor.Thread t; kind = kind.Move b m n l })) e legal_move))
       by Tt e =
           subst (λ m. HasStoresAfter script s (stores_of script journal) (actor.Thread t) (kind.Move b m n l) (record p.stores { aper = mapped_in Tt p.stores.aper x })) (sym e)
-          (move_in_tie script journal held.fits held.legal p.stores held.ties.stores t n b l (mapped_in Tt p.stores.aper x) (subst (λ m. IsLegalNext script (world_of script journal) (record { who = actor.Thread t; kind = kind.Move b m n l })) e legal_move) refl)
+          (move_in_representation script journal held.fits held.legal p.stores held.represents.stores t n b l (mapped_in Tt p.stores.aper x) (subst (λ m. IsLegalNext script (world_of script journal) (record { who = actor.Thread t; kind = kind.Move b m n l })) e legal_move) refl)
       by System e = absurd (move.to e)
 
   -- fences don't matter to the aperture
@@ -397,25 +397,25 @@ module _ (script : Script) (journal : List Entry) (p : Parts) (entry : Entry) (t
       (o : Order) → o ≡ relisted p.lru b mem → AreMembersListed p.lru → (last : ℕ) → last ≡ last_ghost_left l p.last_ghost →
       AreHeld script (journal ++ entry ∷ []) (record p { rings = rings; ghosts = ghosts; stores = record p.stores { aper = aper }; line = line; vram = v; tt = r; bos = bos; lru = o; last_ghost = last })
   move_held bo lent contexts many packets pe waits we ghost ge rings re ghosts gse aper ae line le carry v ce rule ve rule_then r rne mid bos me be o oe members last lge =
-      let same = within_same script.sizes (stores_of script journal) held.ties.no_more in
+      let same = within_same script.sizes (stores_of script journal) held.represents.no_more in
       let mapped : aper ≡ mapped_in mem p.stores.aper x = ae ∙ ap (mapped_in mem p.stores.aper) (lent_here bo lent) ∙ mapped_unfenced mem in
       held_still script journal p (record p { rings = rings; ghosts = ghosts; stores = record p.stores { aper = aper }; line = line; vram = v; tt = r; bos = bos; lru = o; last_ghost = last }) entry
       (record { who = actor.Thread t; kind = kind.Move b mem n l }) held is legal refl
       (record {
         bos = bos_then mid bos me be;
-        line = subst (λ k. IsTimeline jobs_then last_then k) (sym le) (timeline_more s.core.jobs s.last_jobs job known num refl p.line held.ties.line);
+        line = subst (λ k. IsTimeline jobs_then last_then k) (sym le) (timeline_more s.core.jobs s.last_jobs job known num refl p.line held.represents.line);
         rings = rings_then rings waits packets (waits_are bo lent contexts many waits we) (packets_same bo lent packets pe) re;
         ghosts = ghosts_then ghosts ghost (ghost_is bo lent contexts many ghost ge) gse;
         vram = vram_then carry v ce rule ve rule_then;
-        tt = subst (λ k. IsTt script.sizes (applied script s (actor.Thread t) (kind.Move b mem n l)).core.buffers (applied script s (actor.Thread t) (kind.Move b mem n l)).core.ghosts k) (sym rne) (spans_then Tt tt_out p.tt held.ties.tt);
-        pool = pool_behind script s (actor.Thread t) (owner_law script journal held.fits held.legal) (kind.Move b mem n l) p.pool (next_tells script held.fits journal held.legal (actor.Thread t) (kind.Move b mem n l) step) held.ties.pool;
+        tt = subst (λ k. IsTt script.sizes (applied script s (actor.Thread t) (kind.Move b mem n l)).core.buffers (applied script s (actor.Thread t) (kind.Move b mem n l)).core.ghosts k) (sym rne) (spans_then Tt tt_out p.tt held.represents.tt);
+        pool = pool_behind script s (actor.Thread t) (owner_law script journal held.fits held.legal) (kind.Move b mem n l) p.pool (next_tells script held.fits journal held.legal (actor.Thread t) (kind.Move b mem n l) step) held.represents.pool;
         swap = subst (λ bytes. AreSlots script.sizes.swap (held_slots (applied script s (actor.Thread t) (kind.Move b mem n l)).core) bytes p.swap) same swap_then;
         stores = subst (λ bytes. AreStores script.sizes (aperture (applied script s (actor.Thread t) (kind.Move b mem n l)).core) bytes (record p.stores { aper = aper })) same
             (subst (λ k. HasStoresAfter script s (stores_of script journal) (actor.Thread t) (kind.Move b mem n l) (record p.stores { aper = k })) (sym mapped) stores_then);
-        lists = subst (λ k. AreListed script (changed (moved mem (move_id n)) s.core.buffers b) s.grips (touched script (changed (moved mem (move_id n)) s.core.buffers b) s.grips s.lists b) k) (sym oe)
-            (move_lists script s p.lru b held.ties.lists members mem (move_id n) l x move.live);
-        courses = held.ties.courses;
-        stamp = held.ties.stamp;
-        ghost = lge ∙ ap (last_ghost_left l) held.ties.ghost;
-        no_more = held.ties.no_more;
+        lists = subst (λ k. AreListed script (changed (moved mem (move_id n)) s.core.buffers b) s.reservations (touched script (changed (moved mem (move_id n)) s.core.buffers b) s.reservations s.lists b) k) (sym oe)
+            (move_lists script s p.lru b held.represents.lists members mem (move_id n) l x move.live);
+        courses = held.represents.courses;
+        stamp = held.represents.stamp;
+        ghost = lge ∙ ap (last_ghost_left l) held.represents.ghost;
+        no_more = held.represents.no_more;
       })

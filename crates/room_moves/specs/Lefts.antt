@@ -9,7 +9,7 @@ use Rattle.journal_model.specs.declared.entry.Left.TheVariants as left
 use Rattle.journal_model.specs.declared.state.Buffer.{Buffer}
 use Rattle.journal_model.specs.ApplyMoves.{frames_left}
 use Rattle.journal_model.specs.Holds.{spans_in}
-use Rattle.room_ties.specs.declared.parts.Ghost.{Ghost}
+use Rattle.room_representation.specs.declared.parts.Ghost.{Ghost}
 
 -- the ghost that a buffer leaves, which waits for the move's job alone
 abbrev pub ghost_of : ℕ → Buffer → JobId → ℕ → Ghost

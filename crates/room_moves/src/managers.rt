@@ -2,7 +2,7 @@ ghost use Rattle.std.specs.Prelude.{◌≡◌, false};
 ghost use Rattle.ttm_base.specs.declared.Owner.TheVariants as owner;
 ghost use Rattle.resource_core.specs.Resources.{holds};
 ghost use Rattle.resource_core.specs.Vram.{spans_of_kind};
-ghost use Rattle.room_ties.specs.lemma_room_spans.Calls.{arrived, carried, left_by};
+ghost use Rattle.room_representation.specs.lemma_room_spans.Calls.{arrived, carried, left_by};
 ghost use Rattle.room_moves.specs.Rooms.{CanCarry, CanLeave, with_fence_left};
 
 use journal_model::Left;

@@ -3,7 +3,7 @@ ghost use Rattle.ttm_base.specs.declared.Mem.TheVariants.{Tt as InTt};
 ghost use Rattle.journal_model.specs.State.{target_spans};
 ghost use Rattle.journal_model.specs.Places.{pages_of};
 ghost use Rattle.room_pages.specs.room_binds.Apertures.{AreBelow};
-ghost use Rattle.room_ties.specs.room_steps.Lent.{as_buffer};
+ghost use Rattle.room_representation.specs.room_steps.Lent.{as_buffer};
 ghost use Rattle.room_moves.specs.Mappings.{mapped_in};
 
 use aperture_table::Aperture;

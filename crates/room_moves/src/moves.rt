@@ -3,7 +3,7 @@ ghost use Rattle.ttm_base.specs.declared.Actor.TheVariants as actor;
 ghost use Rattle.journal_model.specs.declared.entry.Kind.TheVariants as kind;
 ghost use Rattle.journal_model.specs.ApplyMoves.{last_ghost_left};
 ghost use Rattle.journal_model.specs.Legal.{IsLegalNext, world_of};
-ghost use Rattle.room_ties.specs.Held.{AreHeld};
+ghost use Rattle.room_representation.specs.Held.{AreHeld};
 
 use crate::ghosts::ghost_left;
 use crate::managers::{carry_spans, keep_move_fence};
@@ -12,7 +12,7 @@ use crate::packets::move_packets;
 use crate::starts::{start_job, waits_of};
 use journal_model::{Entry, Left, Script};
 use room_pages::room_binds::relist;
-use room_ties::Parts;
+use room_representation::Parts;
 use std::alloc::Global;
 use ttm_base::{BufId, JobId, Mem, NoMemory, Usage};
 

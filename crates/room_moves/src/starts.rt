@@ -6,7 +6,7 @@ ghost use Rattle.copy_engine.specs.Pushes.{with_pushed};
 use bo_table::Bo;
 use copy_engine::Rings;
 use fence_core::FenceSet;
-use room_ties::{Ghost, Ghosts};
+use room_representation::{Ghost, Ghosts};
 use std::alloc::Global;
 use ttm_base::{JobId, NoMemory, Packet, Usage};
 

@@ -27,35 +27,35 @@ use Rattle.journal_model.specs.Legal.{IsLegalNext, state_of, world_of, world_aft
 use Rattle.laws.proofs.law_owners.Law.{owner_law}
 use Rattle.laws.specs.lemma_bytes_told.Told.{IsThere, Told, still, swaps_out}
 use Rattle.laws.proofs.law_transparent.Carried.{told_law}
-use Rattle.room_ties.proofs.lemma_room_lists.KindLaws.{changed_unseen}
-use Rattle.room_ties.proofs.lemma_room_spans.Still.{swap_out_spans}
-use Rattle.room_ties.specs.declared.parts.Parts.{Parts}
-use Rattle.room_ties.specs.Held.{AreHeld}
-use Rattle.room_ties.specs.Pages.{ArePooled, AreSlots}
-use Rattle.room_ties.specs.Ties.{Ties}
-use Rattle.room_ties.proofs.lemma_room_jobs.Packets.{nothing_beyond}
-use Rattle.room_ties.specs.lemma_room_bytes.After.{frame_at}
-use Rattle.room_ties.specs.lemma_room_bytes.GivenBack.{given, taken}
-use Rattle.room_ties.proofs.lemma_room_bytes.Lowest.{slot_first, lowest_is_unheld}
-use Rattle.room_ties.proofs.lemma_room_bytes.Marks.{length-marks}
-use Rattle.room_ties.proofs.lemma_room_bytes.Pools.{swap_out_pooled}
-use Rattle.room_ties.proofs.lemma_room_bytes.SlotKinds.{swap_out_slots}
-use Rattle.room_ties.proofs.lemma_room_bytes.Telling.{to_empty}
-use Rattle.room_ties.proofs.lemma_room_bytes.Walks.{frames_within, page_held}
-use Rattle.room_ties.proofs.lemma_room_bytes.Fills.{swap_out_stores}
-use Rattle.room_ties.proofs.lemma_room_bytes.Shown.{frame_read}
+use Rattle.room_representation.proofs.lemma_room_lists.KindLaws.{changed_unseen}
+use Rattle.room_representation.proofs.lemma_room_spans.Still.{swap_out_spans}
+use Rattle.room_representation.specs.declared.parts.Parts.{Parts}
+use Rattle.room_representation.specs.Held.{AreHeld}
+use Rattle.room_representation.specs.Pages.{ArePooled, AreSlots}
+use Rattle.room_representation.specs.Represents.{Represents}
+use Rattle.room_representation.proofs.lemma_room_jobs.Packets.{nothing_beyond}
+use Rattle.room_representation.specs.lemma_room_bytes.After.{frame_at}
+use Rattle.room_representation.specs.lemma_room_bytes.GivenBack.{given, taken}
+use Rattle.room_representation.proofs.lemma_room_bytes.Lowest.{slot_first, lowest_is_unheld}
+use Rattle.room_representation.proofs.lemma_room_bytes.Marks.{length-marks}
+use Rattle.room_representation.proofs.lemma_room_bytes.Pools.{swap_out_pooled}
+use Rattle.room_representation.proofs.lemma_room_bytes.SlotKinds.{swap_out_slots}
+use Rattle.room_representation.proofs.lemma_room_bytes.Telling.{to_empty}
+use Rattle.room_representation.proofs.lemma_room_bytes.Walks.{frames_within, page_held}
+use Rattle.room_representation.proofs.lemma_room_bytes.Fills.{swap_out_stores}
+use Rattle.room_representation.proofs.lemma_room_bytes.Shown.{frame_read}
 use Rattle.room_pages.specs.Tables.{frame_in}
 use Rattle.room_pages.proofs.Padded.{length-padded, long_before, padded_over, padded_same}
-use Rattle.room_ties.proofs.room_steps.Steps.{held_after, step_as}
-use Rattle.room_ties.proofs.room_steps.Frames.{changed_bos}
-use Rattle.room_ties.proofs.room_steps.Lent.{is_below, lent_below, lent_table}
+use Rattle.room_representation.proofs.room_steps.Steps.{held_after, step_as}
+use Rattle.room_representation.proofs.room_steps.Frames.{changed_bos}
+use Rattle.room_representation.proofs.room_steps.Lent.{is_below, lent_below, lent_table}
 
 -- ---- slots whose number of bytes is known only behind the page that is put there
 
-module _ (script : Script) (s : State) (who : Actor) (bytes : PageBytes) (swap : SwapSlots) (tie : AreSlots script.sizes.swap (held_slots s.core) bytes swap) where
+module _ (script : Script) (s : State) (who : Actor) (bytes : PageBytes) (swap : SwapSlots) (representation : AreSlots script.sizes.swap (held_slots s.core) bytes swap) where
   -- zeros behind the last slot change nothing
   padded_slots : (m : ℕ) → AreSlots script.sizes.swap (held_slots s.core) bytes (record { held = swap.held; bytes = swap.bytes ++ replicate m 0 })
-  padded_slots m = record { held_are = tie.held_are; bytes_are = λ k o e. ap (λ n. if nat_lt o 4096 then n else 0) (padded_same swap.bytes m (4096 * k + o)) ∙ tie.bytes_are k o e }
+  padded_slots m = record { held_are = representation.held_are; bytes_are = λ k o e. ap (λ n. if nat_lt o 4096 then n else 0) (padded_same swap.bytes m (4096 * k + o)) ∙ representation.bytes_are k o e }
 
   module _ (b : BufId) (live : IsThere s b) (page f k : ℕ) (copy : List ℕ) (at : slice_get (buffer s b).table page ≡ Some (loc.Frame f)) (free : free_slot script s.core ≡ Some k) (whole : length copy ≡ 4096)
       (same : (o : ℕ) → o < 4096 → slice_index copy o ≡ bytes (page_at (buffer s b) page) o) where
@@ -66,13 +66,13 @@ module _ (script : Script) (s : State) (who : Actor) (bytes : PageBytes) (swap :
     inside : k < length swap.held
     inside =
         let below = (lowest_is_unheld (held_slots s.core) script.sizes.swap k free).1 in
-        let long : length swap.held ≡ script.sizes.swap = ap length tie.held_are ∙ length-marks (held_slots s.core) script.sizes.swap in
+        let long : length swap.held ≡ script.sizes.swap = ap length representation.held_are ∙ length-marks (held_slots s.core) script.sizes.swap in
         omega (arith, below, long)
 
     -- the page is put there, be all bytes of the slots there or not
     put_there : (length swap.bytes ≡ 4096 * length swap.held) ⊎ ((4096 * k ≤ length swap.bytes) × (length swap.bytes ≤ 4096 * length swap.held) × (4096 * k + length copy ≡ 4096 * length swap.held)) →
         AreSlotsAfter (record { held = taken swap.held k; bytes = overwritten swap.bytes (4096 * k) copy })
-    put_there (inl long) = swap_out_slots script s who bytes swap tie b live page f k copy at free whole long same
+    put_there (inl long) = swap_out_slots script s who bytes swap representation b live page f k copy at free whole long same
     put_there (inr last) =
         let m : ℕ = 4096 * length swap.held - length swap.bytes in
         let start = last.0 in
@@ -89,10 +89,10 @@ module _ (script : Script) (s : State) (who : Actor) (bytes : PageBytes) (swap :
         let all : length new.held ≡ length swap.held = ap length held ∙ length-set swap.held k true in
         let full : length (overwritten swap.bytes (4096 * k) copy) ≡ 4096 * length swap.held = sym (ap length put) ∙ long ∙ ap (λ n. 4096 * n) all in
         let fits = inside in
-        let tied = put_there (long_before swap.bytes copy (4096 * k) (4096 * length swap.held) (omega (arith, fits, whole)) full) in
+        let represented = put_there (long_before swap.bytes copy (4096 * k) (4096 * length swap.held) (omega (arith, fits, whole)) full) in
         record {
-          held_are = held ∙ tied.held_are;
-          bytes_are = λ i o e. ap (λ l. byte_at l i o) put ∙ tied.bytes_are i o (sym (ap (λ h. slice_get h i) held) ∙ e);
+          held_are = held ∙ represented.held_are;
+          bytes_are = λ i o e. ap (λ l. byte_at l i o) put ∙ represented.bytes_are i o (sym (ap (λ h. slice_get h i) held) ∙ e);
         }
 
 -- ---- all parts
@@ -119,7 +119,7 @@ module _ (script : Script) (journal : List Entry) (p : Parts) (entry : Entry) (t
   its_frame = frame_at (buffer s b) page
 
   -- the table has the buffer
-  pub swap_out_below : b.0 < length p.bos.grips
+  pub swap_out_below : b.0 < length p.bos.reservations
   swap_out_below = lent_below script journal p held b gone.live
 
   -- the page has its frame in the table that is lent
@@ -136,18 +136,18 @@ module _ (script : Script) (journal : List Entry) (p : Parts) (entry : Entry) (t
 
   frame_held : slice_get p.pool its_frame ≡ Some true
   frame_held =
-      page_held frame_of script.sizes.frames (held_frames s.core) p.pool held.ties.pool.held_are (owner_law script journal held.fits held.legal).frames (buffer s b).table (frames_within s.core b (buffer s b) gone.live) page (loc.Frame its_frame) its_frame gone.at refl
+      page_held frame_of script.sizes.frames (held_frames s.core) p.pool held.represents.pool.held_are (owner_law script journal held.fits held.legal).frames (buffer s b).table (frames_within s.core b (buffer s b) gone.live) page (loc.Frame its_frame) its_frame gone.at refl
 
   below : its_frame < script.sizes.frames
   below =
       let there = is_below p.pool its_frame true frame_held in
-      let all : length p.pool ≡ script.sizes.frames = ap length held.ties.pool.held_are ∙ length-marks (held_frames s.core) script.sizes.frames in
+      let all : length p.pool ≡ script.sizes.frames = ap length held.represents.pool.held_are ∙ length-marks (held_frames s.core) script.sizes.frames in
       omega (arith, there, all)
 
   -- its bytes are in the stores
   pub swap_out_inside : (bo : Bo) (f : ℕ) → IsBo p.bos b bo → frame_in bo.table page ≡ Some f → 4096 * f + 4096 ≤ length p.stores.frames
   swap_out_inside bo f lent e =
-      let n = held.ties.stores.frame_size in
+      let n = held.represents.stores.frame_size in
       let l = below in
       let same = same_frame bo f lent e in
       omega (arith, n, l, same)
@@ -159,7 +159,7 @@ module _ (script : Script) (journal : List Entry) (p : Parts) (entry : Entry) (t
   -- the page has the bytes of its frame
   page_read : (o : ℕ) → o < 4096 → slice_index (part p.stores.frames (4096 * its_frame) 4096) o ≡ (world_of script journal).stores (page_at (buffer s b) page) o
   page_read o l =
-      frame_read script.sizes (aperture s.core) (world_of script journal).stores p.stores held.ties.stores its_frame below o l
+      frame_read script.sizes (aperture s.core) (world_of script journal).stores p.stores held.represents.stores its_frame below o l
       ∙ sym (ap (λ q. (world_of script journal).stores q o) (ap (λ m. page_in m (buffer s b) page) gone.home ∙ ap (λ q. page_in_table (unwrap_or q loc.Zero)) gone.at))
 
   -- all parts behind the entry
@@ -169,30 +169,30 @@ module _ (script : Script) (journal : List Entry) (p : Parts) (entry : Entry) (t
       bos ≡ with_changed (with_loc page (loc.Slot k)) p.bos b → AreHeld script (journal ++ entry ∷ []) (record p { pool = pool; swap = swap; bos = bos })
   swap_out_held pool swap bos bo f o copy lent read whole long first held_now put full back e =
       let w = world_of script journal in
-      let ties = held.ties in
+      let represents = held.represents in
       let q : Parts = record p { pool = pool; swap = swap; bos = bos } in
       let same = same_frame bo f lent read in
-      let lowest : o ≡ Some k = first ∙ slot_first script s.core w.stores p.swap ties.swap ∙ gone.free in
+      let lowest : o ≡ Some k = first ∙ slot_first script s.core w.stores p.swap represents.swap ∙ gone.free in
       let held_then : swap.held ≡ slice_set p.swap.held k true = subst (λ x. IfSome x (λ j. swap.held ≡ slice_set p.swap.held j true)) lowest held_now in
       let put_then : swap.bytes ≡ overwritten p.swap.bytes (4096 * k) copy = subst (λ x. IfSome x (λ j. swap.bytes ≡ overwritten p.swap.bytes (4096 * j) copy)) lowest put in
       let bytes_same : (i : ℕ) → i < 4096 → slice_index copy i ≡ w.stores (page_at (buffer s b) page) i = λ i l. ap (λ c. slice_index c i) (whole ∙ ap (λ n. part p.stores.frames (4096 * n) 4096) (sym same)) ∙ page_read i l in
       held_after script journal p q entry held legal
-      (subst (λ (y : Entry). Ties script (world_after script w y).state (world_after script w y).stores q) (sym is)
+      (subst (λ (y : Entry). Represents script (world_after script w y).state (world_after script w y).stores q) (sym is)
       (record {
-        bos = changed_bos (with_loc page (loc.Slot k)) (λ x. refl) (λ x. refl) script s.core.buffers s.grips s.last_jobs p.bos ties.bos b bos e;
-        line = ties.line;
-        rings = ties.rings;
-        ghosts = ties.ghosts;
-        vram = record { rule = ties.vram.rule; held_as = swap_out_spans script.sizes.vram Vram s p.vram.resources ties.vram.held_as b page k; fence = ties.vram.fence };
-        tt = swap_out_spans script.sizes.tt Tt s p.tt ties.tt b page k;
+        bos = changed_bos (with_loc page (loc.Slot k)) (λ x. refl) (λ x. refl) script s.core.buffers s.reservations s.last_jobs p.bos represents.bos b bos e;
+        line = represents.line;
+        rings = represents.rings;
+        ghosts = represents.ghosts;
+        vram = record { rule = represents.vram.rule; held_as = swap_out_spans script.sizes.vram Vram s p.vram.resources represents.vram.held_as b page k; fence = represents.vram.fence };
+        tt = swap_out_spans script.sizes.tt Tt s p.tt represents.tt b page k;
         pool = subst (λ l. ArePooled script.sizes.frames (held_frames (after_swap_out s b page k).core) l) (ap (given p.pool) same ∙ sym back)
-            (swap_out_pooled script s b gone.live p.pool ties.pool page its_frame k (owner_law script journal held.fits held.legal).frames gone.at);
-        swap = swapped_slots script s (actor.Thread t) w.stores p.swap ties.swap b gone.live page its_frame k copy gone.at gone.free long bytes_same swap held_then put_then full;
-        stores = swap_out_stores script s w.stores p.stores ties.stores (actor.Thread t) b out page k;
-        lists = changed_unseen script (with_loc page (loc.Slot k)) s.core.buffers s.grips s.lists p.lru b (λ x. refl) ties.lists;
-        courses = ties.courses;
-        stamp = ties.stamp;
-        ghost = ties.ghost;
+            (swap_out_pooled script s b gone.live p.pool represents.pool page its_frame k (owner_law script journal held.fits held.legal).frames gone.at);
+        swap = swapped_slots script s (actor.Thread t) w.stores p.swap represents.swap b gone.live page its_frame k copy gone.at gone.free long bytes_same swap held_then put_then full;
+        stores = swap_out_stores script s w.stores p.stores represents.stores (actor.Thread t) b out page k;
+        lists = changed_unseen script (with_loc page (loc.Slot k)) s.core.buffers s.reservations s.lists p.lru b (λ x. refl) represents.lists;
+        courses = represents.courses;
+        stamp = represents.stamp;
+        ghost = represents.ghost;
         no_more = nothing_beyond script.sizes (stores_after script s (actor.Thread t) (kind.SwapOut b page k) w.stores);
       }))
     where

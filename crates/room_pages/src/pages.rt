@@ -2,12 +2,12 @@ ghost use Rattle.std.specs.Prelude.{◌≡◌, ◌∷◌, ◌++◌, []};
 ghost use Rattle.ttm_base.specs.declared.Actor.TheVariants as actor;
 ghost use Rattle.journal_model.specs.declared.entry.Kind.TheVariants as kind;
 ghost use Rattle.journal_model.specs.Legal.{IsLegalNext, world_of};
-ghost use Rattle.room_ties.specs.Held.{AreHeld};
+ghost use Rattle.room_representation.specs.Held.{AreHeld};
 
 use crate::frames::{frame_of_page, give_frames};
 use byte_store::PAGE;
 use journal_model::{Entry, Script};
-use room_ties::Parts;
+use room_representation::Parts;
 use ttm_base::{BufId, Loc};
 
 /// A buffer in VRAM gives its frames back, since its bytes don't stand there.

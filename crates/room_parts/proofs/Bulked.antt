@@ -21,13 +21,13 @@ use Rattle.journal_model.specs.Legal.{IsLegalNext, state_of, stores_of, world_of
 use Rattle.laws.proofs.law_state.Rules.{rules_of, at_work_rules}
 use Rattle.laws.proofs.law_sound.Along.{Stepped}
 use Rattle.laws.proofs.law_sound.Gifts.{Gives, shifts, seeks, fills}
-use Rattle.room_ties.specs.lemma_room_lists.Listed.{AreListed}
-use Rattle.room_ties.proofs.lemma_room_lists.KindLaws.{bulk_lists}
-use Rattle.room_ties.specs.declared.parts.Parts.{Parts}
-use Rattle.room_ties.specs.Held.{AreHeld}
-use Rattle.room_ties.specs.room_steps.Courses.{course_at, with_course_by}
-use Rattle.room_ties.proofs.room_steps.Steps.{held_still, thread_stepped, thread_there}
-use Rattle.room_ties.proofs.room_steps.Frames.{eased_tied}
+use Rattle.room_representation.specs.lemma_room_lists.Listed.{AreListed}
+use Rattle.room_representation.proofs.lemma_room_lists.KindLaws.{bulk_lists}
+use Rattle.room_representation.specs.declared.parts.Parts.{Parts}
+use Rattle.room_representation.specs.Held.{AreHeld}
+use Rattle.room_representation.specs.room_steps.Courses.{course_at, with_course_by}
+use Rattle.room_representation.proofs.room_steps.Steps.{held_still, thread_stepped, thread_there}
+use Rattle.room_representation.proofs.room_steps.Frames.{eased_represented}
 
 below_sixteen : (group : ℕ) → nat_le group 15 ≡ true → group < 16
 below_sixteen group h = grind (arith, nat_tests)
@@ -52,13 +52,13 @@ module _ (script : Script) (journal : List Entry) (p : Parts) (entry : Entry) (t
   bulk_known =
       let step = stepped.step in
       let fits = (at_work_rules script (rules_of script held.fits) s t step.cmd step.at_work).command in
-      subst (λ n. group < n) (sym held.ties.lists.groups_are) (below_sixteen group (group_in (course s t) step.cmd step.task fits stepped.gives))
+      subst (λ n. group < n) (sym held.represents.lists.groups_are) (below_sixteen group (group_in (course s t) step.cmd step.task fits stepped.gives))
 
   pub bulk_held : (courses : List Course) (o : Order) → courses ≡ with_course_by has_made p.courses t → o ≡ bulk_moved p.lru group → AreMembersListed p.lru →
       AreHeld script (journal ++ entry ∷ []) (record p { lru = o; courses = courses })
   bulk_held courses o c l members =
       held_still script journal p (record p { lru = o; courses = courses }) entry (record { who = actor.Thread t; kind = kind.Bulk group }) held is legal refl
-      (eased_tied script s (stores_of script journal) p held.ties p.bos o courses p.tickets s.grips (map (state.members_last (state.is_member script group)) s.lists) (with_course_by has_made s.courses t) s.last_stamp
-      (ap (λ gs. record p.bos { grips = gs }) held.ties.bos.grips_are)
-      (subst (λ x. AreListed script s.core.buffers s.grips (map (state.members_last (state.is_member script group)) s.lists) x) (sym l) (bulk_lists script s p.lru (record { 0 = 0 }) held.ties.lists members t group))
-      (c ∙ ap (λ cs. with_course_by has_made cs t) held.ties.courses) held.ties.stamp)
+      (eased_represented script s (stores_of script journal) p held.represents p.bos o courses p.tickets s.reservations (map (state.members_last (state.is_member script group)) s.lists) (with_course_by has_made s.courses t) s.last_stamp
+      (ap (λ gs. record p.bos { reservations = gs }) held.represents.bos.reservations_are)
+      (subst (λ x. AreListed script s.core.buffers s.reservations (map (state.members_last (state.is_member script group)) s.lists) x) (sym l) (bulk_lists script s p.lru (record { 0 = 0 }) held.represents.lists members t group))
+      (c ∙ ap (λ cs. with_course_by has_made cs t) held.represents.courses) held.represents.stamp)

@@ -8,7 +8,7 @@ use Rattle.ttm_base.specs.declared.Mem.{Mem}
 use Rattle.ttm_base.specs.declared.Mem.TheVariants.{System, Tt, Vram}
 use Rattle.ttm_base.specs.declared.Stamp.{Stamp}
 use Rattle.ttm_base.specs.Reach.{same_mem, intersects}
-use Rattle.bo_table.specs.Seen.{Bos, with_changed, with_grip}
+use Rattle.bo_table.specs.Seen.{Bos, with_changed, with_reservation}
 use Rattle.lru_bulk.specs.Lists.{Order, touched}
 use Rattle.lru_bulk.specs.Members.{AreMembersListed}
 use Rattle.journal_model.specs.declared.script.Script.{Script}
@@ -16,12 +16,12 @@ use Rattle.journal_model.specs.declared.script.Command.{Command}
 use Rattle.journal_model.specs.declared.state.State.{State}
 use Rattle.journal_model.specs.declared.state.Buffer.{Buffer}
 use Rattle.journal_model.specs.declared.state.Course.{Course}
-use Rattle.journal_model.specs.declared.state.Grip.{Grip}
+use Rattle.journal_model.specs.declared.state.Reservation.{Reservation}
 use Rattle.journal_model.specs.declared.state.Task.{Task}
 use Rattle.journal_model.specs.declared.entry.Entry.{Entry}
 use Rattle.journal_model.specs.declared.entry.Why.{Why}
 use Rattle.journal_model.specs.declared.entry.Kind.TheVariants as kind
-use Rattle.journal_model.specs.State.{changed, course, buffer, grip, grip_in, regripped, has_buffer}
+use Rattle.journal_model.specs.State.{changed, course, buffer, reservation, reservation_in, reservation_changed, has_buffer}
 use Rattle.journal_model.specs.ApplyCommands.{with_holder}
 use Rattle.journal_model.specs.ApplyPages as pages
 use Rattle.journal_model.specs.ApplyVictims.{leaves_tt, with_victim, with_skip, no_longer_caught, with_fail, after_catch}
@@ -33,17 +33,17 @@ use Rattle.journal_model.specs.Legal.{IsLegalNext, state_of, stores_of, world_of
 use Rattle.laws.proofs.law_sound.Along.{Stepped}
 use Rattle.laws.proofs.law_sound.Bufs.{found_passes}
 use Rattle.laws.proofs.law_sound.Gifts.{Gives, seeks, fills, evicts, evicts_for_swap}
-use Rattle.room_ties.specs.lemma_room_lists.Listed.{AreListed}
-use Rattle.room_ties.proofs.lemma_room_lists.KindLaws.{regripped_unseen, loose_lists}
-use Rattle.room_ties.proofs.lemma_room_jobs.Stays.{KeepsPlaces}
-use Rattle.room_ties.proofs.lemma_room_spans.Still.{catch_spans}
-use Rattle.room_ties.specs.declared.parts.Parts.{Parts}
-use Rattle.room_ties.specs.Bos.{unfenced}
-use Rattle.room_ties.specs.Held.{AreHeld}
-use Rattle.room_ties.specs.Ties.{Ties}
-use Rattle.room_ties.specs.room_steps.Courses.{course_at, course_in, with_course_by}
-use Rattle.room_ties.proofs.room_steps.Steps.{held_still, thread_stepped, thread_there}
-use Rattle.room_ties.proofs.room_steps.Frames.{LeavesInPlace, eased_tied, changed_tied}
+use Rattle.room_representation.specs.lemma_room_lists.Listed.{AreListed}
+use Rattle.room_representation.proofs.lemma_room_lists.KindLaws.{reservation_changed_unseen, loose_lists}
+use Rattle.room_representation.proofs.lemma_room_jobs.Stays.{KeepsPlaces}
+use Rattle.room_representation.proofs.lemma_room_spans.Still.{catch_spans}
+use Rattle.room_representation.specs.declared.parts.Parts.{Parts}
+use Rattle.room_representation.specs.Bos.{unfenced}
+use Rattle.room_representation.specs.Held.{AreHeld}
+use Rattle.room_representation.specs.Represents.{Represents}
+use Rattle.room_representation.specs.room_steps.Courses.{course_at, course_in, with_course_by}
+use Rattle.room_representation.proofs.room_steps.Steps.{held_still, thread_stepped, thread_there}
+use Rattle.room_representation.proofs.room_steps.Frames.{LeavesInPlace, eased_represented, changed_represented}
 
 -- ---- no frame is to be had
 
@@ -55,8 +55,8 @@ module _ (script : Script) (journal : List Entry) (p : Parts) (entry : Entry) (t
   no_pages_held courses c =
       let s = state_of script journal in
       held_still script journal p (record p { courses = courses }) entry (record { who = actor.Thread t; kind = kind.NoPages b }) held is legal refl
-      (eased_tied script s (stores_of script journal) p held.ties p.bos p.lru courses p.tickets s.grips s.lists (with_course_by (with_fail b deny.NoPages) s.courses t) s.last_stamp
-      (ap (λ gs. record p.bos { grips = gs }) held.ties.bos.grips_are) held.ties.lists (c ∙ ap (λ cs. with_course_by (with_fail b deny.NoPages) cs t) held.ties.courses) held.ties.stamp)
+      (eased_represented script s (stores_of script journal) p held.represents p.bos p.lru courses p.tickets s.reservations s.lists (with_course_by (with_fail b deny.NoPages) s.courses t) s.last_stamp
+      (ap (λ gs. record p.bos { reservations = gs }) held.represents.bos.reservations_are) held.represents.lists (c ∙ ap (λ cs. with_course_by (with_fail b deny.NoPages) cs t) held.represents.courses) held.represents.stamp)
 
 -- ---- a victim is let go
 
@@ -64,30 +64,30 @@ module _ (script : Script) (journal : List Entry) (p : Parts) (entry : Entry) (t
   pub skip_there : IsSome (course_at p.courses t)
   skip_there = thread_there script journal p held t (kind.Skip b) entry is legal refl
 
-  pub skip_held : (courses : List Course) (bos : Bos) → courses ≡ with_course_by (λ c. with_skip b (no_longer_caught b c)) p.courses t → bos ≡ with_grip (with_holder None) p.bos b →
+  pub skip_held : (courses : List Course) (bos : Bos) → courses ≡ with_course_by (λ c. with_skip b (no_longer_caught b c)) p.courses t → bos ≡ with_reservation (with_holder None) p.bos b →
       AreHeld script (journal ++ entry ∷ []) (record p { courses = courses; bos = bos })
   skip_held courses bos c g =
       let s = state_of script journal in
       held_still script journal p (record p { courses = courses; bos = bos }) entry (record { who = actor.Thread t; kind = kind.Skip b }) held is legal refl
-      (eased_tied script s (stores_of script journal) p held.ties bos p.lru courses p.tickets (regripped (with_holder None) s.grips b) s.lists (with_course_by (λ c. with_skip b (no_longer_caught b c)) s.courses t) s.last_stamp
-      (g ∙ ap (λ (gs : List Grip). record p.bos { grips = regripped (with_holder None) gs b }) held.ties.bos.grips_are)
-      (regripped_unseen script (with_holder None) s.core.buffers s.grips s.lists p.lru b (λ x. refl) held.ties.lists)
-      (c ∙ ap (λ cs. with_course_by (λ c. with_skip b (no_longer_caught b c)) cs t) held.ties.courses) held.ties.stamp)
+      (eased_represented script s (stores_of script journal) p held.represents bos p.lru courses p.tickets (reservation_changed (with_holder None) s.reservations b) s.lists (with_course_by (λ c. with_skip b (no_longer_caught b c)) s.courses t) s.last_stamp
+      (g ∙ ap (λ (gs : List Reservation). record p.bos { reservations = reservation_changed (with_holder None) gs b }) held.represents.bos.reservations_are)
+      (reservation_changed_unseen script (with_holder None) s.core.buffers s.reservations s.lists p.lru b (λ x. refl) held.represents.lists)
+      (c ∙ ap (λ cs. with_course_by (λ c. with_skip b (no_longer_caught b c)) cs t) held.represents.courses) held.represents.stamp)
 
 module _ (script : Script) (journal : List Entry) (p : Parts) (entry : Entry) (t : ℕ) (b : BufId) (held : AreHeld script journal p) (is : entry ≡ record { who = actor.Thread t; kind = kind.Loose b }) (legal : IsLegalNext script (world_of script journal) entry) where
   pub loose_there : IsSome (course_at p.courses t)
   loose_there = thread_there script journal p held t (kind.Loose b) entry is legal refl
 
-  pub loose_held : (courses : List Course) (bos : Bos) (o : Order) → courses ≡ with_course_by (no_longer_caught b) p.courses t → bos ≡ with_grip (with_holder None) p.bos b → o ≡ touched p.lru b → AreMembersListed p.lru →
+  pub loose_held : (courses : List Course) (bos : Bos) (o : Order) → courses ≡ with_course_by (no_longer_caught b) p.courses t → bos ≡ with_reservation (with_holder None) p.bos b → o ≡ touched p.lru b → AreMembersListed p.lru →
       AreHeld script (journal ++ entry ∷ []) (record p { courses = courses; bos = bos; lru = o })
   loose_held courses bos o c g l members =
       let s = state_of script journal in
-      let grips = regripped (with_holder None) s.grips b in
+      let reservations = reservation_changed (with_holder None) s.reservations b in
       held_still script journal p (record p { courses = courses; bos = bos; lru = o }) entry (record { who = actor.Thread t; kind = kind.Loose b }) held is legal refl
-      (eased_tied script s (stores_of script journal) p held.ties bos o courses p.tickets grips (state.touched script s.core.buffers grips s.lists b) (with_course_by (no_longer_caught b) s.courses t) s.last_stamp
-      (g ∙ ap (λ (gs : List Grip). record p.bos { grips = regripped (with_holder None) gs b }) held.ties.bos.grips_are)
-      (subst (λ x. AreListed script s.core.buffers grips (state.touched script s.core.buffers grips s.lists b) x) (sym l) (loose_lists script s p.lru b held.ties.lists members t))
-      (c ∙ ap (λ cs. with_course_by (no_longer_caught b) cs t) held.ties.courses) held.ties.stamp)
+      (eased_represented script s (stores_of script journal) p held.represents bos o courses p.tickets reservations (state.touched script s.core.buffers reservations s.lists b) (with_course_by (no_longer_caught b) s.courses t) s.last_stamp
+      (g ∙ ap (λ (gs : List Reservation). record p.bos { reservations = reservation_changed (with_holder None) gs b }) held.represents.bos.reservations_are)
+      (subst (λ x. AreListed script s.core.buffers reservations (state.touched script s.core.buffers reservations s.lists b) x) (sym l) (loose_lists script s p.lru b held.represents.lists members t))
+      (c ∙ ap (λ cs. with_course_by (no_longer_caught b) cs t) held.represents.courses) held.represents.stamp)
 
 -- ---- a victim is caught
 
@@ -142,7 +142,7 @@ module _ (script : Script) (journal : List Entry) (p : Parts) (entry : Entry) (t
   none_is None h = refl
   none_is (Some x) h = cc
 
-  loose_free : (g : Grip) → is_loose g ≡ true → g.holder ≡ None
+  loose_free : (g : Reservation) → is_loose g ≡ true → g.holder ≡ None
   loose_free g h = none_is g.holder (second (g.pins == 0) (is_none g.holder) h)
     where
       second : (a b : Bool) → (a && b) ≡ true → b ≡ true
@@ -159,35 +159,35 @@ module _ (script : Script) (journal : List Entry) (p : Parts) (entry : Entry) (t
   first true b h = refl
   first false b h = cc
 
-  free_in : (why : Why) (c : Course) (cmd : Command) (x : Task) → Gives script s c cmd x (kind.Catch b why) → (grip s b).holder ≡ None
+  free_in : (why : Why) (c : Course) (cmd : Command) (x : Task) → Gives script s c cmd x (kind.Catch b why) → (reservation s b).holder ≡ None
   free_in why c cmd _ (seeks {aim = aim} (evicts place at lacks for found)) =
-      loose_free (grip s b) (third (same_mem (buffer s b).mem place.mem) (intersects (buffer s b).spans (reach_of script place)) (is_loose (grip s b)) (not (has_buffer c.skips b))
+      loose_free (reservation s b) (third (same_mem (buffer s b).mem place.mem) (intersects (buffer s b).spans (reach_of script place)) (is_loose (reservation s b)) (not (has_buffer c.skips b))
       (found_passes (is_evictable script s c.skips place) (in_order s place.mem) b found))
   free_in why c cmd _ (fills (evicts_for_swap slot found)) =
-      loose_free (grip s b) (first (is_loose (grip s b)) (has_frame (buffer s b)) (found_passes (λ d. is_loose (grip s d) && has_frame (buffer s d)) (in_order s System ++ in_order s Tt) b found))
+      loose_free (reservation s b) (first (is_loose (reservation s b)) (has_frame (buffer s b)) (found_passes (λ d. is_loose (reservation s d) && has_frame (buffer s d)) (in_order s System ++ in_order s Tt) b found))
 
-  pub catch_free : (bos : Bos) → bos ≡ with_changed leaving p.bos b → (grip_in bos.grips b).holder ≡ None
+  pub catch_free : (bos : Bos) → bos ≡ with_changed leaving p.bos b → (reservation_in bos.reservations b).holder ≡ None
   catch_free bos e =
-      ap (λ (x : Bos). (grip_in x.grips b).holder) e ∙ ap (λ (gs : List Grip). (grip_in gs b).holder) held.ties.bos.grips_are ∙ free_in w (course s t) stepped.step.cmd stepped.step.task stepped.gives
+      ap (λ (x : Bos). (reservation_in x.reservations b).holder) e ∙ ap (λ (gs : List Reservation). (reservation_in gs b).holder) held.represents.bos.reservations_are ∙ free_in w (course s t) stepped.step.cmd stepped.step.task stepped.gives
 
   -- the buffer has left TT
-  left_tied : (mid : Bos) → mid ≡ with_changed leaving p.bos b → Ties script (pages.with_changed leaving b s) (stores_of script journal) (record p { bos = mid })
-  left_tied mid m =
-      changed_tied script s (stores_of script journal) p held.ties leaving leaving_stays b mid p.vram p.tt m
+  left_represented : (mid : Bos) → mid ≡ with_changed leaving p.bos b → Represents script (pages.with_changed leaving b s) (stores_of script journal) (record p { bos = mid })
+  left_represented mid m =
+      changed_represented script s (stores_of script journal) p held.represents leaving leaving_stays b mid p.vram p.tt m
       (record {
-        rule = held.ties.vram.rule;
-        held_as = catch_spans script.sizes.vram Vram s p.vram.resources held.ties.vram.held_as t b w (λ e. let x : Vram ≡ System = e in cc);
-        fence = held.ties.vram.fence;
+        rule = held.represents.vram.rule;
+        held_as = catch_spans script.sizes.vram Vram s p.vram.resources held.represents.vram.held_as t b w (λ e. let x : Vram ≡ System = e in cc);
+        fence = held.represents.vram.fence;
       })
-      (catch_spans script.sizes.tt Tt s p.tt held.ties.tt t b w (λ e. let x : Tt ≡ System = e in cc))
+      (catch_spans script.sizes.tt Tt s p.tt held.represents.tt t b w (λ e. let x : Tt ≡ System = e in cc))
 
   pub catch_held : (courses : List Course) (mid bos : Bos) (st : Option Stamp) → courses ≡ with_course_by (with_victim b w) p.courses t → st ≡ (course_in p.courses t).stamp →
-      mid ≡ with_changed leaving p.bos b → bos ≡ with_grip (with_holder st) mid b → AreHeld script (journal ++ entry ∷ []) (record p { courses = courses; bos = bos })
+      mid ≡ with_changed leaving p.bos b → bos ≡ with_reservation (with_holder st) mid b → AreHeld script (journal ++ entry ∷ []) (record p { courses = courses; bos = bos })
   catch_held courses mid bos st c i m g =
-      let stamp : st ≡ (course s t).stamp = i ∙ ap (λ (cs : List Course). (course_in cs t).stamp) held.ties.courses in
-      let left = left_tied mid m in
+      let stamp : st ≡ (course s t).stamp = i ∙ ap (λ (cs : List Course). (course_in cs t).stamp) held.represents.courses in
+      let left = left_represented mid m in
       held_still script journal p (record p { courses = courses; bos = bos }) entry (record { who = actor.Thread t; kind = kind.Catch b w }) held is legal refl
-      (eased_tied script (pages.with_changed leaving b s) (stores_of script journal) (record p { bos = mid }) left bos p.lru courses p.tickets (regripped (with_holder (course s t).stamp) s.grips b) s.lists (with_course_by (with_victim b w) s.courses t) s.last_stamp
-      (g ∙ ap (λ (gs : List Grip). record mid { grips = regripped (with_holder st) gs b }) left.bos.grips_are ∙ ap (λ o. record mid { grips = regripped (with_holder o) s.grips b }) stamp)
-      (regripped_unseen script (with_holder (course s t).stamp) (changed leaving s.core.buffers b) s.grips s.lists p.lru b (λ x. refl) left.lists)
-      (c ∙ ap (λ cs. with_course_by (with_victim b w) cs t) held.ties.courses) held.ties.stamp)
+      (eased_represented script (pages.with_changed leaving b s) (stores_of script journal) (record p { bos = mid }) left bos p.lru courses p.tickets (reservation_changed (with_holder (course s t).stamp) s.reservations b) s.lists (with_course_by (with_victim b w) s.courses t) s.last_stamp
+      (g ∙ ap (λ (gs : List Reservation). record mid { reservations = reservation_changed (with_holder st) gs b }) left.bos.reservations_are ∙ ap (λ o. record mid { reservations = reservation_changed (with_holder o) s.reservations b }) stamp)
+      (reservation_changed_unseen script (with_holder (course s t).stamp) (changed leaving s.core.buffers b) s.reservations s.lists p.lru b (λ x. refl) left.lists)
+      (c ∙ ap (λ cs. with_course_by (with_victim b w) cs t) held.represents.courses) held.represents.stamp)

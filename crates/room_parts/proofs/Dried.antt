@@ -14,8 +14,8 @@ use Rattle.bo_table.specs.Seen.{IsBo}
 use Rattle.journal_model.specs.declared.script.Script.{Script}
 use Rattle.journal_model.specs.declared.script.Command.{Command}
 use Rattle.journal_model.specs.declared.script.Decl.{Decl}
-use Rattle.journal_model.specs.declared.state.Aim.{Aim}
-use Rattle.journal_model.specs.declared.state.Aim.TheVariants.{Asked, Hop}
+use Rattle.journal_model.specs.declared.state.SearchAim.{SearchAim}
+use Rattle.journal_model.specs.declared.state.SearchAim.TheVariants.{Asked, Hop}
 use Rattle.journal_model.specs.declared.state.State.{State}
 use Rattle.journal_model.specs.declared.state.Buffer.{Buffer}
 use Rattle.journal_model.specs.declared.state.Course.{Course}
@@ -28,7 +28,7 @@ use Rattle.journal_model.specs.State.{buffer, course, has_buffer, with_course}
 use Rattle.journal_model.specs.Commands.{asked_places, command_at_work, decl, named, undeclared}
 use Rattle.journal_model.specs.Ready.{has_some_target, is_ready}
 use Rattle.journal_model.specs.ScriptRules.{is_decl, is_flagged, is_new_list, is_old_list, is_place, is_place_list}
-use Rattle.journal_model.specs.Search.{Quest, aim_of, is_caught, quest, quest_at_work, through_tt}
+use Rattle.journal_model.specs.Search.{PlaceSearch, aim_of, is_caught, place_search, place_search_at_work, through_tt}
 use Rattle.journal_model.specs.ApplyVictims.{course_after_dry, gone_dry, with_fail}
 use Rattle.journal_model.specs.Legal.{IsLegalNext, state_of, stores_of, world_of}
 use Rattle.laws.proofs.law_state.GoodStates.{good_law}
@@ -39,13 +39,13 @@ use Rattle.laws.proofs.law_sound.Bufs.{has_found, last_caught, none_missing}
 use Rattle.laws.proofs.law_sound.Gifts.{Gives, dries, fills, seeks}
 use Rattle.laws.proofs.law_sound.Turns.{Turn, OnBuffer, victim_search, ask, hop_up, hop_down}
 use Rattle.laws.specs.lemma_bytes_told.Told.{IsThere}
-use Rattle.room_ties.specs.declared.parts.Parts.{Parts}
-use Rattle.room_ties.specs.Held.{AreHeld}
-use Rattle.room_ties.specs.room_steps.Courses.{command_in, course_at, course_in, with_course_by}
-use Rattle.room_ties.proofs.room_steps.Few.{dry_few}
-use Rattle.room_ties.proofs.room_steps.Frames.{eased_tied}
-use Rattle.room_ties.proofs.room_steps.Lent.{is_below, is_there, lent_below, lent_is, stands_at}
-use Rattle.room_ties.proofs.room_steps.Steps.{held_still, thread_stepped, thread_there}
+use Rattle.room_representation.specs.declared.parts.Parts.{Parts}
+use Rattle.room_representation.specs.Held.{AreHeld}
+use Rattle.room_representation.specs.room_steps.Courses.{command_in, course_at, course_in, with_course_by}
+use Rattle.room_representation.proofs.room_steps.Few.{dry_few}
+use Rattle.room_representation.proofs.room_steps.Frames.{eased_represented}
+use Rattle.room_representation.proofs.room_steps.Lent.{is_below, is_there, lent_below, lent_is, stands_at}
+use Rattle.room_representation.proofs.room_steps.Steps.{held_still, thread_stepped, thread_there}
 use Rattle.room_parts.specs.Dries.{dried, searched_places}
 
 -- ---- how many places
@@ -90,14 +90,14 @@ short_places script r b = by (slice_get script.buffers b.0) refl
     by (Some d) e = short_decl script.version d (all_at (is_decl script.version) script.buffers b.0 d r.decls e)
 
 -- the search for a buffer that is no victim looks where its targets and its command say
-searched : (script : Script) (cmd : Command) (c : Course) (b : BufId) (x : Buffer) → is_caught c b ≡ false → (quest script cmd c b (aim_of c b x)).list ≡ searched_places script cmd b x.targets
+searched : (script : Script) (cmd : Command) (c : Course) (b : BufId) (x : Buffer) → is_caught c b ≡ false → (place_search script cmd c b (aim_of c b x)).list ≡ searched_places script cmd b x.targets
 searched script cmd c b x free = by (is_caught c b) free (has_some_target x)
   where
-    hops : (q : Bool) → (let z : Quest = if q then record { list = through_tt; forced = false; dry = 0 } else record { list = through_tt; forced = c.forced; dry = c.dry } in z).list ≡ through_tt
+    hops : (q : Bool) → (let z : PlaceSearch = if q then record { list = through_tt; forced = false; dry = 0 } else record { list = through_tt; forced = c.forced; dry = c.dry } in z).list ≡ through_tt
     hops true = refl
     hops false = refl
 
-    by : (q : Bool) → q ≡ false → (h : Bool) → (quest script cmd c b (if q || h then Hop else Asked)).list ≡ (if h then through_tt else asked_places script cmd b)
+    by : (q : Bool) → q ≡ false → (h : Bool) → (place_search script cmd c b (if q || h then Hop else Asked)).list ≡ (if h then through_tt else asked_places script cmd b)
     by true e h = cc
     by false e true = hops (is_caught c b)
     by false e false = refl
@@ -111,7 +111,7 @@ searched_buffer script s c cmd _ b k w turn (seeks {aim = aim} (dries place at l
     named_held : OnBuffer script s c cmd b → has_buffer c.held b ≡ true
     named_held on = none_missing c cmd b on.named.works.whole (has_found (λ d. not (is_ready script s cmd d)) (named cmd) b on.first)
 
-    by : (a : Aim) → Turn script s c cmd (task.Search b a) → (has_buffer c.held b ≡ true) ⊎ (is_caught c b ≡ true)
+    by : (a : SearchAim) → Turn script s c cmd (task.Search b a) → (has_buffer c.held b ≡ true) ⊎ (is_caught c b ≡ true)
     by a (victim_search v on vram f q) = inr (last_caught c v on.last)
     by a (ask on n) = inl (named_held on.on)
     by a (hop_up on q) = inl (named_held on.on.on)
@@ -131,7 +131,7 @@ module _ (script : Script) (journal : List Entry) (p : Parts) (entry : Entry) (t
   dry_there = thread_there script journal p held t (kind.Dry b k w) entry is legal refl
 
   command_is : command_in script p.courses t ≡ Some stepped.step.cmd
-  command_is = ap (λ cs. command_in script cs t) held.ties.courses ∙ stepped.at
+  command_is = ap (λ cs. command_in script cs t) held.represents.courses ∙ stepped.at
 
   -- the thread is at a command
   pub dry_command : IsSome (command_in script p.courses t)
@@ -146,7 +146,7 @@ module _ (script : Script) (journal : List Entry) (p : Parts) (entry : Entry) (t
   live = is_there s b ((sound_law script journal held.fits held.legal).owned.held t b (searched_buffer script s (course s t) stepped.step.cmd stepped.step.task b k w stepped.turn stepped.gives)).1
 
   -- the buffer can be lent
-  pub dry_below : b.0 < length p.bos.grips
+  pub dry_below : b.0 < length p.bos.reservations
   dry_below = lent_below script journal p held b live
 
   -- it is declared, with few places
@@ -160,11 +160,11 @@ module _ (script : Script) (journal : List Entry) (p : Parts) (entry : Entry) (t
   dry_short = let short = short_places script (rules_of script held.fits) b in omega (arith, short)
 
   -- the course is the definition's
-  dried_as : (c : Course) (cmd : Command) (places : ℕ) → (is_caught c b ≡ false → places ≡ length (forced_places (quest_at_work script s c cmd b).list)) → dried b k places c ≡ course_after_dry script s b k (Some cmd) c
+  dried_as : (c : Course) (cmd : Command) (places : ℕ) → (is_caught c b ≡ false → places ≡ length (forced_places (place_search_at_work script s c cmd b).list)) → dried b k places c ≡ course_after_dry script s b k (Some cmd) c
   dried_as c cmd places h = by (is_caught c b) h
     where
-      by : (q : Bool) → (q ≡ false → places ≡ length (forced_places (quest_at_work script s c cmd b).list)) →
-          (if q then with_fail b deny.NoSpace c else gone_dry k places c) ≡ (if q then with_fail b deny.NoSpace c else gone_dry k (length (forced_places (quest_at_work script s c cmd b).list)) c)
+      by : (q : Bool) → (q ≡ false → places ≡ length (forced_places (place_search_at_work script s c cmd b).list)) →
+          (if q then with_fail b deny.NoSpace c else gone_dry k places c) ≡ (if q then with_fail b deny.NoSpace c else gone_dry k (length (forced_places (place_search_at_work script s c cmd b).list)) c)
       by true h = refl
       by false h = ap (λ n. gone_dry k n c) (h refl)
 
@@ -174,9 +174,9 @@ module _ (script : Script) (journal : List Entry) (p : Parts) (entry : Entry) (t
       let same : Some cmd ≡ Some stepped.step.cmd = sym at ∙ command_is in
       let at_work = stepped.step.at_work ∙ sym same in
       let targets = ap (λ (x : Buffer). x.targets) (lent_is script journal p held b live bo lent) in
-      let n : is_caught (course s t) b ≡ false → places ≡ length (forced_places (quest_at_work script s (course s t) cmd b).list) =
+      let n : is_caught (course s t) b ≡ false → places ≡ length (forced_places (place_search_at_work script s (course s t) cmd b).list) =
       λ free. count ∙ ap (λ ts. length (forced_places (searched_places script cmd b ts))) targets ∙ ap (λ l. length (forced_places l)) (sym (searched script cmd (course s t) b (buffer s b) free)) in
       let after = dried_as (course s t) cmd places n ∙ ap (λ o. course_after_dry script s b k o (course s t)) (sym at_work) in
       held_still script journal p (record p { courses = courses }) entry (record { who = actor.Thread t; kind = kind.Dry b k w }) held is legal refl
-      (eased_tied script s (stores_of script journal) p held.ties p.bos p.lru courses p.tickets s.grips s.lists (with_course_by (λ x. course_after_dry script s b k (command_at_work script s t) x) s.courses t) s.last_stamp
-      (ap (λ gs. record p.bos { grips = gs }) held.ties.bos.grips_are) held.ties.lists (c ∙ ap (λ cs. with_course_by (dried b k places) cs t) held.ties.courses ∙ ap (λ x. with_course s.courses t x) after) held.ties.stamp)
+      (eased_represented script s (stores_of script journal) p held.represents p.bos p.lru courses p.tickets s.reservations s.lists (with_course_by (λ x. course_after_dry script s b k (command_at_work script s t) x) s.courses t) s.last_stamp
+      (ap (λ gs. record p.bos { reservations = gs }) held.represents.bos.reservations_are) held.represents.lists (c ∙ ap (λ cs. with_course_by (dried b k places) cs t) held.represents.courses ∙ ap (λ x. with_course s.courses t x) after) held.represents.stamp)

@@ -19,20 +19,20 @@ use Rattle.journal_model.specs.Stores.{stores_after}
 use Rattle.journal_model.specs.Legal.{World, IsLegalNext, state_of, stores_of, world_of, world_after}
 use Rattle.laws.specs.lemma_bytes_told.Told.{IsThere, Told, still, populates}
 use Rattle.laws.proofs.law_transparent.Carried.{told_law}
-use Rattle.room_ties.proofs.lemma_room_lists.KindLaws.{changed_unseen}
-use Rattle.room_ties.proofs.lemma_room_spans.Still.{populate_spans}
-use Rattle.room_ties.specs.declared.parts.Parts.{Parts}
-use Rattle.room_ties.specs.Held.{AreHeld}
-use Rattle.room_ties.specs.Pages.{ArePooled}
-use Rattle.room_ties.specs.Ties.{Ties}
-use Rattle.room_ties.proofs.lemma_room_jobs.Packets.{nothing_beyond}
-use Rattle.room_ties.proofs.lemma_room_bytes.Lowest.{pool_first, lowest_is_unheld}
-use Rattle.room_ties.proofs.lemma_room_bytes.Pools.{populate_pooled}
-use Rattle.room_ties.proofs.lemma_room_bytes.SlotKinds.{populate_slots}
-use Rattle.room_ties.proofs.lemma_room_bytes.Telling.{to_fill}
-use Rattle.room_ties.proofs.lemma_room_bytes.Fills.{populate_stores}
-use Rattle.room_ties.proofs.room_steps.Steps.{held_after, step_as}
-use Rattle.room_ties.proofs.room_steps.Frames.{changed_bos}
+use Rattle.room_representation.proofs.lemma_room_lists.KindLaws.{changed_unseen}
+use Rattle.room_representation.proofs.lemma_room_spans.Still.{populate_spans}
+use Rattle.room_representation.specs.declared.parts.Parts.{Parts}
+use Rattle.room_representation.specs.Held.{AreHeld}
+use Rattle.room_representation.specs.Pages.{ArePooled}
+use Rattle.room_representation.specs.Represents.{Represents}
+use Rattle.room_representation.proofs.lemma_room_jobs.Packets.{nothing_beyond}
+use Rattle.room_representation.proofs.lemma_room_bytes.Lowest.{pool_first, lowest_is_unheld}
+use Rattle.room_representation.proofs.lemma_room_bytes.Pools.{populate_pooled}
+use Rattle.room_representation.proofs.lemma_room_bytes.SlotKinds.{populate_slots}
+use Rattle.room_representation.proofs.lemma_room_bytes.Telling.{to_fill}
+use Rattle.room_representation.proofs.lemma_room_bytes.Fills.{populate_stores}
+use Rattle.room_representation.proofs.room_steps.Steps.{held_after, step_as}
+use Rattle.room_representation.proofs.room_steps.Frames.{changed_bos}
 
 -- a live buffer out of TT, whose page was never written, gets the lowest free frame
 record IsFresh (script : Script) (s : State) (b : BufId) (page f : ℕ) : Type 0 where
@@ -57,33 +57,33 @@ module _ (script : Script) (journal : List Entry) (p : Parts) (entry : Entry) (t
 
   -- the frame is in the stores
   pub populate_inside : 4096 * f + 4096 ≤ length p.stores.frames
-  populate_inside = let n = held.ties.stores.frame_size in let l = below in omega (arith, n, l)
+  populate_inside = let n = held.represents.stores.frame_size in let l = below in omega (arith, n, l)
 
   pub populate_held : (pool : List Bool) (frames : List ℕ) (bos : Bos) (o : Option ℕ) → o ≡ position not p.pool → IfSome o (λ k. pool ≡ slice_set p.pool k true) →
       frames ≡ overwritten p.stores.frames (4096 * f) (filled 4096 0) → bos ≡ with_changed (with_loc page (loc.Frame f)) p.bos b →
       AreHeld script (journal ++ entry ∷ []) (record p { pool = pool; stores = record p.stores { frames = frames }; bos = bos })
   populate_held pool frames bos o first taken zeros e =
       let w = world_of script journal in
-      let ties = held.ties in
+      let represents = held.represents in
       let q : Parts = record p { pool = pool; stores = record p.stores { frames = frames }; bos = bos } in
-      let lowest : o ≡ Some f = first ∙ pool_first script s.core p.pool ties.pool ∙ fresh.free in
+      let lowest : o ≡ Some f = first ∙ pool_first script s.core p.pool represents.pool ∙ fresh.free in
       let now : pool ≡ slice_set p.pool f true = subst (λ x. IfSome x (λ k. pool ≡ slice_set p.pool k true)) lowest taken in
       held_after script journal p q entry held legal
-      (subst (λ (y : Entry). Ties script (world_after script w y).state (world_after script w y).stores q) (sym is)
+      (subst (λ (y : Entry). Represents script (world_after script w y).state (world_after script w y).stores q) (sym is)
       (record {
-        bos = changed_bos (with_loc page (loc.Frame f)) (λ x. refl) (λ x. refl) script s.core.buffers s.grips s.last_jobs p.bos ties.bos b bos e;
-        line = ties.line;
-        rings = ties.rings;
-        ghosts = ties.ghosts;
-        vram = record { rule = ties.vram.rule; held_as = populate_spans script.sizes.vram Vram s p.vram.resources ties.vram.held_as b page f; fence = ties.vram.fence };
-        tt = populate_spans script.sizes.tt Tt s p.tt ties.tt b page f;
-        pool = subst (λ l. ArePooled script.sizes.frames (held_frames (after_populate s b page f).core) l) (sym now) (populate_pooled script s b fresh.live p.pool ties.pool page f fresh.at);
-        swap = populate_slots script s (actor.Thread t) w.stores p.swap ties.swap b fresh.live page f fresh.at;
-        stores = populate_stores script s w.stores p.stores ties.stores (actor.Thread t) b (λ x l m. fresh.out (ap (λ (y : Buffer). y.mem) (there x l) ∙ m)) page f below frames zeros;
-        lists = changed_unseen script (with_loc page (loc.Frame f)) s.core.buffers s.grips s.lists p.lru b (λ x. refl) ties.lists;
-        courses = ties.courses;
-        stamp = ties.stamp;
-        ghost = ties.ghost;
+        bos = changed_bos (with_loc page (loc.Frame f)) (λ x. refl) (λ x. refl) script s.core.buffers s.reservations s.last_jobs p.bos represents.bos b bos e;
+        line = represents.line;
+        rings = represents.rings;
+        ghosts = represents.ghosts;
+        vram = record { rule = represents.vram.rule; held_as = populate_spans script.sizes.vram Vram s p.vram.resources represents.vram.held_as b page f; fence = represents.vram.fence };
+        tt = populate_spans script.sizes.tt Tt s p.tt represents.tt b page f;
+        pool = subst (λ l. ArePooled script.sizes.frames (held_frames (after_populate s b page f).core) l) (sym now) (populate_pooled script s b fresh.live p.pool represents.pool page f fresh.at);
+        swap = populate_slots script s (actor.Thread t) w.stores p.swap represents.swap b fresh.live page f fresh.at;
+        stores = populate_stores script s w.stores p.stores represents.stores (actor.Thread t) b (λ x l m. fresh.out (ap (λ (y : Buffer). y.mem) (there x l) ∙ m)) page f below frames zeros;
+        lists = changed_unseen script (with_loc page (loc.Frame f)) s.core.buffers s.reservations s.lists p.lru b (λ x. refl) represents.lists;
+        courses = represents.courses;
+        stamp = represents.stamp;
+        ghost = represents.ghost;
         no_more = nothing_beyond script.sizes (stores_after script s (actor.Thread t) (kind.Populate b page f) w.stores);
       }))
     where

@@ -15,17 +15,17 @@ use Rattle.journal_model.specs.declared.entry.Kind.TheVariants as kind
 use Rattle.journal_model.specs.ApplyJobs.{after_done}
 use Rattle.journal_model.specs.Legal.{World, IsLegalNext, state_of, stores_of, world_of, world_after}
 use Rattle.laws.proofs.law_transparent.PacketPlacesLaw.{places_law}
-use Rattle.room_ties.specs.declared.parts.Parts.{Parts}
-use Rattle.room_ties.specs.Lines.{AreInLine}
-use Rattle.room_ties.specs.Held.{AreHeld}
-use Rattle.room_ties.specs.Ties.{Ties}
-use Rattle.room_ties.proofs.lemma_room_jobs.Changed.{job_id, line_known, line_some}
-use Rattle.room_ties.proofs.lemma_room_jobs.Heads as heads
-use Rattle.room_ties.proofs.lemma_room_jobs.Heads.{IsEnd, IsRun, end_of, run_of}
-use Rattle.room_ties.proofs.lemma_room_jobs.LegalJobs.{IsShown, in_line, packet_shown}
-use Rattle.room_ties.proofs.lemma_room_jobs.Rows.{head_known}
-use Rattle.room_ties.proofs.lemma_room_jobs.Tied.{done_tied, packet_runs, packet_tied}
-use Rattle.room_ties.proofs.room_steps.Steps.{held_after, held_still, step_as}
+use Rattle.room_representation.specs.declared.parts.Parts.{Parts}
+use Rattle.room_representation.specs.Lines.{AreInLine}
+use Rattle.room_representation.specs.Held.{AreHeld}
+use Rattle.room_representation.specs.Represents.{Represents}
+use Rattle.room_representation.proofs.lemma_room_jobs.Changed.{job_id, line_known, line_some}
+use Rattle.room_representation.proofs.lemma_room_jobs.Heads as heads
+use Rattle.room_representation.proofs.lemma_room_jobs.Heads.{IsEnd, IsRun, end_of, run_of}
+use Rattle.room_representation.proofs.lemma_room_jobs.LegalJobs.{IsShown, in_line, packet_shown}
+use Rattle.room_representation.proofs.lemma_room_jobs.Rows.{head_known}
+use Rattle.room_representation.proofs.lemma_room_jobs.Represented.{done_represented, packet_runs, packet_represented}
+use Rattle.room_representation.proofs.room_steps.Steps.{held_after, held_still, step_as}
 
 -- ---- a job is done
 
@@ -41,27 +41,27 @@ module _ (script : Script) (journal : List Entry) (p : Parts) (entry : Entry) (e
 
   -- what the calls ask for
   pub done_ring : e < length p.rings
-  done_ring = heads.ring_known (state_of script journal).core.jobs (state_of script journal).last_jobs p.rings held.ties.rings e n done_context done_end.job done_end.head
+  done_ring = heads.ring_known (state_of script journal).core.jobs (state_of script journal).last_jobs p.rings held.represents.rings e n done_context done_end.job done_end.head
 
   pub done_head : IsSome (pushes.head_of p.rings e)
-  done_head = heads.ring_head (state_of script journal).core.jobs (state_of script journal).last_jobs p.rings held.ties.rings e n done_context done_end.job done_end.head
+  done_head = heads.ring_head (state_of script journal).core.jobs (state_of script journal).last_jobs p.rings held.represents.rings e n done_context done_end.job done_end.head
 
   pub done_over : next_of p.rings e ≡ None
-  done_over = heads.ring_over (state_of script journal).core.jobs (state_of script journal).last_jobs p.rings held.ties.rings e n done_context done_end.job done_end.head done_end.over
+  done_over = heads.ring_over (state_of script journal).core.jobs (state_of script journal).last_jobs p.rings held.represents.rings e n done_context done_end.job done_end.head done_end.over
 
   pub done_known : e < length p.line
-  done_known = line_known (state_of script journal).core.jobs (state_of script journal).last_jobs done_rows e n done_context done_end.job done_end.head p.line held.ties.line
+  done_known = line_known (state_of script journal).core.jobs (state_of script journal).last_jobs done_rows e n done_context done_end.job done_end.head p.line held.represents.line
 
   pub done_some : (progress_of p.line e).done < (progress_of p.line e).emitted
-  done_some = line_some (state_of script journal).core.jobs (state_of script journal).last_jobs done_rows e n done_context done_end.job done_end.head p.line held.ties.line
+  done_some = line_some (state_of script journal).core.jobs (state_of script journal).last_jobs done_rows e n done_context done_end.job done_end.head p.line held.represents.line
 
   pub done_held : (rings : List (List Pushed)) (line : List Progress) → rings ≡ without_head p.rings e → line ≡ with_done p.line e →
       AreHeld script (journal ++ entry ∷ []) (record p { rings = rings; line = line })
   done_held rings line r l =
       held_still script journal p (record p { rings = rings; line = line }) entry (record { who = actor.Engine e; kind = kind.Done n }) held is legal refl
-      (subst (λ x. Ties script (after_done (state_of script journal) (job_id e n)) (stores_of script journal) (record p { rings = x; line = line })) (sym r)
-      (subst (λ y. Ties script (after_done (state_of script journal) (job_id e n)) (stores_of script journal) (record p { rings = without_head p.rings e; line = y })) (sym l)
-      (done_tied script (state_of script journal) (stores_of script journal) p held.ties done_rows e n done_end)))
+      (subst (λ x. Represents script (after_done (state_of script journal) (job_id e n)) (stores_of script journal) (record p { rings = x; line = line })) (sym r)
+      (subst (λ y. Represents script (after_done (state_of script journal) (job_id e n)) (stores_of script journal) (record p { rings = without_head p.rings e; line = y })) (sym l)
+      (done_represented script (state_of script journal) (stores_of script journal) p held.represents done_rows e n done_end)))
 
 -- ---- a packet has run
 
@@ -76,13 +76,13 @@ module _ (script : Script) (journal : List Entry) (p : Parts) (entry : Entry) (e
   run_context = head_known (state_of script journal).last_jobs (state_of script journal).core.jobs run_rows e n run_is.job run_is.head
 
   pub packet_ring : e < length p.rings
-  packet_ring = heads.ring_known (state_of script journal).core.jobs (state_of script journal).last_jobs p.rings held.ties.rings e n run_context run_is.job run_is.head
+  packet_ring = heads.ring_known (state_of script journal).core.jobs (state_of script journal).last_jobs p.rings held.represents.rings e n run_context run_is.job run_is.head
 
   pub packet_left : IsSome (next_of p.rings e)
-  packet_left = heads.ring_left (state_of script journal).core.jobs (state_of script journal).last_jobs p.rings held.ties.rings e n run_context run_is.job run_is.head run_is.left
+  packet_left = heads.ring_left (state_of script journal).core.jobs (state_of script journal).last_jobs p.rings held.represents.rings e n run_context run_is.job run_is.head run_is.left
 
   pub packet_can : (q : Packet) → next_of p.rings e ≡ Some q → CanRun p.stores q
-  packet_can q next = packet_runs script (state_of script journal) (stores_of script journal) p held.ties run_rows e n k run_is q next (places_law script journal held.fits held.legal)
+  packet_can q next = packet_runs script (state_of script journal) (stores_of script journal) p held.represents run_rows e n k run_is q next (places_law script journal held.fits held.legal)
 
   some_is : {X : Type 0} (o : Option X) → IsSome o → (x : X) × (o ≡ Some x)
   some_is None h = cc
@@ -94,6 +94,6 @@ module _ (script : Script) (journal : List Entry) (p : Parts) (entry : Entry) (e
       let w = world_of script journal in
       let next = some_is (next_of p.rings e) packet_left in
       held_after script journal p (record p { rings = rings; stores = stores }) entry held legal
-      (subst (λ (y : Entry). Ties script (world_after script w y).state (world_after script w y).stores (record p { rings = rings; stores = stores })) (sym is)
-      (subst (λ x. Ties script (world_after script w (record { who = actor.Engine e; kind = kind.Packet n k piece })).state (world_after script w (record { who = actor.Engine e; kind = kind.Packet n k piece })).stores (record p { rings = x; stores = stores })) (sym r)
-      (packet_tied script (state_of script journal) w.stores p held.ties run_rows e n k run_is next.0 next.1 stores (ran next.0 next.1))))
+      (subst (λ (y : Entry). Represents script (world_after script w y).state (world_after script w y).stores (record p { rings = rings; stores = stores })) (sym is)
+      (subst (λ x. Represents script (world_after script w (record { who = actor.Engine e; kind = kind.Packet n k piece })).state (world_after script w (record { who = actor.Engine e; kind = kind.Packet n k piece })).stores (record p { rings = x; stores = stores })) (sym r)
+      (packet_represented script (state_of script journal) w.stores p held.represents run_rows e n k run_is next.0 next.1 stores (ran next.0 next.1))))

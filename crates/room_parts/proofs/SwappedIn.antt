@@ -26,24 +26,24 @@ use Rattle.laws.proofs.law_owners.Keeps.{in_loc}
 use Rattle.laws.proofs.law_owners.Law.{owner_law}
 use Rattle.laws.specs.lemma_bytes_told.Told.{IsThere, Told, still, swaps_in}
 use Rattle.laws.proofs.law_transparent.Carried.{told_law}
-use Rattle.room_ties.proofs.lemma_room_lists.KindLaws.{changed_unseen}
-use Rattle.room_ties.proofs.lemma_room_spans.Still.{swap_in_spans}
-use Rattle.room_ties.specs.declared.parts.Parts.{Parts}
-use Rattle.room_ties.specs.Held.{AreHeld}
-use Rattle.room_ties.specs.Pages.{ArePooled, AreSlots}
-use Rattle.room_ties.specs.Ties.{Ties}
-use Rattle.room_ties.proofs.lemma_room_jobs.Packets.{nothing_beyond}
-use Rattle.room_ties.proofs.lemma_room_bytes.Held.{table_set}
-use Rattle.room_ties.proofs.lemma_room_bytes.Lowest.{pool_first, lowest_is_unheld}
-use Rattle.room_ties.proofs.lemma_room_bytes.Marks.{mark_at, has_some, owned_below}
-use Rattle.room_ties.proofs.lemma_room_bytes.Pools.{swap_in_pooled}
-use Rattle.room_ties.proofs.lemma_room_bytes.SlotKinds.{swap_in_slots}
-use Rattle.room_ties.proofs.lemma_room_bytes.Telling.{to_fill}
-use Rattle.room_ties.proofs.lemma_room_bytes.Walks.{slots_within}
-use Rattle.room_ties.proofs.lemma_room_bytes.Fills.{swap_in_stores}
-use Rattle.room_ties.proofs.room_steps.Lent.{is_below}
-use Rattle.room_ties.proofs.room_steps.Frames.{changed_bos}
-use Rattle.room_ties.proofs.room_steps.Steps.{held_after, step_as}
+use Rattle.room_representation.proofs.lemma_room_lists.KindLaws.{changed_unseen}
+use Rattle.room_representation.proofs.lemma_room_spans.Still.{swap_in_spans}
+use Rattle.room_representation.specs.declared.parts.Parts.{Parts}
+use Rattle.room_representation.specs.Held.{AreHeld}
+use Rattle.room_representation.specs.Pages.{ArePooled, AreSlots}
+use Rattle.room_representation.specs.Represents.{Represents}
+use Rattle.room_representation.proofs.lemma_room_jobs.Packets.{nothing_beyond}
+use Rattle.room_representation.proofs.lemma_room_bytes.Held.{table_set}
+use Rattle.room_representation.proofs.lemma_room_bytes.Lowest.{pool_first, lowest_is_unheld}
+use Rattle.room_representation.proofs.lemma_room_bytes.Marks.{mark_at, has_some, owned_below}
+use Rattle.room_representation.proofs.lemma_room_bytes.Pools.{swap_in_pooled}
+use Rattle.room_representation.proofs.lemma_room_bytes.SlotKinds.{swap_in_slots}
+use Rattle.room_representation.proofs.lemma_room_bytes.Telling.{to_fill}
+use Rattle.room_representation.proofs.lemma_room_bytes.Walks.{slots_within}
+use Rattle.room_representation.proofs.lemma_room_bytes.Fills.{swap_in_stores}
+use Rattle.room_representation.proofs.room_steps.Lent.{is_below}
+use Rattle.room_representation.proofs.room_steps.Frames.{changed_bos}
+use Rattle.room_representation.proofs.room_steps.Steps.{held_after, step_as}
 
 -- a live buffer out of TT, whose page stands in the slot, gets the lowest free frame
 record IsBack (script : Script) (s : State) (b : BufId) (page k f : ℕ) : Type 0 where
@@ -90,42 +90,42 @@ module _ (script : Script) (journal : List Entry) (p : Parts) (entry : Entry) (t
   pub swap_in_slot : slice_get p.swap.held k ≡ Some true
   swap_in_slot =
       let inside = owned_below script.sizes.swap (held_slots s.core) (owner_law script journal held.fits held.legal).slots k named in
-      ap (λ l. slice_get l k) held.ties.swap.held_are ∙ mark_at _ script.sizes.swap k inside ∙ ap (λ q. Some q) (has_some (held_slots s.core) k named)
+      ap (λ l. slice_get l k) held.represents.swap.held_are ∙ mark_at _ script.sizes.swap k inside ∙ ap (λ q. Some q) (has_some (held_slots s.core) k named)
 
   pub swap_in_below : k < length p.swap.held
   swap_in_below = is_below p.swap.held k true swap_in_slot
 
   -- the frame is in the stores
   pub swap_in_inside : (bytes : List ℕ) → length bytes ≡ 4096 → 4096 * f + length bytes ≤ length p.stores.frames
-  swap_in_inside bytes long = let n = held.ties.stores.frame_size in let l = below in omega (arith, n, l, long)
+  swap_in_inside bytes long = let n = held.represents.stores.frame_size in let l = below in omega (arith, n, l, long)
 
   pub swap_in_held : (pool : List Bool) (frames : List ℕ) (swap : SwapSlots) (bos : Bos) (o : Option ℕ) (bytes : List ℕ) → o ≡ position not p.pool → IfSome o (λ j. pool ≡ slice_set p.pool j true) →
       bytes ≡ part p.swap.bytes (4096 * k) 4096 → length bytes ≡ 4096 → frames ≡ overwritten p.stores.frames (4096 * f) bytes → swap ≡ record { held = slice_set p.swap.held k false; bytes = p.swap.bytes } →
       bos ≡ with_changed (with_loc page (loc.Frame f)) p.bos b → AreHeld script (journal ++ entry ∷ []) (record p { pool = pool; stores = record p.stores { frames = frames }; swap = swap; bos = bos })
   swap_in_held pool frames swap bos o bytes first taken whole long put gone e =
       let w = world_of script journal in
-      let ties = held.ties in
+      let represents = held.represents in
       let q : Parts = record p { pool = pool; stores = record p.stores { frames = frames }; swap = swap; bos = bos } in
-      let lowest : o ≡ Some f = first ∙ pool_first script s.core p.pool ties.pool ∙ back.free in
+      let lowest : o ≡ Some f = first ∙ pool_first script s.core p.pool represents.pool ∙ back.free in
       let now : pool ≡ slice_set p.pool f true = subst (λ x. IfSome x (λ j. pool ≡ slice_set p.pool j true)) lowest taken in
       let inside : 4096 * k + 4096 ≤ length p.swap.bytes = page_inside p.swap.bytes (4096 * k) (ap length (sym whole) ∙ long) in
       held_after script journal p q entry held legal
-      (subst (λ (y : Entry). Ties script (world_after script w y).state (world_after script w y).stores q) (sym is)
+      (subst (λ (y : Entry). Represents script (world_after script w y).state (world_after script w y).stores q) (sym is)
       (record {
-        bos = changed_bos (with_loc page (loc.Frame f)) (λ x. refl) (λ x. refl) script s.core.buffers s.grips s.last_jobs p.bos ties.bos b bos e;
-        line = ties.line;
-        rings = ties.rings;
-        ghosts = ties.ghosts;
-        vram = record { rule = ties.vram.rule; held_as = swap_in_spans script.sizes.vram Vram s p.vram.resources ties.vram.held_as b page f; fence = ties.vram.fence };
-        tt = swap_in_spans script.sizes.tt Tt s p.tt ties.tt b page f;
-        pool = subst (λ l. ArePooled script.sizes.frames (held_frames (after_swap_in s b page f).core) l) (sym now) (swap_in_pooled script s b back.live p.pool ties.pool page k f back.at);
+        bos = changed_bos (with_loc page (loc.Frame f)) (λ x. refl) (λ x. refl) script s.core.buffers s.reservations s.last_jobs p.bos represents.bos b bos e;
+        line = represents.line;
+        rings = represents.rings;
+        ghosts = represents.ghosts;
+        vram = record { rule = represents.vram.rule; held_as = swap_in_spans script.sizes.vram Vram s p.vram.resources represents.vram.held_as b page f; fence = represents.vram.fence };
+        tt = swap_in_spans script.sizes.tt Tt s p.tt represents.tt b page f;
+        pool = subst (λ l. ArePooled script.sizes.frames (held_frames (after_swap_in s b page f).core) l) (sym now) (swap_in_pooled script s b back.live p.pool represents.pool page k f back.at);
         swap = subst (λ x. AreSlots script.sizes.swap (held_slots (after_swap_in s b page f).core) (within script.sizes (stores_after script s (actor.Thread t) (kind.SwapIn b page k f) w.stores)) x) (sym gone)
-            (swap_in_slots script s (actor.Thread t) w.stores p.swap ties.swap b back.live page k f (owner_law script journal held.fits held.legal).slots back.at);
-        stores = swap_in_stores script s w.stores p.stores ties.stores (actor.Thread t) b (λ x l m. back.out (ap (λ (y : Buffer). y.mem) (there x l) ∙ m)) page f below frames k (held_slots s.core) p.swap bytes ties.swap swap_in_slot inside whole put;
-        lists = changed_unseen script (with_loc page (loc.Frame f)) s.core.buffers s.grips s.lists p.lru b (λ x. refl) ties.lists;
-        courses = ties.courses;
-        stamp = ties.stamp;
-        ghost = ties.ghost;
+            (swap_in_slots script s (actor.Thread t) w.stores p.swap represents.swap b back.live page k f (owner_law script journal held.fits held.legal).slots back.at);
+        stores = swap_in_stores script s w.stores p.stores represents.stores (actor.Thread t) b (λ x l m. back.out (ap (λ (y : Buffer). y.mem) (there x l) ∙ m)) page f below frames k (held_slots s.core) p.swap bytes represents.swap swap_in_slot inside whole put;
+        lists = changed_unseen script (with_loc page (loc.Frame f)) s.core.buffers s.reservations s.lists p.lru b (λ x. refl) represents.lists;
+        courses = represents.courses;
+        stamp = represents.stamp;
+        ghost = represents.ghost;
         no_more = nothing_beyond script.sizes (stores_after script s (actor.Thread t) (kind.SwapIn b page k f) w.stores);
       }))
     where

@@ -17,17 +17,17 @@ use Rattle.journal_model.specs.ApplyPages.{with_spans, after_untake}
 use Rattle.journal_model.specs.Legal.{IsLegalNext, state_of, stores_of, world_of}
 use Rattle.laws.specs.lemma_bytes_told.Told.{IsThere, Told, still, untakes}
 use Rattle.laws.proofs.law_transparent.Carried.{told_law}
-use Rattle.room_ties.specs.lemma_room_spans.Calls.{untaken, given}
-use Rattle.room_ties.proofs.lemma_room_spans.Targets.{untake_spans}
+use Rattle.room_representation.specs.lemma_room_spans.Calls.{untaken, given}
+use Rattle.room_representation.proofs.lemma_room_spans.Targets.{untake_spans}
 use Rattle.ttm_base.specs.declared.Span.{Span}
 use Rattle.ttm_base.specs.declared.Owner.TheVariants as owner
-use Rattle.room_ties.specs.declared.parts.Parts.{Parts}
-use Rattle.room_ties.specs.Held.{AreHeld}
-use Rattle.room_ties.specs.Managers.{IsTt}
-use Rattle.room_ties.specs.lemma_room_spans.Owned.{HoldsAsOwned}
-use Rattle.room_ties.proofs.lemma_room_spans.MoveFence.{untaken_fence}
-use Rattle.room_ties.proofs.room_steps.Steps.{held_still, step_as}
-use Rattle.room_ties.proofs.room_steps.Frames.{LeavesInPlace, changed_tied}
+use Rattle.room_representation.specs.declared.parts.Parts.{Parts}
+use Rattle.room_representation.specs.Held.{AreHeld}
+use Rattle.room_representation.specs.Managers.{IsTt}
+use Rattle.room_representation.specs.lemma_room_spans.Owned.{HoldsAsOwned}
+use Rattle.room_representation.proofs.lemma_room_spans.MoveFence.{untaken_fence}
+use Rattle.room_representation.proofs.room_steps.Steps.{held_still, step_as}
+use Rattle.room_representation.proofs.room_steps.Frames.{LeavesInPlace, changed_represented}
 
 -- another target, or none, leaves a buffer in its place
 pub target_stays : (mem : Mem) (spans : Option (List Span)) → LeavesInPlace (with_spans mem spans)
@@ -48,11 +48,11 @@ module _ (script : Script) (journal : List Entry) (p : Parts) (entry : Entry) (t
       AreHeld script (journal ++ entry ∷ []) (record p { vram = v; tt = u; bos = bos })
   untake_held v u bos ve rule ue be =
       held_still script journal p (record p { vram = v; tt = u; bos = bos }) entry (record { who = actor.Thread t; kind = kind.Untake b mem }) held is legal refl
-      (changed_tied script s (stores_of script journal) p held.ties (with_spans mem None) (target_stays mem None) b bos v u be
+      (changed_represented script s (stores_of script journal) p held.represents (with_spans mem None) (target_stays mem None) b bos v u be
       (record {
-        rule = rule ∙ held.ties.vram.rule;
-        held_as = subst (λ x. HoldsAsOwned script.sizes.vram Vram (after_untake s b mem).core.buffers s.core.ghosts x) (sym ve) (untake_spans script.sizes.vram Vram mem s b p.vram.resources held.ties.vram.held_as live);
-        fence = record { kept_is = ap (λ (x : Resources). x.move_fence) ve ∙ untaken_fence Vram mem b p.vram.resources ∙ held.ties.vram.fence.kept_is; known = held.ties.vram.fence.known };
+        rule = rule ∙ held.represents.vram.rule;
+        held_as = subst (λ x. HoldsAsOwned script.sizes.vram Vram (after_untake s b mem).core.buffers s.core.ghosts x) (sym ve) (untake_spans script.sizes.vram Vram mem s b p.vram.resources held.represents.vram.held_as live);
+        fence = record { kept_is = ap (λ (x : Resources). x.move_fence) ve ∙ untaken_fence Vram mem b p.vram.resources ∙ held.represents.vram.fence.kept_is; known = held.represents.vram.fence.known };
       })
       (subst (λ x. IsTt script.sizes (after_untake s b mem).core.buffers s.core.ghosts x) (sym ue)
-      (untake_spans script.sizes.tt Tt mem s b p.tt held.ties.tt live)))
+      (untake_spans script.sizes.tt Tt mem s b p.tt held.represents.tt live)))

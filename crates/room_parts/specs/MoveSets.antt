@@ -9,7 +9,7 @@ use Rattle.ttm_base.specs.declared.Usage.TheVariants.{Kernel}
 use Rattle.fence_core.specs.declared.fence_set.Latest.{Latest}
 use Rattle.fence_core.specs.declared.timeline.Progress.{Progress}
 use Rattle.fence_core.specs.Timelines.{is_signalled}
-use Rattle.room_ties.specs.Fences.{with_use_in}
+use Rattle.room_representation.specs.Fences.{with_use_in}
 
 -- in VRAM a move fence that isn't signalled joins the buffer's jobs
 abbrev pub with_move_fence : Mem → List Progress → Option JobId → List (List Latest) → BufId → List (List Latest)

@@ -2,11 +2,11 @@ ghost use Rattle.std.specs.Prelude.{◌≡◌, ◌∷◌, ◌++◌, []};
 ghost use Rattle.ttm_base.specs.declared.Actor.TheVariants as actor;
 ghost use Rattle.journal_model.specs.declared.entry.Kind.TheVariants as kind;
 ghost use Rattle.journal_model.specs.Legal.{IsLegalNext, world_of};
-ghost use Rattle.room_ties.specs.Held.{AreHeld};
+ghost use Rattle.room_representation.specs.Held.{AreHeld};
 
 use journal_model::{Entry, Script};
-use room_ties::Parts;
-use room_ties::room_steps::has_made;
+use room_representation::Parts;
+use room_representation::room_steps::has_made;
 
 /// The buffers of a group count as just used.
 pub fn bulk(

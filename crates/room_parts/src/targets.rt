@@ -6,17 +6,17 @@ ghost use Rattle.ttm_base.specs.declared.Owner.TheVariants as owner;
 ghost use Rattle.journal_model.specs.declared.entry.Kind.TheVariants as kind;
 ghost use Rattle.journal_model.specs.Legal.{IsLegalNext, world_of};
 ghost use Rattle.resource_core.specs.Vram.{spans_of_kind};
-ghost use Rattle.room_ties.specs.lemma_room_spans.Calls.{taken, untaken};
+ghost use Rattle.room_representation.specs.lemma_room_spans.Calls.{taken, untaken};
 ghost use Rattle.room_parts.specs.Takes.{CanHold};
-ghost use Rattle.room_ties.specs.Held.{AreHeld};
+ghost use Rattle.room_representation.specs.Held.{AreHeld};
 ghost use Rattle.room_parts.specs.MoveSets.{with_move_fence, CanJoin};
 
 use bo_table::BoTable;
 use fence_core::Timeline;
 use journal_model::{Entry, Script};
 use resource_core::{Manager, RangeRoom, VramRoom};
-use room_ties::Parts;
-use room_ties::room_steps::end_search;
+use room_representation::Parts;
+use room_representation::room_steps::end_search;
 use ttm_base::{BufId, JobId, Mem, NoMemory, Owner, Spans, Usage};
 
 /// Gives the target of a buffer back to VRAM, if it is there.

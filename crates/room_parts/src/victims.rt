@@ -4,14 +4,14 @@ ghost use Rattle.ttm_base.specs.declared.Actor.TheVariants as actor;
 ghost use Rattle.journal_model.specs.declared.entry.Kind.TheVariants as kind;
 ghost use Rattle.journal_model.specs.Commands.{decl};
 ghost use Rattle.journal_model.specs.Legal.{IsLegalNext, world_of};
-ghost use Rattle.room_ties.specs.Held.{AreHeld};
-ghost use Rattle.room_ties.specs.room_steps.Courses.{course_at, with_course_by};
+ghost use Rattle.room_representation.specs.Held.{AreHeld};
+ghost use Rattle.room_representation.specs.room_steps.Courses.{course_at, with_course_by};
 ghost use Rattle.room_parts.specs.Dries.{dried, searched_places};
 
 use journal_model::{Command, Courses, DryWhy, Entry, Script, Targets, Why};
 use place_list::forced_count;
-use room_ties::Parts;
-use room_ties::room_steps::{
+use room_representation::Parts;
+use room_representation::room_steps::{
     add_victim, command_of, fail_search, forget_victim, go_dry, hold_for, skip_victim, stamp_of,
     touch,
 };

@@ -21,11 +21,11 @@ use Rattle.journal_model.specs.Legal.{state_of}
 use Rattle.laws.proofs.law_transparent.PagesLaw.{ghosts_law}
 use Rattle.laws.proofs.law_state.JobsKeep.{all_at}
 use Rattle.laws.proofs.law_state.Rules.{rules_of}
-use Rattle.room_ties.specs.lemma_room_spans.Owned.{FirstOfNumber, HoldsAsOwned}
-use Rattle.room_ties.proofs.lemma_room_spans.Chosen.{tt_choice, vram_choice}
-use Rattle.room_ties.proofs.lemma_room_spans.Declared.{IsRequest}
-use Rattle.room_ties.specs.declared.parts.Parts.{Parts}
-use Rattle.room_ties.specs.Held.{AreHeld}
+use Rattle.room_representation.specs.lemma_room_spans.Owned.{FirstOfNumber, HoldsAsOwned}
+use Rattle.room_representation.proofs.lemma_room_spans.Chosen.{tt_choice, vram_choice}
+use Rattle.room_representation.proofs.lemma_room_spans.Declared.{IsRequest}
+use Rattle.room_representation.specs.declared.parts.Parts.{Parts}
+use Rattle.room_representation.specs.Held.{AreHeld}
 use Rattle.room_queries.proofs.Known.{get_below}
 
 -- a declaration is a request that managers take
@@ -40,11 +40,11 @@ module _ (script : Script) (journal : List Entry) (p : Parts) (held : AreHeld sc
   -- a choice in VRAM changes nothing
   pub vram_same : (v : room.Vram) → v.resources ≡ p.vram.resources → spans_of_kind v.kind ≡ spans_of_kind p.vram.kind → AreHeld script journal (record p { vram = v })
   vram_same v same rule =
-      let t = held.ties in
+      let t = held.represents in
       record {
         fits = held.fits;
         legal = held.legal;
-        ties = record {
+        represents = record {
           bos = t.bos;
           line = t.line;
           rings = t.rings;
@@ -93,12 +93,12 @@ module _ (script : Script) (journal : List Entry) (p : Parts) (held : AreHeld sc
       vram_found at h =
           subst (λ x. IfOk result (λ o. o ≡ x))
           (ap₂ (λ n a. spans_of_kind p.vram.kind (is_free p.vram.resources.held) p.vram.resources.size n a place) pages_are align_is
-          ∙ ap (λ f. f (is_free p.vram.resources.held) p.vram.resources.size (decl script b).pages (decl script b).align place) held.ties.vram.rule
-          ∙ vram_choice script (state_of script journal).core b place at p.vram.resources held.ties.vram.held_as once) h
+          ∙ ap (λ f. f (is_free p.vram.resources.held) p.vram.resources.size (decl script b).pages (decl script b).align place) held.represents.vram.rule
+          ∙ vram_choice script (state_of script journal).core b place at p.vram.resources held.represents.vram.held_as once) h
 
       -- and so is what TT has
       pub tt_found : place.mem ≡ Tt → IfOk result (λ o. o ≡ range_spans (is_free p.tt.held) p.tt.size pages align place) → IfOk result (λ o. o ≡ choice script (state_of script journal).core b place)
       tt_found at h =
           subst (λ x. IfOk result (λ o. o ≡ x))
           (ap₂ (λ n a. range_spans (is_free p.tt.held) p.tt.size n a place) pages_are align_is
-          ∙ tt_choice script (state_of script journal).core b place at p.tt held.ties.tt once) h
+          ∙ tt_choice script (state_of script journal).core b place at p.tt held.represents.tt once) h

@@ -19,14 +19,14 @@ use Rattle.journal_model.specs.Waits.{waited_for}
 use Rattle.journal_model.specs.Legal.{state_of, stores_of, world_of}
 use Rattle.laws.specs.law_jobs.JobLines.{unfinished_of}
 use Rattle.laws.proofs.law_transparent.PacketPlacesLaw.{places_law}
-use Rattle.room_ties.specs.declared.parts.Parts.{Parts}
-use Rattle.room_ties.specs.RingJobs.{IsRing}
-use Rattle.room_ties.specs.Held.{AreHeld}
-use Rattle.room_ties.proofs.lemma_room_jobs.Lists.{filtered_at, find_is}
-use Rattle.room_ties.proofs.lemma_room_jobs.Needs.{head_waits}
-use Rattle.room_ties.proofs.lemma_room_jobs.Heads.{IsHead}
-use Rattle.room_ties.proofs.lemma_room_jobs.Packets.{can_run, shows_same}
-use Rattle.room_ties.proofs.lemma_room_jobs.Rows.{head_named}
+use Rattle.room_representation.specs.declared.parts.Parts.{Parts}
+use Rattle.room_representation.specs.RingJobs.{IsRing}
+use Rattle.room_representation.specs.Held.{AreHeld}
+use Rattle.room_representation.proofs.lemma_room_jobs.Lists.{filtered_at, find_is}
+use Rattle.room_representation.proofs.lemma_room_jobs.Needs.{head_waits}
+use Rattle.room_representation.proofs.lemma_room_jobs.Heads.{IsHead}
+use Rattle.room_representation.proofs.lemma_room_jobs.Packets.{can_run, shows_same}
+use Rattle.room_representation.proofs.lemma_room_jobs.Rows.{head_named}
 use Rattle.room_queries.specs.Heads.{number_left, piece_left, head_piece}
 use Rattle.room_queries.proofs.Known.{rows, context_known}
 
@@ -68,7 +68,7 @@ module _ (script : Script) (journal : List Entry) (p : Parts) (held : AreHeld sc
 
   -- the state's head and the ring's
   fronts : AreFronts (head_of (state_of script journal) ctx) (pushes.head_of p.rings ctx)
-  fronts = by (unfinished_of ctx (state_of script journal).core.jobs) (ring_of p.rings ctx) head_left refl (held.ties.rings.each ctx (context_known script journal p held ctx known))
+  fronts = by (unfinished_of ctx (state_of script journal).core.jobs) (ring_of p.rings ctx) head_left refl (held.represents.rings.each ctx (context_known script journal p held ctx known))
     where
       by : (js : List Job) (ps : List Pushed) → head_of (state_of script journal) ctx ≡ slice_get js 0 → pushes.head_of p.rings ctx ≡ slice_get ps 0 →
           IsRing (state_of script journal).core.jobs (state_of script journal).last_jobs js ps → AreFronts (head_of (state_of script journal) ctx) (pushes.head_of p.rings ctx)
@@ -87,7 +87,7 @@ module _ (script : Script) (journal : List Entry) (p : Parts) (held : AreHeld sc
   -- what it waits for
   pub front_waits : option_and_then (wait_of p.line) (pushes.head_of p.rings ctx) ≡ option_and_then (λ (j : Job). waited_for (state_of script journal).core j.waits) (head_of (state_of script journal) ctx)
   front_waits =
-      head_waits (state_of script journal).core.jobs (state_of script journal).last_jobs p.line (rows script journal p held) held.ties.line p.rings held.ties.rings ctx (context_known script journal p held ctx known)
+      head_waits (state_of script journal).core.jobs (state_of script journal).last_jobs p.line (rows script journal p held) held.represents.line p.rings held.represents.rings ctx (context_known script journal p held ctx known)
 
   -- where it is none, the state's has none
   pub none_left : option_map (λ (q : Pushed). q.job) (pushes.head_of p.rings ctx) ≡ None → head_of (state_of script journal) ctx ≡ None
@@ -147,7 +147,7 @@ module _ (script : Script) (journal : List Entry) (p : Parts) (held : AreHeld sc
     runs : (k : Packet) → slice_get j.packets j.ran ≡ Some k → CanRun p.stores k
     runs k e =
         let at = filtered_at (is_left_of ctx) (state_of script journal).core.jobs j head_is.first in
-        can_run script (state_of script journal).core (stores_of script journal) p.stores held.ties.stores held.ties.no_more k
+        can_run script (state_of script journal).core (stores_of script journal) p.stores held.represents.stores held.represents.no_more k
         (places_law script journal held.fits held.legal at.0 0 j k at.1 (get_drop j.packets j.ran ∙ e))
 
   -- no byte where no packet is left
@@ -170,6 +170,6 @@ module _ (script : Script) (journal : List Entry) (p : Parts) (held : AreHeld sc
   front_shows k e = elim fronts [
     | neither a b ↦ (let x : None ≡ Some k = sym (ap (option_and_then packet_of) b) ∙ e in cc)
     | both j q a b job packets ran ↦
-        shows_same script (state_of script journal).core (stores_of script journal) p.stores held.ties.stores held.ties.no_more k
+        shows_same script (state_of script journal).core (stores_of script journal) p.stores held.represents.stores held.represents.no_more k
         ∙ sym (piece j a (Some k) (sym (ap (option_and_then packet_of) b ∙ ap (λ ps. slice_get ps q.ran) packets ∙ ap (slice_get j.packets) ran) ∙ e))
   ]

@@ -10,10 +10,10 @@ use Rattle.journal_model.specs.Legal.{state_of}
 use Rattle.laws.proofs.law_state.GoodStates.{good_law}
 use Rattle.laws.proofs.law_counters.Law.{counters_law}
 use Rattle.laws.proofs.law_sound.Along.{sound_law}
-use Rattle.room_ties.specs.declared.parts.Parts.{Parts}
-use Rattle.room_ties.specs.Held.{AreHeld}
-use Rattle.room_ties.specs.Lines.{AreInLine}
-use Rattle.room_ties.proofs.lemma_room_jobs.LegalJobs.{in_line}
+use Rattle.room_representation.specs.declared.parts.Parts.{Parts}
+use Rattle.room_representation.specs.Held.{AreHeld}
+use Rattle.room_representation.specs.Lines.{AreInLine}
+use Rattle.room_representation.proofs.lemma_room_jobs.LegalJobs.{in_line}
 
 -- a number below a list's length has something
 pub get_below : {X : Type 0} (xs : List X) (i : ℕ) → i < length xs → (x : X) × (slice_get xs i ≡ Some x)
@@ -38,32 +38,32 @@ module _ (script : Script) (journal : List Entry) (p : Parts) (held : AreHeld sc
 
   -- of the timeline
   pub line_context : (ctx : ℕ) → ctx ≤ script.sizes.engines → ctx < length p.line
-  line_context ctx h = let k = context_known ctx h in let same = held.ties.line.contexts in omega (arith, k, same)
+  line_context ctx h = let k = context_known ctx h in let same = held.represents.line.contexts in omega (arith, k, same)
 
   -- and of the rings
   pub ring_context : (ctx : ℕ) → ctx ≤ script.sizes.engines → ctx < length p.rings
-  ring_context ctx h = let k = context_known ctx h in let same = held.ties.rings.contexts in omega (arith, k, same)
+  ring_context ctx h = let k = context_known ctx h in let same = held.represents.rings.contexts in omega (arith, k, same)
 
   -- timeline and rings have the same contexts
   pub line_rings : length p.line ≡ length p.rings
-  line_rings = held.ties.line.contexts ∙ sym held.ties.rings.contexts
+  line_rings = held.represents.line.contexts ∙ sym held.represents.rings.contexts
 
   -- the next job of a context
   pub job_next : (ctx n : ℕ) → ctx ≤ script.sizes.engines → n ≡ (progress_of p.line ctx).emitted + 1 → n ≡ next_job (state_of script journal) ctx
-  job_next ctx n h e = e ∙ ap (λ q. q.emitted + 1) (held.ties.line.each ctx (context_known ctx h))
+  job_next ctx n h e = e ∙ ap (λ q. q.emitted + 1) (held.represents.line.each ctx (context_known ctx h))
 
   -- there is a next number for a ghost
   pub few_ghosts : p.last_ghost + 1 < 2 ^ 64
-  few_ghosts = let few = (counters_law script journal held.fits held.legal).ghosts in let same = held.ties.ghost in omega (arith, few, same)
+  few_ghosts = let few = (counters_law script journal held.fits held.legal).ghosts in let same = held.represents.ghost in omega (arith, few, same)
 
   -- a declared buffer has its place among the buffers of the state
   pub declared_known : (b : BufId) → b.0 < length script.buffers → b.0 < length (state_of script journal).core.buffers
   declared_known b h = let many = (good_law script held.fits journal held.legal).many in omega (arith, h, many)
 
   -- and can be lent
-  pub declared_lent : (b : BufId) → b.0 < length script.buffers → b.0 < length p.bos.grips
+  pub declared_lent : (b : BufId) → b.0 < length script.buffers → b.0 < length p.bos.reservations
   declared_lent b h =
       let few = declared_known b h in
-      let grips = (sound_law script journal held.fits held.legal).owned.grips in
-      let same = ap length held.ties.bos.grips_are in
-      omega (arith, few, grips, same)
+      let reservations = (sound_law script journal held.fits held.legal).owned.reservations in
+      let same = ap length held.represents.bos.reservations_are in
+      omega (arith, few, reservations, same)

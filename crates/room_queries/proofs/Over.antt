@@ -16,11 +16,11 @@ use Rattle.journal_model.specs.Legal.{state_of}
 use Rattle.laws.proofs.law_state.Counted.{over_law}
 use Rattle.laws.specs.law_jobs.JobLines.{unfinished_of}
 use Rattle.laws.proofs.law_state.GoodStates.{good_law}
-use Rattle.room_ties.specs.declared.parts.Parts.{Parts}
-use Rattle.room_ties.specs.declared.parts.Ghost.{Ghost}
-use Rattle.room_ties.specs.Ghosts.{AreGhosts}
-use Rattle.room_ties.specs.Held.{AreHeld}
-use Rattle.room_ties.specs.RingJobs.{IsRing}
+use Rattle.room_representation.specs.declared.parts.Parts.{Parts}
+use Rattle.room_representation.specs.declared.parts.Ghost.{Ghost}
+use Rattle.room_representation.specs.Ghosts.{AreGhosts}
+use Rattle.room_representation.specs.Held.{AreHeld}
+use Rattle.room_representation.specs.RingJobs.{IsRing}
 use Rattle.room_queries.specs.Ends.{answered_in, is_empty}
 
 -- the numbers that are left, the first of them in front
@@ -126,9 +126,9 @@ module _ (script : Script) (journal : List Entry) (p : Parts) (held : AreHeld sc
   idle_is : list_all is_empty p.rings ≡ list_all (λ j. j.finished) (state_of script journal).core.jobs
   idle_is = same_bool (list_all is_empty p.rings) (list_all (λ j. j.finished) (state_of script journal).core.jobs)
       (λ e. none_open (length (state_of script journal).last_jobs) (state_of script journal).core.jobs known
-      (λ ctx l. (let r = held.ties.rings.contexts in empty_line (state_of script journal).core.jobs (state_of script journal).last_jobs (unfinished_of ctx (state_of script journal).core.jobs) (ring_of p.rings ctx) (held.ties.rings.each ctx l) (ring_at p.rings e ctx (omega (arith, l, r))))))
+      (λ ctx l. (let r = held.represents.rings.contexts in empty_line (state_of script journal).core.jobs (state_of script journal).last_jobs (unfinished_of ctx (state_of script journal).core.jobs) (ring_of p.rings ctx) (held.represents.rings.each ctx l) (ring_at p.rings e ctx (omega (arith, l, r))))))
       (λ e. all_rings p.rings
-      (λ ctx l. (let r = held.ties.rings.contexts in empty_ring (state_of script journal).core.jobs (state_of script journal).last_jobs (unfinished_of ctx (state_of script journal).core.jobs) (ring_of p.rings ctx) (held.ties.rings.each ctx (omega (arith, l, r))) (all_done ctx (state_of script journal).core.jobs e))))
+      (λ ctx l. (let r = held.represents.rings.contexts in empty_ring (state_of script journal).core.jobs (state_of script journal).last_jobs (unfinished_of ctx (state_of script journal).core.jobs) (ring_of p.rings ctx) (held.represents.rings.each ctx (omega (arith, l, r))) (all_done ctx (state_of script journal).core.jobs e))))
     where
       known : (i : ℕ) (j : Job) → slice_get (state_of script journal).core.jobs i ≡ Some j → j.id.ctx < length (state_of script journal).last_jobs
       known i j e =
@@ -141,6 +141,6 @@ module _ (script : Script) (journal : List Entry) (p : Parts) (held : AreHeld sc
   pub over_is : (list_all (answered_in script p.courses) (thread_numbers script) && list_all is_empty p.rings && (length p.ghosts == 0)) ≡ is_complete script journal
   over_is =
       ap₂ (λ (a b : Bool). a && b)
-      (ap₂ (λ (a b : Bool). a && b) (ap (λ (cs : List Course). list_all (answered_in script cs) (thread_numbers script)) held.ties.courses) idle_is)
-      (ap (λ n. n == 0) (as_many (state_of script journal).core.jobs (state_of script journal).last_jobs (state_of script journal).core.ghosts p.ghosts held.ties.ghosts))
+      (ap₂ (λ (a b : Bool). a && b) (ap (λ (cs : List Course). list_all (answered_in script cs) (thread_numbers script)) held.represents.courses) idle_is)
+      (ap (λ n. n == 0) (as_many (state_of script journal).core.jobs (state_of script journal).last_jobs (state_of script journal).core.ghosts p.ghosts held.represents.ghosts))
       ∙ over_law script journal held.legal

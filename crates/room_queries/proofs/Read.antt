@@ -25,14 +25,14 @@ use Rattle.journal_model.specs.Stores.{byte_of}
 use Rattle.journal_model.specs.Legal.{state_of, stores_of}
 use Rattle.laws.proofs.law_owners.Law.{once_law, owner_law}
 use Rattle.laws.specs.lemma_bytes_told.Told.{IsThere}
-use Rattle.room_ties.specs.declared.parts.Parts.{Parts}
-use Rattle.room_ties.specs.Bos.{unfenced}
-use Rattle.room_ties.specs.Held.{AreHeld}
-use Rattle.room_ties.proofs.lemma_room_jobs.Lists.{get_map}
-use Rattle.room_ties.proofs.lemma_room_bytes.Walks.{page_held, slots_within}
-use Rattle.room_ties.proofs.lemma_room_bytes.Places.{page_there}
-use Rattle.room_ties.proofs.lemma_room_bytes.Shown.{range_append}
-use Rattle.room_ties.proofs.room_steps.Lent.{is_below, stands_at}
+use Rattle.room_representation.specs.declared.parts.Parts.{Parts}
+use Rattle.room_representation.specs.Bos.{unfenced}
+use Rattle.room_representation.specs.Held.{AreHeld}
+use Rattle.room_representation.proofs.lemma_room_jobs.Lists.{get_map}
+use Rattle.room_representation.proofs.lemma_room_bytes.Walks.{page_held, slots_within}
+use Rattle.room_representation.proofs.lemma_room_bytes.Places.{page_there}
+use Rattle.room_representation.proofs.lemma_room_bytes.Shown.{range_append}
+use Rattle.room_representation.proofs.room_steps.Lent.{is_below, stands_at}
 use Rattle.room_queries.specs.Bytes.{byte_in, bytes_in, page_of_bo, standing, zeros, HasPart}
 
 -- ---- bytes of one page
@@ -113,7 +113,7 @@ module _ (script : Script) (journal : List Entry) (p : Parts) (held : AreHeld sc
     where
       of_table : page_in_table (unwrap_or (slice_get x.table n) loc.Zero) ≡ slot k → slice_get p.swap.held k ≡ Some true
       of_table e =
-          page_held slot_of script.sizes.swap (held_slots (state_of script journal).core) p.swap.held held.ties.swap.held_are (owner_law script journal held.fits held.legal).slots x.table
+          page_held slot_of script.sizes.swap (held_slots (state_of script journal).core) p.swap.held held.represents.swap.held_are (owner_law script journal held.fits held.legal).slots x.table
           (slots_within (state_of script journal).core b x live) n (loc.Slot k) k (in_table k (slice_get x.table n) e) refl
 
       by : (m : Mem) → page_in m x n ≡ slot k → slice_get p.swap.held k ≡ Some true
@@ -125,28 +125,28 @@ module _ (script : Script) (journal : List Entry) (p : Parts) (held : AreHeld sc
   parts_have : (n : ℕ) (page : Page) → page_at x n ≡ page → HasPart p page
   parts_have n nowhere at = tt
   parts_have n (vram q) at =
-      page_there script (state_of script journal).core (once_law script journal held.fits held.legal) b n _ (stores_of script journal) p.stores held.ties.stores (vram q) at refl (λ e. let z : vram q ≡ nowhere = e in cc)
+      page_there script (state_of script journal).core (once_law script journal held.fits held.legal) b n _ (stores_of script journal) p.stores held.represents.stores (vram q) at refl (λ e. let z : vram q ≡ nowhere = e in cc)
   parts_have n (frame f) at =
-      page_there script (state_of script journal).core (once_law script journal held.fits held.legal) b n _ (stores_of script journal) p.stores held.ties.stores (frame f) at refl (λ e. let z : frame f ≡ nowhere = e in cc)
+      page_there script (state_of script journal).core (once_law script journal held.fits held.legal) b n _ (stores_of script journal) p.stores held.represents.stores (frame f) at refl (λ e. let z : frame f ≡ nowhere = e in cc)
   parts_have n (slot k) at = is_below p.swap.held k true (slot_held n k at)
 
   -- with the bytes of the journal
-  tied_byte : (n o : ℕ) (page : Page) → page_at x n ≡ page → stores_of script journal page o ≡ byte_in p page o
-  tied_byte n o nowhere at = held.ties.no_more nowhere o refl
-  tied_byte n o (vram q) at = sym (held.ties.stores.in_vram q o)
-  tied_byte n o (frame f) at = sym (held.ties.stores.in_frames f o)
-  tied_byte n o (slot k) at = sym (held.ties.swap.bytes_are k o (slot_held n k at))
+  represented_byte : (n o : ℕ) (page : Page) → page_at x n ≡ page → stores_of script journal page o ≡ byte_in p page o
+  represented_byte n o nowhere at = held.represents.no_more nowhere o refl
+  represented_byte n o (vram q) at = sym (held.represents.stores.in_vram q o)
+  represented_byte n o (frame f) at = sym (held.represents.stores.in_frames f o)
+  represented_byte n o (slot k) at = sym (held.represents.swap.bytes_are k o (slot_held n k at))
 
   -- so has each byte of the buffer
   seen_byte : (i : ℕ) → byte_of (stores_of script journal) x i ≡ byte_in p (page_at x (i / 4096)) (i % 4096)
-  seen_byte i = tied_byte (i / 4096) (i % 4096) (page_at x (i / 4096)) refl
+  seen_byte i = represented_byte (i / 4096) (i % 4096) (page_at x (i / 4096)) refl
 
   module _ (bo : Bo) (is : IsBo p.bos b bo) where
     -- the lent buffer is the state's, but for its fences
     body : body_of bo ≡ Some (unfenced x)
     body =
         let at : slice_get p.bos.buffers b.0 ≡ Some (Some (unfenced x)) =
-        ap (λ xs. slice_get xs b.0) held.ties.bos.buffers_are ∙ get_map (option_map unfenced) (state_of script journal).core.buffers b.0
+        ap (λ xs. slice_get xs b.0) held.represents.bos.buffers_are ∙ get_map (option_map unfenced) (state_of script journal).core.buffers b.0
         ∙ ap (option_map (option_map unfenced)) (stands_at (state_of script journal).core.buffers b x live) in
         let both : Some (body_of bo) ≡ Some (Some (unfenced x)) = sym is.body ∙ at in
         cc

@@ -4,11 +4,11 @@ ghost use Rattle.resource_core.specs.Resources.{is_free};
 ghost use Rattle.resource_core.specs.Vram.{spans_of_kind};
 ghost use Rattle.journal_model.specs.Choice as words;
 ghost use Rattle.journal_model.specs.Legal.{state_of};
-ghost use Rattle.room_ties.specs.Held.{AreHeld};
+ghost use Rattle.room_representation.specs.Held.{AreHeld};
 
 use journal_model::{Entry, Script};
 use resource_core::{Manager, RangeRoom, TakeFault, VramRoom};
-use room_ties::Parts;
+use room_representation::Parts;
 use state_words::{declared_align, declared_pages};
 use std::alloc::Global;
 use ttm_base::{BufId, Mem, NoMemory, Place, Spans};

@@ -2,10 +2,10 @@ ghost use Rattle.std.specs.Prelude.{◌≡◌, ◌+◌, ◌≤◌};
 ghost use Rattle.journal_model.specs.Holds as holds;
 ghost use Rattle.journal_model.specs.PageSteps as steps;
 ghost use Rattle.journal_model.specs.Legal.{state_of};
-ghost use Rattle.room_ties.specs.Held.{AreHeld};
+ghost use Rattle.room_representation.specs.Held.{AreHeld};
 
 use journal_model::{Entry, Script};
-use room_ties::Parts;
+use room_representation::Parts;
 use ttm_base::Stamp;
 
 /// The lowest free frame.

@@ -1,12 +1,12 @@
 ghost use Rattle.std.specs.Prelude.{◌≡◌, ◌+◌, ◌&&◌};
 ghost use Rattle.std.specs.List.{list_all};
 ghost use Rattle.journal_model.specs.Complete.{is_complete, thread_numbers};
-ghost use Rattle.room_ties.specs.Held.{AreHeld};
+ghost use Rattle.room_representation.specs.Held.{AreHeld};
 ghost use Rattle.room_queries.specs.Ends.{answered_in, is_empty};
 
 use copy_engine::Rings;
 use journal_model::{Courses, Entry, Script};
-use room_ties::Parts;
+use room_representation::Parts;
 
 /// A thread, by its place among the threads, has answered all its commands.
 fn has_answered(courses: &Courses, script: &Script, at: usize) -> bool

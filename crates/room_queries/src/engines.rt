@@ -1,11 +1,11 @@
 ghost use Rattle.std.specs.Prelude.{◌≡◌, ◌≤◌, option_map};
 ghost use Rattle.journal_model.specs.Next.{head_of};
 ghost use Rattle.journal_model.specs.Legal.{state_of};
-ghost use Rattle.room_ties.specs.Held.{AreHeld};
+ghost use Rattle.room_representation.specs.Held.{AreHeld};
 ghost use Rattle.room_queries.specs.Heads.{number_left};
 
 use journal_model::{Entry, Script};
-use room_ties::Parts;
+use room_representation::Parts;
 use ttm_base::JobId;
 
 /// The job at the head of a context. Takes constant time.

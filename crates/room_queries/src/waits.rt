@@ -3,12 +3,12 @@ ghost use Rattle.journal_model.specs.State.{buffer};
 ghost use Rattle.journal_model.specs.Next.{head_of};
 ghost use Rattle.journal_model.specs.Waits.{waited_for};
 ghost use Rattle.journal_model.specs.Legal.{state_of};
-ghost use Rattle.room_ties.specs.Held.{AreHeld};
+ghost use Rattle.room_representation.specs.Held.{AreHeld};
 ghost use Rattle.room_queries.specs.Uses as words;
 ghost use Rattle.room_queries.specs.Uses.{jobs_before};
 
 use journal_model::{Entry, Script};
-use room_ties::Parts;
+use room_representation::Parts;
 use ttm_base::{BufId, JobId, Usage};
 
 /// The jobs to be waited for before a use, by the usage that covers them: all before a write or a move, those that change the buffer before a read

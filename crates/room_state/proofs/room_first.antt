@@ -1,1 +1,1 @@
-pub mod FirstTied
+pub mod FirstRepresented

@@ -1,5 +1,5 @@
 pub mod Threads
 pub mod Turned
 pub mod Works
-pub mod Hunted
+pub mod BufferSearched
 pub mod Finds

@@ -1,4 +1,4 @@
 pub mod Turns
 pub mod Searching
 pub mod Acting
-pub mod Hunts
+pub mod BufferSearches

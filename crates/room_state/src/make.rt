@@ -1,13 +1,13 @@
 ghost use Rattle.std.specs.Prelude.{◌≡◌, ◌∷◌, ◌++◌, [], OnOk, OnErr};
 ghost use Rattle.ttm_base.specs.declared.Actor.TheVariants as actor;
 ghost use Rattle.journal_model.specs.Legal.{IsLegalNext, world_of};
-ghost use Rattle.room_ties.specs.Held.{AreHeld};
+ghost use Rattle.room_representation.specs.Held.{AreHeld};
 
 use crate::threads::make_of_thread;
 use journal_model::{Entry, Kind, Script};
 use room_pages::room_ghosts::reap;
 use room_parts::{done, packet};
-use room_ties::Parts;
+use room_representation::Parts;
 use std::alloc::Global;
 use ttm_base::{Actor, NoMemory};
 

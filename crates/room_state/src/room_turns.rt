@@ -1,11 +1,13 @@
 //! What an actor's turn makes of the rooms: its next entry, or what it needs first.
-mod hunts;
+mod buffer_searches;
 
 ghost use Rattle.std.specs.Prelude.{◌≡◌, Ok, IfOk, OnOk, OnErr};
 ghost use Rattle.room_state.specs.room_turns.Turns.{entry_by, entry_of, step_by, step_of, after_step};
 
 pub use crate::Rooms;
-pub use hunts::{Hunt, Sought, hunt_at_work, place_at, place_at_work, place_count};
+pub use buffer_searches::{
+    BufferSearch, SearchPlaces, buffer_search_at_work, place_at, place_at_work, place_count,
+};
 use journal_model::{Entry, Kind};
 use ttm_base::{Actor, Need, NoMemory};
 

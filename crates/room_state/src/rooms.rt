@@ -14,12 +14,12 @@ ghost use Rattle.room_queries.specs.Uses.{jobs_before};
 ghost use Rattle.journal_model.specs.Commands.{command_at_work as command_of};
 ghost use Rattle.journal_model.specs.ScriptRules.{is_script};
 ghost use Rattle.journal_model.specs.Legal.{IsLegal};
-ghost use Rattle.room_ties.specs.lemma_room_lists.Listed.{HasLists};
-ghost use Rattle.room_ties.specs.Bos.{AreBos};
-ghost use Rattle.room_ties.specs.Ghosts.{AreGhosts};
-ghost use Rattle.room_ties.specs.Held.{AreHeld};
-ghost use Rattle.room_ties.specs.Lines.{IsTimeline};
-ghost use Rattle.room_ties.specs.RingJobs.{AreRings};
+ghost use Rattle.room_representation.specs.lemma_room_lists.Listed.{HasLists};
+ghost use Rattle.room_representation.specs.Bos.{AreBos};
+ghost use Rattle.room_representation.specs.Ghosts.{AreGhosts};
+ghost use Rattle.room_representation.specs.Held.{AreHeld};
+ghost use Rattle.room_representation.specs.Lines.{IsTimeline};
+ghost use Rattle.room_representation.specs.RingJobs.{AreRings};
 ghost use Rattle.room_state.specs.Kept.{with_entry, state_behind, world_behind, MayAppend};
 
 use crate::make::make_parts;
@@ -30,7 +30,7 @@ use copy_packet::ProbeBytes;
 use fence_core::Timeline;
 use journal_model::{Bytes, Command, Course, Entry, Script, Stage, Task};
 use lru_bulk::Lru;
-use room_ties::{Ghost, Parts};
+use room_representation::{Ghost, Parts};
 use state_words::commands_of;
 use std::alloc::Global;
 use std::marker::Model;
@@ -58,7 +58,7 @@ impl Drop for Rooms {
 
 impl Model for Rooms {
     ghost use Rattle.room_state.specs.Kept.{Kept};
-    ghost use Rattle.room_ties.specs.Held.{AreHeld};
+    ghost use Rattle.room_representation.specs.Held.{AreHeld};
 
     ghost Value = { Kept };
 
@@ -130,7 +130,7 @@ impl Rooms {
 
     /// The buffers.
     pub fn bos(&self) -> &BoTable
-        ensures { AreBos self.now.script (state_behind self.now).core.buffers (state_behind self.now).grips (state_behind self.now).last_jobs result.now }
+        ensures { AreBos self.now.script (state_behind self.now).core.buffers (state_behind self.now).reservations (state_behind self.now).last_jobs result.now }
     {
         &self.parts.bos
     }

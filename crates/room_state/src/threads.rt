@@ -1,7 +1,7 @@
 ghost use Rattle.std.specs.Prelude.{◌≡◌, ◌∷◌, ◌++◌, [], OnOk, OnErr};
 ghost use Rattle.ttm_base.specs.declared.Actor.TheVariants as actor;
 ghost use Rattle.journal_model.specs.Legal.{IsLegalNext, world_of};
-ghost use Rattle.room_ties.specs.Held.{AreHeld};
+ghost use Rattle.room_representation.specs.Held.{AreHeld};
 ghost use Rattle.room_state.specs.Themes as words;
 ghost use Rattle.room_state.specs.declared.themes.Theme.TheVariants as theme;
 
@@ -16,7 +16,7 @@ use room_parts::{
     back_off, bulk, catch, dry, loose, make, no_pages, populate, refuse, reserve, skip, swap_in,
     take, ticket, untake,
 };
-use room_ties::Parts;
+use room_representation::Parts;
 use std::alloc::Global;
 use ttm_base::NoMemory;
 

@@ -14,8 +14,8 @@ use Rattle.journal_model.specs.declared.state.State.{State}
 use Rattle.journal_model.specs.declared.state.Core.{Core}
 use Rattle.journal_model.specs.declared.state.Buffer.{Buffer}
 use Rattle.journal_model.specs.declared.state.Course.{Course}
-use Rattle.journal_model.specs.declared.state.Grip.{Grip}
-use Rattle.journal_model.specs.State.{buffer_in, course, has_buffer, new_course, no_grip, without_buffer}
+use Rattle.journal_model.specs.declared.state.Reservation.{Reservation}
+use Rattle.journal_model.specs.State.{buffer_in, course, has_buffer, new_course, no_reservation, without_buffer}
 use Rattle.journal_model.specs.Commands.{command_at_work}
 use Rattle.journal_model.specs.Places.{packet_place}
 use Rattle.journal_model.specs.Waits.{jobs_before_use}
@@ -44,12 +44,12 @@ after_arm_is script s t job cmd ops bs read used waits packets core last_jobs x 
     let y : x ≡ course s t = course_is s t x there e in rw (k, l, w, p, r, u, b, o, m, y)
 
 -- a command that was answered
-pub after_result_is : (script : Script) (s : State) (t : ℕ) (cmd : Option Command) (x next : Course) (held touching : List BufId) (grips read : List Grip) (buffers : List (Option Buffer)) (old lists : List (List BufId)) (courses : List Course) →
+pub after_result_is : (script : Script) (s : State) (t : ℕ) (cmd : Option Command) (x next : Course) (held touching : List BufId) (reservations read : List Reservation) (buffers : List (Option Buffer)) (old lists : List (List BufId)) (courses : List Course) →
     IsThread s t → cmd ≡ command_at_work script s t → slice_get s.courses (t - 1) ≡ Some x → next ≡ new_course (x.answered + 1) → held ≡ x.held → touching ≡ x.held →
-    grips ≡ with_pins cmd (released s.grips held) → buffers ≡ s.core.buffers → read ≡ grips → old ≡ s.lists →
+    reservations ≡ with_pins cmd (released s.reservations held) → buffers ≡ s.core.buffers → read ≡ reservations → old ≡ s.lists →
     lists ≡ fold (touched script buffers read) old (filter (has_buffer touching) (named_in cmd)) → courses ≡ slice_set s.courses (t - 1) next →
-    record s { grips = grips; lists = lists; courses = courses } ≡ after_result script s t
-after_result_is script s t cmd x next held touching grips read buffers old lists courses there m e n h u g b r o l k =
+    record s { reservations = reservations; lists = lists; courses = courses } ≡ after_result script s t
+after_result_is script s t cmd x next held touching reservations read buffers old lists courses there m e n h u g b r o l k =
     let y : x ≡ course s t = course_is s t x there e in rw (l, k, r, o, b, g, h, u, n, m, y)
 
 -- the number of the last ghost, by whether one was left
@@ -60,13 +60,13 @@ pub last_ghost_kept : (num old : ℕ) → num ≡ 0 → old ≡ (if num == 0 the
 last_ghost_kept num old h = grind (arith, nat_tests)
 
 -- a buffer that was freed
-pub after_free_is : (s z : State) (t : ℕ) (b : BufId) (num : ℕ) (x y : Course) (read held : List BufId) (old lists : List (List BufId)) (core : Core) (buffers : List (Option Buffer)) (grip : Grip) (grips : List Grip) (last_ghost : ℕ) →
+pub after_free_is : (s z : State) (t : ℕ) (b : BufId) (num : ℕ) (x y : Course) (read held : List BufId) (old lists : List (List BufId)) (core : Core) (buffers : List (Option Buffer)) (reservation : Reservation) (reservations : List Reservation) (last_ghost : ℕ) →
     IsThread s t → slice_get s.courses (t - 1) ≡ Some x → read ≡ x.held → held ≡ without_buffer read b → old ≡ s.lists → lists ≡ taken_off old b →
     core ≡ record s.core { ghosts = (if num == 0 then s.core.ghosts else s.core.ghosts ++ ghost_of_freed s.core (buffer_in s.core b) num ∷ []) } →
-    buffers ≡ slice_set core.buffers b.0 None → grip ≡ no_grip → grips ≡ slice_set s.grips b.0 grip → last_ghost ≡ (if num == 0 then s.last_ghost else num) →
-    z ≡ record s { core = record core { buffers = buffers }; grips = grips; lists = lists; last_ghost = last_ghost } → slice_get z.courses (t - 1) ≡ Some y →
+    buffers ≡ slice_set core.buffers b.0 None → reservation ≡ no_reservation → reservations ≡ slice_set s.reservations b.0 reservation → last_ghost ≡ (if num == 0 then s.last_ghost else num) →
+    z ≡ record s { core = record core { buffers = buffers }; reservations = reservations; lists = lists; last_ghost = last_ghost } → slice_get z.courses (t - 1) ≡ Some y →
     record z { courses = slice_set z.courses (t - 1) (record y { held = held; made = true }) } ≡ after_free s t b num
-after_free_is s z t b num x y read held old lists core buffers grip grips last_ghost there e r h o l k f g i n w d =
+after_free_is s z t b num x y read held old lists core buffers reservation reservations last_ghost there e r h o l k f g i n w d =
     let before : x ≡ course s t = course_is s t x there e in
     let now : y ≡ course s t = course_is s t y there (subst (λ (v : State). slice_get v.courses (t - 1) ≡ Some y) w d) in
     rw (w, f, k, i, g, l, o, h, r, n, before, now)

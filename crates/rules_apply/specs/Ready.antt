@@ -28,7 +28,7 @@ pub record CanAnswer (s : State) (t : ℕ) : Type 0 where
 -- a thread may answer the command that it is at
 pub record CanShowResult (script : Script) (s : State) (t : ℕ) : Type 0 where
   pub answer : CanAnswer s t
-  pub pins : HasPinsLeft s.grips (command_at_work script s t)
+  pub pins : HasPinsLeft s.reservations (command_at_work script s t)
 
 -- a search may go on behind its k-th place
 pub record CanGoDry (s : State) (t k : ℕ) : Type 0 where

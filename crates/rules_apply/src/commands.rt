@@ -6,14 +6,16 @@ ghost use Rattle.journal_model.specs.Lists.{touched};
 ghost use Rattle.rules_state.specs.rules_parts.Pins.{HasPinsLeft};
 ghost use Rattle.rules_apply.specs.Ready.{IsThread, CanShowResult};
 
-use journal_model::{BufIds, Buffer, Command, Core, Ghost, Grip, Grips, Lists, Script, State};
+use journal_model::{
+    BufIds, Buffer, Command, Core, Ghost, Lists, Reservation, Reservations, Script, State,
+};
 use rules_holds::{push_spans, spans_in, unfinished_before_write};
 use rules_state::rules_parts::buffers::put_buffer;
-use rules_state::rules_parts::grips::{change_pins, put_grip, release_all};
 use rules_state::rules_parts::lists::{listed_in, members_last, taken_off, touched_all};
+use rules_state::rules_parts::reservations::{change_pins, put_reservation, release_all};
 use rules_state::{
     buffer_in, command_at_work, dead_buffer, declared_pages, frames_of, has_buffer, named,
-    new_buffer, new_course, no_grip, without_buffer,
+    new_buffer, new_course, no_reservation, without_buffer,
 };
 use std::alloc::Global;
 use ttm_base::{BufId, Mem, NoMemory, Spans};
@@ -33,7 +35,7 @@ pub fn make(
     let buffer = new_buffer(alloc, declared_pages(script, b))?;
     let lists = listed_in(alloc, script, state.lists.items(), b, Some(Mem::System))?;
     put_buffer(&mut state.core.buffers, b, Some(buffer));
-    put_grip(&mut state.grips, b, no_grip());
+    put_reservation(&mut state.reservations, b, no_reservation());
     state.lists = lists;
     let course = state.courses.get_mut(thread as usize - 1);
     course.made = true;
@@ -96,7 +98,7 @@ pub fn free(
     let held = without_buffer(alloc, course.held.items(), b)?;
     leave_ghost(alloc, &mut state.core, b, num)?;
     put_buffer(&mut state.core.buffers, b, None);
-    put_grip(&mut state.grips, b, no_grip());
+    put_reservation(&mut state.reservations, b, no_reservation());
     state.lists = lists;
     if num != 0 {
         state.last_ghost = num;
@@ -148,17 +150,17 @@ fn held_among(alloc: Global, held: &[BufId], bs: &[BufId]) -> Result<BufIds, NoM
     Ok(found)
 }
 
-/// The grips once a command is answered: held buffers are let go, and pins change as it asks.
-fn answered_grips(
+/// The reservations once a command is answered: held buffers are let go, and pins change as it asks.
+fn answered_reservations(
     alloc: Global,
-    grips: &Grips,
+    reservations: &Reservations,
     held: &[BufId],
     command: Option<&Command>,
-) -> Result<Grips, NoMemory>
-    requires { HasPinsLeft grips.now (option_copied command) }
-    ensures { IfOk result (λ new. new ≡ with_pins (option_copied command.entry) (released grips.now held.now)) }
+) -> Result<Reservations, NoMemory>
+    requires { HasPinsLeft reservations.now (option_copied command) }
+    ensures { IfOk result (λ new. new ≡ with_pins (option_copied command.entry) (released reservations.now held.now)) }
 {
-    let mut new = grips.copy()?;
+    let mut new = reservations.copy()?;
     release_all(&mut new, held);
     if let Some(command) = command {
         change_pins(&mut new, command);
@@ -171,16 +173,16 @@ fn answered_lists(
     alloc: Global,
     script: &Script,
     buffers: &[Option<Buffer>],
-    grips: &[Grip],
+    reservations: &[Reservation],
     lists: &[BufIds],
     held: &[BufId],
     command: Option<&Command>,
 ) -> Result<Lists, NoMemory>
-    ensures { IfOk result (λ new. new ≡ fold (touched script.now buffers.now grips.now) lists.now (filter (words.has_buffer held.now) (named_in (option_copied command.entry)))) }
+    ensures { IfOk result (λ new. new ≡ fold (touched script.now buffers.now reservations.now) lists.now (filter (words.has_buffer held.now) (named_in (option_copied command.entry)))) }
 {
     let bs = buffers_of(alloc, command)?;
     let held = held_among(alloc, held, bs.items())?;
-    touched_all(alloc, script, buffers, grips, lists, held.items())
+    touched_all(alloc, script, buffers, reservations, lists, held.items())
 }
 
 /// A thread answers its command: its buffers are let go and touched.
@@ -197,17 +199,22 @@ pub fn answer(
     let command = command_at_work(script, state, thread);
     let course = state.courses.get(thread as usize - 1);
     let next = new_course(alloc, course.answered + 1);
-    let grips = answered_grips(alloc, &state.grips, course.held.items(), command)?;
+    let reservations = answered_reservations(
+        alloc,
+        &state.reservations,
+        course.held.items(),
+        command,
+    )?;
     let lists = answered_lists(
         alloc,
         script,
         state.core.buffers.items(),
-        grips.items(),
+        reservations.items(),
         state.lists.items(),
         course.held.items(),
         command,
     )?;
-    state.grips = grips;
+    state.reservations = reservations;
     state.lists = lists;
     state.courses.set(thread as usize - 1, next);
     Ok(())

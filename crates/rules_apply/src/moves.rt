@@ -221,7 +221,7 @@ pub fn move_buffer(
         alloc,
         script,
         state.core.buffers.items(),
-        state.grips.items(),
+        state.reservations.items(),
         state.lists.items(),
         b,
         mem,

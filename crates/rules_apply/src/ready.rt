@@ -3,9 +3,9 @@ ghost use Rattle.journal_model.specs.State as words;
 ghost use Rattle.rules_apply.specs.Ready as facts;
 ghost use Rattle.rules_state.specs.rules_parts.Pins.{CanPin, HasPinsLeft};
 
-use journal_model::{Command, Entry, Grip, Kind, Script, State};
+use journal_model::{Command, Entry, Kind, Reservation, Script, State};
 use rules_state::rules_parts::actors::{engine_of, thread_of};
-use rules_state::{command_at_work, course_of, grip_in, live_in};
+use rules_state::{command_at_work, course_of, live_in, reservation_in};
 use ttm_base::{BufId, JobId};
 
 /// The thread is there.
@@ -26,11 +26,11 @@ fn can_answer(state: &State, thread: u32) -> bool
 }
 
 /// The command pins no buffer that is pinned as often as can be counted.
-fn has_pins_left(grips: &[Grip], command: Option<&Command>) -> bool
-    ensures { IsTrue result ↔ HasPinsLeft grips.now (option_copied command.entry) }
+fn has_pins_left(reservations: &[Reservation], command: Option<&Command>) -> bool
+    ensures { IsTrue result ↔ HasPinsLeft reservations.now (option_copied command.entry) }
 {
     match command {
-        Some(Command::Pin { b }) => grip_in(grips, *b).pins < 255,
+        Some(Command::Pin { b }) => reservation_in(reservations, *b).pins < 255,
         _ => true,
     }
 }
@@ -40,7 +40,10 @@ fn can_show_result(script: &Script, state: &State, thread: u32) -> bool
     ensures { IsTrue result ↔ facts.CanShowResult script.now state.now thread }
 {
     can_answer(state, thread)
-        && has_pins_left(state.grips.items(), command_at_work(script, state, thread))
+        && has_pins_left(
+            state.reservations.items(),
+            command_at_work(script, state, thread),
+        )
 }
 
 /// The search may go on behind its k-th place.

@@ -6,7 +6,7 @@ ghost use Rattle.rules_apply.specs.Ready.{CanGoDry};
 
 use journal_model::{Command, Course, Script, State};
 use rules_state::rules_parts::courses::{fail_search, go_dry};
-use rules_state::{command_at_work, forced_places, is_caught, quest_at_work};
+use rules_state::{command_at_work, forced_places, is_caught, place_search_at_work};
 use std::alloc::Global;
 use ttm_base::{BufId, Deny, NoMemory};
 
@@ -19,10 +19,10 @@ fn forced_count(
     command: &Command,
     b: BufId,
 ) -> Result<usize, NoMemory>
-    ensures { IfOk result (λ n. n ≡ length (forced_places (words.quest_at_work script.now state.now course.now command.now b).list)) }
+    ensures { IfOk result (λ n. n ≡ length (forced_places (words.place_search_at_work script.now state.now course.now command.now b).list)) }
 {
-    let quest = quest_at_work(alloc, script, state, course, command, b)?;
-    let places = forced_places(alloc, quest.list.items())?;
+    let place_search = place_search_at_work(alloc, script, state, course, command, b)?;
+    let places = forced_places(alloc, place_search.list.items())?;
     Ok(places.len())
 }
 

@@ -3,10 +3,10 @@ ghost use Rattle.journal_model.specs.State as words;
 ghost use Rattle.journal_model.specs.Legal as legal;
 
 use journal_model::{
-    BufIds, Buffers, Commands, Core, Courses, Decl, Ghosts, Grips, Jobs, Lists, Numbers, Script,
-    State,
+    BufIds, Buffers, Commands, Core, Courses, Decl, Ghosts, Jobs, Lists, Numbers, Reservations,
+    Script, State,
 };
-use rules_state::{new_course, no_grip};
+use rules_state::{new_course, no_reservation};
 use std::alloc::Global;
 use ttm_base::NoMemory;
 
@@ -21,15 +21,15 @@ fn dead_buffers(alloc: Global, decls: &[Decl]) -> Result<Buffers, NoMemory>
     Ok(buffers)
 }
 
-/// A grip of each declared buffer.
-fn no_grips(alloc: Global, decls: &[Decl]) -> Result<Grips, NoMemory>
-    ensures { IfOk result (λ grips. grips ≡ map (λ d. words.no_grip) decls.now) }
+/// A reservation of each declared buffer.
+fn no_reservations(alloc: Global, decls: &[Decl]) -> Result<Reservations, NoMemory>
+    ensures { IfOk result (λ reservations. reservations ≡ map (λ d. words.no_reservation) decls.now) }
 {
-    let mut grips = Grips::new(alloc);
+    let mut reservations = Reservations::new(alloc);
     for _decl in decls {
-        grips.push(no_grip())?;
+        reservations.push(no_reservation())?;
     }
-    Ok(grips)
+    Ok(reservations)
 }
 
 /// So many empty lists of buffers.
@@ -70,7 +70,7 @@ pub fn first_state(alloc: Global, script: &Script) -> Result<State, NoMemory>
     ensures { IfOk result (λ s. s ≡ legal.first_state script.now) }
 {
     let buffers = dead_buffers(alloc, script.buffers.items())?;
-    let grips = no_grips(alloc, script.buffers.items())?;
+    let reservations = no_reservations(alloc, script.buffers.items())?;
     let lists = empty_lists(alloc, 12)?;
     let last_jobs = zeros(alloc, script.sizes.engines as usize + 1)?;
     let courses = first_courses(alloc, script.threads.items())?;
@@ -81,7 +81,7 @@ pub fn first_state(alloc: Global, script: &Script) -> Result<State, NoMemory>
             ghosts: Ghosts::new(alloc),
             move_fence: None,
         },
-        grips,
+        reservations,
         lists,
         last_stamp: 0,
         last_ghost: 0,

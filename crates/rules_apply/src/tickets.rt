@@ -4,7 +4,7 @@ ghost use Rattle.rules_apply.specs.Ready.{IsThread, CanAnswer};
 
 use journal_model::{BufIds, State};
 use rules_state::new_course;
-use rules_state::rules_parts::grips;
+use rules_state::rules_parts::reservations;
 use std::alloc::Global;
 use ttm_base::{BufId, NoMemory, Stamp};
 
@@ -28,7 +28,7 @@ pub fn reserve(state: &mut State, thread: u32, b: BufId) -> Result<(), NoMemory>
     let course = state.courses.get_mut(thread as usize - 1);
     course.held.push(b)?;
     let stamp = course.stamp;
-    grips::set_holder(&mut state.grips, b, stamp);
+    reservations::set_holder(&mut state.reservations, b, stamp);
     Ok(())
 }
 
@@ -38,7 +38,7 @@ pub fn back_off(alloc: Global, state: &mut State, thread: u32, b: BufId)
     ensures { state.new ≡ after_backoff state.old thread b }
 {
     let course = state.courses.get_mut(thread as usize - 1);
-    grips::release_all(&mut state.grips, course.held.items());
+    reservations::release_all(&mut state.reservations, course.held.items());
     course.held = BufIds::new(alloc);
     course.first = Some(b);
 }
@@ -49,6 +49,6 @@ pub fn refuse(alloc: Global, state: &mut State, thread: u32)
     ensures { state.new ≡ after_refusal state.old thread }
 {
     let course = state.courses.get_mut(thread as usize - 1);
-    grips::release_all(&mut state.grips, course.held.items());
+    reservations::release_all(&mut state.reservations, course.held.items());
     *course = new_course(alloc, course.answered + 1);
 }

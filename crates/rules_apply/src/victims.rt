@@ -4,7 +4,7 @@ ghost use Rattle.rules_apply.specs.Ready.{IsThread};
 
 use journal_model::{Script, State, Why};
 use rules_state::rules_parts::lists::touched;
-use rules_state::rules_parts::{buffers, courses, grips};
+use rules_state::rules_parts::{buffers, courses, reservations};
 use std::alloc::Global;
 use ttm_base::{BufId, Deny, NoMemory};
 
@@ -26,7 +26,7 @@ pub fn skip(state: &mut State, thread: u32, b: BufId) -> Result<(), NoMemory>
 {
     let course = state.courses.get_mut(thread as usize - 1);
     courses::skip_victim(course, b)?;
-    grips::set_holder(&mut state.grips, b, None);
+    reservations::set_holder(&mut state.reservations, b, None);
     Ok(())
 }
 
@@ -46,7 +46,7 @@ pub fn catch(
     let course = state.courses.get_mut(thread as usize - 1);
     courses::add_victim(course, b, why)?;
     let stamp = course.stamp;
-    grips::set_holder(&mut state.grips, b, stamp);
+    reservations::set_holder(&mut state.reservations, b, stamp);
     buffers::leave_tt(alloc, &mut state.core.buffers, b);
     Ok(())
 }
@@ -68,13 +68,13 @@ pub fn loose(
         alloc,
         script,
         state.core.buffers.items(),
-        state.grips.items(),
+        state.reservations.items(),
         state.lists.items(),
         b,
     )?;
     let course = state.courses.get_mut(thread as usize - 1);
     courses::forget_victim(course, b);
-    grips::set_holder(&mut state.grips, b, None);
+    reservations::set_holder(&mut state.reservations, b, None);
     state.lists = lists;
     Ok(())
 }

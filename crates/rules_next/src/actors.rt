@@ -11,14 +11,14 @@ ghost use Rattle.rules_holds.specs.Marked.{AreFrames};
 ghost use Rattle.rules_search.specs.Room.{HasRoom};
 
 use crate::tasks::task_of_command;
-use journal_model::{Aim, Bytes, Command, Course, Job, Kind, Script, Shown, State, Task};
+use journal_model::{Bytes, Command, Course, Job, Kind, Script, SearchAim, Shown, State, Task};
 use rules_holds::{FrameMarks, is_idle, waited_before_read, waited_for};
 use rules_search::{
     Step, Swap, next_ghost, next_job, once_idle, step_of_empty, step_of_fill, step_of_give_back,
-    step_of_move, step_of_quest, swap_out, unless_waiting,
+    step_of_move, step_of_place_search, swap_out, unless_waiting,
 };
 use rules_state::{
-    buffer_in, command_at_work, course_of, dead_buffer, grip_in, is_live, quest_for,
+    buffer_in, command_at_work, course_of, dead_buffer, is_live, place_search_for, reservation_in,
 };
 use std::alloc::Global;
 use ttm_base::{Actor, BufId, Deny, Need, NoMemory, Stamp};
@@ -72,7 +72,11 @@ fn step_of_lock(state: &State, course: &Course, b: BufId) -> Step
     ensures { result ≡ words.step_of_lock state.now course.now b }
 {
     if is_live(state, b) {
-        step_of_holder(course, b, grip_in(state.grips.items(), b).holder)
+        step_of_holder(
+            course,
+            b,
+            reservation_in(state.reservations.items(), b).holder,
+        )
     } else {
         Ok(Kind::Refused {
             deny: Deny::NoBuffer,
@@ -174,13 +178,13 @@ fn step_of_search(
     course: &Course,
     command: &Command,
     b: BufId,
-    aim: Aim,
+    aim: SearchAim,
 ) -> Result<Step, NoMemory>
     requires { HasRoom script.now state.now }
     ensures { IfOk result (λ step. step ≡ words.step_of_task script.now state.now course.now command.now (task.Search b aim)) }
 {
-    let quest = quest_for(alloc, script, command, course, b, aim)?;
-    step_of_quest(alloc, script, state, course, b, &quest)
+    let place_search = place_search_for(alloc, script, command, course, b, aim)?;
+    step_of_place_search(alloc, script, state, course, b, &place_search)
 }
 
 /// The step of each task.

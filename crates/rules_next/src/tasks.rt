@@ -4,11 +4,13 @@ ghost use Rattle.journal_model.specs.State.{new_buffer, has_buffer};
 ghost use Rattle.journal_model.specs.Tasks as words;
 
 use crate::ready::{first_unready, has_all_frames, is_in_place};
-use journal_model::{Aim, Buffer, Command, Course, Grip, Script, Stage, State, Task, Victim, Why};
+use journal_model::{
+    Buffer, Command, Course, Reservation, Script, SearchAim, Stage, State, Task, Victim, Why,
+};
 use rules_search::has_frame;
 use rules_state::{
-    buffer_in, command_at_work, course_of, dead_buffer, grip_in, has_buffer, has_some_target,
-    has_target, named, same_mem,
+    buffer_in, command_at_work, course_of, dead_buffer, has_buffer, has_some_target, has_target,
+    named, reservation_in, same_mem,
 };
 use std::alloc::Global;
 use ttm_base::{BufId, Deny, Mem, NoMemory};
@@ -80,7 +82,10 @@ fn task_in_vram(victim: Victim, buffer: &Buffer) -> Task
     } else if has_target(Mem::Tt, buffer) {
         filled_then(Task::Move { b, mem: Mem::Tt }, b, buffer)
     } else {
-        Task::Search { b, aim: Aim::Hop }
+        Task::Search {
+            b,
+            aim: SearchAim::Hop,
+        }
     }
 }
 
@@ -115,12 +120,12 @@ fn task_of_victim(victim: Victim, buffer: &Buffer) -> Task
 pub fn forbidden(state: &State, command: &Command) -> Option<Deny>
     ensures { result ≡ words.forbidden state.now command.now }
 {
-    let grips = state.grips.items();
+    let reservations = state.reservations.items();
     match command {
-        Command::Pin { b } if grip_in(grips, *b).pins == 255 => Some(Deny::PinMax),
-        Command::Unpin { b } if grip_in(grips, *b).pins == 0 => Some(Deny::NotPinned),
-        Command::Free { b } if grip_in(grips, *b).pins > 0 => Some(Deny::Pinned),
-        Command::SwapOut { b } if grip_in(grips, *b).pins > 0 => Some(Deny::Pinned),
+        Command::Pin { b } if reservation_in(reservations, *b).pins == 255 => Some(Deny::PinMax),
+        Command::Unpin { b } if reservation_in(reservations, *b).pins == 0 => Some(Deny::NotPinned),
+        Command::Free { b } if reservation_in(reservations, *b).pins > 0 => Some(Deny::Pinned),
+        Command::SwapOut { b } if reservation_in(reservations, *b).pins > 0 => Some(Deny::Pinned),
         _ => None,
     }
 }
@@ -152,7 +157,10 @@ fn carried(b: BufId, buffer: &Buffer) -> Task
             if has_target(Mem::Tt, buffer) {
                 filled_then(Task::Bind(b), b, buffer)
             } else {
-                Task::Search { b, aim: Aim::Hop }
+                Task::Search {
+                    b,
+                    aim: SearchAim::Hop,
+                }
             }
         }
         Mem::Tt => {
@@ -168,22 +176,28 @@ fn carried(b: BufId, buffer: &Buffer) -> Task
             } else if has_target(Mem::Tt, buffer) {
                 filled_then(Task::Move { b, mem: Mem::Tt }, b, buffer)
             } else {
-                Task::Search { b, aim: Aim::Hop }
+                Task::Search {
+                    b,
+                    aim: SearchAim::Hop,
+                }
             }
         }
     }
 }
 
 /// A buffer that isn't in place.
-fn task_of_misplaced(b: BufId, grip: Grip, buffer: &Buffer) -> Task
-    ensures { result ≡ words.task_of_misplaced b grip buffer.now }
+fn task_of_misplaced(b: BufId, reservation: Reservation, buffer: &Buffer) -> Task
+    ensures { result ≡ words.task_of_misplaced b reservation buffer.now }
 {
-    if grip.pins > 0 {
+    if reservation.pins > 0 {
         Task::Refuse(Deny::Pinned)
     } else if has_some_target(buffer) {
         carried(b, buffer)
     } else {
-        Task::Search { b, aim: Aim::Asked }
+        Task::Search {
+            b,
+            aim: SearchAim::Asked,
+        }
     }
 }
 
@@ -202,7 +216,7 @@ fn task_of_unready(
     if is_in_place(script, command, b, buffer) {
         Task::Fill(b)
     } else {
-        task_of_misplaced(b, grip_in(state.grips.items(), b), buffer)
+        task_of_misplaced(b, reservation_in(state.reservations.items(), b), buffer)
     }
 }
 

@@ -9,7 +9,7 @@ use Rattle.ttm_base.specs.declared.BufId.{BufId}
 use Rattle.ttm_base.specs.declared.Place.{Place}
 use Rattle.journal_model.specs.declared.script.Script.{Script}
 use Rattle.journal_model.specs.declared.state.Buffer.{Buffer}
-use Rattle.journal_model.specs.declared.state.Grip.{Grip}
+use Rattle.journal_model.specs.declared.state.Reservation.{Reservation}
 use Rattle.journal_model.specs.declared.entry.CauseRow.{CauseRow}
 use Rattle.journal_model.specs.Holds.{live_entry}
 use Rattle.journal_model.specs.Dry.{cause_row}
@@ -27,12 +27,12 @@ row_of_slot f n (Some x) = one (f (record { 0 = n }, x)) where
   one None = refl
   one (Some r) = refl
 
-pub causes_more : (script : Script) (grips : List Grip) (place : Place) (slots : List (Option Buffer)) (i : ℕ) (d : Option Buffer) → i < length slots
-    → filter_map (cause_row script grips place) (filter_map live_entry (enumerate_from 0 (take (i + 1) slots)))
-    ≡ filter_map (cause_row script grips place) (filter_map live_entry (enumerate_from 0 (take i slots)))
-    ++ option_to_list (option_and_then (λ x. cause_row script grips place (record { 0 = i }, x)) (get_or slots i d))
-causes_more script grips place slots i d h =
-    let f = cause_row script grips place in
+pub causes_more : (script : Script) (reservations : List Reservation) (place : Place) (slots : List (Option Buffer)) (i : ℕ) (d : Option Buffer) → i < length slots
+    → filter_map (cause_row script reservations place) (filter_map live_entry (enumerate_from 0 (take (i + 1) slots)))
+    ≡ filter_map (cause_row script reservations place) (filter_map live_entry (enumerate_from 0 (take i slots)))
+    ++ option_to_list (option_and_then (λ x. cause_row script reservations place (record { 0 = i }, x)) (get_or slots i d))
+causes_more script reservations place slots i d h =
+    let f = cause_row script reservations place in
     let before = enumerate_from 0 (take i slots) in
     let here : length (take i slots) ≡ i = grind (arith, common_steps) in
     let number : 0 + length (take i slots) ≡ i = omega (arith, here) in

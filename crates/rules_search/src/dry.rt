@@ -1,12 +1,12 @@
 ghost use Rattle.std.specs.Prelude.{◌≡◌, ◌≤◌, ◌^◌, ◌&&◌, IfOk, find, length, option_copied, option_and_then};
-ghost use Rattle.journal_model.specs.State.{buffer, grip};
+ghost use Rattle.journal_model.specs.State.{buffer, reservation};
 ghost use Rattle.journal_model.specs.Dry as words;
 
-use journal_model::{Buffer, Cause, CauseRow, Causes, Ghost, Grip, Script, State};
+use journal_model::{Buffer, Cause, CauseRow, Causes, Ghost, Reservation, Script, State};
 use rules_holds::ghost_spans;
 use rules_state::{
-    declared_pages, grip_in, has_buffer, has_target, in_order, intersects, is_frame, length_of,
-    live_in, push_buffers, reach_of, same_mem,
+    declared_pages, has_buffer, has_target, in_order, intersects, is_frame, length_of, live_in,
+    push_buffers, reach_of, reservation_in, same_mem,
 };
 use std::alloc::Global;
 use ttm_base::{BufId, Mem, NoMemory, Place};
@@ -19,10 +19,10 @@ pub fn is_long_enough(script: &Script, b: BufId, place: Place) -> bool
 }
 
 /// The buffer is neither pinned nor reserved.
-pub fn is_loose(grip: Grip) -> bool
-    ensures { result ≡ words.is_loose grip }
+pub fn is_loose(reservation: Reservation) -> bool
+    ensures { result ≡ words.is_loose reservation }
 {
-    grip.pins == 0 && grip.holder.is_none()
+    reservation.pins == 0 && reservation.holder.is_none()
 }
 
 /// The buffer stands in the place, is neither pinned nor held, and wasn't skipped.
@@ -33,7 +33,7 @@ pub fn is_evictable(script: &Script, state: &State, skips: &[BufId], place: Plac
         Some(buffer) => {
             same_mem(buffer.mem, place.mem)
                 && intersects(buffer.spans.items(), reach_of(script, place))
-                && is_loose(grip_in(state.grips.items(), b))
+                && is_loose(reservation_in(state.reservations.items(), b))
                 && !has_buffer(skips, b)
         }
         None => false,
@@ -91,17 +91,18 @@ pub fn has_frame(buffer: &Buffer) -> bool
 
 /// A buffer that may give its frames to swap.
 fn is_swappable(state: &State, b: BufId) -> bool
-    ensures { result ≡ (words.is_loose (grip state.now b) && words.has_frame (buffer state.now b)) }
+    ensures { result ≡ (words.is_loose (reservation state.now b) && words.has_frame (buffer state.now b)) }
 {
     match live_in(state.core.buffers.items(), b) {
-        Some(buffer) => is_loose(grip_in(state.grips.items(), b)) && has_frame(buffer),
+        Some(buffer) => is_loose(reservation_in(state.reservations.items(), b))
+            && has_frame(buffer),
         None => false,
     }
 }
 
 /// The first of these buffers that may give its frames to swap.
 fn first_swappable(state: &State, bs: &[BufId]) -> Option<BufId>
-    ensures { result ≡ find (λ b. words.is_loose (grip state.now b) && words.has_frame (buffer state.now b)) bs.now }
+    ensures { result ≡ find (λ b. words.is_loose (reservation state.now b) && words.has_frame (buffer state.now b)) bs.now }
 {
     bs.iter().copied().find(|b| is_swappable(state, *b))
 }
@@ -129,13 +130,13 @@ pub fn ghost_with_frame(state: &State) -> Option<&Ghost>
 }
 
 /// Why a buffer can't be evicted: the first cause that holds.
-pub fn cause_of(script: &Script, place: Place, grip: Grip, buffer: &Buffer) -> Cause
-    ensures { result ≡ words.cause_of script.now place grip buffer.now }
+pub fn cause_of(script: &Script, place: Place, reservation: Reservation, buffer: &Buffer) -> Cause
+    ensures { result ≡ words.cause_of script.now place reservation buffer.now }
 {
-    if grip.pins > 0 {
+    if reservation.pins > 0 {
         return Cause::Pinned;
     }
-    match grip.holder {
+    match reservation.holder {
         Some(stamp) => Cause::Reserved(stamp),
         None => {
             if intersects(buffer.spans.items(), reach_of(script, place)) {
@@ -150,17 +151,17 @@ pub fn cause_of(script: &Script, place: Place, grip: Grip, buffer: &Buffer) -> C
 /// The cause of a buffer that has its resource or a target in the place's manager.
 fn cause_row(
     script: &Script,
-    grips: &[Grip],
+    reservations: &[Reservation],
     place: Place,
     b: BufId,
     buffer: &Buffer,
 ) -> Option<CauseRow>
-    ensures { result ≡ words.cause_row script.now grips.now place (b, buffer.now) }
+    ensures { result ≡ words.cause_row script.now reservations.now place (b, buffer.now) }
 {
     if same_mem(buffer.mem, place.mem) || has_target(place.mem, buffer) {
         Some(CauseRow {
             b,
-            cause: cause_of(script, place, grip_in(grips, b), buffer),
+            cause: cause_of(script, place, reservation_in(reservations, b), buffer),
         })
     } else {
         None
@@ -170,15 +171,15 @@ fn cause_row(
 /// The cause of a declared buffer, where it is live.
 fn row_of(
     script: &Script,
-    grips: &[Grip],
+    reservations: &[Reservation],
     place: Place,
     b: BufId,
     slot: &Option<Buffer>,
 ) -> Option<CauseRow>
-    ensures { result ≡ option_and_then (λ x. words.cause_row script.now grips.now place (b, x)) slot.now }
+    ensures { result ≡ option_and_then (λ x. words.cause_row script.now reservations.now place (b, x)) slot.now }
 {
     match slot {
-        Some(buffer) => cause_row(script, grips, place, b, buffer),
+        Some(buffer) => cause_row(script, reservations, place, b, buffer),
         None => None,
     }
 }
@@ -197,7 +198,7 @@ pub fn causes(
     let slots = state.core.buffers.items();
     for i in 0..slots.len() {
         let b = BufId(i as u32);
-        if let Some(row) = row_of(script, state.grips.items(), place, b, &slots[i]) {
+        if let Some(row) = row_of(script, state.reservations.items(), place, b, &slots[i]) {
             rows.push(row)?;
         }
     }

@@ -14,7 +14,7 @@ pub use pages::{
     step_of_move, swap_out, unless_waiting,
 };
 pub use room::has_room;
-pub use search::step_of_quest;
+pub use search::step_of_place_search;
 use ttm_base::Need;
 
 /// The next entry, or what its actor needs first.

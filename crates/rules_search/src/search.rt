@@ -1,5 +1,5 @@
 ghost use Rattle.std.specs.Prelude.{◌≡◌, IfOk};
-ghost use Rattle.rules_state.specs.Quests.{quest_of};
+ghost use Rattle.rules_state.specs.PlaceSearches.{place_search_of};
 ghost use Rattle.journal_model.specs.Search as words;
 ghost use Rattle.rules_search.specs.Room.{HasRoom};
 
@@ -7,7 +7,7 @@ use crate::Step;
 use crate::dry::{causes, ghost_in, is_long_enough, victim};
 use journal_model::{Course, DryWhy, Kind, Script, State, Why};
 use rules_choice::choice;
-use rules_state::{Quest, first_places, forced_places, whole};
+use rules_state::{PlaceSearch, first_places, forced_places, whole};
 use std::alloc::Global;
 use ttm_base::{BufId, Mem, Need, NoMemory, Place, Spans};
 
@@ -122,23 +122,31 @@ fn first_choice(
 }
 
 /// Not yet under pressure, the first place with a choice among those tried first; else the forced place at work.
-pub fn step_of_quest(
+pub fn step_of_place_search(
     alloc: Global,
     script: &Script,
     state: &State,
     course: &Course,
     b: BufId,
-    quest: &Quest,
+    place_search: &PlaceSearch,
 ) -> Result<Step, NoMemory>
     requires { HasRoom script.now state.now }
-    ensures { IfOk result (λ step. step ≡ words.step_of_quest script.now state.now course.now b (quest_of quest.now)) }
+    ensures { IfOk result (λ step. step ≡ words.step_of_place_search script.now state.now course.now b (place_search_of place_search.now)) }
 {
-    if !quest.forced {
-        let first = first_places(alloc, quest.list.items())?;
+    if !place_search.forced {
+        let first = first_places(alloc, place_search.list.items())?;
         if let Some((mem, spans)) = first_choice(alloc, script, state, b, first.items())? {
             return Ok(Ok(Kind::Take { b, mem, spans }));
         }
     }
-    let forced = forced_places(alloc, quest.list.items())?;
-    step_of_forced(alloc, script, state, course, b, quest.dry, forced.items())
+    let forced = forced_places(alloc, place_search.list.items())?;
+    step_of_forced(
+        alloc,
+        script,
+        state,
+        course,
+        b,
+        place_search.dry,
+        forced.items(),
+    )
 }

@@ -2,7 +2,7 @@ ghost use Rattle.std.specs.Prelude.{◌≡◌, IfOk, option_copied, replicate};
 ghost use Rattle.ttm_base.specs.declared.Loc.TheVariants as loc;
 ghost use Rattle.journal_model.specs.State as words;
 
-use journal_model::{BufIds, Buffer, Core, Course, Fences, Grip, State, Table, Targets};
+use journal_model::{BufIds, Buffer, Core, Course, Fences, Reservation, State, Table, Targets};
 use state_words::{same_buffer, target_of};
 use std::alloc::Global;
 use ttm_base::{BufId, Loc, Mem, NoMemory, Span, Spans};
@@ -112,22 +112,22 @@ pub fn target_spans(mem: Mem, buffer: &Buffer) -> &[Span]
 }
 
 /// Neither pinned nor reserved.
-pub fn no_grip() -> Grip
-    ensures { result ≡ words.no_grip }
+pub fn no_reservation() -> Reservation
+    ensures { result ≡ words.no_reservation }
 {
-    Grip {
+    Reservation {
         pins: 0,
         holder: None,
     }
 }
 
 /// How a buffer is held.
-pub fn grip_in(grips: &[Grip], b: BufId) -> Grip
-    ensures { result ≡ words.grip_in grips.now b }
+pub fn reservation_in(reservations: &[Reservation], b: BufId) -> Reservation
+    ensures { result ≡ words.reservation_in reservations.now b }
 {
-    match grips.get(b.0 as usize) {
-        Some(grip) => *grip,
-        None => no_grip(),
+    match reservations.get(b.0 as usize) {
+        Some(reservation) => *reservation,
+        None => no_reservation(),
     }
 }
 

@@ -8,14 +8,14 @@ use Rattle.journal_model.specs.declared.line.VOpWord.{VOpWord}
 use Rattle.journal_model.specs.declared.line.VOpWord.TheVariants as vop_word
 use Rattle.journal_model.specs.Spaces.{Region}
 use Rattle.journal_model.specs.ByName.{job_by_name}
-use Rattle.journal_model.specs.MarkRules.{Desk, has_apart_ranges}
+use Rattle.journal_model.specs.MarkRules.{ThreadMappings, has_apart_ranges}
 use Rattle.journal_model.specs.declared.line.EngineWord.{EngineWord}
 use Rattle.journal_model.specs.declared.script.Script.{Script}
 use Rattle.journal_model.specs.declared.line.Line.{Line}
 use Rattle.journal_model.specs.declared.line.Line.TheVariants as line
 use Rattle.journal_model.specs.LineRules.{is_broken_engine, lacks_number, has_range_fault, lacks_number_in_vop, has_wrong_addresses, passes_in_vop, is_more_than, vop_in, has_buffer_twice, named_job, is_big_named_job, has_job_fault, lacks_page}
 use Rattle.gpu_spaces.specs.Inside.{ends_inside, is_inside}
-use Rattle.script_rules.specs.script_desk.Desks.{Seen, IsDesk}
+use Rattle.script_rules.specs.script_mappings.ThreadMappingLists.{Seen, IsThreadMappings}
 use Rattle.script_rules.specs.Jobs.{names_many, breaks_job_at}
 
 either : (a b : Bool) → (a || b) ≡ false → (a ≡ false) × (b ≡ false)
@@ -93,19 +93,19 @@ none_counted (Some job) most = refl
 
 -- ---- a line of such a job
 
-twice_is : (d : Desk) (ws : List VOpWord) → list_any (λ w. not (has_apart_ranges d.regions (vop_in w))) ws ≡ list_any (has_buffer_twice d) ws
+twice_is : (d : ThreadMappings) (ws : List VOpWord) → list_any (λ w. not (has_apart_ranges d.regions (vop_in w))) ws ≡ list_any (has_buffer_twice d) ws
 twice_is d [] = refl
 twice_is d (w ∷ ws) = ap (λ b. not (has_apart_ranges d.regions (vop_in w)) || b) (twice_is d ws)
 
--- rule 10, by the mappings of the desk
-pub job_fault_is : (d : Desk) (engine : EngineWord) (ws : List VOpWord) → breaks_job_at d.regions ws ≡ has_job_fault d (line.Vsubmit engine ws)
+-- rule 10, by the mappings of the thread_mappings
+pub job_fault_is : (d : ThreadMappings) (engine : EngineWord) (ws : List VOpWord) → breaks_job_at d.regions ws ≡ has_job_fault d (line.Vsubmit engine ws)
 job_fault_is d engine ws = ap (λ b. b || is_big_named_job (named_job d ws)) (twice_is d ws)
 
-pub job_fault_of : (seen : Seen) (d : Desk) (engine : EngineWord) (ws : List VOpWord) → IsDesk seen d → breaks_job_at seen.regions ws ≡ has_job_fault d (line.Vsubmit engine ws)
+pub job_fault_of : (seen : Seen) (d : ThreadMappings) (engine : EngineWord) (ws : List VOpWord) → IsThreadMappings seen d → breaks_job_at seen.regions ws ≡ has_job_fault d (line.Vsubmit engine ws)
 job_fault_of seen d engine ws k = ap (λ rs. breaks_job_at rs ws) k.regions ∙ job_fault_is d engine ws
 
 -- rule 15
-pub page_fault_of : (seen : Seen) (d : Desk) (engine : EngineWord) (ws : List VOpWord) (most : ℕ) → IsDesk seen d →
+pub page_fault_of : (seen : Seen) (d : ThreadMappings) (engine : EngineWord) (ws : List VOpWord) (most : ℕ) → IsThreadMappings seen d →
     is_none (option_map (λ job. min (length job) most) (job_by_name seen.regions (map vop_in ws))) ≡ lacks_page d (line.Vsubmit engine ws)
 page_fault_of seen d engine ws most k = none_counted (job_by_name seen.regions (map vop_in ws)) most ∙ ap (λ rs. is_none (job_by_name rs (map vop_in ws))) k.regions
 

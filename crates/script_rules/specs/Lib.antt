@@ -1,3 +1,3 @@
-pub mod script_desk
+pub mod script_mappings
 pub mod Jobs
 pub mod Mentions

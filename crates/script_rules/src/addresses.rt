@@ -7,13 +7,13 @@ ghost use Rattle.journal_model.specs.ByName.{job_by_name};
 ghost use Rattle.journal_model.specs.MarkRules as marks;
 ghost use Rattle.journal_model.specs.MarkRules.{has_apart_ranges};
 ghost use Rattle.gpu_spaces.specs.Inside.{is_inside};
-ghost use Rattle.script_rules.specs.script_desk.Desks.{IsDesk};
+ghost use Rattle.script_rules.specs.script_mappings.ThreadMappingLists.{IsThreadMappings};
 ghost use Rattle.script_rules.specs.Jobs.{has_many, breaks_job_at};
 ghost use Rattle.script_rules.specs.Mentions.{mentioned};
 ghost use Rattle.journal_model.specs.LineRules.{lacks_number, has_range_fault, lacks_number_in_vop, passes_end, has_wrong_addresses, passes_in_vop, lacks_byte_in_vop, vop_in, is_big_named_job, len_of_vop_word, lacks_page};
 
 use crate::rules::{is_above, is_nothing, mention};
-use crate::script_desk::Desk;
+use crate::script_mappings::ThreadMappings;
 use journal_model::line::{Line, VOpWord};
 use journal_model::{Script, VOp, VOps};
 use std::alloc::Global;
@@ -143,12 +143,16 @@ pub fn vops_of(alloc: Global, words: &[VOpWord]) -> Result<VOps, NoMemory>
 }
 
 /// A buffer stands in both ranges of an operation, as far as their pages are mapped.
-fn some_buffer_is_twice(alloc: Global, desk: &Desk, ops: &[VOp]) -> Result<bool, NoMemory>
+fn some_buffer_is_twice(
+    alloc: Global,
+    thread_mappings: &ThreadMappings,
+    ops: &[VOp],
+) -> Result<bool, NoMemory>
     requires { list_all is_inside ops.now ≡ true }
-    ensures { IfOk result (λ twice. twice ≡ list_any (λ v. not (has_apart_ranges desk.now.regions v)) ops.now) }
+    ensures { IfOk result (λ twice. twice ≡ list_any (λ v. not (has_apart_ranges thread_mappings.now.regions v)) ops.now) }
 {
     for op in ops {
-        if !desk.space().is_apart(alloc, *op)? {
+        if !thread_mappings.space().is_apart(alloc, *op)? {
             return Ok(true);
         }
     }
@@ -180,11 +184,15 @@ fn mentioned_by(alloc: Global, ops: &[Op]) -> Result<ItemList<BufId>, NoMemory>
 }
 
 /// The job by name, of few operations, has more than 16 buffers.
-fn has_many_buffers(alloc: Global, desk: &Desk, ops: &[VOp]) -> Result<bool, NoMemory>
+fn has_many_buffers(
+    alloc: Global,
+    thread_mappings: &ThreadMappings,
+    ops: &[VOp],
+) -> Result<bool, NoMemory>
     requires { list_all is_inside ops.now ≡ true }
-    ensures { IfOk result (λ many. many ≡ has_many desk.now.regions ops.now) }
+    ensures { IfOk result (λ many. many ≡ has_many thread_mappings.now.regions ops.now) }
 {
-    match desk.space().job(alloc, ops)? {
+    match thread_mappings.space().job(alloc, ops)? {
         None => Ok(false),
         Some(job) => {
             let seen = mentioned_by(alloc, job.items())?;
@@ -194,17 +202,17 @@ fn has_many_buffers(alloc: Global, desk: &Desk, ops: &[VOp]) -> Result<bool, NoM
 }
 
 /// Each page is mapped, and the job by name has more than 64 operations or 16 buffers.
-fn is_big(alloc: Global, desk: &Desk, ops: &[VOp]) -> Result<bool, NoMemory>
+fn is_big(alloc: Global, thread_mappings: &ThreadMappings, ops: &[VOp]) -> Result<bool, NoMemory>
     requires { list_all is_inside ops.now ≡ true }
-    ensures { IfOk result (λ big. big ≡ is_big_named_job (job_by_name desk.now.regions ops.now)) }
+    ensures { IfOk result (λ big. big ≡ is_big_named_job (job_by_name thread_mappings.now.regions ops.now)) }
 {
-    match desk.space().job_len(ops, 65) {
+    match thread_mappings.space().job_len(ops, 65) {
         None => Ok(false),
         Some(count) => {
             if 64 < count {
                 return Ok(true);
             }
-            has_many_buffers(alloc, desk, ops)
+            has_many_buffers(alloc, thread_mappings, ops)
         }
     }
 }
@@ -212,18 +220,18 @@ fn is_big(alloc: Global, desk: &Desk, ops: &[VOp]) -> Result<bool, NoMemory>
 /// A buffer in both ranges of a copy or xor, or too many buffers or operations by name.
 pub(crate) fn breaks_addressed_job(
     alloc: Global,
-    desk: &Desk,
+    thread_mappings: &ThreadMappings,
     words: &[VOpWord],
 ) -> Result<bool, NoMemory>
     requires numbers { list_any lacks_number_in_vop words.now ≡ false }
     requires ranges { list_any passes_in_vop words.now ≡ false }
-    ensures { IfOk result (λ broken. broken ≡ breaks_job_at desk.now.regions words.now) }
+    ensures { IfOk result (λ broken. broken ≡ breaks_job_at thread_mappings.now.regions words.now) }
 {
     let ops = vops_of(alloc, words)?;
-    if some_buffer_is_twice(alloc, desk, ops.items())? {
+    if some_buffer_is_twice(alloc, thread_mappings, ops.items())? {
         return Ok(true);
     }
-    is_big(alloc, desk, ops.items())
+    is_big(alloc, thread_mappings, ops.items())
 }
 
 fn len_of(op: &VOpWord) -> u32
@@ -257,17 +265,17 @@ pub fn addressed_lens_within(left: u64, ops: &[VOpWord]) -> Option<u64>
 pub(crate) fn breaks_page(
     alloc: Global,
     script: &Script,
-    desk: &Desk,
+    thread_mappings: &ThreadMappings,
     line: &Line,
 ) -> Result<bool, NoMemory>
     requires numbers { lacks_number line.now ≡ false }
     requires ranges { has_range_fault script.now line.now ≡ false }
-    ensures { IfOk result (λ broken. (d : marks.Desk) → IsDesk desk.now d → broken ≡ lacks_page d line.now) }
+    ensures { IfOk result (λ broken. (d : marks.ThreadMappings) → IsThreadMappings thread_mappings.now d → broken ≡ lacks_page d line.now) }
 {
     match line {
         Line::Vsubmit { ops, .. } => {
             let ops = vops_of(alloc, ops.items())?;
-            Ok(desk.space().job_len(ops.items(), 1).is_none())
+            Ok(thread_mappings.space().job_len(ops.items(), 1).is_none())
         }
         _ => Ok(false),
     }

@@ -3,7 +3,7 @@
 
 mod addresses;
 mod rules;
-pub mod script_desk;
+pub mod script_mappings;
 
 pub use addresses::{addressed_lens_within, vops_of};
 pub use rules::{broken, lens_within};

@@ -9,14 +9,14 @@ ghost use Rattle.journal_model.specs.State.{same_buffer};
 ghost use Rattle.script_rules.specs.Mentions.{mentioned};
 ghost use Rattle.journal_model.specs.LineRules.{lacks_number_in_head, is_broken_place, is_broken_actor, is_broken_engine, lacks_number_in_op, lacks_number, lacks_name_in_op, has_wrong_name, lacks_name, is_no_place, may_force, is_no_list, lacks_place, is_zero, is_more_than, passes, has_wrong_range, passes_in_op, bytes_pass, has_range_fault, lacks_byte_in_op, are_wrong_bytes, has_byte_fault, same_known, names_one_twice, buffers_of_word, is_big_job, has_job_fault, is_missing_actor, is_missing_engine, lacks_actor, is_one_too_many, len_of_word, lens_of_line, is_too_long, passes_pages, passes_end, has_mapped, has_map_fault, rule_broken};
 ghost use Rattle.journal_model.specs.MarkRules as marks;
-ghost use Rattle.journal_model.specs.MarkRules.{desk_at_end};
-ghost use Rattle.script_rules.specs.script_desk.Desks.{IsDesk};
+ghost use Rattle.journal_model.specs.MarkRules.{thread_mappings_at_end};
+ghost use Rattle.script_rules.specs.script_mappings.ThreadMappingLists.{IsThreadMappings};
 
 use crate::addresses::{
     addressed_lens_within, breaks_addressed_job, breaks_page, does_pass_end, lack_address,
     lack_byte_at_address, some_address_passes,
 };
-use crate::script_desk::Desk;
+use crate::script_mappings::ThreadMappings;
 use journal_model::line::{
     Access, ActorWord, BufferHead, EngineWord, Line, OpWord, PlaceWord, Progress,
 };
@@ -483,17 +483,22 @@ fn is_too_big(alloc: Global, ops: &[OpWord]) -> Result<bool, NoMemory>
 }
 
 /// One buffer twice in a copy or xor, or too many buffers or operations in a job.
-fn breaks_job(alloc: Global, script: &Script, desk: &Desk, line: &Line) -> Result<bool, NoMemory>
+fn breaks_job(
+    alloc: Global,
+    script: &Script,
+    thread_mappings: &ThreadMappings,
+    line: &Line,
+) -> Result<bool, NoMemory>
     requires numbers { lacks_number line.now ≡ false }
     requires ranges { has_range_fault script.now line.now ≡ false }
-    ensures { IfOk result (λ broken. (d : marks.Desk) → IsDesk desk.now d → broken ≡ has_job_fault d line.now) }
+    ensures { IfOk result (λ broken. (d : marks.ThreadMappings) → IsThreadMappings thread_mappings.now d → broken ≡ has_job_fault d line.now) }
 {
     match line {
         Line::Submit { ops, .. } => {
             let big = is_too_big(alloc, ops.items())?;
             Ok(some_is_named_twice(ops.items()) || big)
         }
-        Line::Vsubmit { ops, .. } => breaks_addressed_job(alloc, desk, ops.items()),
+        Line::Vsubmit { ops, .. } => breaks_addressed_job(alloc, thread_mappings, ops.items()),
         _ => Ok(false),
     }
 }
@@ -591,32 +596,32 @@ fn breaks_lens(progress: &Progress, line: &Line) -> bool
     }
 }
 
-fn is_mapped(desk: &Desk, b: Option<BufId>) -> bool
-    ensures { (d : marks.Desk) → IsDesk desk.now d → result ≡ has_mapped d b }
+fn is_mapped(thread_mappings: &ThreadMappings, b: Option<BufId>) -> bool
+    ensures { (d : marks.ThreadMappings) → IsThreadMappings thread_mappings.now d → result ≡ has_mapped d b }
 {
     match b {
-        Some(b) => desk.has(b),
+        Some(b) => thread_mappings.has(b),
         None => false,
     }
 }
 
 /// A map of a buffer that the thread has mapped, or an unmap, peek or poke of one that it hasn't.
-fn breaks_mapping(desk: &Desk, line: &Line) -> bool
-    ensures { (d : marks.Desk) → IsDesk desk.now d → result ≡ has_map_fault d line.now }
+fn breaks_mapping(thread_mappings: &ThreadMappings, line: &Line) -> bool
+    ensures { (d : marks.ThreadMappings) → IsThreadMappings thread_mappings.now d → result ≡ has_map_fault d line.now }
 {
     match line {
-        Line::Map { b } => is_mapped(desk, *b),
-        Line::Unmap { b } => !is_mapped(desk, *b),
+        Line::Map { b } => is_mapped(thread_mappings, *b),
+        Line::Unmap { b } => !is_mapped(thread_mappings, *b),
         Line::Read {
             access: Access::Mapped,
             b,
             ..
-        } => !is_mapped(desk, *b),
+        } => !is_mapped(thread_mappings, *b),
         Line::Write {
             access: Access::Mapped,
             b,
             ..
-        } => !is_mapped(desk, *b),
+        } => !is_mapped(thread_mappings, *b),
         _ => false,
     }
 }
@@ -625,13 +630,13 @@ fn breaks_mapping(desk: &Desk, line: &Line) -> bool
 pub fn broken(
     alloc: Global,
     names: &Names,
-    desk: &Desk,
+    thread_mappings: &ThreadMappings,
     progress: &Progress,
     line: &Line,
 ) -> Result<Option<u32>, NoMemory>
     requires names { names.now ≡ names_of progress.now.script.buffers }
     requires lens { progress.now.lens ≤ 67108864 }
-    requires desk { IsDesk desk.now (desk_at_end progress.now.script) }
+    requires thread_mappings { IsThreadMappings thread_mappings.now (thread_mappings_at_end progress.now.script) }
     ensures { IfOk result (λ rule. rule ≡ rule_broken progress.now line.now) }
 {
     if breaks_number(line) {
@@ -649,7 +654,7 @@ pub fn broken(
     if breaks_bytes(line) {
         return Ok(Some(9));
     }
-    if breaks_job(alloc, &progress.script, desk, line)? {
+    if breaks_job(alloc, &progress.script, thread_mappings, line)? {
         return Ok(Some(10));
     }
     if breaks_actor(line) {
@@ -661,10 +666,10 @@ pub fn broken(
     if breaks_lens(progress, line) {
         return Ok(Some(13));
     }
-    if breaks_mapping(desk, line) {
+    if breaks_mapping(thread_mappings, line) {
         return Ok(Some(14));
     }
-    if breaks_page(alloc, &progress.script, desk, line)? {
+    if breaks_page(alloc, &progress.script, thread_mappings, line)? {
         return Ok(Some(15));
     }
     Ok(None)

@@ -3,7 +3,7 @@ use Rattle.std.proofs.Common.{◌≡◌, ℕ, Bool, true, false, cond, Option, S
 use Rattle.journal_model.specs.declared.line.Progress.{Progress}
 use Rattle.journal_model.specs.declared.line.Line.{Line}
 use Rattle.journal_model.specs.LineRules.{lacks_number, lacks_name, lacks_place, has_range_fault, has_byte_fault, has_job_fault, lacks_actor, is_one_too_many, is_too_long, has_map_fault, lacks_page, rule_broken}
-use Rattle.journal_model.specs.MarkRules.{desk_at_end}
+use Rattle.journal_model.specs.MarkRules.{thread_mappings_at_end}
 use Rattle.script_text.specs.Steps.{IsClean, HasRanges}
 
 abbrev none : Option ℕ
@@ -27,6 +27,6 @@ chain false false false false false false false false false false false p = (ref
 
 pub clean : (p : Progress) (l : Line) → rule_broken p l ≡ none → HasRanges l → IsClean p l
 clean p l h r =
-    let all = chain (lacks_number l) (lacks_name p.script l) (lacks_place l) (has_range_fault p.script l) (has_byte_fault l) (has_job_fault (desk_at_end p.script) l) (lacks_actor l) (is_one_too_many p l) (is_too_long p l)
-    (has_map_fault (desk_at_end p.script) l) (lacks_page (desk_at_end p.script) l) h in
+    let all = chain (lacks_number l) (lacks_name p.script l) (lacks_place l) (has_range_fault p.script l) (has_byte_fault l) (has_job_fault (thread_mappings_at_end p.script) l) (lacks_actor l) (is_one_too_many p l) (is_too_long p l)
+    (has_map_fault (thread_mappings_at_end p.script) l) (lacks_page (thread_mappings_at_end p.script) l) h in
     record { numbers = all.0; named = all.1; ranges = all.2; fits = all.3; short = all.4; mapped = all.5; said = r }

@@ -17,10 +17,10 @@ use Rattle.journal_model.specs.declared.line.BufferHead.{BufferHead}
 use Rattle.journal_model.specs.declared.line.Progress.{Progress}
 use Rattle.journal_model.specs.declared.line.Line.{Line}
 use Rattle.journal_model.specs.declared.line.Line.TheVariants as line
-use Rattle.journal_model.specs.MarkRules.{empty_desk, desk_after, desk_at_end}
+use Rattle.journal_model.specs.MarkRules.{empty_thread_mappings, thread_mappings_after, thread_mappings_at_end}
 use Rattle.journal_model.specs.FirstFault.{or_zero, or_first, place_in, wanted, taken_under_pressure, decl_of, onto_last, mark_here, with_mark, with_mark_line, with_access, with_command, with_line}
-use Rattle.script_rules.specs.script_desk.Desks.{Seen, IsDesk}
-use Rattle.script_text.specs.Steps.{IsKnown, IsClean, has_few_pages, is_up_to, desk_next}
+use Rattle.script_rules.specs.script_mappings.ThreadMappingLists.{Seen, IsThreadMappings}
+use Rattle.script_text.specs.Steps.{IsKnown, IsClean, has_few_pages, is_up_to, thread_mappings_next}
 
 joint : (a b : Bool) → a ≡ true → b ≡ true → (a && b) ≡ true
 joint true b h k = k
@@ -50,10 +50,10 @@ kinds-append t ms ks =
     ∙ map-append (λ (m : Mark). m.kind) (filter (λ (m : Mark). m.thread == t) ms) (filter (λ (m : Mark). m.thread == t) ks)
 
 -- one more mark of the thread
-one_mark : (t : ℕ) (ms : List Mark) (m : Mark) → m.thread ≡ t → fold desk_after empty_desk (kinds_of t (ms ++ m ∷ [])) ≡ desk_after (fold desk_after empty_desk (kinds_of t ms)) m.kind
+one_mark : (t : ℕ) (ms : List Mark) (m : Mark) → m.thread ≡ t → fold thread_mappings_after empty_thread_mappings (kinds_of t (ms ++ m ∷ [])) ≡ thread_mappings_after (fold thread_mappings_after empty_thread_mappings (kinds_of t ms)) m.kind
 one_mark t ms m e =
-    ap (fold desk_after empty_desk) (kinds-append t ms (m ∷ []) ∙ ap (λ ks. kinds_of t ms ++ ks) (here t m e))
-    ∙ fold-append desk_after empty_desk (kinds_of t ms) (m.kind ∷ [])
+    ap (fold thread_mappings_after empty_thread_mappings) (kinds-append t ms (m ∷ []) ∙ ap (λ ks. kinds_of t ms ++ ks) (here t m e))
+    ∙ fold-append thread_mappings_after empty_thread_mappings (kinds_of t ms) (m.kind ∷ [])
 
 -- a new thread has no marks yet
 none_yet : (t : ℕ) (ms : List Mark) → list_all (is_up_to t) ms ≡ true → kinds_of (t + 1) ms ≡ []
@@ -133,20 +133,20 @@ last_new ts = subst (λ t. length (last_of (ts ++ [] ∷ []) t) ≤ 0) (sym (len
 -- ---- a line
 
 -- with another command, mark or thread
-command_known : (desk : Seen) (p : Progress) (c : Command) → IsKnown desk p → IsKnown desk (with_command p c)
-command_known desk p c k =
+command_known : (thread_mappings : Seen) (p : Progress) (c : Command) → IsKnown thread_mappings p → IsKnown thread_mappings (with_command p c)
+command_known thread_mappings p c k =
     let few = k.commands in
     let more = one_command c p.script.threads in
-    let same : desk_at_end (with_command p c).script ≡ desk_at_end p.script = ap (λ t. fold desk_after empty_desk (kinds_of t p.script.marks)) (length_onto c p.script.threads) in
+    let same : thread_mappings_at_end (with_command p c).script ≡ thread_mappings_at_end p.script = ap (λ t. fold thread_mappings_after empty_thread_mappings (kinds_of t p.script.marks)) (length_onto c p.script.threads) in
     record {
-      desk = subst (IsDesk desk) (sym same) k.desk;
+      thread_mappings = subst (IsThreadMappings thread_mappings) (sym same) k.thread_mappings;
       pages = k.pages;
       placed = subst (λ t. list_all (is_up_to t) p.script.marks ≡ true) (sym (length_onto c p.script.threads)) k.placed;
       commands = omega (arith, few, more);
     }
 
-mark_desk : (p : Progress) (m : MarkKind) → desk_at_end (with_mark p m).script ≡ desk_after (desk_at_end p.script) m
-mark_desk p m = one_mark (length p.script.threads) p.script.marks (mark_here p.script m) refl
+mark_thread_mappings : (p : Progress) (m : MarkKind) → thread_mappings_at_end (with_mark p m).script ≡ thread_mappings_after (thread_mappings_at_end p.script) m
+mark_thread_mappings p m = one_mark (length p.script.threads) p.script.marks (mark_here p.script m) refl
 
 up_here : (t : ℕ) → nat_le t t ≡ true
 up_here t = le-leb t t (omega arith)
@@ -155,85 +155,85 @@ mark_placed : (p : Progress) (m : MarkKind) → list_all (is_up_to (length p.scr
 mark_placed p m h = all_more (is_up_to (length p.script.threads)) p.script.marks (mark_here p.script m) h (up_here (length p.script.threads))
 
 -- a mark that maps nothing
-way_known : (desk : Seen) (p : Progress) (m : MarkKind) → desk_after (desk_at_end p.script) m ≡ desk_at_end p.script → IsKnown desk p → IsKnown desk (with_mark p m)
-way_known desk p m none k = record {
-  desk = subst (IsDesk desk) (sym (mark_desk p m ∙ none)) k.desk;
+way_known : (thread_mappings : Seen) (p : Progress) (m : MarkKind) → thread_mappings_after (thread_mappings_at_end p.script) m ≡ thread_mappings_at_end p.script → IsKnown thread_mappings p → IsKnown thread_mappings (with_mark p m)
+way_known thread_mappings p m none k = record {
+  thread_mappings = subst (IsThreadMappings thread_mappings) (sym (mark_thread_mappings p m ∙ none)) k.thread_mappings;
   pages = k.pages;
   placed = mark_placed p m k.placed;
   commands = k.commands;
 }
 
-access_known : (desk : Seen) (p : Progress) (how : Access) → IsKnown desk p → IsKnown desk (with_access p how)
-access_known desk p access.Direct k = k
-access_known desk p access.Mapped k = way_known desk p mark.Mapped refl k
+access_known : (thread_mappings : Seen) (p : Progress) (how : Access) → IsKnown thread_mappings p → IsKnown thread_mappings (with_access p how)
+access_known thread_mappings p access.Direct k = k
+access_known thread_mappings p access.Mapped k = way_known thread_mappings p mark.Mapped refl k
 
 -- a mark with a line of its own
-line_known : (old desk : Seen) (p : Progress) (m : MarkKind) → IsDesk desk (desk_after (desk_at_end p.script) m) → IsKnown old p → IsKnown desk (with_mark_line p m)
-line_known old desk p m d k =
+line_known : (old thread_mappings : Seen) (p : Progress) (m : MarkKind) → IsThreadMappings thread_mappings (thread_mappings_after (thread_mappings_at_end p.script) m) → IsKnown old p → IsKnown thread_mappings (with_mark_line p m)
+line_known old thread_mappings p m d k =
     let few = k.commands in
     record {
-      desk = subst (IsDesk desk) (sym (mark_desk p m)) d;
+      thread_mappings = subst (IsThreadMappings thread_mappings) (sym (mark_thread_mappings p m)) d;
       pages = k.pages;
       placed = mark_placed p m k.placed;
       commands = omega (arith, few);
     }
 
-thread_known : (old desk : Seen) (p : Progress) → IsDesk desk empty_desk → IsKnown old p → IsKnown desk (with_line p line.Thread)
-thread_known old desk p d k =
+thread_known : (old thread_mappings : Seen) (p : Progress) → IsThreadMappings thread_mappings empty_thread_mappings → IsKnown old p → IsKnown thread_mappings (with_line p line.Thread)
+thread_known old thread_mappings p d k =
     let t = length p.script.threads in
     let longer : length (p.script.threads ++ [] ∷ []) ≡ t + 1 = length_more p.script.threads [] in
-    let none : desk_at_end (with_line p line.Thread).script ≡ empty_desk =
-    ap (λ n. fold desk_after empty_desk (kinds_of n p.script.marks)) longer ∙ ap (fold desk_after empty_desk) (none_yet t p.script.marks k.placed) in
+    let none : thread_mappings_at_end (with_line p line.Thread).script ≡ empty_thread_mappings =
+    ap (λ n. fold thread_mappings_after empty_thread_mappings (kinds_of n p.script.marks)) longer ∙ ap (fold thread_mappings_after empty_thread_mappings) (none_yet t p.script.marks k.placed) in
     record {
-      desk = subst (IsDesk desk) (sym none) d;
+      thread_mappings = subst (IsThreadMappings thread_mappings) (sym none) d;
       pages = k.pages;
       placed = subst (λ n. list_all (is_up_to n) p.script.marks ≡ true) (sym longer) (still_up t p.script.marks k.placed);
       commands = last_new p.script.threads;
     }
 
 -- the same threads, marks and buffers
-same_known : (old desk : Seen) (p : Progress) → IsDesk desk (desk_at_end p.script) → IsKnown old p → IsKnown desk p
-same_known old desk p d k = record { desk = d; pages = k.pages; placed = k.placed; commands = k.commands }
+same_known : (old thread_mappings : Seen) (p : Progress) → IsThreadMappings thread_mappings (thread_mappings_at_end p.script) → IsKnown old p → IsKnown thread_mappings p
+same_known old thread_mappings p d k = record { thread_mappings = d; pages = k.pages; placed = k.placed; commands = k.commands }
 
 few_head : (head : BufferHead) (list : List FlaggedPlace) → or_zero head.pages ≤ 4096 → has_few_pages (decl_of head list) ≡ true
 few_head head list h = le-leb (or_zero head.pages) 4096 h
 
 -- what holds after a line that breaks no rule
-pub known_on : (old desk : Seen) (p : Progress) (l : Line) → IsClean p l → IsDesk desk (desk_next (desk_at_end p.script) l) → IsKnown old p → IsKnown desk (with_line p l)
-known_on old desk p (line.Version version) c d k = record { desk = d; pages = k.pages; placed = k.placed; commands = k.commands }
-known_on old desk p (line.Vram buddy size) c d k = record { desk = d; pages = k.pages; placed = k.placed; commands = k.commands }
-known_on old desk p (line.Tt size) c d k = record { desk = d; pages = k.pages; placed = k.placed; commands = k.commands }
-known_on old desk p (line.Frames size) c d k = record { desk = d; pages = k.pages; placed = k.placed; commands = k.commands }
-known_on old desk p (line.Swap size) c d k = record { desk = d; pages = k.pages; placed = k.placed; commands = k.commands }
-known_on old desk p (line.Engines size) c d k = record { desk = d; pages = k.pages; placed = k.placed; commands = k.commands }
-known_on old desk p (line.Buffer head want busy) c d k = record {
-  desk = d;
+pub known_on : (old thread_mappings : Seen) (p : Progress) (l : Line) → IsClean p l → IsThreadMappings thread_mappings (thread_mappings_next (thread_mappings_at_end p.script) l) → IsKnown old p → IsKnown thread_mappings (with_line p l)
+known_on old thread_mappings p (line.Version version) c d k = record { thread_mappings = d; pages = k.pages; placed = k.placed; commands = k.commands }
+known_on old thread_mappings p (line.Vram buddy size) c d k = record { thread_mappings = d; pages = k.pages; placed = k.placed; commands = k.commands }
+known_on old thread_mappings p (line.Tt size) c d k = record { thread_mappings = d; pages = k.pages; placed = k.placed; commands = k.commands }
+known_on old thread_mappings p (line.Frames size) c d k = record { thread_mappings = d; pages = k.pages; placed = k.placed; commands = k.commands }
+known_on old thread_mappings p (line.Swap size) c d k = record { thread_mappings = d; pages = k.pages; placed = k.placed; commands = k.commands }
+known_on old thread_mappings p (line.Engines size) c d k = record { thread_mappings = d; pages = k.pages; placed = k.placed; commands = k.commands }
+known_on old thread_mappings p (line.Buffer head want busy) c d k = record {
+  thread_mappings = d;
   pages = all_more has_few_pages p.script.buffers (decl_of head (map wanted want ++ map taken_under_pressure busy)) k.pages
       (few_head head (map wanted want ++ map taken_under_pressure busy) c.said);
   placed = k.placed;
   commands = k.commands;
 }
-known_on old desk p (line.Placed head list) c d k = record {
-  desk = d;
+known_on old thread_mappings p (line.Placed head list) c d k = record {
+  thread_mappings = d;
   pages = all_more has_few_pages p.script.buffers (decl_of head (map place_in list)) k.pages (few_head head (map place_in list) c.said);
   placed = k.placed;
   commands = k.commands;
 }
-known_on old desk p line.Thread c d k = thread_known old desk p d k
-known_on old desk p (line.Turn actors) c d k = record { desk = d; pages = k.pages; placed = k.placed; commands = k.commands }
-known_on old desk p line.End c d k = record { desk = d; pages = k.pages; placed = k.placed; commands = k.commands }
-known_on old desk p (line.Plain verb b) c d k = command_known desk p _ (same_known old desk p d k)
-known_on old desk p (line.Write how b off bytes) c d k = command_known desk (with_access p how) _ (access_known desk p how (same_known old desk p d k))
-known_on old desk p (line.Read how b off len) c d k = command_known desk (with_access p how) _ (access_known desk p how (same_known old desk p d k))
-known_on old desk p (line.Move b mem) c d k = command_known desk p _ (same_known old desk p d k)
-known_on old desk p (line.Touch group) c d k = command_known desk p _ (same_known old desk p d k)
-known_on old desk p (line.Submit engine ops) c d k =
-    let next = command_known desk p _ (same_known old desk p d k) in
-    record { desk = next.desk; pages = next.pages; placed = next.placed; commands = next.commands }
-known_on old desk p (line.Map b) c d k = line_known old desk p (mark.Map (or_first b)) d k
-known_on old desk p (line.Unmap b) c d k = line_known old desk p (mark.Unmap (or_first b)) d k
-known_on old desk p (line.Vmap va n b off) c d k = line_known old desk p (mark.Vmap (or_zero va) (or_zero n) (or_first b) (or_zero off)) d k
-known_on old desk p (line.Vunmap va n) c d k = line_known old desk p (mark.Vunmap (or_zero va) (or_zero n)) d k
-known_on old desk p (line.Vsubmit engine ops) c d k =
-    let next = command_known desk (with_mark p (mark.Vsubmit _)) _ (way_known desk p (mark.Vsubmit _) refl (same_known old desk p d k)) in
-    record { desk = next.desk; pages = next.pages; placed = next.placed; commands = next.commands }
+known_on old thread_mappings p line.Thread c d k = thread_known old thread_mappings p d k
+known_on old thread_mappings p (line.Turn actors) c d k = record { thread_mappings = d; pages = k.pages; placed = k.placed; commands = k.commands }
+known_on old thread_mappings p line.End c d k = record { thread_mappings = d; pages = k.pages; placed = k.placed; commands = k.commands }
+known_on old thread_mappings p (line.Plain verb b) c d k = command_known thread_mappings p _ (same_known old thread_mappings p d k)
+known_on old thread_mappings p (line.Write how b off bytes) c d k = command_known thread_mappings (with_access p how) _ (access_known thread_mappings p how (same_known old thread_mappings p d k))
+known_on old thread_mappings p (line.Read how b off len) c d k = command_known thread_mappings (with_access p how) _ (access_known thread_mappings p how (same_known old thread_mappings p d k))
+known_on old thread_mappings p (line.Move b mem) c d k = command_known thread_mappings p _ (same_known old thread_mappings p d k)
+known_on old thread_mappings p (line.Touch group) c d k = command_known thread_mappings p _ (same_known old thread_mappings p d k)
+known_on old thread_mappings p (line.Submit engine ops) c d k =
+    let next = command_known thread_mappings p _ (same_known old thread_mappings p d k) in
+    record { thread_mappings = next.thread_mappings; pages = next.pages; placed = next.placed; commands = next.commands }
+known_on old thread_mappings p (line.Map b) c d k = line_known old thread_mappings p (mark.Map (or_first b)) d k
+known_on old thread_mappings p (line.Unmap b) c d k = line_known old thread_mappings p (mark.Unmap (or_first b)) d k
+known_on old thread_mappings p (line.Vmap va n b off) c d k = line_known old thread_mappings p (mark.Vmap (or_zero va) (or_zero n) (or_first b) (or_zero off)) d k
+known_on old thread_mappings p (line.Vunmap va n) c d k = line_known old thread_mappings p (mark.Vunmap (or_zero va) (or_zero n)) d k
+known_on old thread_mappings p (line.Vsubmit engine ops) c d k =
+    let next = command_known thread_mappings (with_mark p (mark.Vsubmit _)) _ (way_known thread_mappings p (mark.Vsubmit _) refl (same_known old thread_mappings p d k)) in
+    record { thread_mappings = next.thread_mappings; pages = next.pages; placed = next.placed; commands = next.commands }

@@ -1,4 +1,4 @@
--- What a line that breaks no rule maps: its pages, and the desk after it.
+-- What a line that breaks no rule maps: its pages, and the thread_mappings after it.
 use Rattle.std.proofs.Common.{◌≡◌, ℕ, zero, suc, ◌+◌, ◌≤◌, Bool, true, false, List, [], ◌∷◌, Option, Some, None, refl, ap, sym, subst, ◌∙◌, arith}
 use Rattle.std.specs.Prelude.{◌||◌, is_none, slice_get, unwrap_or}
 use Rattle.std.specs.List.{list_all}
@@ -13,8 +13,8 @@ use Rattle.journal_model.specs.declared.line.Line.TheVariants as line
 use Rattle.journal_model.specs.Commands.{decl, undeclared}
 use Rattle.journal_model.specs.LineRules.{lacks_number, lacks_name, has_range_fault, passes_end, passes_pages}
 use Rattle.journal_model.specs.MarkRules as words
-use Rattle.script_rules.specs.script_desk.Desks.{Seen, IsDesk}
-use Rattle.script_text.specs.Steps.{IsClean, desk_next, has_few_pages}
+use Rattle.script_rules.specs.script_mappings.ThreadMappingLists.{Seen, IsThreadMappings}
+use Rattle.script_text.specs.Steps.{IsClean, thread_mappings_next, has_few_pages}
 
 either : (a b : Bool) → (a || b) ≡ false → (a ≡ false) × (b ≡ false)
 either true b h = absurd cc
@@ -49,6 +49,6 @@ vmap_pages p l va n b off e c few =
     let n2 = either (is_none va) (is_none n) n1.0 in
     pages_within p.script b off n few named n1.1 n2.1 (either (passes_end 1048576 va n) (passes_pages p.script b off n) ranges).1
 
--- the desk after a line
-pub next_of : (seen : Seen) (d : words.Desk) (l m : Line) → l ≡ m → IsDesk seen (desk_next d m) → IsDesk seen (desk_next d l)
-next_of seen d l m e k = subst (λ x. IsDesk seen (desk_next d x)) (sym e) k
+-- the thread_mappings after a line
+pub next_of : (seen : Seen) (d : words.ThreadMappings) (l m : Line) → l ≡ m → IsThreadMappings seen (thread_mappings_next d m) → IsThreadMappings seen (thread_mappings_next d l)
+next_of seen d l m e k = subst (λ x. IsThreadMappings seen (thread_mappings_next d x)) (sym e) k

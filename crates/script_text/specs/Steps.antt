@@ -11,10 +11,10 @@ use Rattle.journal_model.specs.Words.{Text}
 use Rattle.journal_model.specs.Commands.{commands_of}
 use Rattle.journal_model.specs.Reading.{names_of}
 use Rattle.journal_model.specs.declared.script.MarkKind.TheVariants as mark
-use Rattle.journal_model.specs.MarkRules.{Desk, empty_desk, desk_after, desk_at_end}
+use Rattle.journal_model.specs.MarkRules.{ThreadMappings, empty_thread_mappings, thread_mappings_after, thread_mappings_at_end}
 use Rattle.journal_model.specs.FirstFault.{or_first, or_zero}
 use Rattle.journal_model.specs.LineRules.{lacks_number, lacks_name, has_range_fault, is_one_too_many, is_too_long, lacks_page}
-use Rattle.script_rules.specs.script_desk.Desks.{Seen, IsDesk}
+use Rattle.script_rules.specs.script_mappings.ThreadMappingLists.{Seen, IsThreadMappings}
 use Rattle.script_text.specs.declared.ScriptFault.{ScriptFault}
 use Rattle.script_text.specs.declared.ScriptFault.TheVariants as fault
 
@@ -36,19 +36,19 @@ pub record IsSteady (names : List Text) (p : Progress) : Type 0 where
 
 -- what is mapped is what the thread at work has mapped, and marks, commands and buffers are within limits
 pub record IsKnown (seen : Seen) (p : Progress) : Type 0 where
-  pub desk : IsDesk seen (desk_at_end p.script)
+  pub thread_mappings : IsThreadMappings seen (thread_mappings_at_end p.script)
   pub pages : list_all has_few_pages p.script.buffers ≡ true
   pub placed : list_all (is_up_to (length p.script.threads)) p.script.marks ≡ true
   pub commands : length (commands_of p.script (length p.script.threads)) ≤ p.lines
 
 -- what the thread at work has mapped after a line
-abbrev pub desk_next : Desk → Line → Desk
-desk_next d line.Thread = empty_desk
-desk_next d (line.Map b) = desk_after d (mark.Map (or_first b))
-desk_next d (line.Unmap b) = desk_after d (mark.Unmap (or_first b))
-desk_next d (line.Vmap va n b off) = desk_after d (mark.Vmap (or_zero va) (or_zero n) (or_first b) (or_zero off))
-desk_next d (line.Vunmap va n) = desk_after d (mark.Vunmap (or_zero va) (or_zero n))
-desk_next d _ = d
+abbrev pub thread_mappings_next : ThreadMappings → Line → ThreadMappings
+thread_mappings_next d line.Thread = empty_thread_mappings
+thread_mappings_next d (line.Map b) = thread_mappings_after d (mark.Map (or_first b))
+thread_mappings_next d (line.Unmap b) = thread_mappings_after d (mark.Unmap (or_first b))
+thread_mappings_next d (line.Vmap va n b off) = thread_mappings_after d (mark.Vmap (or_zero va) (or_zero n) (or_first b) (or_zero off))
+thread_mappings_next d (line.Vunmap va n) = thread_mappings_after d (mark.Vunmap (or_zero va) (or_zero n))
+thread_mappings_next d _ = d
 
 -- the numbers of a line are in the ranges that its words have
 abbrev pub HasRanges : Line → Type 0
@@ -65,7 +65,7 @@ pub record IsClean (p : Progress) (l : Line) : Type 0 where
   pub ranges : has_range_fault p.script l ≡ false
   pub fits : is_one_too_many p l ≡ false
   pub short : is_too_long p l ≡ false
-  pub mapped : lacks_page (desk_at_end p.script) l ≡ false
+  pub mapped : lacks_page (thread_mappings_at_end p.script) l ≡ false
   pub said : HasRanges l
 
 -- a line that is taken leads on, another breaks its rule

@@ -8,7 +8,7 @@ ghost use Rattle.journal_model.specs.ScriptRules.{IsScript};
 ghost use Rattle.script_text.specs.Steps.{Gives};
 
 use journal_model::Script;
-use script_rules::script_desk::Desk;
+use script_rules::script_mappings::ThreadMappings;
 use script_words::cut::len_of_line;
 use script_words::names::Names;
 use std::alloc::Global;
@@ -34,7 +34,7 @@ fn read_lines(alloc: Global, bytes: &[u8]) -> Result<Script, ScriptFault>
 {
     let mut known = Known {
         names: Names::new(alloc),
-        desk: Desk::new(alloc),
+        thread_mappings: ThreadMappings::new(alloc),
     };
     let mut progress = start(alloc);
     let mut line = 0;

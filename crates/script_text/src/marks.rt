@@ -6,18 +6,18 @@ ghost use Rattle.journal_model.specs.declared.script.MarkKind.TheVariants as mar
 ghost use Rattle.journal_model.specs.Commands.{commands_of};
 ghost use Rattle.journal_model.specs.ByName.{job_by_name};
 ghost use Rattle.journal_model.specs.MarkRules as words;
-ghost use Rattle.journal_model.specs.MarkRules.{desk_at_end};
+ghost use Rattle.journal_model.specs.MarkRules.{thread_mappings_at_end};
 ghost use Rattle.journal_model.specs.LineRules.{lacks_number, has_range_fault, is_too_long, lacks_page, len_of_vop_word};
 ghost use Rattle.journal_model.specs.FirstFault.{mark_here, with_access, with_mark, with_mark_line, with_line};
 ghost use Rattle.gpu_spaces.specs.Inside.{is_inside};
-ghost use Rattle.script_rules.specs.script_desk.Desks.{IsDesk};
-ghost use Rattle.script_text.specs.Steps.{IsClean, desk_next, has_few_pages};
+ghost use Rattle.script_rules.specs.script_mappings.ThreadMappingLists.{IsThreadMappings};
+ghost use Rattle.script_text.specs.Steps.{IsClean, thread_mappings_next, has_few_pages};
 
 use crate::reader::put_job;
 use crate::values::{engine_of, first_of, zero_of};
 use journal_model::line::{Access, EngineWord, Line, Progress, VOpWord, VOpWords};
 use journal_model::{Command, Mark, MarkKind, Ops, VOp};
-use script_rules::script_desk::Desk;
+use script_rules::script_mappings::ThreadMappings;
 use script_rules::{addressed_lens_within, vops_of};
 use std::alloc::Global;
 use ttm_base::{BufId, NoMemory};
@@ -76,11 +76,11 @@ pub fn put_access(progress: &mut Progress, access: Access) -> Result<(), NoMemor
 }
 
 /// The job by name, whose pages are all mapped.
-fn job_of(alloc: Global, desk: &Desk, ops: &[VOp]) -> Result<Ops, NoMemory>
+fn job_of(alloc: Global, thread_mappings: &ThreadMappings, ops: &[VOp]) -> Result<Ops, NoMemory>
     requires { list_all is_inside ops.now ≡ true }
-    ensures { IfOk result (λ job. job ≡ unwrap_or (job_by_name desk.now.regions ops.now) []) }
+    ensures { IfOk result (λ job. job ≡ unwrap_or (job_by_name thread_mappings.now.regions ops.now) []) }
 {
-    match desk.space().job(alloc, ops)? {
+    match thread_mappings.space().job(alloc, ops)? {
         Some(job) => Ok(job),
         None => Ok(Ops::new(alloc)),
     }
@@ -100,7 +100,7 @@ fn lens(left: u64, ops: &[VOpWord]) -> u64
 /// Puts a job that was written with addresses.
 pub fn put_vsubmit(
     alloc: Global,
-    desk: &Desk,
+    thread_mappings: &ThreadMappings,
     progress: &mut Progress,
     engine: EngineWord,
     words: VOpWords,
@@ -110,12 +110,12 @@ pub fn put_vsubmit(
     requires lines { progress.old.lines < 4096 }
     requires before { progress.old.lens ≤ 67108864 }
     requires clean { IsClean progress.old (Line.Vsubmit engine words) }
-    requires desk { desk.now.regions ≡ (desk_at_end progress.old.script).regions }
+    requires thread_mappings { thread_mappings.now.regions ≡ (thread_mappings_at_end progress.old.script).regions }
     ensures { OnOk result (progress.new ≡ with_line progress.old (Line.Vsubmit engine words)) }
 {
     let lens = lens(67_108_864 - progress.lens, words.items());
     let vops = vops_of(alloc, words.items())?;
-    let ops = job_of(alloc, desk, vops.items())?;
+    let ops = job_of(alloc, thread_mappings, vops.items())?;
     put_mark(progress, MarkKind::Vsubmit { ops: vops })?;
     let engine = engine_of(engine);
     put_job(progress, Command::Submit { engine, ops }, lens)
@@ -123,7 +123,7 @@ pub fn put_vsubmit(
 
 fn vmap(
     alloc: Global,
-    desk: &mut Desk,
+    thread_mappings: &mut ThreadMappings,
     va: Option<u32>,
     n: Option<u32>,
     b: Option<BufId>,
@@ -132,36 +132,41 @@ fn vmap(
     requires some { 1 ≤ unwrap_or n 0 }
     requires inside { unwrap_or va 0 + unwrap_or n 0 ≤ 1048576 }
     requires pages { unwrap_or off 0 + unwrap_or n 0 ≤ 4096 }
-    ensures { OnOk result ((d : words.Desk) → IsDesk desk.old d → IsDesk desk.new (desk_next d (Line.Vmap va n b off))) }
+    ensures { OnOk result ((d : words.ThreadMappings) → IsThreadMappings thread_mappings.old d → IsThreadMappings thread_mappings.new (thread_mappings_next d (Line.Vmap va n b off))) }
 {
-    desk.vmap(alloc, zero_of(va), zero_of(n), first_of(b), zero_of(off))
+    thread_mappings.vmap(alloc, zero_of(va), zero_of(n), first_of(b), zero_of(off))
 }
 
-fn vunmap(alloc: Global, desk: &mut Desk, va: Option<u32>, n: Option<u32>) -> Result<(), NoMemory>
+fn vunmap(
+    alloc: Global,
+    thread_mappings: &mut ThreadMappings,
+    va: Option<u32>,
+    n: Option<u32>,
+) -> Result<(), NoMemory>
     requires some { 1 ≤ unwrap_or n 0 }
     requires inside { unwrap_or va 0 + unwrap_or n 0 ≤ 1048576 }
-    ensures { OnOk result ((d : words.Desk) → IsDesk desk.old d → IsDesk desk.new (desk_next d (Line.Vunmap va n))) }
+    ensures { OnOk result ((d : words.ThreadMappings) → IsThreadMappings thread_mappings.old d → IsThreadMappings thread_mappings.new (thread_mappings_next d (Line.Vunmap va n))) }
 {
-    desk.vunmap(alloc, zero_of(va), zero_of(n))
+    thread_mappings.vunmap(alloc, zero_of(va), zero_of(n))
 }
 
 /// What the thread at work has mapped after a line that breaks no rule.
 pub fn follow(
     alloc: Global,
-    desk: &mut Desk,
+    thread_mappings: &mut ThreadMappings,
     progress: &Progress,
     line: &Line,
 ) -> Result<(), NoMemory>
     requires clean { IsClean progress.now line.now }
     requires pages { list_all has_few_pages progress.now.script.buffers ≡ true }
-    ensures { OnOk result ((d : words.Desk) → IsDesk desk.old d → IsDesk desk.new (desk_next d line.now)) }
+    ensures { OnOk result ((d : words.ThreadMappings) → IsThreadMappings thread_mappings.old d → IsThreadMappings thread_mappings.new (thread_mappings_next d line.now)) }
 {
     match line {
-        Line::Thread => *desk = Desk::new(alloc),
-        Line::Map { b } => desk.map(first_of(*b))?,
-        Line::Unmap { b } => desk.unmap(first_of(*b)),
-        Line::Vmap { va, n, b, off } => vmap(alloc, desk, *va, *n, *b, *off)?,
-        Line::Vunmap { va, n } => vunmap(alloc, desk, *va, *n)?,
+        Line::Thread => *thread_mappings = ThreadMappings::new(alloc),
+        Line::Map { b } => thread_mappings.map(first_of(*b))?,
+        Line::Unmap { b } => thread_mappings.unmap(first_of(*b)),
+        Line::Vmap { va, n, b, off } => vmap(alloc, thread_mappings, *va, *n, *b, *off)?,
+        Line::Vunmap { va, n } => vunmap(alloc, thread_mappings, *va, *n)?,
         _ => {}
     }
     Ok(())

@@ -6,9 +6,9 @@ ghost use Rattle.journal_model.specs.LineWords.{keyword_of};
 ghost use Rattle.journal_model.specs.FirstFault.{with_sizes, with_buffer, with_command, with_submit, with_line, is_shown, without_end, ends_line, breaks_text, first_word, after_words, after_line, nothing_read, is_behind_end};
 ghost use Rattle.journal_model.specs.LineRules.{len_of_word, is_too_long};
 ghost use Rattle.journal_model.specs.Commands.{commands_of};
-ghost use Rattle.journal_model.specs.MarkRules.{desk_at_end};
-ghost use Rattle.script_rules.specs.script_desk.Desks.{IsDesk};
-ghost use Rattle.script_text.specs.Steps.{IsSteady, IsKnown, IsClean, Leads, desk_next};
+ghost use Rattle.journal_model.specs.MarkRules.{thread_mappings_at_end};
+ghost use Rattle.script_rules.specs.script_mappings.ThreadMappingLists.{IsThreadMappings};
+ghost use Rattle.script_text.specs.Steps.{IsSteady, IsKnown, IsClean, Leads, thread_mappings_next};
 
 use crate::marks::{follow, put_access, put_mark_line, put_vsubmit};
 use crate::values::{
@@ -23,7 +23,7 @@ use journal_model::{
     Bytes, Command, CommandLists, Commands, Decl, Decls, MarkKind, Marks, Script, Sizes, TurnLines,
 };
 use script_lines::line;
-use script_rules::script_desk::Desk;
+use script_rules::script_mappings::ThreadMappings;
 use script_rules::{broken, lens_within};
 use script_words::cut::cut;
 use script_words::keywords::{can_come, keyword};
@@ -34,13 +34,16 @@ use ttm_base::{BufId, NoMemory};
 /// What the lines so far have declared, and what the thread at work has mapped.
 pub struct Known {
     pub names: Names,
-    pub desk: Desk,
+    pub thread_mappings: ThreadMappings,
 }
 
 /// By hand, so that no function here proves how each part goes.
 impl Drop for Known {
     fn drop(self) {
-        let Self { names: _, desk: _ } = self;
+        let Self {
+            names: _,
+            thread_mappings: _,
+        } = self;
     }
 }
 
@@ -310,14 +313,14 @@ fn put_vunmap(progress: &mut Progress, va: Option<u32>, n: Option<u32>) -> Resul
 fn accept(
     alloc: Global,
     names: &mut Names,
-    desk: &Desk,
+    thread_mappings: &ThreadMappings,
     progress: &mut Progress,
     line: Line,
 ) -> Result<(), NoMemory>
     requires steady { IsSteady names.old progress.old }
     requires clean { IsClean progress.old line }
     requires commands { length (commands_of progress.old.script (length progress.old.script.threads)) ≤ progress.old.lines }
-    requires desk { IsDesk desk.now (desk_next (desk_at_end progress.old.script) line) }
+    requires thread_mappings { IsThreadMappings thread_mappings.now (thread_mappings_next (thread_mappings_at_end progress.old.script) line) }
     ensures ok { OnOk result (progress.new ≡ with_line progress.old line) }
     ensures steady { OnOk result (IsSteady names.new progress.new) }
 {
@@ -355,7 +358,13 @@ fn accept(
         Line::Unmap { b } => return put_unmap(progress, b),
         Line::Vmap { va, n, b, off } => return put_vmap(progress, va, n, b, off),
         Line::Vunmap { va, n } => return put_vunmap(progress, va, n),
-        Line::Vsubmit { engine, ops } => return put_vsubmit(alloc, desk, progress, engine, ops),
+        Line::Vsubmit { engine, ops } => return put_vsubmit(
+            alloc,
+            thread_mappings,
+            progress,
+            engine,
+            ops,
+        ),
     }
     Ok(())
 }
@@ -405,10 +414,10 @@ fn take_words(
     words: &[Bytes],
 ) -> Result<Option<u32>, NoMemory>
     requires steady { IsSteady known.old.names progress.old }
-    requires known { IsKnown known.old.desk progress.old }
+    requires known { IsKnown known.old.thread_mappings progress.old }
     ensures leads { IfOk result (λ rule. Leads rule progress.new (after_words progress.old words.now)) }
     ensures steady { OnOk result (IsSteady known.new.names progress.new) }
-    ensures known { OnOk result (IsKnown known.new.desk progress.new) }
+    ensures known { OnOk result (IsKnown known.new.thread_mappings progress.new) }
 {
     let keyword = keyword_of_line(words);
     if !can_come(progress.script.version, progress.phase, keyword) {
@@ -417,11 +426,17 @@ fn take_words(
     let Some(line) = line(alloc, &known.names, &progress.script, keyword, words)? else {
         return Ok(Some(4));
     };
-    if let Some(rule) = broken(alloc, &known.names, &known.desk, progress, &line)? {
+    if let Some(rule) = broken(alloc, &known.names, &known.thread_mappings, progress, &line)? {
         return Ok(Some(rule));
     }
-    follow(alloc, &mut known.desk, progress, &line)?;
-    accept(alloc, &mut known.names, &known.desk, progress, line)?;
+    follow(alloc, &mut known.thread_mappings, progress, &line)?;
+    accept(
+        alloc,
+        &mut known.names,
+        &known.thread_mappings,
+        progress,
+        line,
+    )?;
     Ok(None)
 }
 
@@ -433,10 +448,10 @@ pub fn take_line(
     text: &[u8],
 ) -> Result<Option<u32>, NoMemory>
     requires steady { IsSteady known.old.names progress.old }
-    requires known { IsKnown known.old.desk progress.old }
+    requires known { IsKnown known.old.thread_mappings progress.old }
     ensures leads { IfOk result (λ rule. Leads rule progress.new (after_line progress.old text.now)) }
     ensures steady { OnOk result (IsSteady known.new.names progress.new) }
-    ensures known { OnOk result (IsKnown known.new.desk progress.new) }
+    ensures known { OnOk result (IsKnown known.new.thread_mappings progress.new) }
 {
     if breaks_line(text) {
         return Ok(Some(2));

@@ -7,8 +7,8 @@ use Rattle.report_mappings.specs.Requests.{are_in_spaces}
 use Rattle.report_mappings.proofs.Fits.{fits_spaces}
 use Rattle.report_text.specs.declared.accounts.Accounts.{Accounts}
 use Rattle.report_text.specs.Accounts.{AreAccountsOf}
-use Rattle.room_ties.specs.declared.parts.Parts.{Parts}
-use Rattle.room_ties.specs.Held.{AreHeld}
+use Rattle.room_representation.specs.declared.parts.Parts.{Parts}
+use Rattle.room_representation.specs.Held.{AreHeld}
 use Rattle.sim_drive.specs.Ends.{Kept}
 
 -- they are those of its script and journal

@@ -2,8 +2,8 @@
 use Rattle.journal_model.specs.Holds.{held_slots}
 use Rattle.journal_model.specs.Legal.{state_of, stores_of}
 use Rattle.journal_model.specs.Places.{aperture}
-use Rattle.room_ties.specs.declared.parts.Parts.{Parts}
-use Rattle.room_ties.specs.Pages.{AreSlots, AreStores}
+use Rattle.room_representation.specs.declared.parts.Parts.{Parts}
+use Rattle.room_representation.specs.Pages.{AreSlots, AreStores}
 use Rattle.sim_drive.specs.Ends.{Kept}
 
 -- VRAM and frames have the bytes, and the aperture maps what the state says

@@ -3,7 +3,7 @@ ghost use Rattle.journal_model.specs.Transparent.{IsTransparent};
 ghost use Rattle.law_legal.specs.KeepsLaws.{KeepsLaws};
 ghost use Rattle.simulator.specs.Lawful.{HasItsBytes, HasItsSlots};
 
-use room_ties::Parts;
+use room_representation::Parts;
 use sim_drive::Device;
 
 /// What holds of each device, whatever turns it has taken, and the parts of which it holds: the journal is legal and transparent, and

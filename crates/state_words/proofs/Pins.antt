@@ -3,24 +3,24 @@ use Rattle.std.proofs.Common.{◌≡◌, ℕ, zero, suc, List, [], ◌∷◌, No
 use Rattle.std.specs.Prelude.{slice_get, slice_set, unwrap_or}
 use Rattle.ttm_base.specs.declared.BufId.{BufId}
 use Rattle.ttm_base.specs.declared.Stamp.{Stamp}
-use Rattle.journal_model.specs.declared.state.Grip.{Grip}
+use Rattle.journal_model.specs.declared.state.Reservation.{Reservation}
 use Rattle.journal_model.specs.ApplyCommands.{with_holder, released}
-use Rattle.journal_model.specs.State.{grip_in, no_grip, regripped}
+use Rattle.journal_model.specs.State.{reservation_in, no_reservation, reservation_changed}
 
 -- another holder changes no pins
-pins-at : (holder : Option Stamp) (grips : List Grip) (i j : ℕ) →
-    (unwrap_or (slice_get (slice_set grips i (with_holder holder (unwrap_or (slice_get grips i) no_grip))) j) no_grip).pins ≡ (unwrap_or (slice_get grips j) no_grip).pins
+pins-at : (holder : Option Stamp) (reservations : List Reservation) (i j : ℕ) →
+    (unwrap_or (slice_get (slice_set reservations i (with_holder holder (unwrap_or (slice_get reservations i) no_reservation))) j) no_reservation).pins ≡ (unwrap_or (slice_get reservations j) no_reservation).pins
 pins-at holder [] i j = refl
-pins-at holder (g ∷ grips) zero zero = refl
-pins-at holder (g ∷ grips) zero (suc j) = refl
-pins-at holder (g ∷ grips) (suc i) zero = refl
-pins-at holder (g ∷ grips) (suc i) (suc j) = pins-at holder grips i j
+pins-at holder (g ∷ reservations) zero zero = refl
+pins-at holder (g ∷ reservations) zero (suc j) = refl
+pins-at holder (g ∷ reservations) (suc i) zero = refl
+pins-at holder (g ∷ reservations) (suc i) (suc j) = pins-at holder reservations i j
 
 -- the pins of a buffer after a buffer got another holder
-pub pins-regripped : (holder : Option Stamp) (grips : List Grip) (b c : BufId) → (grip_in (regripped (with_holder holder) grips b) c).pins ≡ (grip_in grips c).pins
-pins-regripped holder grips b c = pins-at holder grips b.0 c.0
+pub pins-reservation_changed : (holder : Option Stamp) (reservations : List Reservation) (b c : BufId) → (reservation_in (reservation_changed (with_holder holder) reservations b) c).pins ≡ (reservation_in reservations c).pins
+pins-reservation_changed holder reservations b c = pins-at holder reservations b.0 c.0
 
 -- after some were released
-pub pins-released : (grips : List Grip) (bs : List BufId) (c : BufId) → (grip_in (released grips bs) c).pins ≡ (grip_in grips c).pins
-pins-released grips [] c = refl
-pins-released grips (b ∷ bs) c = pins-released (regripped (with_holder None) grips b) bs c ∙ pins-regripped None grips b c
+pub pins-released : (reservations : List Reservation) (bs : List BufId) (c : BufId) → (reservation_in (released reservations bs) c).pins ≡ (reservation_in reservations c).pins
+pins-released reservations [] c = refl
+pins-released reservations (b ∷ bs) c = pins-released (reservation_changed (with_holder None) reservations b) bs c ∙ pins-reservation_changed None reservations b c

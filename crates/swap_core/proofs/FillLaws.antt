@@ -15,8 +15,8 @@ use Rattle.journal_model.specs.Holds.{free_frame, free_slot}
 use Rattle.journal_model.specs.PageSteps.{filled_by, page_to_fill, step_of_fill, step_without_victim}
 use Rattle.journal_model.specs.Places.{loc_of}
 use Rattle.journal_model.specs.Search.{Step}
-use Rattle.room_ties.specs.declared.parts.Ghost.{Ghost}
-use Rattle.room_ties.specs.Ghosts.{AreGhosts}
+use Rattle.room_representation.specs.declared.parts.Ghost.{Ghost}
+use Rattle.room_representation.specs.Ghosts.{AreGhosts}
 use Rattle.room_state.specs.room_turns.Acting.{made_unless}
 use Rattle.room_state.specs.room_turns.Turns.{step_by}
 use Rattle.swap_core.specs.Due.{ghost_before_frame}

@@ -10,14 +10,14 @@ use Rattle.journal_model.specs.declared.script.Script.{Script}
 use Rattle.journal_model.specs.declared.state.State.{State}
 use Rattle.journal_model.specs.declared.state.Buffer.{Buffer}
 use Rattle.journal_model.specs.declared.entry.Entry.{Entry}
-use Rattle.journal_model.specs.State.{buffer, grip_in, new_buffer, no_grip}
+use Rattle.journal_model.specs.State.{buffer, reservation_in, new_buffer, no_reservation}
 use Rattle.journal_model.specs.Legal.{state_of}
 use Rattle.room_queries.proofs.Known.{past_end}
 use Rattle.laws.proofs.law_sound.Along.{sound_law}
-use Rattle.room_ties.specs.room_steps.Lent.{as_buffer}
-use Rattle.room_ties.specs.declared.parts.Parts.{Parts}
-use Rattle.room_ties.specs.Bos.{unfenced}
-use Rattle.room_ties.specs.Held.{AreHeld}
+use Rattle.room_representation.specs.room_steps.Lent.{as_buffer}
+use Rattle.room_representation.specs.declared.parts.Parts.{Parts}
+use Rattle.room_representation.specs.Bos.{unfenced}
+use Rattle.room_representation.specs.Held.{AreHeld}
 use Rattle.swap_core.specs.Lent.{IsAsIn}
 
 -- the buffer of a place that may be empty
@@ -38,16 +38,16 @@ module _ (script : Script) (journal : List Entry) (p : Parts) (held : AreHeld sc
   unfolding here
   in_table =
       here_unfenced (slice_get s.core.buffers b.0)
-      ∙ ap here (sym (get_map (option_map unfenced) s.core.buffers b.0) ∙ ap (λ xs. slice_get xs b.0) (sym held.ties.bos.buffers_are))
+      ∙ ap here (sym (get_map (option_map unfenced) s.core.buffers b.0) ∙ ap (λ xs. slice_get xs b.0) (sym held.represents.bos.buffers_are))
 
   -- none beyond the table
-  pub lent_beyond : length p.bos.grips ≤ b.0 → unfenced (buffer s b) ≡ new_buffer 0
+  pub lent_beyond : length p.bos.reservations ≤ b.0 → unfenced (buffer s b) ≡ new_buffer 0
   unfolding here
   lent_beyond h =
-      let grips = (sound_law script journal held.fits held.legal).owned.grips in
-      let same = ap length held.ties.bos.grips_are in
-      let many : length p.bos.buffers ≡ length s.core.buffers = ap length held.ties.bos.buffers_are ∙ length-map s.core.buffers (option_map unfenced) in
-      in_table ∙ ap here (past_end p.bos.buffers b.0 (omega (arith, h, grips, same, many)))
+      let reservations = (sound_law script journal held.fits held.legal).owned.reservations in
+      let same = ap length held.represents.bos.reservations_are in
+      let many : length p.bos.buffers ≡ length s.core.buffers = ap length held.represents.bos.buffers_are ∙ length-map s.core.buffers (option_map unfenced) in
+      in_table ∙ ap here (past_end p.bos.buffers b.0 (omega (arith, h, reservations, same, many)))
 
   module _ (bo : Bo) (is : IsBo p.bos b bo) where
     lent_body : unfenced (buffer s b) ≡ here (Some (body_of bo))
@@ -63,5 +63,5 @@ module _ (script : Script) (journal : List Entry) (p : Parts) (held : AreHeld sc
     unfolding here
     lent_alive h = record {
       stands = sym (lent_body ∙ ap (λ (q : Bool). here (Some (if q then Some (as_buffer bo) else None))) h);
-      held = sym (ap (λ gs. grip_in gs b) (sym held.ties.bos.grips_are) ∙ ap (λ o. unwrap_or o no_grip) is.grip);
+      held = sym (ap (λ gs. reservation_in gs b) (sym held.represents.bos.reservations_are) ∙ ap (λ o. unwrap_or o no_reservation) is.reservation);
     }

@@ -30,7 +30,7 @@ use Rattle.journal_model.specs.ScriptRules.{is_script}
 use Rattle.journal_model.specs.Search.{Step}
 use Rattle.journal_model.specs.Tasks.{stage_of, task_of}
 use Rattle.journal_model.specs.Waits.{waited_for, jobs_before_write}
-use Rattle.laws.proofs.law_sound.Grips.{live_within}
+use Rattle.laws.proofs.law_sound.Reservations.{live_within}
 use Rattle.laws.proofs.law_state.GoodStates.{good_law, table_pages}
 use Rattle.laws.proofs.law_state.Rules.{rules_of}
 use Rattle.room_state.specs.room_turns.Turns.{Kept, state_behind}

@@ -7,7 +7,7 @@ use Rattle.ttm_base.specs.declared.BufId.{BufId}
 use Rattle.ttm_base.specs.declared.Mem.{Mem}
 use Rattle.ttm_base.specs.declared.Mem.TheVariants.{System, Tt}
 use Rattle.journal_model.specs.declared.state.State.{State}
-use Rattle.journal_model.specs.State.{buffer, grip}
+use Rattle.journal_model.specs.State.{buffer, reservation}
 use Rattle.journal_model.specs.Dry.{has_frame, is_loose, swap_victim}
 use Rattle.journal_model.specs.Lists as state
 use Rattle.swap_core.specs.Rests.{in_order}
@@ -39,13 +39,13 @@ module _ {X : Type 0} (p : X → Bool) (xs ys : List X) where
   found_second (Some x) r e h k = cc
 
 module _ (s : State) (lists : List (List BufId)) (same : lists ≡ s.lists) where
-  on : (mem : Mem) (o : Option BufId) → o ≡ find (λ b. is_loose (grip s b) && has_frame (buffer s b)) (in_order mem lists)
-      → o ≡ find (λ b. is_loose (grip s b) && has_frame (buffer s b)) (state.in_order s mem)
-  on mem o e = e ∙ ap (λ ls. find (λ b. is_loose (grip s b) && has_frame (buffer s b)) (in_order mem ls)) same
+  on : (mem : Mem) (o : Option BufId) → o ≡ find (λ b. is_loose (reservation s b) && has_frame (buffer s b)) (in_order mem lists)
+      → o ≡ find (λ b. is_loose (reservation s b) && has_frame (buffer s b)) (state.in_order s mem)
+  on mem o e = e ∙ ap (λ ls. find (λ b. is_loose (reservation s b) && has_frame (buffer s b)) (in_order mem ls)) same
 
-  pub victim_first : (o : Option BufId) → o ≡ find (λ b. is_loose (grip s b) && has_frame (buffer s b)) (in_order System lists) → is_some o ≡ true → o ≡ swap_victim s
-  victim_first o e h = found_first (λ b. is_loose (grip s b) && has_frame (buffer s b)) (state.in_order s System) (state.in_order s Tt) o (on System o e) h
+  pub victim_first : (o : Option BufId) → o ≡ find (λ b. is_loose (reservation s b) && has_frame (buffer s b)) (in_order System lists) → is_some o ≡ true → o ≡ swap_victim s
+  victim_first o e h = found_first (λ b. is_loose (reservation s b) && has_frame (buffer s b)) (state.in_order s System) (state.in_order s Tt) o (on System o e) h
 
-  pub victim_second : (o r : Option BufId) → o ≡ find (λ b. is_loose (grip s b) && has_frame (buffer s b)) (in_order System lists) → is_some o ≡ false
-      → r ≡ find (λ b. is_loose (grip s b) && has_frame (buffer s b)) (in_order Tt lists) → r ≡ swap_victim s
-  victim_second o r e h k = found_second (λ b. is_loose (grip s b) && has_frame (buffer s b)) (state.in_order s System) (state.in_order s Tt) o r (on System o e) h (on Tt r k)
+  pub victim_second : (o r : Option BufId) → o ≡ find (λ b. is_loose (reservation s b) && has_frame (buffer s b)) (in_order System lists) → is_some o ≡ false
+      → r ≡ find (λ b. is_loose (reservation s b) && has_frame (buffer s b)) (in_order Tt lists) → r ≡ swap_victim s
+  victim_second o r e h k = found_second (λ b. is_loose (reservation s b) && has_frame (buffer s b)) (state.in_order s System) (state.in_order s Tt) o r (on System o e) h (on Tt r k)

@@ -2,16 +2,16 @@
 use Rattle.std.specs.Prelude.{◌≡◌, Option, Some, None}
 use Rattle.ttm_base.specs.declared.BufId.{BufId}
 use Rattle.bo_table.specs.declared.bo.Bo.{Bo}
-use Rattle.bo_table.specs.Seen.{grip_of}
+use Rattle.bo_table.specs.Seen.{reservation_of}
 use Rattle.journal_model.specs.declared.state.State.{State}
-use Rattle.journal_model.specs.State.{buffer, grip, new_buffer}
-use Rattle.room_ties.specs.room_steps.Lent.{as_buffer}
-use Rattle.room_ties.specs.Bos.{unfenced}
+use Rattle.journal_model.specs.State.{buffer, reservation, new_buffer}
+use Rattle.room_representation.specs.room_steps.Lent.{as_buffer}
+use Rattle.room_representation.specs.Bos.{unfenced}
 
 -- it stands and is held as in the state
 pub record IsAsIn (s : State) (b : BufId) (bo : Bo) : Type 0 where
   pub stands : as_buffer bo ≡ unfenced (buffer s b)
-  pub held : grip_of bo ≡ grip s b
+  pub held : reservation_of bo ≡ reservation s b
 
 -- none is lent where the state has no such buffer
 abbrev pub IsLent : State → BufId → Option Bo → Type 0

@@ -1,8 +1,8 @@
 ghost use Rattle.std.specs.Prelude.{◌≡◌, ◌&&◌, find, option_copied};
 ghost use Rattle.ttm_base.specs.declared.Mem.TheVariants.{Vram};
 ghost use Rattle.ttm_base.specs.Reach.{same_mem};
-ghost use Rattle.bo_table.specs.Seen.{grip_of};
-ghost use Rattle.journal_model.specs.State.{buffer, grip};
+ghost use Rattle.bo_table.specs.Seen.{reservation_of};
+ghost use Rattle.journal_model.specs.State.{buffer, reservation};
 ghost use Rattle.journal_model.specs.Dry as words;
 ghost use Rattle.room_state.specs.room_turns.Turns.{state_behind};
 ghost use Rattle.swap_core.specs.Lent.{IsLent};
@@ -26,7 +26,7 @@ pub(crate) fn live(rooms: &Rooms, b: BufId) -> Option<&Bo>
 
 /// A buffer is neither pinned nor reserved.
 fn is_loose(bo: &Bo) -> bool
-    ensures { result ≡ words.is_loose (grip_of bo.now) }
+    ensures { result ≡ words.is_loose (reservation_of bo.now) }
 {
     bo.pins == 0 && bo.resv.holder().is_none()
 }
@@ -53,7 +53,7 @@ pub(crate) fn has_frame_in_vram(rooms: &Rooms, b: BufId) -> bool
 
 /// A buffer may give its frames to swap.
 fn is_swappable(rooms: &Rooms, b: BufId) -> bool
-    ensures { result ≡ (words.is_loose (grip (state_behind rooms.now) b) && words.has_frame (buffer (state_behind rooms.now) b)) }
+    ensures { result ≡ (words.is_loose (reservation (state_behind rooms.now) b) && words.has_frame (buffer (state_behind rooms.now) b)) }
 {
     match live(rooms, b) {
         Some(bo) => is_loose(bo) && bo.table.has_frame(),
@@ -63,7 +63,7 @@ fn is_swappable(rooms: &Rooms, b: BufId) -> bool
 
 /// The first buffer of a walk that may give its frames to swap.
 fn first_swappable(rooms: &Rooms, walk: Walk) -> Option<BufId>
-    ensures { result ≡ find (λ b. words.is_loose (grip (state_behind rooms.now) b) && words.has_frame (buffer (state_behind rooms.now) b)) walk.entry }
+    ensures { result ≡ find (λ b. words.is_loose (reservation (state_behind rooms.now) b) && words.has_frame (buffer (state_behind rooms.now) b)) walk.entry }
 {
     for b in walk {
         if is_swappable(rooms, b) {

@@ -14,8 +14,8 @@ ghost use Rattle.swap_core.specs.Due.{ghost_before_frame};
 
 use crate::buffers::{live, swap_victim};
 use journal_model::{Kind, Task, Why};
+use room_representation::Ghost;
 use room_state::room_turns::{Rooms, Step, turn};
-use room_ties::Ghost;
 use ttm_base::{Actor, BufId, Loc, Need, NoMemory};
 
 /// Where a page stands.

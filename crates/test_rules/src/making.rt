@@ -4,8 +4,8 @@ ghost use Rattle.std.specs.Prelude.{◌≡◌, true};
 ghost use Rattle.journal_model.specs.ScriptRules.{is_script};
 
 use journal_model::{
-    Buffer, Buffers, Core, Courses, Fences, Frames, Ghost, Ghosts, Grips, Job, JobIds, Jobs, Lists,
-    Numbers, Script, State, Targets,
+    Buffer, Buffers, Core, Courses, Fences, Frames, Ghost, Ghosts, Job, JobIds, Jobs, Lists,
+    Numbers, Reservations, Script, State, Targets,
 };
 use script_text::read_script;
 use std::alloc::Global;
@@ -106,7 +106,7 @@ pub fn core_of(buffers: Buffers, jobs: Jobs, ghosts: Ghosts) -> Core {
 pub fn state_of(alloc: Global, core: Core) -> State {
     State {
         core,
-        grips: Grips::new(alloc),
+        reservations: Reservations::new(alloc),
         lists: Lists::new(alloc),
         last_stamp: 0,
         last_ghost: 0,

@@ -4,8 +4,8 @@ use rules_holds::{
     free_frame, free_slot, held_slots, held_spans, jobs_before_use, packets_of, unfinished,
 };
 use rules_state::{
-    asked_places, first_mentions, frames_of, in_order, named, new_course, pages_of, quest_at_work,
-    slots_of, without_buffer,
+    asked_places, first_mentions, frames_of, in_order, named, new_course, pages_of,
+    place_search_at_work, slots_of, without_buffer,
 };
 use std::alloc::Global;
 use std::process::Abort;
@@ -169,8 +169,8 @@ fn has_one_place(alloc: Global, script: &Script, state: &State, course: &Course)
         b: A,
         mem: Mem::Vram,
     };
-    match quest_at_work(alloc, script, state, course, &moved, A) {
-        Ok(quest) => quest.list.len() == 1 && !quest.forced,
+    match place_search_at_work(alloc, script, state, course, &moved, A) {
+        Ok(place_search) => place_search.list.len() == 1 && !place_search.forced,
         Err(NoMemory) => false,
     }
 }

@@ -2,7 +2,7 @@ use crate::making::{core_of, ids_of, job_of, list, one, script_of, state_of};
 use journal_model::{BufIds, Core, Course, Frames, Ghost, Jobs, Kind, Script, State};
 use rules_next::next;
 use rules_search::has_room;
-use rules_state::{new_buffer, new_course, no_grip};
+use rules_state::{new_buffer, new_course, no_reservation};
 use std::alloc::Global;
 use std::process::Abort;
 use ttm_base::{Actor, BufId, JobId, Mem, Need, NoMemory, Packet, PagePlace, Span, Spans, Stamp};
@@ -77,7 +77,10 @@ fn course_with(alloc: Global, stamp: Option<Stamp>, held: BufIds) -> Course {
 /// A state with this thread.
 fn state_with(rt: &impl Abort, alloc: Global, course: Course) -> State {
     let mut state = state_of(alloc, waiting_core(rt, alloc));
-    state.grips.push(no_grip()).expect(rt, "a grip");
+    state
+        .reservations
+        .push(no_reservation())
+        .expect(rt, "a reservation");
     state.last_ghost = 5;
     state.last_jobs.push(1).expect(rt, "a number");
     state.courses.push(course).expect(rt, "a course");

@@ -18,7 +18,7 @@ use Rattle.journal_model.specs.declared.state.Task.TheVariants as task
 use Rattle.journal_model.specs.declared.entry.Kind.{Kind}
 use Rattle.journal_model.specs.declared.entry.Kind.TheVariants as kind
 use Rattle.journal_model.specs.declared.entry.Shown.TheVariants as shown
-use Rattle.journal_model.specs.State.{buffer, course, grip, is_live}
+use Rattle.journal_model.specs.State.{buffer, course, reservation, is_live}
 use Rattle.journal_model.specs.Commands.{command_at_work}
 use Rattle.journal_model.specs.Dry.{has_frame}
 use Rattle.journal_model.specs.Legal.{IsLegal}
@@ -77,9 +77,9 @@ module _ (s : State) (c : Course) (t : ℕ) (b : BufId) where
   lock_waits : answer_to t (step_of_lock s c b) ≡ made_unless (option_map need.Holder (holder_in s c (task.Lock b)))
   lock_waits = by (is_live s b)
     where
-      by : (q : Bool) → answer_to t (elim q [ false ↦ Ok (kind.Refused deny.NoBuffer) | true ↦ step_of_holder c b (grip s b).holder ]) ≡ made_unless (option_map need.Holder (if q then holder_before c (grip s b).holder else None))
+      by : (q : Bool) → answer_to t (elim q [ false ↦ Ok (kind.Refused deny.NoBuffer) | true ↦ step_of_holder c b (reservation s b).holder ]) ≡ made_unless (option_map need.Holder (if q then holder_before c (reservation s b).holder else None))
       by false = refl
-      by true = holder_waits (grip s b).holder
+      by true = holder_waits (reservation s b).holder
 
   -- the step of a lock shows no bytes
   pub lock_bare : is_bare_step (step_of_lock s c b) ≡ true
@@ -93,9 +93,9 @@ module _ (s : State) (c : Course) (t : ℕ) (b : BufId) where
           by_age true = refl
           by_age false = refl
 
-      by : (q : Bool) → is_bare_step (elim q [ false ↦ Ok (kind.Refused deny.NoBuffer) | true ↦ step_of_holder c b (grip s b).holder ]) ≡ true
+      by : (q : Bool) → is_bare_step (elim q [ false ↦ Ok (kind.Refused deny.NoBuffer) | true ↦ step_of_holder c b (reservation s b).holder ]) ≡ true
       by false = refl
-      by true = by_holder (grip s b).holder
+      by true = by_holder (reservation s b).holder
 
 module _ (k : Kept) (t : ℕ) where
   abbrev s : State
@@ -114,7 +114,7 @@ module _ (k : Kept) (t : ℕ) where
       ∙ ap (λ x. made_unless (option_map need.Holder (holder_in s (course s t) x))) (sym is)
 
   -- never for itself
-  pub locks_other : (b : BufId) → task_of k.script s t ≡ task.Lock b → IsTrue (is_script k.script) → IsLegal k.script k.journal → (mine : Stamp) → (course s t).stamp ≡ Some mine → (grip s b).holder ≡ Some mine → ⊥
+  pub locks_other : (b : BufId) → task_of k.script s t ≡ task.Lock b → IsTrue (is_script k.script) → IsLegal k.script k.journal → (mine : Stamp) → (course s t).stamp ≡ Some mine → (reservation s b).holder ≡ Some mine → ⊥
   locks_other b is fits legal mine stamp holder = let work = locker b is in lock_other k.script k.journal fits legal t work.0 work.1 b is mine stamp holder
 
   -- ---- acting

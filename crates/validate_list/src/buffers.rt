@@ -2,8 +2,8 @@ ghost use Rattle.std.specs.Prelude.{◌≡◌};
 ghost use Rattle.journal_model.specs.State as state;
 ghost use Rattle.laws.specs.lemma_bytes_told.Told.{IsThere};
 ghost use Rattle.room_state.specs.room_turns.Turns.{state_behind};
-ghost use Rattle.room_ties.specs.room_steps.Lent.{as_buffer};
-ghost use Rattle.room_ties.specs.Bos.{unfenced};
+ghost use Rattle.room_representation.specs.room_steps.Lent.{as_buffer};
+ghost use Rattle.room_representation.specs.Bos.{unfenced};
 
 use bo_table::Bo;
 use room_state::room_turns::Rooms;
@@ -23,7 +23,7 @@ pub(crate) fn is_live(rooms: &Rooms, b: BufId) -> bool
 
 /// Who holds a buffer.
 pub(crate) fn holder_of(rooms: &Rooms, b: BufId) -> Option<Stamp>
-    ensures { result ≡ (state.grip (state_behind rooms.now) b).holder }
+    ensures { result ≡ (state.reservation (state_behind rooms.now) b).holder }
 {
     let bos = &rooms.parts().bos;
     if (b.0 as usize) < bos.len() {

@@ -10,7 +10,7 @@ use Rattle.journal_model.specs.declared.space.VOp.{VOp}
 use Rattle.journal_model.specs.ByName.{after_vops, job_by_name, vops_shown}
 use Rattle.journal_model.specs.Commands.{commands_of}
 use Rattle.journal_model.specs.Marks.{marks_of}
-use Rattle.journal_model.specs.MarkRules.{empty_desk, has_apart_ranges, have_marks}
+use Rattle.journal_model.specs.MarkRules.{empty_thread_mappings, has_apart_ranges, have_marks}
 use Rattle.journal_model.specs.PlainMemory.{Memory}
 use Rattle.journal_model.specs.ScriptRules.{is_script}
 use Rattle.journal_model.specs.Spaces.{has_pages, regions_of, regions_space, space_of}
@@ -57,7 +57,7 @@ jobs_mean s fits (suc i) place m vs found kind =
     let x = items_of_marks s (marks_kept s fits) in
     let items = list_at x.lists i in
     let here = has_threads s x.lists x.comes t i (omega arith) in
-    let job = named_along s t 0 empty_desk items place m vs (fit_at s x.lists i x.fit) (sym (ap (λ ms. slice_get ms place) here.0) ∙ found) kind in
+    let job = named_along s t 0 empty_thread_mappings items place m vs (fit_at s x.lists i x.fit) (sym (ap (λ ms. slice_get ms place) here.0) ∙ found) kind in
     let above = requests_among (take place (marks_in t 0 items)) in
     let same : above ≡ requests_above s t place = ap (λ ms. requests_among (take place ms)) (sym here.0) in
     let count = job.place in

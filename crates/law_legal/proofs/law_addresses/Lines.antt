@@ -15,7 +15,7 @@ use Rattle.journal_model.specs.ByName.{job_by_name}
 use Rattle.journal_model.specs.CommandRules.{is_between, is_declared}
 use Rattle.journal_model.specs.Commands.{decl}
 use Rattle.journal_model.specs.Marks.{is_request}
-use Rattle.journal_model.specs.MarkRules.{Desk, desk_after, has_apart_ranges, is_job_of, is_mark, is_page_range, is_vop, is_vsubmit, is_way}
+use Rattle.journal_model.specs.MarkRules.{ThreadMappings, thread_mappings_after, has_apart_ranges, is_job_of, is_mark, is_page_range, is_vop, is_vsubmit, is_way}
 use Rattle.journal_model.specs.Spaces.{Region, has_pages, regions_after}
 use Rattle.law_legal.specs.law_items.Items.{Item, Alone, Asks, all_along, commands_in, item_fits, mark_at, marks_in}
 use Rattle.law_legal.proofs.law_items.Tests.{both, joint}
@@ -59,8 +59,8 @@ past_request rs request cs n above m vs h r = record {
 }
 
 -- a mark with a line of its own
-past_mark : (s : Script) (d : Desk) (x : MarkKind) (kinds : List MarkKind) (cs : List Command) (n : ℕ) (m : Mark) (vs : List VOp) → is_mark s d x ≡ true
-    → IsNamed (desk_after d x).regions cs n (filter is_request kinds) m vs → IsNamed d.regions cs n (filter is_request (x ∷ kinds)) m vs
+past_mark : (s : Script) (d : ThreadMappings) (x : MarkKind) (kinds : List MarkKind) (cs : List Command) (n : ℕ) (m : Mark) (vs : List VOp) → is_mark s d x ≡ true
+    → IsNamed (thread_mappings_after d x).regions cs n (filter is_request kinds) m vs → IsNamed d.regions cs n (filter is_request (x ∷ kinds)) m vs
 past_mark s d (mark.Map b) kinds cs n m vs h r = r
 past_mark s d (mark.Unmap b) kinds cs n m vs h r = r
 past_mark s d mark.Mapped kinds cs n m vs h r = r
@@ -87,8 +87,8 @@ past_command rs c cs n above m vs r =
     }
 
 -- how a command is written changes no mapping
-past_way : (d : Desk) (way : MarkKind) (c : Command) (kinds : List MarkKind) (cs : List Command) (n : ℕ) (m : Mark) (vs : List VOp) → is_way d way (Some c) ≡ true
-    → IsNamed (desk_after d way).regions cs n (filter is_request kinds) m vs → IsNamed d.regions cs n (filter is_request (way ∷ kinds)) m vs
+past_way : (d : ThreadMappings) (way : MarkKind) (c : Command) (kinds : List MarkKind) (cs : List Command) (n : ℕ) (m : Mark) (vs : List VOp) → is_way d way (Some c) ≡ true
+    → IsNamed (thread_mappings_after d way).regions cs n (filter is_request kinds) m vs → IsNamed d.regions cs n (filter is_request (way ∷ kinds)) m vs
 past_way d mark.Mapped c kinds cs n m vs h r = r
 past_way d (mark.Vsubmit ops) c kinds cs n m vs h r = r
 past_way d (mark.Map b) c kinds cs n m vs h r = absurd cc
@@ -102,7 +102,7 @@ job_is : (found : Option (List Op)) (ops : List Op) → is_job_of found ops ≡ 
 job_is None ops h = absurd cc
 job_is (Some named) ops h = ap (λ (os : List Op). Some os) (same_are named ops h)
 
-named_here : (d : Desk) (c : Command) (cs : List Command) (n : ℕ) (m : Mark) (vs : List VOp) → m.after ≡ n → is_vsubmit d vs c ≡ true → IsNamed d.regions (c ∷ cs) n [] m vs
+named_here : (d : ThreadMappings) (c : Command) (cs : List Command) (n : ℕ) (m : Mark) (vs : List VOp) → m.after ≡ n → is_vsubmit d vs c ≡ true → IsNamed d.regions (c ∷ cs) n [] m vs
 named_here d (command.Submit engine ops) cs n m vs e h =
     let f = both (is_between 1 64 (length vs) && list_all is_vop vs && list_all (has_apart_ranges d.regions) vs) (is_job_of (job_by_name d.regions vs) ops) h in
     let g = both (is_between 1 64 (length vs) && list_all is_vop vs) (list_all (has_apart_ranges d.regions) vs) f.0 in
@@ -118,33 +118,33 @@ named_here d (command.Submit engine ops) cs n m vs e h =
     }
 named_here d _ cs n m vs e h = absurd cc
 
-no_line : (s : Script) (d : Desk) (x : MarkKind) (vs : List VOp) → x ≡ mark.Vsubmit vs → is_mark s d x ≡ true → ⊥
+no_line : (s : Script) (d : ThreadMappings) (x : MarkKind) (vs : List VOp) → x ≡ mark.Vsubmit vs → is_mark s d x ≡ true → ⊥
 no_line s d x vs e h = let no : is_mark s d x ≡ false = ap (λ k. is_mark s d k) e in absurd (cc)
 
 -- ---- along the lines of a thread
 
-pub named_along : (s : Script) (t n : ℕ) (d : Desk) (items : List Item) (k : ℕ) (m : Mark) (vs : List VOp) → all_along (item_fits s) d items ≡ true
+pub named_along : (s : Script) (t n : ℕ) (d : ThreadMappings) (items : List Item) (k : ℕ) (m : Mark) (vs : List VOp) → all_along (item_fits s) d items ≡ true
     → slice_get (marks_in t n items) k ≡ Some m → m.kind ≡ mark.Vsubmit vs → IsNamed d.regions (commands_in items) n (requests_among (take k (marks_in t n items))) m vs
 named_along s t n d [] k m vs f e h = absurd cc
 named_along s t n d (Alone x ∷ items) zero m vs f e h =
-    let g = both (item_fits s d (Alone x)) (all_along (item_fits s) (desk_after d x) items) f in
+    let g = both (item_fits s d (Alone x)) (all_along (item_fits s) (thread_mappings_after d x) items) f in
     let same : mark_at t n x ≡ m = cc in
     absurd (no_line s d x vs (ap (λ (a : Mark). a.kind) same ∙ h) (both (s.version == 2) (is_mark s d x) g.0).1)
 named_along s t n d (Alone x ∷ items) (suc k) m vs f e h =
-    let g = both (item_fits s d (Alone x)) (all_along (item_fits s) (desk_after d x) items) f in
+    let g = both (item_fits s d (Alone x)) (all_along (item_fits s) (thread_mappings_after d x) items) f in
     past_mark s d x (map (λ a. a.kind) (take k (marks_in t n items))) (commands_in items) n m vs (both (s.version == 2) (is_mark s d x) g.0).1
-    (named_along s t n (desk_after d x) items k m vs g.1 e h)
+    (named_along s t n (thread_mappings_after d x) items k m vs g.1 e h)
 named_along s t n d (Asks [] c ∷ items) k m vs f e h =
     past_command d.regions c (commands_in items) n (requests_among (take k (marks_in t (n + 1) items))) m vs (named_along s t (n + 1) d items k m vs f e h)
 named_along s t n d (Asks (way ∷ []) c ∷ items) zero m vs f e h =
-    let g = both (item_fits s d (Asks (way ∷ []) c)) (all_along (item_fits s) (desk_after d way) items) f in
+    let g = both (item_fits s d (Asks (way ∷ []) c)) (all_along (item_fits s) (thread_mappings_after d way) items) f in
     let same : mark_at t n way ≡ m = cc in
     let kind : way ≡ mark.Vsubmit vs = ap (λ (a : Mark). a.kind) same ∙ h in
     named_here d c (commands_in items) n m vs (sym (ap (λ (a : Mark). a.after) same))
     (ap (λ w. is_way d w (Some c)) (sym kind) ∙ (both (s.version == 2) (is_way d way (Some c)) g.0).1)
 named_along s t n d (Asks (way ∷ []) c ∷ items) (suc k) m vs f e h =
-    let g = both (item_fits s d (Asks (way ∷ []) c)) (all_along (item_fits s) (desk_after d way) items) f in
+    let g = both (item_fits s d (Asks (way ∷ []) c)) (all_along (item_fits s) (thread_mappings_after d way) items) f in
     let rest = take k (marks_in t (n + 1) items) in
     past_way d way c (map (λ a. a.kind) rest) (c ∷ commands_in items) n m vs (both (s.version == 2) (is_way d way (Some c)) g.0).1
-    (past_command (desk_after d way).regions c (commands_in items) n (requests_among rest) m vs (named_along s t (n + 1) (desk_after d way) items k m vs g.1 e h))
+    (past_command (thread_mappings_after d way).regions c (commands_in items) n (requests_among rest) m vs (named_along s t (n + 1) (thread_mappings_after d way) items k m vs g.1 e h))
 named_along s t n d (Asks (way ∷ other ∷ ways) c ∷ items) k m vs f e h = absurd cc

@@ -15,7 +15,7 @@ use Rattle.journal_model.specs.Commands.{commands_of}
 use Rattle.journal_model.specs.CommandRules.{is_between}
 use Rattle.journal_model.specs.Complete.{thread_numbers}
 use Rattle.journal_model.specs.Marks.{marks_at}
-use Rattle.journal_model.specs.MarkRules.{Desk, empty_desk, desk_after, is_mark, is_way, are_marks, marks_fit, is_above, are_in_order, is_in_thread, is_line, has_few_lines, have_marks}
+use Rattle.journal_model.specs.MarkRules.{ThreadMappings, empty_thread_mappings, thread_mappings_after, is_mark, is_way, are_marks, marks_fit, is_above, are_in_order, is_in_thread, is_line, has_few_lines, have_marks}
 use Rattle.law_legal.specs.law_items.Items.{Item, Alone, Asks, commands_in, mark_at, marks_in, numbered, ComesFrom, item_fits, all_along, items_fit}
 use Rattle.law_legal.proofs.law_items.ListFacts.{has_few}
 use Rattle.law_legal.proofs.law_items.Tests.{both, joint, and_true, differ}
@@ -236,23 +236,23 @@ or_cases : (a b : Bool) → (a || b) ≡ true → (a ≡ true) ⊎ (b ≡ true)
 or_cases true b h = inl refl
 or_cases false b h = inr h
 
-block_fit : (s : Script) (d : Desk) (ms : List MarkKind) (c : Command) (rest : List Item) → (s.version == 2) ≡ true → are_marks s d ms (Some c) ≡ true → all_along (item_fits s) (fold desk_after d ms) rest ≡ true
+block_fit : (s : Script) (d : ThreadMappings) (ms : List MarkKind) (c : Command) (rest : List Item) → (s.version == 2) ≡ true → are_marks s d ms (Some c) ≡ true → all_along (item_fits s) (fold thread_mappings_after d ms) rest ≡ true
     → all_along (item_fits s) d (block ms c ++ rest) ≡ true
 block_fit s d [] c rest v h k = k
 block_fit s d (m ∷ []) c rest v h k =
     let by : Bool → Bool = λ b. all_along (item_fits s) d (cond b (Alone m ∷ Asks [] c ∷ []) (Asks (m ∷ []) c ∷ []) ++ rest) in
     elim (or_cases (is_mark s d m) (is_way d m (Some c)) h) [
-      | inl a ↦ ap by (mark_is_line s d m a) ∙ joint (item_fits s d (Alone m)) (all_along (item_fits s) (desk_after d m) rest) (joint (s.version == 2) (is_mark s d m) v a) k
-      | inr a ↦ ap by (way_no_line d m (Some c) a) ∙ joint (item_fits s d (Asks (m ∷ []) c)) (all_along (item_fits s) (desk_after d m) rest) (joint (s.version == 2) (is_way d m (Some c)) v a) k
+      | inl a ↦ ap by (mark_is_line s d m a) ∙ joint (item_fits s d (Alone m)) (all_along (item_fits s) (thread_mappings_after d m) rest) (joint (s.version == 2) (is_mark s d m) v a) k
+      | inr a ↦ ap by (way_no_line d m (Some c) a) ∙ joint (item_fits s d (Asks (m ∷ []) c)) (all_along (item_fits s) (thread_mappings_after d m) rest) (joint (s.version == 2) (is_way d m (Some c)) v a) k
     ]
 block_fit s d (m ∷ x ∷ ms) c rest v h k =
     let by : Bool → Bool = λ b. all_along (item_fits s) d (cond b (Alone m ∷ block (x ∷ ms) c) (Asks (m ∷ x ∷ ms) c ∷ []) ++ rest) in
-    let f = both (is_mark s d m) (are_marks s (desk_after d m) (x ∷ ms) (Some c)) h in
+    let f = both (is_mark s d m) (are_marks s (thread_mappings_after d m) (x ∷ ms) (Some c)) h in
     ap by (mark_is_line s d m f.0)
-    ∙ joint (item_fits s d (Alone m)) (all_along (item_fits s) (desk_after d m) (block (x ∷ ms) c ++ rest)) (joint (s.version == 2) (is_mark s d m) v f.0)
-    (block_fit s (desk_after d m) (x ∷ ms) c rest v f.1 k)
+    ∙ joint (item_fits s d (Alone m)) (all_along (item_fits s) (thread_mappings_after d m) (block (x ∷ ms) c ++ rest)) (joint (s.version == 2) (is_mark s d m) v f.0)
+    (block_fit s (thread_mappings_after d m) (x ∷ ms) c rest v f.1 k)
 
-no_way : (d : Desk) (m : MarkKind) → is_way d m None ≡ true → ⊥
+no_way : (d : ThreadMappings) (m : MarkKind) → is_way d m None ≡ true → ⊥
 no_way d (mark.Map b) h = absurd cc
 no_way d (mark.Unmap b) h = absurd cc
 no_way d mark.Mapped h = absurd cc
@@ -260,43 +260,43 @@ no_way d (mark.Vmap va n b off) h = absurd cc
 no_way d (mark.Vunmap va n) h = absurd cc
 no_way d (mark.Vsubmit ops) h = absurd cc
 
-alone_fit : (s : Script) (d : Desk) (ms : List MarkKind) → (s.version == 2) ≡ true → are_marks s d ms None ≡ true → all_along (item_fits s) d (map (λ m. Alone m) ms) ≡ true
+alone_fit : (s : Script) (d : ThreadMappings) (ms : List MarkKind) → (s.version == 2) ≡ true → are_marks s d ms None ≡ true → all_along (item_fits s) d (map (λ m. Alone m) ms) ≡ true
 alone_fit s d [] v h = refl
 alone_fit s d (m ∷ []) v h = elim (or_cases (is_mark s d m) (is_way d m None) h) [
   | inl a ↦ and_true (item_fits s d (Alone m)) (joint (s.version == 2) (is_mark s d m) v a)
   | inr a ↦ absurd (no_way d m a)
 ]
 alone_fit s d (m ∷ x ∷ ms) v h =
-    let f = both (is_mark s d m) (are_marks s (desk_after d m) (x ∷ ms) None) h in
-    joint (item_fits s d (Alone m)) (all_along (item_fits s) (desk_after d m) (map (λ k. Alone k) (x ∷ ms))) (joint (s.version == 2) (is_mark s d m) v f.0) (alone_fit s (desk_after d m) (x ∷ ms) v f.1)
+    let f = both (is_mark s d m) (are_marks s (thread_mappings_after d m) (x ∷ ms) None) h in
+    joint (item_fits s d (Alone m)) (all_along (item_fits s) (thread_mappings_after d m) (map (λ k. Alone k) (x ∷ ms))) (joint (s.version == 2) (is_mark s d m) v f.0) (alone_fit s (thread_mappings_after d m) (x ∷ ms) v f.1)
 
-from_fit : (s : Script) (t n : ℕ) (d : Desk) (cs : List Command) → (s.version == 2) ≡ true → marks_fit s t n d cs ≡ true → all_along (item_fits s) d (items_from s t n cs) ≡ true
+from_fit : (s : Script) (t n : ℕ) (d : ThreadMappings) (cs : List Command) → (s.version == 2) ≡ true → marks_fit s t n d cs ≡ true → all_along (item_fits s) d (items_from s t n cs) ≡ true
 from_fit s t n d [] v h = alone_fit s d (marks_at s t n) v h
 from_fit s t n d (c ∷ cs) v h =
-    let next = fold desk_after d (marks_at s t n) in
+    let next = fold thread_mappings_after d (marks_at s t n) in
     let f = both (are_marks s d (marks_at s t n) (Some c)) (marks_fit s t (n + 1) next cs) h in
     block_fit s d (marks_at s t n) c (items_from s t (n + 1) cs) v f.0 (from_fit s t (n + 1) next cs v f.1)
 
 lists_fit : (s : Script) (t : ℕ) (ts : List (List Command)) → HasCommands s t ts → (s.version == 2) ≡ true
-    → list_all (λ u. marks_fit s u 0 empty_desk (commands_of s u)) (count_from 1 (length ts) t) ≡ true → list_all (items_fit s) (lists_from s t ts) ≡ true
+    → list_all (λ u. marks_fit s u 0 empty_thread_mappings (commands_of s u)) (count_from 1 (length ts) t) ≡ true → list_all (items_fit s) (lists_from s t ts) ≡ true
 lists_fit s t [] h v f = refl
 lists_fit s t (cs ∷ ts) h v f =
-    let fits : ℕ → Bool = λ u. marks_fit s u 0 empty_desk (commands_of s u) in
+    let fits : ℕ → Bool = λ u. marks_fit s u 0 empty_thread_mappings (commands_of s u) in
     let g = both (fits t) (list_all fits (count_from 1 (length ts) (1 + t))) f in
     let next : 1 + t ≡ t + 1 = omega arith in
     joint (items_fit s (items_from s t 0 cs)) (list_all (items_fit s) (lists_from s (t + 1) ts))
-    (from_fit s t 0 empty_desk cs v (ap (λ x. marks_fit s t 0 empty_desk x) (sym (h t 0 (omega arith))) ∙ g.0))
+    (from_fit s t 0 empty_thread_mappings cs v (ap (λ x. marks_fit s t 0 empty_thread_mappings x) (sym (h t 0 (omega arith))) ∙ g.0))
     (lists_fit s (t + 1) ts (λ u i e. h u (suc i) (omega (arith, e))) v (ap (λ u. list_all fits (count_from 1 (length ts) u)) (sym next) ∙ g.1))
 
 -- commands without marks fit in any version
-bare_fit : (s : Script) (t n : ℕ) (d : Desk) (cs : List Command) → s.marks ≡ [] → all_along (item_fits s) d (items_from s t n cs) ≡ true
+bare_fit : (s : Script) (t n : ℕ) (d : ThreadMappings) (cs : List Command) → s.marks ≡ [] → all_along (item_fits s) d (items_from s t n cs) ≡ true
 bare_fit s t n d [] h = ap (λ (ms : List Mark). all_along (item_fits s) d (map (λ m. Alone m) (kinds_at n (filter (λ (m : Mark). m.thread == t) ms)))) h
 bare_fit s t n d (c ∷ cs) h =
     ap (λ (ms : List Mark). all_along (item_fits s) d (block (kinds_at n (filter (λ (m : Mark). m.thread == t) ms)) c ++ items_from s t (n + 1) cs)) h ∙ bare_fit s t (n + 1) d cs h
 
 bare_lists_fit : (s : Script) (t : ℕ) (ts : List (List Command)) → s.marks ≡ [] → list_all (items_fit s) (lists_from s t ts) ≡ true
 bare_lists_fit s t [] h = refl
-bare_lists_fit s t (cs ∷ ts) h = joint (items_fit s (items_from s t 0 cs)) (list_all (items_fit s) (lists_from s (t + 1) ts)) (bare_fit s t 0 empty_desk cs h) (bare_lists_fit s (t + 1) ts h)
+bare_lists_fit s t (cs ∷ ts) h = joint (items_fit s (items_from s t 0 cs)) (list_all (items_fit s) (lists_from s (t + 1) ts)) (bare_fit s t 0 empty_thread_mappings cs h) (bare_lists_fit s (t + 1) ts h)
 
 nothing : (ms : List Mark) → (length ms == 0) ≡ true → ms ≡ []
 nothing [] h = refl
@@ -329,7 +329,7 @@ record Rules (s : Script) : Type 0 where
   order : are_in_order s.marks ≡ true
   placed : list_all (is_in_thread s) s.marks ≡ true
   few : list_all (has_few_lines s) (thread_numbers s) ≡ true
-  fit : list_all (λ t. marks_fit s t 0 empty_desk (commands_of s t)) (thread_numbers s) ≡ true
+  fit : list_all (λ t. marks_fit s t 0 empty_thread_mappings (commands_of s t)) (thread_numbers s) ≡ true
 
 rules_of : (s : Script) → have_marks s ≡ true → Rules s
 rules_of s h =
@@ -337,7 +337,7 @@ rules_of s h =
     let b = are_in_order s.marks in
     let c = list_all (is_in_thread s) s.marks in
     let d = list_all (has_few_lines s) (thread_numbers s) in
-    let e = list_all (λ t. marks_fit s t 0 empty_desk (commands_of s t)) (thread_numbers s) in
+    let e = list_all (λ t. marks_fit s t 0 empty_thread_mappings (commands_of s t)) (thread_numbers s) in
     let f = both (a && b && c && d) e h in
     let g = both (a && b && c) d f.0 in
     let k = both (a && b) c g.0 in

@@ -10,9 +10,9 @@ use Rattle.journal_model.specs.declared.script.Command.{Command}
 use Rattle.journal_model.specs.declared.script.Mark.{Mark}
 use Rattle.journal_model.specs.declared.script.MarkKind.{MarkKind}
 use Rattle.journal_model.specs.Commands.{commands_of}
-use Rattle.journal_model.specs.MarkRules.{Desk, empty_desk, desk_after, desk_at_end}
+use Rattle.journal_model.specs.MarkRules.{ThreadMappings, empty_thread_mappings, thread_mappings_after, thread_mappings_at_end}
 use Rattle.journal_model.specs.FirstFault.{onto_last, mark_here}
-use Rattle.law_legal.specs.law_items.Items.{Item, Alone, Asks, commands_in, kinds_in, mark_at, marks_in, numbered, ComesFrom, with_items, desk_behind, desk_of, item_fits, all_along, items_fit}
+use Rattle.law_legal.specs.law_items.Items.{Item, Alone, Asks, commands_in, kinds_in, mark_at, marks_in, numbered, ComesFrom, with_items, thread_mappings_behind, thread_mappings_of, item_fits, all_along, items_fit}
 use Rattle.law_legal.proofs.law_items.ListFacts.{length_map, put_last, put_end, onto_is, last_list, last_len, last_len_is, last_end}
 use Rattle.law_legal.proofs.law_items.Tests.{both, joint, and_true}
 use Rattle.law_legal.proofs.law_items.Places.{of_thread}
@@ -160,9 +160,9 @@ kinds_of t n [] = refl
 kinds_of t n (Alone m ∷ items) = ap (λ ks. m ∷ ks) (kinds_of t n items)
 kinds_of t n (Asks ways c ∷ items) = kinds_before t n ways (marks_in t (n + 1) items) ∙ ap (λ ks. ways ++ ks) (kinds_of t (n + 1) items)
 
-fold_is : (d : Desk) (items : List Item) → fold desk_after d (flat_map kinds_in items) ≡ fold desk_behind d items
+fold_is : (d : ThreadMappings) (items : List Item) → fold thread_mappings_after d (flat_map kinds_in items) ≡ fold thread_mappings_behind d items
 fold_is d [] = refl
-fold_is d (item ∷ items) = fold-append desk_after d (kinds_in item) (flat_map kinds_in items) ∙ fold_is (desk_behind d item) items
+fold_is d (item ∷ items) = fold-append thread_mappings_after d (kinds_in item) (flat_map kinds_in items) ∙ fold_is (thread_mappings_behind d item) items
 
 last_marks : (lists : List (List Item)) → filter (λ (m : Mark). m.thread == length lists) (numbered 1 lists) ≡ marks_in (length lists) 0 (last_list lists)
 last_marks [] = refl
@@ -171,39 +171,39 @@ last_marks (items ∷ lists) =
     of_thread n 1 (n - 1) (items ∷ lists) (omega arith) ∙ ap (λ xs. marks_in n 0 xs) (last_at (items ∷ lists))
 
 -- what the last thread has mapped, by its lines
-pub desk_is : (s : Script) (lists : List (List Item)) → ComesFrom s lists → desk_at_end s ≡ desk_of (last_list lists)
-desk_is s lists h =
+pub thread_mappings_is : (s : Script) (lists : List (List Item)) → ComesFrom s lists → thread_mappings_at_end s ≡ thread_mappings_of (last_list lists)
+thread_mappings_is s lists h =
     let kinds : List Mark → List MarkKind = λ ms. map (λ (m : Mark). m.kind) ms in
-    let desk : List Mark → Desk = λ ms. fold desk_after empty_desk (kinds ms) in
-    ap (λ ms. desk (filter (λ (m : Mark). m.thread == length s.threads) ms)) h.marks
-    ∙ ap (λ n. desk (filter (λ (m : Mark). m.thread == n) (numbered 1 lists))) (lists_len s lists h)
-    ∙ ap desk (last_marks lists)
-    ∙ ap (λ ks. fold desk_after empty_desk ks) (kinds_of (length lists) 0 (last_list lists))
-    ∙ fold_is empty_desk (last_list lists)
+    let thread_mappings : List Mark → ThreadMappings = λ ms. fold thread_mappings_after empty_thread_mappings (kinds ms) in
+    ap (λ ms. thread_mappings (filter (λ (m : Mark). m.thread == length s.threads) ms)) h.marks
+    ∙ ap (λ n. thread_mappings (filter (λ (m : Mark). m.thread == n) (numbered 1 lists))) (lists_len s lists h)
+    ∙ ap thread_mappings (last_marks lists)
+    ∙ ap (λ ks. fold thread_mappings_after empty_thread_mappings ks) (kinds_of (length lists) 0 (last_list lists))
+    ∙ fold_is empty_thread_mappings (last_list lists)
 
 -- one line more
-pub desk_more : (items : List Item) (item : Item) → desk_of (items ++ item ∷ []) ≡ desk_behind (desk_of items) item
-desk_more items item = fold-append desk_behind empty_desk items (item ∷ [])
+pub thread_mappings_more : (items : List Item) (item : Item) → thread_mappings_of (items ++ item ∷ []) ≡ thread_mappings_behind (thread_mappings_of items) item
+thread_mappings_more items item = fold-append thread_mappings_behind empty_thread_mappings items (item ∷ [])
 
 -- ---- the rules
 
-along_more : (test : Desk → Item → Bool) (d : Desk) (items : List Item) (item : Item) → all_along test d items ≡ true → test (fold desk_behind d items) item ≡ true → all_along test d (items ++ item ∷ []) ≡ true
+along_more : (test : ThreadMappings → Item → Bool) (d : ThreadMappings) (items : List Item) (item : Item) → all_along test d items ≡ true → test (fold thread_mappings_behind d items) item ≡ true → all_along test d (items ++ item ∷ []) ≡ true
 along_more test d [] item h k = and_true (test d item) k
 along_more test d (x ∷ items) item h k =
-    let f = both (test d x) (all_along test (desk_behind d x) items) h in
-    joint (test d x) (all_along test (desk_behind d x) (items ++ item ∷ [])) f.0 (along_more test (desk_behind d x) items item f.1 k)
+    let f = both (test d x) (all_along test (thread_mappings_behind d x) items) h in
+    joint (test d x) (all_along test (thread_mappings_behind d x) (items ++ item ∷ [])) f.0 (along_more test (thread_mappings_behind d x) items item f.1 k)
 
-fits_last : (s : Script) (lists : List (List Item)) (item : Item) → list_all (items_fit s) lists ≡ true → item_fits s (desk_of (last_list lists)) item ≡ true → list_all (items_fit s) (put_last item lists) ≡ true
+fits_last : (s : Script) (lists : List (List Item)) (item : Item) → list_all (items_fit s) lists ≡ true → item_fits s (thread_mappings_of (last_list lists)) item ≡ true → list_all (items_fit s) (put_last item lists) ≡ true
 fits_last s [] item h k = refl
-fits_last s (items ∷ []) item h k = and_true (items_fit s (items ++ item ∷ [])) (along_more (item_fits s) empty_desk items item (both (items_fit s items) true h).0 k)
+fits_last s (items ∷ []) item h k = and_true (items_fit s (items ++ item ∷ [])) (along_more (item_fits s) empty_thread_mappings items item (both (items_fit s items) true h).0 k)
 fits_last s (items ∷ more ∷ lists) item h k =
     let f = both (items_fit s items) (list_all (items_fit s) (more ∷ lists)) h in
     joint (items_fit s items) (list_all (items_fit s) (put_last item (more ∷ lists))) f.0 (fits_last s (more ∷ lists) item f.1 k)
 
 -- a line that may stand behind the last one
 pub fits_put : (s : Script) (lists : List (List Item)) (item : Item) → ComesFrom s lists → list_all (items_fit s) lists ≡ true
-    → item_fits s (desk_at_end s) item ≡ true → list_all (items_fit s) (put_last item lists) ≡ true
-fits_put s lists item h f k = fits_last s lists item f (ap (λ d. item_fits s d item) (sym (desk_is s lists h)) ∙ k)
+    → item_fits s (thread_mappings_at_end s) item ≡ true → list_all (items_fit s) (put_last item lists) ≡ true
+fits_put s lists item h f k = fits_last s lists item f (ap (λ d. item_fits s d item) (sym (thread_mappings_is s lists h)) ∙ k)
 
 -- ---- where the last list is known
 
@@ -249,7 +249,7 @@ thread_end s done =
     comes_is (record q { threads = q.threads ++ [] ∷ [] }) (done ++ [] ∷ []) (thread_comes q done (itself s done))
 
 -- what the last thread has mapped
-pub desk_end : (s : Script) (done : List (List Item)) (items : List Item) → desk_at_end (with_items s (done ++ items ∷ [])) ≡ desk_of items
-desk_end s done items =
+pub thread_mappings_end : (s : Script) (done : List (List Item)) (items : List Item) → thread_mappings_at_end (with_items s (done ++ items ∷ [])) ≡ thread_mappings_of items
+thread_mappings_end s done items =
     let lists = done ++ items ∷ [] in
-    desk_is (with_items s lists) lists (itself s lists) ∙ ap desk_of (last_end done items)
+    thread_mappings_is (with_items s lists) lists (itself s lists) ∙ ap thread_mappings_of (last_end done items)

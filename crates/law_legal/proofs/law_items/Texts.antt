@@ -11,16 +11,16 @@ use Rattle.journal_model.specs.declared.script.MarkKind.TheVariants as mark
 use Rattle.journal_model.specs.declared.space.VOp.{VOp}
 use Rattle.journal_model.specs.Words.{Text, line}
 use Rattle.journal_model.specs.Marks.{addressed, is_mapped, marks_of}
-use Rattle.journal_model.specs.MarkRules.{Desk, empty_desk, is_mark, is_way, is_line}
+use Rattle.journal_model.specs.MarkRules.{ThreadMappings, empty_thread_mappings, is_mark, is_way, is_line}
 use Rattle.journal_model.specs.Spelling.{addressed_words, command_words, mapped_words, mark_line, command_lines, thread_lines}
-use Rattle.law_legal.specs.law_items.Items.{Item, Alone, Asks, commands_in, marks_in, ComesFrom, written, item_text, items_text, desk_behind, item_fits, all_along, items_fit}
+use Rattle.law_legal.specs.law_items.Items.{Item, Alone, Asks, commands_in, marks_in, ComesFrom, written, item_text, items_text, thread_mappings_behind, item_fits, all_along, items_fit}
 use Rattle.law_legal.proofs.law_items.Tests.{both, and_true}
 use Rattle.law_legal.proofs.law_items.Places.{Stand, stand_first, stand_alone, stand_next, stand_here, stand_last, HasThreads, has_threads, next_threads, first_marks, all_append}
 
 -- ---- lines and ways
 
 -- a mark that fits has a line
-pub mark_is_line : (s : Script) (d : Desk) (m : MarkKind) → is_mark s d m ≡ true → is_line m ≡ true
+pub mark_is_line : (s : Script) (d : ThreadMappings) (m : MarkKind) → is_mark s d m ≡ true → is_line m ≡ true
 mark_is_line s d (mark.Map b) h = refl
 mark_is_line s d (mark.Unmap b) h = refl
 mark_is_line s d mark.Mapped h = absurd cc
@@ -29,11 +29,11 @@ mark_is_line s d (mark.Vunmap va n) h = refl
 mark_is_line s d (mark.Vsubmit ops) h = absurd cc
 
 -- a mark that may stand alone has a line
-pub alone_is_line : (s : Script) (d : Desk) (m : MarkKind) → item_fits s d (Alone m) ≡ true → is_line m ≡ true
+pub alone_is_line : (s : Script) (d : ThreadMappings) (m : MarkKind) → item_fits s d (Alone m) ≡ true → is_line m ≡ true
 alone_is_line s d m h = mark_is_line s d m (both (s.version == 2) (is_mark s d m) h).1
 
 -- a way has none
-pub way_no_line : (d : Desk) (way : MarkKind) (o : Option Command) → is_way d way o ≡ true → is_line way ≡ false
+pub way_no_line : (d : ThreadMappings) (way : MarkKind) (o : Option Command) → is_way d way o ≡ true → is_line way ≡ false
 way_no_line d (mark.Map b) o h = absurd cc
 way_no_line d (mark.Unmap b) o h = absurd cc
 way_no_line d mark.Mapped o h = refl
@@ -49,7 +49,7 @@ no_text s (mark.Vmap va n b off) h = absurd cc
 no_text s (mark.Vunmap va n) h = absurd cc
 no_text s (mark.Vsubmit ops) h = refl
 
-ways_quiet : (s : Script) (d : Desk) (ways : List MarkKind) (c : Command) → item_fits s d (Asks ways c) ≡ true → flat_map (mark_line s) ways ≡ []
+ways_quiet : (s : Script) (d : ThreadMappings) (ways : List MarkKind) (c : Command) → item_fits s d (Asks ways c) ≡ true → flat_map (mark_line s) ways ≡ []
 ways_quiet s d [] c h = refl
 ways_quiet s d (way ∷ []) c h = append-nil (mark_line s way) ∙ no_text s way (way_no_line d way (Some c) (both (s.version == 2) (is_way d way (Some c)) h).1)
 ways_quiet s d (way ∷ other ∷ ways) c h = absurd cc
@@ -87,19 +87,19 @@ written_is s above ways c h =
 -- ---- the lines of a thread
 
 -- behind marks with lines of their own
-lines_text : (s : Script) (t n : ℕ) (d : Desk) (above : List MarkKind) (items : List Item) → Stand s t n above items → list_all is_line above ≡ true → all_along (item_fits s) d items ≡ true
+lines_text : (s : Script) (t n : ℕ) (d : ThreadMappings) (above : List MarkKind) (items : List Item) → Stand s t n above items → list_all is_line above ≡ true → all_along (item_fits s) d items ≡ true
     → command_lines s t n (commands_in items) ≡ flat_map (mark_line s) above ++ flat_map (item_text s) items
 lines_text s t n d above [] h k f = ap (λ ms. flat_map (mark_line s) ms) (stand_last s t n above h) ∙ sym (append-nil (flat_map (mark_line s) above))
 lines_text s t n d above (Alone m ∷ items) h k f =
-    let g = both (item_fits s d (Alone m)) (all_along (item_fits s) (desk_behind d (Alone m)) items) f in
+    let g = both (item_fits s d (Alone m)) (all_along (item_fits s) (thread_mappings_behind d (Alone m)) items) f in
     let lines = all_append is_line above (m ∷ []) k (and_true (is_line m) (alone_is_line s d m g.0)) in
-    lines_text s t n (desk_behind d (Alone m)) (above ++ m ∷ []) items (stand_alone s t n above m items h) lines g.1
+    lines_text s t n (thread_mappings_behind d (Alone m)) (above ++ m ∷ []) items (stand_alone s t n above m items h) lines g.1
     ∙ ap (λ x. x ++ flat_map (item_text s) items) (flat_map-append (mark_line s) above (m ∷ []) ∙ ap (λ x. flat_map (mark_line s) above ++ x) (append-nil (mark_line s m)))
     ∙ append_assoc (flat_map (mark_line s) above) (mark_line s m) (flat_map (item_text s) items)
 lines_text s t n d above (Asks ways c ∷ items) h k f =
-    let g = both (item_fits s d (Asks ways c)) (all_along (item_fits s) (desk_behind d (Asks ways c)) items) f in
+    let g = both (item_fits s d (Asks ways c)) (all_along (item_fits s) (thread_mappings_behind d (Asks ways c)) items) f in
     let here = stand_here s t n above ways c items h in
-    let rest = lines_text s t (n + 1) (desk_behind d (Asks ways c)) [] items (stand_next s t n above ways c items h) refl g.1 in
+    let rest = lines_text s t (n + 1) (thread_mappings_behind d (Asks ways c)) [] items (stand_next s t n above ways c items h) refl g.1 in
     let marks = flat_map (mark_line s) above in
     let behind = command_lines s t (n + 1) (commands_in items) in
     ap (λ ms. flat_map (mark_line s) ms ++ written s ms c ++ behind) here
@@ -110,7 +110,7 @@ lines_text s t n d above (Asks ways c ∷ items) h k f =
 
 one_text : (s : Script) (t : ℕ) (items : List Item) → marks_of s t ≡ marks_in t 0 items → items_fit s items ≡ true
     → thread_lines s (t, commands_in items) ≡ items_text s items
-one_text s t items h f = ap (λ x. line (codes "thread" ∷ []) ++ x) (lines_text s t 0 empty_desk [] items (stand_first s t items h) refl f)
+one_text s t items h f = ap (λ x. line (codes "thread" ∷ []) ++ x) (lines_text s t 0 empty_thread_mappings [] items (stand_first s t items h) refl f)
 
 texts : (s : Script) (t : ℕ) (lists : List (List Item)) → HasThreads s t lists → list_all (items_fit s) lists ≡ true
     → flat_map (thread_lines s) (enumerate_from t (map commands_in lists)) ≡ flat_map (items_text s) lists

@@ -30,7 +30,7 @@ use Rattle.journal_model.specs.Marks.{is_mapped_at}
 use Rattle.journal_model.specs.Next.{next}
 use Rattle.journal_model.specs.PageSteps.{page_to_fill}
 use Rattle.journal_model.specs.Places.{is_frame, loc_of}
-use Rattle.journal_model.specs.Search.{Quest}
+use Rattle.journal_model.specs.Search.{PlaceSearch}
 use Rattle.journal_model.specs.Ready.{first_unready, has_all_frames, is_in_place, is_ready, uses_bytes}
 use Rattle.laws.specs.law_state.Courses.{GoodCourses, makes}
 use Rattle.laws.specs.law_state.GoodState.{GoodState, HasPages}
@@ -40,7 +40,7 @@ use Rattle.laws.specs.law_sound.Sound.{Owned, Sound}
 use Rattle.laws.proofs.law_sound.Along.{OfWorker, packet, done, reap, of_worker, Stepped, stepped_of}
 use Rattle.laws.proofs.law_sound.Bufs.{found_passes, none_found, none_missing, same_self}
 use Rattle.laws.proofs.law_sound.Gifts as gifts
-use Rattle.laws.proofs.law_sound.Gifts.{Filled, Gives, Sought}
+use Rattle.laws.proofs.law_sound.Gifts.{Filled, Gives, SearchOutcome}
 use Rattle.laws.proofs.law_sound.Turns.{OnNamed, Turn, answer, act, victim_fill, fill_in_place, fill_to_bind, fill_to_move}
 use Rattle.law_legal.proofs.law_maps.Stays.{IsOpen, Settled}
 
@@ -198,7 +198,7 @@ module _ (script : Script) (s : State) (t : ℕ) (cmd : Command) (o : Owned scri
   fill_tells b k (fill_to_bind on n q) g = filled_tells b k q (system_no_tt on.stands) g
   fill_tells b k (fill_to_move on m n q) g = filled_tells b k q (vram_no_tt on.stands) g
 
-  sought_tells : (b : BufId) (q : Quest) (k : Kind) → Sought script s (course s t) b q k → Tells script s (actor.Thread t) k
+  sought_tells : (b : BufId) (q : PlaceSearch) (k : Kind) → SearchOutcome script s (course s t) b q k → Tells script s (actor.Thread t) k
   sought_tells b q k (gifts.finds place p m h) = tt
   sought_tells b q k (gifts.evicts place a n e h) = tt
   sought_tells b q k (gifts.dries place a n) = tt

@@ -23,8 +23,8 @@ use Rattle.journal_model.specs.declared.state.Buffer.{Buffer}
 use Rattle.journal_model.specs.declared.state.Victim.{Victim}
 use Rattle.journal_model.specs.declared.state.Job.{Job}
 use Rattle.journal_model.specs.declared.state.Ghost.{Ghost}
-use Rattle.journal_model.specs.declared.state.Aim.{Aim}
-use Rattle.journal_model.specs.declared.state.Aim.TheVariants as aims
+use Rattle.journal_model.specs.declared.state.SearchAim.{SearchAim}
+use Rattle.journal_model.specs.declared.state.SearchAim.TheVariants as aims
 use Rattle.journal_model.specs.declared.state.Task.{Task}
 use Rattle.journal_model.specs.declared.state.Task.TheVariants as task
 use Rattle.journal_model.specs.declared.entry.Kind.{Kind}
@@ -32,7 +32,7 @@ use Rattle.journal_model.specs.declared.entry.Kind.TheVariants as kind
 use Rattle.journal_model.specs.declared.entry.Left.TheVariants as left
 use Rattle.journal_model.specs.declared.entry.Shown.{Shown}
 use Rattle.journal_model.specs.declared.entry.Shown.TheVariants as shown
-use Rattle.journal_model.specs.State.{buffer, grip, course, is_live, live_in, new_buffer}
+use Rattle.journal_model.specs.State.{buffer, reservation, course, is_live, live_in, new_buffer}
 use Rattle.journal_model.specs.Commands.{decl, named, command_at_work}
 use Rattle.journal_model.specs.CommandRules.{is_between, is_command, is_declared, is_op}
 use Rattle.journal_model.specs.ScriptRules.{is_script}
@@ -41,7 +41,7 @@ use Rattle.journal_model.specs.Holds.{size_of, held_frames, held_slots, free_fra
 use Rattle.journal_model.specs.Places.{is_frame, loc_of}
 use Rattle.journal_model.specs.Ready.{is_ready, first_unready}
 use Rattle.journal_model.specs.Waits.{waited_for, jobs_before_read, jobs_before_write}
-use Rattle.journal_model.specs.Search.{Step, Quest, quest, is_caught, through_tt, step_of_quest}
+use Rattle.journal_model.specs.Search.{Step, PlaceSearch, place_search, is_caught, through_tt, step_of_place_search}
 use Rattle.journal_model.specs.PageSteps.{unless_waiting, once_idle, page_to_fill, first_frame_page, next_job, next_ghost}
 use Rattle.journal_model.specs.Next.{next, head_of, step_of_act, step_of_job, step_of_task}
 use Rattle.journal_model.specs.Readable.{is_dry_why, is_kind, is_left, is_shown, is_some_actor, is_span, is_u32, is_u64}
@@ -51,21 +51,21 @@ use Rattle.laws.specs.law_state.Counters.{Below}
 use Rattle.laws.proofs.law_state.JobNames.{found_at}
 use Rattle.laws.proofs.law_state.Rules.{Rules, rules_of, at_work_rules, declared_pages}
 use Rattle.laws.proofs.law_state.GoodStates.{table_pages}
-use Rattle.laws.proofs.law_state.Courses.{quest_dry}
+use Rattle.laws.proofs.law_state.Courses.{place_search_dry}
 use Rattle.laws.specs.law_sound.Sound.{Has, Sound}
 use Rattle.laws.proofs.law_sound.Bufs.{has_found, last_caught, none_missing}
-use Rattle.laws.proofs.law_sound.Grips.{live_within, victim_free, swap_free}
+use Rattle.laws.proofs.law_sound.Reservations.{live_within, victim_free, swap_free}
 use Rattle.laws.proofs.law_sound.Orders.{there}
 use Rattle.laws.proofs.law_sound.Along.{stepped_of}
 use Rattle.laws.proofs.law_sound.Turns.{Turn, OnVictim, OnNamed, OnBuffer, victim_unbind, victim_empty, victim_give, victim_skip, victim_move, victim_fill, victim_search, give, fill_in_place, ask, bind, fill_to_bind, hop_up, unbind, move_up, move_across, move_down, fill_to_move, hop_down}
 use Rattle.laws.proofs.law_sound.Gifts as gifts
-use Rattle.laws.proofs.law_sound.Gifts.{Gives, Sought, Filled}
+use Rattle.laws.proofs.law_sound.Gifts.{Gives, SearchOutcome, Filled}
 use Rattle.laws.proofs.law_owners.Taken.{lowest_is_free}
 use Rattle.laws.proofs.lemma_end_searches.Searches.{few_asked}
 use Rattle.law_legal.proofs.law_readable.Tests.{joint, u32, u64, all_got, position_most}
 use Rattle.law_legal.proofs.law_readable.Choices.{choice_spans}
 use Rattle.law_legal.proofs.law_readable.Typed.{Typed, IsTyped, is_loc, fresh_typed}
-use Rattle.law_legal.proofs.law_readable.Whys.{quest_why}
+use Rattle.law_legal.proofs.law_readable.Whys.{place_search_why}
 
 -- what is known of a state behind n entries
 pub record Known (script : Script) (s : State) (n : ℕ) : Type 0 where
@@ -165,7 +165,7 @@ module _ (script : Script) (fits : IsTrue (is_script script)) (s : State) (n : �
 
   -- ---- counters
 
-  drawn : (b : BufId) (st : Stamp) → (grip s b).holder ≡ Some st → is_u64 st.0 ≡ true
+  drawn : (b : BufId) (st : Stamp) → (reservation s b).holder ≡ Some st → is_u64 st.0 ≡ true
   drawn b st e =
       let r = known.sound.owned.holder b st e in
       let l = known.sound.owned.below r.0 st r.1 in
@@ -232,25 +232,25 @@ module _ (script : Script) (fits : IsTrue (is_script script)) (s : State) (n : �
     pages_some : (b : BufId) → is_declared script b ≡ true → 0 < (decl script b).pages
     pages_some b h = let l = (declared_pages script rules b (ltb-true b.0 (length script.buffers) h)).some in omega (arith, l)
 
-    few_forced : (b : BufId) (aim : Aim) → length (forced_places (quest script cmd (course s t) b aim).list) ≤ 8
+    few_forced : (b : BufId) (aim : SearchAim) → length (forced_places (place_search script cmd (course s t) b aim).list) ≤ 8
     few_forced b aims.Asked = few_asked script rules cmd b
     few_forced b aims.Hop = by (is_caught (course s t) b) (record { list = through_tt; forced = false; dry = 0 }) (record { list = through_tt; forced = (course s t).forced; dry = (course s t).dry }) (omega arith) (omega arith)
       where
-        by : (q : Bool) (x y : Quest) → length (forced_places x.list) ≤ 8 → length (forced_places y.list) ≤ 8 → length (forced_places (if q then x else y).list) ≤ 8
+        by : (q : Bool) (x y : PlaceSearch) → length (forced_places x.list) ≤ 8 → length (forced_places y.list) ≤ 8 → length (forced_places (if q then x else y).list) ≤ 8
         by true x y h k = h
         by false x y h k = k
 
-    sought_fits : (b : BufId) (aim : Aim) (k : Kind) → is_declared script b ≡ true → step_of_quest script s (course s t) b (quest script cmd (course s t) b aim) ≡ Ok k
-        → Sought script s (course s t) b (quest script cmd (course s t) b aim) k → is_kind script k ≡ true
+    sought_fits : (b : BufId) (aim : SearchAim) (k : Kind) → is_declared script b ≡ true → step_of_place_search script s (course s t) b (place_search script cmd (course s t) b aim) ≡ Ok k
+        → SearchOutcome script s (course s t) b (place_search script cmd (course s t) b aim) k → is_kind script k ≡ true
     sought_fits b aim k here step (gifts.finds place {mem} {spans} p m e) =
         joint (is_declared script b) (list_all is_span spans) here (choice_spans script rules few_pages s.core b place spans (pages_some b here) e)
     sought_fits b aim k here step (gifts.evicts place {v} {w} p n e f) = live_declared v (victim_free script s (course s t).skips place v f).live
     sought_fits b aim k here step (gifts.dries place {w} p n) =
         let few = few_forced b aim in
-        let below = ltb-true _ _ (quest_dry script s (course s t) b (quest script cmd (course s t) b aim) k step) in
-        joint (is_declared script b && is_u32 (quest script cmd (course s t) b aim).dry) (is_dry_why script w)
-        (joint (is_declared script b) (is_u32 (quest script cmd (course s t) b aim).dry) here (u32 _ (omega (arith, few, below))))
-        (quest_why script s drawn known.good.many (course s t) b (quest script cmd (course s t) b aim) k step)
+        let below = ltb-true _ _ (place_search_dry script s (course s t) b (place_search script cmd (course s t) b aim) k step) in
+        joint (is_declared script b && is_u32 (place_search script cmd (course s t) b aim).dry) (is_dry_why script w)
+        (joint (is_declared script b) (is_u32 (place_search script cmd (course s t) b aim).dry) here (u32 _ (omega (arith, few, below))))
+        (place_search_why script s drawn known.good.many (course s t) b (place_search script cmd (course s t) b aim) k step)
 
     filled_fits : (b : BufId) (k : Kind) → is_declared script b ≡ true → Filled script s b k → is_kind script k ≡ true
     filled_fits b k here (gifts.fresh {frame} f l) =

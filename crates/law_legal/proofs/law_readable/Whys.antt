@@ -22,13 +22,13 @@ use Rattle.journal_model.specs.declared.entry.Kind.TheVariants as kind
 use Rattle.journal_model.specs.declared.entry.DryWhy.TheVariants as dry
 use Rattle.journal_model.specs.declared.entry.CauseRow.{CauseRow}
 use Rattle.journal_model.specs.declared.entry.Cause.TheVariants as cause
-use Rattle.journal_model.specs.State.{grip, grip_in, has_target}
+use Rattle.journal_model.specs.State.{reservation, reservation_in, has_target}
 use Rattle.journal_model.specs.Commands.{whole}
 use Rattle.journal_model.specs.CommandRules.{is_declared}
 use Rattle.journal_model.specs.Choice.{choice, reach_of}
 use Rattle.journal_model.specs.Holds.{live_entry}
 use Rattle.journal_model.specs.Dry.{is_long_enough, victim, ghost_in, cause_of, cause_row, causes}
-use Rattle.journal_model.specs.Search.{Step, Quest, why_of, step_of_crowded, step_of_forced_place, step_of_forced, first_choice, step_of_quest}
+use Rattle.journal_model.specs.Search.{Step, PlaceSearch, why_of, step_of_crowded, step_of_forced_place, step_of_forced, first_choice, step_of_place_search}
 use Rattle.journal_model.specs.Readable.{is_cause, is_cause_row, is_dry_why, is_u64}
 use Rattle.law_legal.proofs.law_readable.Tests.{joint}
 
@@ -37,15 +37,15 @@ abbrev pub has_why : Script → Kind → Bool
 has_why script (kind.Dry b k w) = is_dry_why script w
 has_why script _ = true
 
-module _ (script : Script) (s : State) (drawn : (b : BufId) (st : Stamp) → (grip s b).holder ≡ Some st → is_u64 st.0 ≡ true) (many : length s.core.buffers ≡ length script.buffers) where
-  cause_fits : (place : Place) (b : BufId) (x : Buffer) → is_cause (cause_of script place (grip_in s.grips b) x) ≡ true
-  cause_fits place b x = by_pins (nat_lt 0 (grip_in s.grips b).pins)
+module _ (script : Script) (s : State) (drawn : (b : BufId) (st : Stamp) → (reservation s b).holder ≡ Some st → is_u64 st.0 ≡ true) (many : length s.core.buffers ≡ length script.buffers) where
+  cause_fits : (place : Place) (b : BufId) (x : Buffer) → is_cause (cause_of script place (reservation_in s.reservations b) x) ≡ true
+  cause_fits place b x = by_pins (nat_lt 0 (reservation_in s.reservations b).pins)
     where
       by_spans : (q : Bool) → is_cause (elim q [ false ↦ cause.Outside | true ↦ cause.Skipped ]) ≡ true
       by_spans true = refl
       by_spans false = refl
 
-      by_holder : (o : Option Stamp) → (grip s b).holder ≡ o → is_cause (elim o [
+      by_holder : (o : Option Stamp) → (reservation s b).holder ≡ o → is_cause (elim o [
         | Some s ↦ cause.Reserved s
         | None ↦ elim (intersects x.spans (reach_of script place)) [ false ↦ cause.Outside | true ↦ cause.Skipped ]
       ]) ≡ true
@@ -54,29 +54,29 @@ module _ (script : Script) (s : State) (drawn : (b : BufId) (st : Stamp) → (gr
 
       by_pins : (q : Bool) → is_cause (elim q [
         | true ↦ cause.Pinned
-        | false ↦ elim (grip s b).holder [
+        | false ↦ elim (reservation s b).holder [
           | Some s ↦ cause.Reserved s
           | None ↦ elim (intersects x.spans (reach_of script place)) [ false ↦ cause.Outside | true ↦ cause.Skipped ]
         ]
       ]) ≡ true
       by_pins true = refl
-      by_pins false = by_holder (grip s b).holder refl
+      by_pins false = by_holder (reservation s b).holder refl
 
   rows_fit : (place : Place) (k : ℕ) (xs : List (Option Buffer)) → k + length xs ≤ length script.buffers
-      → list_all (is_cause_row script) (filter_map (cause_row script s.grips place) (filter_map live_entry (enumerate_from k xs))) ≡ true
+      → list_all (is_cause_row script) (filter_map (cause_row script s.reservations place) (filter_map live_entry (enumerate_from k xs))) ≡ true
   rows_fit place k [] l = refl
   rows_fit place k (None ∷ xs) l = rows_fit place (k + 1) xs (omega (arith, l))
   rows_fit place k (Some x ∷ xs) l =
-      by (same_mem x.mem place.mem || has_target place.mem x) (filter_map (cause_row script s.grips place) (filter_map live_entry (enumerate_from (k + 1) xs))) (rows_fit place (k + 1) xs (omega (arith, l)))
+      by (same_mem x.mem place.mem || has_target place.mem x) (filter_map (cause_row script s.reservations place) (filter_map live_entry (enumerate_from (k + 1) xs))) (rows_fit place (k + 1) xs (omega (arith, l)))
     where
       here : BufId
       here = record { 0 = k }
 
       by : (q : Bool) (rest : List CauseRow) → list_all (is_cause_row script) rest ≡ true →
-          list_all (is_cause_row script) (cons_option (if q then Some (record { b = record { 0 = k }; cause = cause_of script place (grip_in s.grips (record { 0 = k })) x }) else None) rest) ≡ true
+          list_all (is_cause_row script) (cons_option (if q then Some (record { b = record { 0 = k }; cause = cause_of script place (reservation_in s.reservations (record { 0 = k })) x }) else None) rest) ≡ true
       by true rest h =
-          joint (is_declared script (record { 0 = k }) && is_cause (cause_of script place (grip_in s.grips (record { 0 = k })) x)) (list_all (is_cause_row script) rest)
-          (joint (is_declared script (record { 0 = k })) (is_cause (cause_of script place (grip_in s.grips (record { 0 = k })) x)) (lt-ltb k (length script.buffers) (omega (arith, l))) (cause_fits place (record { 0 = k }) x))
+          joint (is_declared script (record { 0 = k }) && is_cause (cause_of script place (reservation_in s.reservations (record { 0 = k })) x)) (list_all (is_cause_row script) rest)
+          (joint (is_declared script (record { 0 = k })) (is_cause (cause_of script place (reservation_in s.reservations (record { 0 = k })) x)) (lt-ltb k (length script.buffers) (omega (arith, l))) (cause_fits place (record { 0 = k }) x))
           h
       by false rest h = h
 
@@ -117,8 +117,8 @@ module _ (script : Script) (s : State) (drawn : (b : BufId) (st : Stamp) → (gr
         by (Some spans) h = let it : kind.Take b place.mem spans ≡ e = cc in subst (λ e. has_why script e ≡ true) it refl
         by None h = crowded_why k place e h
 
-    pub quest_why : (q : Quest) (e : Kind) → step_of_quest script s c b q ≡ Ok e → has_why script e ≡ true
-    quest_why q e h = by q.forced (first_choice script s b (first_places q.list)) h
+    pub place_search_why : (q : PlaceSearch) (e : Kind) → step_of_place_search script s c b q ≡ Ok e → has_why script e ≡ true
+    place_search_why q e h = by q.forced (first_choice script s b (first_places q.list)) h
       where
         by : (f : Bool) (o : Option (Mem × List Span)) →
             ◌≡◌ {A = Step} (elim f [

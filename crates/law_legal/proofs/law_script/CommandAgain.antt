@@ -25,7 +25,7 @@ use Rattle.journal_model.specs.declared.line.EngineWord.TheVariants as engine_as
 use Rattle.journal_model.specs.Words.{Text, line, name_of, hex, mem_word}
 use Rattle.journal_model.specs.State.{has_buffer}
 use Rattle.journal_model.specs.Commands.{named, first_mentions}
-use Rattle.journal_model.specs.MarkRules.{desk_at_end}
+use Rattle.journal_model.specs.MarkRules.{thread_mappings_at_end}
 use Rattle.journal_model.specs.Spelling.{op_words, parted, command_words}
 use Rattle.journal_model.specs.CommandRules.{is_between, is_declared, is_command, is_op, is_byte, is_range_of, command_len}
 use Rattle.journal_model.specs.Reading.{known, names_of, offset_of, bytes_in_hex}
@@ -128,7 +128,7 @@ plain_runs s n m v b h few short d =
 -- where a read or write may be a peek or poke
 abbrev pub Reaches : Access → Script → BufId → Type 0
 Reaches access.Direct s b = Unit {0}
-Reaches access.Mapped s b = (eqb s.version 2 ≡ true) × (has_buffer (desk_at_end s).mapped b ≡ true)
+Reaches access.Mapped s b = (eqb s.version 2 ≡ true) × (has_buffer (thread_mappings_at_end s).mapped b ≡ true)
 
 read_keyword : (how : Access) → keyword_of (read_word how) ≡ key.Read how
 read_keyword access.Direct = refl
@@ -154,11 +154,11 @@ write_comes : (how : Access) (s : Script) (b : BufId) → Reaches how s b → ma
 write_comes access.Direct s b r = refl
 write_comes access.Mapped s b r = r.0
 
-read_mapped : (how : Access) (s : Script) (b : BufId) (off len : ℕ) → Reaches how s b → has_map_fault (desk_at_end s) (line_of.Read how (Some b) (Some off) (Some len)) ≡ false
+read_mapped : (how : Access) (s : Script) (b : BufId) (off len : ℕ) → Reaches how s b → has_map_fault (thread_mappings_at_end s) (line_of.Read how (Some b) (Some off) (Some len)) ≡ false
 read_mapped access.Direct s b off len r = refl
 read_mapped access.Mapped s b off len r = ap not r.1
 
-write_mapped : (how : Access) (s : Script) (b : BufId) (off : ℕ) (bytes : List ℕ) → Reaches how s b → has_map_fault (desk_at_end s) (line_of.Write how (Some b) (Some off) (Some bytes)) ≡ false
+write_mapped : (how : Access) (s : Script) (b : BufId) (off : ℕ) (bytes : List ℕ) → Reaches how s b → has_map_fault (thread_mappings_at_end s) (line_of.Write how (Some b) (Some off) (Some bytes)) ≡ false
 write_mapped access.Direct s b off bytes r = refl
 write_mapped access.Mapped s b off bytes r = ap not r.1
 

@@ -27,7 +27,7 @@ use Rattle.journal_model.specs.State.{has_buffer}
 use Rattle.journal_model.specs.Commands.{first_mentions, buffers_of_op}
 use Rattle.journal_model.specs.Spelling.{buffer_line, turn_line}
 use Rattle.journal_model.specs.CommandRules.{is_between, is_declared, is_command, is_byte, command_len}
-use Rattle.journal_model.specs.MarkRules.{Desk, desk_at_end}
+use Rattle.journal_model.specs.MarkRules.{ThreadMappings, thread_mappings_at_end}
 use Rattle.journal_model.specs.ScriptRules.{is_turn_line}
 use Rattle.journal_model.specs.Reading.{known, names_of, number_in, offset_of, bytes_in_hex, mem_of, engine_word_of, is_plain, read_on}
 use Rattle.journal_model.specs.LineWords.{plain_line, write_line, read_line, move_line, touch_line, op_of, is_no_op, op_words_of, submit_line}
@@ -67,7 +67,7 @@ pub record Tells (s : Script) (n m : ℕ) (ws : List Text) (l : Line) : Type 0 w
   pub taken : with_line (at phase.Threads s n m) l ≡ with_item (at phase.Threads s n m) item
   pub words : line ws ≡ item_text (frame s) item
   pub fits : is_asked (frame s) item ≡ true
-  pub stands : item_fits s (desk_at_end s) item ≡ true
+  pub stands : item_fits s (thread_mappings_at_end s) item ≡ true
   pub few : n < 4096
   pub short : m + item_len item ≤ 67108864
 
@@ -90,7 +90,7 @@ abbrev seated : Script → List (List Command) → List Mark → Script
 seated s ts ms = record s { threads = ts; marks = ms }
 
 one_more : (s : Script) (lists : List (List Item)) (n m : ℕ) (item : Item) (ts : List (List Command)) (ms : List Mark) (total : ℕ) → Sound (at phase.Threads s n m) lists → ComesFrom (seated s ts ms) (put_last item lists)
-    → is_asked (frame s) item ≡ true → item_fits s (desk_at_end s) item ≡ true → n < 4096 → total ≡ m + item_len item → total ≤ 67108864 → Sound (at phase.Threads (seated s ts ms) (n + 1) total) (put_last item lists)
+    → is_asked (frame s) item ≡ true → item_fits s (thread_mappings_at_end s) item ≡ true → n < 4096 → total ≡ m + item_len item → total ≤ 67108864 → Sound (at phase.Threads (seated s ts ms) (n + 1) total) (put_last item lists)
 one_more s lists n m item ts ms total h comes fit stands few sum short =
     let before = lists_len s lists h.comes in
     let now = lists_len (seated s ts ms) (put_last item lists) comes in
@@ -125,7 +125,7 @@ abbrev Leads : Script → List (List Item) → ℕ → ℕ → Item → Type 0
 Leads s lists n m item =
     Sound (with_item (at phase.Threads s n m) item) (put_last item lists) × (text_of (with_item (at phase.Threads s n m) item) (put_last item lists) ≡ body s lists ++ item_text (frame s) item)
 
-item_leads : (s : Script) (lists : List (List Item)) (n m : ℕ) (item : Item) → Sound (at phase.Threads s n m) lists → is_asked (frame s) item ≡ true → item_fits s (desk_at_end s) item ≡ true → n < 4096 → m + item_len item ≤ 67108864 → Leads s lists n m item
+item_leads : (s : Script) (lists : List (List Item)) (n m : ℕ) (item : Item) → Sound (at phase.Threads s n m) lists → is_asked (frame s) item ≡ true → item_fits s (thread_mappings_at_end s) item ≡ true → n < 4096 → m + item_len item ≤ 67108864 → Leads s lists n m item
 item_leads s lists n m (Alone kind) h fit stands few short = (
   one_more s lists n m (Alone kind) _ _ m h (alone_comes s lists kind h.comes h.stage.0) fit stands few (omega arith) (omega (arith, short)),
   more_text s lists n m (Alone kind) h,
@@ -286,19 +286,19 @@ write_taken access.Direct p b off bytes = no_len p (command.Write (or_first b) (
 write_taken access.Mapped p b off bytes = no_len (with_mark p mark.Mapped) (command.Write (or_first b) (or_zero off) (unwrap_or bytes [])) refl
 
 -- the buffer of a word is mapped
-pub mapped_there : (d : Desk) (b : Option BufId) → has_mapped d b ≡ true → has_buffer d.mapped (or_first b) ≡ true
+pub mapped_there : (d : ThreadMappings) (b : Option BufId) → has_mapped d b ≡ true → has_buffer d.mapped (or_first b) ≡ true
 mapped_there d (Some b) h = h
 mapped_there d None h = absurd cc
 
-read_stands : (how : Access) (s : Script) (b : Option BufId) (off len : Option ℕ) → MayReach how s → has_map_fault (desk_at_end s) (says.Read how b off len) ≡ false
-    → item_fits s (desk_at_end s) (Asks (ways_of how) (command.Read (or_first b) (or_zero off) (or_zero len))) ≡ true
+read_stands : (how : Access) (s : Script) (b : Option BufId) (off len : Option ℕ) → MayReach how s → has_map_fault (thread_mappings_at_end s) (says.Read how b off len) ≡ false
+    → item_fits s (thread_mappings_at_end s) (Asks (ways_of how) (command.Read (or_first b) (or_zero off) (or_zero len))) ≡ true
 read_stands access.Direct s b off len v h = refl
-read_stands access.Mapped s b off len v h = joint (eqb s.version 2) (has_buffer (desk_at_end s).mapped (or_first b)) v (mapped_there (desk_at_end s) b (not_false (has_mapped (desk_at_end s) b) h))
+read_stands access.Mapped s b off len v h = joint (eqb s.version 2) (has_buffer (thread_mappings_at_end s).mapped (or_first b)) v (mapped_there (thread_mappings_at_end s) b (not_false (has_mapped (thread_mappings_at_end s) b) h))
 
-write_stands : (how : Access) (s : Script) (b : Option BufId) (off : Option ℕ) (bytes : Option (List ℕ)) → MayReach how s → has_map_fault (desk_at_end s) (says.Write how b off bytes) ≡ false
-    → item_fits s (desk_at_end s) (Asks (ways_of how) (command.Write (or_first b) (or_zero off) (unwrap_or bytes []))) ≡ true
+write_stands : (how : Access) (s : Script) (b : Option BufId) (off : Option ℕ) (bytes : Option (List ℕ)) → MayReach how s → has_map_fault (thread_mappings_at_end s) (says.Write how b off bytes) ≡ false
+    → item_fits s (thread_mappings_at_end s) (Asks (ways_of how) (command.Write (or_first b) (or_zero off) (unwrap_or bytes []))) ≡ true
 write_stands access.Direct s b off bytes v h = refl
-write_stands access.Mapped s b off bytes v h = joint (eqb s.version 2) (has_buffer (desk_at_end s).mapped (or_first b)) v (mapped_there (desk_at_end s) b (not_false (has_mapped (desk_at_end s) b) h))
+write_stands access.Mapped s b off bytes v h = joint (eqb s.version 2) (has_buffer (thread_mappings_at_end s).mapped (or_first b)) v (mapped_there (thread_mappings_at_end s) b (not_false (has_mapped (thread_mappings_at_end s) b) h))
 
 -- a read or peek
 pub read_tells : (how : Access) (s : Script) (n m : ℕ) (ws : List Text) (l : Line) → MayReach how s → first_word ws ≡ read_word how → read_line how (names_of s.buffers) ws ≡ made l → Breaks_none (at phase.Threads s n m) l → Tells s n m ws l

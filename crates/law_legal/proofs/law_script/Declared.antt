@@ -10,8 +10,8 @@ use Rattle.journal_model.specs.declared.script.MarkKind.{MarkKind}
 use Rattle.journal_model.specs.declared.script.MarkKind.TheVariants as mark
 use Rattle.journal_model.specs.State.{has_buffer, same_buffer}
 use Rattle.journal_model.specs.CommandRules.{is_declared}
-use Rattle.journal_model.specs.MarkRules.{Desk, desk_after, is_mark, is_way}
-use Rattle.law_legal.specs.law_items.Items.{Item, Alone, Asks, desk_behind, item_fits}
+use Rattle.journal_model.specs.MarkRules.{ThreadMappings, thread_mappings_after, is_mark, is_way}
+use Rattle.law_legal.specs.law_items.Items.{Item, Alone, Asks, thread_mappings_behind, item_fits}
 use Rattle.law_legal.proofs.law_items.Tests.{both, joint}
 
 same_declared : (s : Script) (t : Bool) (b c : BufId) → eqb b.0 c.0 ≡ t → t ≡ true → is_declared s c ≡ true → is_declared s b ≡ true
@@ -40,10 +40,10 @@ kept s p (b ∷ bs) h =
     with_first s (p b) b (filter p bs) f.0 (kept s p bs f.1)
 
 -- all that is mapped is declared
-abbrev pub AreThere : Script → Desk → Type 0
+abbrev pub AreThere : Script → ThreadMappings → Type 0
 AreThere s d = list_all (is_declared s) d.mapped ≡ true
 
-mark_keeps : (s : Script) (d : Desk) (m : MarkKind) → is_mark s d m ≡ true → AreThere s d → AreThere s (desk_after d m)
+mark_keeps : (s : Script) (d : ThreadMappings) (m : MarkKind) → is_mark s d m ≡ true → AreThere s d → AreThere s (thread_mappings_after d m)
 mark_keeps s d (mark.Map b) h r = joint (is_declared s b) (list_all (is_declared s) d.mapped) (both (is_declared s b) (not (has_buffer d.mapped b)) h).0 r
 mark_keeps s d (mark.Unmap b) h r = kept s (λ c. not (same_buffer b c)) d.mapped r
 mark_keeps s d (mark.Vmap va n b off) h r = r
@@ -51,7 +51,7 @@ mark_keeps s d (mark.Vunmap va n) h r = r
 mark_keeps s d mark.Mapped h r = absurd cc
 mark_keeps s d (mark.Vsubmit vs) h r = absurd cc
 
-way_keeps : (s : Script) (d : Desk) (way : MarkKind) (c : Command) → is_way d way (Some c) ≡ true → AreThere s d → AreThere s (desk_after d way)
+way_keeps : (s : Script) (d : ThreadMappings) (way : MarkKind) (c : Command) → is_way d way (Some c) ≡ true → AreThere s d → AreThere s (thread_mappings_after d way)
 way_keeps s d mark.Mapped c h r = r
 way_keeps s d (mark.Vsubmit vs) c h r = r
 way_keeps s d (mark.Map b) c h r = absurd cc
@@ -60,7 +60,7 @@ way_keeps s d (mark.Vmap va n b off) c h r = absurd cc
 way_keeps s d (mark.Vunmap va n) c h r = absurd cc
 
 -- a line that fits keeps this
-pub item_keeps : (s : Script) (d : Desk) (item : Item) → item_fits s d item ≡ true → AreThere s d → AreThere s (desk_behind d item)
+pub item_keeps : (s : Script) (d : ThreadMappings) (item : Item) → item_fits s d item ≡ true → AreThere s d → AreThere s (thread_mappings_behind d item)
 item_keeps s d (Alone m) h r = mark_keeps s d m (both (eqb s.version 2) (is_mark s d m) h).1 r
 item_keeps s d (Asks [] c) h r = r
 item_keeps s d (Asks (way ∷ []) c) h r = way_keeps s d way c (both (eqb s.version 2) (is_way d way (Some c)) h).1 r

@@ -11,7 +11,7 @@ use Rattle.journal_model.specs.Words.{Text, name_of}
 use Rattle.journal_model.specs.Spelling.{command_words}
 use Rattle.journal_model.specs.Reading.{known, names_of, number_in, offset_of}
 use Rattle.journal_model.specs.LineRules.{lacks_number, lacks_name, lacks_place, has_range_fault, has_byte_fault, has_job_fault, lacks_actor, is_one_too_many, is_too_long, has_map_fault, lacks_page, rule_broken}
-use Rattle.journal_model.specs.MarkRules.{desk_at_end}
+use Rattle.journal_model.specs.MarkRules.{thread_mappings_at_end}
 use Rattle.journal_model.specs.FirstFault.{or_zero, or_first, plain_command}
 use Rattle.law_legal.proofs.law_script.NumberLaws.{number_takes}
 use Rattle.law_legal.proofs.law_script.WordLaws.{known_is, verb_word}
@@ -30,12 +30,12 @@ pub record Breaks_none (p : Progress) (l : Line) : Type 0 where
   pub places : lacks_place l ≡ false
   pub ranges : has_range_fault p.script l ≡ false
   pub bytes : has_byte_fault l ≡ false
-  pub jobs : has_job_fault (desk_at_end p.script) l ≡ false
+  pub jobs : has_job_fault (thread_mappings_at_end p.script) l ≡ false
   pub actors : lacks_actor l ≡ false
   pub counts : is_one_too_many p l ≡ false
   pub lens : is_too_long p l ≡ false
-  pub maps : has_map_fault (desk_at_end p.script) l ≡ false
-  pub pages : lacks_page (desk_at_end p.script) l ≡ false
+  pub maps : has_map_fault (thread_mappings_at_end p.script) l ≡ false
+  pub pages : lacks_page (thread_mappings_at_end p.script) l ≡ false
 
 step : (b : Bool) (rule : ℕ) (rest : Option ℕ) → cond b (Some rule) rest ≡ none → (b ≡ false) × (rest ≡ none)
 step true rule rest h = absurd cc
@@ -49,12 +49,12 @@ breaks_none p l h =
     let c = step (lacks_place l) 7 _ b.1 in
     let d = step (has_range_fault p.script l) 8 _ c.1 in
     let e = step (has_byte_fault l) 9 _ d.1 in
-    let f = step (has_job_fault (desk_at_end p.script) l) 10 _ e.1 in
+    let f = step (has_job_fault (thread_mappings_at_end p.script) l) 10 _ e.1 in
     let g = step (lacks_actor l) 11 _ f.1 in
     let i = step (is_one_too_many p l) 12 _ g.1 in
     let j = step (is_too_long p l) 13 _ i.1 in
-    let k = step (has_map_fault (desk_at_end p.script) l) 14 _ j.1 in
-    let m = step (lacks_page (desk_at_end p.script) l) 15 None k.1 in
+    let k = step (has_map_fault (thread_mappings_at_end p.script) l) 14 _ j.1 in
+    let m = step (lacks_page (thread_mappings_at_end p.script) l) 15 None k.1 in
     record { numbers = a.0; names = b.0; places = c.0; ranges = d.0; bytes = e.0; jobs = f.0; actors = g.0; counts = i.0; lens = j.0; maps = k.0; pages = m.0 }
 
 here : {X : Type 0} (o : Option X) (d : X) → is_none o ≡ false → o ≡ Some (unwrap_or o d)

@@ -11,7 +11,7 @@ use Rattle.journal_model.specs.Words.{Text, spaced, line}
 use Rattle.journal_model.specs.Cut.{onto, cut_at, lines_of}
 use Rattle.journal_model.specs.LineWords.{keyword_of, may_come, parts_of, line_of}
 use Rattle.journal_model.specs.LineRules.{rule_broken, lacks_number, lacks_name, lacks_place, has_range_fault, has_byte_fault, has_job_fault, lacks_actor, is_one_too_many, is_too_long, has_map_fault, lacks_page}
-use Rattle.journal_model.specs.MarkRules.{desk_at_end}
+use Rattle.journal_model.specs.MarkRules.{thread_mappings_at_end}
 use Rattle.journal_model.specs.FirstFault.{first_word, with_line, unless_broken, fault_of_parts, after_words, after_line, breaks_text, ends_line, is_line_feed, is_shown, without_end, script_from}
 use Rattle.law_legal.proofs.law_script.CutLaws.{cut_again}
 use Rattle.law_legal.proofs.law_script.LineLaws.{made, Breaks_none}
@@ -128,4 +128,4 @@ skip true n rest h k = absurd cc
 pub keeps_all : (p : Progress) (l : Line) → Breaks_none p l → rule_broken p l ≡ no_rule
 keeps_all p l r =
     skip (lacks_number l) 5 _ r.numbers (skip (lacks_name p.script l) 6 _ r.names (skip (lacks_place l) 7 _ r.places (skip (has_range_fault p.script l) 8 _ r.ranges
-    (skip (has_byte_fault l) 9 _ r.bytes (skip (has_job_fault (desk_at_end p.script) l) 10 _ r.jobs (skip (lacks_actor l) 11 _ r.actors (skip (is_one_too_many p l) 12 _ r.counts (skip (is_too_long p l) 13 _ r.lens (skip (has_map_fault (desk_at_end p.script) l) 14 _ r.maps (skip (lacks_page (desk_at_end p.script) l) 15 None r.pages refl))))))))))
+    (skip (has_byte_fault l) 9 _ r.bytes (skip (has_job_fault (thread_mappings_at_end p.script) l) 10 _ r.jobs (skip (lacks_actor l) 11 _ r.actors (skip (is_one_too_many p l) 12 _ r.counts (skip (is_too_long p l) 13 _ r.lens (skip (has_map_fault (thread_mappings_at_end p.script) l) 14 _ r.maps (skip (lacks_page (thread_mappings_at_end p.script) l) 15 None r.pages refl))))))))))

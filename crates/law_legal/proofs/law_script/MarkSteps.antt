@@ -18,7 +18,7 @@ use Rattle.journal_model.specs.State.{has_buffer}
 use Rattle.journal_model.specs.Commands.{decl, first_mentions, buffers_of_op}
 use Rattle.journal_model.specs.CommandRules.{is_between, is_declared, is_command}
 use Rattle.journal_model.specs.ByName.{job_by_name}
-use Rattle.journal_model.specs.MarkRules.{Desk, desk_at_end, is_vop, has_apart_ranges, is_job_of, is_page_range, is_vsubmit}
+use Rattle.journal_model.specs.MarkRules.{ThreadMappings, thread_mappings_at_end, is_vop, has_apart_ranges, is_job_of, is_page_range, is_vsubmit}
 use Rattle.journal_model.specs.ScriptRules.{is_decl}
 use Rattle.journal_model.specs.Reading.{known, names_of, number_in, engine_word_of}
 use Rattle.journal_model.specs.LineWords.{named_line, vmap_line, vunmap_line, is_no_vop, vop_of, vop_words_of, vsubmit_line}
@@ -39,7 +39,7 @@ use Rattle.law_legal.proofs.law_items.Tests.{either, joint, three, four, is_le, 
 
 -- ---- what the thread has mapped
 
-not_mapped : (d : Desk) (b : Option BufId) → is_none b ≡ false → has_mapped d b ≡ false → not (has_buffer d.mapped (or_first b)) ≡ true
+not_mapped : (d : ThreadMappings) (b : Option BufId) → is_none b ≡ false → has_mapped d b ≡ false → not (has_buffer d.mapped (or_first b)) ≡ true
 not_mapped d (Some b) h k = ap not k
 not_mapped d None h k = absurd cc
 
@@ -50,7 +50,7 @@ map_tells s n m (w ∷ []) l v k h r = absurd cc
 map_tells s n m (w ∷ b ∷ []) l v k h r =
     let bo = known (names_of s.buffers) b in
     let e : says.Map bo ≡ l = cc in
-    let d = desk_at_end s in
+    let d = thread_mappings_at_end s in
     subst (λ (x : Line). Breaks_none (at phase.Threads s n m) x → Tells s n m (w ∷ b ∷ []) x) e (λ r. record {
       item = Alone (mark.Map (or_first bo));
       taken = refl;
@@ -69,7 +69,7 @@ unmap_tells s n m (w ∷ []) l v k h r = absurd cc
 unmap_tells s n m (w ∷ b ∷ []) l v k h r =
     let bo = known (names_of s.buffers) b in
     let e : says.Unmap bo ≡ l = cc in
-    let d = desk_at_end s in
+    let d = thread_mappings_at_end s in
     subst (λ (x : Line). Breaks_none (at phase.Threads s n m) x → Tells s n m (w ∷ b ∷ []) x) e (λ r. record {
       item = Alone (mark.Unmap (or_first bo));
       taken = refl;
@@ -178,13 +178,13 @@ few_ops (Some ops) h k =
 -- what a job with addresses names
 record IsJob (s : Script) (ws : List Text) : Type 0 where
   command_fits : (engine : Text) → is_broken_engine (engine_word_of s.sizes.engines engine) ≡ false → is_missing_engine (engine_word_of s.sizes.engines engine) ≡ false → is_command s (command.Submit (engine_in (engine_word_of s.sizes.engines engine)) (named_ops s (vop_words_of ws))) ≡ true
-  stands : (engine : ℕ) → is_vsubmit (desk_at_end s) (map vop_in (vop_words_of ws)) (command.Submit engine (named_ops s (vop_words_of ws))) ≡ true
+  stands : (engine : ℕ) → is_vsubmit (thread_mappings_at_end s) (map vop_in (vop_words_of ws)) (command.Submit engine (named_ops s (vop_words_of ws))) ≡ true
   long : sum_by len_of_vop_word (vop_words_of ws) ≡ sum_by op_len (named_ops s (vop_words_of ws))
 
-job_is : (s : Script) (v : ℕ) (ws : List Text) → list_all (is_decl v) s.buffers ≡ true → list_all (is_region s) (desk_at_end s).regions ≡ true → AreGoodVops (vop_words_of ws) → list_any passes_in_vop (vop_words_of ws) ≡ false
-    → (list_any (has_buffer_twice (desk_at_end s)) (vop_words_of ws) || is_big_named_job (named_job (desk_at_end s) (vop_words_of ws))) ≡ false → is_none (named_job (desk_at_end s) (vop_words_of ws)) ≡ false → IsJob s ws
+job_is : (s : Script) (v : ℕ) (ws : List Text) → list_all (is_decl v) s.buffers ≡ true → list_all (is_region s) (thread_mappings_at_end s).regions ≡ true → AreGoodVops (vop_words_of ws) → list_any passes_in_vop (vop_words_of ws) ≡ false
+    → (list_any (has_buffer_twice (thread_mappings_at_end s)) (vop_words_of ws) || is_big_named_job (named_job (thread_mappings_at_end s) (vop_words_of ws))) ≡ false → is_none (named_job (thread_mappings_at_end s) (vop_words_of ws)) ≡ false → IsJob s ws
 job_is s v ws decls regions good inside jobs pages =
-    let d = desk_at_end s in
+    let d = thread_mappings_at_end s in
     let groups = cut_by is_semicolon ws in
     let xs = vop_words_of ws in
     let vs = map vop_in xs in
@@ -208,7 +208,7 @@ job_is s v ws decls regions good inside jobs pages =
     }
 
 -- a job with addresses
-pub vsubmit_tells : (s : Script) (n m : ℕ) (ws : List Text) (l : Line) → eqb s.version 2 ≡ true → s.sizes.engines < 2 ^ 64 → list_all (is_decl s.version) s.buffers ≡ true → list_all (is_region s) (desk_at_end s).regions ≡ true
+pub vsubmit_tells : (s : Script) (n m : ℕ) (ws : List Text) (l : Line) → eqb s.version 2 ≡ true → s.sizes.engines < 2 ^ 64 → list_all (is_decl s.version) s.buffers ≡ true → list_all (is_region s) (thread_mappings_at_end s).regions ≡ true
     → first_word ws ≡ codes "vsubmit" → vsubmit_line s.sizes.engines ws ≡ made l → Breaks_none (at phase.Threads s n m) l → Tells s n m ws l
 vsubmit_tells s n m [] l v small decls regions k h r = absurd cc
 vsubmit_tells s n m (w ∷ []) l v small decls regions k h r = absurd cc

@@ -24,7 +24,7 @@ use Rattle.journal_model.specs.Commands.{decl, named, first_mentions, buffers_of
 use Rattle.journal_model.specs.Spelling.{vop_words, parted, addressed_words, mark_line}
 use Rattle.journal_model.specs.ByName.{job_by_name}
 use Rattle.journal_model.specs.CommandRules.{is_between, is_declared, is_command, is_op}
-use Rattle.journal_model.specs.MarkRules.{desk_at_end, is_vop, has_apart_ranges, is_job_of, is_page_range, is_mark, is_way, is_vsubmit}
+use Rattle.journal_model.specs.MarkRules.{thread_mappings_at_end, is_vop, has_apart_ranges, is_job_of, is_page_range, is_mark, is_way, is_vsubmit}
 use Rattle.journal_model.specs.Reading.{known, names_of, number_in}
 use Rattle.journal_model.specs.LineWords.{is_no_vop, vop_words_of, vsubmit_of_ops}
 use Rattle.journal_model.specs.LineRules.{lacks_number_in_vop, lacks_byte_in_vop, has_buffer_twice, is_big_named_job, named_job, len_of_vop_word}
@@ -52,19 +52,19 @@ pub record HasRoom (s : Script) (n m : ℕ) (item : Item) : Type 0 where
 
 -- ---- what the thread has mapped
 
-map_runs : (s : Script) (n m : ℕ) (b : BufId) → HasRoom s n m (Alone (mark.Map b)) → eqb s.version 2 ≡ true → is_mark s (desk_at_end s) (mark.Map b) ≡ true
+map_runs : (s : Script) (n m : ℕ) (b : BufId) → HasRoom s n m (Alone (mark.Map b)) → eqb s.version 2 ≡ true → is_mark s (thread_mappings_at_end s) (mark.Map b) ≡ true
     → Runs (at phase.Threads s n m) (mark_line s (mark.Map b)) (with_mark_line (at phase.Threads s n m) (mark.Map b))
 map_runs s n m b room v k =
     let p = at phase.Threads s n m in
     let h = room.named_ones in
-    let f = both (is_declared s b) (not (has_buffer (desk_at_end s).mapped b)) k in
+    let f = both (is_declared s b) (not (has_buffer (thread_mappings_at_end s).mapped b)) k in
     let l = line_of.Map (Some b) in
     let words = joint true _ refl (joint (is_word (name_of s b)) true (name_solid s b h f.0) refl) in
-    let r : Breaks_none p l = record { numbers = refl; names = refl; places = refl; ranges = refl; bytes = refl; jobs = refl; actors = refl; counts = not_more n room.few; lens = not_long (m + 0) room.short; maps = not_true (has_buffer (desk_at_end s).mapped b) f.1; pages = refl } in
+    let r : Breaks_none p l = record { numbers = refl; names = refl; places = refl; ranges = refl; bytes = refl; jobs = refl; actors = refl; counts = not_more n room.few; lens = not_long (m + 0) room.short; maps = not_true (has_buffer (thread_mappings_at_end s).mapped b) f.1; pages = refl } in
     told s n m _ (codes "map") (name_of s b ∷ []) l words
     (says p key.Map (codes "map" ∷ name_of s b ∷ []) l refl v words (ap (λ x. made (line_of.Map x)) (known_again s b h f.0)) (keeps_all p l r)) refl
 
-unmap_runs : (s : Script) (n m : ℕ) (b : BufId) → HasRoom s n m (Alone (mark.Unmap b)) → eqb s.version 2 ≡ true → is_declared s b ≡ true → is_mark s (desk_at_end s) (mark.Unmap b) ≡ true
+unmap_runs : (s : Script) (n m : ℕ) (b : BufId) → HasRoom s n m (Alone (mark.Unmap b)) → eqb s.version 2 ≡ true → is_declared s b ≡ true → is_mark s (thread_mappings_at_end s) (mark.Unmap b) ≡ true
     → Runs (at phase.Threads s n m) (mark_line s (mark.Unmap b)) (with_mark_line (at phase.Threads s n m) (mark.Unmap b))
 unmap_runs s n m b room v d k =
     let p = at phase.Threads s n m in
@@ -96,7 +96,7 @@ pages_are va n k =
     let g = between 1 4096 n f.1 in
     record { va_small = le_is va 1048575 f.0; some = g.0; few = g.1; inside = not_past 1048576 (va + n) f.2 }
 
-vmap_runs : (s : Script) (n m : ℕ) (va pages : ℕ) (b : BufId) (off : ℕ) → HasRoom s n m (Alone (mark.Vmap va pages b off)) → eqb s.version 2 ≡ true → is_mark s (desk_at_end s) (mark.Vmap va pages b off) ≡ true
+vmap_runs : (s : Script) (n m : ℕ) (va pages : ℕ) (b : BufId) (off : ℕ) → HasRoom s n m (Alone (mark.Vmap va pages b off)) → eqb s.version 2 ≡ true → is_mark s (thread_mappings_at_end s) (mark.Vmap va pages b off) ≡ true
     → Runs (at phase.Threads s n m) (mark_line s (mark.Vmap va pages b off)) (with_mark_line (at phase.Threads s n m) (mark.Vmap va pages b off))
 vmap_runs s n m va pages b off room v k =
     let p = at phase.Threads s n m in
@@ -129,7 +129,7 @@ vmap_runs s n m va pages b off room v k =
     ∙ ap (λ x. made (line_of.Vmap (Some va) (Some pages) x (number_in 0 4095 (decimal off)))) (known_again s b h f.1)
     ∙ ap (λ x. made (line_of.Vmap (Some va) (Some pages) (Some b) x)) (number_again 0 4095 off (omega arith) (omega arith) off_small)) (keeps_all p l r)) refl
 
-vunmap_runs : (s : Script) (n m : ℕ) (va pages : ℕ) → HasRoom s n m (Alone (mark.Vunmap va pages)) → eqb s.version 2 ≡ true → is_mark s (desk_at_end s) (mark.Vunmap va pages) ≡ true
+vunmap_runs : (s : Script) (n m : ℕ) (va pages : ℕ) → HasRoom s n m (Alone (mark.Vunmap va pages)) → eqb s.version 2 ≡ true → is_mark s (thread_mappings_at_end s) (mark.Vunmap va pages) ≡ true
     → Runs (at phase.Threads s n m) (mark_line s (mark.Vunmap va pages)) (with_mark_line (at phase.Threads s n m) (mark.Vunmap va pages))
 vunmap_runs s n m va pages room v k =
     let p = at phase.Threads s n m in
@@ -169,11 +169,11 @@ job_of None ops h = absurd cc
 job_of (Some named) ops h = ap (λ xs. Some xs) (same_are named ops h)
 
 vsubmit_runs : (s : Script) (n m : ℕ) (vs : List VOp) (engine : ℕ) (ops : List Op) → HasRoom s n m (Asks (mark.Vsubmit vs ∷ []) (command.Submit engine ops)) → eqb s.version 2 ≡ true → s.sizes.engines < 2 ^ 64
-    → is_command s (command.Submit engine ops) ≡ true → is_vsubmit (desk_at_end s) vs (command.Submit engine ops) ≡ true
+    → is_command s (command.Submit engine ops) ≡ true → is_vsubmit (thread_mappings_at_end s) vs (command.Submit engine ops) ≡ true
     → Runs (at phase.Threads s n m) (line (addressed_words s vs (command.Submit engine ops))) (with_item (at phase.Threads s n m) (Asks (mark.Vsubmit vs ∷ []) (command.Submit engine ops)))
 vsubmit_runs s n m vs engine ops room v small k w =
     let p = at phase.Threads s n m in
-    let d = desk_at_end s in
+    let d = thread_mappings_at_end s in
     let f = four_facts (is_between 1 s.sizes.engines engine) (is_between 1 64 (length ops)) (list_all (is_op s) ops) (nat_le (length (named (command.Submit engine ops))) 16) k in
     let g = four_facts (is_between 1 64 (length vs)) (list_all is_vop vs) (list_all (has_apart_ranges d.regions) vs) (is_job_of (job_by_name d.regions vs) ops) w in
     let e = between 1 s.sizes.engines engine f.0 in
@@ -211,7 +211,7 @@ vsubmit_runs s n m vs engine ops room v small k w =
 
 -- ---- a line of a thread
 
-mapped_runs : (s : Script) (n m : ℕ) (c : Command) → HasRoom s n m (Asks (mark.Mapped ∷ []) c) → eqb s.version 2 ≡ true → is_command s c ≡ true → is_way (desk_at_end s) mark.Mapped (Some c) ≡ true
+mapped_runs : (s : Script) (n m : ℕ) (c : Command) → HasRoom s n m (Asks (mark.Mapped ∷ []) c) → eqb s.version 2 ≡ true → is_command s c ≡ true → is_way (thread_mappings_at_end s) mark.Mapped (Some c) ≡ true
     → Runs (at phase.Threads s n m) (item_text s (Asks (mark.Mapped ∷ []) c)) (with_item (at phase.Threads s n m) (Asks (mark.Mapped ∷ []) c))
 mapped_runs s n m (command.Read b off len) room v k w = read_runs access.Mapped s n m b off len (record { named_ones = room.named_ones; few = room.few; short = room.short }) (v, w) k
 mapped_runs s n m (command.Write b off bytes) room v k w = write_runs access.Mapped s n m b off bytes (record { named_ones = room.named_ones; few = room.few; short = room.short }) (v, w) k
@@ -225,7 +225,7 @@ mapped_runs s n m (command.Move b mem) room v k w = absurd cc
 mapped_runs s n m (command.Touch group) room v k w = absurd cc
 mapped_runs s n m (command.Submit engine ops) room v k w = absurd cc
 
-addressed_runs : (s : Script) (n m : ℕ) (vs : List VOp) (c : Command) → HasRoom s n m (Asks (mark.Vsubmit vs ∷ []) c) → eqb s.version 2 ≡ true → s.sizes.engines < 2 ^ 64 → is_command s c ≡ true → is_way (desk_at_end s) (mark.Vsubmit vs) (Some c) ≡ true
+addressed_runs : (s : Script) (n m : ℕ) (vs : List VOp) (c : Command) → HasRoom s n m (Asks (mark.Vsubmit vs ∷ []) c) → eqb s.version 2 ≡ true → s.sizes.engines < 2 ^ 64 → is_command s c ≡ true → is_way (thread_mappings_at_end s) (mark.Vsubmit vs) (Some c) ≡ true
     → Runs (at phase.Threads s n m) (item_text s (Asks (mark.Vsubmit vs ∷ []) c)) (with_item (at phase.Threads s n m) (Asks (mark.Vsubmit vs ∷ []) c))
 addressed_runs s n m vs (command.Submit engine ops) room v small k w = vsubmit_runs s n m vs engine ops room v small k w
 addressed_runs s n m vs (command.New b) room v small k w = absurd cc
@@ -239,7 +239,7 @@ addressed_runs s n m vs (command.Read b off len) room v small k w = absurd cc
 addressed_runs s n m vs (command.Move b mem) room v small k w = absurd cc
 addressed_runs s n m vs (command.Touch group) room v small k w = absurd cc
 
-way_runs : (s : Script) (n m : ℕ) (way : MarkKind) (c : Command) → HasRoom s n m (Asks (way ∷ []) c) → eqb s.version 2 ≡ true → s.sizes.engines < 2 ^ 64 → is_command s c ≡ true → is_way (desk_at_end s) way (Some c) ≡ true
+way_runs : (s : Script) (n m : ℕ) (way : MarkKind) (c : Command) → HasRoom s n m (Asks (way ∷ []) c) → eqb s.version 2 ≡ true → s.sizes.engines < 2 ^ 64 → is_command s c ≡ true → is_way (thread_mappings_at_end s) way (Some c) ≡ true
     → Runs (at phase.Threads s n m) (item_text s (Asks (way ∷ []) c)) (with_item (at phase.Threads s n m) (Asks (way ∷ []) c))
 way_runs s n m mark.Mapped c room v small k w = mapped_runs s n m c room v k w
 way_runs s n m (mark.Vsubmit vs) c room v small k w = addressed_runs s n m vs c room v small k w
@@ -248,19 +248,19 @@ way_runs s n m (mark.Unmap b) c room v small k w = absurd cc
 way_runs s n m (mark.Vmap va pages b off) c room v small k w = absurd cc
 way_runs s n m (mark.Vunmap va pages) c room v small k w = absurd cc
 
-alone_runs : (s : Script) (n m : ℕ) (kind : MarkKind) → HasRoom s n m (Alone kind) → eqb s.version 2 ≡ true → list_all (is_declared s) (desk_at_end s).mapped ≡ true → is_mark s (desk_at_end s) kind ≡ true
+alone_runs : (s : Script) (n m : ℕ) (kind : MarkKind) → HasRoom s n m (Alone kind) → eqb s.version 2 ≡ true → list_all (is_declared s) (thread_mappings_at_end s).mapped ≡ true → is_mark s (thread_mappings_at_end s) kind ≡ true
     → Runs (at phase.Threads s n m) (mark_line s kind) (with_mark_line (at phase.Threads s n m) kind)
 alone_runs s n m (mark.Map b) room v there k = map_runs s n m b room v k
-alone_runs s n m (mark.Unmap b) room v there k = unmap_runs s n m b room v (declared_of s (desk_at_end s).mapped b there k) k
+alone_runs s n m (mark.Unmap b) room v there k = unmap_runs s n m b room v (declared_of s (thread_mappings_at_end s).mapped b there k) k
 alone_runs s n m (mark.Vmap va pages b off) room v there k = vmap_runs s n m va pages b off room v k
 alone_runs s n m (mark.Vunmap va pages) room v there k = vunmap_runs s n m va pages room v k
 alone_runs s n m mark.Mapped room v there k = absurd cc
 alone_runs s n m (mark.Vsubmit vs) room v there k = absurd cc
 
 -- a line of a thread that keeps its rules is read
-pub item_runs : (s : Script) (n m : ℕ) (item : Item) → HasRoom s n m item → s.sizes.engines < 2 ^ 64 → list_all (is_declared s) (desk_at_end s).mapped ≡ true → is_asked s item ≡ true → item_fits s (desk_at_end s) item ≡ true
+pub item_runs : (s : Script) (n m : ℕ) (item : Item) → HasRoom s n m item → s.sizes.engines < 2 ^ 64 → list_all (is_declared s) (thread_mappings_at_end s).mapped ≡ true → is_asked s item ≡ true → item_fits s (thread_mappings_at_end s) item ≡ true
     → Runs (at phase.Threads s n m) (item_text s item) (with_item (at phase.Threads s n m) item)
-item_runs s n m (Alone kind) room small there k w = let f = both (eqb s.version 2) (is_mark s (desk_at_end s) kind) w in alone_runs s n m kind room f.0 there f.1
+item_runs s n m (Alone kind) room small there k w = let f = both (eqb s.version 2) (is_mark s (thread_mappings_at_end s) kind) w in alone_runs s n m kind room f.0 there f.1
 item_runs s n m (Asks [] c) room small there k w = command_runs s n m c (record { named_ones = room.named_ones; few = room.few; short = room.short }) small k
-item_runs s n m (Asks (way ∷ []) c) room small there k w = let f = both (eqb s.version 2) (is_way (desk_at_end s) way (Some c)) w in way_runs s n m way c room f.0 small k f.1
+item_runs s n m (Asks (way ∷ []) c) room small there k w = let f = both (eqb s.version 2) (is_way (thread_mappings_at_end s) way (Some c)) w in way_runs s n m way c room f.0 small k f.1
 item_runs s n m (Asks (way ∷ other ∷ ways) c) room small there k w = absurd cc

@@ -23,7 +23,7 @@ use Rattle.journal_model.specs.Commands.{decl, undeclared}
 use Rattle.journal_model.specs.Spaces.{Region, range_of, does_meet, part_before, part_after, part_of, parts_left, new_region, regions_after}
 use Rattle.journal_model.specs.ByName.{Spot, spot_in, spot_at, vop_len, first_address, second_address, op_by_name, ops_from, op_in_names, joined, job_by_name, has_byte_of, buffers_between}
 use Rattle.journal_model.specs.CommandRules.{is_between, is_declared, is_range_of, is_op, is_byte}
-use Rattle.journal_model.specs.MarkRules.{Desk, desk_after, is_addressed, is_vop, are_apart, has_apart_ranges, is_page_range, is_mark, same_op, same_ops}
+use Rattle.journal_model.specs.MarkRules.{ThreadMappings, thread_mappings_after, is_addressed, is_vop, are_apart, has_apart_ranges, is_page_range, is_mark, same_op, same_ops}
 use Rattle.journal_model.specs.ScriptRules.{is_decl, is_name}
 use Rattle.law_legal.proofs.law_script.NumberLaws.{between, is_in}
 use Rattle.law_legal.proofs.law_items.Tests.{both, joint, three, three_facts, four, four_facts, le_is, is_le}
@@ -101,7 +101,7 @@ request_right s rs m h new =
     (all_kept p (λ r. not (nat_le r.span.end range.start)) left all)
 
 -- a line on the space leaves such mappings
-pub regions_stay : (s : Script) (d : Desk) (m : MarkKind) → list_all (is_region s) d.regions ≡ true → is_mark s d m ≡ true → list_all (is_region s) (desk_after d m).regions ≡ true
+pub regions_stay : (s : Script) (d : ThreadMappings) (m : MarkKind) → list_all (is_region s) d.regions ≡ true → is_mark s d m ≡ true → list_all (is_region s) (thread_mappings_after d m).regions ≡ true
 regions_stay s d (mark.Map b) h k = h
 regions_stay s d (mark.Unmap b) h k = h
 regions_stay s d mark.Mapped h k = h

@@ -24,9 +24,9 @@ use Rattle.journal_model.specs.LineRules.{is_broken_actor, is_missing_actor}
 use Rattle.journal_model.specs.FirstFault.{with_line, actor_in}
 use Rattle.law_legal.proofs.law_script.LineLaws.{made, Breaks_none}
 use Rattle.law_legal.proofs.law_script.HeadSteps.{at}
-use Rattle.law_legal.specs.law_items.Items.{Item, Alone, Asks, commands_in, with_items, desk_behind, desk_of, item_text, items_text, item_fits, all_along, items_fit}
+use Rattle.law_legal.specs.law_items.Items.{Item, Alone, Asks, commands_in, with_items, thread_mappings_behind, thread_mappings_of, item_text, items_text, item_fits, all_along, items_fit}
 use Rattle.law_legal.proofs.law_items.ListFacts.{length_map, has_few}
-use Rattle.law_legal.proofs.law_items.Puts.{desk_more, desk_end, alone_end, plain_end, way_end, thread_end}
+use Rattle.law_legal.proofs.law_items.Puts.{thread_mappings_more, thread_mappings_end, alone_end, plain_end, way_end, thread_end}
 use Rattle.law_legal.proofs.law_script.Sound.{is_asked, item_len}
 use Rattle.law_legal.proofs.law_script.CommandSteps.{with_item}
 use Rattle.law_legal.proofs.law_script.Declared.{AreThere, item_keeps}
@@ -39,7 +39,7 @@ use Rattle.law_legal.proofs.law_script.HeadLaws.{an_actor}
 
 -- ---- the lines of a thread
 
-put_is : (s : Script) (done : List (List Item)) (items : List Item) (n m : ℕ) (item : Item) → item_fits s (desk_of items) item ≡ true
+put_is : (s : Script) (done : List (List Item)) (items : List Item) (n m : ℕ) (item : Item) → item_fits s (thread_mappings_of items) item ≡ true
     → with_item (at phase.Threads (with_items s (done ++ items ∷ [])) n m) item ≡ at phase.Threads (with_items s (done ++ (items ++ item ∷ []) ∷ [])) (n + 1) (m + item_len item)
 put_is s done items n m (Alone kind) k =
     ap (λ t. at phase.Threads t (n + 1) m) (alone_end s done items kind)
@@ -56,7 +56,7 @@ pub record Past (p : Progress) (t : Text) (s : Script) (total : ℕ) : Type 0 wh
   pub runs : Runs p t (at phase.Threads s n m)
 
 -- the lines of a thread are read
-pub items_run : (s : Script) (done : List (List Item)) (before items : List Item) (n m : ℕ) → IsNamed s → s.sizes.engines < 2 ^ 64 → AreThere s (desk_of before) → list_all (is_asked s) items ≡ true → all_along (item_fits s) (desk_of before) items ≡ true
+pub items_run : (s : Script) (done : List (List Item)) (before items : List Item) (n m : ℕ) → IsNamed s → s.sizes.engines < 2 ^ 64 → AreThere s (thread_mappings_of before) → list_all (is_asked s) items ≡ true → all_along (item_fits s) (thread_mappings_of before) items ≡ true
     → n + length items ≤ 4096 → m + sum_by item_len items ≤ 67108864
     → Past (at phase.Threads (with_items s (done ++ before ∷ [])) n m) (flat_map (item_text s) items) (with_items s (done ++ (before ++ items) ∷ [])) (m + sum_by item_len items)
 items_run s done before [] n m h small there k w few short = record {
@@ -67,19 +67,19 @@ items_run s done before [] n m h small there k w few short = record {
 }
 items_run s done before (item ∷ items) n m h small there k w few short =
     let f = both (is_asked s item) (list_all (is_asked s) items) k in
-    let g = both (item_fits s (desk_of before) item) (all_along (item_fits s) (desk_behind (desk_of before) item) items) w in
+    let g = both (item_fits s (thread_mappings_of before) item) (all_along (item_fits s) (thread_mappings_behind (thread_mappings_of before) item) items) w in
     let sum = sum_by-cons item_len item items in
     let here = with_items s (done ++ before ∷ []) in
-    let desk = desk_end s done before in
+    let thread_mappings = thread_mappings_end s done before in
     let room : HasRoom here n m item = record { named_ones = record { decls = h.decls; distinct_ones = h.distinct_ones }; few = omega (arith, few); short = omega (arith, short, sum) } in
     let p = at phase.Threads here n m in
     let next = at phase.Threads (with_items s (done ++ (before ++ item ∷ []) ∷ [])) (n + 1) (m + item_len item) in
     let put : with_item p item ≡ next = put_is s done before n m item g.0 in
     let first = subst (λ (q : Progress). Runs p (item_text s item) q) put
-    (item_runs here n m item room small (ap (λ d. list_all (is_declared s) d.mapped) desk ∙ there) f.0 (ap (λ d. item_fits s d item) desk ∙ g.0)) in
-    let more = desk_more before item in
+    (item_runs here n m item room small (ap (λ d. list_all (is_declared s) d.mapped) thread_mappings ∙ there) f.0 (ap (λ d. item_fits s d item) thread_mappings ∙ g.0)) in
+    let more = thread_mappings_more before item in
     let r = items_run s done (before ++ item ∷ []) items (n + 1) (m + item_len item) h small
-    (ap (λ d. list_all (is_declared s) d.mapped) more ∙ item_keeps s (desk_of before) item g.0 there) f.1 (ap (λ d. all_along (item_fits s) d items) more ∙ g.1) (omega (arith, few)) (omega (arith, short, sum)) in
+    (ap (λ d. list_all (is_declared s) d.mapped) more ∙ item_keeps s (thread_mappings_of before) item g.0 there) f.1 (ap (λ d. all_along (item_fits s) d items) more ∙ g.1) (omega (arith, few)) (omega (arith, short, sum)) in
     let q : List Item → Progress = λ x. at phase.Threads (with_items s (done ++ x ∷ [])) r.n r.m in
     let total = r.is in
     record {

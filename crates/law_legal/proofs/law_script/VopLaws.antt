@@ -11,7 +11,7 @@ use Rattle.journal_model.specs.Cut.{cut_by, is_semicolon}
 use Rattle.journal_model.specs.Spelling.{vop_words, parted}
 use Rattle.journal_model.specs.ByName.{vop_len}
 use Rattle.journal_model.specs.CommandRules.{is_between, is_byte}
-use Rattle.journal_model.specs.MarkRules.{Desk, is_addressed, is_vop, has_apart_ranges}
+use Rattle.journal_model.specs.MarkRules.{ThreadMappings, is_addressed, is_vop, has_apart_ranges}
 use Rattle.journal_model.specs.Reading.{offset_of, address_of, byte_in_hex}
 use Rattle.journal_model.specs.LineWords.{vop_of, is_no_vop, vop_words_of}
 use Rattle.journal_model.specs.LineRules.{lacks_number_in_vop, lacks_byte_in_vop, has_wrong_addresses, passes_end, passes_in_vop, is_more_than, vop_in, has_buffer_twice, len_of_vop_word}
@@ -184,7 +184,7 @@ not_false true h = refl
 not_false false h = absurd cc
 
 -- no buffer stands in both ranges
-pub vops_apart : (d : Desk) (xs : List VOpWord) → list_any (has_buffer_twice d) xs ≡ false → list_all (has_apart_ranges d.regions) (map vop_in xs) ≡ true
+pub vops_apart : (d : ThreadMappings) (xs : List VOpWord) → list_any (has_buffer_twice d) xs ≡ false → list_all (has_apart_ranges d.regions) (map vop_in xs) ≡ true
 vops_apart d [] h = refl
 vops_apart d (x ∷ xs) h =
     let f = either (has_buffer_twice d x) (list_any (has_buffer_twice d) xs) h in

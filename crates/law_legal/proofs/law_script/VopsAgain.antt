@@ -12,7 +12,7 @@ use Rattle.journal_model.specs.Words.{Text, hex_byte}
 use Rattle.journal_model.specs.Spelling.{vop_words, parted}
 use Rattle.journal_model.specs.ByName.{vop_len}
 use Rattle.journal_model.specs.CommandRules.{is_between, is_byte}
-use Rattle.journal_model.specs.MarkRules.{Desk, is_addressed, is_vop, has_apart_ranges}
+use Rattle.journal_model.specs.MarkRules.{ThreadMappings, is_addressed, is_vop, has_apart_ranges}
 use Rattle.journal_model.specs.Reading.{offset_of, address_of, byte_in_hex}
 use Rattle.journal_model.specs.LineWords.{vop_of, vop_words_of}
 use Rattle.journal_model.specs.LineRules.{has_wrong_addresses, passes_in_vop, vop_in, has_buffer_twice, len_of_vop_word}
@@ -174,7 +174,7 @@ vops_said [] = refl
 vops_said (v ∷ vs) = ap (λ x. x ∷ map vop_in (map whole_vop vs)) (in_vop v) ∙ ap (λ xs. v ∷ xs) (vops_said vs)
 
 -- no buffer stands in both ranges
-pub vops_differ : (d : Desk) (vs : List VOp) → list_all (has_apart_ranges d.regions) vs ≡ true → list_any (has_buffer_twice d) (map whole_vop vs) ≡ false
+pub vops_differ : (d : ThreadMappings) (vs : List VOp) → list_all (has_apart_ranges d.regions) vs ≡ true → list_any (has_buffer_twice d) (map whole_vop vs) ≡ false
 vops_differ d [] k = refl
 vops_differ d (v ∷ vs) k =
     let f = both (has_apart_ranges d.regions v) (list_all (has_apart_ranges d.regions) vs) k in

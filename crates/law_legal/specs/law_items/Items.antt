@@ -7,7 +7,7 @@ use Rattle.journal_model.specs.declared.script.Mark.{Mark}
 use Rattle.journal_model.specs.declared.script.MarkKind.{MarkKind}
 use Rattle.journal_model.specs.Words.{Text, line}
 use Rattle.journal_model.specs.Marks.{addressed, is_mapped}
-use Rattle.journal_model.specs.MarkRules.{Desk, empty_desk, desk_after, is_mark, is_way}
+use Rattle.journal_model.specs.MarkRules.{ThreadMappings, empty_thread_mappings, thread_mappings_after, is_mark, is_way}
 use Rattle.journal_model.specs.Spelling.{addressed_words, command_words, mapped_words, mark_line}
 
 -- a line of a thread: a mark with a line of its own, or a command and the marks that say how it is written
@@ -74,25 +74,25 @@ items_text script items = line (codes "thread" ∷ []) ++ flat_map (item_text sc
 -- ---- the rules
 
 -- what the thread has mapped behind a line
-abbrev pub desk_behind : Desk → Item → Desk
-desk_behind d item = fold desk_after d (kinds_in item)
+abbrev pub thread_mappings_behind : ThreadMappings → Item → ThreadMappings
+thread_mappings_behind d item = fold thread_mappings_after d (kinds_in item)
 
 -- behind all its lines
-abbrev pub desk_of : List Item → Desk
-desk_of items = fold desk_behind empty_desk items
+abbrev pub thread_mappings_of : List Item → ThreadMappings
+thread_mappings_of items = fold thread_mappings_behind empty_thread_mappings items
 
 -- the line may stand where the thread has so much mapped; a script of version 1 has no marks
-abbrev pub item_fits : Script → Desk → Item → Bool
+abbrev pub item_fits : Script → ThreadMappings → Item → Bool
 item_fits script d (Alone m) = (script.version == 2) && is_mark script d m
 item_fits script d (Asks [] c) = true
 item_fits script d (Asks (way ∷ []) c) = (script.version == 2) && is_way d way (Some c)
 item_fits script d (Asks (way ∷ other ∷ ways) c) = false
 
 -- a test of each line, by what is mapped there
-abbrev pub all_along : (Desk → Item → Bool) → Desk → List Item → Bool
+abbrev pub all_along : (ThreadMappings → Item → Bool) → ThreadMappings → List Item → Bool
 all_along test d [] = true
-all_along test d (item ∷ items) = test d item && all_along test (desk_behind d item) items
+all_along test d (item ∷ items) = test d item && all_along test (thread_mappings_behind d item) items
 
 -- the lines of a thread keep the rules of marks
 abbrev pub items_fit : Script → List Item → Bool
-items_fit script items = all_along (item_fits script) empty_desk items
+items_fit script items = all_along (item_fits script) empty_thread_mappings items

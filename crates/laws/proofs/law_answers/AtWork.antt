@@ -6,7 +6,7 @@ use Rattle.journal_model.specs.declared.script.Script.{Script}
 use Rattle.journal_model.specs.declared.entry.Entry.{Entry}
 use Rattle.journal_model.specs.declared.state.State.{State}
 use Rattle.journal_model.specs.declared.state.Victim.{Victim}
-use Rattle.journal_model.specs.State.{buffer, grip, course}
+use Rattle.journal_model.specs.State.{buffer, reservation, course}
 use Rattle.journal_model.specs.Ready.{has_some_target}
 use Rattle.journal_model.specs.ScriptRules.{is_script}
 use Rattle.journal_model.specs.Legal.{World, first_world, world_after, world_along, state_of, IsLegalFrom, IsLegal}
@@ -32,9 +32,9 @@ two_at_most (v ∷ w ∷ x ∷ vs) few = elim few [ ]
 
 module _ (script : Script) (s : State) (inv : Steady script s) where
   held : (b : BufId) → has_some_target (buffer s b) ≡ true → IsHeld s b
-  held b some = by (grip s b).holder refl
+  held b some = by (reservation s b).holder refl
     where
-      by : (o : Option Stamp) → (grip s b).holder ≡ o → IsHeld s b
+      by : (o : Option Stamp) → (reservation s b).holder ≡ o → IsHeld s b
       by None e = absurd (inv.carrying.targets b some e)
       by (Some st) e = let r = inv.sound.owned.holder b st e in record { stamp = st; holder = e; thread = r.0; by = r.1; has = r.2 }
 

@@ -21,18 +21,18 @@ use Rattle.journal_model.specs.declared.entry.Why.{Why}
 use Rattle.journal_model.specs.declared.entry.DryWhy.{DryWhy}
 use Rattle.journal_model.specs.declared.entry.Left.{Left}
 use Rattle.journal_model.specs.declared.entry.Why.TheVariants as why
-use Rattle.journal_model.specs.declared.state.Aim.{Aim}
+use Rattle.journal_model.specs.declared.state.SearchAim.{SearchAim}
 use Rattle.journal_model.specs.declared.state.State.{State}
 use Rattle.journal_model.specs.declared.state.Course.{Course}
 use Rattle.journal_model.specs.declared.state.Buffer.{Buffer}
 use Rattle.journal_model.specs.declared.state.Victim.{Victim}
 use Rattle.journal_model.specs.declared.state.Task.{Task}
 use Rattle.journal_model.specs.declared.state.Task.TheVariants as task
-use Rattle.journal_model.specs.State.{new_buffer, buffer, grip, course, course_of, changed, live_in, has_target, same_buffer, has_buffer, without_buffer}
+use Rattle.journal_model.specs.State.{new_buffer, buffer, reservation, course, course_of, changed, live_in, has_target, same_buffer, has_buffer, without_buffer}
 use Rattle.journal_model.specs.Commands.{named, commands_of, command_at_work}
 use Rattle.journal_model.specs.Dry.{has_frame}
 use Rattle.journal_model.specs.Ready.{has_all_frames, has_some_target, is_in_place, is_ready, is_filled, uses_bytes, meets, first_unready}
-use Rattle.journal_model.specs.Search.{is_caught, quest, quest_at_work}
+use Rattle.journal_model.specs.Search.{is_caught, place_search, place_search_at_work}
 use Rattle.journal_model.specs.Tasks.{starts, first_missing, gives_back}
 use Rattle.journal_model.specs.PageSteps.{target_to_untake, next_job}
 use Rattle.journal_model.specs.ApplyCommands.{named_in, on_to_next}
@@ -42,11 +42,11 @@ use Rattle.journal_model.specs.ApplyMoves.{moved}
 use Rattle.journal_model.specs.ApplyVictims.{failed_if, with_fail, with_victim, gone_dry, course_after_dry}
 use Rattle.laws.specs.law_sound.Sound.{Carried, Fits, command_of, locks, system_tt, system_vram, system_both, tt_system, tt_tt, tt_vram, vram_vram, vram_tt, vram_system, vram_both}
 use Rattle.laws.proofs.law_sound.Turns.{Turn, Works, OnVictim, OnBuffer, OnCarried, start, lock, victim_unbind, victim_empty, victim_give, victim_skip, victim_move, victim_fill, victim_search, give, act, fill_in_place, ask, bind, fill_to_bind, hop_up, unbind, move_up, move_across, move_down, fill_to_move, hop_down}
-use Rattle.laws.proofs.law_sound.Gifts.{Gives, Sought, Filled, answers, makes, shifts, draws, reserves, backs, seeks, binds, unbinds, moves, fills, lets_go, empties, depopulates, untakes, skips, arms, frees, swaps, finds, evicts, dries, fresh, again, back, evicts_for_swap, nothing}
+use Rattle.laws.proofs.law_sound.Gifts.{Gives, SearchOutcome, Filled, answers, makes, shifts, draws, reserves, backs, seeks, binds, unbinds, moves, fills, lets_go, empties, depopulates, untakes, skips, arms, frees, swaps, finds, evicts, dries, fresh, again, back, evicts_for_swap, nothing}
 use Rattle.laws.proofs.law_sound.Bufs.{same_or_other, other_is, has_found, found_passes, has_pushed, has_without, without_gone, last_caught, none_missing, clash}
 use Rattle.laws.proofs.law_sound.Steadies.{next_course, locking_command}
 use Rattle.laws.proofs.law_sound.Owners.{none_or}
-use Rattle.laws.proofs.law_sound.Grips.{live_set, victim_free, swap_free}
+use Rattle.laws.proofs.law_sound.Reservations.{live_set, victim_free, swap_free}
 use Rattle.laws.proofs.law_sound.OwnedKeeps.{bare, unlocked}
 use Rattle.laws.proofs.lemma_end_measure.Frame.{untouched}
 use Rattle.laws.proofs.lemma_end_measure.Giving.{changed_here}
@@ -247,10 +247,10 @@ module _ (script : Script) (s : State) (t : ℕ) (cmd : Command) (here : IsSome 
   goes_victim : (k : Kind) (v : Victim) → OnVictim (course s t) cmd v → ((d : BufId) → same_buffer v.b d ≡ false → live_in (after script s t k).core.buffers d ≡ live_in s.core.buffers d) → (c : Course) → SameLock (course s t) c → c.fail ≡ (course s t).fail → Goes k c
   goes_victim k v on others c l fails = goes_same k c l fails (λ d h. same_live k d (others d (apart v on d h)))
 
-  goes_catch : (v : BufId) (w : Why) → (grip s v).holder ≡ None → Goes (kind.Catch v w) (with_victim v w (course s t))
+  goes_catch : (v : BufId) (w : Why) → (reservation s v).holder ≡ None → Goes (kind.Catch v w) (with_victim v w (course s t))
   goes_catch v w free =
       goes_same (kind.Catch v w) (with_victim v w (course s t)) (record { answered = refl; made = refl; stamp = refl; held = refl; first = refl }) refl
-      (λ d h. same_live (kind.Catch v w) d (untouched script s t (kind.Catch v w) d (other_is v d (λ e. let a = known.owned.held t d (inl h) in none_or (grip s d).holder a.0 (subst (λ z. (grip s z).holder ≡ None) e free) a.2))))
+      (λ d h. same_live (kind.Catch v w) d (untouched script s t (kind.Catch v w) d (other_is v d (λ e. let a = known.owned.held t d (inl h) in none_or (reservation s d).holder a.0 (subst (λ z. (reservation s z).holder ≡ None) e free) a.2))))
 
   -- ---- searches
 
@@ -273,7 +273,7 @@ module _ (script : Script) (s : State) (t : ℕ) (cmd : Command) (here : IsSome 
   down_unmet : (b : BufId) → OnCarried script s (course s t) cmd b Vram → meets script cmd b (buffer s b) ≡ false
   down_unmet b on = vram_unmet script (course s t) cmd b (buffer s b) on.stands (fares.away b (held_first b on.on.on.named.works on.on.on.first) on.some)
 
-  goes_take : (b : BufId) (aim : Aim) (mem : Mem) (spans : List Span) → Turn script s (course s t) cmd (task.Search b aim) → Goes (kind.Take b mem spans) (search_over b (course s t))
+  goes_take : (b : BufId) (aim : SearchAim) (mem : Mem) (spans : List Span) → Turn script s (course s t) cmd (task.Search b aim) → Goes (kind.Take b mem spans) (search_over b (course s t))
   goes_take b aim mem spans (victim_search v on i f q) = goes_victim (kind.Take v.b mem spans) v on (λ d h. untouched script s t (kind.Take v.b mem spans) d h) (search_over v.b (course s t)) (search_lock v.b (course s t)) (search_fail v.b)
   goes_take b aim mem spans (ask on none) = goes_taken b mem spans on.on (misplaced_unmet script cmd b (buffer s b) on.misplaced none)
   goes_take b aim mem spans (hop_up on q) = goes_taken b mem spans on.on.on (up_unmet b on q)
@@ -285,10 +285,10 @@ module _ (script : Script) (s : State) (t : ℕ) (cmd : Command) (here : IsSome 
   victim_dries : (v : Victim) (k : ℕ) (o : Option Command) → OnVictim (course s t) cmd v → (course_after_dry script s v.b k o (course s t)).fail ≡ (course s t).fail
   victim_dries v k None on = refl
   victim_dries v k (Some x) on =
-      ap (λ (q : Bool). (if q then with_fail v.b deny.NoSpace (course s t) else gone_dry k (length (forced_places (quest_at_work script s (course s t) x v.b).list)) (course s t)).fail) (last_caught (course s t) v on.last)
+      ap (λ (q : Bool). (if q then with_fail v.b deny.NoSpace (course s t) else gone_dry k (length (forced_places (place_search_at_work script s (course s t) x v.b).list)) (course s t)).fail) (last_caught (course s t) v on.last)
       ∙ victim_fails v deny.NoSpace on
 
-  goes_dry : (b : BufId) (aim : Aim) (k : ℕ) (w : DryWhy) → Turn script s (course s t) cmd (task.Search b aim) → Goes (kind.Dry b k w) (course_after_dry script s b k (command_at_work script s t) (course s t))
+  goes_dry : (b : BufId) (aim : SearchAim) (k : ℕ) (w : DryWhy) → Turn script s (course s t) cmd (task.Search b aim) → Goes (kind.Dry b k w) (course_after_dry script s b k (command_at_work script s t) (course s t))
   goes_dry b aim k w (victim_search v on i f q) =
       goes_victim (kind.Dry v.b k w) v on (λ d h. refl) (course_after_dry script s v.b k (command_at_work script s t) (course s t)) (dry_lock script s v.b k (command_at_work script s t) (course s t)) (victim_dries v k (command_at_work script s t) on)
   goes_dry b aim k w (ask on none) =
@@ -298,7 +298,7 @@ module _ (script : Script) (s : State) (t : ℕ) (cmd : Command) (here : IsSome 
   goes_dry b aim k w (hop_down on v q) =
       goes_failing (kind.Dry b k w) (course_after_dry script s b k (command_at_work script s t) (course s t)) b (dry_lock script s b k (command_at_work script s t) (course s t)) on.on.on.named.works on.on.on.first (λ d. refl) (λ some. down_unmet b on)
 
-  goes_sought : (b : BufId) (aim : Aim) (k : Kind) → Turn script s (course s t) cmd (task.Search b aim) → Sought script s (course s t) b (quest script cmd (course s t) b aim) k → Goes k (next_course script s t k)
+  goes_sought : (b : BufId) (aim : SearchAim) (k : Kind) → Turn script s (course s t) cmd (task.Search b aim) → SearchOutcome script s (course s t) b (place_search script cmd (course s t) b aim) k → Goes k (next_course script s t k)
   goes_sought b aim k turn (finds place {mem} {spans} w m e) = goes_take b aim mem spans turn
   goes_sought b aim k turn (evicts place {v} {w} a n e f) = goes_catch v w (victim_free script s (course s t).skips place v f).free
   goes_sought b aim k turn (dries place {w} a n) = goes_dry b aim _ w turn
@@ -448,7 +448,7 @@ module _ (script : Script) (s : State) (t : ℕ) (cmd : Command) (here : IsSome 
       goes_clear k _
       (λ d h. ⊎_elim
       (λ held. false_from_ne_true (has_some_target (buffer s d)) (λ some. let w = carrying.carried t cmd d at held some in not_none b (sym f ∙ w.works.whole)))
-      (λ q. false_from_ne_true (has_some_target (buffer s d)) (λ some. carrying.targets d some (subst (λ z. (grip s z).holder ≡ None) (sym q) free)))
+      (λ q. false_from_ne_true (has_some_target (buffer s d)) (λ some. carrying.targets d some (subst (λ z. (reservation s z).holder ≡ None) (sym q) free)))
       (has_pushed (course s t).held b d h))
       (not_whole b f)
     where

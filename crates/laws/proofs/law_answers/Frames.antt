@@ -29,7 +29,7 @@ use Rattle.journal_model.specs.Commands.{decl, command_at_work}
 use Rattle.journal_model.specs.Places.{is_frame}
 use Rattle.journal_model.specs.Ready.{has_all_frames, has_some_target, is_ready, is_filled, meets, first_unready}
 use Rattle.journal_model.specs.PageSteps.{why_caught}
-use Rattle.journal_model.specs.Search.{Quest}
+use Rattle.journal_model.specs.Search.{PlaceSearch}
 use Rattle.journal_model.specs.Waits.{use_of}
 use Rattle.journal_model.specs.ApplyCommands.{named_in}
 use Rattle.journal_model.specs.ApplyJobs.{ops_of, with_use}
@@ -40,7 +40,7 @@ use Rattle.journal_model.specs.Legal.{first_state}
 use Rattle.laws.proofs.law_state.Lists.{set_at}
 use Rattle.laws.specs.law_sound.Sound.{OnItsWay, in_vram, to_tt, out_of_vram, in_tt, in_system}
 use Rattle.laws.proofs.law_sound.Turns.{Turn, bind, victim_move, move_up, move_across, move_down, victim_empty, act}
-use Rattle.laws.proofs.law_sound.Gifts.{Gives, Sought, Filled, makes, seeks, binds, unbinds, moves, fills, empties, depopulates, untakes, arms, frees, swaps, finds, evicts, dries, fresh, again, back, evicts_for_swap, nothing}
+use Rattle.laws.proofs.law_sound.Gifts.{Gives, SearchOutcome, Filled, makes, seeks, binds, unbinds, moves, fills, empties, depopulates, untakes, arms, frees, swaps, finds, evicts, dries, fresh, again, back, evicts_for_swap, nothing}
 use Rattle.laws.proofs.law_sound.Bufs.{same_self, none_found, clash}
 use Rattle.laws.proofs.lemma_end_measure.Parts.{after}
 use Rattle.laws.proofs.lemma_end_ways.Takes.{taken, taken_body}
@@ -138,7 +138,7 @@ module _ (script : Script) (s : State) (t : ℕ) (cmd : Command) (few : Caught (
       changed_full (taken s mem spans) s.core.buffers b
       (λ x e full m. let body = taken_body s mem spans x in ap (list_all is_frame) body.table ∙ full (sym body.mem ∙ m)) h
 
-  sought_full : (b : BufId) (q : Quest) (k : Kind) → Sought script s (course s t) b q k → AreFull (after script s t k).core.buffers
+  sought_full : (b : BufId) (q : PlaceSearch) (k : Kind) → SearchOutcome script s (course s t) b q k → AreFull (after script s t k).core.buffers
   sought_full b q k (finds place {mem} {spans} w m e) = taken_full mem b spans
   sought_full b q k (evicts place {v} {w} a n e f) = caught v
   sought_full b q k (dries place a n) = h

@@ -14,7 +14,7 @@ use Rattle.journal_model.specs.declared.state.State.{State}
 use Rattle.journal_model.specs.declared.state.Course.{Course}
 use Rattle.journal_model.specs.declared.state.Task.{Task}
 use Rattle.journal_model.specs.declared.state.Task.TheVariants as task
-use Rattle.journal_model.specs.State.{buffer, grip, course}
+use Rattle.journal_model.specs.State.{buffer, reservation, course}
 use Rattle.journal_model.specs.Commands.{named, command_at_work}
 use Rattle.journal_model.specs.Ready.{is_ready, first_unready}
 use Rattle.journal_model.specs.Tasks.{forbidden, task_of_victim, task_of_failed, task_of_unready, task_of_command}
@@ -38,22 +38,22 @@ is_want deny.NoPages = true
 is_want _ = false
 
 forbidden_other : (s : State) (cmd : Command) (d : Deny) → forbidden s cmd ≡ Some d → is_want d ≡ false
-forbidden_other s (command.Pin b) d h = by ((grip s b).pins == 255) h
+forbidden_other s (command.Pin b) d h = by ((reservation s b).pins == 255) h
   where
     by : (q : Bool) → ◌≡◌ {A = Option Deny} (if q then Some deny.PinMax else None) (Some d) → is_want d ≡ false
     by true h = let it : deny.PinMax ≡ d = cc in subst (λ e. is_want e ≡ false) it refl
     by false h = cc
-forbidden_other s (command.Unpin b) d h = by ((grip s b).pins == 0) h
+forbidden_other s (command.Unpin b) d h = by ((reservation s b).pins == 0) h
   where
     by : (q : Bool) → ◌≡◌ {A = Option Deny} (if q then Some deny.NotPinned else None) (Some d) → is_want d ≡ false
     by true h = let it : deny.NotPinned ≡ d = cc in subst (λ e. is_want e ≡ false) it refl
     by false h = cc
-forbidden_other s (command.Free b) d h = by (nat_lt 0 (grip s b).pins) h
+forbidden_other s (command.Free b) d h = by (nat_lt 0 (reservation s b).pins) h
   where
     by : (q : Bool) → ◌≡◌ {A = Option Deny} (if q then Some deny.Pinned else None) (Some d) → is_want d ≡ false
     by true h = let it : deny.Pinned ≡ d = cc in subst (λ e. is_want e ≡ false) it refl
     by false h = cc
-forbidden_other s (command.SwapOut b) d h = by (nat_lt 0 (grip s b).pins) h
+forbidden_other s (command.SwapOut b) d h = by (nat_lt 0 (reservation s b).pins) h
   where
     by : (q : Bool) → ◌≡◌ {A = Option Deny} (if q then Some deny.Pinned else None) (Some d) → is_want d ≡ false
     by true h = let it : deny.Pinned ≡ d = cc in subst (λ e. is_want e ≡ false) it refl

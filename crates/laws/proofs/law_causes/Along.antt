@@ -28,7 +28,7 @@ use Rattle.laws.specs.law_sound.Sound.{Owned, command_of}
 use Rattle.laws.proofs.law_sound.Along.{Stepped, stepped_of, first_course, OfWorker, packet, done, reap, of_worker}
 use Rattle.laws.proofs.law_sound.Steadies.{own_course}
 use Rattle.laws.proofs.law_sound.Bufs.{none_missing}
-use Rattle.laws.proofs.law_sound.Grips.{one_course}
+use Rattle.laws.proofs.law_sound.Reservations.{one_course}
 use Rattle.laws.proofs.lemma_end_measure.Frame.{others_buffer}
 use Rattle.laws.proofs.lemma_causes_trail.Windows.{quiet_others, others_window, others_command, Trail}
 use Rattle.laws.proofs.lemma_causes_trail.Tasks.{seeking_same, places_of}

@@ -15,7 +15,7 @@ use Rattle.journal_model.specs.declared.script.Command.{Command}
 use Rattle.journal_model.specs.declared.state.State.{State}
 use Rattle.journal_model.specs.declared.state.Course.{Course}
 use Rattle.journal_model.specs.declared.state.Victim.{Victim}
-use Rattle.journal_model.specs.declared.state.Aim.{Aim}
+use Rattle.journal_model.specs.declared.state.SearchAim.{SearchAim}
 use Rattle.journal_model.specs.declared.state.Task.{Task}
 use Rattle.journal_model.specs.declared.state.Task.TheVariants as task
 use Rattle.journal_model.specs.declared.entry.Kind.{Kind}
@@ -26,7 +26,7 @@ use Rattle.journal_model.specs.declared.entry.DryWhy.{DryWhy}
 use Rattle.journal_model.specs.State.{course, course_of, has_buffer}
 use Rattle.journal_model.specs.Commands.{named, commands_of, command_at_work}
 use Rattle.journal_model.specs.Ready.{is_ready, first_unready}
-use Rattle.journal_model.specs.Search.{Step, quest, is_caught}
+use Rattle.journal_model.specs.Search.{Step, place_search, is_caught}
 use Rattle.journal_model.specs.Apply.{applied}
 use Rattle.journal_model.specs.ApplyCommands.{on_to_next}
 use Rattle.journal_model.specs.ApplyVictims.{failed_if}
@@ -38,10 +38,10 @@ use Rattle.journal_model.specs.Causes.{dry_of, is_take_of, in_command, is_no_pag
 use Rattle.laws.proofs.law_state.JournalCourses.{own_answered, one_more_if}
 use Rattle.laws.specs.law_sound.Sound.{Owned, command_of}
 use Rattle.laws.proofs.law_sound.Turns.{Turn, OnNamed}
-use Rattle.laws.proofs.law_sound.Gifts.{Gives, Sought, Filled, seeks, fills, finds, evicts, dries, fresh, again, back, evicts_for_swap, nothing}
+use Rattle.laws.proofs.law_sound.Gifts.{Gives, SearchOutcome, Filled, seeks, fills, finds, evicts, dries, fresh, again, back, evicts_for_swap, nothing}
 use Rattle.laws.proofs.law_sound.Steadies.{next_course, own_course}
 use Rattle.laws.proofs.law_sound.Bufs.{has_found, none_last, last_caught, clash}
-use Rattle.laws.proofs.lemma_causes_trail.Found.{quest_found}
+use Rattle.laws.proofs.lemma_causes_trail.Found.{place_search_found}
 use Rattle.laws.proofs.lemma_causes_trail.Windows.{Quiet, more_command, any_more, Trail, trail_goes_on}
 use Rattle.laws.proofs.lemma_causes_trail.Tasks.{places_of, seeking_same, Searcher, searcher_of, victims, named_one, Filler, filler_of, victim_fills, named_fills, searching_task, Closes, closing_task, Closing, closing_of, refused, emptied, untaken, Aside, on_it, one_more, aside_of}
 use Rattle.laws.proofs.lemma_causes_trail.Stages.{Calm, Pressed, Spent, Frameless, Stage, calm, pressed, spent, frameless, Sort, sort_of, plain, caught, dried, lacking, result, denied, Alike, none_caught_is, swaps_not_vram, calm_plain, calm_swap, calm_fail, aside_course, aside_apart}
@@ -63,7 +63,7 @@ is_of_fill (kind.NoPages b) = true
 is_of_fill _ = false
 
 module _ (script : Script) (s : State) (c : Course) (cmd : Command) (b : BufId) where
-  pub of_search : (aim : Aim) (k : Kind) → Sought script s c b (quest script cmd c b aim) k → is_of_search k ≡ true
+  pub of_search : (aim : SearchAim) (k : Kind) → SearchOutcome script s c b (place_search script cmd c b aim) k → is_of_search k ≡ true
   of_search aim k (finds place w m e) = refl
   of_search aim k (evicts place a n e f) = refl
   of_search aim k (dries place a n) = refl
@@ -91,13 +91,13 @@ module _ (script : Script) (s : State) (t : ℕ) (cmd : Command) (at : command_a
   -- ---- while no search is under pressure
 
   module _ (h : Calm (course s t)) (quiet : (d : BufId) → Quiet script t d j) where
-    sought_calm : (b : BufId) (aim : Aim) (k : Kind) → Alike k' k → Turn script s (course s t) cmd (task.Search b aim) → step_of_task script s (course s t) cmd (task.Search b aim) ≡ Ok k → After k
+    sought_calm : (b : BufId) (aim : SearchAim) (k : Kind) → Alike k' k → Turn script s (course s t) cmd (task.Search b aim) → step_of_task script s (course s t) cmd (task.Search b aim) ≡ Ok k → After k
     sought_calm b aim k alike turn step = by (searcher_of script s (course s t) cmd b aim turn)
       where
         by : Searcher script s (course s t) cmd b aim → After k
         by (victims v on w e f) = absurd (swaps_not_vram (course s t) v h on.last w)
         by (named_one on fine seek) =
-            searched script s t cmd at o j b aim on fine seek (inl (h.0, h.1, quiet b)) (λ d n. quiet d) k' k alike (quest_found script s (course s t) b (quest script cmd (course s t) b aim) k step)
+            searched script s t cmd at o j b aim on fine seek (inl (h.0, h.1, quiet b)) (λ d n. quiet d) k' k alike (place_search_found script s (course s t) b (place_search script cmd (course s t) b aim) k step)
 
     swapped : (v : BufId) (w : Why) → w ≡ why.Swap → Alike k' (kind.Catch v w) → After (kind.Catch v w)
     swapped v why.Swap e alike = stays_calm script s t cmd at o j k' (kind.Catch v why.Swap) alike (next_course script s t (kind.Catch v why.Swap)) (λ b. refl) refl (calm_swap v (course s t) h) quiet
@@ -188,7 +188,7 @@ module _ (script : Script) (s : State) (t : ℕ) (cmd : Command) (at : command_a
         by_task l (inl r) = absurd (both_ways (is_answer k) q (refuse_answers r.0 k (subst (λ z. step_of_task script s (course s t) cmd z ≡ Ok k) (is ∙ r.1) g.1)))
         by_task l (inr e) =
             searched script s t cmd at o j p.b p.aim (record { works = p.works; alone = l }) p.fine p.seeking (inr p.trail) p.quiet k' k alike
-            (quest_found script s (course s t) p.b (quest script cmd (course s t) p.b p.aim) k (subst (λ z. step_of_task script s (course s t) cmd z ≡ Ok k) (is ∙ e) g.1))
+            (place_search_found script s (course s t) p.b (place_search script cmd (course s t) p.b p.aim) k (subst (λ z. step_of_task script s (course s t) cmd z ≡ Ok k) (is ∙ e) g.1))
 
         by_last : (l : Option Victim) → last_of (course s t).caught ≡ l → After k
         by_last None l = by_task l (searching_task script s (course s t) cmd p.b p.aim p.works l p.fine p.seeking)

@@ -20,21 +20,21 @@ use Rattle.journal_model.specs.declared.script.Command.TheVariants as command
 use Rattle.journal_model.specs.declared.state.State.{State}
 use Rattle.journal_model.specs.declared.state.Course.{Course}
 use Rattle.journal_model.specs.declared.state.Victim.{Victim}
-use Rattle.journal_model.specs.declared.state.Grip.{Grip}
-use Rattle.journal_model.specs.declared.state.Aim.{Aim}
+use Rattle.journal_model.specs.declared.state.Reservation.{Reservation}
+use Rattle.journal_model.specs.declared.state.SearchAim.{SearchAim}
 use Rattle.journal_model.specs.declared.state.Task.{Task}
 use Rattle.journal_model.specs.declared.state.Task.TheVariants as task
 use Rattle.journal_model.specs.declared.entry.Kind.{Kind}
 use Rattle.journal_model.specs.declared.entry.Kind.TheVariants as kind
 use Rattle.journal_model.specs.declared.entry.DryWhy.{DryWhy}
-use Rattle.journal_model.specs.State.{buffer, grip, course, same_buffer, has_buffer}
+use Rattle.journal_model.specs.State.{buffer, reservation, course, same_buffer, has_buffer}
 use Rattle.journal_model.specs.Commands.{named, command_at_work}
 use Rattle.journal_model.specs.Holds.{live_buffers, free_frame, free_slot}
 use Rattle.journal_model.specs.Dry.{has_frame, is_loose, swap_victim, ghost_with_frame}
 use Rattle.journal_model.specs.Ready.{is_in_place, first_unready}
-use Rattle.journal_model.specs.declared.state.Aim.TheVariants.{Asked, Hop}
+use Rattle.journal_model.specs.declared.state.SearchAim.TheVariants.{Asked, Hop}
 use Rattle.journal_model.specs.Ready.{has_some_target}
-use Rattle.journal_model.specs.Search.{quest, is_caught}
+use Rattle.journal_model.specs.Search.{place_search, is_caught}
 use Rattle.journal_model.specs.Tasks.{carried, task_of_misplaced, task_of_unready, task_of_failed, gives_back, forbidden, task_of_command, task_of_held, task_of_victim, first_missing, starts}
 use Rattle.journal_model.specs.Legal.{Made}
 use Rattle.journal_model.specs.Next.{next, step_of_task}
@@ -45,9 +45,9 @@ use Rattle.laws.proofs.law_sound.Turns.{Turn, turn_of, give_up}
 use Rattle.laws.proofs.law_sound.Gifts.{Gives, task_gives, seeks, fills, backs, exists, no_buffer, no_swap, gives_up, refuses}
 use Rattle.laws.proofs.law_sound.Bufs.{same_is, none_last, last_caught, clash}
 use Rattle.laws.specs.law_causes.Explains.{Explains}
-use Rattle.laws.proofs.lemma_causes_trail.Found.{Found, dries, quest_found, Starved, fill_starved}
+use Rattle.laws.proofs.lemma_causes_trail.Found.{Found, dries, place_search_found, Starved, fill_starved}
 use Rattle.laws.proofs.lemma_causes_trail.Windows.{Trail}
-use Rattle.laws.proofs.lemma_causes_trail.Tasks.{places_of, quest_places, aim_is_named, Searcher, searcher_of, victims, named_one}
+use Rattle.laws.proofs.lemma_causes_trail.Tasks.{places_of, place_search_places, aim_is_named, Searcher, searcher_of, victims, named_one}
 use Rattle.laws.proofs.lemma_causes_trail.Stages.{Stage, calm, pressed, spent, frameless, none_caught_is}
 use Rattle.laws.proofs.law_causes.Steps.{places_are, dry_place}
 use Rattle.laws.proofs.law_causes.Carry.{of_search, of_fill}
@@ -122,22 +122,22 @@ is_other_ban None = true
 is_other_ban (Some d) = not (is_lack d)
 
 forbidden_other : (s : State) (cmd : Command) → is_other_ban (forbidden s cmd) ≡ true
-forbidden_other s (command.Pin b) = by ((grip s b).pins == 255)
+forbidden_other s (command.Pin b) = by ((reservation s b).pins == 255)
   where
     by : (q : Bool) → is_other_ban (if q then Some deny.PinMax else None) ≡ true
     by true = refl
     by false = refl
-forbidden_other s (command.Unpin b) = by ((grip s b).pins == 0)
+forbidden_other s (command.Unpin b) = by ((reservation s b).pins == 0)
   where
     by : (q : Bool) → is_other_ban (if q then Some deny.NotPinned else None) ≡ true
     by true = refl
     by false = refl
-forbidden_other s (command.Free b) = by (nat_lt 0 (grip s b).pins)
+forbidden_other s (command.Free b) = by (nat_lt 0 (reservation s b).pins)
   where
     by : (q : Bool) → is_other_ban (if q then Some deny.Pinned else None) ≡ true
     by true = refl
     by false = refl
-forbidden_other s (command.SwapOut b) = by (nat_lt 0 (grip s b).pins)
+forbidden_other s (command.SwapOut b) = by (nat_lt 0 (reservation s b).pins)
   where
     by : (q : Bool) → is_other_ban (if q then Some deny.Pinned else None) ≡ true
     by true = refl
@@ -152,15 +152,15 @@ carried_other s System b = grind (arith, common_steps)
 carried_other s Tt b = grind (arith, common_steps, nat_tests)
 carried_other s Vram b = grind (arith, common_steps, nat_tests)
 
-misplaced_other : (s : State) (b : BufId) (g : Grip) → is_other (task_of_misplaced b g (buffer s b)) ≡ true
+misplaced_other : (s : State) (b : BufId) (g : Reservation) → is_other (task_of_misplaced b g (buffer s b)) ≡ true
 misplaced_other s b g = let on : is_other (carried (buffer s b).mem b (buffer s b)) ≡ true = carried_other s (buffer s b).mem b in grind (arith, common_steps)
 
 unready_other : (script : Script) (s : State) (cmd : Command) (b : BufId) → is_other (task_of_unready script s cmd b) ≡ true
 unready_other script s cmd b = by (is_in_place script cmd b (buffer s b))
   where
-    by : (q : Bool) → is_other (elim q [ true ↦ task.Fill b | false ↦ task_of_misplaced b (grip s b) (buffer s b) ]) ≡ true
+    by : (q : Bool) → is_other (elim q [ true ↦ task.Fill b | false ↦ task_of_misplaced b (reservation s b) (buffer s b) ]) ≡ true
     by true = refl
-    by false = misplaced_other s b (grip s b)
+    by false = misplaced_other s b (reservation s b)
 
 failed_other : (script : Script) (s : State) (cmd : Command) (d : Deny) → is_other (task_of_failed script s cmd d) ≡ true
 failed_other script s cmd d = by_buffer (first_unready script s cmd)
@@ -213,41 +213,41 @@ command_other script s c cmd = by_phase c.made (starts c cmd) (first_missing c c
 
 -- without a victim for swap, no buffer has a frame to give
 abbrev pub NoneGives : State → Type 0
-NoneGives s = swap_victim s ≡ None → list_all (λ e. not (has_frame e.1) || not (is_loose (grip s e.0))) (live_buffers s.core) ≡ true
+NoneGives s = swap_victim s ≡ None → list_all (λ e. not (has_frame e.1) || not (is_loose (reservation s e.0))) (live_buffers s.core) ≡ true
 
 module _ (script : Script) (s : State) (t : ℕ) (cmd : Command) (at : command_at_work script s t ≡ Some cmd) (j : List Made) where
   abbrev HasCause : Kind → Type 0
   HasCause k = has_its_cause script j s t k ≡ true
 
   -- the places of the search are those that the entry's state tells
-  list_is : (a : BufId) (aim : Aim) → Searcher script s (course s t) cmd a aim → places_sought script s t a ≡ (quest script cmd (course s t) a aim).list
+  list_is : (a : BufId) (aim : SearchAim) → Searcher script s (course s t) cmd a aim → places_sought script s t a ≡ (place_search script cmd (course s t) a aim).list
   list_is a aim (victims v on y f g) =
       places_are script s t cmd at a Hop (ap (λ q. if q || has_some_target (buffer s a) then Hop else Asked) (subst (λ z. is_caught (course s t) z ≡ true) (sym f) (last_caught (course s t) v on.last)))
-      ∙ sym (quest_places script cmd (course s t) a aim ∙ ap (places_of script cmd a) g)
+      ∙ sym (place_search_places script cmd (course s t) a aim ∙ ap (places_of script cmd a) g)
   list_is a aim (named_one on fine seek) =
       places_are script s t cmd at a aim (aim_is_named (course s t) a (buffer s a) (none_caught_is (course s t) a (none_last (course s t).caught on.alone)) ∙ seek.aim_is)
-      ∙ sym (quest_places script cmd (course s t) a aim)
+      ∙ sym (place_search_places script cmd (course s t) a aim)
 
-  dry_cause : (a : BufId) (aim : Aim) (b : BufId) (n : ℕ) (w : DryWhy) → Searcher script s (course s t) cmd a aim → Found script s (course s t) a (quest script cmd (course s t) a aim) (kind.Dry b n w) → HasCause (kind.Dry b n w)
+  dry_cause : (a : BufId) (aim : SearchAim) (b : BufId) (n : ℕ) (w : DryWhy) → Searcher script s (course s t) cmd a aim → Found script s (course s t) a (place_search script cmd (course s t) a aim) (kind.Dry b n w) → HasCause (kind.Dry b n w)
   dry_cause a aim b n w by (dries place here d y x) =
       dry_place script s t cmd at b (forced_places (places_sought script s t b)) n place (ap (λ l. slice_get (forced_places l) n) (list_is b aim by) ∙ here) d
 
   dry_by : (b : BufId) (n : ℕ) (w : DryWhy) (x : Task) → Turn script s (course s t) cmd x → step_of_task script s (course s t) cmd x ≡ Ok (kind.Dry b n w) → Gives script s (course s t) cmd x (kind.Dry b n w) → HasCause (kind.Dry b n w)
   dry_by b n w x turn step (seeks {b = a} {aim} f) =
-      dry_cause a aim b n w (searcher_of script s (course s t) cmd a aim turn) (quest_found script s (course s t) a (quest script cmd (course s t) a aim) (kind.Dry b n w) step)
+      dry_cause a aim b n w (searcher_of script s (course s t) cmd a aim turn) (place_search_found script s (course s t) a (place_search script cmd (course s t) a aim) (kind.Dry b n w) step)
   dry_by b n w x turn step (fills {b = a} f) = absurd (clash (sym (of_fill script s (course s t) cmd a (kind.Dry b n w) f)))
 
-  dry_explains : (a : BufId) (aim : Aim) (b : BufId) (n : ℕ) (w : DryWhy) → Searcher script s (course s t) cmd a aim → Found script s (course s t) a (quest script cmd (course s t) a aim) (kind.Dry b n w) → Explains script s t b n w
+  dry_explains : (a : BufId) (aim : SearchAim) (b : BufId) (n : ℕ) (w : DryWhy) → Searcher script s (course s t) cmd a aim → Found script s (course s t) a (place_search script cmd (course s t) a aim) (kind.Dry b n w) → Explains script s t b n w
   dry_explains a aim b n w by (dries place here d y x) =
       record { place = place; at = ap (λ l. slice_get (forced_places l) n) (list_is b aim by) ∙ here; dry = d; why = y }
 
   pub explains_by : (b : BufId) (n : ℕ) (w : DryWhy) (x : Task) → Turn script s (course s t) cmd x → step_of_task script s (course s t) cmd x ≡ Ok (kind.Dry b n w) → Gives script s (course s t) cmd x (kind.Dry b n w) → Explains script s t b n w
   explains_by b n w x turn step (seeks {b = a} {aim} f) =
-      dry_explains a aim b n w (searcher_of script s (course s t) cmd a aim turn) (quest_found script s (course s t) a (quest script cmd (course s t) a aim) (kind.Dry b n w) step)
+      dry_explains a aim b n w (searcher_of script s (course s t) cmd a aim turn) (place_search_found script s (course s t) a (place_search script cmd (course s t) a aim) (kind.Dry b n w) step)
   explains_by b n w x turn step (fills {b = a} f) = absurd (clash (sym (of_fill script s (course s t) cmd a (kind.Dry b n w) f)))
 
   backed_by : (b : BufId) (st : Stamp) (x : Task) → Gives script s (course s t) cmd x (kind.Backoff b st) → HasCause (kind.Backoff b st)
-  backed_by b st x (backs l h q) = backed_off (grip s b).holder (course s t).stamp st (nat_lt 0 (length (course s t).held)) h q
+  backed_by b st x (backs l h q) = backed_off (reservation s b).holder (course s t).stamp st (nat_lt 0 (length (course s t).held)) h q
   backed_by b st x (seeks {b = a} {aim} f) = absurd (clash (sym (of_search script s (course s t) cmd a aim (kind.Backoff b st) f)))
   backed_by b st x (fills {b = a} f) = absurd (clash (sym (of_fill script s (course s t) cmd a (kind.Backoff b st) f)))
 
@@ -263,7 +263,7 @@ module _ (script : Script) (s : State) (t : ℕ) (cmd : Command) (at : command_a
 
       by : Starved script s → is_out_of_frames script s ≡ true
       by v =
-          three (is_none (free_frame script s.core)) (is_none (ghost_with_frame s)) (is_none (free_slot script s.core)) (list_all (λ e. not (has_frame e.1) || not (is_loose (grip s e.0))) (live_buffers s.core))
+          three (is_none (free_frame script s.core)) (is_none (ghost_with_frame s)) (is_none (free_slot script s.core)) (list_all (λ e. not (has_frame e.1) || not (is_loose (reservation s e.0))) (live_buffers s.core))
           (ap is_none v.frames) (ap is_none v.ghosts) (⊎_elim (λ e. inl (ap is_none e)) (λ e. inr (none e)) v.slots)
 
   -- a refusal for want of room or frames comes from a search's failure

@@ -21,7 +21,7 @@ use Rattle.journal_model.specs.declared.entry.Kind.{Kind}
 use Rattle.journal_model.specs.declared.entry.Kind.TheVariants as kind
 use Rattle.journal_model.specs.State.{course}
 use Rattle.journal_model.specs.Commands.{command_at_work}
-use Rattle.journal_model.specs.Search.{quest_at_work, is_caught}
+use Rattle.journal_model.specs.Search.{place_search_at_work, is_caught}
 use Rattle.journal_model.specs.Stores.{showing}
 use Rattle.journal_model.specs.Next.{next}
 use Rattle.journal_model.specs.Apply.{applied}
@@ -40,7 +40,7 @@ use Rattle.laws.proofs.law_sound.Along.{Stepped, stepped_of, OfWorker, packet, d
 use Rattle.laws.proofs.law_sound.Steadies.{next_course, own_course}
 use Rattle.laws.proofs.law_sound.Bufs.{clash}
 use Rattle.laws.proofs.law_sound.Owners.{none_or}
-use Rattle.laws.proofs.law_sound.Grips.{one_course}
+use Rattle.laws.proofs.law_sound.Reservations.{one_course}
 use Rattle.laws.proofs.law_sound.OwnedKeeps.{turn_keeps}
 use Rattle.laws.proofs.lemma_causes_trail.Windows.{others_command, cut_command, more_command}
 use Rattle.laws.specs.law_causes.Refused.{LeavesNothing}
@@ -81,7 +81,7 @@ dry_made script s b k None c = refl
 dry_made script s b k (Some x) c = by (is_caught c b)
   where
     drying : Bool → Course
-    drying q = if q then with_fail b deny.NoSpace c else gone_dry k (length (forced_places (quest_at_work script s c x b).list)) c
+    drying q = if q then with_fail b deny.NoSpace c else gone_dry k (length (forced_places (place_search_at_work script s c x b).list)) c
 
     by : (q : Bool) → (drying q).made ≡ c.made
     by true = fail_made b deny.NoSpace c

@@ -15,16 +15,16 @@ use Rattle.journal_model.specs.declared.script.Script.{Script}
 use Rattle.journal_model.specs.declared.script.Command.{Command}
 use Rattle.journal_model.specs.declared.state.State.{State}
 use Rattle.journal_model.specs.declared.state.Course.{Course}
-use Rattle.journal_model.specs.declared.state.Aim.{Aim}
+use Rattle.journal_model.specs.declared.state.SearchAim.{SearchAim}
 use Rattle.journal_model.specs.declared.entry.Kind.{Kind}
 use Rattle.journal_model.specs.declared.entry.Kind.TheVariants as kind
 use Rattle.journal_model.specs.declared.entry.Why.{Why}
 use Rattle.journal_model.specs.declared.entry.DryWhy.{DryWhy}
-use Rattle.journal_model.specs.State.{new_buffer, buffer, course, grip, same_buffer, has_buffer}
+use Rattle.journal_model.specs.State.{new_buffer, buffer, course, reservation, same_buffer, has_buffer}
 use Rattle.journal_model.specs.Commands.{named, command_at_work}
 use Rattle.journal_model.specs.Dry.{is_dry}
 use Rattle.journal_model.specs.Ready.{is_ready, first_unready}
-use Rattle.journal_model.specs.Search.{quest, quest_at_work, is_caught, aim_of}
+use Rattle.journal_model.specs.Search.{place_search, place_search_at_work, is_caught, aim_of}
 use Rattle.journal_model.specs.Apply.{applied}
 use Rattle.journal_model.specs.ApplyCommands.{on_to_next}
 use Rattle.journal_model.specs.ApplyVictims.{with_fail, gone_dry, course_after_dry}
@@ -36,11 +36,11 @@ use Rattle.laws.proofs.law_sound.Turns.{Works, OnNamed}
 use Rattle.laws.proofs.law_sound.Steadies.{next_course}
 use Rattle.laws.proofs.law_sound.Bufs.{same_self, other_is, has_found, none_missing, none_last}
 use Rattle.laws.proofs.law_sound.Owners.{none_or}
-use Rattle.laws.proofs.law_sound.Grips.{IsFree}
+use Rattle.laws.proofs.law_sound.Reservations.{IsFree}
 use Rattle.laws.proofs.lemma_end_measure.Frame.{touches, untouched}
 use Rattle.laws.proofs.lemma_causes_trail.Found.{Found, takes, catches, dries, no_first}
 use Rattle.laws.proofs.lemma_causes_trail.Windows.{ends, Quiet, quiet_cut, quiet_elsewhere, quiet_kept, more_window, Trail, trail_by_victim, trail_by_dry, trail_more, trail_dry}
-use Rattle.laws.proofs.lemma_causes_trail.Tasks.{places_of, quest_places, quest_forced, quest_dry, Seeking, aim_is_named, seeking_same}
+use Rattle.laws.proofs.lemma_causes_trail.Tasks.{places_of, place_search_places, place_search_forced, place_search_dry, Seeking, aim_is_named, seeking_same}
 use Rattle.laws.proofs.lemma_causes_trail.Stages.{is_for_swap, Calm, Stage, calm, pressed, spent, Alike, none_caught_is}
 
 -- a thread's entry is by it
@@ -57,10 +57,10 @@ module _ (script : Script) (s : State) (t : ℕ) (cmd : Command) (at : command_a
       ap (λ o. elim (option_and_then (λ x. first_unready script s x) o) [ None ↦ false | Some c ↦ same_buffer d c ]) at
       ∙ ap (λ o. elim o [ None ↦ false | Some c ↦ same_buffer d c ]) first
 
-  pub places_are : (b : BufId) (aim : Aim) → aim_of (course s t) b (buffer s b) ≡ aim → places_sought script s t b ≡ places_of script cmd b aim
+  pub places_are : (b : BufId) (aim : SearchAim) → aim_of (course s t) b (buffer s b) ≡ aim → places_sought script s t b ≡ places_of script cmd b aim
   places_are b aim is =
-      ap (λ o. elim o [ Some x ↦ (quest_at_work script s (course s t) x b).list | None ↦ [] ]) at
-      ∙ (ap (λ a. (quest script cmd (course s t) b a).list) is ∙ quest_places script cmd (course s t) b aim)
+      ap (λ o. elim o [ Some x ↦ (place_search_at_work script s (course s t) x b).list | None ↦ [] ]) at
+      ∙ (ap (λ a. (place_search script cmd (course s t) b a).list) is ∙ place_search_places script cmd (course s t) b aim)
 
   pub dry_place : (b : BufId) (forced : List Place) (n : ℕ) (place : Place) → slice_get forced n ≡ Some place → is_dry script s (course s t).skips b place ≡ true → is_dry_place script s t b forced n ≡ true
   dry_place b forced n place at d = ap (λ o. elim o [ None ↦ false | Some place ↦ is_dry script s (course s t).skips b place ]) at ∙ d
@@ -102,7 +102,7 @@ module _ (script : Script) (s : State) (t : ℕ) (cmd : Command) (at : command_a
   pub free_other : (v d : BufId) → IsFree s v → Works (course s t) cmd → has_buffer (named cmd) d ≡ true → same_buffer v d ≡ false
   free_other v d free works h =
       other_is v d
-      (λ e. let had = o.held t d (inl (is_held d works h)) in none_or (grip s d).holder had.0 (subst (λ z. (grip s z).holder ≡ None) e free.free) had.2)
+      (λ e. let had = o.held t d (inl (is_held d works h)) in none_or (reservation s d).holder had.0 (subst (λ z. (reservation s z).holder ≡ None) e free.free) had.2)
 
   pub stays : (d : BufId) → touches script s t k d ≡ false → buffer (applied script s (actor.Thread t) k) d ≡ buffer s d
   stays d h = ap (λ x. unwrap_or x (new_buffer 0)) (untouched script s t k d h)
@@ -122,11 +122,11 @@ same_or : (b d : BufId) → (d ≡ b) ⊎ (d ≡ b → ⊥)
 same_or b d = ⊎_elim (λ e. inl (ap (λ i. record { 0 = i }) e)) (λ n. inr (λ e. n (ap (λ x. x.0) e))) (cases_eq d.0 b.0)
 
 -- what was known of the window: nothing told of pressure, or the search was under pressure
-abbrev pub Before : Script → State → List Made → ℕ → Command → BufId → Aim → Type 0
+abbrev pub Before : Script → State → List Made → ℕ → Command → BufId → SearchAim → Type 0
 Before script s j t cmd b aim =
     (((course s t).forced ≡ false) × ((course s t).dry ≡ 0) × Quiet script t b j) ⊎ Trail script t b (places_of script cmd b aim) (course s t).dry (search_of script t b j)
 
-module _ (script : Script) (s : State) (t : ℕ) (cmd : Command) (at : command_at_work script s t ≡ Some cmd) (o : Owned script s) (j : List Made) (b : BufId) (aim : Aim) (on : OnNamed s (course s t) cmd)
+module _ (script : Script) (s : State) (t : ℕ) (cmd : Command) (at : command_at_work script s t ≡ Some cmd) (o : Owned script s) (j : List Made) (b : BufId) (aim : SearchAim) (on : OnNamed s (course s t) cmd)
     (fine : (course s t).fail ≡ None) (seek : Seeking script s cmd b aim) (was : Before script s j t cmd b aim) (quiet : (d : BufId) → (d ≡ b → ⊥) → Quiet script t d j) (k' : Kind) where
   -- the stage behind an entry of this kind
   abbrev After : Kind → Type 0
@@ -141,8 +141,8 @@ module _ (script : Script) (s : State) (t : ℕ) (cmd : Command) (at : command_a
   aim_is : aim_of (course s t) b (buffer s b) ≡ aim
   aim_is = aim_is_named (course s t) b (buffer s b) not_caught ∙ seek.aim_is
 
-  free_first : (course s t).forced ≡ false → ((quest script cmd (course s t) b aim).forced ≡ false → no_first script s b (quest script cmd (course s t) b aim).list ≡ true) → no_first script s b (places_of script cmd b aim) ≡ true
-  free_first e u = subst (λ l. no_first script s b l ≡ true) (quest_places script cmd (course s t) b aim) (u (quest_forced script cmd (course s t) b aim not_caught ∙ e))
+  free_first : (course s t).forced ≡ false → ((place_search script cmd (course s t) b aim).forced ≡ false → no_first script s b (place_search script cmd (course s t) b aim).list ≡ true) → no_first script s b (places_of script cmd b aim) ≡ true
+  free_first e u = subst (λ l. no_first script s b l ≡ true) (place_search_places script cmd (course s t) b aim) (u (place_search_forced script cmd (course s t) b aim not_caught ∙ e))
 
   -- it took pages
   took : (mem : Mem) (spans : List Span) → Alike k' (kind.Take b mem spans) → After (kind.Take b mem spans)
@@ -156,7 +156,7 @@ module _ (script : Script) (s : State) (t : ℕ) (cmd : Command) (at : command_a
       (same_or b d))
 
   -- it caught a victim
-  caught_one : (v : BufId) (w : Why) → Alike k' (kind.Catch v w) → ((quest script cmd (course s t) b aim).forced ≡ false → no_first script s b (quest script cmd (course s t) b aim).list ≡ true) → presses (kind.Catch v w) ≡ true → IsFree s v
+  caught_one : (v : BufId) (w : Why) → Alike k' (kind.Catch v w) → ((place_search script cmd (course s t) b aim).forced ≡ false → no_first script s b (place_search script cmd (course s t) b aim).list ≡ true) → presses (kind.Catch v w) ≡ true → IsFree s v
       → After (kind.Catch v w)
   caught_one v w alike u p free =
       pressed (record {
@@ -178,21 +178,21 @@ module _ (script : Script) (s : State) (t : ℕ) (cmd : Command) (at : command_a
 
   -- a place went dry
   abbrev nth : ℕ
-  nth = (quest script cmd (course s t) b aim).dry
+  nth = (place_search script cmd (course s t) b aim).dry
 
-  nth_is : (quest script cmd (course s t) b aim).dry ≡ (course s t).dry
-  nth_is = quest_dry script cmd (course s t) b aim not_caught
+  nth_is : (place_search script cmd (course s t) b aim).dry ≡ (course s t).dry
+  nth_is = place_search_dry script cmd (course s t) b aim not_caught
 
-  list_is : (quest_at_work script s (course s t) cmd b).list ≡ places_of script cmd b aim
-  list_is = ap (λ a. (quest script cmd (course s t) b a).list) aim_is ∙ quest_places script cmd (course s t) b aim
+  list_is : (place_search_at_work script s (course s t) cmd b).list ≡ places_of script cmd b aim
+  list_is = ap (λ a. (place_search script cmd (course s t) b a).list) aim_is ∙ place_search_places script cmd (course s t) b aim
 
-  dry_course : (w : DryWhy) → next_course script s t (kind.Dry b nth w) ≡ gone_dry nth (length (forced_places (quest_at_work script s (course s t) cmd b).list)) (course s t)
+  dry_course : (w : DryWhy) → next_course script s t (kind.Dry b nth w) ≡ gone_dry nth (length (forced_places (place_search_at_work script s (course s t) cmd b).list)) (course s t)
   dry_course w =
       ap (λ x. course_after_dry script s b nth x (course s t)) at
-      ∙ ap (λ z. if z then with_fail b deny.NoSpace (course s t) else gone_dry nth (length (forced_places (quest_at_work script s (course s t) cmd b).list)) (course s t)) not_caught
+      ∙ ap (λ z. if z then with_fail b deny.NoSpace (course s t) else gone_dry nth (length (forced_places (place_search_at_work script s (course s t) cmd b).list)) (course s t)) not_caught
 
-  dry_trail : (w : DryWhy) → Alike k' (kind.Dry b nth w) → (place : Place) → slice_get (forced_places (quest script cmd (course s t) b aim).list) nth ≡ Some place → is_dry script s (course s t).skips b place ≡ true
-      → ((quest script cmd (course s t) b aim).forced ≡ false → no_first script s b (quest script cmd (course s t) b aim).list ≡ true)
+  dry_trail : (w : DryWhy) → Alike k' (kind.Dry b nth w) → (place : Place) → slice_get (forced_places (place_search script cmd (course s t) b aim).list) nth ≡ Some place → is_dry script s (course s t).skips b place ≡ true
+      → ((place_search script cmd (course s t) b aim).forced ≡ false → no_first script s b (place_search script cmd (course s t) b aim).list ≡ true)
       → Trail script t b (places_of script cmd b aim) (suc (course s t).dry) (search_of script t b (j ++ made script s t cmd at k' ∷ []))
   dry_trail w alike place here d u =
       subst (Trail script t b (places_of script cmd b aim) (suc (course s t).dry)) (sym (window script s t cmd at o j k' (kind.Dry b nth w) alike b seek.first refl refl)) (by was)
@@ -204,7 +204,7 @@ module _ (script : Script) (s : State) (t : ℕ) (cmd : Command) (at : command_a
       is_dry_there =
           dry_then script s t cmd at b (forced_places (places_of script cmd b aim)) k' (course s t).dry number
           (dry_place script s t cmd at b (forced_places (places_of script cmd b aim)) (course s t).dry place
-          (ap₂ (λ l n. slice_get (forced_places l) n) (sym (quest_places script cmd (course s t) b aim)) (sym nth_is) ∙ here) d)
+          (ap₂ (λ l n. slice_get (forced_places l) n) (sym (place_search_places script cmd (course s t) b aim)) (sym nth_is) ∙ here) d)
 
       by : Before script s j t cmd b aim → Trail script t b (places_of script cmd b aim) (suc (course s t).dry) (search_of script t b j ++ made script s t cmd at k' ∷ [])
       by (inl h) =
@@ -212,13 +212,13 @@ module _ (script : Script) (s : State) (t : ℕ) (cmd : Command) (at : command_a
           (trail_by_dry script t b (places_of script cmd b aim) (search_of script t b j) (made script s t cmd at k') h.2 (number ∙ ap Some h.1) is_dry_there (places_are script s t cmd at b aim aim_is) (free_first h.0 u))
       by (inr r) = trail_dry script t b (places_of script cmd b aim) (course s t).dry (search_of script t b j) (made script s t cmd at k') number is_dry_there r
 
-  went_dry : (w : DryWhy) → Alike k' (kind.Dry b nth w) → (place : Place) → slice_get (forced_places (quest script cmd (course s t) b aim).list) nth ≡ Some place → is_dry script s (course s t).skips b place ≡ true
-      → ((quest script cmd (course s t) b aim).forced ≡ false → no_first script s b (quest script cmd (course s t) b aim).list ≡ true) → After (kind.Dry b nth w)
+  went_dry : (w : DryWhy) → Alike k' (kind.Dry b nth w) → (place : Place) → slice_get (forced_places (place_search script cmd (course s t) b aim).list) nth ≡ Some place → is_dry script s (course s t).skips b place ≡ true
+      → ((place_search script cmd (course s t) b aim).forced ≡ false → no_first script s b (place_search script cmd (course s t) b aim).list ≡ true) → After (kind.Dry b nth w)
   went_dry w alike place here d u =
       subst (λ c. Stage script (applied script s (actor.Thread t) (kind.Dry b nth w)) (j ++ made script s t cmd at k' ∷ []) t c cmd) (sym (dry_course w)) (by (nth + 1 == all) refl)
     where
       all : ℕ
-      all = length (forced_places (quest_at_work script s (course s t) cmd b).list)
+      all = length (forced_places (place_search_at_work script s (course s t) cmd b).list)
 
       trail : Trail script t b (places_of script cmd b aim) (suc (course s t).dry) (search_of script t b (j ++ made script s t cmd at k' ∷ []))
       trail = dry_trail w alike place here d u
@@ -229,8 +229,8 @@ module _ (script : Script) (s : State) (t : ℕ) (cmd : Command) (at : command_a
       equal : (a b : ℕ) → (a == b) ≡ true → a ≡ b
       equal a b h = grind (arith, nat_tests)
 
-      by : (q : Bool) → (nth + 1 == length (forced_places (quest_at_work script s (course s t) cmd b).list)) ≡ q →
-          Stage script (applied script s (actor.Thread t) (kind.Dry b nth w)) (j ++ made script s t cmd at k' ∷ []) t (gone_dry nth (length (forced_places (quest_at_work script s (course s t) cmd b).list)) (course s t)) cmd
+      by : (q : Bool) → (nth + 1 == length (forced_places (place_search_at_work script s (course s t) cmd b).list)) ≡ q →
+          Stage script (applied script s (actor.Thread t) (kind.Dry b nth w)) (j ++ made script s t cmd at k' ∷ []) t (gone_dry nth (length (forced_places (place_search_at_work script s (course s t) cmd b).list)) (course s t)) cmd
       by true e =
           spent (record {
             works = record { unmade = on.works.unmade; begun = on.works.begun; whole = on.works.whole };
@@ -240,7 +240,7 @@ module _ (script : Script) (s : State) (t : ℕ) (cmd : Command) (at : command_a
             is_named = has_found (λ y. not (is_ready script s cmd y)) (named cmd) b seek.first;
             list = places_of script cmd b aim;
             trail = subst (λ n. Trail script t b (places_of script cmd b aim) n (search_of script t b (j ++ made script s t cmd at k' ∷ [])))
-                (more ∙ (equal (nth + 1) (length (forced_places (quest_at_work script s (course s t) cmd b).list)) e ∙ ap (λ l. length (forced_places l)) list_is)) trail;
+                (more ∙ (equal (nth + 1) (length (forced_places (place_search_at_work script s (course s t) cmd b).list)) e ∙ ap (λ l. length (forced_places l)) list_is)) trail;
           })
       by false e =
           pressed (record {
@@ -253,7 +253,7 @@ module _ (script : Script) (s : State) (t : ℕ) (cmd : Command) (at : command_a
             quiet = λ d n. elsewhere script s t cmd at o j k' (kind.Dry b nth w) alike b d seek.first n (quiet d n);
           })
 
-  pub searched : (k : Kind) → Alike k' k → Found script s (course s t) b (quest script cmd (course s t) b aim) k → After k
+  pub searched : (k : Kind) → Alike k' k → Found script s (course s t) b (place_search script cmd (course s t) b aim) k → After k
   searched k alike (takes {mem} {spans}) = took mem spans alike
   searched k alike (catches {v} {w} u p free) = caught_one v w alike u p free
   searched k alike (dries {w} place here d y u) = went_dry w alike place here d u

@@ -12,7 +12,7 @@ use Rattle.ttm_base.specs.Reach.{mem_number}
 use Rattle.journal_model.specs.declared.script.Script.{Script}
 use Rattle.journal_model.specs.declared.state.State.{State}
 use Rattle.journal_model.specs.declared.state.Buffer.{Buffer}
-use Rattle.journal_model.specs.State.{new_buffer, buffer, grip, live_in, same_buffer, has_buffer, has_target}
+use Rattle.journal_model.specs.State.{new_buffer, buffer, reservation, live_in, same_buffer, has_buffer, has_target}
 use Rattle.journal_model.specs.Commands.{decl}
 use Rattle.journal_model.specs.Lists.{list_number, in_order}
 use Rattle.journal_model.specs.Holds.{live_entry}
@@ -60,20 +60,20 @@ all_live p (Some y ∷ xs) n h =
     ap₂ (λ a b. a && b) (subst (λ m. p (record { 0 = m }, y) ≡ true) first (h 0 y refl))
     (all_live p xs (n + 1) (λ i x e. let same : n + 1 + i ≡ n + suc i = omega arith in subst (λ m. p (record { 0 = m }, x) ≡ true) (sym same) (h (suc i) x e)))
 
-module _ (script : Script) (r : Rules script) (s : State) (lists : AreListed script s) (framed : AreFramed s.core.buffers) (targets : (b : BufId) → has_some_target (buffer s b) ≡ true → (grip s b).holder ≡ None → ⊥) where
+module _ (script : Script) (r : Rules script) (s : State) (lists : AreListed script s) (framed : AreFramed s.core.buffers) (targets : (b : BufId) → has_some_target (buffer s b) ≡ true → (reservation s b).holder ≡ None → ⊥) where
   prio_low : (b : BufId) → (decl script b).prio < 4
   prio_low b = let n = number_below script r b Vram in by (decl script b).prio n
     where
       by : (p : ℕ) → list_number Vram p < 12 → p < 4
       by p h = omega (arith, h)
 
-  on_own : (b : BufId) (x : Buffer) → live_in s.core.buffers b ≡ Some x → (grip s b).pins ≡ 0 → has_buffer (in_order s x.mem) b ≡ true
+  on_own : (b : BufId) (x : Buffer) → live_in s.core.buffers b ≡ Some x → (reservation s b).pins ≡ 0 → has_buffer (in_order s x.mem) b ≡ true
   on_own b x live loose =
       let many = lists.twelve in
       let low = number_below script r b x.mem in
       let l = get_below s.lists (list_number x.mem (decl script b).prio) (omega (arith, many, low)) in
       in_its_order s x.mem (decl script b).prio l.0 b (prio_low b) l.1
-      ((lists.each (list_number x.mem (decl script b).prio) l.0 l.1).has b ∙ (ap (is_number (list_number x.mem (decl script b).prio)) (ap (list_of script b (grip s b).pins) live) ∙ own (grip s b).pins loose))
+      ((lists.each (list_number x.mem (decl script b).prio) l.0 l.1).has b ∙ (ap (is_number (list_number x.mem (decl script b).prio)) (ap (list_of script b (reservation s b).pins) live) ∙ own (reservation s b).pins loose))
     where
       own : (pins : ℕ) → pins ≡ 0 → is_number (list_number x.mem (decl script b).prio) (list_of script b pins (Some x)) ≡ true
       own pins e = ap (λ p. is_number (list_number x.mem (decl script b).prio) (list_of script b p (Some x))) e ∙ eq-eqb (list_number x.mem (decl script b).prio) (list_number x.mem (decl script b).prio) refl
@@ -84,16 +84,16 @@ module _ (script : Script) (r : Rules script) (s : State) (lists : AreListed scr
 
   module _ (none : swap_victim s ≡ None) where
     -- it would be found
-    unfound : (b : BufId) (x : Buffer) → live_in s.core.buffers b ≡ Some x → has_frame x ≡ true → is_loose (grip s b) ≡ true → has_buffer (in_order s System ++ in_order s Tt) b ≡ true → ⊥
+    unfound : (b : BufId) (x : Buffer) → live_in s.core.buffers b ≡ Some x → has_frame x ≡ true → is_loose (reservation s b) ≡ true → has_buffer (in_order s System ++ in_order s Tt) b ≡ true → ⊥
     unfound b x live f l on =
-        both_ways (is_loose (grip s b) && has_frame (buffer s b)) (none_found (λ d. is_loose (grip s d) && has_frame (buffer s d)) (in_order s System ++ in_order s Tt) b none on)
+        both_ways (is_loose (reservation s b) && has_frame (buffer s b)) (none_found (λ d. is_loose (reservation s d) && has_frame (buffer s d)) (in_order s System ++ in_order s Tt) b none on)
         (ap₂ (λ p q. p && q) l (ap (λ o. has_frame (unwrap_or o (new_buffer 0))) live ∙ f))
 
-    gives_none : (b : BufId) (x : Buffer) → live_in s.core.buffers b ≡ Some x → has_frame x ≡ true → is_loose (grip s b) ≡ true → ⊥
-    gives_none b x live f l = by x.mem refl (on_own b x live (eqb-true (grip s b).pins 0 parts.0))
+    gives_none : (b : BufId) (x : Buffer) → live_in s.core.buffers b ≡ Some x → has_frame x ≡ true → is_loose (reservation s b) ≡ true → ⊥
+    gives_none b x live f l = by x.mem refl (on_own b x live (eqb-true (reservation s b).pins 0 parts.0))
       where
-        parts : (((grip s b).pins == 0) ≡ true) × (is_none (grip s b).holder ≡ true)
-        parts = and_parts ((grip s b).pins == 0) (is_none (grip s b).holder) l
+        parts : (((reservation s b).pins == 0) ≡ true) × (is_none (reservation s b).holder ≡ true)
+        parts = and_parts ((reservation s b).pins == 0) (is_none (reservation s b).holder) l
 
         here : buffer s b ≡ x
         here = ap (λ o. unwrap_or o (new_buffer 0)) live
@@ -107,17 +107,17 @@ module _ (script : Script) (r : Rules script) (s : State) (lists : AreListed scr
         by Vram m on =
             targets b
             (subst (λ z. has_some_target z ≡ true) (sym here) (or_left (has_target System x || has_target Tt x) (has_target Vram x) (or_right (has_target System x) (has_target Tt x) (in_vram m))))
-            (no_holder (grip s b).holder parts.1)
+            (no_holder (reservation s b).holder parts.1)
 
   pub none_gives : NoneGives s
   none_gives none =
-      all_live (λ e. not (has_frame e.1) || not (is_loose (grip s e.0))) s.core.buffers 0
-      (λ i x e. by none (record { 0 = 0 + i }) x (let same : i ≡ 0 + i = omega arith in subst (λ n. live_in s.core.buffers (record { 0 = n }) ≡ Some x) same (live_of i x e)) (has_frame x) refl (is_loose (grip s (record { 0 = 0 + i }))) refl)
+      all_live (λ e. not (has_frame e.1) || not (is_loose (reservation s e.0))) s.core.buffers 0
+      (λ i x e. by none (record { 0 = 0 + i }) x (let same : i ≡ 0 + i = omega arith in subst (λ n. live_in s.core.buffers (record { 0 = n }) ≡ Some x) same (live_of i x e)) (has_frame x) refl (is_loose (reservation s (record { 0 = 0 + i }))) refl)
     where
       live_of : (i : ℕ) (x : Buffer) → slice_get s.core.buffers i ≡ Some (Some x) → live_in s.core.buffers (record { 0 = i }) ≡ Some x
       live_of i x e = ap (λ o. option_and_then (λ y. y) o) e
 
-      by : swap_victim s ≡ None → (b : BufId) (x : Buffer) → live_in s.core.buffers b ≡ Some x → (f : Bool) → has_frame x ≡ f → (l : Bool) → is_loose (grip s b) ≡ l → (not f || not l) ≡ true
+      by : swap_victim s ≡ None → (b : BufId) (x : Buffer) → live_in s.core.buffers b ≡ Some x → (f : Bool) → has_frame x ≡ f → (l : Bool) → is_loose (reservation s b) ≡ l → (not f || not l) ≡ true
       by none b x live false f l g = refl
       by none b x live true f false g = refl
       by none b x live true f true g = absurd (gives_none none b x live f g)

@@ -18,7 +18,7 @@ use Rattle.journal_model.specs.declared.entry.Kind.{Kind}
 use Rattle.journal_model.specs.State.{buffer, course, same_buffer}
 use Rattle.journal_model.specs.Commands.{decl, undeclared, asked_places}
 use Rattle.journal_model.specs.Ready.{has_some_target}
-use Rattle.journal_model.specs.Search.{Quest}
+use Rattle.journal_model.specs.Search.{PlaceSearch}
 use Rattle.journal_model.specs.ScriptRules.{is_script}
 use Rattle.journal_model.specs.Next.{next}
 use Rattle.journal_model.specs.Apply.{applied}
@@ -34,7 +34,7 @@ use Rattle.laws.specs.law_sound.Sound.{Sound}
 use Rattle.laws.proofs.law_sound.DeadEnds.{command_is}
 use Rattle.laws.proofs.law_sound.Measure.{measure}
 use Rattle.laws.proofs.law_sound.Along.{Stepped, OfWorker, of_worker, stepped_of, sound_keeps, sound_first}
-use Rattle.laws.proofs.law_sound.Gifts.{Gives, Sought, Filled, seeks, binds, unbinds, moves, fills, lets_go, empties, depopulates, untakes, swaps, finds, evicts, dries, fresh, again, back, evicts_for_swap, nothing}
+use Rattle.laws.proofs.law_sound.Gifts.{Gives, SearchOutcome, Filled, seeks, binds, unbinds, moves, fills, lets_go, empties, depopulates, untakes, swaps, finds, evicts, dries, fresh, again, back, evicts_for_swap, nothing}
 use Rattle.laws.proofs.law_sound.Bufs.{same_self, clash}
 use Rattle.laws.proofs.lemma_end_measure.Locks.{few_threads}
 use Rattle.laws.proofs.lemma_end_measure.Border.{Known}
@@ -77,7 +77,7 @@ is_last (u ∷ x ∷ y ∷ vs) v few h = elim few [ ]
 -- ---- which entries are searches' and which are carries
 
 module _ (script : Script) (s : State) (c : Course) (cmd : Command) where
-  sought_kind : (b : BufId) (q : Quest) (k : Kind) → Sought script s c b q k → (is_carry k ≡ true) ⊎ (is_search k ≡ true)
+  sought_kind : (b : BufId) (q : PlaceSearch) (k : Kind) → SearchOutcome script s c b q k → (is_carry k ≡ true) ⊎ (is_search k ≡ true)
   sought_kind b q k (finds place w m e) = inl refl
   sought_kind b q k (evicts place a n e f) = inr refl
   sought_kind b q k (dries place a n) = inr refl

@@ -17,7 +17,7 @@ use Rattle.journal_model.specs.declared.script.Command.TheVariants as command
 use Rattle.journal_model.specs.Words.{Text, line, actor_word}
 use Rattle.journal_model.specs.Commands.{commands_of}
 use Rattle.journal_model.specs.CommandRules.{is_between, is_command, command_len}
-use Rattle.journal_model.specs.MarkRules.{empty_desk, marks_fit, are_in_order, is_in_thread, has_few_lines, have_marks}
+use Rattle.journal_model.specs.MarkRules.{empty_thread_mappings, marks_fit, are_in_order, is_in_thread, has_few_lines, have_marks}
 use Rattle.journal_model.specs.ScriptRules.{is_script, is_decl, has_sizes, has_distinct_names, is_turn_line, IsScript}
 use Rattle.journal_model.specs.Spelling.{buffer_line, thread_lines, turn_line, spelling}
 use Rattle.journal_model.specs.Complete.{thread_numbers}
@@ -92,7 +92,7 @@ mark_rules script = ((script.version == 2) || (length script.marks == 0)) && are
 lines_of : (script : Script) → have_marks script ≡ true → list_all (has_few_lines script) (thread_numbers script) ≡ true
 lines_of script h =
     (and_parts (mark_rules script) (list_all (has_few_lines script) (thread_numbers script))
-    (and_parts (mark_rules script && list_all (has_few_lines script) (thread_numbers script)) (list_all (λ t. marks_fit script t 0 empty_desk (commands_of script t)) (thread_numbers script)) h).0).1
+    (and_parts (mark_rules script && list_all (has_few_lines script) (thread_numbers script)) (list_all (λ t. marks_fit script t 0 empty_thread_mappings (commands_of script t)) (thread_numbers script)) h).0).1
 
 bounds_of : (script : Script) → IsTrue (is_script script) → Bounds script
 bounds_of script h = record {

@@ -21,10 +21,10 @@ use Rattle.journal_model.specs.declared.entry.Kind.TheVariants as kind
 use Rattle.journal_model.specs.declared.entry.Why.{Why}
 use Rattle.journal_model.specs.declared.entry.Why.TheVariants as why
 use Rattle.journal_model.specs.declared.state.State.{State}
-use Rattle.journal_model.specs.declared.state.Aim.{Aim}
+use Rattle.journal_model.specs.declared.state.SearchAim.{SearchAim}
 use Rattle.journal_model.specs.declared.state.Task.{Task}
 use Rattle.journal_model.specs.declared.state.Task.TheVariants as task
-use Rattle.journal_model.specs.State.{buffer, course, grip}
+use Rattle.journal_model.specs.State.{buffer, course, reservation}
 use Rattle.journal_model.specs.Commands.{command_at_work, whole}
 use Rattle.journal_model.specs.Choice.{choice, choice_in}
 use Rattle.journal_model.specs.Dry.{is_evictable, is_loose, has_frame, victim}
@@ -32,7 +32,7 @@ use Rattle.journal_model.specs.Holds.{free_frame}
 use Rattle.journal_model.specs.Lists.{in_order}
 use Rattle.journal_model.specs.Places.{loc_of}
 use Rattle.journal_model.specs.PageSteps.{filled_by, page_to_fill, step_of_fill, step_without_frame}
-use Rattle.journal_model.specs.Search.{Step, quest, why_of}
+use Rattle.journal_model.specs.Search.{Step, place_search, why_of}
 use Rattle.journal_model.specs.Stores.{Stores, showing}
 use Rattle.journal_model.specs.Tasks.{task_of, task_of_command}
 use Rattle.journal_model.specs.Next.{next, step_of_task}
@@ -74,8 +74,8 @@ module _ (script : Script) (s : State) (t : ℕ) (cmd : Command) (at : command_a
       some_not : (spans : List Span) → Some spans ≡ None → ⊥
       some_not spans e = cc
 
-  evicted : (b : BufId) (aim : Aim) (place : Place) (v : BufId) → task_of script s t ≡ task.Search b aim →
-      place ≡ unwrap_or (slice_get (forced_places (quest script cmd (course s t) b aim).list) (quest script cmd (course s t) b aim).dry) (whole System) →
+  evicted : (b : BufId) (aim : SearchAim) (place : Place) (v : BufId) → task_of script s t ≡ task.Search b aim →
+      place ≡ unwrap_or (slice_get (forced_places (place_search script cmd (course s t) b aim).list) (place_search script cmd (course s t) b aim).dry) (whole System) →
       choice script s.core b place ≡ None → victim script s (course s t).skips place ≡ Some v → (w : Why) → w ≡ why_of place.mem → IsEvicted script s t v w
   evicted b aim place v searching is lacks found w y =
       record {
@@ -85,7 +85,7 @@ module _ (script : Script) (s : State) (t : ℕ) (cmd : Command) (at : command_a
         aim = aim;
         searching = searching;
         place = place;
-        here = by (slice_get (forced_places (quest script cmd (course s t) b aim).list) (quest script cmd (course s t) b aim).dry) is;
+        here = by (slice_get (forced_places (place_search script cmd (course s t) b aim).list) (place_search script cmd (course s t) b aim).dry) is;
         lacks = lacks;
         reason = y;
         first = find_first (is_evictable script s (course s t).skips place) (in_order s place.mem) v found;
@@ -95,8 +95,8 @@ module _ (script : Script) (s : State) (t : ℕ) (cmd : Command) (at : command_a
       by None e = absurd (in_system b place lacks (ap (λ p. p.mem) e))
       by (Some p) e = ap Some (sym e)
 
-  sought_victim : (b : BufId) (aim : Aim) (place : Place) (v : BufId) (w : Why) → task_of script s t ≡ task.Search b aim →
-      place ≡ unwrap_or (slice_get (forced_places (quest script cmd (course s t) b aim).list) (quest script cmd (course s t) b aim).dry) (whole System) →
+  sought_victim : (b : BufId) (aim : SearchAim) (place : Place) (v : BufId) (w : Why) → task_of script s t ≡ task.Search b aim →
+      place ≡ unwrap_or (slice_get (forced_places (place_search script cmd (course s t) b aim).list) (place_search script cmd (course s t) b aim).dry) (whole System) →
       choice script s.core b place ≡ None → victim script s (course s t).skips place ≡ Some v → why_of place.mem ≡ w → IsNamedVictim script s t v w
   sought_victim b aim place v w searching is lacks found y = subst (IsNamedVictim script s t v) y (by place.mem refl)
     where
@@ -128,7 +128,7 @@ module _ (script : Script) (s : State) (t : ℕ) (cmd : Command) (at : command_a
         b = b;
         filling = at_task (task.Fill b) e;
         full = no_frame b v why.Swap h;
-        first = find_first (λ b. is_loose (grip s b) && has_frame (buffer s b)) (in_order s System ++ in_order s Tt) v found;
+        first = find_first (λ b. is_loose (reservation s b) && has_frame (buffer s b)) (in_order s System ++ in_order s Tt) v found;
       }
 
 pub step_names : (script : Script) (s : State) (t : ℕ) (v : BufId) (w : Why) → next script s (actor.Thread t) ≡ Ok (kind.Catch v w) → IsNamedVictim script s t v w

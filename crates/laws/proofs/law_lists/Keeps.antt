@@ -16,14 +16,14 @@ use Rattle.journal_model.specs.declared.script.Command.{Command}
 use Rattle.journal_model.specs.declared.script.Command.TheVariants as command
 use Rattle.journal_model.specs.declared.state.State.{State}
 use Rattle.journal_model.specs.declared.state.Buffer.{Buffer}
-use Rattle.journal_model.specs.declared.state.Grip.{Grip}
+use Rattle.journal_model.specs.declared.state.Reservation.{Reservation}
 use Rattle.journal_model.specs.declared.state.Course.{Course}
 use Rattle.journal_model.specs.declared.state.Task.{Task}
 use Rattle.journal_model.specs.declared.state.Task.TheVariants as task
 use Rattle.journal_model.specs.declared.entry.Kind.{Kind}
 use Rattle.journal_model.specs.declared.entry.Kind.TheVariants as kind
 use Rattle.journal_model.specs.declared.entry.Shown.{Shown}
-use Rattle.journal_model.specs.State.{new_buffer, grip_in, no_grip, regripped, live_in, changed, has_buffer, same_buffer, course}
+use Rattle.journal_model.specs.State.{new_buffer, reservation_in, no_reservation, reservation_changed, live_in, changed, has_buffer, same_buffer, course}
 use Rattle.journal_model.specs.Commands.{decl, named, command_at_work}
 use Rattle.journal_model.specs.CommandRules.{is_command}
 use Rattle.journal_model.specs.Lists.{taken_off, listed_as, touched}
@@ -43,32 +43,32 @@ use Rattle.laws.proofs.law_state.Courses.{is_shown_by, shown_by_task}
 use Rattle.laws.proofs.law_sound.Turns.{Turn, answer, act}
 use Rattle.laws.proofs.law_sound.Gifts.{Gives, makes, seeks, fills}
 use Rattle.laws.proofs.law_sound.Bufs.{same_self, same_or_other, none_missing, clash}
-use Rattle.laws.proofs.law_sound.Grips.{grip_other, live_set}
+use Rattle.laws.proofs.law_sound.Reservations.{reservation_other, live_set}
 use Rattle.laws.proofs.law_sound.Along.{Stepped, OfWorker, packet, done, reap}
 use Rattle.laws.proofs.law_lists.OneList.{list_of, list_in}
 use Rattle.laws.proofs.law_lists.TwelveLists.{Fit, set_here, fit_same, fit_bulk, fit_off, fit_listed, fit_touched, fit_all_touched}
 
 -- each buffer is where it belongs, by its pins and its memory type
 abbrev pub AreListed : Script → State → Type 0
-AreListed script s = Fit script (list_in script s.grips s.core.buffers) s.lists
+AreListed script s = Fit script (list_in script s.reservations s.core.buffers) s.lists
 
 -- ---- pins
 
-pins_set : (grips : List Grip) (b d : BufId) (g : Grip) → g.pins ≡ (grip_in grips b).pins → (grip_in (slice_set grips b.0 g) d).pins ≡ (grip_in grips d).pins
-pins_set grips b d g h =
+pins_set : (reservations : List Reservation) (b d : BufId) (g : Reservation) → g.pins ≡ (reservation_in reservations b).pins → (reservation_in (slice_set reservations b.0 g) d).pins ≡ (reservation_in reservations d).pins
+pins_set reservations b d g h =
     ⊎_elim
-    (λ e. ap (λ o. (unwrap_or o no_grip).pins) e)
-    (λ e. ap (λ o. (unwrap_or o no_grip).pins) e.1 ∙ (h ∙ ap (λ i. (unwrap_or (slice_get grips i) no_grip).pins) e.0))
-    (set_at grips b.0 d.0 g)
+    (λ e. ap (λ o. (unwrap_or o no_reservation).pins) e)
+    (λ e. ap (λ o. (unwrap_or o no_reservation).pins) e.1 ∙ (h ∙ ap (λ i. (unwrap_or (slice_get reservations i) no_reservation).pins) e.0))
+    (set_at reservations b.0 d.0 g)
 
-pins_released : (bs : List BufId) (grips : List Grip) (d : BufId) → (grip_in (released grips bs) d).pins ≡ (grip_in grips d).pins
-pins_released [] grips d = refl
-pins_released (b ∷ bs) grips d = pins_released bs (regripped (with_holder None) grips b) d ∙ pins_set grips b d (with_holder None (grip_in grips b)) refl
+pins_released : (bs : List BufId) (reservations : List Reservation) (d : BufId) → (reservation_in (released reservations bs) d).pins ≡ (reservation_in reservations d).pins
+pins_released [] reservations d = refl
+pins_released (b ∷ bs) reservations d = pins_released bs (reservation_changed (with_holder None) reservations b) d ∙ pins_set reservations b d (with_holder None (reservation_in reservations b)) refl
 
-fresh_grip : (grips : List Grip) (b : BufId) → grip_in (slice_set grips b.0 no_grip) b ≡ no_grip
-fresh_grip grips b = at grips b.0
+fresh_reservation : (reservations : List Reservation) (b : BufId) → reservation_in (slice_set reservations b.0 no_reservation) b ≡ no_reservation
+fresh_reservation reservations b = at reservations b.0
   where
-    at : (gs : List Grip) (i : ℕ) → unwrap_or (slice_get (slice_set gs i no_grip) i) no_grip ≡ no_grip
+    at : (gs : List Reservation) (i : ℕ) → unwrap_or (slice_get (slice_set gs i no_reservation) i) no_reservation ≡ no_reservation
     at [] i = refl
     at (x ∷ xs) zero = refl
     at (x ∷ xs) (suc i) = at xs i
@@ -107,38 +107,38 @@ leaves_mem Vram x = refl
 -- ---- kinds that leave lists alone
 
 module _ (script : Script) (s : State) (h : AreListed script s) where
-  -- other grips with as many pins
-  other_grips : (grips : List Grip) → ((d : BufId) → (grip_in grips d).pins ≡ (grip_in s.grips d).pins) → Fit script (list_in script grips s.core.buffers) s.lists
-  other_grips grips same = fit_same script (list_in script s.grips s.core.buffers) (list_in script grips s.core.buffers) s.lists (λ d. ap (λ p. list_of script d p (live_in s.core.buffers d)) (same d)) h
+  -- other reservations with as many pins
+  other_reservations : (reservations : List Reservation) → ((d : BufId) → (reservation_in reservations d).pins ≡ (reservation_in s.reservations d).pins) → Fit script (list_in script reservations s.core.buffers) s.lists
+  other_reservations reservations same = fit_same script (list_in script s.reservations s.core.buffers) (list_in script reservations s.core.buffers) s.lists (λ d. ap (λ p. list_of script d p (live_in s.core.buffers d)) (same d)) h
 
   -- one buffer changed where it stands
-  one_changed : (f : Buffer → Buffer) → ((x : Buffer) → (f x).mem ≡ x.mem) → (b : BufId) → Fit script (list_in script s.grips (changed f s.core.buffers b)) s.lists
+  one_changed : (f : Buffer → Buffer) → ((x : Buffer) → (f x).mem ≡ x.mem) → (b : BufId) → Fit script (list_in script s.reservations (changed f s.core.buffers b)) s.lists
   one_changed f same b =
-      fit_same script (list_in script s.grips s.core.buffers) (list_in script s.grips (changed f s.core.buffers b)) s.lists (λ d. list_changed script f same s.core.buffers b d (grip_in s.grips d).pins) h
+      fit_same script (list_in script s.reservations s.core.buffers) (list_in script s.reservations (changed f s.core.buffers b)) s.lists (λ d. list_changed script f same s.core.buffers b d (reservation_in s.reservations d).pins) h
 
   -- ---- kinds that list a buffer anew
 
-  new_listed : Rules script → (b : BufId) → b.0 < length s.core.buffers → (x : Buffer) → Fit script (list_in script (slice_set s.grips b.0 no_grip) (slice_set s.core.buffers b.0 (Some x))) (listed_as script s.lists b no_grip (Some x))
+  new_listed : Rules script → (b : BufId) → b.0 < length s.core.buffers → (x : Buffer) → Fit script (list_in script (slice_set s.reservations b.0 no_reservation) (slice_set s.core.buffers b.0 (Some x))) (listed_as script s.lists b no_reservation (Some x))
   new_listed r b within x =
-      fit_listed script b r (list_in script s.grips s.core.buffers) (list_in script (slice_set s.grips b.0 no_grip) (slice_set s.core.buffers b.0 (Some x))) s.lists no_grip (Some x)
-      (λ d n. ap₂ (λ g o. list_of script d g.pins o) (grip_other s.grips b d no_grip n) (live_set s.core.buffers b d (Some x) n))
-      (ap₂ (λ g o. list_of script b g.pins o) (fresh_grip s.grips b) (ap (option_and_then (λ y. y)) (set_here s.core.buffers b.0 (Some x) within))) h
+      fit_listed script b r (list_in script s.reservations s.core.buffers) (list_in script (slice_set s.reservations b.0 no_reservation) (slice_set s.core.buffers b.0 (Some x))) s.lists no_reservation (Some x)
+      (λ d n. ap₂ (λ g o. list_of script d g.pins o) (reservation_other s.reservations b d no_reservation n) (live_set s.core.buffers b d (Some x) n))
+      (ap₂ (λ g o. list_of script b g.pins o) (fresh_reservation s.reservations b) (ap (option_and_then (λ y. y)) (set_here s.core.buffers b.0 (Some x) within))) h
 
-  free_listed : (b : BufId) → Fit script (list_in script (slice_set s.grips b.0 no_grip) (slice_set s.core.buffers b.0 None)) (taken_off s.lists b)
+  free_listed : (b : BufId) → Fit script (list_in script (slice_set s.reservations b.0 no_reservation) (slice_set s.core.buffers b.0 None)) (taken_off s.lists b)
   free_listed b =
-      fit_off script b (list_in script s.grips s.core.buffers) (list_in script (slice_set s.grips b.0 no_grip) (slice_set s.core.buffers b.0 None)) s.lists
-      (λ d n. ap₂ (λ g o. list_of script d g.pins o) (grip_other s.grips b d no_grip n) (live_set s.core.buffers b d None n))
-      (ap (list_of script b (grip_in (slice_set s.grips b.0 no_grip) b).pins) (gone s.core.buffers b)) h
+      fit_off script b (list_in script s.reservations s.core.buffers) (list_in script (slice_set s.reservations b.0 no_reservation) (slice_set s.core.buffers b.0 None)) s.lists
+      (λ d n. ap₂ (λ g o. list_of script d g.pins o) (reservation_other s.reservations b d no_reservation n) (live_set s.core.buffers b d None n))
+      (ap (list_of script b (reservation_in (slice_set s.reservations b.0 no_reservation) b).pins) (gone s.core.buffers b)) h
 
-  relisted : Rules script → (f : Buffer → Buffer) (b : BufId) → Fit script (list_in script s.grips (changed f s.core.buffers b)) (touched script (changed f s.core.buffers b) s.grips s.lists b)
+  relisted : Rules script → (f : Buffer → Buffer) (b : BufId) → Fit script (list_in script s.reservations (changed f s.core.buffers b)) (touched script (changed f s.core.buffers b) s.reservations s.lists b)
   relisted r f b =
-      fit_touched script r (changed f s.core.buffers b) s.grips (list_in script s.grips s.core.buffers) s.lists b
-      (λ d n. ap (list_of script d (grip_in s.grips d).pins) (live_set s.core.buffers b d (option_map f (live_in s.core.buffers b)) n)) h
+      fit_touched script r (changed f s.core.buffers b) s.reservations (list_in script s.reservations s.core.buffers) s.lists b
+      (λ d n. ap (list_of script d (reservation_in s.reservations d).pins) (live_set s.core.buffers b d (option_map f (live_in s.core.buffers b)) n)) h
 
-  loose_listed : Rules script → (b : BufId) (g : Grip) → Fit script (list_in script (slice_set s.grips b.0 g) s.core.buffers) (touched script s.core.buffers (slice_set s.grips b.0 g) s.lists b)
+  loose_listed : Rules script → (b : BufId) (g : Reservation) → Fit script (list_in script (slice_set s.reservations b.0 g) s.core.buffers) (touched script s.core.buffers (slice_set s.reservations b.0 g) s.lists b)
   loose_listed r b g =
-      fit_touched script r s.core.buffers (slice_set s.grips b.0 g) (list_in script s.grips s.core.buffers) s.lists b
-      (λ d n. ap (λ z. list_of script d z.pins (live_in s.core.buffers d)) (grip_other s.grips b d g n)) h
+      fit_touched script r s.core.buffers (slice_set s.reservations b.0 g) (list_in script s.reservations s.core.buffers) s.lists b
+      (λ d n. ap (λ z. list_of script d z.pins (live_in s.core.buffers d)) (reservation_other s.reservations b d g n)) h
 
 -- ---- a result
 
@@ -146,28 +146,28 @@ module _ (script : Script) (s : State) (h : AreListed script s) where
 abbrev HoldsPinned : Course → Option Command → Type 0
 HoldsPinned c o = (b : BufId) → (o ≡ Some (command.Pin b)) ⊎ (o ≡ Some (command.Unpin b)) → has_buffer c.held b ≡ true
 
-pins_elsewhere : (c : Course) (o : Option Command) (grips : List Grip) → HoldsPinned c o → (d : BufId) → has_buffer (held_as_named c o) d ≡ false → (grip_in (with_pins o grips) d).pins ≡ (grip_in grips d).pins
-pins_elsewhere c None grips held d h = refl
-pins_elsewhere c (Some (command.Pin b)) grips held d h = by (same_or_other d b)
+pins_elsewhere : (c : Course) (o : Option Command) (reservations : List Reservation) → HoldsPinned c o → (d : BufId) → has_buffer (held_as_named c o) d ≡ false → (reservation_in (with_pins o reservations) d).pins ≡ (reservation_in reservations d).pins
+pins_elsewhere c None reservations held d h = refl
+pins_elsewhere c (Some (command.Pin b)) reservations held d h = by (same_or_other d b)
   where
     there : (q : Bool) → q ≡ true → has_buffer (cond q (b ∷ []) []) b ≡ true
     there true e = or_left (same_buffer b b) false (same_self b)
     there false e = cc
 
-    by : (d ≡ b) ⊎ (d ≡ b → ⊥) → (grip_in (slice_set grips b.0 (pinned_more (grip_in grips b))) d).pins ≡ (grip_in grips d).pins
+    by : (d ≡ b) ⊎ (d ≡ b → ⊥) → (reservation_in (slice_set reservations b.0 (pinned_more (reservation_in reservations b))) d).pins ≡ (reservation_in reservations d).pins
     by (inl e) = absurd (clash (sym (there (has_buffer c.held b) (held b (inl refl))) ∙ subst (λ z. has_buffer (held_as_named c (Some (command.Pin b))) z ≡ false) e h))
-    by (inr n) = ap (λ g. g.pins) (grip_other grips b d (pinned_more (grip_in grips b)) n)
-pins_elsewhere c (Some (command.Unpin b)) grips held d h = by (same_or_other d b)
+    by (inr n) = ap (λ g. g.pins) (reservation_other reservations b d (pinned_more (reservation_in reservations b)) n)
+pins_elsewhere c (Some (command.Unpin b)) reservations held d h = by (same_or_other d b)
   where
     there : (q : Bool) → q ≡ true → has_buffer (cond q (b ∷ []) []) b ≡ true
     there true e = or_left (same_buffer b b) false (same_self b)
     there false e = cc
 
-    by : (d ≡ b) ⊎ (d ≡ b → ⊥) → (grip_in (slice_set grips b.0 (pinned_less (grip_in grips b))) d).pins ≡ (grip_in grips d).pins
+    by : (d ≡ b) ⊎ (d ≡ b → ⊥) → (reservation_in (slice_set reservations b.0 (pinned_less (reservation_in reservations b))) d).pins ≡ (reservation_in reservations d).pins
     by (inl e) = absurd (clash (sym (there (has_buffer c.held b) (held b (inr refl))) ∙ subst (λ z. has_buffer (held_as_named c (Some (command.Unpin b))) z ≡ false) e h))
-    by (inr n) = ap (λ g. g.pins) (grip_other grips b d (pinned_less (grip_in grips b)) n)
-pins_elsewhere c (Some (command.New b)) grips held d h = refl
-pins_elsewhere c (Some cmd) grips held d h = refl
+    by (inr n) = ap (λ g. g.pins) (reservation_other reservations b d (pinned_less (reservation_in reservations b)) n)
+pins_elsewhere c (Some (command.New b)) reservations held d h = refl
+pins_elsewhere c (Some cmd) reservations held d h = refl
 
 -- it pins or unpins the buffer
 abbrev Pins : Command → BufId → Type 0
@@ -215,8 +215,8 @@ new_within script r s t b good st = declared (new_command script s (course s t) 
 
 module _ (script : Script) (r : Rules script) (s : State) (t : ℕ) (good : GoodState script s) (courses : GoodCourses script s) (h : AreListed script s) where
   pub listed_keeps : (k : Kind) → Stepped script s t k → AreListed script (applied script s (actor.Thread t) k)
-  listed_keeps (kind.Reserve b) st = other_grips script s h (regripped (with_holder (course s t).stamp) s.grips b) (λ d. pins_set s.grips b d (with_holder (course s t).stamp (grip_in s.grips b)) refl)
-  listed_keeps (kind.Backoff b stamp) st = other_grips script s h (released s.grips (course s t).held) (pins_released (course s t).held s.grips)
+  listed_keeps (kind.Reserve b) st = other_reservations script s h (reservation_changed (with_holder (course s t).stamp) s.reservations b) (λ d. pins_set s.reservations b d (with_holder (course s t).stamp (reservation_in s.reservations b)) refl)
+  listed_keeps (kind.Backoff b stamp) st = other_reservations script s h (released s.reservations (course s t).held) (pins_released (course s t).held s.reservations)
   listed_keeps (kind.New b) st = new_listed script s h r b (new_within script r s t b good st) (new_buffer (decl script b).pages)
   listed_keeps (kind.Free b g) st = free_listed script s h b
   listed_keeps (kind.Take b mem spans) st =
@@ -229,23 +229,23 @@ module _ (script : Script) (r : Rules script) (s : State) (t : ℕ) (good : Good
   listed_keeps (kind.Unbind b) st = relisted script s h r unbound b
   listed_keeps (kind.Move b mem n l) st = relisted script s h r (moved mem (record { ctx = 0; num = n })) b
   listed_keeps (kind.Catch b w) st =
-      fit_same script (list_in script (regripped (with_holder (course s t).stamp) s.grips b) s.core.buffers) (list_in script (regripped (with_holder (course s t).stamp) s.grips b) (changed (λ x. leaves_tt x.mem x) s.core.buffers b)) s.lists
-      (λ d. list_changed script (λ x. leaves_tt x.mem x) (λ x. leaves_mem x.mem x) s.core.buffers b d (grip_in (regripped (with_holder (course s t).stamp) s.grips b) d).pins)
-      (other_grips script s h (regripped (with_holder (course s t).stamp) s.grips b) (λ d. pins_set s.grips b d (with_holder (course s t).stamp (grip_in s.grips b)) refl))
-  listed_keeps (kind.Loose b) st = loose_listed script s h r b (with_holder None (grip_in s.grips b))
-  listed_keeps (kind.Skip b) st = other_grips script s h (regripped (with_holder None) s.grips b) (λ d. pins_set s.grips b d (with_holder None (grip_in s.grips b)) refl)
+      fit_same script (list_in script (reservation_changed (with_holder (course s t).stamp) s.reservations b) s.core.buffers) (list_in script (reservation_changed (with_holder (course s t).stamp) s.reservations b) (changed (λ x. leaves_tt x.mem x) s.core.buffers b)) s.lists
+      (λ d. list_changed script (λ x. leaves_tt x.mem x) (λ x. leaves_mem x.mem x) s.core.buffers b d (reservation_in (reservation_changed (with_holder (course s t).stamp) s.reservations b) d).pins)
+      (other_reservations script s h (reservation_changed (with_holder (course s t).stamp) s.reservations b) (λ d. pins_set s.reservations b d (with_holder (course s t).stamp (reservation_in s.reservations b)) refl))
+  listed_keeps (kind.Loose b) st = loose_listed script s h r b (with_holder None (reservation_in s.reservations b))
+  listed_keeps (kind.Skip b) st = other_reservations script s h (reservation_changed (with_holder None) s.reservations b) (λ d. pins_set s.reservations b d (with_holder None (reservation_in s.reservations b)) refl)
   listed_keeps (kind.SwapOut b page slot) st = one_changed script s h (with_loc page (loc.Slot slot)) (λ x. refl) b
   listed_keeps (kind.Arm engine n) st =
-      fit_same script (list_in script s.grips s.core.buffers) _ s.lists
-      (λ d. list_used script (record { ctx = engine; num = n }) (ops_of (command_at_work script s t)) (named_in (command_at_work script s t)) s.core.buffers d (grip_in s.grips d).pins) h
-  listed_keeps (kind.Bulk group) st = fit_bulk script (list_in script s.grips s.core.buffers) group s.lists h
+      fit_same script (list_in script s.reservations s.core.buffers) _ s.lists
+      (λ d. list_used script (record { ctx = engine; num = n }) (ops_of (command_at_work script s t)) (named_in (command_at_work script s t)) s.core.buffers d (reservation_in s.reservations d).pins) h
+  listed_keeps (kind.Bulk group) st = fit_bulk script (list_in script s.reservations s.core.buffers) group s.lists h
   listed_keeps (kind.Result shown) st =
-      fit_all_touched script r s.core.buffers (with_pins (command_at_work script s t) (released s.grips (course s t).held)) (held_as_named (course s t) (command_at_work script s t)) (list_in script s.grips s.core.buffers) s.lists
+      fit_all_touched script r s.core.buffers (with_pins (command_at_work script s t) (released s.reservations (course s t).held)) (held_as_named (course s t) (command_at_work script s t)) (list_in script s.reservations s.core.buffers) s.lists
       (λ d none.
       ap (λ p. list_of script d p (live_in s.core.buffers d))
-      (pins_elsewhere (course s t) (command_at_work script s t) (released s.grips (course s t).held) (result_holds script s t shown courses st) d none ∙ pins_released (course s t).held s.grips d))
+      (pins_elsewhere (course s t) (command_at_work script s t) (released s.reservations (course s t).held) (result_holds script s t shown courses st) d none ∙ pins_released (course s t).held s.reservations d))
       h
-  listed_keeps (kind.Refused d) st = other_grips script s h (released s.grips (course s t).held) (pins_released (course s t).held s.grips)
+  listed_keeps (kind.Refused d) st = other_reservations script s h (released s.reservations (course s t).held) (pins_released (course s t).held s.reservations)
   listed_keeps k st = h
 
 pub listed_stays : (script : Script) (s : State) (who : Actor) (k : Kind) → OfWorker k → AreListed script s → AreListed script (applied script s who k)

@@ -10,7 +10,7 @@ use Rattle.journal_model.specs.declared.state.State.{State}
 use Rattle.journal_model.specs.declared.state.Buffer.{Buffer}
 use Rattle.journal_model.specs.declared.entry.Entry.{Entry}
 use Rattle.journal_model.specs.declared.entry.Kind.{Kind}
-use Rattle.journal_model.specs.State.{live_in, grip}
+use Rattle.journal_model.specs.State.{live_in, reservation}
 use Rattle.journal_model.specs.Commands.{decl}
 use Rattle.journal_model.specs.Lists.{list_number, is_member}
 use Rattle.journal_model.specs.Next.{next}
@@ -60,7 +60,7 @@ nobody_lives [] i = refl
 nobody_lives (x ∷ xs) zero = refl
 nobody_lives (x ∷ xs) (suc i) = nobody_lives xs i
 
-none_listed : (script : Script) (d : BufId) → list_in script (first_state script).grips (first_state script).core.buffers d ≡ None
+none_listed : (script : Script) (d : BufId) → list_in script (first_state script).reservations (first_state script).core.buffers d ≡ None
 none_listed script d = ap (list_of script d _) (nobody_lives script.buffers d.0)
 
 empty_list : (n i : ℕ) (l : List BufId) → slice_get (replicate n []) i ≡ Some l → l ≡ []
@@ -73,8 +73,8 @@ first_listed script =
     record {
       twelve = refl;
       each = λ i l h.
-          subst (Stands script (list_in script (first_state script).grips (first_state script).core.buffers) i) (sym (empty_list 12 i l h))
-          (nothing_stands script (list_in script (first_state script).grips (first_state script).core.buffers) i (none_listed script));
+          subst (Stands script (list_in script (first_state script).reservations (first_state script).core.buffers) i) (sym (empty_list 12 i l h))
+          (nothing_stands script (list_in script (first_state script).reservations (first_state script).core.buffers) i (none_listed script));
     }
 
 -- ---- along a journal
@@ -93,12 +93,12 @@ carried_law script journal fits h =
 -- ---- in plain words
 
 module _ (script : Script) (r : Rules script) (s : State) (h : AreListed script s) where
-  on_own : (b : BufId) (x : Buffer) → live_in s.core.buffers b ≡ Some x → (grip s b).pins ≡ 0 → IsOn s (list_number x.mem (decl script b).prio) b
+  on_own : (b : BufId) (x : Buffer) → live_in s.core.buffers b ≡ Some x → (reservation s b).pins ≡ 0 → IsOn s (list_number x.mem (decl script b).prio) b
   on_own b x live loose =
       let many = h.twelve in
       let low = number_below script r b x.mem in
       let l = get_below s.lists (list_number x.mem (decl script b).prio) (omega (arith, many, low)) in
-      (l.0, l.1, (h.each (list_number x.mem (decl script b).prio) l.0 l.1).has b ∙ (ap (is_number (list_number x.mem (decl script b).prio)) (ap (list_of script b (grip s b).pins) live) ∙ own (grip s b).pins loose))
+      (l.0, l.1, (h.each (list_number x.mem (decl script b).prio) l.0 l.1).has b ∙ (ap (is_number (list_number x.mem (decl script b).prio)) (ap (list_of script b (reservation s b).pins) live) ∙ own (reservation s b).pins loose))
     where
       own : (pins : ℕ) → pins ≡ 0 → is_number (list_number x.mem (decl script b).prio) (list_of script b pins (Some x)) ≡ true
       own pins e = ap (λ p. is_number (list_number x.mem (decl script b).prio) (list_of script b p (Some x))) e ∙ eq-eqb (list_number x.mem (decl script b).prio) (list_number x.mem (decl script b).prio) refl
@@ -106,13 +106,13 @@ module _ (script : Script) (r : Rules script) (s : State) (h : AreListed script 
   belongs : (i : ℕ) (b : BufId) → IsOn s i b → BelongsOn script s i b
   belongs i b on = by (live_in s.core.buffers b) refl (sym ((h.each i on.0 on.1).has b) ∙ on.2)
     where
-      by_pins : (x : Buffer) → live_in s.core.buffers b ≡ Some x → (q : Bool) → ((grip s b).pins == 0) ≡ q → is_number i (if q then Some (list_number x.mem (decl script b).prio) else None) ≡ true → BelongsOn script s i b
-      by_pins x e true p g = record { buffer = x; live = e; loose = eqb-true (grip s b).pins 0 p; number = sym (eqb-true (list_number x.mem (decl script b).prio) i g) }
+      by_pins : (x : Buffer) → live_in s.core.buffers b ≡ Some x → (q : Bool) → ((reservation s b).pins == 0) ≡ q → is_number i (if q then Some (list_number x.mem (decl script b).prio) else None) ≡ true → BelongsOn script s i b
+      by_pins x e true p g = record { buffer = x; live = e; loose = eqb-true (reservation s b).pins 0 p; number = sym (eqb-true (list_number x.mem (decl script b).prio) i g) }
       by_pins x e false p g = cc
 
-      by : (o : Option Buffer) → live_in s.core.buffers b ≡ o → is_number i (list_of script b (grip s b).pins o) ≡ true → BelongsOn script s i b
+      by : (o : Option Buffer) → live_in s.core.buffers b ≡ o → is_number i (list_of script b (reservation s b).pins o) ≡ true → BelongsOn script s i b
       by None e g = cc
-      by (Some x) e g = by_pins x e ((grip s b).pins == 0) refl g
+      by (Some x) e g = by_pins x e ((reservation s b).pins == 0) refl g
 
   good_lists : GoodLists script s
   good_lists =

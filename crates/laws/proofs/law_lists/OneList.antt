@@ -5,8 +5,8 @@ use Rattle.std.proofs.lemmas.Bool.{ne_eqb, eq-eqb, or_left}
 use Rattle.ttm_base.specs.declared.BufId.{BufId}
 use Rattle.journal_model.specs.declared.script.Script.{Script}
 use Rattle.journal_model.specs.declared.state.Buffer.{Buffer}
-use Rattle.journal_model.specs.declared.state.Grip.{Grip}
-use Rattle.journal_model.specs.State.{same_buffer, has_buffer, without_buffer, live_in, grip_in}
+use Rattle.journal_model.specs.declared.state.Reservation.{Reservation}
+use Rattle.journal_model.specs.State.{same_buffer, has_buffer, without_buffer, live_in, reservation_in}
 use Rattle.journal_model.specs.Commands.{decl}
 use Rattle.journal_model.specs.Lists.{list_number, is_mate, placed_in, is_member, members_last}
 use Rattle.laws.proofs.law_sound.Bufs.{same_self, same_or_other, other_is, has_without, without_gone, without_kept, clash}
@@ -19,8 +19,8 @@ list_of script b pins None = None
 list_of script b pins (Some x) = if pins == 0 then Some (list_number x.mem (decl script b).prio) else None
 
 -- by pins and places
-abbrev pub list_in : Script → List Grip → List (Option Buffer) → BufId → Option ℕ
-list_in script grips buffers b = list_of script b (grip_in grips b).pins (live_in buffers b)
+abbrev pub list_in : Script → List Reservation → List (Option Buffer) → BufId → Option ℕ
+list_in script reservations buffers b = list_of script b (reservation_in reservations b).pins (live_in buffers b)
 
 -- the number is that of the list
 abbrev pub is_number : ℕ → Option ℕ → Bool

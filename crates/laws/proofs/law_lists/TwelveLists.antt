@@ -9,8 +9,8 @@ use Rattle.ttm_base.specs.declared.BufId.{BufId}
 use Rattle.journal_model.specs.declared.script.Script.{Script}
 use Rattle.journal_model.specs.declared.script.Decl.{Decl}
 use Rattle.journal_model.specs.declared.state.Buffer.{Buffer}
-use Rattle.journal_model.specs.declared.state.Grip.{Grip}
-use Rattle.journal_model.specs.State.{same_buffer, has_buffer, without_buffer, live_in, grip_in}
+use Rattle.journal_model.specs.declared.state.Reservation.{Reservation}
+use Rattle.journal_model.specs.State.{same_buffer, has_buffer, without_buffer, live_in, reservation_in}
 use Rattle.journal_model.specs.Commands.{decl, undeclared}
 use Rattle.journal_model.specs.ScriptRules.{is_decl}
 use Rattle.journal_model.specs.Lists.{list_number, is_mate, placed_in, taken_off, put_on, listed_as, touched, is_member, members_last}
@@ -122,10 +122,10 @@ module _ (script : Script) (b : BufId) where
           stands_kept script f g b others i l
           (fit.each i l (sym (set_there lists n i (placed_in (is_mate script b) b (unwrap_or (slice_get lists n) [])) (λ e. d (sym e))) ∙ h)) n none here d
 
-  pub fit_listed : Rules script → (f g : BufId → Option ℕ) (lists : List (List BufId)) (grip : Grip) (o : Option Buffer) → ((d : BufId) → (d ≡ b → ⊥) → g d ≡ f d) → g b ≡ list_of script b grip.pins o → Fit script f lists
-      → Fit script g (listed_as script lists b grip o)
-  fit_listed r f g lists grip None others here fit = fit_off f g lists others here fit
-  fit_listed r f g lists grip (Some x) others here fit = by (grip.pins == 0) here
+  pub fit_listed : Rules script → (f g : BufId → Option ℕ) (lists : List (List BufId)) (reservation : Reservation) (o : Option Buffer) → ((d : BufId) → (d ≡ b → ⊥) → g d ≡ f d) → g b ≡ list_of script b reservation.pins o → Fit script f lists
+      → Fit script g (listed_as script lists b reservation o)
+  fit_listed r f g lists reservation None others here fit = fit_off f g lists others here fit
+  fit_listed r f g lists reservation (Some x) others here fit = by (reservation.pins == 0) here
     where
       off : Fit script (λ d. cond (same_buffer d b) None (f d)) (taken_off lists b)
       off = fit_off f (λ d. cond (same_buffer d b) None (f d)) lists (λ d n. cond-false (same_buffer d b) None (f d) (other_is d b n)) (cond-true (same_buffer b b) None (f b) (same_self b)) fit
@@ -139,21 +139,21 @@ module _ (script : Script) (b : BufId) where
 
 -- ---- several touched
 
-module _ (script : Script) (r : Rules script) (buffers : List (Option Buffer)) (grips : List Grip) where
-  pub fit_touched : (f : BufId → Option ℕ) (lists : List (List BufId)) (b : BufId) → ((d : BufId) → (d ≡ b → ⊥) → list_in script grips buffers d ≡ f d) → Fit script f lists
-      → Fit script (list_in script grips buffers) (touched script buffers grips lists b)
-  fit_touched f lists b others fit = fit_listed script b r f (list_in script grips buffers) lists (grip_in grips b) (live_in buffers b) others refl fit
+module _ (script : Script) (r : Rules script) (buffers : List (Option Buffer)) (reservations : List Reservation) where
+  pub fit_touched : (f : BufId → Option ℕ) (lists : List (List BufId)) (b : BufId) → ((d : BufId) → (d ≡ b → ⊥) → list_in script reservations buffers d ≡ f d) → Fit script f lists
+      → Fit script (list_in script reservations buffers) (touched script buffers reservations lists b)
+  fit_touched f lists b others fit = fit_listed script b r f (list_in script reservations buffers) lists (reservation_in reservations b) (live_in buffers b) others refl fit
 
-  pub fit_all_touched : (bs : List BufId) (f : BufId → Option ℕ) (lists : List (List BufId)) → ((d : BufId) → has_buffer bs d ≡ false → list_in script grips buffers d ≡ f d) → Fit script f lists
-      → Fit script (list_in script grips buffers) (fold (touched script buffers grips) lists bs)
-  fit_all_touched [] f lists others fit = fit_same script f (list_in script grips buffers) lists (λ d. others d refl) fit
+  pub fit_all_touched : (bs : List BufId) (f : BufId → Option ℕ) (lists : List (List BufId)) → ((d : BufId) → has_buffer bs d ≡ false → list_in script reservations buffers d ≡ f d) → Fit script f lists
+      → Fit script (list_in script reservations buffers) (fold (touched script buffers reservations) lists bs)
+  fit_all_touched [] f lists others fit = fit_same script f (list_in script reservations buffers) lists (λ d. others d refl) fit
   fit_all_touched (b ∷ bs) f lists others fit =
-      fit_all_touched bs (λ d. cond (same_buffer d b) (list_in script grips buffers d) (f d)) (touched script buffers grips lists b)
+      fit_all_touched bs (λ d. cond (same_buffer d b) (list_in script reservations buffers d) (f d)) (touched script buffers reservations lists b)
       (λ d h. by d (same_buffer d b) refl h)
-      (fit_listed script b r f (λ d. cond (same_buffer d b) (list_in script grips buffers d) (f d)) lists (grip_in grips b) (live_in buffers b)
-      (λ d n. cond-false (same_buffer d b) (list_in script grips buffers d) (f d) (other_is d b n))
-      (cond-true (same_buffer b b) (list_in script grips buffers b) (f b) (same_self b)) fit)
+      (fit_listed script b r f (λ d. cond (same_buffer d b) (list_in script reservations buffers d) (f d)) lists (reservation_in reservations b) (live_in buffers b)
+      (λ d n. cond-false (same_buffer d b) (list_in script reservations buffers d) (f d) (other_is d b n))
+      (cond-true (same_buffer b b) (list_in script reservations buffers b) (f b) (same_self b)) fit)
     where
-      by : (d : BufId) (q : Bool) → same_buffer d b ≡ q → has_buffer bs d ≡ false → list_in script grips buffers d ≡ cond q (list_in script grips buffers d) (f d)
+      by : (d : BufId) (q : Bool) → same_buffer d b ≡ q → has_buffer bs d ≡ false → list_in script reservations buffers d ≡ cond q (list_in script reservations buffers d) (f d)
       by d true e h = refl
       by d false e h = others d (or_from (same_buffer d b) (has_buffer bs d) e h)

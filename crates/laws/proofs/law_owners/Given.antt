@@ -30,7 +30,7 @@ use Rattle.journal_model.specs.Holds.{free_frame, free_slot}
 use Rattle.journal_model.specs.Choice.{choice}
 use Rattle.journal_model.specs.Dry.{has_frame}
 use Rattle.journal_model.specs.Waits.{waited_for, jobs_before_write}
-use Rattle.journal_model.specs.Search.{Step, Quest, quest, step_of_quest, step_of_forced, step_of_forced_place, step_of_crowded, first_choice}
+use Rattle.journal_model.specs.Search.{Step, PlaceSearch, place_search, step_of_place_search, step_of_forced, step_of_forced_place, step_of_crowded, first_choice}
 use Rattle.journal_model.specs.PageSteps.{unless_waiting, once_idle, filled_by, page_to_fill, first_frame_page, step_of_fill, step_without_frame, step_of_swap_out, step_of_empty, why_caught}
 use Rattle.journal_model.specs.Next.{plain, step_of_act, step_of_task}
 
@@ -85,8 +85,8 @@ forced_gives script s c b k place e h = by (choice script s.core b place) refl h
     by (Some spans) q g = same_gives script s (kind.Take b place.mem spans) e g (place, refl, q)
     by None q g = quiet script s e (crowded_takes_none script s c b k place e g)
 
-quest_gives : (script : Script) (s : State) (c : Course) (b : BufId) (q : Quest) (e : Kind) → step_of_quest script s c b q ≡ Ok e → Gives script s e
-quest_gives script s c b q e h = by q.forced (first_choice script s b (first_places q.list)) refl h
+place_search_gives : (script : Script) (s : State) (c : Course) (b : BufId) (q : PlaceSearch) (e : Kind) → step_of_place_search script s c b q ≡ Ok e → Gives script s e
+place_search_gives script s c b q e h = by q.forced (first_choice script s b (first_places q.list)) refl h
   where
     forced : step_of_forced script s c b q.dry (forced_places q.list) ≡ Ok e → Gives script s e
     forced g = forced_gives script s c b q.dry (unwrap_or (slice_get (forced_places q.list) q.dry) (whole System)) e g
@@ -178,7 +178,7 @@ act_takes_none script s cmd k h = quiet script s k (grind (arith, common_steps))
 
 pub task_gives : (script : Script) (s : State) (c : Course) (cmd : Command) (t : Task) (k : Kind) → step_of_task script s c cmd t ≡ Ok k → Gives script s k
 task_gives script s c cmd task.Idle k h = cc
-task_gives script s c cmd (task.Search x aim) k h = quest_gives script s c x (quest script cmd c x aim) k h
+task_gives script s c cmd (task.Search x aim) k h = place_search_gives script s c x (place_search script cmd c x aim) k h
 task_gives script s c cmd (task.Fill x) k h = fill_gives script s x k h
 task_gives script s c cmd (task.Empty x) k h = empty_gives script s c x k h
 task_gives script s c cmd task.Act k h = act_takes_none script s cmd k h

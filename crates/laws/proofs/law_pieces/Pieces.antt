@@ -170,7 +170,7 @@ module _ (aper : pages.Aperture) (names : PageMap) (place : ℕ → ℕ → Page
       (ap (steps place (views_of ops)) (op_on_memory o m (op_is_apart script o parts.0)) ∙ ops_steps script ops (after_op m o) parts.1)
       ∙ sym (shown-append (packet_of names o) (piece_shown m o) (pieces_of o) (packets_of names ops) (pieces_shown (after_op m o) ops))
 
--- ---- dues by number
+-- ---- owed_probes by number
 
 same_from : (aper : pages.Aperture) (ps : List Packet) (ds : List (List ℕ)) (due : ℕ → List ℕ) (k : ℕ) → ((j : ℕ) → due (k + j) ≡ unwrap_or (slice_get ds j) []) → with_shown aper ps ds ≡ steps_from aper due k ps
 same_from aper [] ds due k h = refl

@@ -19,7 +19,7 @@ use Rattle.journal_model.specs.declared.script.Command.TheVariants as command
 use Rattle.journal_model.specs.Commands.{as_desired, as_fallback, commands_of, named}
 use Rattle.journal_model.specs.Complete.{thread_numbers}
 use Rattle.journal_model.specs.CommandRules.{is_between, is_op, is_command, command_len}
-use Rattle.journal_model.specs.MarkRules.{Desk, empty_desk, desk_after, is_mark, is_way, are_marks, marks_fit, are_in_order, is_in_thread, has_few_lines, have_marks}
+use Rattle.journal_model.specs.MarkRules.{ThreadMappings, empty_thread_mappings, thread_mappings_after, is_mark, is_way, are_marks, marks_fit, are_in_order, is_in_thread, has_few_lines, have_marks}
 use Rattle.journal_model.specs.ScriptRules.{is_script, is_decl, is_name, is_group, is_flagged, is_old_list, is_new_list, is_place_list, is_actor, is_turn_line, has_sizes, has_distinct_names}
 use Rattle.journal_model.specs.OldSearch.{one_list}
 use Rattle.journal_model.specs.Marks.{marks_at}
@@ -83,7 +83,7 @@ module _ (v : ℕ) (script : Script) where
   turns_same : (actors : List Actor) → is_turn_line (in_version v script) actors ≡ is_turn_line script actors
   turns_same actors = λ i. is_between 1 64 (length actors) && list_all (λ who. actor_same who i) actors
 
-  mark_same : (d : Desk) (m : MarkKind) → is_mark (in_version v script) d m ≡ is_mark script d m
+  mark_same : (d : ThreadMappings) (m : MarkKind) → is_mark (in_version v script) d m ≡ is_mark script d m
   mark_same d (mark.Map b) = refl
   mark_same d (mark.Unmap b) = refl
   mark_same d (mark.Vmap va n b off) = refl
@@ -91,27 +91,27 @@ module _ (v : ℕ) (script : Script) where
   mark_same d mark.Mapped = refl
   mark_same d (mark.Vsubmit ops) = refl
 
-  are_same : (d : Desk) (ms : List MarkKind) (o : Option Command) → are_marks (in_version v script) d ms o ≡ are_marks script d ms o
+  are_same : (d : ThreadMappings) (ms : List MarkKind) (o : Option Command) → are_marks (in_version v script) d ms o ≡ are_marks script d ms o
   are_same d [] o = refl
   are_same d (m ∷ []) o = ap (λ q. q || is_way d m o) (mark_same d m)
-  are_same d (m ∷ k ∷ ms) o = ap₂ (λ p q. p && q) (mark_same d m) (are_same (desk_after d m) (k ∷ ms) o)
+  are_same d (m ∷ k ∷ ms) o = ap₂ (λ p q. p && q) (mark_same d m) (are_same (thread_mappings_after d m) (k ∷ ms) o)
 
-  fit_same : (thread n : ℕ) (d : Desk) (cmds : List Command) → marks_fit (in_version v script) thread n d cmds ≡ marks_fit script thread n d cmds
+  fit_same : (thread n : ℕ) (d : ThreadMappings) (cmds : List Command) → marks_fit (in_version v script) thread n d cmds ≡ marks_fit script thread n d cmds
   fit_same thread n d [] = are_same d (marks_at script thread n) None
-  fit_same thread n d (cmd ∷ cmds) = ap₂ (λ p q. p && q) (are_same d (marks_at script thread n) (Some cmd)) (fit_same thread (n + 1) (fold desk_after d (marks_at script thread n)) cmds)
+  fit_same thread n d (cmd ∷ cmds) = ap₂ (λ p q. p && q) (are_same d (marks_at script thread n) (Some cmd)) (fit_same thread (n + 1) (fold thread_mappings_after d (marks_at script thread n)) cmds)
 
-  all_fit_same : list_all (λ t. marks_fit (in_version v script) t 0 empty_desk (commands_of script t)) (thread_numbers script) ≡ list_all (λ t. marks_fit script t 0 empty_desk (commands_of script t)) (thread_numbers script)
-  all_fit_same = λ i. list_all (λ t. fit_same t 0 empty_desk (commands_of script t) i) (thread_numbers script)
+  all_fit_same : list_all (λ t. marks_fit (in_version v script) t 0 empty_thread_mappings (commands_of script t)) (thread_numbers script) ≡ list_all (λ t. marks_fit script t 0 empty_thread_mappings (commands_of script t)) (thread_numbers script)
+  all_fit_same = λ i. list_all (λ t. fit_same t 0 empty_thread_mappings (commands_of script t) i) (thread_numbers script)
 
 -- the marks of a script are those of its form in the second version
 new_marks : (script : Script) → have_marks script ≡ true → have_marks (in_version 2 script) ≡ true
 new_marks script h =
-    let a = and_parts _ (list_all (λ t. marks_fit script t 0 empty_desk (commands_of script t)) (thread_numbers script)) h in
+    let a = and_parts _ (list_all (λ t. marks_fit script t 0 empty_thread_mappings (commands_of script t)) (thread_numbers script)) h in
     let b = and_parts _ (list_all (has_few_lines script) (thread_numbers script)) a.0 in
     let c = and_parts _ (list_all (is_in_thread script) script.marks) b.0 in
     let d = and_parts ((script.version == 2) || (length script.marks == 0)) (are_in_order script.marks) c.0 in
     and_from (true && are_in_order script.marks && list_all (is_in_thread script) script.marks && list_all (has_few_lines script) (thread_numbers script))
-    (list_all (λ t. marks_fit (in_version 2 script) t 0 empty_desk (commands_of script t)) (thread_numbers script))
+    (list_all (λ t. marks_fit (in_version 2 script) t 0 empty_thread_mappings (commands_of script t)) (thread_numbers script))
     (and_from (true && are_in_order script.marks && list_all (is_in_thread script) script.marks) (list_all (has_few_lines script) (thread_numbers script))
     (and_from (true && are_in_order script.marks) (list_all (is_in_thread script) script.marks) d.1 c.1) b.1)
     (all_fit_same 2 script ∙ a.1)

@@ -21,35 +21,35 @@ use Rattle.journal_model.specs.declared.entry.Kind.TheVariants as kind
 use Rattle.journal_model.specs.declared.entry.CauseRow.{CauseRow}
 use Rattle.journal_model.specs.declared.entry.Cause.TheVariants as cause
 use Rattle.journal_model.specs.declared.entry.DryWhy.TheVariants as dry
-use Rattle.journal_model.specs.declared.state.Aim.{Aim}
-use Rattle.journal_model.specs.declared.state.Aim.TheVariants.{Asked, Hop}
+use Rattle.journal_model.specs.declared.state.SearchAim.{SearchAim}
+use Rattle.journal_model.specs.declared.state.SearchAim.TheVariants.{Asked, Hop}
 use Rattle.journal_model.specs.declared.state.State.{State}
 use Rattle.journal_model.specs.declared.state.Core.{Core}
 use Rattle.journal_model.specs.declared.state.Course.{Course}
 use Rattle.journal_model.specs.declared.state.Buffer.{Buffer}
-use Rattle.journal_model.specs.declared.state.Grip.{Grip}
-use Rattle.journal_model.specs.State.{buffer, grip, grip_in, has_buffer, has_target}
+use Rattle.journal_model.specs.declared.state.Reservation.{Reservation}
+use Rattle.journal_model.specs.State.{buffer, reservation, reservation_in, has_buffer, has_target}
 use Rattle.journal_model.specs.Commands.{decl, asked_places, whole}
 use Rattle.journal_model.specs.Holds.{size_of, is_free_page, ghost_spans, live_buffers}
 use Rattle.journal_model.specs.Choice.{choice, choice_in, reach_of}
 use Rattle.journal_model.specs.Dry.{is_long_enough, is_loose, victim, ghost_in, causes}
 use Rattle.journal_model.specs.Lists.{in_order}
 use Rattle.journal_model.specs.Ready.{meets}
-use Rattle.journal_model.specs.Search.{Quest, quest, why_of, step_of_crowded, step_of_forced_place, step_of_forced, first_choice, step_of_quest}
+use Rattle.journal_model.specs.Search.{PlaceSearch, place_search, why_of, step_of_crowded, step_of_forced_place, step_of_forced, first_choice, step_of_place_search}
 
 -- a script in another version, with other marks
 abbrev pub in_form : ℕ → List Mark → Script → Script
 in_form version marks script = record script { version = version; marks = marks }
 
 -- the row of a cause, by what the place reaches
-abbrev cause_row_at : Span → List Grip → Place → BufId × Buffer → Option CauseRow
-cause_row_at r grips place e =
+abbrev cause_row_at : Span → List Reservation → Place → BufId × Buffer → Option CauseRow
+cause_row_at r reservations place e =
     if same_mem e.1.mem place.mem || has_target place.mem e.1
     then Some (record {
       b = e.0;
-      cause = elim (nat_lt 0 (grip_in grips e.0).pins) [
+      cause = elim (nat_lt 0 (reservation_in reservations e.0).pins) [
         | true ↦ cause.Pinned
-        | false ↦ elim (grip_in grips e.0).holder [
+        | false ↦ elim (reservation_in reservations e.0).holder [
           | Some s ↦ cause.Reserved s
           | None ↦ elim (intersects e.1.spans r) [ false ↦ cause.Outside | true ↦ cause.Skipped ]
         ]
@@ -91,22 +91,22 @@ module _ (v : ℕ) (ms : List Mark) (script : Script) where
   asked_same (command.New c) b = refl
   asked_same cmd b = refl
 
-  pub quest_same : (cmd : Command) (c : Course) (b : BufId) (aim : Aim) → quest (in_form v ms script) cmd c b aim ≡ quest script cmd c b aim
-  quest_same cmd c b Asked = λ i. record { list = asked_same cmd b i; forced = c.forced; dry = c.dry }
-  quest_same cmd c b Hop = refl
+  pub place_search_same : (cmd : Command) (c : Course) (b : BufId) (aim : SearchAim) → place_search (in_form v ms script) cmd c b aim ≡ place_search script cmd c b aim
+  place_search_same cmd c b Asked = λ i. record { list = asked_same cmd b i; forced = c.forced; dry = c.dry }
+  place_search_same cmd c b Hop = refl
 
   long_same : (b : BufId) (place : Place) → is_long_enough (in_form v ms script) b place ≡ is_long_enough script b place
   long_same b place = ap (λ r. nat_le (decl script b).pages (length_of r)) (reach_same place)
 
   victim_same : (s : State) (skips : List BufId) (place : Place) → victim (in_form v ms script) s skips place ≡ victim script s skips place
   victim_same s skips place =
-      ap (λ r. find (λ b. same_mem (buffer s b).mem place.mem && intersects (buffer s b).spans r && is_loose (grip s b) && not (has_buffer skips b)) (in_order s place.mem)) (reach_same place)
+      ap (λ r. find (λ b. same_mem (buffer s b).mem place.mem && intersects (buffer s b).spans r && is_loose (reservation s b) && not (has_buffer skips b)) (in_order s place.mem)) (reach_same place)
 
   ghost_same : (s : State) (place : Place) → ghost_in (in_form v ms script) s place ≡ ghost_in script s place
   ghost_same s place = ap (λ r. find (λ g. intersects (ghost_spans place.mem g) r) s.core.ghosts) (reach_same place)
 
   causes_same : (s : State) (place : Place) → causes (in_form v ms script) s place ≡ causes script s place
-  causes_same s place = ap (λ r. filter_map (cause_row_at r s.grips place) (live_buffers s.core)) (reach_same place)
+  causes_same s place = ap (λ r. filter_map (cause_row_at r s.reservations place) (live_buffers s.core)) (reach_same place)
 
   crowded_same : (s : State) (c : Course) (b : BufId) (k : ℕ) (place : Place) → step_of_crowded (in_form v ms script) s c b k place ≡ step_of_crowded script s c b k place
   crowded_same s c b k place = λ i.
@@ -128,7 +128,7 @@ module _ (v : ℕ) (ms : List Mark) (script : Script) where
   forced_same : (s : State) (c : Course) (b : BufId) (k : ℕ) (places : List Place) → step_of_forced (in_form v ms script) s c b k places ≡ step_of_forced script s c b k places
   forced_same s c b k places = forced_place_same s c b k (unwrap_or (slice_get places k) (whole System))
 
-  pub search_same : (s : State) (c : Course) (b : BufId) (q : Quest) → step_of_quest (in_form v ms script) s c b q ≡ step_of_quest script s c b q
+  pub search_same : (s : State) (c : Course) (b : BufId) (q : PlaceSearch) → step_of_place_search (in_form v ms script) s c b q ≡ step_of_place_search script s c b q
   search_same s c b q = λ i.
       elim q.forced [
         | true ↦ forced_same s c b q.dry (forced_places q.list) i

@@ -20,10 +20,10 @@ use Rattle.journal_model.specs.declared.entry.Kind.TheVariants as kind
 use Rattle.journal_model.specs.declared.state.State.{State}
 use Rattle.journal_model.specs.declared.state.Course.{Course}
 use Rattle.journal_model.specs.declared.state.Buffer.{Buffer}
-use Rattle.journal_model.specs.declared.state.Grip.{Grip}
+use Rattle.journal_model.specs.declared.state.Reservation.{Reservation}
 use Rattle.journal_model.specs.declared.state.Task.{Task}
 use Rattle.journal_model.specs.declared.state.Task.TheVariants as task
-use Rattle.journal_model.specs.State.{buffer, grip, grip_in, live_in, course, changed, with_course, regripped}
+use Rattle.journal_model.specs.State.{buffer, reservation, reservation_in, live_in, course, changed, with_course, reservation_changed}
 use Rattle.journal_model.specs.Commands.{named, command_at_work}
 use Rattle.journal_model.specs.Lists.{listed_as, touched}
 use Rattle.journal_model.specs.Ready.{first_unready, has_some_target, is_filled}
@@ -37,7 +37,7 @@ use Rattle.journal_model.specs.ApplyVictims.{with_fail, gone_dry, course_after_d
 use Rattle.journal_model.specs.Apply.{applied, thread_of}
 use Rattle.journal_model.specs.Stores.{Stores, stores_after, showing, within}
 use Rattle.journal_model.specs.Legal.{World, world_after, next_entry, shown_step}
-use Rattle.laws.proofs.law_search.FormSearches.{in_form, quest_same, search_same, meets_same}
+use Rattle.laws.proofs.law_search.FormSearches.{in_form, place_search_same, search_same, meets_same}
 
 module _ (v : ℕ) (ms : List Mark) (script : Script) where
   -- ---- tasks
@@ -50,7 +50,7 @@ module _ (v : ℕ) (ms : List Mark) (script : Script) where
   unready_task_same s cmd b = λ i.
       elim (not (has_some_target (buffer s b)) && meets_same v ms script cmd b (buffer s b) i) [
         | true ↦ task.Fill b
-        | false ↦ task_of_misplaced b (grip s b) (buffer s b)
+        | false ↦ task_of_misplaced b (reservation s b) (buffer s b)
       ]
 
   failed_same : (s : State) (cmd : Command) (d : Deny) → task_of_failed (in_form v ms script) s cmd d ≡ task_of_failed script s cmd d
@@ -90,7 +90,7 @@ module _ (v : ℕ) (ms : List Mark) (script : Script) where
   act_same s cmd = refl
 
   step_same : (s : State) (c : Course) (cmd : Command) (t : Task) → step_of_task (in_form v ms script) s c cmd t ≡ step_of_task script s c cmd t
-  step_same s c cmd (task.Search b aim) = λ i. search_same v ms script s c b (quest_same v ms script cmd c b aim i) i
+  step_same s c cmd (task.Search b aim) = λ i. search_same v ms script s c b (place_search_same v ms script cmd c b aim i) i
   step_same s c cmd task.Act = act_same s cmd
   step_same s c cmd x = refl
 
@@ -108,37 +108,37 @@ module _ (v : ℕ) (ms : List Mark) (script : Script) where
 
   -- ---- states
 
-  listed_same : (lists : List (List BufId)) (b : BufId) (g : Grip) (o : Option Buffer) → listed_as (in_form v ms script) lists b g o ≡ listed_as script lists b g o
+  listed_same : (lists : List (List BufId)) (b : BufId) (g : Reservation) (o : Option Buffer) → listed_as (in_form v ms script) lists b g o ≡ listed_as script lists b g o
   listed_same lists b g None = refl
   listed_same lists b g (Some x) = refl
 
-  touched_same : (buffers : List (Option Buffer)) (grips : List Grip) (lists : List (List BufId)) (b : BufId) → touched (in_form v ms script) buffers grips lists b ≡ touched script buffers grips lists b
-  touched_same buffers grips lists b = listed_same lists b (grip_in grips b) (live_in buffers b)
+  touched_same : (buffers : List (Option Buffer)) (reservations : List Reservation) (lists : List (List BufId)) (b : BufId) → touched (in_form v ms script) buffers reservations lists b ≡ touched script buffers reservations lists b
+  touched_same buffers reservations lists b = listed_same lists b (reservation_in reservations b) (live_in buffers b)
 
-  all_touched_same : (buffers : List (Option Buffer)) (grips : List Grip) (bs : List BufId) (lists : List (List BufId)) → fold (touched (in_form v ms script) buffers grips) lists bs ≡ fold (touched script buffers grips) lists bs
-  all_touched_same buffers grips [] lists = refl
-  all_touched_same buffers grips (b ∷ bs) lists =
-      all_touched_same buffers grips bs (touched (in_form v ms script) buffers grips lists b) ∙ ap (λ l. fold (touched script buffers grips) l bs) (touched_same buffers grips lists b)
+  all_touched_same : (buffers : List (Option Buffer)) (reservations : List Reservation) (bs : List BufId) (lists : List (List BufId)) → fold (touched (in_form v ms script) buffers reservations) lists bs ≡ fold (touched script buffers reservations) lists bs
+  all_touched_same buffers reservations [] lists = refl
+  all_touched_same buffers reservations (b ∷ bs) lists =
+      all_touched_same buffers reservations bs (touched (in_form v ms script) buffers reservations lists b) ∙ ap (λ l. fold (touched script buffers reservations) l bs) (touched_same buffers reservations lists b)
 
   dry_same : (s : State) (b : BufId) (k : ℕ) (o : Option Command) (c : Course) → course_after_dry (in_form v ms script) s b k o c ≡ course_after_dry script s b k o c
   dry_same s b k None c = refl
   dry_same s b k (Some cmd) c = λ i.
       if is_caught c b
       then with_fail b deny.NoSpace c
-      else gone_dry k (length (forced_places (quest_same v ms script cmd c b (aim_of c b (buffer s b)) i).list)) c
+      else gone_dry k (length (forced_places (place_search_same v ms script cmd c b (aim_of c b (buffer s b)) i).list)) c
 
   pub applied_same : (s : State) (who : Actor) (k : Kind) → applied (in_form v ms script) s who k ≡ applied script s who k
-  applied_same s who (kind.Bind b) = λ i. record (with_changed bound b s) { lists = touched_same (changed bound s.core.buffers b) s.grips s.lists b i }
-  applied_same s who (kind.Unbind b) = λ i. record (with_changed unbound b s) { lists = touched_same (changed unbound s.core.buffers b) s.grips s.lists b i }
+  applied_same s who (kind.Bind b) = λ i. record (with_changed bound b s) { lists = touched_same (changed bound s.core.buffers b) s.reservations s.lists b i }
+  applied_same s who (kind.Unbind b) = λ i. record (with_changed unbound b s) { lists = touched_same (changed unbound s.core.buffers b) s.reservations s.lists b i }
   applied_same s who (kind.Move b mem n l) =
-      ap (λ lists. record (applied script s who (kind.Move b mem n l)) { lists = lists }) (touched_same (changed (moved mem (record { ctx = 0; num = n })) s.core.buffers b) s.grips s.lists b)
+      ap (λ lists. record (applied script s who (kind.Move b mem n l)) { lists = lists }) (touched_same (changed (moved mem (record { ctx = 0; num = n })) s.core.buffers b) s.reservations s.lists b)
   applied_same s who (kind.Loose b) =
-      ap (λ lists. record (applied script s who (kind.Loose b)) { lists = lists }) (touched_same s.core.buffers (regripped (with_holder None) s.grips b) s.lists b)
+      ap (λ lists. record (applied script s who (kind.Loose b)) { lists = lists }) (touched_same s.core.buffers (reservation_changed (with_holder None) s.reservations b) s.lists b)
   applied_same s who (kind.Dry b k w) =
       ap (λ c. record s { courses = with_course s.courses (thread_of who) c }) (dry_same s b k (command_at_work script s (thread_of who)) (course s (thread_of who)))
   applied_same s who (kind.Result r) =
       ap (λ lists. record (applied script s who (kind.Result r)) { lists = lists })
-      (all_touched_same s.core.buffers (with_pins (command_at_work script s (thread_of who)) (released s.grips (course s (thread_of who)).held))
+      (all_touched_same s.core.buffers (with_pins (command_at_work script s (thread_of who)) (released s.reservations (course s (thread_of who)).held))
       (held_as_named (course s (thread_of who)) (command_at_work script s (thread_of who))) s.lists)
   applied_same s who k = refl
 

@@ -3,7 +3,7 @@ use Rattle.std.proofs.Common.{◌≡◌, List, [], ◌∷◌, refl, ap, ap₂}
 use Rattle.ttm_base.specs.declared.Place.{Place}
 use Rattle.ttm_base.specs.Placement.{first_places, forced_places}
 use Rattle.journal_model.specs.Commands.{as_fallback}
-use Rattle.journal_model.specs.OldSearch.{step_of_old_quest, one_list, IsSameSearch}
+use Rattle.journal_model.specs.OldSearch.{step_of_old_place_search, one_list, IsSameSearch}
 use Rattle.std.specs.Prelude.{map}
 
 no_fallback_first : (busy : List Place) → first_places (map as_fallback busy) ≡ []
@@ -25,4 +25,4 @@ fallback_forced [] busy = fallbacks_forced busy
 fallback_forced (p ∷ want) busy = fallback_forced want busy
 
 pub same_search : IsSameSearch
-same_search script s c b want busy forced dry = ap₂ (λ w y. step_of_old_quest script s c b w y forced dry) (desired_first want busy) (fallback_forced want busy)
+same_search script s c b want busy forced dry = ap₂ (λ w y. step_of_old_place_search script s c b w y forced dry) (desired_first want busy) (fallback_forced want busy)

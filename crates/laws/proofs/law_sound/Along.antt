@@ -10,7 +10,7 @@ use Rattle.journal_model.specs.declared.state.State.{State}
 use Rattle.journal_model.specs.declared.entry.Entry.{Entry}
 use Rattle.journal_model.specs.declared.entry.Kind.{Kind}
 use Rattle.journal_model.specs.declared.entry.Kind.TheVariants as kind
-use Rattle.journal_model.specs.State.{new_course, course, course_of, no_grip, buffer_in, has_buffer}
+use Rattle.journal_model.specs.State.{new_course, course, course_of, no_reservation, buffer_in, has_buffer}
 use Rattle.journal_model.specs.Search.{is_caught}
 use Rattle.journal_model.specs.Commands.{command_at_work}
 use Rattle.journal_model.specs.ScriptRules.{is_script}
@@ -68,17 +68,17 @@ worker_keeps script s who k (packet {n}) sound after =
     let o = sound.owned in
     record {
       jobs = changed_back (λ x. record x { ran = x.ran + 1 }) (record { ctx = engine_of who; num = n }) (λ x. refl) (λ x. refl) script _ s.core.jobs sound.jobs after.jobs;
-      owned = record { courses = o.courses; grips = o.grips; steady = o.steady; holder = o.holder; held = o.held; one = o.one; below = o.below };
+      owned = record { courses = o.courses; reservations = o.reservations; steady = o.steady; holder = o.holder; held = o.held; one = o.one; below = o.below };
     }
 worker_keeps script s who k (done {n}) sound after =
     let o = sound.owned in
     record {
       jobs = changed_back (λ x. record x { finished = true }) (record { ctx = engine_of who; num = n }) (λ x. refl) (λ x. refl) script _ s.core.jobs sound.jobs after.jobs;
-      owned = record { courses = o.courses; grips = o.grips; steady = o.steady; holder = o.holder; held = o.held; one = o.one; below = o.below };
+      owned = record { courses = o.courses; reservations = o.reservations; steady = o.steady; holder = o.holder; held = o.held; one = o.one; below = o.below };
     }
 worker_keeps script s who k reap sound after =
     let o = sound.owned in
-    record { jobs = sound.jobs; owned = record { courses = o.courses; grips = o.grips; steady = o.steady; holder = o.holder; held = o.held; one = o.one; below = o.below } }
+    record { jobs = sound.jobs; owned = record { courses = o.courses; reservations = o.reservations; steady = o.steady; holder = o.holder; held = o.held; one = o.one; below = o.below } }
 
 -- ---- each entry
 
@@ -137,9 +137,9 @@ sound_first script =
       jobs = record { contexts = refl; waits_known = refl; waits_back = tt };
       owned = record {
         courses = length-map _ script.threads;
-        grips = length-map _ script.buffers ∙ sym (length-map _ script.buffers);
+        reservations = length-map _ script.buffers ∙ sym (length-map _ script.buffers);
         steady = λ t. subst (Steady script t) (sym (first_course script t)) (new_steady script t 0 (omega arith));
-        holder = λ b st e. absurd (none_or None st refl (sym (ap (λ g. g.holder) (all_one no_grip script.buffers b.0)) ∙ e));
+        holder = λ b st e. absurd (none_or None st refl (sym (ap (λ g. g.holder) (all_one no_reservation script.buffers b.0)) ∙ e));
         held = λ t b h. absurd (nothing t b h);
         one = λ t u st e f. absurd (none_or None st refl (sym (ap (λ c. c.stamp) (first_course script t)) ∙ e));
         below = λ t st e. absurd (none_or None st refl (sym (ap (λ c. c.stamp) (first_course script t)) ∙ e));

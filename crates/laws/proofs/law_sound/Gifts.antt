@@ -21,7 +21,7 @@ use Rattle.journal_model.specs.declared.script.Command.TheVariants as command
 use Rattle.journal_model.specs.declared.state.State.{State}
 use Rattle.journal_model.specs.declared.state.Ghost.{Ghost}
 use Rattle.journal_model.specs.declared.state.Course.{Course}
-use Rattle.journal_model.specs.declared.state.Aim.{Aim}
+use Rattle.journal_model.specs.declared.state.SearchAim.{SearchAim}
 use Rattle.journal_model.specs.declared.state.Task.{Task}
 use Rattle.journal_model.specs.declared.state.Task.TheVariants as task
 use Rattle.journal_model.specs.declared.entry.Kind.{Kind}
@@ -33,14 +33,14 @@ use Rattle.journal_model.specs.declared.entry.DryWhy.TheVariants as dry
 use Rattle.journal_model.specs.declared.entry.Left.TheVariants as left
 use Rattle.journal_model.specs.declared.entry.Shown.{Shown}
 use Rattle.journal_model.specs.declared.entry.Shown.TheVariants as shown
-use Rattle.journal_model.specs.State.{buffer, grip, is_live}
+use Rattle.journal_model.specs.State.{buffer, reservation, is_live}
 use Rattle.journal_model.specs.Commands.{whole}
 use Rattle.journal_model.specs.Choice.{choice}
 use Rattle.journal_model.specs.Places.{loc_of}
 use Rattle.journal_model.specs.Holds.{free_frame, free_slot}
 use Rattle.journal_model.specs.Dry.{is_long_enough, victim, ghost_in, has_frame, swap_victim, ghost_with_frame, causes}
 use Rattle.journal_model.specs.Waits.{waited_for, jobs_before_write, is_idle}
-use Rattle.journal_model.specs.Search.{Step, Quest, quest, is_caught, why_of, step_of_crowded, step_of_forced, first_choice, step_of_quest}
+use Rattle.journal_model.specs.Search.{Step, PlaceSearch, place_search, is_caught, why_of, step_of_crowded, step_of_forced, first_choice, step_of_place_search}
 use Rattle.journal_model.specs.PageSteps.{unless_waiting, once_idle, page_to_fill, filled_by, step_without_victim, step_without_frame, step_of_fill, first_frame_page, step_of_swap_out, why_caught, step_of_empty, next_job, next_ghost, target_to_untake, step_of_give_back}
 use Rattle.journal_model.specs.Next.{step_of_start, backs_off, step_of_holder, step_of_lock, step_of_act, step_of_task}
 use Rattle.laws.specs.law_sound.Sound.{locks}
@@ -48,31 +48,31 @@ use Rattle.laws.specs.law_sound.Sound.{locks}
 -- ---- what a search gives
 
 -- the place at which a search works: one of those tried first, or the forced one that is next
-pub data PlaceOf (q : Quest) (place : Place) : Type 0 where
+pub data PlaceOf (q : PlaceSearch) (place : Place) : Type 0 where
   first : (i : ℕ) → q.forced ≡ false → slice_get (first_places q.list) i ≡ Some place → PlaceOf q place
   forced : place ≡ unwrap_or (slice_get (forced_places q.list) q.dry) (whole System) → PlaceOf q place
 
-pub data Sought (script : Script) (s : State) (c : Course) (b : BufId) (q : Quest) : Kind → Type 0 where
-  finds : (place : Place) {mem : Mem} {spans : List Span} → PlaceOf q place → place.mem ≡ mem → choice script s.core b place ≡ Some spans → Sought script s c b q (kind.Take b mem spans)
+pub data SearchOutcome (script : Script) (s : State) (c : Course) (b : BufId) (q : PlaceSearch) : Kind → Type 0 where
+  finds : (place : Place) {mem : Mem} {spans : List Span} → PlaceOf q place → place.mem ≡ mem → choice script s.core b place ≡ Some spans → SearchOutcome script s c b q (kind.Take b mem spans)
   evicts : (place : Place) {v : BufId} {w : Why} → place ≡ unwrap_or (slice_get (forced_places q.list) q.dry) (whole System) → choice script s.core b place ≡ None → why_of place.mem ≡ w →
-      victim script s c.skips place ≡ Some v → Sought script s c b q (kind.Catch v w)
-  dries : (place : Place) {w : DryWhy} → place ≡ unwrap_or (slice_get (forced_places q.list) q.dry) (whole System) → choice script s.core b place ≡ None → Sought script s c b q (kind.Dry b q.dry w)
+      victim script s c.skips place ≡ Some v → SearchOutcome script s c b q (kind.Catch v w)
+  dries : (place : Place) {w : DryWhy} → place ≡ unwrap_or (slice_get (forced_places q.list) q.dry) (whole System) → choice script s.core b place ≡ None → SearchOutcome script s c b q (kind.Dry b q.dry w)
 
-module _ (script : Script) (s : State) (c : Course) (b : BufId) (q : Quest) where
+module _ (script : Script) (s : State) (c : Course) (b : BufId) (q : PlaceSearch) where
   crowded_gives : (place : Place) → place ≡ unwrap_or (slice_get (forced_places q.list) q.dry) (whole System) → choice script s.core b place ≡ None → (k : Kind) →
-      step_of_crowded script s c b q.dry place ≡ Ok k → Sought script s c b q k
+      step_of_crowded script s c b q.dry place ≡ Ok k → SearchOutcome script s c b q k
   crowded_gives place at lacks k h = by_long (is_long_enough script b place) h
     where
-      by_ghost : (o : Option Ghost) → ◌≡◌ {A = Step} (elim o [ Some g ↦ Err (need.Ghost g.num) | None ↦ Ok (kind.Dry b q.dry (dry.Of (causes script s place))) ]) (Ok k) → Sought script s c b q k
+      by_ghost : (o : Option Ghost) → ◌≡◌ {A = Step} (elim o [ Some g ↦ Err (need.Ghost g.num) | None ↦ Ok (kind.Dry b q.dry (dry.Of (causes script s place))) ]) (Ok k) → SearchOutcome script s c b q k
       by_ghost (Some g) h = cc
-      by_ghost None h = let it : kind.Dry b q.dry (dry.Of (causes script s place)) ≡ k = cc in subst (Sought script s c b q) it (dries place at lacks)
+      by_ghost None h = let it : kind.Dry b q.dry (dry.Of (causes script s place)) ≡ k = cc in subst (SearchOutcome script s c b q) it (dries place at lacks)
 
       by_victim : (o : Option BufId) → victim script s c.skips place ≡ o →
           ◌≡◌ {A = Step} (elim o [
             | Some v ↦ Ok (kind.Catch v (why_of place.mem))
             | None ↦ elim (ghost_in script s place) [ Some g ↦ Err (need.Ghost g.num) | None ↦ Ok (kind.Dry b q.dry (dry.Of (causes script s place))) ]
-          ]) (Ok k) → Sought script s c b q k
-      by_victim (Some v) e h = let it : kind.Catch v (why_of place.mem) ≡ k = cc in subst (Sought script s c b q) it (evicts place at lacks refl e)
+          ]) (Ok k) → SearchOutcome script s c b q k
+      by_victim (Some v) e h = let it : kind.Catch v (why_of place.mem) ≡ k = cc in subst (SearchOutcome script s c b q) it (evicts place at lacks refl e)
       by_victim None e h = by_ghost (ghost_in script s place) h
 
       by_long : (l : Bool) →
@@ -82,11 +82,11 @@ module _ (script : Script) (s : State) (c : Course) (b : BufId) (q : Quest) wher
               | Some v ↦ Ok (kind.Catch v (why_of place.mem))
               | None ↦ elim (ghost_in script s place) [ Some g ↦ Err (need.Ghost g.num) | None ↦ Ok (kind.Dry b q.dry (dry.Of (causes script s place))) ]
             ]
-          ]) (Ok k) → Sought script s c b q k
-      by_long false h = let it : kind.Dry b q.dry dry.Short ≡ k = cc in subst (Sought script s c b q) it (dries place at lacks)
+          ]) (Ok k) → SearchOutcome script s c b q k
+      by_long false h = let it : kind.Dry b q.dry dry.Short ≡ k = cc in subst (SearchOutcome script s c b q) it (dries place at lacks)
       by_long true h = by_victim (victim script s c.skips place) refl h
 
-  forced_gives : (k : Kind) → step_of_forced script s c b q.dry (forced_places q.list) ≡ Ok k → Sought script s c b q k
+  forced_gives : (k : Kind) → step_of_forced script s c b q.dry (forced_places q.list) ≡ Ok k → SearchOutcome script s c b q k
   forced_gives k h = by_choice (choice script s.core b place) refl h
     where
       place : Place
@@ -96,10 +96,10 @@ module _ (script : Script) (s : State) (c : Course) (b : BufId) (q : Quest) wher
           ◌≡◌ {A = Step} (elim o [
             | Some spans ↦ Ok (kind.Take b (unwrap_or (slice_get (forced_places q.list) q.dry) (whole System)).mem spans)
             | None ↦ step_of_crowded script s c b q.dry (unwrap_or (slice_get (forced_places q.list) q.dry) (whole System))
-          ]) (Ok k) → Sought script s c b q k
+          ]) (Ok k) → SearchOutcome script s c b q k
       by_choice (Some spans) e h =
           let it : kind.Take b (unwrap_or (slice_get (forced_places q.list) q.dry) (whole System)).mem spans ≡ k = cc in
-          subst (Sought script s c b q) it (finds (unwrap_or (slice_get (forced_places q.list) q.dry) (whole System)) (forced refl) refl e)
+          subst (SearchOutcome script s c b q) it (finds (unwrap_or (slice_get (forced_places q.list) q.dry) (whole System)) (forced refl) refl e)
       by_choice None e h = crowded_gives (unwrap_or (slice_get (forced_places q.list) q.dry) (whole System)) refl e k h
 
   -- a first choice is that of one of the places
@@ -121,15 +121,15 @@ module _ (script : Script) (s : State) (c : Course) (b : BufId) (q : Quest) wher
           record { at = zero; place = p; here = refl; mem = ap (λ f. f.0) it; spans = e ∙ ap (λ f. Some f.1) it }
       by_choice later None e h = let r = later h in record { at = suc r.at; place = r.place; here = r.here; mem = r.mem; spans = r.spans }
 
-  pub quest_gives : (k : Kind) → step_of_quest script s c b q ≡ Ok k → Sought script s c b q k
-  quest_gives k h = by_forced q.forced refl h
+  pub place_search_gives : (k : Kind) → step_of_place_search script s c b q ≡ Ok k → SearchOutcome script s c b q k
+  place_search_gives k h = by_forced q.forced refl h
     where
       by_found : q.forced ≡ false → (o : Option (Mem × List Span)) → first_choice script s b (first_places q.list) ≡ o →
-          ◌≡◌ {A = Step} (elim o [ Some found ↦ Ok (kind.Take b found.0 found.1) | None ↦ step_of_forced script s c b q.dry (forced_places q.list) ]) (Ok k) → Sought script s c b q k
+          ◌≡◌ {A = Step} (elim o [ Some found ↦ Ok (kind.Take b found.0 found.1) | None ↦ step_of_forced script s c b q.dry (forced_places q.list) ]) (Ok k) → SearchOutcome script s c b q k
       by_found f (Some found) e h =
           let it : kind.Take b found.0 found.1 ≡ k = cc in
           let r = first_at (first_places q.list) found e in
-          subst (Sought script s c b q) it (finds r.place (first r.at f r.here) r.mem r.spans)
+          subst (SearchOutcome script s c b q) it (finds r.place (first r.at f r.here) r.mem r.spans)
       by_found f None e h = forced_gives k h
 
       by_forced : (f : Bool) → q.forced ≡ f →
@@ -139,7 +139,7 @@ module _ (script : Script) (s : State) (c : Course) (b : BufId) (q : Quest) wher
               | Some found ↦ Ok (kind.Take b found.0 found.1)
               | None ↦ step_of_forced script s c b q.dry (forced_places q.list)
             ]
-          ]) (Ok k) → Sought script s c b q k
+          ]) (Ok k) → SearchOutcome script s c b q k
       by_forced true e h = forced_gives k h
       by_forced false e h = by_found e (first_choice script s b (first_places q.list)) refl h
 
@@ -203,9 +203,9 @@ pub data Gives (script : Script) (s : State) (c : Course) (cmd : Command) : Task
   shifts : {group : ℕ} → cmd ≡ command.Touch group → Gives script s c cmd task.Start (kind.Bulk group)
   draws : locks cmd ≡ true → Gives script s c cmd task.Start (kind.Ticket (record { 0 = s.last_stamp + 1 }))
   no_buffer : {b : BufId} → is_live s b ≡ false → Gives script s c cmd (task.Lock b) (kind.Refused deny.NoBuffer)
-  reserves : {b : BufId} → is_live s b ≡ true → (grip s b).holder ≡ None → Gives script s c cmd (task.Lock b) (kind.Reserve b)
-  backs : {b : BufId} {st : Stamp} → is_live s b ≡ true → (grip s b).holder ≡ Some st → backs_off c st ≡ true → Gives script s c cmd (task.Lock b) (kind.Backoff b st)
-  seeks : {b : BufId} {aim : Aim} {k : Kind} → Sought script s c b (quest script cmd c b aim) k → Gives script s c cmd (task.Search b aim) k
+  reserves : {b : BufId} → is_live s b ≡ true → (reservation s b).holder ≡ None → Gives script s c cmd (task.Lock b) (kind.Reserve b)
+  backs : {b : BufId} {st : Stamp} → is_live s b ≡ true → (reservation s b).holder ≡ Some st → backs_off c st ≡ true → Gives script s c cmd (task.Lock b) (kind.Backoff b st)
+  seeks : {b : BufId} {aim : SearchAim} {k : Kind} → SearchOutcome script s c b (place_search script cmd c b aim) k → Gives script s c cmd (task.Search b aim) k
   binds : {b : BufId} → Gives script s c cmd (task.Bind b) (kind.Bind b)
   unbinds : {b : BufId} → Idle s b → Gives script s c cmd (task.Unbind b) (kind.Unbind b)
   moves : {b : BufId} {mem : Mem} → Gives script s c cmd (task.Move b mem) (kind.Move b mem (next_job s 0) (if is_caught c b then left.Now else left.Ghost (next_ghost s)))
@@ -234,18 +234,18 @@ module _ (script : Script) (s : State) (c : Course) (cmd : Command) where
   lock_gives : (b : BufId) (k : Kind) → step_of_lock s c b ≡ Ok k → Gives script s c cmd (task.Lock b) k
   lock_gives b k h = by_live (is_live s b) refl h
     where
-      by_back : (st : Stamp) → is_live s b ≡ true → (grip s b).holder ≡ Some st → (q : Bool) → backs_off c st ≡ q →
+      by_back : (st : Stamp) → is_live s b ≡ true → (reservation s b).holder ≡ Some st → (q : Bool) → backs_off c st ≡ q →
           ◌≡◌ {A = Step} (if q then Ok (kind.Backoff b st) else Err (need.Holder st)) (Ok k) → Gives script s c cmd (task.Lock b) k
       by_back st l g true e h = let it : kind.Backoff b st ≡ k = cc in subst (Gives script s c cmd (task.Lock b)) it (backs l g e)
       by_back st l g false e h = cc
 
-      by_holder : is_live s b ≡ true → (o : Option Stamp) → (grip s b).holder ≡ o → step_of_holder c b o ≡ Ok k → Gives script s c cmd (task.Lock b) k
+      by_holder : is_live s b ≡ true → (o : Option Stamp) → (reservation s b).holder ≡ o → step_of_holder c b o ≡ Ok k → Gives script s c cmd (task.Lock b) k
       by_holder l None g h = let it : kind.Reserve b ≡ k = cc in subst (Gives script s c cmd (task.Lock b)) it (reserves l g)
       by_holder l (Some st) g h = by_back st l g (backs_off c st) refl h
 
-      by_live : (q : Bool) → is_live s b ≡ q → ◌≡◌ {A = Step} (elim q [ false ↦ Ok (kind.Refused deny.NoBuffer) | true ↦ step_of_holder c b (grip s b).holder ]) (Ok k) → Gives script s c cmd (task.Lock b) k
+      by_live : (q : Bool) → is_live s b ≡ q → ◌≡◌ {A = Step} (elim q [ false ↦ Ok (kind.Refused deny.NoBuffer) | true ↦ step_of_holder c b (reservation s b).holder ]) (Ok k) → Gives script s c cmd (task.Lock b) k
       by_live false l h = let it : kind.Refused deny.NoBuffer ≡ k = cc in subst (Gives script s c cmd (task.Lock b)) it (no_buffer l)
-      by_live true l h = by_holder l (grip s b).holder refl h
+      by_live true l h = by_holder l (reservation s b).holder refl h
 
   -- drawing a ticket
   ticket_gives : (k : Kind) → locks cmd ≡ true → ◌≡◌ {A = Step} (Ok (kind.Ticket (record { 0 = s.last_stamp + 1 }))) (Ok k) → Gives script s c cmd task.Start k
@@ -360,7 +360,7 @@ module _ (script : Script) (s : State) (c : Course) (cmd : Command) where
   task_gives task.Answer k h = let it : kind.Result shown.Plain ≡ k = cc in subst (Gives script s c cmd task.Answer) it answers
   task_gives task.Start k h = start_gives cmd refl k h
   task_gives (task.Lock b) k h = lock_gives b k h
-  task_gives (task.Search b aim) k h = seeks (quest_gives script s c b (quest script cmd c b aim) k h)
+  task_gives (task.Search b aim) k h = seeks (place_search_gives script s c b (place_search script cmd c b aim) k h)
   task_gives (task.Bind b) k h = let it : kind.Bind b ≡ k = cc in subst (Gives script s c cmd (task.Bind b)) it binds
   task_gives (task.Unbind b) k h = unbind_gives b k h
   task_gives (task.Move b mem) k h =

@@ -18,7 +18,7 @@ use Rattle.journal_model.specs.declared.script.Command.TheVariants as command
 use Rattle.journal_model.specs.declared.state.State.{State}
 use Rattle.journal_model.specs.declared.state.Buffer.{Buffer}
 use Rattle.journal_model.specs.declared.state.Job.{Job}
-use Rattle.journal_model.specs.State.{buffer, grip, course, has_buffer, same_buffer, has_target}
+use Rattle.journal_model.specs.State.{buffer, reservation, course, has_buffer, same_buffer, has_target}
 use Rattle.journal_model.specs.Commands.{commands_of, command_at_work, named}
 use Rattle.journal_model.specs.Places.{is_frame}
 use Rattle.journal_model.specs.Holds.{free_slot}
@@ -54,7 +54,7 @@ abbrev pub waits_for_elder : State → Course → Bool
 waits_for_elder s c =
     elim c.first [
       | None ↦ false
-      | Some b ↦ (length c.held == 0) && is_elder (number_of c.stamp) (number_of (grip s b).holder)
+      | Some b ↦ (length c.held == 0) && is_elder (number_of c.stamp) (number_of (reservation s b).holder)
     ]
 
 abbrev pub put_by_age : Ticketed → List Ticketed → List Ticketed

@@ -10,7 +10,7 @@ use Rattle.journal_model.specs.declared.script.Script.{Script}
 use Rattle.journal_model.specs.declared.state.State.{State}
 use Rattle.journal_model.specs.declared.state.Course.{Course}
 use Rattle.journal_model.specs.declared.script.Command.{Command}
-use Rattle.journal_model.specs.State.{course, grip, has_buffer}
+use Rattle.journal_model.specs.State.{course, reservation, has_buffer}
 use Rattle.journal_model.specs.Commands.{command_at_work, named}
 use Rattle.journal_model.specs.Tasks.{first_missing, starts}
 use Rattle.journal_model.specs.Search.{is_caught}
@@ -21,7 +21,7 @@ use Rattle.laws.specs.law_sound.Sound.{wants, wanted, Has}
 
 pub record Holding (script : Script) (s : State) : Type 0 where
   -- a holder's stamp is that of a thread that has the buffer
-  pub holder : (b : BufId) (st : Stamp) → (grip s b).holder ≡ Some st → (t : ℕ) × ((course s t).stamp ≡ Some st) × Has s t b
+  pub holder : (b : BufId) (st : Stamp) → (reservation s b).holder ≡ Some st → (t : ℕ) × ((course s t).stamp ≡ Some st) × Has s t b
   -- of one thread
   pub one : (t u : ℕ) (st : Stamp) → (course s t).stamp ≡ Some st → (course s u).stamp ≡ Some st → t ≡ u
   pub below : (t : ℕ) (st : Stamp) → (course s t).stamp ≡ Some st → st.0 ≤ s.last_stamp
@@ -79,7 +79,7 @@ module _ (script : Script) (s : State) (quiet : Quiet s) (inv : Holding script s
       by_want : ((u : ℕ) (st' : Stamp) (c : BufId) → (course s u).stamp ≡ Some st' → Has s u c → s.last_stamp < st'.0 + k → GoesOn script s) →
           (cmd : Command) → command_at_work script s t ≡ Some cmd → (o : Option BufId) → wants (course s t) cmd ≡ o → GoesOn script s
       by_want further cmd w None q = (t, thread_goes_on script s quiet t cmd w q)
-      by_want further cmd w (Some d) q = by_holder (grip s d).holder refl
+      by_want further cmd w (Some d) q = by_holder (reservation s d).holder refl
         where
           no_victim : (x : BufId) → is_caught (course s t) x ≡ true → ⊥
           no_victim x h = let n : wants (course s t) cmd ≡ None = inv.searching t cmd x w h in clash (sym n ∙ q)
@@ -90,14 +90,14 @@ module _ (script : Script) (s : State) (quiet : Quiet s) (inv : Holding script s
           held_some : nat_lt 0 (length (course s t).held) ≡ true
           held_some = ⊎_elim (λ g. not_empty (course s t).held b g) (λ g. absurd (no_victim b g)) has
 
-          by_holder : (o : Option Stamp) → (grip s d).holder ≡ o → GoesOn script s
+          by_holder : (o : Option Stamp) → (reservation s d).holder ≡ o → GoesOn script s
           by_holder None r = (t, locking_goes_on script s quiet t cmd d w q (λ st' z. absurd (never st' (sym r ∙ z))))
             where
               never : (st' : Stamp) → None ≡ Some st' → ⊥
               never st' h = cc
           by_holder (Some other) r = by_age (backs_off (course s t) other) refl
             where
-              it_is : (st' : Stamp) → (grip s d).holder ≡ Some st' → other ≡ st'
+              it_is : (st' : Stamp) → (reservation s d).holder ≡ Some st' → other ≡ st'
               it_is st' z = let y : Some other ≡ Some st' = sym r ∙ z in cc
 
               by_age : (back : Bool) → backs_off (course s t) other ≡ back → GoesOn script s
@@ -126,9 +126,9 @@ module _ (script : Script) (s : State) (quiet : Quiet s) (inv : Holding script s
     where
       by_want : (o : Option BufId) → wants (course s t) cmd ≡ o → GoesOn script s
       by_want None q = (t, thread_goes_on script s quiet t cmd w q)
-      by_want (Some d) q = by_holder (grip s d).holder refl
+      by_want (Some d) q = by_holder (reservation s d).holder refl
         where
-          by_holder : (o : Option Stamp) → (grip s d).holder ≡ o → GoesOn script s
+          by_holder : (o : Option Stamp) → (reservation s d).holder ≡ o → GoesOn script s
           by_holder None r = (t, locking_goes_on script s quiet t cmd d w q (λ st' z. absurd (never st' (sym r ∙ z))))
             where
               never : (st' : Stamp) → None ≡ Some st' → ⊥

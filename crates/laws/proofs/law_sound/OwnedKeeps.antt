@@ -16,16 +16,16 @@ use Rattle.journal_model.specs.declared.state.Course.{Course}
 use Rattle.journal_model.specs.declared.state.Victim.{Victim}
 use Rattle.journal_model.specs.declared.state.Task.{Task}
 use Rattle.journal_model.specs.declared.state.Task.TheVariants as task
-use Rattle.journal_model.specs.declared.state.Aim.{Aim}
+use Rattle.journal_model.specs.declared.state.SearchAim.{SearchAim}
 use Rattle.journal_model.specs.declared.entry.Why.{Why}
 use Rattle.journal_model.specs.declared.entry.Why.TheVariants as why
 use Rattle.journal_model.specs.declared.entry.Shown.{Shown}
 use Rattle.journal_model.specs.declared.entry.Shown.TheVariants as shown
 use Rattle.journal_model.specs.declared.entry.Kind.{Kind}
 use Rattle.journal_model.specs.declared.entry.Kind.TheVariants as kind
-use Rattle.journal_model.specs.State.{course, course_of, grip, grip_in, no_grip, is_live, has_buffer, same_buffer, without_buffer}
+use Rattle.journal_model.specs.State.{course, course_of, reservation, reservation_in, no_reservation, is_live, has_buffer, same_buffer, without_buffer}
 use Rattle.journal_model.specs.Commands.{named, command_at_work}
-use Rattle.journal_model.specs.Search.{Quest, is_caught, quest_at_work}
+use Rattle.journal_model.specs.Search.{PlaceSearch, is_caught, place_search_at_work}
 use Rattle.journal_model.specs.Tasks.{starts, first_missing}
 use Rattle.journal_model.specs.Apply.{applied}
 use Rattle.journal_model.specs.ApplyCommands.{with_holder, released, on_to_next}
@@ -36,11 +36,11 @@ use Rattle.journal_model.specs.ApplyPages.{search_over}
 use Rattle.journal_model.specs.ApplyVictims.{failed_if, with_fail, with_victim, no_longer_caught, gone_dry, course_after_dry}
 use Rattle.laws.specs.law_sound.Sound.{Has, Steady, Owned, command_of, locks}
 use Rattle.laws.proofs.law_sound.Turns.{Turn, Works, OnVictim, OnNamed, answer, start, lock, victim_empty, victim_skip, victim_fill, victim_search, refuse, give_up, act, fill_in_place, ask, fill_to_bind, hop_up, fill_to_move, hop_down, OnBuffer}
-use Rattle.laws.proofs.law_sound.Gifts.{Gives, Sought, Filled, answers, makes, exists, shifts, draws, no_buffer, reserves, backs, seeks, binds, unbinds, moves, fills, lets_go, empties, depopulates, untakes, skips, gives_up, refuses, arms, frees, swaps, no_swap, acts, finds, evicts, dries, fresh, again, back, evicts_for_swap, nothing}
+use Rattle.laws.proofs.law_sound.Gifts.{Gives, SearchOutcome, Filled, answers, makes, exists, shifts, draws, no_buffer, reserves, backs, seeks, binds, unbinds, moves, fills, lets_go, empties, depopulates, untakes, skips, gives_up, refuses, arms, frees, swaps, no_swap, acts, finds, evicts, dries, fresh, again, back, evicts_for_swap, nothing}
 use Rattle.laws.proofs.law_sound.Bufs.{victims_of, same_self, same_is, same_or_other, other_is, has_pushed, has_more, has_new, has_without, without_gone, without_kept, names_let_go, names_failed, names_pushed, last_caught, none_last, none_caught, none_missing, clash}
 use Rattle.laws.proofs.law_sound.Steadies.{next_course, own_course, locking_command, lock_wants, locks_alone, ticket_steady, reserve_steady, backoff_steady, made_steady, search_steady, dry_steady, fail_steady, catch_steady, loose_steady, next_steady}
 use Rattle.laws.proofs.law_sound.Owners.{lets_keeps, gets_keeps, draws_keeps, none_or}
-use Rattle.laws.proofs.law_sound.Grips.{grip_other, grip_here, grip_gone, released_gone, released_other, pins_hold, live_same, live_uses, live_set, live_more, live_within, IsFree, victim_free, swap_free, one_course}
+use Rattle.laws.proofs.law_sound.Reservations.{reservation_other, reservation_here, reservation_gone, released_gone, released_other, pins_hold, live_same, live_uses, live_set, live_more, live_within, IsFree, victim_free, swap_free, one_course}
 
 -- a course has the buffer
 abbrev pub HasIn : Course → BufId → Type 0
@@ -74,7 +74,7 @@ module _ (script : Script) (s : State) (t : ℕ) (here : IsSome (course_of s t))
     stamp_now = ap (λ c. c.stamp) is_own
 
     -- nobody gets or loses a buffer
-    work : ((d : BufId) → (grip (applied script s (actor.Thread t) k) d).holder ≡ (grip s d).holder) → ((d : BufId) → is_live s d ≡ true → is_live (applied script s (actor.Thread t) k) d ≡ true)
+    work : ((d : BufId) → (reservation (applied script s (actor.Thread t) k) d).holder ≡ (reservation s d).holder) → ((d : BufId) → is_live s d ≡ true → is_live (applied script s (actor.Thread t) k) d ≡ true)
         → SameHad (course s t) c' → (applied script s (actor.Thread t) k).last_stamp ≡ s.last_stamp → Steady script t c' → Owned script (applied script s (actor.Thread t) k)
     work holders live had last ok =
         lets_keeps script s (applied script s (actor.Thread t) k) t (one_course script s t k here) o (λ d. false)
@@ -92,19 +92,19 @@ module _ (script : Script) (s : State) (t : ℕ) (here : IsSome (course_of s t))
         (steady_now ok)
 
     -- the thread gets a buffer that nobody has
-    get : (b : BufId) (st : Stamp) → (course s t).stamp ≡ Some st → is_live s b ≡ true → (grip s b).holder ≡ None
-        → (applied script s (actor.Thread t) k).grips ≡ slice_set s.grips b.0 (with_holder (course s t).stamp (grip s b))
+    get : (b : BufId) (st : Stamp) → (course s t).stamp ≡ Some st → is_live s b ≡ true → (reservation s b).holder ≡ None
+        → (applied script s (actor.Thread t) k).reservations ≡ slice_set s.reservations b.0 (with_holder (course s t).stamp (reservation s b))
         → ((d : BufId) → is_live (applied script s (actor.Thread t) k) d ≡ is_live s d) → (applied script s (actor.Thread t) k).last_stamp ≡ s.last_stamp
         → c'.stamp ≡ (course s t).stamp → HasIn c' b → ((d : BufId) → HasIn (course s t) d → HasIn c' d) → ((d : BufId) → HasIn c' d → HasIn (course s t) d ⊎ (d ≡ b))
         → Steady script t c' → Owned script (applied script s (actor.Thread t) k)
-    get b st stamp alive free grips live last same mine more less ok =
+    get b st stamp alive free reservations live last same mine more less ok =
         gets_keeps script s (applied script s (actor.Thread t) k) t (one_course script s t k here) o b st
         (record {
           stamp = stamp;
           free = free;
           here = alive;
-          now = ap (λ gs. (grip_in gs b).holder) grips ∙ (ap (λ g. g.holder) (grip_here s.grips b (with_holder (course s t).stamp (grip s b)) (let l = live_within s.core.buffers b.0 alive in let e = o.grips in omega (arith, l, e))) ∙ stamp);
-          kept = λ d n. ap (λ gs. (grip_in gs d).holder) grips ∙ ap (λ g. g.holder) (grip_other s.grips b d (with_holder (course s t).stamp (grip s b)) n);
+          now = ap (λ gs. (reservation_in gs b).holder) reservations ∙ (ap (λ g. g.holder) (reservation_here s.reservations b (with_holder (course s t).stamp (reservation s b)) (let l = live_within s.core.buffers b.0 alive in let e = o.reservations in omega (arith, l, e))) ∙ stamp);
+          kept = λ d n. ap (λ gs. (reservation_in gs d).holder) reservations ∙ ap (λ g. g.holder) (reservation_other s.reservations b d (with_holder (course s t).stamp (reservation s b)) n);
           live = live;
           stamp_same = stamp_now ∙ same;
           gets = has_now b mine;
@@ -115,8 +115,8 @@ module _ (script : Script) (s : State) (t : ℕ) (here : IsSome (course_of s t))
         (steady_now ok)
 
     -- the thread lets go one of its buffers
-    drop_one : (b : BufId) → HasIn (course s t) b → ((grip (applied script s (actor.Thread t) k) b).holder ≡ None)
-        → ((d : BufId) → (d ≡ b → ⊥) → (grip (applied script s (actor.Thread t) k) d).holder ≡ (grip s d).holder)
+    drop_one : (b : BufId) → HasIn (course s t) b → ((reservation (applied script s (actor.Thread t) k) b).holder ≡ None)
+        → ((d : BufId) → (d ≡ b → ⊥) → (reservation (applied script s (actor.Thread t) k) d).holder ≡ (reservation s d).holder)
         → ((d : BufId) → (d ≡ b → ⊥) → is_live s d ≡ true → is_live (applied script s (actor.Thread t) k) d ≡ true)
         → c'.stamp ≡ (course s t).stamp → ((d : BufId) → HasIn c' d → HasIn (course s t) d × (same_buffer b d ≡ false)) → ((d : BufId) → HasIn (course s t) d → (d ≡ b → ⊥) → HasIn c' d)
         → (applied script s (actor.Thread t) k).last_stamp ≡ s.last_stamp → Steady script t c' → Owned script (applied script s (actor.Thread t) k)
@@ -124,7 +124,7 @@ module _ (script : Script) (s : State) (t : ℕ) (here : IsSome (course_of s t))
         lets_keeps script s (applied script s (actor.Thread t) k) t (one_course script s t k here) o (same_buffer b)
         (record {
           lost_had = λ d h. subst (HasIn (course s t)) (same_is b d h) mine;
-          gone = λ d h. subst (λ z. (grip (applied script s (actor.Thread t) k) z).holder ≡ None) (same_is b d h) gone;
+          gone = λ d h. subst (λ z. (reservation (applied script s (actor.Thread t) k) z).holder ≡ None) (same_is b d h) gone;
           kept = λ d h. kept d (other d h);
           live = λ d h. live d (other d h);
           less = λ d h. less d (has_then d h);
@@ -139,7 +139,7 @@ module _ (script : Script) (s : State) (t : ℕ) (here : IsSome (course_of s t))
         other d h e = both_ways (same_buffer b d) h (subst (λ z. same_buffer b z ≡ true) (sym e) (same_self b))
 
     -- the thread lets go all that it has
-    drop_all : ((d : BufId) → is_caught (course s t) d ≡ true → ⊥) → ((d : BufId) → (grip (applied script s (actor.Thread t) k) d).holder ≡ (grip_in (released s.grips (course s t).held) d).holder)
+    drop_all : ((d : BufId) → is_caught (course s t) d ≡ true → ⊥) → ((d : BufId) → (reservation (applied script s (actor.Thread t) k) d).holder ≡ (reservation_in (released s.reservations (course s t).held) d).holder)
         → ((d : BufId) → is_live s d ≡ true → is_live (applied script s (actor.Thread t) k) d ≡ true)
         → ((st : Stamp) → c'.stamp ≡ Some st → (course s t).stamp ≡ Some st) → ((d : BufId) → HasIn c' d → ⊥)
         → (applied script s (actor.Thread t) k).last_stamp ≡ s.last_stamp → Steady script t c' → Owned script (applied script s (actor.Thread t) k)
@@ -147,8 +147,8 @@ module _ (script : Script) (s : State) (t : ℕ) (here : IsSome (course_of s t))
         lets_keeps script s (applied script s (actor.Thread t) k) t (one_course script s t k here) o (has_buffer (course s t).held)
         (record {
           lost_had = λ d h. inl h;
-          gone = λ d h. holders d ∙ released_gone (course s t).held s.grips d h;
-          kept = λ d h. holders d ∙ ap (λ g. g.holder) (released_other (course s t).held s.grips d h);
+          gone = λ d h. holders d ∙ released_gone (course s t).held s.reservations d h;
+          kept = λ d h. holders d ∙ ap (λ g. g.holder) (released_other (course s t).held s.reservations d h);
           live = λ d h. live d;
           less = λ d h. absurd (empty d (has_then d h));
           more = λ d h q. absurd (⊎_elim (λ e. both_ways (has_buffer (course s t).held d) q e) (λ e. alone d e) h);
@@ -189,7 +189,7 @@ had_dry : (script : Script) (s : State) (b : BufId) (k : ℕ) (x : Option Comman
 had_dry script s b k None c = had_same c
 had_dry script s b k (Some cmd) c = by (is_caught c b)
   where
-    by : (q : Bool) → SameHad c (if q then with_fail b deny.NoSpace c else gone_dry k (length (forced_places (quest_at_work script s c cmd b).list)) c)
+    by : (q : Bool) → SameHad c (if q then with_fail b deny.NoSpace c else gone_dry k (length (forced_places (place_search_at_work script s c cmd b).list)) c)
     by true = had_fail b deny.NoSpace c
     by false = record { stamp = refl; less = λ x h. h; more = λ x h. h }
 
@@ -212,7 +212,7 @@ module _ (script : Script) (s : State) (t : ℕ) (cmd : Command) (ok : Steady sc
   of_buffer : (b : BufId) → OnBuffer script s (course s t) cmd b → Seeks (course s t) cmd b
   of_buffer b on = record { works = on.named.works; fine = on.fine; alone = λ h. none_last (course s t).caught on.named.alone }
 
-  pub at_search : (b : BufId) (aim : Aim) → Turn script s (course s t) cmd (task.Search b aim) → Seeks (course s t) cmd b
+  pub at_search : (b : BufId) (aim : SearchAim) → Turn script s (course s t) cmd (task.Search b aim) → Seeks (course s t) cmd b
   at_search b aim (victim_search v on i f n) = of_victim v on
   at_search b aim (ask on n) = of_buffer b on.on
   at_search b aim (hop_up on n) = of_buffer b on.on.on
@@ -305,7 +305,7 @@ module _ (script : Script) (s : State) (t : ℕ) (cmd : Command) (here : IsSome 
       by (command.Touch group) q = cc
       by cmd q = refl
 
-  reserve_keeps : (b : BufId) → (course s t).made ≡ false → starts (course s t) cmd ≡ false → first_missing (course s t) cmd ≡ Some b → is_live s b ≡ true → (grip s b).holder ≡ None → Owned script (applied script s (actor.Thread t) (kind.Reserve b))
+  reserve_keeps : (b : BufId) → (course s t).made ≡ false → starts (course s t) cmd ≡ false → first_missing (course s t) cmd ≡ Some b → is_live s b ≡ true → (reservation s b).holder ≡ None → Owned script (applied script s (actor.Thread t) (kind.Reserve b))
   reserve_keeps b m n f alive free =
       let st = has_stamp (begun_locks n) n in
       get script s t here o (kind.Reserve b) (record (course s t) { held = (course s t).held ++ b ∷ [] }) refl b st.0 st.1 alive free refl (λ d. refl) refl refl (inl (has_new (course s t).held b))
@@ -321,10 +321,10 @@ module _ (script : Script) (s : State) (t : ℕ) (cmd : Command) (here : IsSome 
       refl (backoff_steady script t (course s t) cmd ok at b m n f)
 
   -- a dead buffer has no holder
-  dead_free : (b : BufId) → is_live s b ≡ false → (grip s b).holder ≡ None
-  dead_free b l = by (grip s b).holder refl
+  dead_free : (b : BufId) → is_live s b ≡ false → (reservation s b).holder ≡ None
+  dead_free b l = by (reservation s b).holder refl
     where
-      by : (p : Option Stamp) → (grip s b).holder ≡ p → p ≡ None
+      by : (p : Option Stamp) → (reservation s b).holder ≡ p → p ≡ None
       by None e = refl
       by (Some st) e = let h = o.holder b st e in let w = o.held h.0 b h.2 in absurd (both_ways (is_live s b) l w.1)
 
@@ -332,14 +332,14 @@ module _ (script : Script) (s : State) (t : ℕ) (cmd : Command) (here : IsSome 
   new_keeps b alone dead =
       work script s t here o (kind.New b) (record (course s t) { made = true }) refl
       (λ d. ⊎_elim
-      (λ e. subst (λ z. (grip_in (slice_set s.grips b.0 no_grip) z).holder ≡ (grip s z).holder) (sym e) (grip_gone s.grips b no_grip refl ∙ sym (dead_free b dead)))
-      (λ n. ap (λ g. g.holder) (grip_other s.grips b d no_grip n))
+      (λ e. subst (λ z. (reservation_in (slice_set s.reservations b.0 no_reservation) z).holder ≡ (reservation s z).holder) (sym e) (reservation_gone s.reservations b no_reservation refl ∙ sym (dead_free b dead)))
+      (λ n. ap (λ g. g.holder) (reservation_other s.reservations b d no_reservation n))
       (same_or_other d b))
       (λ d h. live_more s.core.buffers b d _ h)
       (record { stamp = refl; less = λ d h. h; more = λ d h. h }) refl
       (made_steady script t (course s t) cmd ok at (course s t).held alone (λ d h. h))
 
-  made_keeps : (k : Kind) → next_course script s t k ≡ record (course s t) { made = true } → ((d : BufId) → (grip (applied script s (actor.Thread t) k) d).holder ≡ (grip s d).holder)
+  made_keeps : (k : Kind) → next_course script s t k ≡ record (course s t) { made = true } → ((d : BufId) → (reservation (applied script s (actor.Thread t) k) d).holder ≡ (reservation s d).holder)
       → ((d : BufId) → is_live s d ≡ true → is_live (applied script s (actor.Thread t) k) d ≡ true) → (applied script s (actor.Thread t) k).last_stamp ≡ s.last_stamp
       → (course s t).caught ≡ [] → Owned script (applied script s (actor.Thread t) k)
   made_keeps k own holders live last alone =
@@ -351,8 +351,8 @@ module _ (script : Script) (s : State) (t : ℕ) (cmd : Command) (here : IsSome 
       let alone = none_last (course s t).caught on.alone in
       let mine : has_buffer (course s t).held b ≡ true = none_missing (course s t) cmd b on.works.whole (subst (λ x. has_buffer (named x) b ≡ true) (sym is) (ap (λ q. q || false) (same_self b))) in
       drop_one script s t here o (kind.Free b g) (record (course s t) { held = without_buffer (course s t).held b; made = true }) refl b (inl mine)
-      (grip_gone s.grips b no_grip refl)
-      (λ d n. ap (λ z. z.holder) (grip_other s.grips b d no_grip n))
+      (reservation_gone s.reservations b no_reservation refl)
+      (λ d n. ap (λ z. z.holder) (reservation_other s.reservations b d no_reservation n))
       (λ d n h. ap is_some (live_set s.core.buffers b d None n) ∙ h)
       refl
       (λ d h. ⊎_elim
@@ -364,25 +364,25 @@ module _ (script : Script) (s : State) (t : ℕ) (cmd : Command) (here : IsSome 
 
   -- the course goes on to the next command
   next_keeps : (k : Kind) → next_course script s t k ≡ on_to_next (course s t) → ((d : BufId) → is_caught (course s t) d ≡ true → ⊥)
-      → ((d : BufId) → (grip (applied script s (actor.Thread t) k) d).holder ≡ (grip_in (released s.grips (course s t).held) d).holder)
+      → ((d : BufId) → (reservation (applied script s (actor.Thread t) k) d).holder ≡ (reservation_in (released s.reservations (course s t).held) d).holder)
       → ((d : BufId) → is_live s d ≡ true → is_live (applied script s (actor.Thread t) k) d ≡ true) → (applied script s (actor.Thread t) k).last_stamp ≡ s.last_stamp → Owned script (applied script s (actor.Thread t) k)
   next_keeps k own alone holders live last =
       drop_all script s t here o k (on_to_next (course s t)) own alone holders live
       (λ st e. absurd (none_or None st refl e)) (λ d h. ⊎_elim (λ q. clash (sym q)) (λ q. clash (sym q)) h) last (next_steady script t (course s t) cmd at)
 
   result_keeps : (r : Shown) → ((d : BufId) → is_caught (course s t) d ≡ true → ⊥) → Owned script (applied script s (actor.Thread t) (kind.Result r))
-  result_keeps r alone = next_keeps (kind.Result r) refl alone (λ d. pins_hold (command_at_work script s t) (released s.grips (course s t).held) d) (λ d h. h) refl
+  result_keeps r alone = next_keeps (kind.Result r) refl alone (λ d. pins_hold (command_at_work script s t) (released s.reservations (course s t).held) d) (λ d h. h) refl
 
   refused_keeps : (d : Deny) → ((b : BufId) → is_caught (course s t) b ≡ true → ⊥) → Owned script (applied script s (actor.Thread t) (kind.Refused d))
   refused_keeps d alone = next_keeps (kind.Refused d) refl alone (λ b. refl) (λ b h. h) refl
 
   loose_keeps : (k : Kind) (b : BufId) (passed : List BufId) → Leaves (course s t) cmd b → next_course script s t k ≡ record (no_longer_caught b (course s t)) { skips = passed }
-      → (applied script s (actor.Thread t) k).grips ≡ slice_set s.grips b.0 (with_holder None (grip s b)) → ((d : BufId) → is_live s d ≡ true → is_live (applied script s (actor.Thread t) k) d ≡ true)
+      → (applied script s (actor.Thread t) k).reservations ≡ slice_set s.reservations b.0 (with_holder None (reservation s b)) → ((d : BufId) → is_live s d ≡ true → is_live (applied script s (actor.Thread t) k) d ≡ true)
       → (applied script s (actor.Thread t) k).last_stamp ≡ s.last_stamp → Owned script (applied script s (actor.Thread t) k)
-  loose_keeps k b passed leaves own grips live last =
+  loose_keeps k b passed leaves own reservations live last =
       drop_one script s t here o k (record (no_longer_caught b (course s t)) { skips = passed }) own b (inr leaves.caught)
-      (ap (λ gs. (grip_in gs b).holder) grips ∙ grip_gone s.grips b (with_holder None (grip s b)) refl)
-      (λ d n. ap (λ gs. (grip_in gs d).holder) grips ∙ ap (λ z. z.holder) (grip_other s.grips b d (with_holder None (grip s b)) n))
+      (ap (λ gs. (reservation_in gs b).holder) reservations ∙ reservation_gone s.reservations b (with_holder None (reservation s b)) refl)
+      (λ d n. ap (λ gs. (reservation_in gs d).holder) reservations ∙ ap (λ z. z.holder) (reservation_other s.reservations b d (with_holder None (reservation s b)) n))
       (λ d n h. live d h)
       refl less
       (λ d h n. ⊎_elim (λ q. inl q) (λ q. inr (ap (λ bs. has_buffer bs d) (names_let_go b (course s t).caught) ∙ without_kept (victims_of (course s t).caught) b d n q)) h)
@@ -406,14 +406,14 @@ module _ (script : Script) (s : State) (t : ℕ) (cmd : Command) (here : IsSome 
     where
       not_held : (q : Bool) → has_buffer (course s t).held b ≡ q → q ≡ false
       not_held false e = refl
-      not_held true e = let h = o.held t b (inl e) in absurd (none_or (grip s b).holder h.0 free.free h.2)
+      not_held true e = let h = o.held t b (inl e) in absurd (none_or (reservation s b).holder h.0 free.free h.2)
 
   -- a change of one buffer, or none, and no course
-  plain_keeps : (k : Kind) → next_course script s t k ≡ course s t → ((d : BufId) → (grip (applied script s (actor.Thread t) k) d).holder ≡ (grip s d).holder)
+  plain_keeps : (k : Kind) → next_course script s t k ≡ course s t → ((d : BufId) → (reservation (applied script s (actor.Thread t) k) d).holder ≡ (reservation s d).holder)
       → ((d : BufId) → is_live s d ≡ true → is_live (applied script s (actor.Thread t) k) d ≡ true) → (applied script s (actor.Thread t) k).last_stamp ≡ s.last_stamp → Owned script (applied script s (actor.Thread t) k)
   plain_keeps k own holders live last = work script s t here o k (course s t) own holders live (had_same (course s t)) last ok
 
-  sought_keeps : (b : BufId) (aim : Aim) (q : Quest) (k : Kind) → Seeks (course s t) cmd b → Sought script s (course s t) b q k → Owned script (applied script s (actor.Thread t) k)
+  sought_keeps : (b : BufId) (aim : SearchAim) (q : PlaceSearch) (k : Kind) → Seeks (course s t) cmd b → SearchOutcome script s (course s t) b q k → Owned script (applied script s (actor.Thread t) k)
   sought_keeps b aim q k sk (finds place {mem} {spans} w m h) =
       work script s t here o (kind.Take b mem spans) (search_over b (course s t)) refl (λ d. refl) (λ d l. live_same _ s.core.buffers b d ∙ l) (had_search b (course s t)) refl
       (search_steady script t (course s t) cmd ok at b)

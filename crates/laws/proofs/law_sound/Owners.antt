@@ -5,7 +5,7 @@ use Rattle.ttm_base.specs.declared.BufId.{BufId}
 use Rattle.ttm_base.specs.declared.Stamp.{Stamp}
 use Rattle.journal_model.specs.declared.script.Script.{Script}
 use Rattle.journal_model.specs.declared.state.State.{State}
-use Rattle.journal_model.specs.State.{course, grip, is_live, has_buffer}
+use Rattle.journal_model.specs.State.{course, reservation, is_live, has_buffer}
 use Rattle.journal_model.specs.Search.{is_caught}
 use Rattle.laws.specs.law_sound.Sound.{Has, Steady, Owned}
 use Rattle.laws.proofs.law_sound.Bufs.{same_or_other}
@@ -19,7 +19,7 @@ none_or o st e f = let it : None ≡ Some st = sym e ∙ f in cc
 -- the lists stay as long
 pub record SameLengths (s s' : State) : Type 0 where
   pub courses : length s'.courses ≡ length s.courses
-  pub grips : length s'.grips ≡ length s.grips
+  pub reservations : length s'.reservations ≡ length s.reservations
   pub buffers : length s'.core.buffers ≡ length s.core.buffers
 
 -- the courses of the others
@@ -47,15 +47,15 @@ module _ (script : Script) (s s' : State) (t : ℕ) (one : OneCourse s s' t) (o 
   courses_on : length s'.courses ≡ length script.threads
   courses_on = one.lengths.courses ∙ o.courses
 
-  grips_on : length s'.grips ≡ length s'.core.buffers
-  grips_on = one.lengths.grips ∙ (o.grips ∙ sym one.lengths.buffers)
+  reservations_on : length s'.reservations ≡ length s'.core.buffers
+  reservations_on = one.lengths.reservations ∙ (o.reservations ∙ sym one.lengths.buffers)
 
   -- ---- a thread lets some buffers go
 
   pub record Lets (lost : BufId → Bool) : Type 0 where
     pub lost_had : (d : BufId) → lost d ≡ true → Has s t d
-    pub gone : (d : BufId) → lost d ≡ true → (grip s' d).holder ≡ None
-    pub kept : (d : BufId) → lost d ≡ false → (grip s' d).holder ≡ (grip s d).holder
+    pub gone : (d : BufId) → lost d ≡ true → (reservation s' d).holder ≡ None
+    pub kept : (d : BufId) → lost d ≡ false → (reservation s' d).holder ≡ (reservation s d).holder
     pub live : (d : BufId) → lost d ≡ false → is_live s d ≡ true → is_live s' d ≡ true
     pub less : (d : BufId) → Has s' t d → Has s t d × (lost d ≡ false)
     pub more : (d : BufId) → Has s t d → lost d ≡ false → Has s' t d
@@ -67,7 +67,7 @@ module _ (script : Script) (s s' : State) (t : ℕ) (one : OneCourse s s' t) (o 
   lets_keeps lost l mine =
       record {
         courses = courses_on;
-        grips = grips_on;
+        reservations = reservations_on;
         steady = steady_on mine;
         holder = holder;
         held = held;
@@ -87,10 +87,10 @@ module _ (script : Script) (s s' : State) (t : ℕ) (one : OneCourse s s' t) (o 
           (λ d. (stamp_kept u st d e, has_kept u b d h))
           (cases_eq u t)
 
-      holder : (b : BufId) (st : Stamp) → (grip s' b).holder ≡ Some st → (u : ℕ) × ((course s' u).stamp ≡ Some st) × Has s' u b
+      holder : (b : BufId) (st : Stamp) → (reservation s' b).holder ≡ Some st → (u : ℕ) × ((course s' u).stamp ≡ Some st) × Has s' u b
       holder b st e =
           ⊎_elim
-          (λ k. absurd (none_or (grip s' b).holder st (l.gone b k) e))
+          (λ k. absurd (none_or (reservation s' b).holder st (l.gone b k) e))
           (λ k. let h = o.holder b st (sym (l.kept b k) ∙ e) in let p = owner_on h.0 b st k h.1 h.2 in (h.0, p.0, p.1))
           (cases_Bool (lost b))
 
@@ -101,17 +101,17 @@ module _ (script : Script) (s s' : State) (t : ℕ) (one : OneCourse s s' t) (o 
           (λ k.
           let mine = o.held t b (l.lost_had b k) in
           let its = o.held u b h in
-          let same : mine.0 ≡ its.0 = some_is (grip s b).holder mine.0 its.0 mine.2 its.2 in
+          let same : mine.0 ≡ its.0 = some_is (reservation s b).holder mine.0 its.0 mine.2 its.2 in
           absurd (d (o.one u t its.0 its.3 (mine.3 ∙ ap Some same))))
           (λ k. k)
           (cases_Bool (lost b))
 
-      on : (u : ℕ) (b : BufId) → lost b ≡ false → Has s' u b → Has s u b → (st : Stamp) × (is_live s' b ≡ true) × ((grip s' b).holder ≡ Some st) × ((course s' u).stamp ≡ Some st)
+      on : (u : ℕ) (b : BufId) → lost b ≡ false → Has s' u b → Has s u b → (st : Stamp) × (is_live s' b ≡ true) × ((reservation s' b).holder ≡ Some st) × ((course s' u).stamp ≡ Some st)
       on u b k now h =
           let w = o.held u b h in
           (w.0, l.live b k w.1, l.kept b k ∙ w.2, (owner_on u b w.0 k w.3 h).0)
 
-      held : (u : ℕ) (b : BufId) → Has s' u b → (st : Stamp) × (is_live s' b ≡ true) × ((grip s' b).holder ≡ Some st) × ((course s' u).stamp ≡ Some st)
+      held : (u : ℕ) (b : BufId) → Has s' u b → (st : Stamp) × (is_live s' b ≡ true) × ((reservation s' b).holder ≡ Some st) × ((course s' u).stamp ≡ Some st)
       held u b now =
           ⊎_elim
           (λ q. let p = l.less b (subst (λ v. Has s' v b) q now) in on u b p.1 now (subst (λ v. Has s v b) (sym q) p.0))
@@ -122,10 +122,10 @@ module _ (script : Script) (s s' : State) (t : ℕ) (one : OneCourse s s' t) (o 
 
   pub record Gets (b : BufId) (st : Stamp) : Type 0 where
     pub stamp : (course s t).stamp ≡ Some st
-    pub free : (grip s b).holder ≡ None
+    pub free : (reservation s b).holder ≡ None
     pub here : is_live s b ≡ true
-    pub now : (grip s' b).holder ≡ Some st
-    pub kept : (d : BufId) → (d ≡ b → ⊥) → (grip s' d).holder ≡ (grip s d).holder
+    pub now : (reservation s' b).holder ≡ Some st
+    pub kept : (d : BufId) → (d ≡ b → ⊥) → (reservation s' d).holder ≡ (reservation s d).holder
     pub live : (d : BufId) → is_live s' d ≡ is_live s d
     pub stamp_same : (course s' t).stamp ≡ (course s t).stamp
     pub gets : Has s' t b
@@ -137,7 +137,7 @@ module _ (script : Script) (s s' : State) (t : ℕ) (one : OneCourse s s' t) (o 
   gets_keeps b st g mine =
       record {
         courses = courses_on;
-        grips = grips_on;
+        reservations = reservations_on;
         steady = steady_on mine;
         holder = holder;
         held = held;
@@ -156,32 +156,32 @@ module _ (script : Script) (s s' : State) (t : ℕ) (one : OneCourse s s' t) (o 
       has_on : (u : ℕ) (d : BufId) → Has s u d → Has s' u d
       has_on u d h = ⊎_elim (λ q. subst (λ v. Has s' v d) (sym q) (g.more d (subst (λ v. Has s v d) q h))) (λ e. has_kept u d e h) (cases_eq u t)
 
-      holder : (d : BufId) (st' : Stamp) → (grip s' d).holder ≡ Some st' → (u : ℕ) × ((course s' u).stamp ≡ Some st') × Has s' u d
+      holder : (d : BufId) (st' : Stamp) → (reservation s' d).holder ≡ Some st' → (u : ℕ) × ((course s' u).stamp ≡ Some st') × Has s' u d
       holder d st' e =
           ⊎_elim
           (λ q.
-          let it : st ≡ st' = some_is (grip s' b).holder st st' g.now (subst (λ z. (grip s' z).holder ≡ Some st') q e) in
+          let it : st ≡ st' = some_is (reservation s' b).holder st st' g.now (subst (λ z. (reservation s' z).holder ≡ Some st') q e) in
           (t, g.stamp_same ∙ (g.stamp ∙ ap Some it), subst (Has s' t) (sym q) g.gets))
           (λ n. let h = o.holder d st' (sym (g.kept d n) ∙ e) in (h.0, forth h.0 st' h.1, has_on h.0 d h.2))
           (same_or_other d b)
 
       -- what was had is another buffer
-      old : (u : ℕ) (d : BufId) → Has s u d → (st' : Stamp) × (is_live s' d ≡ true) × ((grip s' d).holder ≡ Some st') × ((course s' u).stamp ≡ Some st')
+      old : (u : ℕ) (d : BufId) → Has s u d → (st' : Stamp) × (is_live s' d ≡ true) × ((reservation s' d).holder ≡ Some st') × ((course s' u).stamp ≡ Some st')
       old u d h =
           let w = o.held u d h in
-          let n : d ≡ b → ⊥ = λ q. none_or (grip s b).holder w.0 g.free (subst (λ z. (grip s z).holder ≡ Some w.0) q w.2) in
+          let n : d ≡ b → ⊥ = λ q. none_or (reservation s b).holder w.0 g.free (subst (λ z. (reservation s z).holder ≡ Some w.0) q w.2) in
           (w.0, g.live d ∙ w.1, g.kept d n ∙ w.2, forth u w.0 w.3)
 
-      held : (u : ℕ) (d : BufId) → Has s' u d → (st' : Stamp) × (is_live s' d ≡ true) × ((grip s' d).holder ≡ Some st') × ((course s' u).stamp ≡ Some st')
+      held : (u : ℕ) (d : BufId) → Has s' u d → (st' : Stamp) × (is_live s' d ≡ true) × ((reservation s' d).holder ≡ Some st') × ((course s' u).stamp ≡ Some st')
       held u d now =
           ⊎_elim
           (λ q.
           ⊎_elim
-          (λ h. subst (λ v. (st' : Stamp) × (is_live s' d ≡ true) × ((grip s' d).holder ≡ Some st') × ((course s' v).stamp ≡ Some st')) (sym q) (old t d h))
+          (λ h. subst (λ v. (st' : Stamp) × (is_live s' d ≡ true) × ((reservation s' d).holder ≡ Some st') × ((course s' v).stamp ≡ Some st')) (sym q) (old t d h))
           (λ e. (
             st,
             g.live d ∙ subst (λ z. is_live s z ≡ true) (sym e) g.here,
-            subst (λ z. (grip s' z).holder ≡ Some st) (sym e) g.now,
+            subst (λ z. (reservation s' z).holder ≡ Some st) (sym e) g.now,
             subst (λ v. (course s' v).stamp ≡ Some st) (sym q) (g.stamp_same ∙ g.stamp),
           ))
           (g.less d (subst (λ v. Has s' v d) q now)))
@@ -194,7 +194,7 @@ module _ (script : Script) (s s' : State) (t : ℕ) (one : OneCourse s s' t) (o 
     pub next : s.last_stamp < st.0
     pub empty : (d : BufId) → Has s t d → ⊥
     pub empty_now : (d : BufId) → Has s' t d → ⊥
-    pub same : (d : BufId) → (grip s' d).holder ≡ (grip s d).holder
+    pub same : (d : BufId) → (reservation s' d).holder ≡ (reservation s d).holder
     pub live : (d : BufId) → is_live s' d ≡ is_live s d
     pub now : (course s' t).stamp ≡ Some st
     pub last : s'.last_stamp ≡ st.0
@@ -203,7 +203,7 @@ module _ (script : Script) (s s' : State) (t : ℕ) (one : OneCourse s s' t) (o 
   draws_keeps st w mine =
       record {
         courses = courses_on;
-        grips = grips_on;
+        reservations = reservations_on;
         steady = steady_on mine;
         holder = λ b st' e. let h = o.holder b st' (sym (w.same b) ∙ e) in let d = not_t h.0 b h.2 in (h.0, stamp_kept h.0 st' d h.1, has_kept h.0 b d h.2);
         held = λ u b h.

@@ -14,7 +14,7 @@ use Rattle.journal_model.specs.declared.state.Course.{Course}
 use Rattle.journal_model.specs.declared.entry.Why.{Why}
 use Rattle.journal_model.specs.State.{new_course, has_buffer}
 use Rattle.journal_model.specs.Commands.{commands_of, named}
-use Rattle.journal_model.specs.Search.{is_caught, quest_at_work}
+use Rattle.journal_model.specs.Search.{is_caught, place_search_at_work}
 use Rattle.journal_model.specs.Tasks.{starts, first_missing}
 use Rattle.journal_model.specs.ApplyCommands.{has_made, on_to_next}
 use Rattle.journal_model.specs.ApplyPages.{search_over}
@@ -186,7 +186,7 @@ module _ (script : Script) (t : ℕ) (c : Course) (cmd : Command) (ok : Steady s
   dry_steady s b k w alone None = ok
   dry_steady s b k w alone (Some x) = by (is_caught c b) refl
     where
-      by : (q : Bool) → is_caught c b ≡ q → Steady script t (if q then with_fail b deny.NoSpace c else gone_dry k (length (forced_places (quest_at_work script s c x b).list)) c)
+      by : (q : Bool) → is_caught c b ≡ q → Steady script t (if q then with_fail b deny.NoSpace c else gone_dry k (length (forced_places (place_search_at_work script s c x b).list)) c)
       by true e = fail_steady b deny.NoSpace w alone
       by false e = own_fail_steady true (k + 1) _ (alone e)
 

@@ -17,7 +17,7 @@ use Rattle.journal_model.specs.declared.script.Script.{Script}
 use Rattle.journal_model.specs.declared.state.State.{State}
 use Rattle.journal_model.specs.declared.state.Buffer.{Buffer}
 use Rattle.journal_model.specs.declared.state.Course.{Course}
-use Rattle.journal_model.specs.declared.state.Grip.{Grip}
+use Rattle.journal_model.specs.declared.state.Reservation.{Reservation}
 use Rattle.ttm_base.specs.Placement.{forced_places}
 use Rattle.journal_model.specs.declared.state.Victim.{Victim}
 use Rattle.journal_model.specs.declared.entry.Kind.{Kind}
@@ -26,13 +26,13 @@ use Rattle.journal_model.specs.declared.script.Command.{Command}
 use Rattle.journal_model.specs.declared.script.Command.TheVariants as command
 use Rattle.journal_model.specs.declared.state.Task.{Task}
 use Rattle.journal_model.specs.declared.state.Task.TheVariants as task
-use Rattle.journal_model.specs.State.{course, buffer, grip, is_live}
+use Rattle.journal_model.specs.State.{course, buffer, reservation, is_live}
 use Rattle.journal_model.specs.Commands.{command_at_work}
 use Rattle.journal_model.specs.Waits.{waited_for, jobs_before_write, jobs_before_read}
 use Rattle.journal_model.specs.Dry.{ghost_in, ghost_with_frame}
 use Rattle.journal_model.specs.Ready.{is_in_place, first_unready}
 use Rattle.journal_model.specs.Tasks.{carried, task_of_misplaced, task_of_unready, task_of_failed, gives_back, forbidden, task_of_command, task_of_held, task_of_victim, first_missing, starts}
-use Rattle.journal_model.specs.Search.{Step, Quest, quest, step_of_quest, step_of_forced, step_of_forced_place, step_of_crowded}
+use Rattle.journal_model.specs.Search.{Step, PlaceSearch, place_search, step_of_place_search, step_of_forced, step_of_forced_place, step_of_crowded}
 use Rattle.journal_model.specs.PageSteps.{step_of_fill, step_without_frame, step_without_victim, step_of_empty, step_of_swap_out, once_idle}
 use Rattle.journal_model.specs.Next.{step_of_task, step_of_act, step_of_start, step_of_lock, step_of_holder, backs_off}
 use Rattle.journal_model.specs.DeadEnd.{can_step}
@@ -56,8 +56,8 @@ module _ (script : Script) (s : State) (quiet : Quiet s) where
   forced_ok : (c : Course) (b : BufId) (k : ℕ) (place : Place) → is_ok (step_of_forced_place script s c b k place) ≡ true
   forced_ok c b k place = let g : is_ok (step_of_crowded script s c b k place) ≡ true = crowded_ok c b k place in grind (arith, common_steps)
 
-  quest_ok : (c : Course) (b : BufId) (q : Quest) → is_ok (step_of_quest script s c b q) ≡ true
-  quest_ok c b q = let g : is_ok (step_of_forced script s c b q.dry (forced_places q.list)) ≡ true = forced_ok c b q.dry _ in grind (arith, common_steps)
+  place_search_ok : (c : Course) (b : BufId) (q : PlaceSearch) → is_ok (step_of_place_search script s c b q) ≡ true
+  place_search_ok c b q = let g : is_ok (step_of_forced script s c b q.dry (forced_places q.list)) ≡ true = forced_ok c b q.dry _ in grind (arith, common_steps)
 
   without_victim_ok : (b : BufId) → is_ok (step_without_victim s b) ≡ true
   without_victim_ok b = let g : ghost_with_frame s ≡ None = no_ghost_with_frame in grind (arith, common_steps)
@@ -97,7 +97,7 @@ module _ (script : Script) (s : State) (quiet : Quiet s) where
   task_ok c cmd task.Idle h = cc
   task_ok c cmd task.Start h = start_ok cmd
   task_ok c cmd (task.Lock b) h = cc
-  task_ok c cmd (task.Search b aim) h = quest_ok c b (quest script cmd c b aim)
+  task_ok c cmd (task.Search b aim) h = place_search_ok c b (place_search script cmd c b aim)
   task_ok c cmd (task.Unbind b) h = idle_ok b _
   task_ok c cmd (task.Fill b) h = fill_ok b
   task_ok c cmd (task.Empty b) h = empty_ok c b
@@ -112,14 +112,14 @@ module _ (script : Script) (s : State) (quiet : Quiet s) where
   carried_goes_on Tt b x = grind (arith, common_steps)
   carried_goes_on Vram b x = grind (arith, common_steps)
 
-  misplaced_goes_on : (b : BufId) (g : Grip) (x : Buffer) → goes_on (task_of_misplaced b g x) ≡ true
+  misplaced_goes_on : (b : BufId) (g : Reservation) (x : Buffer) → goes_on (task_of_misplaced b g x) ≡ true
   misplaced_goes_on b g x = let on : goes_on (carried x.mem b x) ≡ true = carried_goes_on x.mem b x in grind (arith, common_steps)
 
   unready_goes_on : (cmd : Command) (b : BufId) → goes_on (task_of_unready script s cmd b) ≡ true
   unready_goes_on cmd b =
-      by_place (is_in_place script cmd b (buffer s b)) b (misplaced_goes_on b (grip s b) (buffer s b))
+      by_place (is_in_place script cmd b (buffer s b)) b (misplaced_goes_on b (reservation s b) (buffer s b))
     where
-      by_place : (q : Bool) (b : BufId) → goes_on (task_of_misplaced b (grip s b) (buffer s b)) ≡ true → goes_on (elim q [ true ↦ task.Fill b | false ↦ task_of_misplaced b (grip s b) (buffer s b) ]) ≡ true
+      by_place : (q : Bool) (b : BufId) → goes_on (task_of_misplaced b (reservation s b) (buffer s b)) ≡ true → goes_on (elim q [ true ↦ task.Fill b | false ↦ task_of_misplaced b (reservation s b) (buffer s b) ]) ≡ true
       by_place true b h = refl
       by_place false b h = h
 
@@ -184,10 +184,10 @@ module _ (script : Script) (s : State) (quiet : Quiet s) where
 
   -- a thread that wants a buffer has an entry, but where it needs its holder
   pub locking_goes_on : (t : ℕ) (cmd : Command) (b : BufId) → command_at_work script s t ≡ Some cmd → wants (course s t) cmd ≡ Some b →
-      ((st : Stamp) → (grip s b).holder ≡ Some st → backs_off (course s t) st ≡ true) → can_step script s (actor.Thread t) ≡ true
+      ((st : Stamp) → (reservation s b).holder ≡ Some st → backs_off (course s t) st ≡ true) → can_step script s (actor.Thread t) ≡ true
   locking_goes_on t cmd b w h backs =
       let lock : task_of_command script s (course s t) cmd ≡ task.Lock b = is_lock (course s t) cmd b h in
-      let k : is_ok (step_of_lock s (course s t) b) ≡ true = lock_ok (course s t) b (is_live s b) (grip s b).holder backs in
+      let k : is_ok (step_of_lock s (course s t) b) ≡ true = lock_ok (course s t) b (is_live s b) (reservation s b).holder backs in
       let m : is_ok (step_of_task script s (course s t) cmd (task_of_command script s (course s t) cmd)) ≡ true =
       subst (λ d. is_ok (step_of_task script s (course s t) cmd d) ≡ true) (sym lock) k in
       subst (λ o. is_ok (step_at (course s t) o (task_at (course s t) o)) ≡ true) (sym w) m

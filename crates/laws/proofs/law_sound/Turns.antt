@@ -16,11 +16,11 @@ use Rattle.journal_model.specs.declared.state.Victim.{Victim}
 use Rattle.journal_model.specs.declared.state.Buffer.{Buffer}
 use Rattle.journal_model.specs.declared.state.Task.{Task}
 use Rattle.journal_model.specs.declared.state.Task.TheVariants as task
-use Rattle.journal_model.specs.declared.state.Aim.TheVariants.{Asked, Hop}
+use Rattle.journal_model.specs.declared.state.SearchAim.TheVariants.{Asked, Hop}
 use Rattle.journal_model.specs.declared.entry.Why.{Why}
 use Rattle.journal_model.specs.declared.entry.Why.TheVariants as why
 use Rattle.ttm_base.specs.Reach.{same_mem}
-use Rattle.journal_model.specs.State.{buffer, grip, has_target}
+use Rattle.journal_model.specs.State.{buffer, reservation, has_target}
 use Rattle.journal_model.specs.Ready.{has_all_frames, has_some_target, is_in_place, first_unready}
 use Rattle.journal_model.specs.Tasks.{starts, first_missing, filled_then, gives_back, task_in_vram, task_of_victim, forbidden, task_of_failed, carried, task_of_misplaced, task_of_unready, task_of_held, task_of_command}
 
@@ -51,7 +51,7 @@ pub record OnBuffer (script : Script) (s : State) (c : Course) (cmd : Command) (
 pub record OnMisplaced (script : Script) (s : State) (c : Course) (cmd : Command) (b : BufId) : Type 0 where
   pub on : OnBuffer script s c cmd b
   pub misplaced : is_in_place script cmd b (buffer s b) ≡ false
-  pub loose : nat_lt 0 (grip s b).pins ≡ false
+  pub loose : nat_lt 0 (reservation s b).pins ≡ false
 
 -- one that has targets
 pub record OnCarried (script : Script) (s : State) (c : Course) (cmd : Command) (b : BufId) (mem : Mem) : Type 0 where
@@ -74,7 +74,7 @@ pub record InVram (v : Victim) (x : Buffer) : Type 0 where
 -- why a command is refused at work
 pub data Refusal (script : Script) (s : State) (c : Course) (cmd : Command) : Type 0 where
   ban : (d : Deny) → forbidden s cmd ≡ Some d → Refusal script s c cmd
-  pinned : (b : BufId) → c.fail ≡ None → first_unready script s cmd ≡ Some b → is_in_place script cmd b (buffer s b) ≡ false → nat_lt 0 (grip s b).pins ≡ true → Refusal script s c cmd
+  pinned : (b : BufId) → c.fail ≡ None → first_unready script s cmd ≡ Some b → is_in_place script cmd b (buffer s b) ≡ false → nat_lt 0 (reservation s b).pins ≡ true → Refusal script s c cmd
 
 -- why a failed command gives up
 pub data Surrender (script : Script) (s : State) (cmd : Command) : Type 0 where
@@ -219,14 +219,14 @@ module _ (script : Script) (s : State) (c : Course) (cmd : Command) where
         by_vram true e = move_across down e
         by_vram false e = by_tt e (has_target Tt (buffer s b)) refl
 
-    misplaced_at : OnBuffer script s c cmd b → is_in_place script cmd b (buffer s b) ≡ false → Turn script s c cmd (task_of_misplaced b (grip s b) (buffer s b))
-    misplaced_at on out = by_pins (nat_lt 0 (grip s b).pins) refl
+    misplaced_at : OnBuffer script s c cmd b → is_in_place script cmd b (buffer s b) ≡ false → Turn script s c cmd (task_of_misplaced b (reservation s b) (buffer s b))
+    misplaced_at on out = by_pins (nat_lt 0 (reservation s b).pins) refl
       where
-        by_target : nat_lt 0 (grip s b).pins ≡ false → (q : Bool) → has_some_target (buffer s b) ≡ q → Turn script s c cmd (elim q [ true ↦ carried (buffer s b).mem b (buffer s b) | false ↦ task.Search b Asked ])
+        by_target : nat_lt 0 (reservation s b).pins ≡ false → (q : Bool) → has_some_target (buffer s b) ≡ q → Turn script s c cmd (elim q [ true ↦ carried (buffer s b).mem b (buffer s b) | false ↦ task.Search b Asked ])
         by_target l true e = carried_at (record { on = on; misplaced = out; loose = l }) e (buffer s b).mem refl
         by_target l false e = ask (record { on = on; misplaced = out; loose = l }) e
 
-        by_pins : (q : Bool) → nat_lt 0 (grip s b).pins ≡ q →
+        by_pins : (q : Bool) → nat_lt 0 (reservation s b).pins ≡ q →
             Turn script s c cmd (elim q [
               | true ↦ task.Refuse deny.Pinned
               | false ↦ elim (has_some_target (buffer s b)) [ true ↦ carried (buffer s b).mem b (buffer s b) | false ↦ task.Search b Asked ]
@@ -237,7 +237,7 @@ module _ (script : Script) (s : State) (c : Course) (cmd : Command) where
     unready_at : OnBuffer script s c cmd b → Turn script s c cmd (task_of_unready script s cmd b)
     unready_at on = by_place (is_in_place script cmd b (buffer s b)) refl
       where
-        by_place : (q : Bool) → is_in_place script cmd b (buffer s b) ≡ q → Turn script s c cmd (elim q [ true ↦ task.Fill b | false ↦ task_of_misplaced b (grip s b) (buffer s b) ])
+        by_place : (q : Bool) → is_in_place script cmd b (buffer s b) ≡ q → Turn script s c cmd (elim q [ true ↦ task.Fill b | false ↦ task_of_misplaced b (reservation s b) (buffer s b) ])
         by_place true e = fill_in_place on e
         by_place false e = misplaced_at on e
 

@@ -19,17 +19,17 @@ use Rattle.journal_model.specs.declared.script.Command.TheVariants as command
 use Rattle.journal_model.specs.declared.state.State.{State}
 use Rattle.journal_model.specs.declared.state.Course.{Course}
 use Rattle.journal_model.specs.declared.state.Victim.{Victim}
-use Rattle.journal_model.specs.declared.state.Grip.{Grip}
+use Rattle.journal_model.specs.declared.state.Reservation.{Reservation}
 use Rattle.journal_model.specs.declared.state.Task.{Task}
 use Rattle.journal_model.specs.declared.state.Task.TheVariants as task
 use Rattle.journal_model.specs.declared.entry.Kind.{Kind}
 use Rattle.journal_model.specs.declared.entry.Kind.TheVariants as kind
-use Rattle.journal_model.specs.State.{buffer, grip}
+use Rattle.journal_model.specs.State.{buffer, reservation}
 use Rattle.journal_model.specs.Commands.{whole}
 use Rattle.journal_model.specs.Choice.{choice}
 use Rattle.journal_model.specs.Ready.{is_in_place, first_unready}
 use Rattle.journal_model.specs.Tasks.{carried, task_of_misplaced, task_of_unready, task_of_failed, gives_back, forbidden, task_of_command, task_of_held, task_of_victim, first_missing, starts}
-use Rattle.journal_model.specs.Search.{Step, Quest, step_of_quest, step_of_forced, step_of_forced_place, step_of_crowded, first_choice}
+use Rattle.journal_model.specs.Search.{Step, PlaceSearch, step_of_place_search, step_of_forced, step_of_forced_place, step_of_crowded, first_choice}
 use Rattle.journal_model.specs.Next.{step_of_task, step_of_act, step_of_start}
 use Rattle.laws.specs.law_state.Courses.{makes}
 use Rattle.laws.proofs.law_state.Lists.{get_within}
@@ -51,15 +51,15 @@ carried_may : (s : State) (c : Course) (cmd : Command) (mem : Mem) (b : BufId) �
 carried_may s c cmd System b e = grind (arith, common_steps, nat_tests)
 carried_may s c cmd mem b e = grind (arith, common_steps, nat_tests)
 
-misplaced_may : (s : State) (c : Course) (cmd : Command) (b : BufId) (g : Grip) → may s c cmd (task_of_misplaced b g (buffer s b)) ≡ true
+misplaced_may : (s : State) (c : Course) (cmd : Command) (b : BufId) (g : Reservation) → may s c cmd (task_of_misplaced b g (buffer s b)) ≡ true
 misplaced_may s c cmd b g = let on : may s c cmd (carried (buffer s b).mem b (buffer s b)) ≡ true = carried_may s c cmd (buffer s b).mem b refl in grind (arith, common_steps)
 
 unready_may : (script : Script) (s : State) (c : Course) (cmd : Command) (b : BufId) → may s c cmd (task_of_unready script s cmd b) ≡ true
 unready_may script s c cmd b = by (is_in_place script cmd b (buffer s b))
   where
-    by : (q : Bool) → may s c cmd (elim q [ true ↦ task.Fill b | false ↦ task_of_misplaced b (grip s b) (buffer s b) ]) ≡ true
+    by : (q : Bool) → may s c cmd (elim q [ true ↦ task.Fill b | false ↦ task_of_misplaced b (reservation s b) (buffer s b) ]) ≡ true
     by true = refl
-    by false = misplaced_may s c cmd b (grip s b)
+    by false = misplaced_may s c cmd b (reservation s b)
 
 failed_may : (script : Script) (s : State) (c : Course) (cmd : Command) (d : Deny) → may s c cmd (task_of_failed script s cmd d) ≡ true
 failed_may script s c cmd d = by_buffer (first_unready script s cmd)
@@ -164,8 +164,8 @@ forced_dry script s c b k places e h = by (slice_get places k) refl h
     by None q g = grind (arith, common_steps)
     by (Some place) q g = place_dry script s c b k (length places) place e (choice script s.core b place) (get_within places k place q) g
 
-abbrev quest_step : Script → State → Course → BufId → Quest → Bool → Option (Mem × List Span) → Step
-quest_step script s c b q f o =
+abbrev place_search_step : Script → State → Course → BufId → PlaceSearch → Bool → Option (Mem × List Span) → Step
+place_search_step script s c b q f o =
     elim f [
       | true ↦ step_of_forced script s c b q.dry (forced_places q.list)
       | false ↦ elim o [
@@ -174,10 +174,10 @@ quest_step script s c b q f o =
       ]
     ]
 
-pub quest_dry : (script : Script) (s : State) (c : Course) (b : BufId) (q : Quest) (e : Kind) → step_of_quest script s c b q ≡ Ok e → is_dry_below (length (forced_places q.list)) e ≡ true
-quest_dry script s c b q e h = by q.forced (first_choice script s b (first_places q.list)) h
+pub place_search_dry : (script : Script) (s : State) (c : Course) (b : BufId) (q : PlaceSearch) (e : Kind) → step_of_place_search script s c b q ≡ Ok e → is_dry_below (length (forced_places q.list)) e ≡ true
+place_search_dry script s c b q e h = by q.forced (first_choice script s b (first_places q.list)) h
   where
-    by : (f : Bool) (o : Option (Mem × List Span)) → quest_step script s c b q f o ≡ Ok e → is_dry_below (length (forced_places q.list)) e ≡ true
+    by : (f : Bool) (o : Option (Mem × List Span)) → place_search_step script s c b q f o ≡ Ok e → is_dry_below (length (forced_places q.list)) e ≡ true
     by true o g = forced_dry script s c b q.dry (forced_places q.list) e g
     by false (Some found) g = grind (arith, common_steps)
     by false None g = forced_dry script s c b q.dry (forced_places q.list) e g

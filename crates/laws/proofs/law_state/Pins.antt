@@ -13,14 +13,14 @@ use Rattle.journal_model.specs.declared.script.Command.{Command}
 use Rattle.journal_model.specs.declared.script.Command.TheVariants as command
 use Rattle.journal_model.specs.declared.state.State.{State}
 use Rattle.journal_model.specs.declared.state.Course.{Course}
-use Rattle.journal_model.specs.declared.state.Grip.{Grip}
+use Rattle.journal_model.specs.declared.state.Reservation.{Reservation}
 use Rattle.journal_model.specs.declared.state.Task.{Task}
 use Rattle.journal_model.specs.declared.state.Task.TheVariants as task
 use Rattle.journal_model.specs.declared.entry.Entry.{Entry}
 use Rattle.journal_model.specs.declared.entry.Shown.{Shown}
 use Rattle.journal_model.specs.declared.entry.Kind.{Kind}
 use Rattle.journal_model.specs.declared.entry.Kind.TheVariants as kind
-use Rattle.journal_model.specs.State.{course, course_of, grip, grip_in, no_grip, regripped, new_course}
+use Rattle.journal_model.specs.State.{course, course_of, reservation, reservation_in, no_reservation, reservation_changed, new_course}
 use Rattle.journal_model.specs.Commands.{commands_of, command_at_work}
 use Rattle.journal_model.specs.Tasks.{forbidden}
 use Rattle.journal_model.specs.Complete.{is_answer}
@@ -37,53 +37,53 @@ use Rattle.laws.proofs.law_state.Courses.{may, command_may, is_shown_by, shown_b
 
 -- ---- pins
 
-set_pins : (grips : List Grip) (b : BufId) (g : Grip) → g.pins ≤ 255 → HaveFewPins grips → HaveFewPins (slice_set grips b.0 g)
-set_pins grips b g new h d =
+set_pins : (reservations : List Reservation) (b : BufId) (g : Reservation) → g.pins ≤ 255 → HaveFewPins reservations → HaveFewPins (slice_set reservations b.0 g)
+set_pins reservations b g new h d =
     ⊎_elim
-    (λ e. subst (λ o. (unwrap_or o no_grip).pins ≤ 255) (sym e) (h d))
-    (λ e. subst (λ o. (unwrap_or o no_grip).pins ≤ 255) (sym e.1) new)
-    (set_at grips b.0 d.0 g)
+    (λ e. subst (λ o. (unwrap_or o no_reservation).pins ≤ 255) (sym e) (h d))
+    (λ e. subst (λ o. (unwrap_or o no_reservation).pins ≤ 255) (sym e.1) new)
+    (set_at reservations b.0 d.0 g)
 
-hold_pins : (holder : Option Stamp) (grips : List Grip) (b : BufId) → HaveFewPins grips → HaveFewPins (regripped (with_holder holder) grips b)
-hold_pins holder grips b h = set_pins grips b (with_holder holder (grip_in grips b)) (h b) h
+hold_pins : (holder : Option Stamp) (reservations : List Reservation) (b : BufId) → HaveFewPins reservations → HaveFewPins (reservation_changed (with_holder holder) reservations b)
+hold_pins holder reservations b h = set_pins reservations b (with_holder holder (reservation_in reservations b)) (h b) h
 
-release_pins : (grips : List Grip) (bs : List BufId) → HaveFewPins grips → HaveFewPins (released grips bs)
-release_pins grips [] h = h
-release_pins grips (b ∷ bs) h = release_pins (regripped (with_holder None) grips b) bs (hold_pins None grips b h)
+release_pins : (reservations : List Reservation) (bs : List BufId) → HaveFewPins reservations → HaveFewPins (released reservations bs)
+release_pins reservations [] h = h
+release_pins reservations (b ∷ bs) h = release_pins (reservation_changed (with_holder None) reservations b) bs (hold_pins None reservations b h)
 
 -- letting go keeps the pins
-release_same : (grips : List Grip) (bs : List BufId) (d : BufId) → (grip_in (released grips bs) d).pins ≡ (grip_in grips d).pins
-release_same grips [] d = refl
-release_same grips (b ∷ bs) d = release_same (regripped (with_holder None) grips b) bs d ∙ one
+release_same : (reservations : List Reservation) (bs : List BufId) (d : BufId) → (reservation_in (released reservations bs) d).pins ≡ (reservation_in reservations d).pins
+release_same reservations [] d = refl
+release_same reservations (b ∷ bs) d = release_same (reservation_changed (with_holder None) reservations b) bs d ∙ one
   where
-    one : (grip_in (regripped (with_holder None) grips b) d).pins ≡ (grip_in grips d).pins
+    one : (reservation_in (reservation_changed (with_holder None) reservations b) d).pins ≡ (reservation_in reservations d).pins
     one = ⊎_elim
-        (λ e. ap (λ o. (unwrap_or o no_grip).pins) e)
-        (λ e. ap (λ o. (unwrap_or o no_grip).pins) e.1 ∙ ap (λ i. (unwrap_or (slice_get grips i) no_grip).pins) e.0)
-        (set_at grips b.0 d.0 (with_holder None (grip_in grips b)))
+        (λ e. ap (λ o. (unwrap_or o no_reservation).pins) e)
+        (λ e. ap (λ o. (unwrap_or o no_reservation).pins) e.1 ∙ ap (λ i. (unwrap_or (slice_get reservations i) no_reservation).pins) e.0)
+        (set_at reservations b.0 d.0 (with_holder None (reservation_in reservations b)))
 
 -- where a command pins, its buffer has a pin left
-abbrev pub HasPinLeft : List Grip → Option Command → Type 0
-HasPinLeft grips (Some (command.Pin b)) = (grip_in grips b).pins < 255
-HasPinLeft grips _ = Unit {0}
+abbrev pub HasPinLeft : List Reservation → Option Command → Type 0
+HasPinLeft reservations (Some (command.Pin b)) = (reservation_in reservations b).pins < 255
+HasPinLeft reservations _ = Unit {0}
 
-answer_pins : (grips : List Grip) (o : Option Command) → HasPinLeft grips o → HaveFewPins grips → HaveFewPins (with_pins o grips)
-answer_pins grips None l h = h
-answer_pins grips (Some (command.Pin b)) l h = set_pins grips b (pinned_more (grip_in grips b)) (let m : (grip_in grips b).pins < 255 = l in omega (arith, m)) h
-answer_pins grips (Some (command.Unpin b)) l h = set_pins grips b (pinned_less (grip_in grips b)) (let m = h b in omega (arith, m)) h
-answer_pins grips (Some cmd) l h = h
+answer_pins : (reservations : List Reservation) (o : Option Command) → HasPinLeft reservations o → HaveFewPins reservations → HaveFewPins (with_pins o reservations)
+answer_pins reservations None l h = h
+answer_pins reservations (Some (command.Pin b)) l h = set_pins reservations b (pinned_more (reservation_in reservations b)) (let m : (reservation_in reservations b).pins < 255 = l in omega (arith, m)) h
+answer_pins reservations (Some (command.Unpin b)) l h = set_pins reservations b (pinned_less (reservation_in reservations b)) (let m = h b in omega (arith, m)) h
+answer_pins reservations (Some cmd) l h = h
 
-left_same : (grips : List Grip) (bs : List BufId) (o : Option Command) → HasPinLeft grips o → HasPinLeft (released grips bs) o
-left_same grips bs None l = tt
-left_same grips bs (Some (command.Pin b)) l = let e = release_same grips bs b in let m : (grip_in grips b).pins < 255 = l in omega (arith, e, m)
-left_same grips bs (Some cmd) l = tt
+left_same : (reservations : List Reservation) (bs : List BufId) (o : Option Command) → HasPinLeft reservations o → HasPinLeft (released reservations bs) o
+left_same reservations bs None l = tt
+left_same reservations bs (Some (command.Pin b)) l = let e = release_same reservations bs b in let m : (reservation_in reservations b).pins < 255 = l in omega (arith, e, m)
+left_same reservations bs (Some cmd) l = tt
 
 -- ---- a result
 
-no_pin_max : (s : State) (b : BufId) → is_none (forbidden s (command.Pin b)) ≡ true → (grip s b).pins ≤ 255 → (grip s b).pins < 255
+no_pin_max : (s : State) (b : BufId) → is_none (forbidden s (command.Pin b)) ≡ true → (reservation s b).pins ≤ 255 → (reservation s b).pins < 255
 no_pin_max s b h l = grind (arith, nat_tests)
 
-pin_left : (s : State) (c : Course) (cmd : Command) (t : Task) → HaveFewPins s.grips → (c.made ≡ true → makes cmd ≡ true) → may s c cmd t ≡ true → (shown : Shown) → is_shown_by cmd t (kind.Result shown) ≡ true → HasPinLeft s.grips (Some cmd)
+pin_left : (s : State) (c : Course) (cmd : Command) (t : Task) → HaveFewPins s.reservations → (c.made ≡ true → makes cmd ≡ true) → may s c cmd t ≡ true → (shown : Shown) → is_shown_by cmd t (kind.Result shown) ≡ true → HasPinLeft s.reservations (Some cmd)
 pin_left s c (command.Pin b) task.Answer pins m h shown g = let k : makes (command.Pin b) ≡ true = m h in cc
 pin_left s c (command.Pin b) task.Act pins m h shown g = no_pin_max s b h (pins b)
 pin_left s c (command.Pin b) t pins m h shown g = cc
@@ -96,25 +96,25 @@ at_number script s t cmd h = by (course_of s t) h
     by None g = cc
     by (Some c) g = g
 
-pub result_pins : (script : Script) (s : State) (t : ℕ) (shown : Shown) → GoodCourses script s → ThreadStep script s t (kind.Result shown) → HasPinLeft s.grips (command_at_work script s t)
+pub result_pins : (script : Script) (s : State) (t : ℕ) (shown : Shown) → GoodCourses script s → ThreadStep script s t (kind.Result shown) → HasPinLeft s.reservations (command_at_work script s t)
 result_pins script s t shown good st =
-    subst (HasPinLeft s.grips) (sym st.at_work)
+    subst (HasPinLeft s.reservations) (sym st.at_work)
     (pin_left s (course s t) st.cmd st.task good.pins (good.makes t st.cmd (at_number script s t st.cmd st.at_work))
     (subst (λ k. may s (course s t) st.cmd k ≡ true) (sym st.is_task) (command_may script s (course s t) st.cmd)) shown
     (shown_by_task script s (course s t) st.cmd st.task (kind.Result shown) st.step))
 
 -- ---- each kind
 
-thread_pins : (script : Script) (s : State) (t : ℕ) (k : Kind) → GoodCourses script s → ThreadStep script s t k → HaveFewPins (applied script s (actor.Thread t) k).grips
-thread_pins script s t (kind.Reserve b) good st = hold_pins (course s t).stamp s.grips b good.pins
-thread_pins script s t (kind.Backoff b stamp) good st = release_pins s.grips (course s t).held good.pins
-thread_pins script s t (kind.New b) good st = set_pins s.grips b no_grip (omega arith) good.pins
-thread_pins script s t (kind.Free b g) good st = set_pins s.grips b no_grip (omega arith) good.pins
-thread_pins script s t (kind.Catch b w) good st = hold_pins (course s t).stamp s.grips b good.pins
-thread_pins script s t (kind.Loose b) good st = hold_pins None s.grips b good.pins
-thread_pins script s t (kind.Skip b) good st = hold_pins None s.grips b good.pins
-thread_pins script s t (kind.Result shown) good st = answer_pins (released s.grips (course s t).held) (command_at_work script s t) (left_same s.grips (course s t).held (command_at_work script s t) (result_pins script s t shown good st)) (release_pins s.grips (course s t).held good.pins)
-thread_pins script s t (kind.Refused d) good st = release_pins s.grips (course s t).held good.pins
+thread_pins : (script : Script) (s : State) (t : ℕ) (k : Kind) → GoodCourses script s → ThreadStep script s t k → HaveFewPins (applied script s (actor.Thread t) k).reservations
+thread_pins script s t (kind.Reserve b) good st = hold_pins (course s t).stamp s.reservations b good.pins
+thread_pins script s t (kind.Backoff b stamp) good st = release_pins s.reservations (course s t).held good.pins
+thread_pins script s t (kind.New b) good st = set_pins s.reservations b no_reservation (omega arith) good.pins
+thread_pins script s t (kind.Free b g) good st = set_pins s.reservations b no_reservation (omega arith) good.pins
+thread_pins script s t (kind.Catch b w) good st = hold_pins (course s t).stamp s.reservations b good.pins
+thread_pins script s t (kind.Loose b) good st = hold_pins None s.reservations b good.pins
+thread_pins script s t (kind.Skip b) good st = hold_pins None s.reservations b good.pins
+thread_pins script s t (kind.Result shown) good st = answer_pins (released s.reservations (course s t).held) (command_at_work script s t) (left_same s.reservations (course s t).held (command_at_work script s t) (result_pins script s t shown good st)) (release_pins s.reservations (course s t).held good.pins)
+thread_pins script s t (kind.Refused d) good st = release_pins s.reservations (course s t).held good.pins
 thread_pins script s t k good st = good.pins
 
 -- whether a command is made after an entry
@@ -143,13 +143,13 @@ own_makes (kind.Result shown) cmd was q c h m same made = cc
 own_makes (kind.Refused d) cmd was q c h m same made = cc
 own_makes k cmd was q c h m same made = ap makes (same refl) ∙ m made
 
-engine_grips : (script : Script) (s : State) (who : Actor) (k : Kind) → is_of_engine k ≡ true → (applied script s who k).grips ≡ s.grips
-engine_grips script s who (kind.Packet n k piece) q = cc
-engine_grips script s who k q = cc
+engine_reservations : (script : Script) (s : State) (who : Actor) (k : Kind) → is_of_engine k ≡ true → (applied script s who k).reservations ≡ s.reservations
+engine_reservations script s who (kind.Packet n k piece) q = cc
+engine_reservations script s who k q = cc
 
-reaper_grips : (script : Script) (s : State) (who : Actor) (k : Kind) → is_of_reaper k ≡ true → (applied script s who k).grips ≡ s.grips
-reaper_grips script s who (kind.Reap g) q = cc
-reaper_grips script s who k q = cc
+reaper_reservations : (script : Script) (s : State) (who : Actor) (k : Kind) → is_of_reaper k ≡ true → (applied script s who k).reservations ≡ s.reservations
+reaper_reservations script s who (kind.Reap g) q = cc
+reaper_reservations script s who k q = cc
 
 one_command : (o : Option Command) (x y : Command) → o ≡ Some x → o ≡ Some y → x ≡ y
 one_command o x y e f = let g : Some x ≡ Some y = sym e ∙ f in cc
@@ -181,20 +181,20 @@ courses_keep script s (actor.Engine e) k good h =
     let q = of_engine script s e k h in
     let cs = engine_keeps script s (actor.Engine e) k q in
     record {
-      pins = subst HaveFewPins (sym (engine_grips script s (actor.Engine e) k q)) good.pins;
+      pins = subst HaveFewPins (sym (engine_reservations script s (actor.Engine e) k q)) good.pins;
       makes = λ u cmd at made. good.makes u cmd (subst (λ c. slice_get (commands_of script u) (course_in c u).answered ≡ Some cmd) cs at) (subst (λ c. (course_in c u).made ≡ true) cs made);
     }
 courses_keep script s actor.Reaper k good h =
     let q = of_reaper script s k h in
     let cs = reaper_keeps script s actor.Reaper k q in
     record {
-      pins = subst HaveFewPins (sym (reaper_grips script s actor.Reaper k q)) good.pins;
+      pins = subst HaveFewPins (sym (reaper_reservations script s actor.Reaper k q)) good.pins;
       makes = λ u cmd at made. good.makes u cmd (subst (λ c. slice_get (commands_of script u) (course_in c u).answered ≡ Some cmd) cs at) (subst (λ c. (course_in c u).made ≡ true) cs made);
     }
 
 -- ---- along a journal
 
-no_pins : {X : Type 0} (xs : List X) (i : ℕ) → (unwrap_or (slice_get (map (λ d. no_grip) xs) i) no_grip).pins ≤ 255
+no_pins : {X : Type 0} (xs : List X) (i : ℕ) → (unwrap_or (slice_get (map (λ d. no_reservation) xs) i) no_reservation).pins ≤ 255
 no_pins [] i = omega arith
 no_pins (x ∷ xs) zero = omega arith
 no_pins (x ∷ xs) (suc i) = no_pins xs i

@@ -34,7 +34,7 @@ use Rattle.journal_model.specs.Dry.{has_frame}
 use Rattle.journal_model.specs.Waits.{waited_for, jobs_before_write, is_idle}
 use Rattle.journal_model.specs.Choice.{choice}
 use Rattle.journal_model.specs.Commands.{whole}
-use Rattle.journal_model.specs.Search.{Step, Quest, quest, is_caught, step_of_quest, step_of_forced, step_of_forced_place, step_of_crowded, first_choice}
+use Rattle.journal_model.specs.Search.{Step, PlaceSearch, place_search, is_caught, step_of_place_search, step_of_forced, step_of_forced_place, step_of_crowded, first_choice}
 use Rattle.journal_model.specs.PageSteps.{unless_waiting, next_job, next_ghost, step_of_move, step_of_give_back, step_of_swap_out, step_of_empty, first_frame_page, why_caught, target_to_untake}
 use Rattle.journal_model.specs.Next.{next, step_of_task, step_of_act, step_of_start}
 use Rattle.laws.proofs.law_state.Moves.{ThreadStep, thread_step}
@@ -92,8 +92,8 @@ forced_due script s c b n place k h = by (choice script s.core b place) h
     by (Some spans) g = take_due s b place.mem spans k g
     by None g = crowded_due script s c b n place k g
 
-quest_due : (script : Script) (s : State) (c : Course) (b : BufId) (q : Quest) (k : Kind) → step_of_quest script s c b q ≡ Ok k → is_due s k ≡ true
-quest_due script s c b q k h = by q.forced (first_choice script s b (first_places q.list)) h
+place_search_due : (script : Script) (s : State) (c : Course) (b : BufId) (q : PlaceSearch) (k : Kind) → step_of_place_search script s c b q ≡ Ok k → is_due s k ≡ true
+place_search_due script s c b q k h = by q.forced (first_choice script s b (first_places q.list)) h
   where
     forced : step_of_forced script s c b q.dry (forced_places q.list) ≡ Ok k → is_due s k ≡ true
     forced g = forced_due script s c b q.dry (unwrap_or (slice_get (forced_places q.list) q.dry) (whole System)) k g
@@ -152,7 +152,7 @@ empty_due script s c b k h = by (why_caught c b) h
 task_due : (script : Script) (s : State) (c : Course) (cmd : Command) (t : Task) (k : Kind) → may s c cmd t ≡ true → step_of_task script s c cmd t ≡ Ok k → is_due s k ≡ true
 task_due script s c cmd task.Idle k m h = cc
 task_due script s c cmd task.Start k m h = start_due s cmd k h
-task_due script s c cmd (task.Search x aim) k m h = quest_due script s c x (quest script cmd c x aim) k h
+task_due script s c cmd (task.Search x aim) k m h = place_search_due script s c x (place_search script cmd c x aim) k h
 task_due script s c cmd (task.Bind x) k m h = bind_due s x k m h
 task_due script s c cmd (task.Move x mem) k m h = move_due s c x mem k m h
 task_due script s c cmd (task.Empty x) k m h = empty_due script s c x k h

@@ -25,7 +25,7 @@ use Rattle.journal_model.specs.Ready.{has_all_frames, is_filled, is_in_place, is
 use Rattle.journal_model.specs.Waits.{same_job, waited_for, jobs_before_write}
 use Rattle.journal_model.specs.PageSteps.{next_job}
 use Rattle.journal_model.specs.Stores.{within, put_bytes}
-use Rattle.journal_model.specs.PlainMemory.{Memory, Dues, after_ops, pieces_shown, with_dues, with_range}
+use Rattle.journal_model.specs.PlainMemory.{Memory, OwedProbes, after_ops, pieces_shown, with_owed_probes, with_range}
 use Rattle.journal_model.specs.ApplyJobs.{core_after_arm}
 use Rattle.laws.specs.law_state.GoodState.{GoodState, HasPages, last_number}
 use Rattle.laws.proofs.law_owners.Law.{AreHeldOnce}
@@ -119,7 +119,7 @@ range_of_write script b off bytes h =
 
 -- ---- a job
 
-module _ (script : Script) (s : State) (dues : Dues) (m : Memory) (bytes : pages.PageBytes) (u : Viewed script s.core dues m bytes) (held : AreHeldOnce script s.core) (good : GoodState script s) (shapes : HaveShapes s.core.buffers) where
+module _ (script : Script) (s : State) (owed_probes : OwedProbes) (m : Memory) (bytes : pages.PageBytes) (u : Viewed script s.core owed_probes m bytes) (held : AreHeldOnce script s.core) (good : GoodState script s) (shapes : HaveShapes s.core.buffers) where
   pages_of_table : (b : BufId) → live_in s.core.buffers b ≡ Some (buffer s b) → length (buffer s b).table ≡ (decl script b).pages
   pages_of_table b e = let t : HasPages script b (Some (buffer s b)) = subst (HasPages script b) e (good.tables b) in t
 
@@ -132,9 +132,9 @@ module _ (script : Script) (s : State) (dues : Dues) (m : Memory) (bytes : pages
       ((b : BufId) → has_buffer (named (command.Submit engine ops)) b ≡ true → live_in s.core.buffers b ≡ Some (buffer s b)) →
       ((b : BufId) → has_buffer (named (command.Submit engine ops)) b ≡ true → is_ready script s (command.Submit engine ops) b ≡ true) →
       AreHeldOnce script (core_after_arm s.core (record { ctx = engine; num = next_job s engine }) ops (named (command.Submit engine ops))) →
-      Viewed script (core_after_arm s.core (record { ctx = engine; num = next_job s engine }) ops (named (command.Submit engine ops))) (with_dues (record { ctx = engine; num = next_job s engine }) (pieces_shown m ops) dues) (after_ops m ops) bytes
+      Viewed script (core_after_arm s.core (record { ctx = engine; num = next_job s engine }) ops (named (command.Submit engine ops))) (with_owed_probes (record { ctx = engine; num = next_job s engine }) (pieces_shown m ops) owed_probes) (after_ops m ops) bytes
   job_viewed engine ops fits live ready once =
-      arm_viewed script s.core dues m bytes u engine (next_job s engine) ops (ops_of_command script engine ops fits).1 held once
+      arm_viewed script s.core owed_probes m bytes u engine (next_job s engine) ops (ops_of_command script engine ops fits).1 held once
       (λ b h. record { buffer = buffer s b; live = live b h })
       (λ b h i l. reached_by (command.Submit engine ops) refl b (live b h) (ready b h) i l)
       fresh
@@ -148,9 +148,9 @@ module _ (script : Script) (s : State) (dues : Dues) (m : Memory) (bytes : pages
   -- ---- a write
 
   pub written_viewed : (b : BufId) (off : ℕ) (values : List ℕ) → is_command script (command.Write b off values) ≡ true → live_in s.core.buffers b ≡ Some (buffer s b) → is_ready script s (command.Write b off values) b ≡ true →
-      waited_for s.core (jobs_before_write (buffer s b)) ≡ None → Viewed script s.core dues (with_range b off (length values) (slice_index values) m) (within script.sizes (put_bytes (buffer s b) off values bytes))
+      waited_for s.core (jobs_before_write (buffer s b)) ≡ None → Viewed script s.core owed_probes (with_range b off (length values) (slice_index values) m) (within script.sizes (put_bytes (buffer s b) off values bytes))
   written_viewed b off values fits there ready idle =
-      write_viewed script s.core dues m bytes u b (decl script b).pages held (λ i l. reached_by (command.Write b off values) refl b there ready i l) off values (range_of_write script b off values fits) idle
+      write_viewed script s.core owed_probes m bytes u b (decl script b).pages held (λ i l. reached_by (command.Write b off values) refl b there ready i l) off values (range_of_write script b off values fits) idle
 
 -- no job of a command is one of the move engine
 pub engine_is_other : (script : Script) (engine : ℕ) (ops : List Op) (n k : ℕ) → is_command script (command.Submit engine ops) ≡ true → same_job (record { ctx = engine; num = n }) (record { ctx = 0; num = k }) ≡ false

@@ -36,7 +36,7 @@ module _ (script : Script) (fits : IsTrue (is_script script)) where
 
 -- the view of the state is good, and tells the state, the bytes and the plain memory
 pub view_law : (script : Script) (journal : List Entry) → IsTrue (is_script script) → IsLegal script journal →
-    Viewed script (state_of script journal).core (plain_of script journal).dues (plain_of script journal).memory (stores_of script journal)
+    Viewed script (state_of script journal).core (plain_of script journal).owed_probes (plain_of script journal).memory (stores_of script journal)
 view_law script journal fits l = (clear_law script fits journal l).viewed
 
 -- what a thread's next entry tells

@@ -65,7 +65,7 @@ module _ (script : Script) where
     show = λ j. tt;
   }
 
-  first_seen : Seen script c first_plain.dues first_plain.memory zeros first
+  first_seen : Seen script c first_plain.owed_probes first_plain.memory zeros first
   first_seen = record {
     count = refl;
     left = λ i x e. cc;
@@ -84,5 +84,5 @@ module _ (script : Script) where
     plain = λ b i o. zero_either (nat_lt o 4096);
   }
 
-  pub first_viewed : Viewed script c first_plain.dues first_plain.memory zeros
+  pub first_viewed : Viewed script c first_plain.owed_probes first_plain.memory zeros
   first_viewed = record { view = first; good = first_good; seen = first_seen }

@@ -13,7 +13,7 @@ use Rattle.journal_model.specs.Places.{pages_of}
 use Rattle.journal_model.specs.Holds.{size_of, is_free_page, held_frames, held_slots, free_frame, free_slot}
 use Rattle.journal_model.specs.Choice.{choice}
 use Rattle.journal_model.specs.Stores.{is_there, within}
-use Rattle.journal_model.specs.PlainMemory.{Memory, Dues}
+use Rattle.journal_model.specs.PlainMemory.{Memory, OwedProbes}
 use Rattle.laws.proofs.law_state.Rules.{Rules}
 use Rattle.laws.proofs.law_owners.Counts.{one, stands}
 use Rattle.laws.proofs.law_owners.Weights.{weight, vram_pages, frames, slots, in_buffers, in_ghosts, times-held}
@@ -76,8 +76,8 @@ module _ (script : Script) (c : Core) (held : AreHeldOnce script c) where
 
 -- ---- bytes where there are pages
 
-pub viewed_within : (script : Script) (c : Core) (dues : Dues) (m : Memory) (bytes : pages.PageBytes) → Viewed script c dues m bytes → Viewed script c dues m (within script.sizes bytes)
-viewed_within script c dues m bytes u =
+pub viewed_within : (script : Script) (c : Core) (owed_probes : OwedProbes) (m : Memory) (bytes : pages.PageBytes) → Viewed script c owed_probes m bytes → Viewed script c owed_probes m (within script.sizes bytes)
+viewed_within script c owed_probes m bytes u =
     let s = u.seen in
     record {
       view = u.view;

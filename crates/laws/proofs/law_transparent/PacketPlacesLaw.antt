@@ -18,7 +18,7 @@ use Rattle.journal_model.specs.ScriptRules.{is_script}
 use Rattle.journal_model.specs.Places.{pages_of, aperture}
 use Rattle.journal_model.specs.Holds.{spans_in}
 use Rattle.journal_model.specs.Stores.{is_there}
-use Rattle.journal_model.specs.PlainMemory.{Memory, Dues}
+use Rattle.journal_model.specs.PlainMemory.{Memory, OwedProbes}
 use Rattle.journal_model.specs.Spares.{remaining}
 use Rattle.journal_model.specs.Legal.{state_of, stores_of, IsLegal}
 use Rattle.laws.proofs.law_owners.Counts.{one, stands, weigh}
@@ -109,12 +109,12 @@ module _ (script : Script) (c : Core) (once : AreHeldOnce script c) (there : (x 
   runnable (packet.Xor to toff from foff len) s h = (record { page = is to (h to (first to from)); range = s.0 }, record { page = is from (h from (second to from)); range = s.1 })
   runnable (packet.Probe from off len) s h = (record { page = is from (h from (same_page-refl (at from))); range = s.0 }, s.1)
 
-named : (script : Script) (c : Core) (dues : Dues) (m : Memory) (bytes : pages.PageBytes) → AreHeldOnce script c → AreShort c.jobs → Viewed script c dues m bytes → NameWhatIsThere script c
-named script c dues m bytes once short u i k j p at here =
+named : (script : Script) (c : Core) (owed_probes : OwedProbes) (m : Memory) (bytes : pages.PageBytes) → AreHeldOnce script c → AreShort c.jobs → Viewed script c owed_probes m bytes → NameWhatIsThere script c
+named script c owed_probes m bytes once short u i k j p at here =
     runnable script c once (λ x. is_there script.sizes (pages.translated (aperture c) x) ≡ true) (place_is_there script c once) p
     (short_at j.packets j.ran k p (short i j at) here)
     (λ x h. u.seen.there i (pages.translated (aperture c) x)
-    (subst (λ steps. touched steps (seen (pages.translated (aperture c) x)) ≡ true) (sym (u.seen.left i j at)) (left_touches (aperture c) (dues j.id) j.ran (remaining j) k p (seen (pages.translated (aperture c) x)) here h)))
+    (subst (λ steps. touched steps (seen (pages.translated (aperture c) x)) ≡ true) (sym (u.seen.left i j at)) (left_touches (aperture c) (owed_probes j.id) j.ran (remaining j) k p (seen (pages.translated (aperture c) x)) here h)))
 
 pub places_law : (script : Script) (journal : List Entry) → IsTrue (is_script script) → IsLegal script journal → NameWhatIsThere script (state_of script journal).core
 places_law script journal fits h =

@@ -15,7 +15,7 @@ use Rattle.journal_model.specs.Places.{aperture, mapped_in, page_at}
 use Rattle.journal_model.specs.Choice.{choice}
 use Rattle.journal_model.specs.Ready.{has_some_target}
 use Rattle.journal_model.specs.Waits.{waited_for, jobs_before_write, jobs_before_target}
-use Rattle.journal_model.specs.PlainMemory.{Memory, Dues, with_zeros}
+use Rattle.journal_model.specs.PlainMemory.{Memory, OwedProbes, with_zeros}
 use Rattle.journal_model.specs.ApplyCommands.{ghost_of_freed}
 use Rattle.journal_model.specs.ApplyPages.{with_kernel_fences, with_spans, without_frames, bound, unbound}
 use Rattle.journal_model.specs.ApplyVictims.{leaves_tt}
@@ -40,44 +40,44 @@ use Rattle.laws.proofs.lemma_bytes_view.Viewed.{Viewed}
 use Rattle.laws.proofs.lemma_bytes_view.Tables.{AllFrames}
 use Rattle.laws.proofs.law_transparent.Idles.{choice_free}
 
-module _ (script : Script) (c : Core) (dues : Dues) (m : Memory) (bytes : pages.PageBytes) (u : Viewed script c dues m bytes) (held : AreHeldOnce script c) where
+module _ (script : Script) (c : Core) (owed_probes : OwedProbes) (m : Memory) (bytes : pages.PageBytes) (u : Viewed script c owed_probes m bytes) (held : AreHeldOnce script c) where
   before : HeldOnce (bare c)
   before = held_once script (bare c) held
 
   -- a change that bytes don't depend on
-  quiet_viewed : (f : Buffer → Buffer) (b : BufId) → Quiet f → AreHeldOnce script (record c { buffers = changed f c.buffers b }) → Viewed script (record c { buffers = changed f c.buffers b }) dues m bytes
+  quiet_viewed : (f : Buffer → Buffer) (b : BufId) → Quiet f → AreHeldOnce script (record c { buffers = changed f c.buffers b }) → Viewed script (record c { buffers = changed f c.buffers b }) owed_probes m bytes
   quiet_viewed f b q once = record {
     view = retitled u.view.fences (owner_of (bare (record c { buffers = changed f c.buffers b }))) u.view;
-    good = quiet_good script c dues m bytes u.view u.seen u.good f b q (held_once script (bare (record c { buffers = changed f c.buffers b })) once);
-    seen = quiet_seen script c dues m bytes u.view u.seen u.good f b q (held_once script (bare (record c { buffers = changed f c.buffers b })) once);
+    good = quiet_good script c owed_probes m bytes u.view u.seen u.good f b q (held_once script (bare (record c { buffers = changed f c.buffers b })) once);
+    seen = quiet_seen script c owed_probes m bytes u.view u.seen u.good f b q (held_once script (bare (record c { buffers = changed f c.buffers b })) once);
   }
 
-  pub catch_viewed : (b : BufId) → AreHeldOnce script (record c { buffers = changed (λ x. leaves_tt x.mem x) c.buffers b }) → Viewed script (record c { buffers = changed (λ x. leaves_tt x.mem x) c.buffers b }) dues m bytes
+  pub catch_viewed : (b : BufId) → AreHeldOnce script (record c { buffers = changed (λ x. leaves_tt x.mem x) c.buffers b }) → Viewed script (record c { buffers = changed (λ x. leaves_tt x.mem x) c.buffers b }) owed_probes m bytes
   catch_viewed b once = quiet_viewed (λ x. leaves_tt x.mem x) b catch_is_quiet once
 
   pub new_viewed : (b : BufId) (n : ℕ) → live_in c.buffers b ≡ None → AreHeldOnce script (record c { buffers = slice_set c.buffers b.0 (Some (new_buffer n)) }) →
-      Viewed script (record c { buffers = slice_set c.buffers b.0 (Some (new_buffer n)) }) dues (with_zeros b m) bytes
+      Viewed script (record c { buffers = slice_set c.buffers b.0 (Some (new_buffer n)) }) owed_probes (with_zeros b m) bytes
   new_viewed b n dead once = record {
     view = retitled u.view.fences (owner_of (bare (record c { buffers = slice_set c.buffers b.0 (Some (new_buffer n)) }))) u.view;
-    good = new_good script c dues m bytes u.view u.seen u.good b n dead once;
-    seen = new_seen script c dues m bytes u.view u.seen u.good b n dead once;
+    good = new_good script c owed_probes m bytes u.view u.seen u.good b n dead once;
+    seen = new_seen script c owed_probes m bytes u.view u.seen u.good b n dead once;
   }
 
   module _ (b : BufId) (x : Buffer) (is : IsAt c b x) where
-    pub free_viewed : waited_for c (jobs_before_write x) ≡ None → AreHeldOnce script (record c { buffers = slice_set c.buffers b.0 None }) → Viewed script (record c { buffers = slice_set c.buffers b.0 None }) dues (with_zeros b m) bytes
+    pub free_viewed : waited_for c (jobs_before_write x) ≡ None → AreHeldOnce script (record c { buffers = slice_set c.buffers b.0 None }) → Viewed script (record c { buffers = slice_set c.buffers b.0 None }) owed_probes (with_zeros b m) bytes
     free_viewed idle once = record {
       view = record (freed b.0 (owner_of (bare (record c { buffers = slice_set c.buffers b.0 None }))) 0 (λ j. false) no_bytes u.view) {
         fences = without b.0 (freed b.0 (owner_of (bare (record c { buffers = slice_set c.buffers b.0 None }))) 0 (λ j. false) no_bytes u.view).fences;
       };
-      good = free_good script c dues m bytes u.view u.seen u.good b x is idle before once;
-      seen = free_seen script c dues m bytes u.view u.seen u.good b x is idle before once;
+      good = free_good script c owed_probes m bytes u.view u.seen u.good b x is idle before once;
+      seen = free_seen script c owed_probes m bytes u.view u.seen u.good b x is idle before once;
     }
 
     -- a number that is drawn isn't 0
     pub left_viewed : (gn : ℕ) (q : Bool) → q ≡ false → (x.mem ≡ mem.Tt → AllFrames x.table) →
         AreHeldOnce script (record c { buffers = slice_set c.buffers b.0 None; ghosts = (if q then c.ghosts else c.ghosts ++ ghost_of_freed c x gn ∷ []) }) →
-        Viewed script (record c { buffers = slice_set c.buffers b.0 None; ghosts = (if q then c.ghosts else c.ghosts ++ ghost_of_freed c x gn ∷ []) }) dues (with_zeros b m) bytes
-    left_viewed gn false e full once = leave_viewed script c dues m bytes u b x is gn held once full
+        Viewed script (record c { buffers = slice_set c.buffers b.0 None; ghosts = (if q then c.ghosts else c.ghosts ++ ghost_of_freed c x gn ∷ []) }) owed_probes (with_zeros b m) bytes
+    left_viewed gn false e full once = leave_viewed script c owed_probes m bytes u b x is gn held once full
     left_viewed gn true e full once = cc
 
     -- ---- targets
@@ -97,7 +97,7 @@ module _ (script : Script) (c : Core) (dues : Dues) (m : Memory) (bytes : pages.
 
     pub take_viewed : Rules script → (l : Mem) (place : Place) (spans : List Span) → place.mem ≡ l → choice script c b place ≡ Some spans → (l ≡ mem.Vram → has_some_target x ≡ false) →
         AreHeldOnce script (record c { buffers = changed (λ y. with_kernel_fences (jobs_before_target c l) (with_spans l (Some spans) y)) c.buffers b }) →
-        Viewed script (record c { buffers = changed (λ y. with_kernel_fences (jobs_before_target c l) (with_spans l (Some spans) y)) c.buffers b }) dues m bytes
+        Viewed script (record c { buffers = changed (λ y. with_kernel_fences (jobs_before_target c l) (with_spans l (Some spans) y)) c.buffers b }) owed_probes m bytes
     take_viewed r mem.System place spans e ch free once = quiet_viewed (with_spans mem.System (Some spans)) b (target_is_quiet mem.System (λ z. cc) (Some spans)) once
     take_viewed r mem.Tt place spans e ch free once = quiet_viewed (with_spans mem.Tt (Some spans)) b (target_is_quiet mem.Tt (λ z. cc) (Some spans)) once
     take_viewed r mem.Vram place spans e ch free once =
@@ -106,8 +106,8 @@ module _ (script : Script) (c : Core) (dues : Dues) (m : Memory) (bytes : pages.
         record {
           view = retitled (taking b.0 (λ j. is_mover u.view.fences.mover j && not (u.view.done j)) u.view.fences)
               (owner_of (bare (record c { buffers = changed (λ y. with_kernel_fences (jobs_before_target c mem.Vram) (with_spans mem.Vram (Some spans) y)) c.buffers b }))) u.view;
-          good = take_good script c dues m bytes u.view u.seen u.good b x is spans none before once pages;
-          seen = take_seen script c dues m bytes u.view u.seen u.good b x is spans none before once pages;
+          good = take_good script c owed_probes m bytes u.view u.seen u.good b x is spans none before once pages;
+          seen = take_seen script c owed_probes m bytes u.view u.seen u.good b x is spans none before once pages;
         }
 
     -- nothing of a buffer outside TT is mapped
@@ -121,7 +121,7 @@ module _ (script : Script) (c : Core) (dues : Dues) (m : Memory) (bytes : pages.
         absurd (ne (ap (λ (y : Buffer). y.mem) one ∙ w.mem)))
         p
 
-    pub untake_viewed : (l : Mem) → AreHeldOnce script (record c { buffers = changed (with_spans l None) c.buffers b }) → Viewed script (record c { buffers = changed (with_spans l None) c.buffers b }) dues m bytes
+    pub untake_viewed : (l : Mem) → AreHeldOnce script (record c { buffers = changed (with_spans l None) c.buffers b }) → Viewed script (record c { buffers = changed (with_spans l None) c.buffers b }) owed_probes m bytes
     untake_viewed mem.System once = quiet_viewed (with_spans mem.System None) b (target_is_quiet mem.System (λ z. cc) None) once
     untake_viewed mem.Tt once = quiet_viewed (with_spans mem.Tt None) b (target_is_quiet mem.Tt (λ z. cc) None) once
     untake_viewed mem.Vram once =
@@ -129,8 +129,8 @@ module _ (script : Script) (c : Core) (dues : Dues) (m : Memory) (bytes : pages.
         λ i p. inl (ap (λ (a : pages.Aperture). a p) (aperture_same (with_spans mem.Vram None) (λ y. mapped y.mem y) c b)) in
         record {
           view = retitled u.view.fences (owner_of (bare (record c { buffers = changed (with_spans mem.Vram None) c.buffers b }))) u.view;
-          good = drop_good script c dues m bytes u.view u.seen u.good (with_spans mem.Vram None) b x is before once (λ i. untaken_place x i) (λ k. untaken_kept x k) (λ k. untaken_target x k) refl spared;
-          seen = drop_seen script c dues m bytes u.view u.seen u.good (with_spans mem.Vram None) b x is before once (λ i. untaken_place x i) (λ k. untaken_kept x k) (λ k. untaken_target x k) refl spared;
+          good = drop_good script c owed_probes m bytes u.view u.seen u.good (with_spans mem.Vram None) b x is before once (λ i. untaken_place x i) (λ k. untaken_kept x k) (λ k. untaken_target x k) refl spared;
+          seen = drop_seen script c owed_probes m bytes u.view u.seen u.good (with_spans mem.Vram None) b x is before once (λ i. untaken_place x i) (λ k. untaken_kept x k) (λ k. untaken_target x k) refl spared;
         }
       where
         mapped : (l : Mem) (y : Buffer) → mapped_in l (with_spans mem.Vram None y) ≡ mapped_in l y
@@ -138,44 +138,44 @@ module _ (script : Script) (c : Core) (dues : Dues) (m : Memory) (bytes : pages.
         mapped mem.Vram y = refl
         mapped mem.System y = refl
 
-    pub depopulate_viewed : x.mem ≡ mem.Vram → AreHeldOnce script (record c { buffers = changed without_frames c.buffers b }) → Viewed script (record c { buffers = changed without_frames c.buffers b }) dues m bytes
+    pub depopulate_viewed : x.mem ≡ mem.Vram → AreHeldOnce script (record c { buffers = changed without_frames c.buffers b }) → Viewed script (record c { buffers = changed without_frames c.buffers b }) owed_probes m bytes
     depopulate_viewed e once =
         let spared = spared_so without_frames (λ q. let z : mem.Vram ≡ mem.Tt = sym e ∙ q in cc) once in
         record {
           view = retitled u.view.fences (owner_of (bare (record c { buffers = changed without_frames c.buffers b }))) u.view;
-          good = drop_good script c dues m bytes u.view u.seen u.good without_frames b x is before once (λ i. emptied_place x i e) (λ k. emptied_kept x k e) (λ k. inl refl) refl spared;
-          seen = drop_seen script c dues m bytes u.view u.seen u.good without_frames b x is before once (λ i. emptied_place x i e) (λ k. emptied_kept x k e) (λ k. inl refl) refl spared;
+          good = drop_good script c owed_probes m bytes u.view u.seen u.good without_frames b x is before once (λ i. emptied_place x i e) (λ k. emptied_kept x k e) (λ k. inl refl) refl spared;
+          seen = drop_seen script c owed_probes m bytes u.view u.seen u.good without_frames b x is before once (λ i. emptied_place x i e) (λ k. emptied_kept x k e) (λ k. inl refl) refl spared;
         }
 
     -- ---- between SYSTEM and TT
 
-    pub bind_viewed : x.mem ≡ mem.System → AreHeldOnce script (record c { buffers = changed bound c.buffers b }) → Viewed script (record c { buffers = changed bound c.buffers b }) dues m bytes
+    pub bind_viewed : x.mem ≡ mem.System → AreHeldOnce script (record c { buffers = changed bound c.buffers b }) → Viewed script (record c { buffers = changed bound c.buffers b }) owed_probes m bytes
     bind_viewed e once = record {
       view = retitled u.view.fences (owner_of (bare (record c { buffers = changed bound c.buffers b }))) u.view;
-      good = bind_good script c dues m bytes u.view u.seen u.good b x is e once;
-      seen = bind_seen script c dues m bytes u.view u.seen u.good b x is e once;
+      good = bind_good script c owed_probes m bytes u.view u.seen u.good b x is e once;
+      seen = bind_seen script c owed_probes m bytes u.view u.seen u.good b x is e once;
     }
 
     -- one that isn't in VRAM, once its jobs are done
-    pub unbind_viewed : (x.mem ≡ mem.Vram → ⊥) → waited_for c (jobs_before_write x) ≡ None → AreHeldOnce script (record c { buffers = changed unbound c.buffers b }) → Viewed script (record c { buffers = changed unbound c.buffers b }) dues m bytes
+    pub unbind_viewed : (x.mem ≡ mem.Vram → ⊥) → waited_for c (jobs_before_write x) ≡ None → AreHeldOnce script (record c { buffers = changed unbound c.buffers b }) → Viewed script (record c { buffers = changed unbound c.buffers b }) owed_probes m bytes
     unbind_viewed ne idle once = by x.mem refl
       where
-        in_system : x.mem ≡ mem.System → Viewed script (record c { buffers = changed unbound c.buffers b }) dues m bytes
+        in_system : x.mem ≡ mem.System → Viewed script (record c { buffers = changed unbound c.buffers b }) owed_probes m bytes
         in_system e =
             let place : (i : ℕ) → page_at (unbound x) i ≡ page_at x i = λ i. sym (stands_by_table x i ne) in
             let kept : (k : ℕ) → kept_in (unbound x).mem (unbound x) k ≡ kept_in x.mem x k = λ k. sym (keeps_none x k ne) in
             let spared = spared_so unbound (λ q. let z : mem.System ≡ mem.Tt = sym e ∙ q in cc) once in
             record {
               view = retitled u.view.fences (owner_of (bare (record c { buffers = changed unbound c.buffers b }))) u.view;
-              good = carried_good script c dues m bytes u.view u.seen u.good unbound b x is once (λ k. ap seen (place k)) kept (λ k. refl) place refl spared;
-              seen = carried_seen script c dues m bytes u.view u.seen u.good unbound b x is once (λ k. ap seen (place k)) kept (λ k. refl) place refl spared;
+              good = carried_good script c owed_probes m bytes u.view u.seen u.good unbound b x is once (λ k. ap seen (place k)) kept (λ k. refl) place refl spared;
+              seen = carried_seen script c owed_probes m bytes u.view u.seen u.good unbound b x is once (λ k. ap seen (place k)) kept (λ k. refl) place refl spared;
             }
 
-        by : (l : Mem) → x.mem ≡ l → Viewed script (record c { buffers = changed unbound c.buffers b }) dues m bytes
+        by : (l : Mem) → x.mem ≡ l → Viewed script (record c { buffers = changed unbound c.buffers b }) owed_probes m bytes
         by mem.System e = in_system e
         by mem.Vram e = absurd (ne e)
         by mem.Tt e = record {
           view = retitled u.view.fences (owner_of (bare (record c { buffers = changed unbound c.buffers b }))) u.view;
-          good = unbind_good script c dues m bytes u.view u.seen u.good b x is e idle once before;
-          seen = unbind_seen script c dues m bytes u.view u.seen u.good b x is e idle once before;
+          good = unbind_good script c owed_probes m bytes u.view u.seen u.good b x is e idle once before;
+          seen = unbind_seen script c owed_probes m bytes u.view u.seen u.good b x is e idle once before;
         }

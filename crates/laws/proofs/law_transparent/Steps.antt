@@ -30,7 +30,7 @@ use Rattle.journal_model.specs.ApplyJobs.{ops_of, core_after_arm}
 use Rattle.journal_model.specs.PageSteps.{page_to_fill, first_frame_page, next_job, next_ghost}
 use Rattle.journal_model.specs.Stores.{Stores, within, written, stores_after, showing, shown_by_read}
 use Rattle.journal_model.specs.Waits.{waited_for, jobs_before_read}
-use Rattle.journal_model.specs.PlainMemory.{Memory, Dues, Plain, command_of, memory_after_result, plain_after_kind, after_ops, pieces_shown, with_dues}
+use Rattle.journal_model.specs.PlainMemory.{Memory, OwedProbes, Plain, command_of, memory_after_result, plain_after_kind, after_ops, pieces_shown, with_owed_probes}
 use Rattle.journal_model.specs.Transparent.{IsKindPlain, read_of}
 use Rattle.laws.proofs.law_state.JournalCourses.{one_more_if, own_answered, others_kept, thread_is_there, of_engine, of_reaper, is_of_engine, is_of_reaper}
 use Rattle.laws.specs.law_state.GoodState.{GoodState}
@@ -58,10 +58,10 @@ use Rattle.laws.proofs.law_transparent.Workers.{packet_viewed, packet_shows, don
 
 -- what is carried along a journal
 pub record Clear (script : Script) (s : State) (bytes : Stores) (p : Plain) : Type 0 where
-  pub viewed : Viewed script s.core p.dues p.memory bytes
+  pub viewed : Viewed script s.core p.owed_probes p.memory bytes
   pub shapes : HaveShapes s.core.buffers
   pub numbers : NumberedState s
-  pub undue : (n k : ℕ) → p.dues (record { ctx = 0; num = n }) k ≡ []
+  pub undue : (n k : ℕ) → p.owed_probes (record { ctx = 0; num = n }) k ≡ []
   pub answered : (t : ℕ) → p.answered t ≡ (course s t).answered
 
 -- what other laws say of the state
@@ -75,17 +75,17 @@ pub record Known (script : Script) (s : State) : Type 0 where
 -- ---- kinds that leave core and bytes alone
 
 module _ (script : Script) (s : State) (bytes : Stores) (p : Plain) where
-  still_viewed : (t : ℕ) (k : Kind) → is_still k ≡ true → Viewed script s.core p.dues p.memory bytes →
-      Viewed script (applied script s (actor.Thread t) k).core (plain_after_kind script p t k).dues (plain_after_kind script p t k).memory (within script.sizes (stores_after script s (actor.Thread t) k bytes))
-  still_viewed t (kind.Ticket stamp) e u = viewed_within script s.core p.dues p.memory bytes u
-  still_viewed t (kind.Reserve b) e u = viewed_within script s.core p.dues p.memory bytes u
-  still_viewed t (kind.Backoff b stamp) e u = viewed_within script s.core p.dues p.memory bytes u
-  still_viewed t (kind.Loose b) e u = viewed_within script s.core p.dues p.memory bytes u
-  still_viewed t (kind.Skip b) e u = viewed_within script s.core p.dues p.memory bytes u
-  still_viewed t (kind.Dry b k w) e u = viewed_within script s.core p.dues p.memory bytes u
-  still_viewed t (kind.NoPages b) e u = viewed_within script s.core p.dues p.memory bytes u
-  still_viewed t (kind.Bulk group) e u = viewed_within script s.core p.dues p.memory bytes u
-  still_viewed t (kind.Refused d) e u = viewed_within script s.core p.dues p.memory bytes u
+  still_viewed : (t : ℕ) (k : Kind) → is_still k ≡ true → Viewed script s.core p.owed_probes p.memory bytes →
+      Viewed script (applied script s (actor.Thread t) k).core (plain_after_kind script p t k).owed_probes (plain_after_kind script p t k).memory (within script.sizes (stores_after script s (actor.Thread t) k bytes))
+  still_viewed t (kind.Ticket stamp) e u = viewed_within script s.core p.owed_probes p.memory bytes u
+  still_viewed t (kind.Reserve b) e u = viewed_within script s.core p.owed_probes p.memory bytes u
+  still_viewed t (kind.Backoff b stamp) e u = viewed_within script s.core p.owed_probes p.memory bytes u
+  still_viewed t (kind.Loose b) e u = viewed_within script s.core p.owed_probes p.memory bytes u
+  still_viewed t (kind.Skip b) e u = viewed_within script s.core p.owed_probes p.memory bytes u
+  still_viewed t (kind.Dry b k w) e u = viewed_within script s.core p.owed_probes p.memory bytes u
+  still_viewed t (kind.NoPages b) e u = viewed_within script s.core p.owed_probes p.memory bytes u
+  still_viewed t (kind.Bulk group) e u = viewed_within script s.core p.owed_probes p.memory bytes u
+  still_viewed t (kind.Refused d) e u = viewed_within script s.core p.owed_probes p.memory bytes u
   still_viewed t k e u = absurd (false≢true e)
 
   still_plain : (who : Actor) (k : Kind) → is_still k ≡ true → IsKindPlain script p who k
@@ -115,44 +115,44 @@ module _ (script : Script) (r : Rules script) (s : State) (bytes : Stores) (p : 
   at_plain : (t : ℕ) (cmd : Command) → command_at_work script s t ≡ Some cmd → command_of script p t ≡ Some cmd
   at_plain t cmd e = ap (slice_get (commands_of script t)) (c.answered t) ∙ at_number script s t cmd e
 
-  within_so : {d : Core} {dues : Dues} {m : Memory} → Viewed script d dues m bytes → Viewed script d dues m (within script.sizes bytes)
-  within_so {d} {dues} {m} u = viewed_within script d dues m bytes u
+  within_so : {d : Core} {owed_probes : OwedProbes} {m : Memory} → Viewed script d owed_probes m bytes → Viewed script d owed_probes m (within script.sizes bytes)
+  within_so {d} {owed_probes} {m} u = viewed_within script d owed_probes m bytes u
 
   -- ---- a thread's entry
 
   job_armed : (t engine : ℕ) (ops : List Op) → command_at_work script s t ≡ Some (command.Submit engine ops) →
-      Viewed script (core_after_arm s.core (record { ctx = engine; num = next_job s engine }) ops (named (command.Submit engine ops))) (with_dues (record { ctx = engine; num = next_job s engine }) (pieces_shown p.memory ops) p.dues) (after_ops p.memory ops) (within script.sizes bytes) →
-      Viewed script (applied script s (actor.Thread t) (kind.Arm engine (next_job s engine))).core (plain_after_kind script p t (kind.Arm engine (next_job s engine))).dues (plain_after_kind script p t (kind.Arm engine (next_job s engine))).memory (within script.sizes bytes)
+      Viewed script (core_after_arm s.core (record { ctx = engine; num = next_job s engine }) ops (named (command.Submit engine ops))) (with_owed_probes (record { ctx = engine; num = next_job s engine }) (pieces_shown p.memory ops) p.owed_probes) (after_ops p.memory ops) (within script.sizes bytes) →
+      Viewed script (applied script s (actor.Thread t) (kind.Arm engine (next_job s engine))).core (plain_after_kind script p t (kind.Arm engine (next_job s engine))).owed_probes (plain_after_kind script p t (kind.Arm engine (next_job s engine))).memory (within script.sizes bytes)
   job_armed t engine ops e u =
-      subst (λ o. Viewed script (core_after_arm s.core (record { ctx = engine; num = next_job s engine }) (ops_of o) (named_in o)) (plain_after_kind script p t (kind.Arm engine (next_job s engine))).dues (plain_after_kind script p t (kind.Arm engine (next_job s engine))).memory (within script.sizes bytes)) (sym e)
-      (subst (λ o. Viewed script (core_after_arm s.core (record { ctx = engine; num = next_job s engine }) ops (named (command.Submit engine ops))) (with_dues (record { ctx = engine; num = next_job s engine }) (pieces_shown p.memory (ops_of o)) p.dues) (after_ops p.memory (ops_of o)) (within script.sizes bytes)) (sym (at_plain t (command.Submit engine ops) e)) u)
+      subst (λ o. Viewed script (core_after_arm s.core (record { ctx = engine; num = next_job s engine }) (ops_of o) (named_in o)) (plain_after_kind script p t (kind.Arm engine (next_job s engine))).owed_probes (plain_after_kind script p t (kind.Arm engine (next_job s engine))).memory (within script.sizes bytes)) (sym e)
+      (subst (λ o. Viewed script (core_after_arm s.core (record { ctx = engine; num = next_job s engine }) ops (named (command.Submit engine ops))) (with_owed_probes (record { ctx = engine; num = next_job s engine }) (pieces_shown p.memory (ops_of o)) p.owed_probes) (after_ops p.memory (ops_of o)) (within script.sizes bytes)) (sym (at_plain t (command.Submit engine ops) e)) u)
 
-  result_of : (t : ℕ) (x : Shown) (cmd : Command) → command_at_work script s t ≡ Some cmd → Viewed script s.core p.dues (memory_after_result (Some cmd) p.memory) (within script.sizes (written s (Some cmd) bytes)) →
-      Viewed script (applied script s (actor.Thread t) (kind.Result x)).core (plain_after_kind script p t (kind.Result x)).dues (plain_after_kind script p t (kind.Result x)).memory (within script.sizes (stores_after script s (actor.Thread t) (kind.Result x) bytes))
+  result_of : (t : ℕ) (x : Shown) (cmd : Command) → command_at_work script s t ≡ Some cmd → Viewed script s.core p.owed_probes (memory_after_result (Some cmd) p.memory) (within script.sizes (written s (Some cmd) bytes)) →
+      Viewed script (applied script s (actor.Thread t) (kind.Result x)).core (plain_after_kind script p t (kind.Result x)).owed_probes (plain_after_kind script p t (kind.Result x)).memory (within script.sizes (stores_after script s (actor.Thread t) (kind.Result x) bytes))
   result_of t x cmd e u =
-      subst (λ o. Viewed script s.core p.dues (memory_after_result (command_of script p t) p.memory) (within script.sizes (written s o bytes))) (sym e)
-      (subst (λ o. Viewed script s.core p.dues (memory_after_result o p.memory) (within script.sizes (written s (Some cmd) bytes))) (sym (at_plain t cmd e)) u)
+      subst (λ o. Viewed script s.core p.owed_probes (memory_after_result (command_of script p t) p.memory) (within script.sizes (written s o bytes))) (sym e)
+      (subst (λ o. Viewed script s.core p.owed_probes (memory_after_result o p.memory) (within script.sizes (written s (Some cmd) bytes))) (sym (at_plain t cmd e)) u)
 
   quiet_result : (t : ℕ) (x : Shown) (cmd : Command) → command_at_work script s t ≡ Some cmd → is_write cmd ≡ false →
-      Viewed script (applied script s (actor.Thread t) (kind.Result x)).core (plain_after_kind script p t (kind.Result x)).dues (plain_after_kind script p t (kind.Result x)).memory (within script.sizes (stores_after script s (actor.Thread t) (kind.Result x) bytes))
+      Viewed script (applied script s (actor.Thread t) (kind.Result x)).core (plain_after_kind script p t (kind.Result x)).owed_probes (plain_after_kind script p t (kind.Result x)).memory (within script.sizes (stores_after script s (actor.Thread t) (kind.Result x) bytes))
   quiet_result t x cmd e w =
       result_of t x cmd e
-      (subst (λ m. Viewed script s.core p.dues m (within script.sizes (written s (Some cmd) bytes))) (sym (unchanged cmd p.memory w))
-      (subst (λ st. Viewed script s.core p.dues p.memory (within script.sizes st)) (sym (unwritten s cmd bytes w)) (within_so c.viewed)))
+      (subst (λ m. Viewed script s.core p.owed_probes m (within script.sizes (written s (Some cmd) bytes))) (sym (unchanged cmd p.memory w))
+      (subst (λ st. Viewed script s.core p.owed_probes p.memory (within script.sizes st)) (sym (unwritten s cmd bytes w)) (within_so c.viewed)))
 
   thread_viewed : (t : ℕ) (k : Kind) → Told script s t k → AreHeldOnce script (applied script s (actor.Thread t) k).core →
-      Viewed script (applied script s (actor.Thread t) k).core (plain_after_kind script p t k).dues (plain_after_kind script p t k).memory (within script.sizes (stores_after script s (actor.Thread t) k bytes))
+      Viewed script (applied script s (actor.Thread t) k).core (plain_after_kind script p t k).owed_probes (plain_after_kind script p t k).memory (within script.sizes (stores_after script s (actor.Thread t) k bytes))
   thread_viewed t k (still q) once = still_viewed script s bytes p t k q c.viewed
-  thread_viewed t k (makes {b} dead) once = within_so (new_viewed script s.core p.dues p.memory bytes c.viewed known.held b (decl script b).pages dead once)
-  thread_viewed t k (frees {b} there quiet) once = within_so (free_viewed script s.core p.dues p.memory bytes c.viewed known.held b (buffer s b) (at b there) quiet once)
+  thread_viewed t k (makes {b} dead) once = within_so (new_viewed script s.core p.owed_probes p.memory bytes c.viewed known.held b (decl script b).pages dead once)
+  thread_viewed t k (frees {b} there quiet) once = within_so (free_viewed script s.core p.owed_probes p.memory bytes c.viewed known.held b (buffer s b) (at b there) quiet once)
   thread_viewed t k (leaves {b} there) once =
-      within_so (left_viewed script s.core p.dues p.memory bytes c.viewed known.held b (buffer s b) (at b there) (next_ghost s) ((s.last_ghost + 1) == 0) (not_zero s.last_ghost) (c.shapes b (buffer s b) there).full once)
-  thread_viewed t k (takes {b} {mem} {spans} place there m ch free) once = within_so (take_viewed script s.core p.dues p.memory bytes c.viewed known.held b (buffer s b) (at b there) r mem place spans m ch free once)
-  thread_viewed t k (untakes {b} {mem} there) once = within_so (untake_viewed script s.core p.dues p.memory bytes c.viewed known.held b (buffer s b) (at b there) mem once)
+      within_so (left_viewed script s.core p.owed_probes p.memory bytes c.viewed known.held b (buffer s b) (at b there) (next_ghost s) ((s.last_ghost + 1) == 0) (not_zero s.last_ghost) (c.shapes b (buffer s b) there).full once)
+  thread_viewed t k (takes {b} {mem} {spans} place there m ch free) once = within_so (take_viewed script s.core p.owed_probes p.memory bytes c.viewed known.held b (buffer s b) (at b there) r mem place spans m ch free once)
+  thread_viewed t k (untakes {b} {mem} there) once = within_so (untake_viewed script s.core p.owed_probes p.memory bytes c.viewed known.held b (buffer s b) (at b there) mem once)
   thread_viewed t k (populates {b} {f} there free l some tt_not) once =
-      populate_viewed script s.core p.dues p.memory bytes c.viewed known.held b (buffer s b) (at b there) (page_to_fill (buffer s b)) f (fill_spot (buffer s b) some).inside l tt_not free once
+      populate_viewed script s.core p.owed_probes p.memory bytes c.viewed known.held b (buffer s b) (at b there) (page_to_fill (buffer s b)) f (fill_spot (buffer s b) some).inside l tt_not free once
   thread_viewed t k (swaps_in {b} {k = slot} {f} there free l some tt_not) once =
-      swap_in_viewed script s.core p.dues p.memory bytes c.viewed known.held b (buffer s b) (at b there) (page_to_fill (buffer s b)) slot f (in_system (buffer s b).mem refl) (fill_spot (buffer s b) some).inside l free once
+      swap_in_viewed script s.core p.owed_probes p.memory bytes c.viewed known.held b (buffer s b) (at b there) (page_to_fill (buffer s b)) slot f (in_system (buffer s b).mem refl) (fill_spot (buffer s b) some).inside l free once
     where
       stands : slice_get (buffer s b).table (page_to_fill (buffer s b)) ≡ Some (loc.Slot slot)
       stands = let w = fill_spot (buffer s b) some in w.at ∙ ap Some (sym (ap (λ o. unwrap_or o loc.Zero) w.at) ∙ l)
@@ -161,29 +161,29 @@ module _ (script : Script) (r : Rules script) (s : State) (bytes : Stores) (p : 
       in_system mem.System e = e
       in_system mem.Tt e = absurd (tt_not e)
       in_system mem.Vram e = absurd ((c.shapes b (buffer s b) there).unswapped e (page_to_fill (buffer s b)) slot stands)
-  thread_viewed t k (depopulates {b} there m) once = within_so (depopulate_viewed script s.core p.dues p.memory bytes c.viewed known.held b (buffer s b) (at b there) m once)
-  thread_viewed t k (binds {b} there m t' f) once = within_so (bind_viewed script s.core p.dues p.memory bytes c.viewed known.held b (buffer s b) (at b there) m once)
-  thread_viewed t k (unbinds {b} there quiet m) once = within_so (unbind_viewed script s.core p.dues p.memory bytes c.viewed known.held b (buffer s b) (at b there) m quiet once)
+  thread_viewed t k (depopulates {b} there m) once = within_so (depopulate_viewed script s.core p.owed_probes p.memory bytes c.viewed known.held b (buffer s b) (at b there) m once)
+  thread_viewed t k (binds {b} there m t' f) once = within_so (bind_viewed script s.core p.owed_probes p.memory bytes c.viewed known.held b (buffer s b) (at b there) m once)
+  thread_viewed t k (unbinds {b} there quiet m) once = within_so (unbind_viewed script s.core p.owed_probes p.memory bytes c.viewed known.held b (buffer s b) (at b there) m quiet once)
   thread_viewed t k (moves_up {b} there m t') once =
-      within_so (moved_up script s.core p.dues p.memory bytes c.viewed known.held (next_job s 0) (next_ghost s) (c.undue (next_job s 0)) b (buffer s b) (at b there) m t' (c.shapes b (buffer s b) there) once)
+      within_so (moved_up script s.core p.owed_probes p.memory bytes c.viewed known.held (next_job s 0) (next_ghost s) (c.undue (next_job s 0)) b (buffer s b) (at b there) m t' (c.shapes b (buffer s b) there) once)
   thread_viewed t k (moves_across {b} there m t') once =
-      within_so (moved_across script s.core p.dues p.memory bytes c.viewed known.held (next_job s 0) (next_ghost s) (c.undue (next_job s 0)) b (buffer s b) (at b there) m t' (c.shapes b (buffer s b) there) once)
+      within_so (moved_across script s.core p.owed_probes p.memory bytes c.viewed known.held (next_job s 0) (next_ghost s) (c.undue (next_job s 0)) b (buffer s b) (at b there) m t' (c.shapes b (buffer s b) there) once)
   thread_viewed t k (moves_down {b} there m t' f) once =
-      within_so (moved_down script s.core p.dues p.memory bytes c.viewed known.held (next_job s 0) (next_ghost s) (c.undue (next_job s 0)) b (buffer s b) (at b there) m t' f (c.shapes b (buffer s b) there) once)
+      within_so (moved_down script s.core p.owed_probes p.memory bytes c.viewed known.held (next_job s 0) (next_ghost s) (c.undue (next_job s 0)) b (buffer s b) (at b there) m t' f (c.shapes b (buffer s b) there) once)
   thread_viewed t k (evicts {b} there m t' f) once =
-      within_so (moved_out script s.core p.dues p.memory bytes c.viewed known.held (next_job s 0) (next_ghost s) (c.undue (next_job s 0)) b (buffer s b) (at b there) m t' f (c.shapes b (buffer s b) there) c.numbers.ring once)
-  thread_viewed t k (catches {b} {w}) once = within_so (catch_viewed script s.core p.dues p.memory bytes c.viewed known.held b once)
+      within_so (moved_out script s.core p.owed_probes p.memory bytes c.viewed known.held (next_job s 0) (next_ghost s) (c.undue (next_job s 0)) b (buffer s b) (at b there) m t' f (c.shapes b (buffer s b) there) c.numbers.ring once)
+  thread_viewed t k (catches {b} {w}) once = within_so (catch_viewed script s.core p.owed_probes p.memory bytes c.viewed known.held b once)
   thread_viewed t k (swaps_out {b} {k = slot} there m quiet f free) once =
-      swap_out_viewed script s.core p.dues p.memory bytes c.viewed known.held b (buffer s b) (at b there) (first_frame_page (buffer s b)) slot m (frame_spot (buffer s b) f).inside quiet free once
+      swap_out_viewed script s.core p.owed_probes p.memory bytes c.viewed known.held b (buffer s b) (at b there) (first_frame_page (buffer s b)) slot m (frame_spot (buffer s b) f).inside quiet free once
   thread_viewed t k (arms {engine} ops e live ready) once =
       job_armed t engine ops e
       (within_so
-      (job_viewed script s p.dues p.memory bytes c.viewed known.held known.good c.shapes engine ops (at_work_rules script r s t (command.Submit engine ops) e).command live ready
+      (job_viewed script s p.owed_probes p.memory bytes c.viewed known.held known.good c.shapes engine ops (at_work_rules script r s t (command.Submit engine ops) e).command live ready
       (subst (λ o. AreHeldOnce script (core_after_arm s.core (record { ctx = engine; num = next_job s engine }) (ops_of o) (named_in o))) e once)))
   thread_viewed t k (reads b off len e none) once = quiet_result t (shown.Read []) (command.Read b off len) e refl
   thread_viewed t k (writes b off values e there ready quiet) once =
       result_of t shown.Plain (command.Write b off values) e
-      (written_viewed script s p.dues p.memory bytes c.viewed known.held known.good c.shapes b off values (at_work_rules script r s t (command.Write b off values) e).command there ready quiet)
+      (written_viewed script s p.owed_probes p.memory bytes c.viewed known.held known.good c.shapes b off values (at_work_rules script r s t (command.Write b off values) e).command there ready quiet)
   thread_viewed t k (results {r = x} cmd e w h) once = quiet_result t x cmd e w
 
   -- what it shows
@@ -191,7 +191,7 @@ module _ (script : Script) (r : Rules script) (s : State) (bytes : Stores) (p : 
       shown_by_read bytes s (command_at_work script s t) ≡ read_of (command_of script p t) p.memory
   read_plain t b off len e none =
       ap (shown_by_read bytes s) e
-      ∙ read_shows script s.core p.dues p.memory bytes c.viewed.view c.viewed.seen c.viewed.good b none off len
+      ∙ read_shows script s.core p.owed_probes p.memory bytes c.viewed.view c.viewed.seen c.viewed.good b none off len
       ∙ sym (ap (λ o. read_of o p.memory) (at_plain t (command.Read b off len) e))
 
   result_plain : (t : ℕ) (x : Shown) → shows_bytes x ≡ false → IsKindPlain script p (actor.Thread t) (showing script bytes s (actor.Thread t) (kind.Result x))
@@ -207,17 +207,17 @@ module _ (script : Script) (r : Rules script) (s : State) (bytes : Stores) (p : 
   thread_plain t k (results {r = x} cmd e w h) = result_plain t x h
   thread_plain t k x = tt
 
-  -- dues of the move engine
-  still_dues : (t : ℕ) (k : Kind) → is_still k ≡ true → (plain_after_kind script p t k).dues ≡ p.dues
-  still_dues t (kind.Arm engine n) e = cc
-  still_dues t k e = refl
+  -- owed_probes of the move engine
+  still_owed_probes : (t : ℕ) (k : Kind) → is_still k ≡ true → (plain_after_kind script p t k).owed_probes ≡ p.owed_probes
+  still_owed_probes t (kind.Arm engine n) e = cc
+  still_owed_probes t k e = refl
 
-  thread_undue : (t : ℕ) (k : Kind) → Told script s t k → (n i : ℕ) → (plain_after_kind script p t k).dues (record { ctx = 0; num = n }) i ≡ []
-  thread_undue t k (still q) n i = ap (λ (d : Dues). d (record { ctx = 0; num = n }) i) (still_dues t k q) ∙ c.undue n i
+  thread_undue : (t : ℕ) (k : Kind) → Told script s t k → (n i : ℕ) → (plain_after_kind script p t k).owed_probes (record { ctx = 0; num = n }) i ≡ []
+  thread_undue t k (still q) n i = ap (λ (d : OwedProbes). d (record { ctx = 0; num = n }) i) (still_owed_probes t k q) ∙ c.undue n i
   thread_undue t k (swaps_in {b} {k = slot} {f} there free l some tt_not) n i = c.undue n i
   thread_undue t k (swaps_out {b} {k = slot} there m quiet f free) n i = c.undue n i
   thread_undue t k (arms {engine} ops e live ready) n i =
-      ap (λ q. if q then unwrap_or (slice_get (pieces_shown p.memory (ops_of (command_of script p t))) i) [] else p.dues (record { ctx = 0; num = n }) i)
+      ap (λ q. if q then unwrap_or (slice_get (pieces_shown p.memory (ops_of (command_of script p t))) i) [] else p.owed_probes (record { ctx = 0; num = n }) i)
       (engine_is_other script engine ops (next_job s engine) n (at_work_rules script r s t (command.Submit engine ops) e).command)
       ∙ c.undue n i
   thread_undue t k x n i = c.undue n i
@@ -278,17 +278,17 @@ module _ (script : Script) (r : Rules script) (s : State) (bytes : Stores) (p : 
   of_an_engine : (e : ℕ) (k : Kind) → OfWorker k → is_of_engine k ≡ true → next script s (actor.Engine e) ≡ Ok k → Next (actor.Engine e) k
   of_an_engine e k (packet {n} {k = i} {piece}) q h = (
     record {
-      viewed = packet_viewed script s p.dues p.memory bytes c.viewed known.good.jobs e n i piece h;
+      viewed = packet_viewed script s p.owed_probes p.memory bytes c.viewed known.good.jobs e n i piece h;
       shapes = c.shapes;
       numbers = c.numbers;
       undue = c.undue;
       answered = c.answered;
     },
-    packet_shows script s p.dues p.memory bytes c.viewed known.good.jobs e n i piece h,
+    packet_shows script s p.owed_probes p.memory bytes c.viewed known.good.jobs e n i piece h,
   )
   of_an_engine e k (done {n}) q h = (
     record {
-      viewed = within_so (done_viewed script s p.dues p.memory bytes c.viewed known.good.jobs e n h);
+      viewed = within_so (done_viewed script s p.owed_probes p.memory bytes c.viewed known.good.jobs e n h);
       shapes = c.shapes;
       numbers = c.numbers;
       undue = c.undue;
@@ -301,7 +301,7 @@ module _ (script : Script) (r : Rules script) (s : State) (bytes : Stores) (p : 
   of_the_reaper : (k : Kind) → OfWorker k → is_of_reaper k ≡ true → next script s actor.Reaper ≡ Ok k → AreHeldOnce script (applied script s actor.Reaper k).core → Next actor.Reaper k
   of_the_reaper k (reap {g}) q h once = (
     record {
-      viewed = within_so (reap_viewed script s p.dues p.memory bytes c.viewed known.held g c.numbers.distinct (next_due script s actor.Reaper (kind.Reap g) h) once);
+      viewed = within_so (reap_viewed script s p.owed_probes p.memory bytes c.viewed known.held g c.numbers.distinct (next_due script s actor.Reaper (kind.Reap g) h) once);
       shapes = c.shapes;
       numbers = filtered (λ x. not (x.num == g)) s.core.ghosts s.last_ghost s.core.move_fence c.numbers;
       undue = c.undue;

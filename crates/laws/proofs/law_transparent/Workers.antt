@@ -12,7 +12,7 @@ use Rattle.journal_model.specs.declared.state.Ghost.{Ghost}
 use Rattle.journal_model.specs.declared.entry.Kind.TheVariants as kind
 use Rattle.journal_model.specs.Places.{aperture}
 use Rattle.journal_model.specs.Stores.{within, job_packet}
-use Rattle.journal_model.specs.PlainMemory.{Memory, Dues}
+use Rattle.journal_model.specs.PlainMemory.{Memory, OwedProbes}
 use Rattle.journal_model.specs.Waits.{waited_for}
 use Rattle.journal_model.specs.Next.{next}
 use Rattle.journal_model.specs.ApplyJobs.{changed_job}
@@ -31,29 +31,29 @@ use Rattle.laws.proofs.lemma_bytes_view.Reaps.{Leaving, reap_good, reap_seen}
 use Rattle.laws.proofs.lemma_bytes_view.Viewed.{Viewed}
 use Rattle.laws.proofs.lemma_bytes_told.Numbers.{AreDistinct, first_only}
 
-module _ (script : Script) (s : State) (dues : Dues) (m : Memory) (bytes : pages.PageBytes) (u : Viewed script s.core dues m bytes) (jobs : GoodJobs script.sizes.engines s.last_jobs s.core.jobs) where
+module _ (script : Script) (s : State) (owed_probes : OwedProbes) (m : Memory) (bytes : pages.PageBytes) (u : Viewed script s.core owed_probes m bytes) (jobs : GoodJobs script.sizes.engines s.last_jobs s.core.jobs) where
   pub packet_viewed : (e n k : ℕ) (piece : List ℕ) → next script s (actor.Engine e) ≡ Ok (kind.Packet n k piece) →
-      Viewed script (record s.core { jobs = changed_job (λ j. record j { ran = j.ran + 1 }) (record { ctx = e; num = n }) s.core.jobs }) dues m (within script.sizes (after_packet (aperture s.core) bytes (job_packet s.core (record { ctx = e; num = n }) k)))
+      Viewed script (record s.core { jobs = changed_job (λ j. record j { ran = j.ran + 1 }) (record { ctx = e; num = n }) s.core.jobs }) owed_probes m (within script.sizes (after_packet (aperture s.core) bytes (job_packet s.core (record { ctx = e; num = n }) k)))
   packet_viewed e n k piece h =
-      let r = packets.running script s dues m bytes u.view u.seen u.good script.sizes.engines s.last_jobs jobs e n k piece h in
+      let r = packets.running script s owed_probes m bytes u.view u.seen u.good script.sizes.engines s.last_jobs jobs e n k piece h in
       record {
-        view = packet_ran r.at (record { packet = meant (aperture s.core) r.packet; due = dues r.job.id r.job.ran }) (steps_from (aperture s.core) (dues r.job.id) (suc r.job.ran) (drop (suc r.job.ran) r.job.packets)) u.view;
-        good = packets.good_after script s dues m bytes u.view u.seen u.good script.sizes.engines s.last_jobs jobs e n k r;
-        seen = packets.seen_after script s dues m bytes u.view u.seen u.good script.sizes.engines s.last_jobs jobs e n k r;
+        view = packet_ran r.at (record { packet = meant (aperture s.core) r.packet; due = owed_probes r.job.id r.job.ran }) (steps_from (aperture s.core) (owed_probes r.job.id) (suc r.job.ran) (drop (suc r.job.ran) r.job.packets)) u.view;
+        good = packets.good_after script s owed_probes m bytes u.view u.seen u.good script.sizes.engines s.last_jobs jobs e n k r;
+        seen = packets.seen_after script s owed_probes m bytes u.view u.seen u.good script.sizes.engines s.last_jobs jobs e n k r;
       }
 
-  pub packet_shows : (e n k : ℕ) (piece : List ℕ) → next script s (actor.Engine e) ≡ Ok (kind.Packet n k piece) → probe_piece (aperture s.core) bytes (job_packet s.core (record { ctx = e; num = n }) k) ≡ dues (record { ctx = e; num = n }) k
+  pub packet_shows : (e n k : ℕ) (piece : List ℕ) → next script s (actor.Engine e) ≡ Ok (kind.Packet n k piece) → probe_piece (aperture s.core) bytes (job_packet s.core (record { ctx = e; num = n }) k) ≡ owed_probes (record { ctx = e; num = n }) k
   packet_shows e n k piece h =
-      let r = packets.running script s dues m bytes u.view u.seen u.good script.sizes.engines s.last_jobs jobs e n k piece h in
-      packets.shows script s dues m bytes u.view u.seen u.good script.sizes.engines s.last_jobs jobs e n k r
+      let r = packets.running script s owed_probes m bytes u.view u.seen u.good script.sizes.engines s.last_jobs jobs e n k piece h in
+      packets.shows script s owed_probes m bytes u.view u.seen u.good script.sizes.engines s.last_jobs jobs e n k r
 
-  pub done_viewed : (e n : ℕ) → next script s (actor.Engine e) ≡ Ok (kind.Done n) → Viewed script (record s.core { jobs = changed_job (λ j. record j { finished = true }) (record { ctx = e; num = n }) s.core.jobs }) dues m bytes
+  pub done_viewed : (e n : ℕ) → next script s (actor.Engine e) ≡ Ok (kind.Done n) → Viewed script (record s.core { jobs = changed_job (λ j. record j { finished = true }) (record { ctx = e; num = n }) s.core.jobs }) owed_probes m bytes
   done_viewed e n h =
-      let r = ends.ending script s dues m bytes u.view u.seen u.good script.sizes.engines s.last_jobs jobs e n h in
+      let r = ends.ending script s owed_probes m bytes u.view u.seen u.good script.sizes.engines s.last_jobs jobs e n h in
       record {
         view = job_done r.at u.view;
-        good = ends.good_after script s dues m bytes u.view u.seen u.good script.sizes.engines s.last_jobs jobs e n r;
-        seen = ends.seen_after script s dues m bytes u.view u.seen u.good script.sizes.engines s.last_jobs jobs e n r;
+        good = ends.good_after script s owed_probes m bytes u.view u.seen u.good script.sizes.engines s.last_jobs jobs e n r;
+        seen = ends.seen_after script s owed_probes m bytes u.view u.seen u.good script.sizes.engines s.last_jobs jobs e n r;
       }
 
 -- the first ghost, whose jobs are done
@@ -78,12 +78,12 @@ leaving s g d h = by (slice_get s.core.ghosts 0) refl h
           waits = none (waited_for s.core x.jobs) parts.1;
         }
 
-pub reap_viewed : (script : Script) (s : State) (dues : Dues) (m : Memory) (bytes : pages.PageBytes) → Viewed script s.core dues m bytes → AreHeldOnce script s.core → (g : ℕ) → AreDistinct s.core.ghosts →
-    is_over s g (slice_get s.core.ghosts 0) ≡ true → AreHeldOnce script (record s.core { ghosts = filter (λ h. not (h.num == g)) s.core.ghosts }) → Viewed script (record s.core { ghosts = filter (λ h. not (h.num == g)) s.core.ghosts }) dues m bytes
-reap_viewed script s dues m bytes u held g d h once =
+pub reap_viewed : (script : Script) (s : State) (owed_probes : OwedProbes) (m : Memory) (bytes : pages.PageBytes) → Viewed script s.core owed_probes m bytes → AreHeldOnce script s.core → (g : ℕ) → AreDistinct s.core.ghosts →
+    is_over s g (slice_get s.core.ghosts 0) ≡ true → AreHeldOnce script (record s.core { ghosts = filter (λ h. not (h.num == g)) s.core.ghosts }) → Viewed script (record s.core { ghosts = filter (λ h. not (h.num == g)) s.core.ghosts }) owed_probes m bytes
+reap_viewed script s owed_probes m bytes u held g d h once =
     let l = leaving s g d h in
     record {
       view = retitled (record u.view.fences { ghost = λ k j. u.view.fences.ghost k j && not (nat_eq g k) }) (owner_of (bare (record s.core { ghosts = filter (λ h. not (h.num == g)) s.core.ghosts }))) u.view;
-      good = reap_good script s.core dues m bytes u.view u.seen u.good g l (held_once script (bare s.core) held) once;
-      seen = reap_seen script s.core dues m bytes u.view u.seen u.good g l (held_once script (bare s.core) held) once;
+      good = reap_good script s.core owed_probes m bytes u.view u.seen u.good g l (held_once script (bare s.core) held) once;
+      seen = reap_seen script s.core owed_probes m bytes u.view u.seen u.good g l (held_once script (bare s.core) held) once;
     }

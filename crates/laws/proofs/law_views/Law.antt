@@ -5,7 +5,7 @@ use Rattle.journal_model.specs.declared.script.Script.{Script}
 use Rattle.journal_model.specs.declared.state.Core.{Core}
 use Rattle.journal_model.specs.declared.entry.Entry.{Entry}
 use Rattle.journal_model.specs.ScriptRules.{is_script}
-use Rattle.journal_model.specs.PlainMemory.{Memory, Dues, plain_of}
+use Rattle.journal_model.specs.PlainMemory.{Memory, OwedProbes, plain_of}
 use Rattle.journal_model.specs.Legal.{state_of, stores_of, IsLegal}
 use Rattle.laws.specs.lemma_bytes_model.Memory as memory
 use Rattle.laws.specs.lemma_bytes_model.Memory.{Page, Nowhere}
@@ -22,8 +22,8 @@ owner_so c (memory.Frame f) = (owning (bare c) (memory.Frame f) (λ e. cc)).fact
 owner_so c (memory.Slot k) = (owning (bare c) (memory.Slot k) (λ e. cc)).fact
 owner_so c (memory.Own b i) = (owning (bare c) (memory.Own b i) (λ e. cc)).fact
 
-told : (script : Script) (c : Core) (dues : Dues) (m : Memory) (bytes : pages.PageBytes) → Viewed script c dues m bytes → HasGoodView script c dues m bytes
-told script c dues m bytes u =
+told : (script : Script) (c : Core) (owed_probes : OwedProbes) (m : Memory) (bytes : pages.PageBytes) → Viewed script c owed_probes m bytes → HasGoodView script c owed_probes m bytes
+told script c owed_probes m bytes u =
     record {
       view = u.view;
       good = u.good;
@@ -47,5 +47,5 @@ told script c dues m bytes u =
     }
 
 pub good_view : (script : Script) (journal : List Entry) → IsTrue (is_script script) → IsLegal script journal →
-    HasGoodView script (state_of script journal).core (plain_of script journal).dues (plain_of script journal).memory (stores_of script journal)
-good_view script journal fits l = told script (state_of script journal).core (plain_of script journal).dues (plain_of script journal).memory (stores_of script journal) (view_law script journal fits l)
+    HasGoodView script (state_of script journal).core (plain_of script journal).owed_probes (plain_of script journal).memory (stores_of script journal)
+good_view script journal fits l = told script (state_of script journal).core (plain_of script journal).owed_probes (plain_of script journal).memory (stores_of script journal) (view_law script journal fits l)

@@ -22,7 +22,7 @@ use Rattle.journal_model.specs.CommandRules.{is_op}
 use Rattle.journal_model.specs.Places.{aperture, page_in, packet_place}
 use Rattle.journal_model.specs.Waits.{same_job, changes, is_written, unfinished, jobs_before_read, jobs_before_write, jobs_before_use}
 use Rattle.journal_model.specs.Stores.{is_there}
-use Rattle.journal_model.specs.PlainMemory.{Memory, Dues, after_ops, pieces_shown, with_dues}
+use Rattle.journal_model.specs.PlainMemory.{Memory, OwedProbes, after_ops, pieces_shown, with_owed_probes}
 use Rattle.journal_model.specs.ApplyPages.{with_fence}
 use Rattle.journal_model.specs.ApplyJobs.{with_use, core_after_arm}
 use Rattle.laws.proofs.law_state.Lists.{get_within}
@@ -60,7 +60,7 @@ drop_none : {X : Type 0} (xs : List X) → drop 0 xs ≡ xs
 drop_none [] = refl
 drop_none (y ∷ ys) = refl
 
-module _ (script : Script) (c : Core) (dues : Dues) (m : Memory) (bytes : pages.PageBytes) (u : Viewed script c dues m bytes) (engine n : ℕ) (ops : List Op)
+module _ (script : Script) (c : Core) (owed_probes : OwedProbes) (m : Memory) (bytes : pages.PageBytes) (u : Viewed script c owed_probes m bytes) (engine n : ℕ) (ops : List Op)
     (ok : list_all (is_op script) ops ≡ true) (held : AreHeldOnce script c)
     (once : AreHeldOnce script (core_after_arm c (record { ctx = engine; num = n }) ops (first_mentions [] (flat_map buffers_of_op ops))))
     (lives : (b : BufId) → has_buffer (first_mentions [] (flat_map buffers_of_op ops)) b ≡ true → IsLive c b)
@@ -69,7 +69,7 @@ module _ (script : Script) (c : Core) (dues : Dues) (m : Memory) (bytes : pages.
   abbrev v : View
   v = u.view
 
-  abbrev s : Seen script c dues m bytes u.view
+  abbrev s : Seen script c owed_probes m bytes u.view
   s = u.seen
 
   abbrev g : Good no_bytes u.view
@@ -93,8 +93,8 @@ module _ (script : Script) (c : Core) (dues : Dues) (m : Memory) (bytes : pages.
   abbrev d : Core
   d = core_after_arm c job ops bs
 
-  abbrev dues' : Dues
-  dues' = with_dues job (pieces_shown m ops) dues
+  abbrev owed_probes' : OwedProbes
+  owed_probes' = with_owed_probes job (pieces_shown m ops) owed_probes
 
   abbrev prior : ℕ → Bool
   prior = is_prior c.jobs waits engine
@@ -223,22 +223,22 @@ module _ (script : Script) (c : Core) (dues : Dues) (m : Memory) (bytes : pages.
 
   -- ---- steps
 
-  dues_new : dues' job ≡ λ k. unwrap_or (slice_get (pieces_shown m ops) k) []
-  dues_new = ap (λ q. λ k. if q then unwrap_or (slice_get (pieces_shown m ops) k) [] else dues job k) (same_job-refl job)
+  owed_probes_new : owed_probes' job ≡ λ k. unwrap_or (slice_get (pieces_shown m ops) k) []
+  owed_probes_new = ap (λ q. λ k. if q then unwrap_or (slice_get (pieces_shown m ops) k) [] else owed_probes job k) (same_job-refl job)
 
-  new_steps : steps_of (aperture d) dues' new ≡ steps v.place (views_of ops) v.plain
+  new_steps : steps_of (aperture d) owed_probes' new ≡ steps v.place (views_of ops) v.plain
   new_steps =
-      ap (steps_from (aperture d) (dues' job) 0) (drop_none (packets_of names ops))
-      ∙ ap₂ (λ a due. steps_from a due 0 (packets_of names ops)) (fold_aperture job ops bs c) dues_new
+      ap (steps_from (aperture d) (owed_probes' job) 0) (drop_none (packets_of names ops))
+      ∙ ap₂ (λ a due. steps_from a due 0 (packets_of names ops)) (fold_aperture job ops bs c) owed_probes_new
       ∙ sym (shown_from (aperture c) (packets_of names ops) (pieces_shown m ops))
       ∙ sym (ops_steps (aperture c) names aimed_at (λ b i. refl) script ops m ok)
       ∙ sym (steps_placed v.place aimed_at (views_of ops) (paged m) placed_so)
       ∙ sym (steps_own v.place (views_of ops) v.plain (paged m) own)
 
-  old_steps : (i : ℕ) (x : Job) → slice_get c.jobs i ≡ Some x → steps_of (aperture d) dues' x ≡ steps_of (aperture c) dues x
+  old_steps : (i : ℕ) (x : Job) → slice_get c.jobs i ≡ Some x → steps_of (aperture d) owed_probes' x ≡ steps_of (aperture c) owed_probes x
   old_steps i x e =
       ap₂ (λ a due. steps_from a due x.ran (drop x.ran x.packets)) (fold_aperture job ops bs c)
-      (ap (λ q. λ k. if q then unwrap_or (slice_get (pieces_shown m ops) k) [] else dues x.id k) (fresh i x e))
+      (ap (λ q. λ k. if q then unwrap_or (slice_get (pieces_shown m ops) k) [] else owed_probes x.id k) (fresh i x e))
 
   there : (p : pages.Page) → touched (steps v.place (views_of ops) v.plain) (seen p) ≡ true → is_there script.sizes p ≡ true
   there p h =
@@ -293,9 +293,9 @@ module _ (script : Script) (c : Core) (dues : Dues) (m : Memory) (bytes : pages.
   plain_so : (b i o : ℕ) → plain_after (views_of ops) v.plain (Own b i) o ≡ (if nat_lt o 4096 then after_ops m ops b (4096 * i + o) else 0)
   plain_so b i o = ap (λ (f : ℕ → ℕ). f o) (plain_own (views_of ops) v.plain (paged m) own b i) ∙ ap (λ (f : Page → ℕ → ℕ). f (Own b i) o) (ops_on_memory script ops m ok)
 
-  arm_seen : Seen script d dues' (after_ops m ops) bytes (retitled (armed (views_of ops) prior changed used v).fences (owner_of (bare d)) (armed (views_of ops) prior changed used v))
+  arm_seen : Seen script d owed_probes' (after_ops m ops) bytes (retitled (armed (views_of ops) prior changed used v).fences (owner_of (bare d)) (armed (views_of ops) prior changed used v))
   arm_seen =
-      emitted_seen script c dues dues' m (after_ops m ops) bytes v s g new (fold (with_use job ops) c.buffers bs) c.ghosts c.move_fence
+      emitted_seen script c owed_probes owed_probes' m (after_ops m ops) bytes v s g new (fold (with_use job ops) c.buffers bs) c.ghosts c.move_fence
       (joined v.count prior changed used v.fences) v.place xs (plain_after (views_of ops) v.plain)
       (record {
         fresh = refl;
@@ -312,5 +312,5 @@ module _ (script : Script) (c : Core) (dues : Dues) (m : Memory) (bytes : pages.
       })
       plain_so
 
-  pub arm_viewed : Viewed script (core_after_arm c (record { ctx = engine; num = n }) ops (first_mentions [] (flat_map buffers_of_op ops))) (with_dues (record { ctx = engine; num = n }) (pieces_shown m ops) dues) (after_ops m ops) bytes
+  pub arm_viewed : Viewed script (core_after_arm c (record { ctx = engine; num = n }) ops (first_mentions [] (flat_map buffers_of_op ops))) (with_owed_probes (record { ctx = engine; num = n }) (pieces_shown m ops) owed_probes) (after_ops m ops) bytes
   arm_viewed = record { view = view; good = arm_good; seen = arm_seen }

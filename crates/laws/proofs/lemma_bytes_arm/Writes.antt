@@ -16,7 +16,7 @@ use Rattle.journal_model.specs.State.{buffer_in}
 use Rattle.journal_model.specs.Places.{page_at}
 use Rattle.journal_model.specs.Waits.{waited_for, jobs_before_write}
 use Rattle.journal_model.specs.Stores.{is_there, within, put_bytes}
-use Rattle.journal_model.specs.PlainMemory.{Memory, Dues, with_range}
+use Rattle.journal_model.specs.PlainMemory.{Memory, OwedProbes, with_range}
 use Rattle.laws.proofs.law_owners.Law.{AreHeldOnce}
 use Rattle.laws.specs.lemma_bytes_model.Memory as memory
 use Rattle.laws.specs.lemma_bytes_model.Memory.{Page, Nowhere, Own, Write, put, run, run_all}
@@ -91,12 +91,12 @@ twice sizes st p o = by (is_there sizes p && nat_lt o 4096)
     by true = refl
     by false = refl
 
-module _ (script : Script) (c : Core) (dues : Dues) (m : Memory) (bytes : pages.PageBytes) (u : Viewed script c dues m bytes) (b : BufId) (n : ℕ)
+module _ (script : Script) (c : Core) (owed_probes : OwedProbes) (m : Memory) (bytes : pages.PageBytes) (u : Viewed script c owed_probes m bytes) (b : BufId) (n : ℕ)
     (held : AreHeldOnce script c) (ready : (i : ℕ) → i < n → Reached c b.0 i) where
   abbrev v : View
   v = u.view
 
-  abbrev s : Seen script c dues m bytes u.view
+  abbrev s : Seen script c owed_probes m bytes u.view
   s = u.seen
 
   abbrev g : Good no_bytes u.view
@@ -144,9 +144,9 @@ module _ (script : Script) (c : Core) (dues : Dues) (m : Memory) (bytes : pages.
     write_good : Good no_bytes (cpu_wrote (byte_pieces b off values) v)
     write_good =
         cpu_write_keeps no_bytes v g (byte_pieces b off values) (nat_eq b.0) (named off values fits)
-        (λ d h j f. idle_done script c dues m bytes v s d (subst (λ k. waited_for c (jobs_before_write (buffer_at c k)) ≡ None) (eqb-true b.0 d h) idle) j f)
+        (λ d h j f. idle_done script c owed_probes m bytes v s d (subst (λ k. waited_for c (jobs_before_write (buffer_at c k)) ≡ None) (eqb-true b.0 d h) idle) j f)
 
-    write_seen : Seen script c dues (with_range b off (length values) (slice_index values) m) (within script.sizes (put_bytes (buffer_in c b) off values bytes)) (cpu_wrote (byte_pieces b off values) v)
+    write_seen : Seen script c owed_probes (with_range b off (length values) (slice_index values) m) (within script.sizes (put_bytes (buffer_in c b) off values bytes)) (cpu_wrote (byte_pieces b off values) v)
     write_seen = record {
       count = s.count;
       left = s.left;
@@ -167,5 +167,5 @@ module _ (script : Script) (c : Core) (dues : Dues) (m : Memory) (bytes : pages.
           ∙ ap (λ (f : Page → ℕ → ℕ). f (Own d i) o) (pieces_on_memory b off values m);
     }
 
-    pub write_viewed : Viewed script c dues (with_range b off (length values) (slice_index values) m) (within script.sizes (put_bytes (buffer_in c b) off values bytes))
+    pub write_viewed : Viewed script c owed_probes (with_range b off (length values) (slice_index values) m) (within script.sizes (put_bytes (buffer_in c b) off values bytes))
     write_viewed = record { view = cpu_wrote (byte_pieces b off values) v; good = write_good; seen = write_seen }

@@ -18,8 +18,8 @@ use Rattle.journal_model.specs.declared.script.Command.TheVariants as command
 use Rattle.journal_model.specs.declared.state.State.{State}
 use Rattle.journal_model.specs.declared.state.Buffer.{Buffer}
 use Rattle.journal_model.specs.declared.state.Victim.{Victim}
-use Rattle.journal_model.specs.declared.state.Aim.{Aim}
-use Rattle.journal_model.specs.declared.state.Aim.TheVariants as aims
+use Rattle.journal_model.specs.declared.state.SearchAim.{SearchAim}
+use Rattle.journal_model.specs.declared.state.SearchAim.TheVariants as aims
 use Rattle.journal_model.specs.declared.state.Task.{Task}
 use Rattle.journal_model.specs.declared.state.Task.TheVariants as task
 use Rattle.journal_model.specs.declared.entry.Kind.{Kind}
@@ -34,7 +34,7 @@ use Rattle.journal_model.specs.Dry.{has_frame}
 use Rattle.journal_model.specs.Holds.{free_slot}
 use Rattle.journal_model.specs.Ready.{has_all_frames, has_some_target, is_in_place, is_filled, is_ready, first_unready, uses_bytes}
 use Rattle.journal_model.specs.Waits.{waited_for, jobs_before_read, jobs_before_write, is_idle}
-use Rattle.journal_model.specs.Search.{Step, Quest, quest, through_tt, is_caught}
+use Rattle.journal_model.specs.Search.{Step, PlaceSearch, place_search, through_tt, is_caught}
 use Rattle.journal_model.specs.PageSteps.{unless_waiting, first_frame_page, next_job, next_ghost, why_caught}
 use Rattle.journal_model.specs.Next.{step_of_act, step_of_task}
 use Rattle.laws.specs.law_state.Courses as courses
@@ -43,7 +43,7 @@ use Rattle.laws.specs.law_step.Due.{is_due}
 use Rattle.laws.specs.law_sound.Sound.{Has, Owned}
 use Rattle.laws.proofs.law_sound.Turns.{Turn, OnVictim, OnNamed, OnBuffer, answer, start, victim_unbind, victim_empty, victim_give, victim_move, victim_fill, victim_search, give, act, fill_in_place, ask, bind, fill_to_bind, hop_up, unbind, move_up, move_across, move_down, fill_to_move, hop_down}
 use Rattle.laws.proofs.law_sound.Gifts as gifts
-use Rattle.laws.proofs.law_sound.Gifts.{Gives, Sought, Filled, PlaceOf}
+use Rattle.laws.proofs.law_sound.Gifts.{Gives, SearchOutcome, Filled, PlaceOf}
 use Rattle.laws.proofs.law_sound.Bufs.{same_self, same_is, has_found, found_passes, last_caught, none_last, none_found, none_missing}
 use Rattle.laws.proofs.lemma_bytes_told.Spots.{unfilled}
 use Rattle.laws.specs.lemma_bytes_told.Told.{is_write, OnWay, IsThere, IsQuiet, Told, still, makes, frees, leaves, takes, untakes, populates, swaps_in, depopulates, binds, unbinds, moves_up, moves_across, moves_down, evicts, catches, swaps_out, arms, reads, writes, results}
@@ -118,7 +118,7 @@ module _ (script : Script) (s : State) (t : ℕ) (cmd : Command) (at : command_a
   other_than e ne h = ne (sym e ∙ h)
 
   -- a hop is in TT
-  hop_place : (b : BufId) (place : Place) → PlaceOf (quest script cmd (course s t) b aims.Hop) place → (place.mem ≡ Vram → ⊥)
+  hop_place : (b : BufId) (place : Place) → PlaceOf (place_search script cmd (course s t) b aims.Hop) place → (place.mem ≡ Vram → ⊥)
   hop_place b place p = by (is_caught (course s t) b) p
     where
       first_none : (i : ℕ) → ◌≡◌ {A = Option Place} (slice_get [] i) (Some place) → ⊥
@@ -128,16 +128,16 @@ module _ (script : Script) (s : State) (t : ℕ) (cmd : Command) (at : command_a
       forced_at zero e h = let z : Tt ≡ Vram = sym (ap (λ (p : Place). p.mem) e) ∙ h in cc
       forced_at (suc n) e h = let z : System ≡ Vram = sym (ap (λ (p : Place). p.mem) e) ∙ h in cc
 
-      of_quest : (q : Quest) → first_places q.list ≡ [] → forced_places q.list ≡ whole Tt ∷ [] → PlaceOf q place → place.mem ≡ Vram → ⊥
-      of_quest q e f (gifts.first i n h) k = first_none i (sym (ap (λ ps. slice_get ps i) e) ∙ h)
-      of_quest q e f (gifts.forced h) k = forced_at q.dry (h ∙ ap (λ ps. unwrap_or (slice_get ps q.dry) (whole System)) f) k
+      of_place_search : (q : PlaceSearch) → first_places q.list ≡ [] → forced_places q.list ≡ whole Tt ∷ [] → PlaceOf q place → place.mem ≡ Vram → ⊥
+      of_place_search q e f (gifts.first i n h) k = first_none i (sym (ap (λ ps. slice_get ps i) e) ∙ h)
+      of_place_search q e f (gifts.forced h) k = forced_at q.dry (h ∙ ap (λ ps. unwrap_or (slice_get ps q.dry) (whole System)) f) k
 
       by : (c : Bool) → PlaceOf (if c then record { list = through_tt; forced = false; dry = 0 } else record { list = through_tt; forced = (course s t).forced; dry = (course s t).dry }) place → place.mem ≡ Vram → ⊥
-      by true p = of_quest (record { list = through_tt; forced = false; dry = 0 }) refl refl p
-      by false p = of_quest (record { list = through_tt; forced = (course s t).forced; dry = (course s t).dry }) refl refl p
+      by true p = of_place_search (record { list = through_tt; forced = false; dry = 0 }) refl refl p
+      by false p = of_place_search (record { list = through_tt; forced = (course s t).forced; dry = (course s t).dry }) refl refl p
 
-  sought_told : (b : BufId) (aim : Aim) (k : Kind) → IsThere s b → ((place : Place) → PlaceOf (quest script cmd (course s t) b aim) place → place.mem ≡ Vram → has_some_target (buffer s b) ≡ false) →
-      Sought script s (course s t) b (quest script cmd (course s t) b aim) k → Told script s t k
+  sought_told : (b : BufId) (aim : SearchAim) (k : Kind) → IsThere s b → ((place : Place) → PlaceOf (place_search script cmd (course s t) b aim) place → place.mem ≡ Vram → has_some_target (buffer s b) ≡ false) →
+      SearchOutcome script s (course s t) b (place_search script cmd (course s t) b aim) k → Told script s t k
   sought_told b aim k there free (gifts.finds place {mem} {spans} p m h) = takes place there m h (λ e. free place p (m ∙ e))
   sought_told b aim k there free (gifts.evicts place {v} {w} a n e h) = catches
   sought_told b aim k there free (gifts.dries place {w} a n) = still refl
@@ -239,7 +239,7 @@ module _ (script : Script) (s : State) (t : ℕ) (cmd : Command) (at : command_a
 
   -- ---- each task
 
-  search_told : (b : BufId) (aim : Aim) (k : Kind) → Turn script s (course s t) cmd (task.Search b aim) → Sought script s (course s t) b (quest script cmd (course s t) b aim) k → Told script s t k
+  search_told : (b : BufId) (aim : SearchAim) (k : Kind) → Turn script s (course s t) cmd (task.Search b aim) → SearchOutcome script s (course s t) b (place_search script cmd (course s t) b aim) k → Told script s t k
   search_told b aim k (victim_search v on i f n) g = sought_told v.b aims.Hop k (victim_there v on) (λ p w m. absurd (hop_place v.b p w m)) g
   search_told b aim k (ask on n) g = sought_told b aims.Asked k (at_there b on.on) (λ p w m. n) g
   search_told b aim k (hop_up on n) g = sought_told b aims.Hop k (at_there b on.on.on) (λ p w m. absurd (hop_place b p w m)) g

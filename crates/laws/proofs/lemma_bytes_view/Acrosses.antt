@@ -15,7 +15,7 @@ use Rattle.ttm_base.specs.declared.Fence.{Fence}
 use Rattle.journal_model.specs.declared.state.Ghost as ghosts
 use Rattle.journal_model.specs.State.{target_spans, live_in}
 use Rattle.journal_model.specs.Places.{pages_of, page_in_vram}
-use Rattle.journal_model.specs.PlainMemory.{Memory, Dues}
+use Rattle.journal_model.specs.PlainMemory.{Memory, OwedProbes}
 use Rattle.journal_model.specs.ApplyMoves.{moved, ghost_of_moved}
 use Rattle.laws.proofs.law_state.Lists.{get_pushed}
 use Rattle.laws.proofs.law_owners.Law.{AreHeldOnce}
@@ -32,7 +32,7 @@ use Rattle.laws.proofs.lemma_bytes_view.Moving.{moved_core, Moving, to_ghost_vie
 use Rattle.laws.proofs.lemma_bytes_view.Viewed.{Viewed}
 use Rattle.laws.proofs.lemma_bytes_view.Tables.{get_at, get_past, get_within, has_at, at_has}
 
-module _ (script : Script) (c : Core) (dues : Dues) (m : Memory) (bytes : pages.PageBytes) (u : Viewed script c dues m bytes)
+module _ (script : Script) (c : Core) (owed_probes : OwedProbes) (m : Memory) (bytes : pages.PageBytes) (u : Viewed script c owed_probes m bytes)
     (b : BufId) (spans : List Span) (table : List Loc) (targets : Targets) (fences : List Fence) where
   -- the buffer in VRAM
   abbrev x : Buffer
@@ -44,7 +44,7 @@ module _ (script : Script) (c : Core) (dues : Dues) (m : Memory) (bytes : pages.
       (c.ghosts ++ ghost_of_moved (record { mem = mem.Vram; spans = spans; table = table; targets = targets; fences = fences }) (record { ctx = 0; num = n }) gn ∷ []) c.move_fence))
       (long : length (pages_of spans) ≡ length table)
       (target_long : length (pages_of (target_spans mem.Vram (record { mem = mem.Vram; spans = spans; table = table; targets = targets; fences = fences }))) ≡ length table)
-      (undue : (k : ℕ) → dues (record { ctx = 0; num = n }) k ≡ []) where
+      (undue : (k : ℕ) → owed_probes (record { ctx = 0; num = n }) k ≡ []) where
     abbrev left : ghosts.Ghost
     left = ghost_of_moved x (record { ctx = 0; num = n }) gn
 
@@ -105,7 +105,7 @@ module _ (script : Script) (c : Core) (dues : Dues) (m : Memory) (bytes : pages.
         (live_either (moved mem.Vram (record { ctx = 0; num = n })) c b x is w.b.0))
         (cases_eq b.0 w.b.0)
 
-    moving : Moving script c b x mem.Vram n gs c.move_fence dues (λ k. target_at x k)
+    moving : Moving script c b x mem.Vram n gs c.move_fence owed_probes (λ k. target_at x k)
     moving = record {
       held = held;
       once = once;
@@ -135,5 +135,5 @@ module _ (script : Script) (c : Core) (dues : Dues) (m : Memory) (bytes : pages.
         ap (owner_of (bare d)) f.is_there
         ∙ owner_is (bare d) (held_once script (bare d) once) (Vram f.page) (Ghost gn) (λ e. cc) (length c.ghosts, left, get_last c.ghosts left, refl, has_at (pages_of spans) k f.page f.at)
 
-    pub across_viewed : Viewed script d dues m bytes
-    across_viewed = to_ghost_viewed script c dues m bytes u.view u.seen u.good b x is mem.Vram n gs c.move_fence (λ k. target_at x k) moving gn leaves (length c.ghosts) left (get_last c.ghosts left) refl refl refl
+    pub across_viewed : Viewed script d owed_probes m bytes
+    across_viewed = to_ghost_viewed script c owed_probes m bytes u.view u.seen u.good b x is mem.Vram n gs c.move_fence (λ k. target_at x k) moving gn leaves (length c.ghosts) left (get_last c.ghosts left) refl refl refl

@@ -16,7 +16,7 @@ use Rattle.ttm_base.specs.declared.Fence.{Fence}
 use Rattle.journal_model.specs.State.{live_in, changed, new_buffer}
 use Rattle.journal_model.specs.Places.{aperture, page_at, page_in, page_in_table, loc_of}
 use Rattle.journal_model.specs.Waits.{same_job, changes, waited_for, jobs_before_read, jobs_before_write}
-use Rattle.journal_model.specs.PlainMemory.{Memory, Dues}
+use Rattle.journal_model.specs.PlainMemory.{Memory, OwedProbes}
 use Rattle.journal_model.specs.ApplyPages.{bound, unbound}
 use Rattle.laws.proofs.law_state.Lists.{set_at}
 use Rattle.laws.proofs.law_owners.Law.{AreHeldOnce}
@@ -107,9 +107,9 @@ among_all p q (f ∷ fs) h = by (q f) (p f.job) refl (among_all p q fs) h
     by false false e rest h = rest h
 
 -- where nothing is waited for before a write, all jobs of the buffer are done
-pub idle_done : (script : Script) (c : Core) (dues : Dues) (m : Memory) (bytes : pages.PageBytes) (v : View) → Seen script c dues m bytes v → (b : ℕ) →
+pub idle_done : (script : Script) (c : Core) (owed_probes : OwedProbes) (m : Memory) (bytes : pages.PageBytes) (v : View) → Seen script c owed_probes m bytes v → (b : ℕ) →
     waited_for c (jobs_before_write (buffer_at c b)) ≡ None → (j : ℕ) → is_fence v.fences b false j ≡ true → v.done j ≡ true
-idle_done script c dues m bytes v s b none j h =
+idle_done script c owed_probes m bytes v s b none j h =
     ⊎_elim
     (λ e.
     let f = s.strong b j e in
@@ -119,7 +119,7 @@ idle_done script c dues m bytes v s b none j h =
 
 -- ---- the entries
 
-module _ (script : Script) (c : Core) (dues : Dues) (m : Memory) (bytes : pages.PageBytes) (v : View) (s : Seen script c dues m bytes v) (g : Good no_bytes v)
+module _ (script : Script) (c : Core) (owed_probes : OwedProbes) (m : Memory) (bytes : pages.PageBytes) (v : View) (s : Seen script c owed_probes m bytes v) (g : Good no_bytes v)
     (f : Buffer → Buffer) (b : BufId) (x : Buffer) (is : IsAt c b x) (once : AreHeldOnce script (record c { buffers = changed f c.buffers b }))
     (live : (k : ℕ) → live_at (f x) k ≡ live_at x k) (kept : (k : ℕ) → kept_in (f x).mem (f x) k ≡ kept_in x.mem x k) (target : (k : ℕ) → target_at (f x) k ≡ target_at x k)
     (place : (i : ℕ) → page_at (f x) i ≡ page_at x i) (fences : (f x).fences ≡ x.fences)
@@ -137,9 +137,9 @@ module _ (script : Script) (c : Core) (dues : Dues) (m : Memory) (bytes : pages.
       untake_keeps no_bytes v g (owner_of (bare (record c { buffers = changed f c.buffers b })))
       (λ y. inl (owners_same (bare c) (bare (record c { buffers = changed f c.buffers b })) (held_once script (bare (record c { buffers = changed f c.buffers b })) once) same_holds y ∙ sym (s.owner y)))
 
-  pub carried_seen : Seen script (record c { buffers = changed f c.buffers b }) dues m bytes (retitled v.fences (owner_of (bare (record c { buffers = changed f c.buffers b }))) v)
+  pub carried_seen : Seen script (record c { buffers = changed f c.buffers b }) owed_probes m bytes (retitled v.fences (owner_of (bare (record c { buffers = changed f c.buffers b }))) v)
   carried_seen =
-      retitled_seen script c dues m bytes v (changed f c.buffers b) c.ghosts v.fences s
+      retitled_seen script c owed_probes m bytes v (changed f c.buffers b) c.ghosts v.fences s
       (record {
         prior = refl;
         strong = λ e j h.
@@ -176,7 +176,7 @@ keeps_none y i ne = by y.mem refl
 pub not_vram : (l : Mem) (y : Buffer) → y.mem ≡ l → (l ≡ mem.Vram → ⊥) → y.mem ≡ mem.Vram → ⊥
 not_vram l y e ne f = ne (sym e ∙ f)
 
-module _ (script : Script) (c : Core) (dues : Dues) (m : Memory) (bytes : pages.PageBytes) (v : View) (s : Seen script c dues m bytes v) (g : Good no_bytes v) (b : BufId) (x : Buffer) (is : IsAt c b x) where
+module _ (script : Script) (c : Core) (owed_probes : OwedProbes) (m : Memory) (bytes : pages.PageBytes) (v : View) (s : Seen script c owed_probes m bytes v) (g : Good no_bytes v) (b : BufId) (x : Buffer) (is : IsAt c b x) where
   -- from SYSTEM into TT
   module _ (system : x.mem ≡ mem.System) (once : AreHeldOnce script (record c { buffers = changed bound c.buffers b })) where
     bind_spares : (i p : ℕ) → Spared (aperture c) (aperture (record c { buffers = changed bound c.buffers b })) (touched (v.left i)) p
@@ -194,16 +194,16 @@ module _ (script : Script) (c : Core) (dues : Dues) (m : Memory) (bytes : pages.
 
     pub bind_good : Good no_bytes (retitled v.fences (owner_of (bare (record c { buffers = changed bound c.buffers b }))) v)
     bind_good =
-        carried_good script c dues m bytes v s g bound b x is once (λ k. ap seen (bind_place k)) (λ k. sym (keeps_none x k (not_vram mem.System x system (λ e. cc)))) (λ k. refl) bind_place refl bind_spares
+        carried_good script c owed_probes m bytes v s g bound b x is once (λ k. ap seen (bind_place k)) (λ k. sym (keeps_none x k (not_vram mem.System x system (λ e. cc)))) (λ k. refl) bind_place refl bind_spares
 
-    pub bind_seen : Seen script (record c { buffers = changed bound c.buffers b }) dues m bytes (retitled v.fences (owner_of (bare (record c { buffers = changed bound c.buffers b }))) v)
+    pub bind_seen : Seen script (record c { buffers = changed bound c.buffers b }) owed_probes m bytes (retitled v.fences (owner_of (bare (record c { buffers = changed bound c.buffers b }))) v)
     bind_seen =
-        carried_seen script c dues m bytes v s g bound b x is once (λ k. ap seen (bind_place k)) (λ k. sym (keeps_none x k (not_vram mem.System x system (λ e. cc)))) (λ k. refl) bind_place refl bind_spares
+        carried_seen script c owed_probes m bytes v s g bound b x is once (λ k. ap seen (bind_place k)) (λ k. sym (keeps_none x k (not_vram mem.System x system (λ e. cc)))) (λ k. refl) bind_place refl bind_spares
 
   -- from TT into SYSTEM, once all jobs are done
   module _ (tt : x.mem ≡ mem.Tt) (idle : waited_for c (jobs_before_write x) ≡ None) (once : AreHeldOnce script (record c { buffers = changed unbound c.buffers b })) (before : HeldOnce (bare c)) where
     jobs_done : (j : ℕ) → is_fence v.fences b.0 false j ≡ true → v.done j ≡ true
-    jobs_done = idle_done script c dues m bytes v s b.0 (subst (λ y. waited_for c (jobs_before_write y) ≡ None) (sym (at_is c b x is)) idle)
+    jobs_done = idle_done script c owed_probes m bytes v s b.0 (subst (λ y. waited_for c (jobs_before_write y) ≡ None) (sym (at_is c b x is)) idle)
 
     unbind_spares : (i p : ℕ) → Spared (aperture c) (aperture (record c { buffers = changed unbound c.buffers b })) (touched (v.left i)) p
     unbind_spares i p = spared_but script unbound c b x is once v g i own p
@@ -222,8 +222,8 @@ module _ (script : Script) (c : Core) (dues : Dues) (m : Memory) (bytes : pages.
 
     pub unbind_good : Good no_bytes (retitled v.fences (owner_of (bare (record c { buffers = changed unbound c.buffers b }))) v)
     unbind_good =
-        carried_good script c dues m bytes v s g unbound b x is once (λ k. ap seen (unbind_place k)) (λ k. sym (keeps_none x k (not_vram mem.Tt x tt (λ e. cc)))) (λ k. refl) unbind_place refl unbind_spares
+        carried_good script c owed_probes m bytes v s g unbound b x is once (λ k. ap seen (unbind_place k)) (λ k. sym (keeps_none x k (not_vram mem.Tt x tt (λ e. cc)))) (λ k. refl) unbind_place refl unbind_spares
 
-    pub unbind_seen : Seen script (record c { buffers = changed unbound c.buffers b }) dues m bytes (retitled v.fences (owner_of (bare (record c { buffers = changed unbound c.buffers b }))) v)
+    pub unbind_seen : Seen script (record c { buffers = changed unbound c.buffers b }) owed_probes m bytes (retitled v.fences (owner_of (bare (record c { buffers = changed unbound c.buffers b }))) v)
     unbind_seen =
-        carried_seen script c dues m bytes v s g unbound b x is once (λ k. ap seen (unbind_place k)) (λ k. sym (keeps_none x k (not_vram mem.Tt x tt (λ e. cc)))) (λ k. refl) unbind_place refl unbind_spares
+        carried_seen script c owed_probes m bytes v s g unbound b x is once (λ k. ap seen (unbind_place k)) (λ k. sym (keeps_none x k (not_vram mem.Tt x tt (λ e. cc)))) (λ k. refl) unbind_place refl unbind_spares

@@ -11,7 +11,7 @@ use Rattle.journal_model.specs.declared.state.Core.{Core}
 use Rattle.journal_model.specs.declared.state.Job.{Job}
 use Rattle.journal_model.specs.declared.entry.Kind.TheVariants as kind
 use Rattle.journal_model.specs.Places.{aperture}
-use Rattle.journal_model.specs.PlainMemory.{Memory, Dues}
+use Rattle.journal_model.specs.PlainMemory.{Memory, OwedProbes}
 use Rattle.journal_model.specs.Waits.{same_job}
 use Rattle.journal_model.specs.Next.{next}
 use Rattle.journal_model.specs.ApplyJobs.{changed_job}
@@ -35,7 +35,7 @@ length-changed : (f : Job → Job) (id : JobId) (xs : List Job) → length xs �
 length-changed f id [] = refl
 length-changed f id (x ∷ xs) = ap suc (length-changed f id xs)
 
-module _ (script : Script) (s : State) (dues : Dues) (mem : Memory) (stores : pages.PageBytes) (v : View) (seen_so : Seen script s.core dues mem stores v) (g : Good no_bytes v)
+module _ (script : Script) (s : State) (owed_probes : OwedProbes) (mem : Memory) (stores : pages.PageBytes) (v : View) (seen_so : Seen script s.core owed_probes mem stores v) (g : Good no_bytes v)
     (engines : ℕ) (last : List ℕ) (jobs : GoodJobs engines last s.core.jobs) where
   -- which job it is, with no packet left
   pub record Ending (e n : ℕ) : Type 0 where
@@ -54,7 +54,7 @@ module _ (script : Script) (s : State) (dues : Dues) (mem : Memory) (stores : pa
 
   module _ (e n : ℕ) (r : Ending e n) where
     none_left : v.left r.at ≡ []
-    none_left = seen_so.left r.at r.job r.here ∙ ap (steps_from (aperture s.core) (dues r.job.id) r.job.ran) (drop_all r.job.packets r.job.ran r.over)
+    none_left = seen_so.left r.at r.job r.here ∙ ap (steps_from (aperture s.core) (owed_probes r.job.id) r.job.ran) (drop_all r.job.packets r.job.ran r.over)
 
     has_begun : v.begun r.at ≡ true
     has_begun = seen_so.begun r.at r.job r.here ∙ lt-ltb 0 r.job.ran (let some = jobs.some r.at r.job r.here in let all = r.over in omega (arith, some, all))
@@ -71,8 +71,8 @@ module _ (script : Script) (s : State) (dues : Dues) (mem : Memory) (stores : pa
         let one : r.job ≡ old = cc in
         ne (r.name ∙ ap (λ (j : Job). j.id) one)
 
-    left_after : (i : ℕ) (x : Job) → Changed (λ j. record j { finished = true }) (record { ctx = e; num = n }) s.core.jobs i x → v.left i ≡ steps_of (aperture s.core) dues x
-    left_after i x ch = seen_so.left i ch.old ch.at ∙ ⊎_elim (λ z. ap (steps_of (aperture s.core) dues) (sym z.1)) (λ z. ap (steps_of (aperture s.core) dues) (sym z.1)) ch.is
+    left_after : (i : ℕ) (x : Job) → Changed (λ j. record j { finished = true }) (record { ctx = e; num = n }) s.core.jobs i x → v.left i ≡ steps_of (aperture s.core) owed_probes x
+    left_after i x ch = seen_so.left i ch.old ch.at ∙ ⊎_elim (λ z. ap (steps_of (aperture s.core) owed_probes) (sym z.1)) (λ z. ap (steps_of (aperture s.core) owed_probes) (sym z.1)) ch.is
 
     begun_after : (i : ℕ) (x : Job) → Changed (λ j. record j { finished = true }) (record { ctx = e; num = n }) s.core.jobs i x → v.begun i ≡ nat_lt 0 x.ran
     begun_after i x ch = seen_so.begun i ch.old ch.at ∙ ⊎_elim (λ z. ap (λ (j : Job). nat_lt 0 j.ran) (sym z.1)) (λ z. ap (λ (j : Job). nat_lt 0 j.ran) (sym z.1)) ch.is
@@ -84,7 +84,7 @@ module _ (script : Script) (s : State) (dues : Dues) (mem : Memory) (stores : pa
         (λ z. at_other r.at i true v.done (at_isnt i ch.old ch.at z.0) ∙ seen_so.done i ch.old ch.at ∙ ap (λ (j : Job). j.finished) (sym z.1))
         ch.is
 
-    pub seen_after : Seen script (record s.core { jobs = changed_job (λ j. record j { finished = true }) (record { ctx = e; num = n }) s.core.jobs }) dues mem stores (job_done r.at v)
+    pub seen_after : Seen script (record s.core { jobs = changed_job (λ j. record j { finished = true }) (record { ctx = e; num = n }) s.core.jobs }) owed_probes mem stores (job_done r.at v)
     seen_after =
         let new : Core = record s.core { jobs = changed_job (λ j. record j { finished = true }) (record { ctx = e; num = n }) s.core.jobs } in
         let keep = keep_changed (λ j. record j { finished = true }) (record { ctx = e; num = n }) s.core.jobs (λ x. refl) (λ x. refl) in

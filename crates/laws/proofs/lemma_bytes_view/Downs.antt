@@ -18,7 +18,7 @@ use Rattle.journal_model.specs.declared.state.Ghost as ghosts
 use Rattle.journal_model.specs.State.{target_spans, live_in, new_buffer}
 use Rattle.journal_model.specs.Places.{pages_of, aperture, page_in_table, page_in_vram}
 use Rattle.journal_model.specs.Holds.{has_number}
-use Rattle.journal_model.specs.PlainMemory.{Memory, Dues}
+use Rattle.journal_model.specs.PlainMemory.{Memory, OwedProbes}
 use Rattle.journal_model.specs.ApplyMoves.{moved, ghost_of_moved}
 use Rattle.laws.proofs.law_state.Lists.{get_pushed}
 use Rattle.laws.proofs.law_owners.Law.{AreHeldOnce}
@@ -36,7 +36,7 @@ use Rattle.laws.proofs.lemma_bytes_view.Moving.{moved_core, Moving, to_ghost_vie
 use Rattle.laws.proofs.lemma_bytes_view.Viewed.{Viewed}
 use Rattle.laws.proofs.lemma_bytes_view.Tables.{get_at, get_past, get_within, AllFrames, has_at, at_has}
 
-module _ (script : Script) (c : Core) (dues : Dues) (m : Memory) (bytes : pages.PageBytes) (u : Viewed script c dues m bytes)
+module _ (script : Script) (c : Core) (owed_probes : OwedProbes) (m : Memory) (bytes : pages.PageBytes) (u : Viewed script c owed_probes m bytes)
     (b : BufId) (spans : List Span) (table : List Loc) (targets : Targets) (fences : List Fence) where
   -- the buffer in VRAM
   abbrev x : Buffer
@@ -50,7 +50,7 @@ module _ (script : Script) (c : Core) (dues : Dues) (m : Memory) (bytes : pages.
       (stay : (i : ℕ) (h : ghosts.Ghost) → slice_get c.ghosts i ≡ Some h → slice_get gs i ≡ Some h)
       (back : (p : Page) (i : ℕ) (h : ghosts.Ghost) → slice_get gs i ≡ Some h → in_ghost p h ≡ true →
       (slice_get c.ghosts i ≡ Some h) ⊎ ((k : ℕ) × (k < length table) × (live_at (record { mem = mem.Vram; spans = spans; table = table; targets = targets; fences = fences }) k ≡ p)))
-      (undue : (k : ℕ) → dues (record { ctx = 0; num = n }) k ≡ []) where
+      (undue : (k : ℕ) → owed_probes (record { ctx = 0; num = n }) k ≡ []) where
     abbrev d : Core
     d = moved_core c b x mem.Tt n gs mj
 
@@ -106,7 +106,7 @@ module _ (script : Script) (c : Core) (dues : Dues) (m : Memory) (bytes : pages.
     mapped_there : (k p f : ℕ) → slice_get (pages_of (target_spans mem.Tt x)) k ≡ Some p → slice_get table k ≡ Some (loc.Frame f) → aperture d p ≡ Some f
     mapped_there k p f e h = maps_aperture script d once p f (inl (record { b = b; buffer = y; live = here_now; mem = refl; at = k; here = e; there = h }))
 
-    pub moving : Moving script c b x mem.Tt n gs mj dues (λ k. kept_in mem.Vram x k)
+    pub moving : Moving script c b x mem.Tt n gs mj owed_probes (λ k. kept_in mem.Vram x k)
     moving = record {
       held = held;
       once = once;
@@ -196,7 +196,7 @@ module _ (script : Script) (c : Core) (dues : Dues) (m : Memory) (bytes : pages.
   module _ (is : IsAt c b (record { mem = mem.Vram; spans = spans; table = table; targets = targets; fences = fences })) (n : ℕ)
       (held : AreHeldOnce script c) (full : AllFrames table) (long : length (pages_of spans) ≡ length table)
       (target_long : length (pages_of (target_spans mem.Tt (record { mem = mem.Vram; spans = spans; table = table; targets = targets; fences = fences }))) ≡ length table)
-      (undue : (k : ℕ) → dues (record { ctx = 0; num = n }) k ≡ []) where
+      (undue : (k : ℕ) → owed_probes (record { ctx = 0; num = n }) k ≡ []) where
     -- to a ghost
     module _ (gn : ℕ)
         (once : AreHeldOnce script (moved_core c b (record { mem = mem.Vram; spans = spans; table = table; targets = targets; fences = fences }) mem.Tt n
@@ -221,17 +221,17 @@ module _ (script : Script) (c : Core) (dues : Dues) (m : Memory) (bytes : pages.
       back : (p : Page) (i : ℕ) (h : ghosts.Ghost) → slice_get (c.ghosts ++ left ∷ []) i ≡ Some h → in_ghost p h ≡ true → (slice_get c.ghosts i ≡ Some h) ⊎ ((k : ℕ) × (k < length table) × (live_at x k ≡ p))
       back p i h e g = ⊎_elim (λ z. inl z) (λ z. inr (ghost_back p (subst (λ (y : ghosts.Ghost). in_ghost p y ≡ true) z.1 g))) (get_pushed c.ghosts left h i e)
 
-      pub down_viewed : Viewed script (moved_core c b x mem.Tt n (c.ghosts ++ left ∷ []) c.move_fence) dues m bytes
+      pub down_viewed : Viewed script (moved_core c b x mem.Tt n (c.ghosts ++ left ∷ []) c.move_fence) owed_probes m bytes
       down_viewed =
           let t = moving is n held full long target_long (c.ghosts ++ left ∷ []) c.move_fence once stay back undue in
           let l = keeps is n held full long target_long (c.ghosts ++ left ∷ []) c.move_fence once stay back undue (length c.ghosts) gn left (get_last c.ghosts left) refl refl in
-          to_ghost_viewed script c dues m bytes u.view u.seen u.good b x is mem.Tt n (c.ghosts ++ left ∷ []) c.move_fence (λ k. kept_in mem.Vram x k) t gn l (length c.ghosts) left (get_last c.ghosts left) refl refl refl
+          to_ghost_viewed script c owed_probes m bytes u.view u.seen u.good b x is mem.Tt n (c.ghosts ++ left ∷ []) c.move_fence (λ k. kept_in mem.Vram x k) t gn l (length c.ghosts) left (get_last c.ghosts left) refl refl refl
 
     -- with pages that are free at once
     module _ (once : AreHeldOnce script (moved_core c b (record { mem = mem.Vram; spans = spans; table = table; targets = targets; fences = fences }) mem.Tt n c.ghosts (Some (record { ctx = 0; num = n }))))
         (ring : (i : JobId) → c.move_fence ≡ Some i → i.ctx ≡ 0) where
-      pub evict_viewed : Viewed script (moved_core c b x mem.Tt n c.ghosts (Some (record { ctx = 0; num = n }))) dues m bytes
+      pub evict_viewed : Viewed script (moved_core c b x mem.Tt n c.ghosts (Some (record { ctx = 0; num = n }))) owed_probes m bytes
       evict_viewed =
           let t = moving is n held full long target_long c.ghosts (Some (record { ctx = 0; num = n })) once (λ i h e. e) (λ p i h e g. inl e) undue in
           let l = frees is n held full long target_long c.ghosts (Some (record { ctx = 0; num = n })) once (λ i h e. e) (λ p i h e g. inl e) undue (λ i h e. e) in
-          now_viewed script c dues m bytes u.view u.seen u.good b x is mem.Tt n c.ghosts (Some (record { ctx = 0; num = n })) (λ k. kept_in mem.Vram x k) t l ring refl
+          now_viewed script c owed_probes m bytes u.view u.seen u.good b x is mem.Tt n c.ghosts (Some (record { ctx = 0; num = n })) (λ k. kept_in mem.Vram x k) t l ring refl

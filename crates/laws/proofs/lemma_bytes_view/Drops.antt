@@ -15,7 +15,7 @@ use Rattle.ttm_base.specs.declared.Fence.{Fence}
 use Rattle.journal_model.specs.State.{changed, new_buffer, target_spans}
 use Rattle.journal_model.specs.Places.{pages_of, aperture, page_at, page_in, page_in_table, loc_of}
 use Rattle.journal_model.specs.Waits.{same_job, changes, jobs_before_read, jobs_before_write}
-use Rattle.journal_model.specs.PlainMemory.{Memory, Dues}
+use Rattle.journal_model.specs.PlainMemory.{Memory, OwedProbes}
 use Rattle.journal_model.specs.ApplyPages.{with_spans, without_frame, without_frames}
 use Rattle.laws.proofs.law_owners.Law.{AreHeldOnce}
 use Rattle.laws.specs.lemma_bytes_model.Memory as memory
@@ -37,7 +37,7 @@ use Rattle.laws.proofs.lemma_bytes_view.Binds.{IsAt, at_is, live_either, all_kep
 abbrev pub SameOrGone : Page → Page → Type 0
 SameOrGone new old = (new ≡ old) ⊎ (new ≡ Nowhere)
 
-module _ (script : Script) (c : Core) (dues : Dues) (m : Memory) (bytes : pages.PageBytes) (v : View) (s : Seen script c dues m bytes v) (g : Good no_bytes v)
+module _ (script : Script) (c : Core) (owed_probes : OwedProbes) (m : Memory) (bytes : pages.PageBytes) (v : View) (s : Seen script c owed_probes m bytes v) (g : Good no_bytes v)
     (f : Buffer → Buffer) (b : BufId) (x : Buffer) (is : IsAt c b x) (before : HeldOnce (bare c)) (once : AreHeldOnce script (record c { buffers = changed f c.buffers b }))
     (place : (i : ℕ) → page_at (f x) i ≡ page_at x i) (kept : (k : ℕ) → SameOrGone (kept_in (f x).mem (f x) k) (kept_in x.mem x k)) (target : (k : ℕ) → SameOrGone (target_at (f x) k) (target_at x k))
     (fences : (f x).fences ≡ x.fences)
@@ -104,9 +104,9 @@ module _ (script : Script) (c : Core) (dues : Dues) (m : Memory) (bytes : pages.
   pub drop_good : Good no_bytes (retitled v.fences (owner_of (bare (record c { buffers = changed f c.buffers b }))) v)
   drop_good = retitle_keeps no_bytes v g v.fences refl (owner_of (bare (record c { buffers = changed f c.buffers b }))) (λ o i w h. h) fate refl
 
-  pub drop_seen : Seen script (record c { buffers = changed f c.buffers b }) dues m bytes (retitled v.fences (owner_of (bare (record c { buffers = changed f c.buffers b }))) v)
+  pub drop_seen : Seen script (record c { buffers = changed f c.buffers b }) owed_probes m bytes (retitled v.fences (owner_of (bare (record c { buffers = changed f c.buffers b }))) v)
   drop_seen =
-      retitled_seen script c dues m bytes v (changed f c.buffers b) c.ghosts v.fences s
+      retitled_seen script c owed_probes m bytes v (changed f c.buffers b) c.ghosts v.fences s
       (record {
         prior = refl;
         strong = λ e j h.

@@ -20,7 +20,7 @@ use Rattle.journal_model.specs.Places.{aperture, page_in_table}
 use Rattle.journal_model.specs.Waits.{same_job, jobs_before_read, jobs_before_write}
 use Rattle.journal_model.specs.Stores.{is_there, within}
 use Rattle.journal_model.specs.Stores as stores
-use Rattle.journal_model.specs.PlainMemory.{Memory, Dues}
+use Rattle.journal_model.specs.PlainMemory.{Memory, OwedProbes}
 use Rattle.journal_model.specs.ApplyPages.{with_loc}
 use Rattle.laws.proofs.law_owners.Law.{AreHeldOnce}
 use Rattle.laws.specs.lemma_bytes_model.Memory.{Page, Nowhere, Vram, Frame, Slot, Own, same_page, touched}
@@ -52,7 +52,7 @@ get_same [] i y = inr refl
 get_same (x ∷ xs) zero y = inl refl
 get_same (x ∷ xs) (suc i) y = get_same xs i y
 
-module _ (script : Script) (c : Core) (dues : Dues) (m : Memory) (bytes : pages.PageBytes) (u : Viewed script c dues m bytes)
+module _ (script : Script) (c : Core) (owed_probes : OwedProbes) (m : Memory) (bytes : pages.PageBytes) (u : Viewed script c owed_probes m bytes)
     (b : BufId) (spans : List Span) (table : List Loc) (targets : Targets) (fences : List Fence)
     (is : IsAt c b (record { mem = mem.Vram; spans = spans; table = table; targets = targets; fences = fences })) (i f : ℕ)
     (fresh : unwrap_or (slice_get table i) loc.Zero ≡ loc.Zero)
@@ -60,7 +60,7 @@ module _ (script : Script) (c : Core) (dues : Dues) (m : Memory) (bytes : pages.
   abbrev v : View
   v = u.view
 
-  abbrev s : Seen script c dues m bytes u.view
+  abbrev s : Seen script c owed_probes m bytes u.view
   s = u.seen
 
   abbrev g : Good no_bytes u.view
@@ -187,12 +187,12 @@ module _ (script : Script) (c : Core) (dues : Dues) (m : Memory) (bytes : pages.
       cc)
       p
 
-  fill_seen : Seen script after dues m (within script.sizes (stores.with_page_bytes (pages.frame f) (λ o. 0) bytes)) (retitled v.fences (owner_of (bare after)) (cleared (Frame f) v))
+  fill_seen : Seen script after owed_probes m (within script.sizes (stores.with_page_bytes (pages.frame f) (λ o. 0) bytes)) (retitled v.fences (owner_of (bare after)) (cleared (Frame f) v))
   fill_seen = record {
     count = s.count;
     left = λ j y e.
         let was = s.left j y e in
-        was ∙ sym (steps_same (aperture c) (aperture after) (dues y.id) y.ran (drop y.ran y.packets) (λ p. subst (λ t. Spared (aperture c) (aperture after) (touched t) p) was (fill_spares j p)));
+        was ∙ sym (steps_same (aperture c) (aperture after) (owed_probes y.id) y.ran (drop y.ran y.packets) (λ p. subst (λ t. Spared (aperture c) (aperture after) (touched t) p) was (fill_spares j p)));
     begun = s.begun;
     done = s.done;
     prior = s.prior;
@@ -214,5 +214,5 @@ module _ (script : Script) (c : Core) (dues : Dues) (m : Memory) (bytes : pages.
     plain = s.plain;
   }
 
-  pub fill_viewed : Viewed script (record c { buffers = changed (with_loc i (loc.Frame f)) c.buffers b }) dues m (within script.sizes (stores.with_page_bytes (pages.frame f) (λ o. 0) bytes))
+  pub fill_viewed : Viewed script (record c { buffers = changed (with_loc i (loc.Frame f)) c.buffers b }) owed_probes m (within script.sizes (stores.with_page_bytes (pages.frame f) (λ o. 0) bytes))
   fill_viewed = record { view = retitled v.fences (owner_of (bare after)) (cleared (Frame f) v); good = fill_good; seen = fill_seen }

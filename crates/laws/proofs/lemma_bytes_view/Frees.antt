@@ -13,7 +13,7 @@ use Rattle.journal_model.specs.declared.state.Buffer.{Buffer}
 use Rattle.journal_model.specs.State.{live_in, new_buffer, target_spans}
 use Rattle.journal_model.specs.Places.{pages_of, aperture, place_of, page_at, page_in_table}
 use Rattle.journal_model.specs.Waits.{same_job, waited_for, jobs_before_read, jobs_before_write}
-use Rattle.journal_model.specs.PlainMemory.{Memory, Dues, with_zeros}
+use Rattle.journal_model.specs.PlainMemory.{Memory, OwedProbes, with_zeros}
 use Rattle.laws.proofs.law_state.Lists.{set_at}
 use Rattle.laws.proofs.law_owners.Law.{AreHeldOnce}
 use Rattle.laws.specs.lemma_bytes_model.Memory as memory
@@ -68,7 +68,7 @@ set_none [] k = refl
 set_none (o ∷ bs) zero = refl
 set_none (o ∷ bs) (suc k) = set_none bs k
 
-module _ (script : Script) (c : Core) (dues : Dues) (m : Memory) (bytes : pages.PageBytes) (v : View) (s : Seen script c dues m bytes v) (g : Good no_bytes v)
+module _ (script : Script) (c : Core) (owed_probes : OwedProbes) (m : Memory) (bytes : pages.PageBytes) (v : View) (s : Seen script c owed_probes m bytes v) (g : Good no_bytes v)
     (b : BufId) (x : Buffer) (is : IsAt c b x) (idle : waited_for c (jobs_before_write x) ≡ None) (before : HeldOnce (bare c))
     (once : AreHeldOnce script (record c { buffers = slice_set c.buffers b.0 None })) where
   abbrev after : Core
@@ -87,7 +87,7 @@ module _ (script : Script) (c : Core) (dues : Dues) (m : Memory) (bytes : pages.
   other_is e ne = ap (λ o. unwrap_or o (new_buffer 0)) (other_live e ne)
 
   jobs_done : (j : ℕ) → is_fence v.fences b.0 false j ≡ true → v.done j ≡ true
-  jobs_done = idle_done script c dues m bytes v s b.0 (subst (λ y. waited_for c (jobs_before_write y) ≡ None) (sym (at_is c b x is)) idle)
+  jobs_done = idle_done script c owed_probes m bytes v s b.0 (subst (λ y. waited_for c (jobs_before_write y) ≡ None) (sym (at_is c b x is)) idle)
 
   -- ---- owners
 
@@ -257,7 +257,7 @@ module _ (script : Script) (c : Core) (dues : Dues) (m : Memory) (bytes : pages.
       no true e f = cc
       no false e f = cc
 
-  pub free_seen : Seen script (record c { buffers = slice_set c.buffers b.0 None }) dues (with_zeros b m) bytes (record (freed b.0 (owner_of (bare (record c { buffers = slice_set c.buffers b.0 None }))) 0 (λ j. false) no_bytes v) {
+  pub free_seen : Seen script (record c { buffers = slice_set c.buffers b.0 None }) owed_probes (with_zeros b m) bytes (record (freed b.0 (owner_of (bare (record c { buffers = slice_set c.buffers b.0 None }))) 0 (λ j. false) no_bytes v) {
     fences = without b.0 (freed b.0 (owner_of (bare (record c { buffers = slice_set c.buffers b.0 None }))) 0 (λ j. false) no_bytes v).fences;
   })
   free_seen = record {
@@ -265,7 +265,7 @@ module _ (script : Script) (c : Core) (dues : Dues) (m : Memory) (bytes : pages.
     left = λ i y e.
         let was = s.left i y e in
         was
-        ∙ sym (steps_same (aperture c) (aperture (record c { buffers = slice_set c.buffers b.0 None })) (dues y.id) y.ran (drop y.ran y.packets)
+        ∙ sym (steps_same (aperture c) (aperture (record c { buffers = slice_set c.buffers b.0 None })) (owed_probes y.id) y.ran (drop y.ran y.packets)
         (λ p. subst (λ t. Spared (aperture c) (aperture (record c { buffers = slice_set c.buffers b.0 None })) (touched t) p) was (spared i p)));
     begun = s.begun;
     done = s.done;

@@ -20,7 +20,7 @@ use Rattle.journal_model.specs.State.{live_in, new_buffer, target_spans}
 use Rattle.journal_model.specs.Places.{pages_of, aperture, place_of, page_at, page_in, page_in_table, loc_of}
 use Rattle.journal_model.specs.Holds.{has_number}
 use Rattle.journal_model.specs.Waits.{same_job, changes, unfinished, jobs_before_read, jobs_before_write}
-use Rattle.journal_model.specs.PlainMemory.{Memory, Dues, with_zeros}
+use Rattle.journal_model.specs.PlainMemory.{Memory, OwedProbes, with_zeros}
 use Rattle.journal_model.specs.ApplyCommands.{ghost_of_freed}
 use Rattle.laws.proofs.law_state.Lists.{set_at, get_pushed}
 use Rattle.laws.proofs.law_owners.Law.{AreHeldOnce}
@@ -68,14 +68,14 @@ left_is jobs ws j h = by (slice_get jobs j) refl h
     by None e g = cc
     by (Some y) e g = record { job = y; at = e; has = g }
 
-module _ (script : Script) (c : Core) (dues : Dues) (m : Memory) (bytes : pages.PageBytes) (u : Viewed script c dues m bytes)
+module _ (script : Script) (c : Core) (owed_probes : OwedProbes) (m : Memory) (bytes : pages.PageBytes) (u : Viewed script c owed_probes m bytes)
     (b : BufId) (x : Buffer) (is : IsAt c b x) (gn : ℕ) (held : AreHeldOnce script c)
     (once : AreHeldOnce script (record c { buffers = slice_set c.buffers b.0 None; ghosts = c.ghosts ++ ghost_of_freed c x gn ∷ [] }))
     (full : x.mem ≡ mem.Tt → AllFrames x.table) where
   abbrev v : View
   v = u.view
 
-  abbrev s : Seen script c dues m bytes u.view
+  abbrev s : Seen script c owed_probes m bytes u.view
   s = u.seen
 
   abbrev g : Good no_bytes u.view
@@ -383,12 +383,12 @@ module _ (script : Script) (c : Core) (dues : Dues) (m : Memory) (bytes : pages.
       record { job = l.job; at = l.at; place = length c.ghosts; ghost = left; there = get_last c.ghosts left; number = eqb-true gn n parts.0; has = l.has })
       (or_cases (v.fences.ghost n j) (nat_eq gn n && is_left c.jobs (unfinished c (jobs_before_write x)) j) h)
 
-  leave_seen : Seen script d dues (with_zeros b m) bytes (record (freed b.0 (owner_of (bare d)) gn jobs no_bytes v) { fences = without b.0 (freed b.0 (owner_of (bare d)) gn jobs no_bytes v).fences })
+  leave_seen : Seen script d owed_probes (with_zeros b m) bytes (record (freed b.0 (owner_of (bare d)) gn jobs no_bytes v) { fences = without b.0 (freed b.0 (owner_of (bare d)) gn jobs no_bytes v).fences })
   leave_seen = record {
     count = s.count;
     left = λ i y e.
         let was = s.left i y e in
-        was ∙ sym (steps_same (aperture c) (aperture d) (dues y.id) y.ran (drop y.ran y.packets) (λ p. subst (λ t. Spared (aperture c) (aperture d) (touched t) p) was (spared i p)));
+        was ∙ sym (steps_same (aperture c) (aperture d) (owed_probes y.id) y.ran (drop y.ran y.packets) (λ p. subst (λ t. Spared (aperture c) (aperture d) (touched t) p) was (spared i p)));
     begun = s.begun;
     done = s.done;
     prior = s.prior;
@@ -410,7 +410,7 @@ module _ (script : Script) (c : Core) (dues : Dues) (m : Memory) (bytes : pages.
     plain = plain_after;
   }
 
-  pub leave_viewed : Viewed script (record c { buffers = slice_set c.buffers b.0 None; ghosts = c.ghosts ++ ghost_of_freed c x gn ∷ [] }) dues (with_zeros b m) bytes
+  pub leave_viewed : Viewed script (record c { buffers = slice_set c.buffers b.0 None; ghosts = c.ghosts ++ ghost_of_freed c x gn ∷ [] }) owed_probes (with_zeros b m) bytes
   leave_viewed = record {
     view = record (freed b.0 (owner_of (bare d)) gn jobs no_bytes v) { fences = without b.0 (freed b.0 (owner_of (bare d)) gn jobs no_bytes v).fences };
     good = leave_good;

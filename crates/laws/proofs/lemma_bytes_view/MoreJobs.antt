@@ -13,7 +13,7 @@ use Rattle.journal_model.specs.declared.state.Ghost as ghosts
 use Rattle.journal_model.specs.Places.{aperture, place_of}
 use Rattle.journal_model.specs.Waits.{same_job, is_unfinished, unfinished}
 use Rattle.journal_model.specs.Stores.{is_there}
-use Rattle.journal_model.specs.PlainMemory.{Memory, Dues}
+use Rattle.journal_model.specs.PlainMemory.{Memory, OwedProbes}
 use Rattle.laws.proofs.law_state.Lists.{get_pushed, get_within}
 use Rattle.laws.specs.lemma_bytes_model.Memory.{Page, Own, Stores, Step, touched}
 use Rattle.laws.specs.lemma_bytes_model.View.{View, Good, Fences, at_job}
@@ -108,11 +108,11 @@ waited_or_done c is ctx j x at h =
 abbrev pub core_with : Core → Job → List (Option Buffer) → List ghosts.Ghost → Option JobId → Core
 core_with c new bs gs mj = record { buffers = bs; jobs = c.jobs ++ new ∷ []; ghosts = gs; move_fence = mj }
 
-pub record Emitted (script : Script) (c : Core) (dues dues' : Dues) (v : View) (new : Job) (bs : List (Option Buffer)) (gs : List ghosts.Ghost) (mj : Option JobId) (f : Fences) (placed : ℕ → ℕ → Page) (xs : List Step) : Type 0 where
+pub record Emitted (script : Script) (c : Core) (owed_probes owed_probes' : OwedProbes) (v : View) (new : Job) (bs : List (Option Buffer)) (gs : List ghosts.Ghost) (mj : Option JobId) (f : Fences) (placed : ℕ → ℕ → Page) (xs : List Step) : Type 0 where
   pub fresh : new.ran ≡ 0
   pub undone : new.finished ≡ false
-  pub old : (i : ℕ) (x : Job) → slice_get c.jobs i ≡ Some x → steps_of (aperture (core_with c new bs gs mj)) dues' x ≡ steps_of (aperture c) dues x
-  pub steps : steps_of (aperture (core_with c new bs gs mj)) dues' new ≡ xs
+  pub old : (i : ℕ) (x : Job) → slice_get c.jobs i ≡ Some x → steps_of (aperture (core_with c new bs gs mj)) owed_probes' x ≡ steps_of (aperture c) owed_probes x
+  pub steps : steps_of (aperture (core_with c new bs gs mj)) owed_probes' new ≡ xs
   pub prior : f.prior ≡ λ j i. v.fences.prior j i || (nat_eq v.count j && is_prior c.jobs new.waits new.id.ctx i)
   pub strong : (b j : ℕ) → f.strong b j ≡ true → IsChanging (core_with c new bs gs mj) b j
   pub shared : (b j : ℕ) → f.shared b j ≡ true → IsUsing (core_with c new bs gs mj) b j
@@ -121,9 +121,9 @@ pub record Emitted (script : Script) (c : Core) (dues dues' : Dues) (v : View) (
   pub place : (b i : ℕ) → placed b i ≡ seen (place_of (core_with c new bs gs mj) (record { 0 = b }) i)
   pub there : (p : pages.Page) → touched xs (seen p) ≡ true → is_there script.sizes p ≡ true
 
-module _ (script : Script) (c : Core) (dues dues' : Dues) (m m' : Memory) (bytes : pages.PageBytes) (v : View) (s : Seen script c dues m bytes v) (g : Good no_bytes v)
+module _ (script : Script) (c : Core) (owed_probes owed_probes' : OwedProbes) (m m' : Memory) (bytes : pages.PageBytes) (v : View) (s : Seen script c owed_probes m bytes v) (g : Good no_bytes v)
     (new : Job) (bs : List (Option Buffer)) (gs : List ghosts.Ghost) (mj : Option JobId) (f : Fences) (place : ℕ → ℕ → Page) (xs : List Step) (plain : Stores)
-    (k : Emitted script c dues dues' v new bs gs mj f place xs)
+    (k : Emitted script c owed_probes owed_probes' v new bs gs mj f place xs)
     (plain_so : (b i o : ℕ) → plain (Own b i) o ≡ (if nat_lt o 4096 then m' b (4096 * i + o) else 0)) where
   not_begun : v.begun v.count ≡ false
   not_begun = ⊎_elim (λ h. let l : v.count < v.count = g.unbegun v.count h in absurd (omega (arith, l))) (λ h. h) (cases_Bool (v.begun v.count))
@@ -156,7 +156,7 @@ module _ (script : Script) (c : Core) (dues dues' : Dues) (m m' : Memory) (bytes
       })
       (or_cases (v.fences.prior j i) (nat_eq v.count j && is_prior c.jobs new.waits new.id.ctx i) (ap (λ (p : ℕ → ℕ → Bool). p j i) (sym k.prior) ∙ h))
 
-  pub emitted_seen : Seen script (record { buffers = bs; jobs = c.jobs ++ new ∷ []; ghosts = gs; move_fence = mj }) dues' m' bytes (record v {
+  pub emitted_seen : Seen script (record { buffers = bs; jobs = c.jobs ++ new ∷ []; ghosts = gs; move_fence = mj }) owed_probes' m' bytes (record v {
     count = suc v.count;
     left = at_job v.count xs v.left;
     fences = f;
@@ -169,7 +169,7 @@ module _ (script : Script) (c : Core) (dues dues' : Dues) (m m' : Memory) (bytes
     left = λ i x e.
         ⊎_elim
         (λ h. at_other v.count i xs v.left (old_isnt i x h) ∙ s.left i x h ∙ sym (k.old i x h))
-        (λ h. at_same v.count i xs v.left (new_at i h.0) ∙ sym k.steps ∙ ap (steps_of (aperture (core_with c new bs gs mj)) dues') (sym h.1))
+        (λ h. at_same v.count i xs v.left (new_at i h.0) ∙ sym k.steps ∙ ap (steps_of (aperture (core_with c new bs gs mj)) owed_probes') (sym h.1))
         (get_pushed c.jobs new x i e);
     begun = λ i x e.
         ⊎_elim

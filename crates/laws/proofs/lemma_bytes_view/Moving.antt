@@ -19,7 +19,7 @@ use Rattle.journal_model.specs.State.{changed, new_buffer, target_spans, with_ta
 use Rattle.journal_model.specs.Places.{aperture, place_of, packet_place, name_in_spans}
 use Rattle.journal_model.specs.Waits.{same_job, changes, unfinished, jobs_before_read, jobs_before_write}
 use Rattle.journal_model.specs.Stores.{is_there}
-use Rattle.journal_model.specs.PlainMemory.{Memory, Dues}
+use Rattle.journal_model.specs.PlainMemory.{Memory, OwedProbes}
 use Rattle.journal_model.specs.ApplyMoves.{moved, move_packets, copy_of_page, table_left}
 use Rattle.laws.proofs.law_owners.Law.{AreHeldOnce}
 use Rattle.laws.specs.lemma_bytes_model.Memory as memory
@@ -99,7 +99,7 @@ module _ (c : Core) (b : BufId) (x : Buffer) (mem : Mem) (n : ℕ) (gs : List gh
   }
 
 -- what each move is to show: places before and after, what the others hold, and what the packets name
-pub record Moving (script : Script) (c : Core) (b : BufId) (x : Buffer) (mem : Mem) (n : ℕ) (gs : List ghosts.Ghost) (mj : Option JobId) (dues : Dues) (to : ℕ → Page) : Type 0 where
+pub record Moving (script : Script) (c : Core) (b : BufId) (x : Buffer) (mem : Mem) (n : ℕ) (gs : List ghosts.Ghost) (mj : Option JobId) (owed_probes : OwedProbes) (to : ℕ → Page) : Type 0 where
   pub held : AreHeldOnce script c
   pub once : AreHeldOnce script (moved_core c b x mem n gs mj)
   pub stands : (k : ℕ) → k < length x.table → live_at x k ≡ Nowhere → ⊥
@@ -119,11 +119,11 @@ pub record Moving (script : Script) (c : Core) (b : BufId) (x : Buffer) (mem : M
   pub maps_stay : (p q : ℕ) → Maps c p q → Maps (moved_core c b x mem n gs mj) p q
   pub names_to : (k : ℕ) → k < length x.table → seen (pages.translated (aperture (moved_core c b x mem n gs mj)) (name_in_spans mem (target_spans mem x) k)) ≡ to k
   pub names_from : (k : ℕ) → k < length x.table → seen (pages.translated (aperture (moved_core c b x mem n gs mj)) (packet_place x k)) ≡ live_at x k
-  pub undue : (k : ℕ) → dues (record { ctx = 0; num = n }) k ≡ []
+  pub undue : (k : ℕ) → owed_probes (record { ctx = 0; num = n }) k ≡ []
 
-module _ (script : Script) (c : Core) (dues : Dues) (m : Memory) (bytes : pages.PageBytes) (v : View) (s : Seen script c dues m bytes v) (g : Good no_bytes v)
+module _ (script : Script) (c : Core) (owed_probes : OwedProbes) (m : Memory) (bytes : pages.PageBytes) (v : View) (s : Seen script c owed_probes m bytes v) (g : Good no_bytes v)
     (b : BufId) (x : Buffer) (is : IsAt c b x) (mem : Mem) (n : ℕ) (gs : List ghosts.Ghost) (mj : Option JobId) (to : ℕ → Page)
-    (t : Moving script c b x mem n gs mj dues to) where
+    (t : Moving script c b x mem n gs mj owed_probes to) where
   abbrev after : Core
   after = moved_core c b x mem n gs mj
 
@@ -327,7 +327,7 @@ module _ (script : Script) (c : Core) (dues : Dues) (m : Memory) (bytes : pages.
   drop_none (y ∷ ys) = refl
 
   copies_are : (i len start : ℕ) → ((k : ℕ) → start ≤ k → k < start + len → k < length x.table) →
-      steps_from (aperture (moved_core c b x mem n gs mj)) (dues (record { ctx = 0; num = n })) i (map (λ k. copy_of_page (name_in_spans mem (target_spans mem x) k) (packet_place x k)) (count_from 1 len start))
+      steps_from (aperture (moved_core c b x mem n gs mj)) (owed_probes (record { ctx = 0; num = n })) i (map (λ k. copy_of_page (name_in_spans mem (target_spans mem x) k) (packet_place x k)) (count_from 1 len start))
       ≡ copies copied to (v.place b.0) (count_from 1 len start)
   copies_are i zero start within = refl
   copies_are i (suc len) start within =
@@ -343,9 +343,9 @@ module _ (script : Script) (c : Core) (dues : Dues) (m : Memory) (bytes : pages.
           (record { packet = Write p q copied; due = [] })
       one_is e f d = ap₂ (λ (w : memory.Packet) (u : List ℕ). record { packet = w; due = u }) (ap₂ (λ p q. Write p q copied) e f) d
 
-  new_steps : steps_of (aperture (moved_core c b x mem n gs mj)) dues (move_job c b x mem n gs mj) ≡ copies copied to (v.place b.0) (count_from 1 (length x.table) 0)
+  new_steps : steps_of (aperture (moved_core c b x mem n gs mj)) owed_probes (move_job c b x mem n gs mj) ≡ copies copied to (v.place b.0) (count_from 1 (length x.table) 0)
   new_steps =
-      ap (steps_from (aperture (moved_core c b x mem n gs mj)) (dues (record { ctx = 0; num = n })) 0) (drop_none (move_packets x mem))
+      ap (steps_from (aperture (moved_core c b x mem n gs mj)) (owed_probes (record { ctx = 0; num = n })) 0) (drop_none (move_packets x mem))
       ∙ copies_are 0 (length x.table) 0 (λ k a q. omega (arith, q))
 
   spared : (i p : ℕ) → Spared (aperture c) (aperture (moved_core c b x mem n gs mj)) (touched (v.left i)) p
@@ -440,9 +440,9 @@ module _ (script : Script) (c : Core) (dues : Dues) (m : Memory) (bytes : pages.
   ghost_before : (i j : ℕ) → v.fences.ghost i j ≡ true → IsGhostly (moved_core c b x mem n gs mj) i j
   ghost_before i j h = ghostly_kept c (moved_core c b x mem n gs mj) (keep_more c.jobs (move_job c b x mem n gs mj)) i j t.ghosts_stay (s.ghost i j h)
 
-  old_steps : (i : ℕ) (y : Job) → slice_get c.jobs i ≡ Some y → steps_of (aperture (moved_core c b x mem n gs mj)) dues y ≡ steps_of (aperture c) dues y
+  old_steps : (i : ℕ) (y : Job) → slice_get c.jobs i ≡ Some y → steps_of (aperture (moved_core c b x mem n gs mj)) owed_probes y ≡ steps_of (aperture c) owed_probes y
   old_steps i y e =
-      steps_same (aperture c) (aperture (moved_core c b x mem n gs mj)) (dues y.id) y.ran (drop y.ran y.packets)
+      steps_same (aperture c) (aperture (moved_core c b x mem n gs mj)) (owed_probes y.id) y.ran (drop y.ran y.packets)
       (λ p. subst (λ l. Spared (aperture c) (aperture (moved_core c b x mem n gs mj)) (touched l) p) (s.left i y e) (spared i p))
 
   -- ---- to a ghost
@@ -475,9 +475,9 @@ module _ (script : Script) (c : Core) (dues : Dues) (m : Memory) (bytes : pages.
         only : list_any (same_job (record { ctx = 0; num = n })) (record { ctx = 0; num = n } ∷ []) ≡ true
         only = or_first (nat_eq 0 0 && nat_eq n n) false (ap (λ q. q) (eq-eqb n n refl))
 
-    to_ghost_seen : Seen script (moved_core c b x mem n gs mj) dues m bytes (entries.moved copied b.0 to (count_from 1 (length x.table) 0) (moved_to_ghost v.count b.0 gn (is_prior c.jobs (unfinished c (jobs_before_write x)) 0) v.fences) (owner_of (bare (moved_core c b x mem n gs mj))) v)
+    to_ghost_seen : Seen script (moved_core c b x mem n gs mj) owed_probes m bytes (entries.moved copied b.0 to (count_from 1 (length x.table) 0) (moved_to_ghost v.count b.0 gn (is_prior c.jobs (unfinished c (jobs_before_write x)) 0) v.fences) (owner_of (bare (moved_core c b x mem n gs mj))) v)
     to_ghost_seen =
-        emitted_seen script c dues dues m m bytes v s g (move_job c b x mem n gs mj) (changed (moved mem (record { ctx = 0; num = n })) c.buffers b) gs mj
+        emitted_seen script c owed_probes owed_probes m m bytes v s g (move_job c b x mem n gs mj) (changed (moved mem (record { ctx = 0; num = n })) c.buffers b) gs mj
         (moved_to_ghost v.count b.0 gn (is_prior c.jobs (unfinished c (jobs_before_write x)) 0) v.fences)
         (λ e k. cond (nat_eq b.0 e && has k (count_from 1 (length x.table) 0)) (to k) (v.place e k))
         (copies copied to (v.place b.0) (count_from 1 (length x.table) 0)) v.plain
@@ -496,7 +496,7 @@ module _ (script : Script) (c : Core) (dues : Dues) (m : Memory) (bytes : pages.
         })
         s.plain
 
-    pub to_ghost_viewed : Viewed script (moved_core c b x mem n gs mj) dues m bytes
+    pub to_ghost_viewed : Viewed script (moved_core c b x mem n gs mj) owed_probes m bytes
     to_ghost_viewed = record {
       view = entries.moved copied b.0 to (count_from 1 (length x.table) 0) (moved_to_ghost v.count b.0 gn (is_prior c.jobs (unfinished c (jobs_before_write x)) 0) v.fences) (owner_of (bare (moved_core c b x mem n gs mj))) v;
       good = to_ghost_good;
@@ -515,9 +515,9 @@ module _ (script : Script) (c : Core) (dues : Dues) (m : Memory) (bytes : pages.
         move_now_keeps no_bytes v g copied b.0 to (count_from 1 (length x.table) 0) (is_prior c.jobs (unfinished c (jobs_before_write x)) 0) (owner_of (bare (moved_core c b x mem n gs mj)))
         last_first (legal Free leaves)
 
-    now_seen : Seen script (moved_core c b x mem n gs mj) dues m bytes (entries.moved copied b.0 to (count_from 1 (length x.table) 0) (moved_now v.count b.0 (is_prior c.jobs (unfinished c (jobs_before_write x)) 0) v.fences) (owner_of (bare (moved_core c b x mem n gs mj))) v)
+    now_seen : Seen script (moved_core c b x mem n gs mj) owed_probes m bytes (entries.moved copied b.0 to (count_from 1 (length x.table) 0) (moved_now v.count b.0 (is_prior c.jobs (unfinished c (jobs_before_write x)) 0) v.fences) (owner_of (bare (moved_core c b x mem n gs mj))) v)
     now_seen =
-        emitted_seen script c dues dues m m bytes v s g (move_job c b x mem n gs mj) (changed (moved mem (record { ctx = 0; num = n })) c.buffers b) gs mj
+        emitted_seen script c owed_probes owed_probes m m bytes v s g (move_job c b x mem n gs mj) (changed (moved mem (record { ctx = 0; num = n })) c.buffers b) gs mj
         (moved_now v.count b.0 (is_prior c.jobs (unfinished c (jobs_before_write x)) 0) v.fences)
         (λ e k. cond (nat_eq b.0 e && has k (count_from 1 (length x.table) 0)) (to k) (v.place e k))
         (copies copied to (v.place b.0) (count_from 1 (length x.table) 0)) v.plain
@@ -543,7 +543,7 @@ module _ (script : Script) (c : Core) (dues : Dues) (m : Memory) (bytes : pages.
         })
         s.plain
 
-    pub now_viewed : Viewed script (moved_core c b x mem n gs mj) dues m bytes
+    pub now_viewed : Viewed script (moved_core c b x mem n gs mj) owed_probes m bytes
     now_viewed = record {
       view = entries.moved copied b.0 to (count_from 1 (length x.table) 0) (moved_now v.count b.0 (is_prior c.jobs (unfinished c (jobs_before_write x)) 0) v.fences) (owner_of (bare (moved_core c b x mem n gs mj))) v;
       good = now_good;

@@ -12,7 +12,7 @@ use Rattle.journal_model.specs.declared.state.Buffer.{Buffer}
 use Rattle.journal_model.specs.State.{live_in, new_buffer}
 use Rattle.journal_model.specs.Places.{aperture, page_at, page_in_table}
 use Rattle.journal_model.specs.Waits.{same_job, jobs_before_read, jobs_before_write}
-use Rattle.journal_model.specs.PlainMemory.{Memory, Dues, with_zeros}
+use Rattle.journal_model.specs.PlainMemory.{Memory, OwedProbes, with_zeros}
 use Rattle.laws.proofs.law_state.Lists.{set_at}
 use Rattle.laws.proofs.law_owners.Law.{AreHeldOnce}
 use Rattle.laws.specs.lemma_bytes_model.Memory.{Nowhere, Own, Bytes, touched}
@@ -32,9 +32,9 @@ use Rattle.laws.proofs.lemma_bytes_view.Apertures.{Spared, unmapped_spared}
 use Rattle.laws.proofs.lemma_bytes_view.Titles.{SameHolds, owners_same, retitled_seen}
 
 -- another memory with the same pages
-pub with_memory : (script : Script) (c : Core) (dues : Dues) (m m' : Memory) (bytes : pages.PageBytes) (v : View) → Seen script c dues m bytes v →
-    ((b i o : ℕ) → v.plain (Own b i) o ≡ (if nat_lt o 4096 then m' b (4096 * i + o) else 0)) → Seen script c dues m' bytes v
-with_memory script c dues m m' bytes v s plain = record {
+pub with_memory : (script : Script) (c : Core) (owed_probes : OwedProbes) (m m' : Memory) (bytes : pages.PageBytes) (v : View) → Seen script c owed_probes m bytes v →
+    ((b i o : ℕ) → v.plain (Own b i) o ≡ (if nat_lt o 4096 then m' b (4096 * i + o) else 0)) → Seen script c owed_probes m' bytes v
+with_memory script c owed_probes m m' bytes v s plain = record {
   count = s.count;
   left = s.left;
   begun = s.begun;
@@ -69,7 +69,7 @@ fresh_loc (suc n) (suc k) = fresh_loc n k
 pub fresh_page : (n k : ℕ) → page_at (new_buffer n) k ≡ pages.nowhere
 fresh_page n k = ap page_in_table (fresh_loc n k)
 
-module _ (script : Script) (c : Core) (dues : Dues) (m : Memory) (bytes : pages.PageBytes) (v : View) (s : Seen script c dues m bytes v) (g : Good no_bytes v)
+module _ (script : Script) (c : Core) (owed_probes : OwedProbes) (m : Memory) (bytes : pages.PageBytes) (v : View) (s : Seen script c owed_probes m bytes v) (g : Good no_bytes v)
     (b : BufId) (n : ℕ) (dead : live_in c.buffers b ≡ None) (once : AreHeldOnce script (record c { buffers = slice_set c.buffers b.0 (Some (new_buffer n)) })) where
   was_none : buffer_at c b.0 ≡ new_buffer 0
   was_none = ap (λ o. unwrap_or o (new_buffer 0)) dead
@@ -128,12 +128,12 @@ module _ (script : Script) (c : Core) (dues : Dues) (m : Memory) (bytes : pages.
           zero_either false = refl
       by false t = s.plain e i o
 
-  pub new_seen : Seen script (record c { buffers = slice_set c.buffers b.0 (Some (new_buffer n)) }) dues (with_zeros b m) bytes
+  pub new_seen : Seen script (record c { buffers = slice_set c.buffers b.0 (Some (new_buffer n)) }) owed_probes (with_zeros b m) bytes
       (retitled v.fences (owner_of (bare (record c { buffers = slice_set c.buffers b.0 (Some (new_buffer n)) }))) v)
   new_seen =
-      with_memory script (record c { buffers = slice_set c.buffers b.0 (Some (new_buffer n)) }) dues m (with_zeros b m) bytes
+      with_memory script (record c { buffers = slice_set c.buffers b.0 (Some (new_buffer n)) }) owed_probes m (with_zeros b m) bytes
       (retitled v.fences (owner_of (bare (record c { buffers = slice_set c.buffers b.0 (Some (new_buffer n)) }))) v)
-      (retitled_seen script c dues m bytes v (slice_set c.buffers b.0 (Some (new_buffer n))) c.ghosts v.fences s
+      (retitled_seen script c owed_probes m bytes v (slice_set c.buffers b.0 (Some (new_buffer n))) c.ghosts v.fences s
       (record {
         prior = refl;
         strong = λ e j h.

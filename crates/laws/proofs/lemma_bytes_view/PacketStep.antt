@@ -20,7 +20,7 @@ use Rattle.journal_model.specs.declared.state.Job.{Job}
 use Rattle.journal_model.specs.declared.entry.Kind.TheVariants as kind
 use Rattle.journal_model.specs.Places.{aperture}
 use Rattle.journal_model.specs.Stores.{is_there, within, job_packet}
-use Rattle.journal_model.specs.PlainMemory.{Memory, Dues}
+use Rattle.journal_model.specs.PlainMemory.{Memory, OwedProbes}
 use Rattle.journal_model.specs.Waits.{same_job, waited_for}
 use Rattle.journal_model.specs.Next.{next}
 use Rattle.journal_model.specs.ApplyJobs.{changed_job}
@@ -128,7 +128,7 @@ drop_head [] i x e = cc
 drop_head (y ∷ ys) zero x e = let same : y ≡ x = cc in ap (λ z. z ∷ ys) same
 drop_head (y ∷ ys) (suc i) x e = drop_head ys i x e
 
-module _ (script : Script) (s : State) (dues : Dues) (mem : Memory) (stores : pages.PageBytes) (v : View) (seen_so : Seen script s.core dues mem stores v) (g : Good no_bytes v)
+module _ (script : Script) (s : State) (owed_probes : OwedProbes) (mem : Memory) (stores : pages.PageBytes) (v : View) (seen_so : Seen script s.core owed_probes mem stores v) (g : Good no_bytes v)
     (engines : ℕ) (last : List ℕ) (jobs : GoodJobs engines last s.core.jobs) where
   -- a job whose context's earlier jobs are done, and for which none is waited
   pub ready_at : (e at : ℕ) (x : Job) → slice_get s.core.jobs at ≡ Some x → x.id.ctx ≡ e →
@@ -174,25 +174,25 @@ module _ (script : Script) (s : State) (dues : Dues) (mem : Memory) (stores : pa
 
   module _ (e n k : ℕ) (r : Running e n k) where
     abbrev pub step : Step
-    step = record { packet = meant (aperture s.core) r.packet; due = dues r.job.id r.job.ran }
+    step = record { packet = meant (aperture s.core) r.packet; due = owed_probes r.job.id r.job.ran }
 
     abbrev pub more : List Step
-    more = steps_from (aperture s.core) (dues r.job.id) (suc r.job.ran) (drop (suc r.job.ran) r.job.packets)
+    more = steps_from (aperture s.core) (owed_probes r.job.id) (suc r.job.ran) (drop (suc r.job.ran) r.job.packets)
 
     pub left_is : v.left r.at ≡ step ∷ more
-    left_is = seen_so.left r.at r.job r.here ∙ ap (steps_from (aperture s.core) (dues r.job.id) r.job.ran) (drop_head r.job.packets r.job.ran r.packet r.next)
+    left_is = seen_so.left r.at r.job r.here ∙ ap (steps_from (aperture s.core) (owed_probes r.job.id) r.job.ran) (drop_head r.job.packets r.job.ran r.packet r.next)
 
     pub good_after : Good no_bytes (packet_ran r.at step more v)
     good_after = packet_keeps no_bytes v g r.at step more left_is r.ready
 
     -- what the packet shows is due
-    pub shows : probe_piece (aperture s.core) stores (job_packet s.core (record { ctx = e; num = n }) k) ≡ dues (record { ctx = e; num = n }) k
+    pub shows : probe_piece (aperture s.core) stores (job_packet s.core (record { ctx = e; num = n }) k) ≡ owed_probes (record { ctx = e; num = n }) k
     shows =
         ap₂ (λ i m. probe_piece (aperture s.core) stores (job_packet s.core i m)) r.name r.number
         ∙ ap (probe_piece (aperture s.core) stores) (packet_is engines last s.core jobs r.at r.job r.packet r.here r.next)
         ∙ sym (shown_same script.sizes v.stores stores seen_so.stores seen_so.cut (aperture s.core) r.packet)
         ∙ shows_due no_bytes v g r.at step more left_is r.ready
-        ∙ ap₂ dues (sym r.name) (sym r.number)
+        ∙ ap₂ owed_probes (sym r.name) (sym r.number)
 
     touched_before : (i : ℕ) (x : Page) → touched (at_job r.at more v.left i) x ≡ true → touched (v.left i) x ≡ true
     touched_before =
@@ -218,17 +218,17 @@ module _ (script : Script) (s : State) (dues : Dues) (mem : Memory) (stores : pa
     new_core : Core
     new_core = record s.core { jobs = changed_job (λ j. record j { ran = j.ran + 1 }) (record { ctx = e; num = n }) s.core.jobs }
 
-    left_after : (i : ℕ) (x : Job) → Changed (λ j. record j { ran = j.ran + 1 }) (record { ctx = e; num = n }) s.core.jobs i x → at_job r.at more v.left i ≡ steps_of (aperture s.core) dues x
+    left_after : (i : ℕ) (x : Job) → Changed (λ j. record j { ran = j.ran + 1 }) (record { ctx = e; num = n }) s.core.jobs i x → at_job r.at more v.left i ≡ steps_of (aperture s.core) owed_probes x
     left_after i x ch =
         ⊎_elim
         (λ z.
         let at = at_is i ch.old ch.at z.0 in
         let one = is_job i ch.old ch.at at in
         at_same r.at i more v.left at
-        ∙ ap (λ m. steps_from (aperture s.core) (dues r.job.id) m (drop m r.job.packets)) (let w : suc r.job.ran ≡ r.job.ran + 1 = omega arith in w)
-        ∙ ap (λ (j : Job). steps_from (aperture s.core) (dues j.id) (j.ran + 1) (drop (j.ran + 1) j.packets)) one
-        ∙ ap (steps_of (aperture s.core) dues) (sym z.1))
-        (λ z. at_other r.at i more v.left (at_isnt i ch.old ch.at z.0) ∙ seen_so.left i ch.old ch.at ∙ ap (steps_of (aperture s.core) dues) (sym z.1))
+        ∙ ap (λ m. steps_from (aperture s.core) (owed_probes r.job.id) m (drop m r.job.packets)) (let w : suc r.job.ran ≡ r.job.ran + 1 = omega arith in w)
+        ∙ ap (λ (j : Job). steps_from (aperture s.core) (owed_probes j.id) (j.ran + 1) (drop (j.ran + 1) j.packets)) one
+        ∙ ap (steps_of (aperture s.core) owed_probes) (sym z.1))
+        (λ z. at_other r.at i more v.left (at_isnt i ch.old ch.at z.0) ∙ seen_so.left i ch.old ch.at ∙ ap (steps_of (aperture s.core) owed_probes) (sym z.1))
         ch.is
 
     begun_after : (i : ℕ) (x : Job) → Changed (λ j. record j { ran = j.ran + 1 }) (record { ctx = e; num = n }) s.core.jobs i x → at_job r.at true v.begun i ≡ nat_lt 0 x.ran
@@ -249,7 +249,7 @@ module _ (script : Script) (s : State) (dues : Dues) (mem : Memory) (stores : pa
     length-changed f id [] = refl
     length-changed f id (x ∷ xs) = ap suc (length-changed f id xs)
 
-    pub seen_after : Seen script (record s.core { jobs = changed_job (λ j. record j { ran = j.ran + 1 }) (record { ctx = e; num = n }) s.core.jobs }) dues mem
+    pub seen_after : Seen script (record s.core { jobs = changed_job (λ j. record j { ran = j.ran + 1 }) (record { ctx = e; num = n }) s.core.jobs }) owed_probes mem
         (within script.sizes (after_packet (aperture s.core) stores (job_packet s.core (record { ctx = e; num = n }) k))) (packet_ran r.at step more v)
     seen_after =
         let new : Core = record s.core { jobs = changed_job (λ j. record j { ran = j.ran + 1 }) (record { ctx = e; num = n }) s.core.jobs } in

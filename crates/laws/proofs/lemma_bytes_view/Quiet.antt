@@ -14,7 +14,7 @@ use Rattle.journal_model.specs.declared.state.Targets.{Targets}
 use Rattle.journal_model.specs.State.{changed, with_target}
 use Rattle.journal_model.specs.Places.{pages_of, aperture, mapped_in, page_in, page_at}
 use Rattle.journal_model.specs.Waits.{same_job, jobs_before_read, jobs_before_write, jobs_before_target}
-use Rattle.journal_model.specs.PlainMemory.{Memory, Dues}
+use Rattle.journal_model.specs.PlainMemory.{Memory, OwedProbes}
 use Rattle.journal_model.specs.ApplyPages.{with_spans, with_kernel_fences}
 use Rattle.journal_model.specs.ApplyVictims.{leaves_tt}
 use Rattle.laws.specs.lemma_bytes_model.View.{View, Good}
@@ -50,7 +50,7 @@ aperture_by live left = λ page. option_map (λ e. e.1) (find (λ e. e.0 == page
 pub aperture_same : (f : Buffer → Buffer) → ((x : Buffer) → mapped_in (f x).mem (f x) ≡ mapped_in x.mem x) → (c : Core) (b : BufId) → aperture (record c { buffers = changed f c.buffers b }) ≡ aperture c
 aperture_same f same c b = ap (λ l. aperture_by l (flat_map (λ g. zip (pages_of g.tt) g.frames) c.ghosts)) (maps_same f same c.buffers b.0)
 
-module _ (script : Script) (c : Core) (dues : Dues) (m : Memory) (stores : pages.PageBytes) (v : View) (s : Seen script c dues m stores v) (g : Good no_bytes v)
+module _ (script : Script) (c : Core) (owed_probes : OwedProbes) (m : Memory) (stores : pages.PageBytes) (v : View) (s : Seen script c owed_probes m stores v) (g : Good no_bytes v)
     (f : Buffer → Buffer) (b : BufId) (q : Quiet f) (once : HeldOnce (bare (record c { buffers = changed f c.buffers b }))) where
   abbrev pub after : Core
   after = record c { buffers = changed f c.buffers b }
@@ -66,9 +66,9 @@ module _ (script : Script) (c : Core) (dues : Dues) (m : Memory) (stores : pages
   pub quiet_good : Good no_bytes (retitled v.fences (owner_of (bare after)) v)
   quiet_good = untake_keeps no_bytes v g (owner_of (bare after)) (λ x. inl (owners_same (bare c) (bare after) once same_holds x ∙ sym (s.owner x)))
 
-  pub quiet_seen : Seen script after dues m stores (retitled v.fences (owner_of (bare after)) v)
+  pub quiet_seen : Seen script after owed_probes m stores (retitled v.fences (owner_of (bare after)) v)
   quiet_seen =
-      retitled_seen script c dues m stores v (changed f c.buffers b) c.ghosts v.fences s
+      retitled_seen script c owed_probes m stores v (changed f c.buffers b) c.ghosts v.fences s
       (record {
         prior = refl;
         strong = λ e j h.

@@ -12,14 +12,14 @@ use Rattle.journal_model.specs.State.{buffer_in}
 use Rattle.journal_model.specs.Places.{page_at}
 use Rattle.journal_model.specs.Waits.{waited_for, jobs_before_read}
 use Rattle.journal_model.specs.Stores.{byte_of, bytes_of}
-use Rattle.journal_model.specs.PlainMemory.{Memory, Dues, memory_range}
+use Rattle.journal_model.specs.PlainMemory.{Memory, OwedProbes, memory_range}
 use Rattle.laws.specs.lemma_bytes_model.View.{View, Good, is_fence}
 use Rattle.laws.proofs.lemma_bytes_model.Cpu.{cpu_reads}
 use Rattle.laws.proofs.lemma_bytes_view.World.{Seen}
 use Rattle.laws.proofs.lemma_bytes_view.Jobs.{waited_is_done}
 use Rattle.laws.proofs.lemma_bytes_view.PacketStep.{no_bytes}
 
-module _ (script : Script) (c : Core) (dues : Dues) (m : Memory) (bytes : pages.PageBytes) (v : View) (s : Seen script c dues m bytes v) (g : Good no_bytes v)
+module _ (script : Script) (c : Core) (owed_probes : OwedProbes) (m : Memory) (bytes : pages.PageBytes) (v : View) (s : Seen script c owed_probes m bytes v) (g : Good no_bytes v)
     (b : BufId) (none : waited_for c (jobs_before_read (buffer_in c b)) ≡ None) where
   writers_done : (j : ℕ) → is_fence v.fences b.0 true j ≡ true → v.done j ≡ true
   writers_done j h =

@@ -10,7 +10,7 @@ use Rattle.journal_model.specs.declared.state.Ghost as ghosts
 use Rattle.journal_model.specs.Places.{aperture}
 use Rattle.journal_model.specs.Holds.{has_number}
 use Rattle.journal_model.specs.Waits.{same_job, waited_for}
-use Rattle.journal_model.specs.PlainMemory.{Memory, Dues}
+use Rattle.journal_model.specs.PlainMemory.{Memory, OwedProbes}
 use Rattle.laws.proofs.law_owners.Law.{AreHeldOnce}
 use Rattle.laws.specs.lemma_bytes_model.Memory as memory
 use Rattle.laws.specs.lemma_bytes_model.Memory.{Page, Nowhere, Frame, touched, written}
@@ -94,7 +94,7 @@ pub record Leaving (c : Core) (n : ℕ) : Type 0 where
   pub only : (i : ℕ) (h : ghosts.Ghost) → slice_get c.ghosts i ≡ Some h → h.num ≡ n → h ≡ ghost
   pub waits : waited_for c ghost.jobs ≡ None
 
-module _ (script : Script) (c : Core) (dues : Dues) (m : Memory) (bytes : pages.PageBytes) (v : View) (s : Seen script c dues m bytes v) (g : Good no_bytes v)
+module _ (script : Script) (c : Core) (owed_probes : OwedProbes) (m : Memory) (bytes : pages.PageBytes) (v : View) (s : Seen script c owed_probes m bytes v) (g : Good no_bytes v)
     (n : ℕ) (l : Leaving c n) (before : HeldOnce (bare c)) (once : AreHeldOnce script (record c { ghosts = filter (λ h. not (h.num == n)) c.ghosts })) where
   abbrev fewer : List ghosts.Ghost
   fewer = filter (λ h. not (h.num == n)) c.ghosts
@@ -187,10 +187,10 @@ module _ (script : Script) (c : Core) (dues : Dues) (m : Memory) (bytes : pages.
       by None e = unmapped_spared v g (aperture c) (aperture (record c { ghosts = filter (λ h. not (h.num == n)) c.ghosts })) i p e
       by (Some q) e = found q e (aperture_maps c p q e)
 
-  pub reap_seen : Seen script (record c { ghosts = filter (λ h. not (h.num == n)) c.ghosts }) dues m bytes
+  pub reap_seen : Seen script (record c { ghosts = filter (λ h. not (h.num == n)) c.ghosts }) owed_probes m bytes
       (retitled (record v.fences { ghost = ghost_jobs }) (owner_of (bare (record c { ghosts = filter (λ h. not (h.num == n)) c.ghosts }))) v)
   reap_seen =
-      retitled_seen script c dues m bytes v c.buffers (filter (λ h. not (h.num == n)) c.ghosts) (record v.fences { ghost = ghost_jobs }) s
+      retitled_seen script c owed_probes m bytes v c.buffers (filter (λ h. not (h.num == n)) c.ghosts) (record v.fences { ghost = ghost_jobs }) s
       (record {
         prior = refl;
         strong = λ b j h. changing_kept c (record c { ghosts = filter (λ h. not (h.num == n)) c.ghosts }) (keep_all c.jobs) b j (λ i w. w) (s.strong b j h);

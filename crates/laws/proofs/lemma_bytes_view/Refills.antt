@@ -17,7 +17,7 @@ use Rattle.journal_model.specs.Places.{aperture, place_of, page_at, page_in_tabl
 use Rattle.journal_model.specs.Waits.{same_job, jobs_before_read, jobs_before_write}
 use Rattle.journal_model.specs.Stores.{is_there, within}
 use Rattle.journal_model.specs.Stores as stores
-use Rattle.journal_model.specs.PlainMemory.{Memory, Dues}
+use Rattle.journal_model.specs.PlainMemory.{Memory, OwedProbes}
 use Rattle.journal_model.specs.ApplyPages.{with_loc}
 use Rattle.laws.proofs.law_owners.Law.{AreHeldOnce}
 use Rattle.laws.specs.lemma_bytes_model.Memory.{Page, Nowhere, Vram, Frame, Slot, Own, same_page, touched}
@@ -54,7 +54,7 @@ table_unheld loc.Zero x e = ap unheld (sym e)
 table_unheld (loc.Frame f) x e = ap unheld (sym e)
 table_unheld (loc.Slot k) x e = ap unheld (sym e)
 
-module _ (script : Script) (c : Core) (dues : Dues) (m : Memory) (bytes : pages.PageBytes) (v : View) (s : Seen script c dues m bytes v) (g : Good no_bytes v)
+module _ (script : Script) (c : Core) (owed_probes : OwedProbes) (m : Memory) (bytes : pages.PageBytes) (v : View) (s : Seen script c owed_probes m bytes v) (g : Good no_bytes v)
     (b : BufId) (x : Buffer) (is : IsAt c b x) (i : ℕ) (l : Loc) (system : x.mem ≡ mem.System) (inside : i < length x.table)
     (before : HeldOnce (bare c)) (once : AreHeldOnce script (record c { buffers = changed (with_loc i l) c.buffers b }))
     (idle : v.owner (seen (page_in_table l)) ≡ Idle) (some : Nowhere ≡ seen (page_in_table l) → ⊥) (there : is_there script.sizes (page_in_table l) ≡ true)
@@ -250,13 +250,13 @@ module _ (script : Script) (c : Core) (dues : Dues) (m : Memory) (bytes : pages.
       cc)
       p
 
-  pub refill_seen : Seen script (record c { buffers = changed (with_loc i l) c.buffers b }) dues m (within script.sizes (stores.with_page_bytes (page_in_table l) (bytes (page_at x i)) bytes)) (relocated b.0 i (seen (page_in_table l)) v)
+  pub refill_seen : Seen script (record c { buffers = changed (with_loc i l) c.buffers b }) owed_probes m (within script.sizes (stores.with_page_bytes (page_in_table l) (bytes (page_at x i)) bytes)) (relocated b.0 i (seen (page_in_table l)) v)
   refill_seen = record {
     count = s.count;
     left = λ j y e.
         let was = s.left j y e in
         was
-        ∙ sym (steps_same (aperture c) (aperture (record c { buffers = changed (with_loc i l) c.buffers b })) (dues y.id) y.ran (drop y.ran y.packets)
+        ∙ sym (steps_same (aperture c) (aperture (record c { buffers = changed (with_loc i l) c.buffers b })) (owed_probes y.id) y.ran (drop y.ran y.packets)
         (λ p. subst (λ t. Spared (aperture c) (aperture (record c { buffers = changed (with_loc i l) c.buffers b })) (touched t) p) was (refill_spares j p)));
     begun = s.begun;
     done = s.done;

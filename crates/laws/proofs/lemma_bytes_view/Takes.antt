@@ -18,7 +18,7 @@ use Rattle.journal_model.specs.declared.state.Job.{Job}
 use Rattle.journal_model.specs.State.{changed, new_buffer, target_spans}
 use Rattle.journal_model.specs.Places.{pages_of, aperture, mapped_in, page_at, page_in, page_in_vram}
 use Rattle.journal_model.specs.Waits.{same_job, changes, is_unfinished, unfinished, jobs_before_read, jobs_before_write, jobs_before_target}
-use Rattle.journal_model.specs.PlainMemory.{Memory, Dues}
+use Rattle.journal_model.specs.PlainMemory.{Memory, OwedProbes}
 use Rattle.journal_model.specs.ApplyPages.{with_fence, with_kernel_fences, with_spans}
 use Rattle.laws.proofs.law_owners.Law.{AreHeldOnce}
 use Rattle.laws.specs.lemma_bytes_model.Memory as memory
@@ -140,7 +140,7 @@ unfinished_at (y ∷ ys) (suc j) x e h = second (same_job x.id y.id && not y.fin
     second true b h = refl
     second false b h = h
 
-module _ (script : Script) (c : Core) (dues : Dues) (m : Memory) (bytes : pages.PageBytes) (v : View) (s : Seen script c dues m bytes v) (g : Good no_bytes v)
+module _ (script : Script) (c : Core) (owed_probes : OwedProbes) (m : Memory) (bytes : pages.PageBytes) (v : View) (s : Seen script c owed_probes m bytes v) (g : Good no_bytes v)
     (b : BufId) (x : Buffer) (is : IsAt c b x) (spans : List Span) (untargeted : target_spans mem.Vram x ≡ [])
     (before : HeldOnce (bare c))
     (once : AreHeldOnce script (record c { buffers = changed (λ y. with_kernel_fences (jobs_before_target c mem.Vram) (with_spans mem.Vram (Some spans) y)) c.buffers b }))
@@ -316,10 +316,10 @@ module _ (script : Script) (c : Core) (dues : Dues) (m : Memory) (bytes : pages.
       mapped : (y : Buffer) → mapped_in (with_kernel_fences (jobs_before_target c mem.Vram) (with_spans mem.Vram (Some spans) y)).mem (with_kernel_fences (jobs_before_target c mem.Vram) (with_spans mem.Vram (Some spans) y)) ≡ mapped_in y.mem y
       mapped y = keeps (λ z. mapped_in z.mem z) (λ z job. fenced_mapped z.mem z job) (λ z. targeted_mapped z.mem z) y
 
-  pub take_seen : Seen script (record c { buffers = changed (λ y. with_kernel_fences (jobs_before_target c mem.Vram) (with_spans mem.Vram (Some spans) y)) c.buffers b }) dues m bytes
+  pub take_seen : Seen script (record c { buffers = changed (λ y. with_kernel_fences (jobs_before_target c mem.Vram) (with_spans mem.Vram (Some spans) y)) c.buffers b }) owed_probes m bytes
       (retitled (taking b.0 (λ j. is_mover v.fences.mover j && not (v.done j)) v.fences) (owner_of (bare (record c { buffers = changed (λ y. with_kernel_fences (jobs_before_target c mem.Vram) (with_spans mem.Vram (Some spans) y)) c.buffers b }))) v)
   take_seen =
-      retitled_seen script c dues m bytes v (changed (λ y. with_kernel_fences (jobs_before_target c mem.Vram) (with_spans mem.Vram (Some spans) y)) c.buffers b) c.ghosts
+      retitled_seen script c owed_probes m bytes v (changed (λ y. with_kernel_fences (jobs_before_target c mem.Vram) (with_spans mem.Vram (Some spans) y)) c.buffers b) c.ghosts
       (taking b.0 (λ j. is_mover v.fences.mover j && not (v.done j)) v.fences) s
       (record {
         prior = refl;

@@ -9,7 +9,7 @@ use Rattle.journal_model.specs.declared.state.Buffer.{Buffer}
 use Rattle.journal_model.specs.declared.state.Ghost as ghosts
 use Rattle.journal_model.specs.State.{live_in, changed, new_buffer}
 use Rattle.journal_model.specs.Places.{aperture, place_of}
-use Rattle.journal_model.specs.PlainMemory.{Memory, Dues}
+use Rattle.journal_model.specs.PlainMemory.{Memory, OwedProbes}
 use Rattle.laws.proofs.law_state.Lists.{live_changed}
 use Rattle.laws.specs.lemma_bytes_model.Memory as memory
 use Rattle.laws.specs.lemma_bytes_model.Memory.{Page, Nowhere, touched}
@@ -83,16 +83,16 @@ pub record Retitled (script : Script) (c : Core) (v : View) (buffers : List (Opt
   pub place : (b i : ℕ) → place_of (record c { buffers = buffers; ghosts = left }) (record { 0 = b }) i ≡ place_of c (record { 0 = b }) i
   pub spared : (i p : ℕ) → Spared (aperture c) (aperture (record c { buffers = buffers; ghosts = left })) (touched (v.left i)) p
 
-pub retitled_seen : (script : Script) (c : Core) (dues : Dues) (m : Memory) (stores : pages.PageBytes) (v : View) (buffers : List (Option Buffer)) (left : List ghosts.Ghost) (f : Fences) →
-    Seen script c dues m stores v → Retitled script c v buffers left f →
-    Seen script (record c { buffers = buffers; ghosts = left }) dues m stores (retitled f (owner_of (bare (record c { buffers = buffers; ghosts = left }))) v)
-retitled_seen script c dues m stores v buffers left f s r =
+pub retitled_seen : (script : Script) (c : Core) (owed_probes : OwedProbes) (m : Memory) (stores : pages.PageBytes) (v : View) (buffers : List (Option Buffer)) (left : List ghosts.Ghost) (f : Fences) →
+    Seen script c owed_probes m stores v → Retitled script c v buffers left f →
+    Seen script (record c { buffers = buffers; ghosts = left }) owed_probes m stores (retitled f (owner_of (bare (record c { buffers = buffers; ghosts = left }))) v)
+retitled_seen script c owed_probes m stores v buffers left f s r =
     record {
       count = s.count;
       left = λ i x e.
           let was = s.left i x e in
           was
-          ∙ sym (steps_same (aperture c) (aperture (record c { buffers = buffers; ghosts = left })) (dues x.id) x.ran (drop x.ran x.packets)
+          ∙ sym (steps_same (aperture c) (aperture (record c { buffers = buffers; ghosts = left })) (owed_probes x.id) x.ran (drop x.ran x.packets)
           (λ p. subst (λ l. Spared (aperture c) (aperture (record c { buffers = buffers; ghosts = left })) (touched l) p) was (r.spared i p)));
       begun = s.begun;
       done = s.done;

@@ -16,7 +16,7 @@ use Rattle.ttm_base.specs.declared.Fence.{Fence}
 use Rattle.journal_model.specs.declared.state.Ghost as ghosts
 use Rattle.journal_model.specs.State.{target_spans, live_in}
 use Rattle.journal_model.specs.Places.{pages_of, aperture, page_in_table, page_in_vram}
-use Rattle.journal_model.specs.PlainMemory.{Memory, Dues}
+use Rattle.journal_model.specs.PlainMemory.{Memory, OwedProbes}
 use Rattle.journal_model.specs.ApplyMoves.{moved, ghost_of_moved}
 use Rattle.laws.proofs.law_state.Lists.{get_pushed}
 use Rattle.laws.proofs.law_owners.Law.{AreHeldOnce}
@@ -34,7 +34,7 @@ use Rattle.laws.proofs.lemma_bytes_view.Moving.{moved_core, Moving, to_ghost_vie
 use Rattle.laws.proofs.lemma_bytes_view.Viewed.{Viewed}
 use Rattle.laws.proofs.lemma_bytes_view.Tables.{get_at, get_past, get_within, AllFrames, frame_at, frame_stands, frame_listed, zero_loc}
 
-module _ (script : Script) (c : Core) (dues : Dues) (m : Memory) (bytes : pages.PageBytes) (u : Viewed script c dues m bytes)
+module _ (script : Script) (c : Core) (owed_probes : OwedProbes) (m : Memory) (bytes : pages.PageBytes) (u : Viewed script c owed_probes m bytes)
     (b : BufId) (spans : List Span) (table : List Loc) (targets : Targets) (fences : List Fence) where
   -- the buffer in TT
   abbrev x : Buffer
@@ -46,7 +46,7 @@ module _ (script : Script) (c : Core) (dues : Dues) (m : Memory) (bytes : pages.
       (c.ghosts ++ ghost_of_moved (record { mem = mem.Tt; spans = spans; table = table; targets = targets; fences = fences }) (record { ctx = 0; num = n }) gn ∷ []) c.move_fence))
       (full : AllFrames table) (long : length (pages_of spans) ≡ length table)
       (target_long : length (pages_of (target_spans mem.Vram (record { mem = mem.Tt; spans = spans; table = table; targets = targets; fences = fences }))) ≡ length table)
-      (undue : (k : ℕ) → dues (record { ctx = 0; num = n }) k ≡ []) where
+      (undue : (k : ℕ) → owed_probes (record { ctx = 0; num = n }) k ≡ []) where
     abbrev left : ghosts.Ghost
     left = ghost_of_moved x (record { ctx = 0; num = n }) gn
 
@@ -112,7 +112,7 @@ module _ (script : Script) (c : Core) (dues : Dues) (m : Memory) (bytes : pages.
     mapped_here : (k p f : ℕ) → slice_get (pages_of spans) k ≡ Some p → slice_get table k ≡ Some (loc.Frame f) → aperture d p ≡ Some f
     mapped_here k p f e h = maps_aperture script d once p f (maps_stay p f (inl (record { b = b; buffer = x; live = is.live; mem = refl; at = k; here = e; there = h })))
 
-    moving : Moving script c b x mem.Vram n gs c.move_fence dues (λ k. target_at x k)
+    moving : Moving script c b x mem.Vram n gs c.move_fence owed_probes (λ k. target_at x k)
     moving = record {
       held = held;
       once = once;
@@ -146,5 +146,5 @@ module _ (script : Script) (c : Core) (dues : Dues) (m : Memory) (bytes : pages.
         ap (owner_of (bare d)) f.is_there
         ∙ owner_is (bare d) (held_once script (bare d) once) (Frame f.frame) (Ghost gn) (λ e. cc) (length c.ghosts, left, get_last c.ghosts left, refl, frame_listed table k f.frame f.at)
 
-    pub up_viewed : Viewed script d dues m bytes
-    up_viewed = to_ghost_viewed script c dues m bytes u.view u.seen u.good b x is mem.Vram n gs c.move_fence (λ k. target_at x k) moving gn leaves (length c.ghosts) left (get_last c.ghosts left) refl refl refl
+    pub up_viewed : Viewed script d owed_probes m bytes
+    up_viewed = to_ghost_viewed script c owed_probes m bytes u.view u.seen u.good b x is mem.Vram n gs c.move_fence (λ k. target_at x k) moving gn leaves (length c.ghosts) left (get_last c.ghosts left) refl refl refl

@@ -3,7 +3,7 @@ use Rattle.std.proofs.Common.{◌≡◌, [], None}
 use Rattle.ttm_base.specs.Pages as pages
 use Rattle.journal_model.specs.declared.script.Script.{Script}
 use Rattle.journal_model.specs.declared.state.Core.{Core}
-use Rattle.journal_model.specs.PlainMemory.{Memory, Dues}
+use Rattle.journal_model.specs.PlainMemory.{Memory, OwedProbes}
 use Rattle.laws.specs.lemma_bytes_model.View.{View}
 pub use Rattle.laws.specs.lemma_bytes_view.World.{Before, IsChanging, IsUsing, IsGhostly, IsMover}
 use Rattle.laws.specs.lemma_bytes_view.World.{SeenBy}
@@ -14,5 +14,5 @@ abbrev pub bare : Core → Core
 bare c = record { buffers = c.buffers; jobs = []; ghosts = c.ghosts; move_fence = None }
 
 -- the owners are those of the state
-abbrev pub Seen : Script → Core → Dues → Memory → pages.PageBytes → View → Type 0
-Seen script c dues memory bytes v = SeenBy (λ x o. o ≡ owner_of (bare c) x) script c dues memory bytes v
+abbrev pub Seen : Script → Core → OwedProbes → Memory → pages.PageBytes → View → Type 0
+Seen script c owed_probes memory bytes v = SeenBy (λ x o. o ≡ owner_of (bare c) x) script c owed_probes memory bytes v

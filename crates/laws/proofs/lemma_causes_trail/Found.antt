@@ -29,10 +29,10 @@ use Rattle.journal_model.specs.Places.{loc_of}
 use Rattle.journal_model.specs.Holds.{free_frame, free_slot}
 use Rattle.journal_model.specs.Choice.{choice, choice_in}
 use Rattle.journal_model.specs.Dry.{is_long_enough, victim, ghost_in, is_dry, causes, swap_victim, ghost_with_frame}
-use Rattle.journal_model.specs.Search.{Step, Quest, why_of, step_of_crowded, step_of_forced_place, step_of_forced, first_choice, step_of_quest}
+use Rattle.journal_model.specs.Search.{Step, PlaceSearch, why_of, step_of_crowded, step_of_forced_place, step_of_forced, first_choice, step_of_place_search}
 use Rattle.journal_model.specs.PageSteps.{page_to_fill, filled_by, step_without_victim, step_without_frame, step_of_fill}
 use Rattle.journal_model.specs.Causes.{presses}
-use Rattle.laws.proofs.law_sound.Grips.{IsFree, victim_free}
+use Rattle.laws.proofs.law_sound.Reservations.{IsFree, victim_free}
 use Rattle.laws.specs.lemma_causes_trail.Explained.{explanation}
 
 -- no place that is tried first has a choice
@@ -40,10 +40,10 @@ abbrev pub no_first : Script → State → BufId → List FlaggedPlace → Bool
 no_first script s b list = list_all (λ place. is_none (choice script s.core b place)) (first_places list)
 
 -- where it isn't yet under pressure
-abbrev pub Unchosen : Script → State → BufId → Quest → Type 0
+abbrev pub Unchosen : Script → State → BufId → PlaceSearch → Type 0
 Unchosen script s b q = q.forced ≡ false → no_first script s b q.list ≡ true
 
-pub data Found (script : Script) (s : State) (c : Course) (b : BufId) (q : Quest) : Kind → Type 0 where
+pub data Found (script : Script) (s : State) (c : Course) (b : BufId) (q : PlaceSearch) : Kind → Type 0 where
   takes : {mem : Mem} {spans : List Span} → Found script s c b q (kind.Take b mem spans)
   catches : {v : BufId} {w : Why} → Unchosen script s b q → presses (kind.Catch v w) ≡ true → IsFree s v → Found script s c b q (kind.Catch v w)
   dries : {w : DryWhy} (place : Place) → slice_get (forced_places q.list) q.dry ≡ Some place → is_dry script s c.skips b place ≡ true → w ≡ explanation script s b place → Unchosen script s b q → Found script s c b q (kind.Dry b q.dry w)
@@ -60,7 +60,7 @@ why_presses v System n = absurd (n refl)
 why_presses v Tt n = refl
 why_presses v Vram n = refl
 
-module _ (script : Script) (s : State) (c : Course) (b : BufId) (q : Quest) where
+module _ (script : Script) (s : State) (c : Course) (b : BufId) (q : PlaceSearch) where
   short_dry : (place : Place) → is_long_enough script b place ≡ false → is_dry script s c.skips b place ≡ true
   short_dry place e = ap (λ l. not l || (is_none (choice script s.core b place) && is_none (victim script s c.skips place) && is_none (ghost_in script s place))) e
 
@@ -124,8 +124,8 @@ module _ (script : Script) (s : State) (c : Course) (b : BufId) (q : Quest) wher
       by later (Some spans) h = cc
       by later None h = later h
 
-  pub quest_found : (k : Kind) → step_of_quest script s c b q ≡ Ok k → Found script s c b q k
-  quest_found k h = by_forced q.forced refl h
+  pub place_search_found : (k : Kind) → step_of_place_search script s c b q ≡ Ok k → Found script s c b q k
+  place_search_found k h = by_forced q.forced refl h
     where
       by_first : q.forced ≡ false → (o : Option (Mem × List Span)) → first_choice script s b (first_places q.list) ≡ o →
           ◌≡◌ {A = Step} (elim o [ Some found ↦ Ok (kind.Take b found.0 found.1) | None ↦ step_of_forced script s c b q.dry (forced_places q.list) ]) (Ok k) → Found script s c b q k

@@ -28,7 +28,7 @@ use Rattle.journal_model.specs.Commands.{decl, named, command_at_work}
 use Rattle.journal_model.specs.Places.{is_frame}
 use Rattle.journal_model.specs.Dry.{has_frame}
 use Rattle.journal_model.specs.Ready.{has_all_frames, is_in_place, is_filled, is_ready, uses_bytes, first_unready}
-use Rattle.journal_model.specs.Search.{Quest}
+use Rattle.journal_model.specs.Search.{PlaceSearch}
 use Rattle.journal_model.specs.Apply.{applied, thread_of}
 use Rattle.journal_model.specs.ApplyCommands.{named_in}
 use Rattle.journal_model.specs.ApplyJobs.{with_use, ops_of}
@@ -39,9 +39,9 @@ use Rattle.journal_model.specs.Legal.{first_state}
 use Rattle.laws.proofs.law_state.Lists.{set_at, live_changed}
 use Rattle.laws.proofs.law_sound.Along.{Stepped, OfWorker, packet, done, reap}
 use Rattle.laws.proofs.law_sound.Turns.{Turn, victim_move, victim_fill, fill_in_place, fill_to_bind, fill_to_move, move_up, move_across, move_down}
-use Rattle.laws.proofs.law_sound.Gifts.{Gives, Sought, Filled, answers, makes, exists, shifts, draws, no_buffer, reserves, backs, seeks, binds, unbinds, moves, fills, lets_go, empties, depopulates, untakes, skips, gives_up, refuses, arms, frees, swaps, no_swap, acts, finds, evicts, dries, fresh, again, back, evicts_for_swap, nothing}
+use Rattle.laws.proofs.law_sound.Gifts.{Gives, SearchOutcome, Filled, answers, makes, exists, shifts, draws, no_buffer, reserves, backs, seeks, binds, unbinds, moves, fills, lets_go, empties, depopulates, untakes, skips, gives_up, refuses, arms, frees, swaps, no_swap, acts, finds, evicts, dries, fresh, again, back, evicts_for_swap, nothing}
 use Rattle.laws.proofs.law_sound.Bufs.{same_or_other, found_passes, clash}
-use Rattle.laws.proofs.law_sound.Grips.{live_set}
+use Rattle.laws.proofs.law_sound.Reservations.{live_set}
 use Rattle.laws.proofs.lemma_end_ways.Takes.{taken, taken_body}
 use Rattle.laws.proofs.lemma_end_ways.Spanless.{first_live}
 
@@ -191,7 +191,7 @@ module _ (script : Script) (s : State) (c : Course) (cmd : Command) where
   moved_suits b mem (move_across on q) e m = let z : Vram ≡ System = sym on.stands ∙ m in cc
   moved_suits b mem (move_down on q r p) e m = cc
 
-  sought_suits : (b : BufId) (k : Kind) {q : Quest} → Sought script s c b q k → Suits s k
+  sought_suits : (b : BufId) (k : Kind) {q : PlaceSearch} → SearchOutcome script s c b q k → Suits s k
   sought_suits b k (finds place w m e) = tt
   sought_suits b k (evicts place a n e f) = tt
   sought_suits b k (dries place a n) = tt

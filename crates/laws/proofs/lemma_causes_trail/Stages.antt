@@ -15,7 +15,7 @@ use Rattle.journal_model.specs.declared.script.Command.{Command}
 use Rattle.journal_model.specs.declared.state.State.{State}
 use Rattle.journal_model.specs.declared.state.Course.{Course}
 use Rattle.journal_model.specs.declared.state.Victim.{Victim}
-use Rattle.journal_model.specs.declared.state.Aim.{Aim}
+use Rattle.journal_model.specs.declared.state.SearchAim.{SearchAim}
 use Rattle.journal_model.specs.declared.entry.Kind.{Kind}
 use Rattle.journal_model.specs.declared.entry.Kind.TheVariants as kind
 use Rattle.journal_model.specs.declared.entry.Shown.{Shown}
@@ -24,7 +24,7 @@ use Rattle.journal_model.specs.declared.entry.Why.TheVariants as why
 use Rattle.journal_model.specs.declared.entry.DryWhy.{DryWhy}
 use Rattle.journal_model.specs.State.{course, same_buffer, has_buffer}
 use Rattle.journal_model.specs.Commands.{named, command_at_work}
-use Rattle.journal_model.specs.Search.{quest_at_work, is_caught}
+use Rattle.journal_model.specs.Search.{place_search_at_work, is_caught}
 use Rattle.journal_model.specs.ApplyPages.{search_over}
 use Rattle.journal_model.specs.ApplyVictims.{failed_if, with_fail, gone_dry, course_after_dry, with_victim}
 use Rattle.journal_model.specs.Legal.{Made}
@@ -52,7 +52,7 @@ pub record Pressed (script : Script) (s : State) (j : List Made) (t : ℕ) (c : 
   pub works : Works c cmd
   pub fine : c.fail ≡ None
   pub b : BufId
-  pub aim : Aim
+  pub aim : SearchAim
   pub seeking : Seeking script s cmd b aim
   pub trail : Trail script t b (places_of script cmd b aim) c.dry (search_of script t b j)
   pub quiet : (d : BufId) → (d ≡ b → ⊥) → Quiet script t d j
@@ -189,7 +189,7 @@ fail_keeps b d c cmd e =
 dry_keeps : (script : Script) (s : State) (b : BufId) (k : ℕ) (o : Option Command) (c : Course) (cmd : Command) → is_caught c b ≡ true → Keeps c (course_after_dry script s b k o c) cmd
 dry_keeps script s b k None c cmd e = ((λ w. w), refl, refl)
 dry_keeps script s b k (Some x) c cmd e =
-    subst (λ q. Keeps c (if q then with_fail b deny.NoSpace c else gone_dry k (length (forced_places (quest_at_work script s c x b).list)) c) cmd) (sym e) (fail_keeps b deny.NoSpace c cmd e)
+    subst (λ q. Keeps c (if q then with_fail b deny.NoSpace c else gone_dry k (length (forced_places (place_search_at_work script s c x b).list)) c) cmd) (sym e) (fail_keeps b deny.NoSpace c cmd e)
 
 module _ (script : Script) (s : State) (t : ℕ) (cmd : Command) (v : BufId) (mine : is_caught (course s t) v ≡ true) where
   also : (b : BufId) → same_buffer v b ≡ true → is_caught (course s t) b ≡ true

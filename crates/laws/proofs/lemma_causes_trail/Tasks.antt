@@ -15,56 +15,56 @@ use Rattle.journal_model.specs.declared.state.State.{State}
 use Rattle.journal_model.specs.declared.state.Course.{Course}
 use Rattle.journal_model.specs.declared.state.Victim.{Victim}
 use Rattle.journal_model.specs.declared.state.Buffer.{Buffer}
-use Rattle.journal_model.specs.declared.state.Aim.{Aim}
-use Rattle.journal_model.specs.declared.state.Aim.TheVariants.{Asked, Hop}
+use Rattle.journal_model.specs.declared.state.SearchAim.{SearchAim}
+use Rattle.journal_model.specs.declared.state.SearchAim.TheVariants.{Asked, Hop}
 use Rattle.journal_model.specs.declared.state.Task.{Task}
 use Rattle.journal_model.specs.declared.state.Task.TheVariants as task
 use Rattle.journal_model.specs.declared.entry.Why.{Why}
 use Rattle.journal_model.specs.declared.entry.Why.TheVariants as why
 use Rattle.journal_model.specs.declared.entry.Kind.{Kind}
 use Rattle.journal_model.specs.declared.entry.Kind.TheVariants as kind
-use Rattle.journal_model.specs.State.{buffer, grip, same_buffer, has_buffer, has_target}
+use Rattle.journal_model.specs.State.{buffer, reservation, same_buffer, has_buffer, has_target}
 use Rattle.journal_model.specs.Commands.{named, asked_places}
 use Rattle.journal_model.specs.Ready.{has_some_target, is_in_place, is_filled, is_ready, first_unready}
-use Rattle.journal_model.specs.Search.{Quest, quest, is_caught, through_tt, aim_of}
+use Rattle.journal_model.specs.Search.{PlaceSearch, place_search, is_caught, through_tt, aim_of}
 use Rattle.journal_model.specs.Tasks.{starts, first_missing, filled_then, gives_back, forbidden, carried, task_of_failed, task_of_misplaced, task_of_unready, task_of_held, task_of_victim, task_of_command}
 use Rattle.journal_model.specs.Next.{step_of_task}
 use Rattle.laws.proofs.law_sound.Turns.{Turn, Works, OnVictim, OnNamed, OnBuffer, OnMisplaced, OnCarried, answer, start, lock, victim_unbind, victim_empty, victim_give, victim_skip, victim_move, victim_fill, victim_search, refuse, give, give_up, act, fill_in_place, ask, bind, fill_to_bind, hop_up, unbind, move_up, move_across, move_down, fill_to_move, hop_down}
-use Rattle.laws.proofs.law_sound.Gifts.{Gives, Sought, Filled, task_gives, answers, makes, exists, shifts, draws, no_buffer, reserves, backs, seeks, binds, unbinds, moves, fills, lets_go, empties, depopulates, untakes, skips, gives_up, refuses, arms, frees, swaps, no_swap, acts, finds, evicts, dries, fresh, again, back, evicts_for_swap, nothing}
+use Rattle.laws.proofs.law_sound.Gifts.{Gives, SearchOutcome, Filled, task_gives, answers, makes, exists, shifts, draws, no_buffer, reserves, backs, seeks, binds, unbinds, moves, fills, lets_go, empties, depopulates, untakes, skips, gives_up, refuses, arms, frees, swaps, no_swap, acts, finds, evicts, dries, fresh, again, back, evicts_for_swap, nothing}
 use Rattle.laws.proofs.law_sound.Bufs.{same_self, has_found, clash}
-use Rattle.laws.proofs.law_sound.Grips.{IsFree, victim_free, swap_free}
+use Rattle.laws.proofs.law_sound.Reservations.{IsFree, victim_free, swap_free}
 
--- ---- quests
+-- ---- place_searches
 
 -- where a command looks for pages for a buffer
-abbrev pub places_of : Script → Command → BufId → Aim → List FlaggedPlace
+abbrev pub places_of : Script → Command → BufId → SearchAim → List FlaggedPlace
 places_of script cmd b Asked = asked_places script cmd b
 places_of script cmd b Hop = through_tt
 
--- the quest of a hop, by whether the buffer is a victim
-abbrev hopping : Course → Bool → Quest
+-- the place_search of a hop, by whether the buffer is a victim
+abbrev hopping : Course → Bool → PlaceSearch
 hopping c q = if q then record { list = through_tt; forced = false; dry = 0 } else record { list = through_tt; forced = c.forced; dry = c.dry }
 
-pub quest_places : (script : Script) (cmd : Command) (c : Course) (b : BufId) (aim : Aim) → (quest script cmd c b aim).list ≡ places_of script cmd b aim
-quest_places script cmd c b Asked = refl
-quest_places script cmd c b Hop = by (is_caught c b)
+pub place_search_places : (script : Script) (cmd : Command) (c : Course) (b : BufId) (aim : SearchAim) → (place_search script cmd c b aim).list ≡ places_of script cmd b aim
+place_search_places script cmd c b Asked = refl
+place_search_places script cmd c b Hop = by (is_caught c b)
   where
     by : (q : Bool) → (hopping c q).list ≡ through_tt
     by true = refl
     by false = refl
 
-pub quest_forced : (script : Script) (cmd : Command) (c : Course) (b : BufId) (aim : Aim) → is_caught c b ≡ false → (quest script cmd c b aim).forced ≡ c.forced
-quest_forced script cmd c b Asked e = refl
-quest_forced script cmd c b Hop e = ap (λ q. (hopping c q).forced) e
+pub place_search_forced : (script : Script) (cmd : Command) (c : Course) (b : BufId) (aim : SearchAim) → is_caught c b ≡ false → (place_search script cmd c b aim).forced ≡ c.forced
+place_search_forced script cmd c b Asked e = refl
+place_search_forced script cmd c b Hop e = ap (λ q. (hopping c q).forced) e
 
-pub quest_dry : (script : Script) (cmd : Command) (c : Course) (b : BufId) (aim : Aim) → is_caught c b ≡ false → (quest script cmd c b aim).dry ≡ c.dry
-quest_dry script cmd c b Asked e = refl
-quest_dry script cmd c b Hop e = ap (λ q. (hopping c q).dry) e
+pub place_search_dry : (script : Script) (cmd : Command) (c : Course) (b : BufId) (aim : SearchAim) → is_caught c b ≡ false → (place_search script cmd c b aim).dry ≡ c.dry
+place_search_dry script cmd c b Asked e = refl
+place_search_dry script cmd c b Hop e = ap (λ q. (hopping c q).dry) e
 
 -- ---- a named buffer that searches
 
 -- where the search of a buffer that is no victim goes
-abbrev pub named_aim : Buffer → Aim
+abbrev pub named_aim : Buffer → SearchAim
 named_aim x = if has_some_target x then Hop else Asked
 
 pub aim_is_named : (c : Course) (b : BufId) (x : Buffer) → is_caught c b ≡ false → aim_of c b x ≡ named_aim x
@@ -74,7 +74,7 @@ aim_is_named c b x e = ap (λ q. if q || has_some_target x then Hop else Asked) 
 abbrev pub way_of : BufId → Buffer → Task
 way_of b x = elim (has_some_target x) [ true ↦ carried x.mem b x | false ↦ task.Search b Asked ]
 
-pub record Seeking (script : Script) (s : State) (cmd : Command) (b : BufId) (aim : Aim) : Type 0 where
+pub record Seeking (script : Script) (s : State) (cmd : Command) (b : BufId) (aim : SearchAim) : Type 0 where
   pub first : first_unready script s cmd ≡ Some b
   pub misplaced : is_in_place script cmd b (buffer s b) ≡ false
   pub way : way_of b (buffer s b) ≡ task.Search b aim
@@ -101,11 +101,11 @@ module _ (script : Script) (s : State) (c : Course) (cmd : Command) where
   none_some v e f = let it : None ≡ Some v = sym e ∙ f in cc
 
   -- a search is a victim's, or that of a named buffer
-  pub data Searcher (b : BufId) (aim : Aim) : Type 0 where
+  pub data Searcher (b : BufId) (aim : SearchAim) : Type 0 where
     victims : (v : Victim) → OnVictim c cmd v → v.why ≡ why.Vram → b ≡ v.b → aim ≡ Hop → Searcher b aim
     named_one : OnNamed s c cmd → c.fail ≡ None → Seeking script s cmd b aim → Searcher b aim
 
-  pub searcher_of : (b : BufId) (aim : Aim) → Turn script s c cmd (task.Search b aim) → Searcher b aim
+  pub searcher_of : (b : BufId) (aim : SearchAim) → Turn script s c cmd (task.Search b aim) → Searcher b aim
   searcher_of b aim (victim_search v on i f q) = victims v on i.why refl refl
   searcher_of b aim (ask on n) =
       named_one on.on.named on.on.fine
@@ -167,12 +167,12 @@ module _ (script : Script) (s : State) (c : Course) (cmd : Command) where
       by false false None None e f g h = refl
 
   -- refused, or it searches
-  pub searching_task : (b : BufId) (aim : Aim) → Works c cmd → last_of c.caught ≡ None → c.fail ≡ None → Seeking script s cmd b aim →
+  pub searching_task : (b : BufId) (aim : SearchAim) → Works c cmd → last_of c.caught ≡ None → c.fail ≡ None → Seeking script s cmd b aim →
       ((d : Deny) × (task_of_command script s c cmd ≡ task.Refuse d)) ⊎ (task_of_command script s c cmd ≡ task.Search b aim)
   searching_task b aim w l f k = by_ban (forbidden s cmd) refl
     where
-      misplaced : task_of_unready script s cmd b ≡ task_of_misplaced b (grip s b) (buffer s b)
-      misplaced = ap (λ q. elim q [ true ↦ task.Fill b | false ↦ task_of_misplaced b (grip s b) (buffer s b) ]) k.misplaced
+      misplaced : task_of_unready script s cmd b ≡ task_of_misplaced b (reservation s b) (buffer s b)
+      misplaced = ap (λ q. elim q [ true ↦ task.Fill b | false ↦ task_of_misplaced b (reservation s b) (buffer s b) ]) k.misplaced
 
       held : forbidden s cmd ≡ None → task_of_held script s c cmd ≡ task_of_unready script s cmd b
       held e =
@@ -189,13 +189,13 @@ module _ (script : Script) (s : State) (c : Course) (cmd : Command) where
           ]) f
           ∙ ap (λ o. elim o [ Some b ↦ task_of_unready script s cmd b | None ↦ task.Act ]) k.first)
 
-      by_pins : (q : Bool) → nat_lt 0 (grip s b).pins ≡ q →
-          ((d : Deny) × (task_of_misplaced b (grip s b) (buffer s b) ≡ task.Refuse d)) ⊎ (task_of_misplaced b (grip s b) (buffer s b) ≡ task.Search b aim)
+      by_pins : (q : Bool) → nat_lt 0 (reservation s b).pins ≡ q →
+          ((d : Deny) × (task_of_misplaced b (reservation s b) (buffer s b) ≡ task.Refuse d)) ⊎ (task_of_misplaced b (reservation s b) (buffer s b) ≡ task.Search b aim)
       by_pins true e = inl (deny.Pinned, ap (λ q. elim q [ true ↦ task.Refuse deny.Pinned | false ↦ way_of b (buffer s b) ]) e)
       by_pins false e = inr (ap (λ q. elim q [ true ↦ task.Refuse deny.Pinned | false ↦ way_of b (buffer s b) ]) e ∙ k.way)
 
-      onward : task_of_command script s c cmd ≡ task_of_misplaced b (grip s b) (buffer s b) →
-          ((d : Deny) × (task_of_misplaced b (grip s b) (buffer s b) ≡ task.Refuse d)) ⊎ (task_of_misplaced b (grip s b) (buffer s b) ≡ task.Search b aim) →
+      onward : task_of_command script s c cmd ≡ task_of_misplaced b (reservation s b) (buffer s b) →
+          ((d : Deny) × (task_of_misplaced b (reservation s b) (buffer s b) ≡ task.Refuse d)) ⊎ (task_of_misplaced b (reservation s b) (buffer s b) ≡ task.Search b aim) →
           ((d : Deny) × (task_of_command script s c cmd ≡ task.Refuse d)) ⊎ (task_of_command script s c cmd ≡ task.Search b aim)
       onward e (inl r) = inl (r.0, e ∙ r.1)
       onward e (inr r) = inr (e ∙ r)
@@ -213,7 +213,7 @@ module _ (script : Script) (s : State) (c : Course) (cmd : Command) where
                   ]
                 ]) e,
           )
-      by_ban None e = onward (held_task w l ∙ (held e ∙ misplaced)) (by_pins (nat_lt 0 (grip s b).pins) refl)
+      by_ban None e = onward (held_task w l ∙ (held e ∙ misplaced)) (by_pins (nat_lt 0 (reservation s b).pins) refl)
 
   -- what a failed command does
   pub data Closes : Task → Type 0 where
@@ -289,10 +289,10 @@ module _ (script : Script) (s : State) (c : Course) (cmd : Command) where
       by k (evicts_for_swap {slot} {v} f e) = one_more (swap_free s v e)
       by k (nothing f) = on_it (same_self b)
 
-  on_search : (b : BufId) (aim : Aim) (k : Kind) → Gives script s c cmd (task.Search b aim) k → Aside b k
+  on_search : (b : BufId) (aim : SearchAim) (k : Kind) → Gives script s c cmd (task.Search b aim) k → Aside b k
   on_search b aim k (seeks f) = by k f
     where
-      by : (k : Kind) → Sought script s c b (quest script cmd c b aim) k → Aside b k
+      by : (k : Kind) → SearchOutcome script s c b (place_search script cmd c b aim) k → Aside b k
       by k (finds place w m e) = on_it (same_self b)
       by k (evicts place {v} {w} a n e f) = one_more (victim_free script s c.skips place v f)
       by k (dries place a n) = on_it (same_self b)
@@ -342,7 +342,7 @@ find_same p q (b ∷ bs) h =
     ap₂ (λ x o. cond x (Some b) o) (h b (or_left (same_buffer b b) (has_buffer bs b) (same_self b))) (find_same p q bs (λ d k. h d (or_right (same_buffer d b) (has_buffer bs d) k)))
 
 -- a search goes on where the named buffers stay
-pub seeking_same : (script : Script) (s s' : State) (cmd : Command) (b : BufId) (aim : Aim) → ((d : BufId) → has_buffer (named cmd) d ≡ true → buffer s' d ≡ buffer s d) → Seeking script s cmd b aim → Seeking script s' cmd b aim
+pub seeking_same : (script : Script) (s s' : State) (cmd : Command) (b : BufId) (aim : SearchAim) → ((d : BufId) → has_buffer (named cmd) d ≡ true → buffer s' d ≡ buffer s d) → Seeking script s cmd b aim → Seeking script s' cmd b aim
 seeking_same script s s' cmd b aim same k =
     let is = same b (has_found (λ y. not (is_ready script s cmd y)) (named cmd) b k.first) in
     record {

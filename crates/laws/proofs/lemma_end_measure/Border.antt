@@ -32,7 +32,7 @@ use Rattle.laws.proofs.law_sound.Turns.{OnNamed, Works}
 use Rattle.laws.proofs.law_sound.Bufs.{none_last}
 use Rattle.laws.proofs.law_sound.Steadies.{next_course, own_course}
 use Rattle.laws.proofs.law_sound.Owners.{OneCourse}
-use Rattle.laws.proofs.law_sound.Grips.{one_course}
+use Rattle.laws.proofs.law_sound.Reservations.{one_course}
 use Rattle.laws.proofs.lemma_end_measure.Locks.{locks_most}
 use Rattle.laws.proofs.lemma_end_measure.Frame.{left_of, left_is, others_left, others_buffer}
 use Rattle.laws.proofs.lemma_end_measure.Working.{phase, phase_is, working_most, command_least, working_least}

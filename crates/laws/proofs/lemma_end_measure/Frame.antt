@@ -17,9 +17,9 @@ use Rattle.journal_model.specs.declared.state.Task.{Task}
 use Rattle.journal_model.specs.declared.state.Task.TheVariants as task
 use Rattle.journal_model.specs.declared.entry.Kind.{Kind}
 use Rattle.journal_model.specs.declared.entry.Kind.TheVariants as kind
-use Rattle.journal_model.specs.State.{new_buffer, same_buffer, has_buffer, live_in, is_live, buffer, changed, grip, course}
+use Rattle.journal_model.specs.State.{new_buffer, same_buffer, has_buffer, live_in, is_live, buffer, changed, reservation, course}
 use Rattle.journal_model.specs.Commands.{named, command_at_work}
-use Rattle.journal_model.specs.Search.{is_caught, Quest}
+use Rattle.journal_model.specs.Search.{is_caught, PlaceSearch}
 use Rattle.journal_model.specs.Tasks.{first_missing}
 use Rattle.journal_model.specs.Ready.{first_unready, is_ready}
 use Rattle.journal_model.specs.Apply.{applied}
@@ -30,10 +30,10 @@ use Rattle.laws.proofs.law_sound.DeadEnds.{command_is}
 use Rattle.laws.proofs.law_sound.Measure.{command_left, later_commands, thread_left}
 use Rattle.laws.proofs.law_sound.OthersSame.{SameHad, command_same}
 use Rattle.laws.proofs.law_sound.Turns.{Turn, Works, OnVictim, OnBuffer, victim_unbind, victim_empty, victim_give, victim_skip, victim_move, victim_fill, victim_search, give, act, fill_in_place, ask, bind, fill_to_bind, hop_up, unbind, move_up, move_across, move_down, fill_to_move, hop_down}
-use Rattle.laws.proofs.law_sound.Gifts.{Gives, Sought, Filled, makes, seeks, binds, unbinds, moves, fills, empties, depopulates, untakes, arms, frees, swaps, finds, evicts, dries, fresh, again, back, evicts_for_swap, nothing}
+use Rattle.laws.proofs.law_sound.Gifts.{Gives, SearchOutcome, Filled, makes, seeks, binds, unbinds, moves, fills, empties, depopulates, untakes, arms, frees, swaps, finds, evicts, dries, fresh, again, back, evicts_for_swap, nothing}
 use Rattle.laws.proofs.law_sound.Bufs.{same_self, same_is, has_found, last_caught, none_missing, clash}
 use Rattle.laws.proofs.law_sound.Owners.{OneCourse, none_or}
-use Rattle.laws.proofs.law_sound.Grips.{live_set, victim_free, swap_free}
+use Rattle.laws.proofs.law_sound.Reservations.{live_set, victim_free, swap_free}
 use Rattle.laws.proofs.law_sound.OwnedKeeps.{HasIn}
 
 -- ---- which buffers an entry changes
@@ -136,27 +136,27 @@ module _ (script : Script) (s : State) (c : Course) (cmd : Command) where
   turn_has x b it e = nothing_is b e
 
 module _ (script : Script) (s : State) (t : ℕ) (cmd : Command) (at : command_at_work script s t ≡ Some cmd) (o : Owned script s) where
-  dead_free : (b : BufId) → is_live s b ≡ false → (grip s b).holder ≡ None
-  dead_free b l = by (grip s b).holder refl
+  dead_free : (b : BufId) → is_live s b ≡ false → (reservation s b).holder ≡ None
+  dead_free b l = by (reservation s b).holder refl
     where
-      by : (p : Option Stamp) → (grip s b).holder ≡ p → p ≡ None
+      by : (p : Option Stamp) → (reservation s b).holder ≡ p → p ≡ None
       by None e = refl
       by (Some st) e = let h = o.holder b st e in let w = o.held h.0 b h.2 in absurd (both_ways (is_live s b) l w.1)
 
   -- the thread has the buffer, or nobody does
   abbrev Mine : BufId → Type 0
-  Mine d = HasIn (course s t) d ⊎ ((grip s d).holder ≡ None)
+  Mine d = HasIn (course s t) d ⊎ ((reservation s d).holder ≡ None)
 
   its : (b d : BufId) → HasIn (course s t) b → same_buffer b d ≡ true → Mine d
   its b d h q = inl (subst (HasIn (course s t)) (same_is b d q) h)
 
-  nobodys : (b d : BufId) → (grip s b).holder ≡ None → same_buffer b d ≡ true → Mine d
-  nobodys b d h q = inr (subst (λ z. (grip s z).holder ≡ None) (same_is b d q) h)
+  nobodys : (b d : BufId) → (reservation s b).holder ≡ None → same_buffer b d ≡ true → Mine d
+  nobodys b d h q = inr (subst (λ z. (reservation s z).holder ≡ None) (same_is b d q) h)
 
   named_mine : (d : BufId) → Works (course s t) cmd → has_buffer (named cmd) d ≡ true → HasIn (course s t) d
   named_mine d works h = inl (none_missing (course s t) cmd d works.whole h)
 
-  mine_sought : (b d : BufId) (q : Quest) (k : Kind) → HasIn (course s t) b → Sought script s (course s t) b q k → touches script s t k d ≡ true → Mine d
+  mine_sought : (b d : BufId) (q : PlaceSearch) (k : Kind) → HasIn (course s t) b → SearchOutcome script s (course s t) b q k → touches script s t k d ≡ true → Mine d
   mine_sought b d q k h (finds place w m e) g = its b d h g
   mine_sought b d q k h (evicts place {v} {w} a n e f) g = nobodys v d (victim_free script s (course s t).skips place v f).free g
   mine_sought b d q k h (dries place a n) g = absurd (clash (sym g))
@@ -197,7 +197,7 @@ module _ (script : Script) (s : State) (t : ℕ) (cmd : Command) (at : command_a
           let a = o.held t d m in
           let b = o.held u d h in
           other (o.one u t b.0 b.3 (a.3 ∙ ap Some (let it : Some a.0 ≡ Some b.0 = sym a.2 ∙ b.2 in let same : a.0 ≡ b.0 = cc in same)))
-      not_mine (inr f) = let b = o.held u d h in none_or (grip s d).holder b.0 f b.2
+      not_mine (inr f) = let b = o.held u d h in none_or (reservation s d).holder b.0 f b.2
 
 -- ---- what the others still cost
 

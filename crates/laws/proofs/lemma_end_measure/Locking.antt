@@ -15,7 +15,7 @@ use Rattle.journal_model.specs.declared.state.State.{State}
 use Rattle.journal_model.specs.declared.state.Course.{Course}
 use Rattle.journal_model.specs.declared.entry.Kind.{Kind}
 use Rattle.journal_model.specs.declared.entry.Kind.TheVariants as kind
-use Rattle.journal_model.specs.State.{new_buffer, course, grip, is_live, same_buffer, has_buffer}
+use Rattle.journal_model.specs.State.{new_buffer, course, reservation, is_live, same_buffer, has_buffer}
 use Rattle.journal_model.specs.Commands.{named}
 use Rattle.journal_model.specs.Tasks.{first_missing}
 use Rattle.journal_model.specs.Next.{backs_off}
@@ -29,7 +29,7 @@ use Rattle.laws.proofs.law_sound.Along.{Stepped}
 use Rattle.laws.proofs.law_sound.Bufs.{same_is, has_more, has_new, missing_is_named, missing_not_held}
 use Rattle.laws.proofs.law_sound.Steadies.{next_course, own_course}
 use Rattle.laws.proofs.law_sound.Owners.{none_or}
-use Rattle.laws.proofs.law_sound.Grips.{grip_other, released_other}
+use Rattle.laws.proofs.law_sound.Reservations.{reservation_other, released_other}
 use Rattle.laws.proofs.lemma_end_measure.Locks.{digit, Each, Among, missing_most, locks_fall, backoff_lowers}
 use Rattle.laws.proofs.lemma_end_measure.Frame.{left_of, left_is, others_left}
 use Rattle.laws.proofs.lemma_end_measure.Working.{phase, phase_is, working_most}
@@ -104,7 +104,7 @@ pub record Waits (s : State) (c : Course) : Type 0 where
   pub holder : Stamp
   pub is_first : c.first ≡ Some first
   pub empty : c.held ≡ []
-  pub held : (grip s first).holder ≡ Some holder
+  pub held : (reservation s first).holder ≡ Some holder
   pub elder : is_elder (number_of c.stamp) (Some holder.0) ≡ true
 
 pub waits_of : (s : State) (c : Course) → waits_for_elder s c ≡ true → Waits s c
@@ -118,20 +118,20 @@ waits_of s c h = by_first c.first refl h
     nothing [] k = refl
     nothing (b ∷ bs) k = absurd (grind (arith, nat_tests))
 
-    by_holder : (b : BufId) → c.first ≡ Some b → (length c.held == 0) ≡ true → (o : Option Stamp) → (grip s b).holder ≡ o → is_elder (number_of c.stamp) (number_of o) ≡ true → Waits s c
+    by_holder : (b : BufId) → c.first ≡ Some b → (length c.held == 0) ≡ true → (o : Option Stamp) → (reservation s b).holder ≡ o → is_elder (number_of c.stamp) (number_of o) ≡ true → Waits s c
     by_holder b f l None g k = absurd (none_elder (number_of c.stamp) k)
     by_holder b f l (Some st) g k = record { first = b; holder = st; is_first = f; empty = nothing c.held l; held = g; elder = k }
 
-    by_first : (o : Option BufId) → c.first ≡ o → elim o [ None ↦ false | Some b ↦ (length c.held == 0) && is_elder (number_of c.stamp) (number_of (grip s b).holder) ] ≡ true → Waits s c
+    by_first : (o : Option BufId) → c.first ≡ o → elim o [ None ↦ false | Some b ↦ (length c.held == 0) && is_elder (number_of c.stamp) (number_of (reservation s b).holder) ] ≡ true → Waits s c
     by_first None f k = cc
     by_first (Some b) f k =
-        let p = and_parts (length c.held == 0) (is_elder (number_of c.stamp) (number_of (grip s b).holder)) k in
-        by_holder b f p.0 (grip s b).holder refl p.1
+        let p = and_parts (length c.held == 0) (is_elder (number_of c.stamp) (number_of (reservation s b).holder)) k in
+        by_holder b f p.0 (reservation s b).holder refl p.1
 
 pub waits_from : (s : State) (c : Course) → Waits s c → waits_for_elder s c ≡ true
 waits_from s c w =
-    ap (λ o. elim o [ None ↦ false | Some b ↦ (length c.held == 0) && is_elder (number_of c.stamp) (number_of (grip s b).holder) ]) w.is_first
-    ∙ (ap (λ bs. (length bs == 0) && is_elder (number_of c.stamp) (number_of (grip s w.first).holder)) w.empty
+    ap (λ o. elim o [ None ↦ false | Some b ↦ (length c.held == 0) && is_elder (number_of c.stamp) (number_of (reservation s b).holder) ]) w.is_first
+    ∙ (ap (λ bs. (length bs == 0) && is_elder (number_of c.stamp) (number_of (reservation s w.first).holder)) w.empty
     ∙ (ap (λ o. is_elder (number_of c.stamp) (number_of o)) w.held ∙ w.elder))
 
 -- who waits for an elder wants what the elder holds
@@ -178,7 +178,7 @@ module _ (script : Script) (s : State) (t : ℕ) (k : Kind) (known : Known scrip
 -- ---- a reservation
 
 module _ (script : Script) (s : State) (t : ℕ) (b : BufId) (stamp : Stamp) (known : Known script s) (st : Stepped script s t (kind.Reserve b)) (e : (course s t).stamp ≡ Some stamp) (made : (course s t).made ≡ false)
-    (wants : first_missing (course s t) st.step.cmd ≡ Some b) (free : (grip s b).holder ≡ None) (alone : (course s t).caught ≡ []) where
+    (wants : first_missing (course s t) st.step.cmd ≡ Some b) (free : (reservation s b).holder ≡ None) (alone : (course s t).caught ≡ []) where
   some_is : (x y : BufId) → Some x ≡ Some y → x ≡ y
   some_is x y q = cc
 
@@ -192,10 +192,10 @@ module _ (script : Script) (s : State) (t : ℕ) (b : BufId) (stamp : Stamp) (kn
       by (inl q) =
           let mine : Waits s (course s t) = subst (λ u. Waits s (course s u)) q waits in
           let it : mine.first ≡ b = some_is mine.first b (sym (waits_misses s (course s t) st.step.cmd mine) ∙ wants) in
-          absurd (none_or (grip s b).holder mine.holder free (subst (λ z. (grip s z).holder ≡ Some mine.holder) it mine.held))
+          absurd (none_or (reservation s b).holder mine.holder free (subst (λ z. (reservation s z).holder ≡ Some mine.holder) it mine.held))
       by (inr n) =
-          let other : waits.first ≡ b → ⊥ = λ q. none_or (grip s b).holder waits.holder free (subst (λ z. (grip s z).holder ≡ Some waits.holder) q waits.held) in
-          let held : (grip (applied script s (actor.Thread t) (kind.Reserve b)) waits.first).holder ≡ Some waits.holder = ap (λ g. g.holder) (grip_other s.grips b waits.first _ other) ∙ waits.held in
+          let other : waits.first ≡ b → ⊥ = λ q. none_or (reservation s b).holder waits.holder free (subst (λ z. (reservation s z).holder ≡ Some waits.holder) q waits.held) in
+          let held : (reservation (applied script s (actor.Thread t) (kind.Reserve b)) waits.first).holder ≡ Some waits.holder = ap (λ g. g.holder) (reservation_other s.reservations b waits.first _ other) ∙ waits.held in
           not_from_true (waits_for_elder (applied script s (actor.Thread t) (kind.Reserve b)) (course (applied script s (actor.Thread t) (kind.Reserve b)) x.thread))
           (ap (waits_for_elder (applied script s (actor.Thread t) (kind.Reserve b))) ((one script s t (kind.Reserve b) known st).others x.thread n)
           ∙ waits_from (applied script s (actor.Thread t) (kind.Reserve b)) (course s x.thread) (record { first = waits.first; holder = waits.holder; is_first = waits.is_first; empty = waits.empty; held = held; elder = waits.elder }))
@@ -256,7 +256,7 @@ among_chosen s t stamp (suc n) from low high e =
     behind (Some u) h = inr h
 
 module _ (script : Script) (s : State) (t : ℕ) (b : BufId) (holder stamp : Stamp) (known : Known script s) (st : Stepped script s t (kind.Backoff b holder)) (e : (course s t).stamp ≡ Some stamp) (made : (course s t).made ≡ false)
-    (wants : first_missing (course s t) st.step.cmd ≡ Some b) (held : (grip s b).holder ≡ Some holder) (backs : backs_off (course s t) holder ≡ true) (alone : (course s t).caught ≡ []) where
+    (wants : first_missing (course s t) st.step.cmd ≡ Some b) (held : (reservation s b).holder ≡ Some holder) (backs : backs_off (course s t) holder ≡ true) (alone : (course s t).caught ≡ []) where
   -- it holds something, and the other is older
   parts : (nat_lt holder.0 stamp.0 ≡ true) × (nat_lt 0 (length (course s t).held) ≡ true)
   parts =
@@ -269,10 +269,10 @@ module _ (script : Script) (s : State) (t : ℕ) (b : BufId) (holder stamp : Sta
       empty : length (course s t).held ≡ 0 → ⊥
       empty l = let p = parts.1 in absurd (grind (arith, nat_tests))
 
-  holder_stays : (d : BufId) (other : Stamp) → (grip s d).holder ≡ Some other → nat_lt other.0 stamp.0 ≡ true → (grip (applied script s (actor.Thread t) (kind.Backoff b holder)) d).holder ≡ Some other
-  holder_stays d other h less = ap (λ g. g.holder) (released_other (course s t).held s.grips d (false_from_ne_true (has_buffer (course s t).held d) (λ k. not_mine (known.owned.held t d (inl k))))) ∙ h
+  holder_stays : (d : BufId) (other : Stamp) → (reservation s d).holder ≡ Some other → nat_lt other.0 stamp.0 ≡ true → (reservation (applied script s (actor.Thread t) (kind.Backoff b holder)) d).holder ≡ Some other
+  holder_stays d other h less = ap (λ g. g.holder) (released_other (course s t).held s.reservations d (false_from_ne_true (has_buffer (course s t).held d) (λ k. not_mine (known.owned.held t d (inl k))))) ∙ h
     where
-      not_mine : ((own : Stamp) × (is_live s d ≡ true) × ((grip s d).holder ≡ Some own) × ((course s t).stamp ≡ Some own)) → ⊥
+      not_mine : ((own : Stamp) × (is_live s d ≡ true) × ((reservation s d).holder ≡ Some own) × ((course s t).stamp ≡ Some own)) → ⊥
       not_mine w =
           let x : Some other ≡ Some w.0 = sym h ∙ w.2 in
           let y : Some stamp ≡ Some w.0 = sym e ∙ w.3 in

@@ -11,7 +11,7 @@ use Rattle.journal_model.specs.declared.script.Script.{Script}
 use Rattle.journal_model.specs.declared.state.State.{State}
 use Rattle.journal_model.specs.declared.state.Course.{Course}
 use Rattle.journal_model.specs.declared.entry.Kind.{Kind}
-use Rattle.journal_model.specs.State.{new_buffer, buffer, course, grip}
+use Rattle.journal_model.specs.State.{new_buffer, buffer, course, reservation}
 use Rattle.journal_model.specs.Tasks.{first_missing}
 use Rattle.journal_model.specs.Apply.{applied}
 use Rattle.journal_model.specs.Scheduled.{Ticketed}
@@ -50,7 +50,7 @@ module _ (script : Script) (s : State) (t : ℕ) (k : Kind) (known : Known scrip
 
   -- a thread that stays where it is in its locks, and lets nobody go
   pub locks_stay : (c : Course) → next_course script s t k ≡ c → c.stamp ≡ (course s t).stamp → c.held ≡ (course s t).held → c.first ≡ (course s t).first → missing_in script t c ≡ missing_in script t (course s t)
-      → ((d : BufId) (h : Stamp) → (grip s d).holder ≡ Some h → (grip (after script s t k) d).holder ≡ Some h) → locks_left script (after script s t k) ≤ locks_left script s
+      → ((d : BufId) (h : Stamp) → (reservation s d).holder ≡ Some h → (reservation (after script s t k) d).holder ≡ Some h) → locks_left script (after script s t k) ≤ locks_left script s
   locks_stay c own stamp held first misses kept =
       locks_keep script s (after script s t k) (stamps_same script s t k known st (ap (λ x. x.stamp) own ∙ stamp)) digits less
     where

@@ -19,16 +19,16 @@ use Rattle.journal_model.specs.declared.state.State.{State}
 use Rattle.journal_model.specs.declared.state.Course.{Course}
 use Rattle.journal_model.specs.declared.state.Victim.{Victim}
 use Rattle.journal_model.specs.declared.state.Buffer.{Buffer}
-use Rattle.journal_model.specs.declared.state.Aim.TheVariants.{Hop}
+use Rattle.journal_model.specs.declared.state.SearchAim.TheVariants.{Hop}
 use Rattle.journal_model.specs.declared.entry.Why.{Why}
 use Rattle.journal_model.specs.declared.entry.Why.TheVariants as why
 use Rattle.journal_model.specs.declared.entry.Kind.TheVariants as kind
-use Rattle.journal_model.specs.State.{new_buffer, buffer, course, grip, live_in, same_buffer, has_buffer, has_target}
+use Rattle.journal_model.specs.State.{new_buffer, buffer, course, reservation, live_in, same_buffer, has_buffer, has_target}
 use Rattle.journal_model.specs.Commands.{whole}
 use Rattle.journal_model.specs.Choice.{choice, choice_in}
 use Rattle.journal_model.specs.Holds.{free_slot}
 use Rattle.journal_model.specs.Dry.{has_frame, victim}
-use Rattle.journal_model.specs.Search.{Quest, quest, through_tt, why_of, is_caught}
+use Rattle.journal_model.specs.Search.{PlaceSearch, place_search, through_tt, why_of, is_caught}
 use Rattle.journal_model.specs.ApplyCommands.{with_holder}
 use Rattle.journal_model.specs.ApplyVictims.{leaves_tt, with_victim}
 use Rattle.laws.proofs.law_sound.Measure.{one_if, victim_left, has_failed, not_skipped, room_for_victims, search_share, search_left, left_of_buffer, slot_debt, measure}
@@ -37,7 +37,7 @@ use Rattle.laws.proofs.law_sound.Along.{Stepped}
 use Rattle.laws.proofs.law_sound.Turns.{Works}
 use Rattle.laws.proofs.law_sound.Bufs.{other_is}
 use Rattle.laws.proofs.law_sound.Owners.{none_or}
-use Rattle.laws.proofs.law_sound.Grips.{grip_other, victim_passes}
+use Rattle.laws.proofs.law_sound.Reservations.{reservation_other, victim_passes}
 use Rattle.laws.proofs.law_sound.OwnedKeeps.{HasIn}
 use Rattle.laws.proofs.law_sound.Steadies.{own_course}
 use Rattle.laws.proofs.lemma_end_measure.Frame.{same_left, untouched}
@@ -88,13 +88,13 @@ evicted script s skips b v place w lacks is found = by place.mem refl
     by Vram e = subst (Prey script s v) (sym (ap why_of e) ∙ is) (in_vram (mem_is (buffer s v).mem place.mem stands ∙ e))
 
 -- a victim's own search is in TT alone
-abbrev pub hop : Course → Bool → Quest
+abbrev pub hop : Course → Bool → PlaceSearch
 hop c q = if q then record { list = through_tt; forced = false; dry = 0 } else record { list = through_tt; forced = c.forced; dry = c.dry }
 
-abbrev place_of : Quest → Place
+abbrev place_of : PlaceSearch → Place
 place_of q = unwrap_or (slice_get (forced_places q.list) q.dry) (whole System)
 
-pub hops : (script : Script) (cmd : Command) (c : Course) (b : BufId) → is_caught c b ≡ true → unwrap_or (slice_get (forced_places (quest script cmd c b Hop).list) (quest script cmd c b Hop).dry) (whole System) ≡ whole Tt
+pub hops : (script : Script) (cmd : Command) (c : Course) (b : BufId) → is_caught c b ≡ true → unwrap_or (slice_get (forced_places (place_search script cmd c b Hop).list) (place_search script cmd c b Hop).dry) (whole System) ≡ whole Tt
 hops script cmd c b h = ap (λ q. place_of (hop c q)) h
 
 -- ---- a buffer in TT gets a target
@@ -126,7 +126,7 @@ frames_stay Tt x = refl
 frames_stay Vram x = refl
 
 module _ (script : Script) (s : State) (t : ℕ) (b : BufId) (w : Why) (known : Known script s) (st : Stepped script s t (kind.Catch b w)) (stamp : Stamp) (e : (course s t).stamp ≡ Some stamp) (works : Works (course s t) st.step.cmd) (fine : (course s t).fail ≡ None)
-    (live : live_in s.core.buffers b ≡ Some (buffer s b)) (free : (grip s b).holder ≡ None) where
+    (live : live_in s.core.buffers b ≡ Some (buffer s b)) (free : (reservation s b).holder ≡ None) where
   abbrev prey : Victim
   prey = record { b = b; why = w; fail = None }
 
@@ -170,7 +170,7 @@ module _ (script : Script) (s : State) (t : ℕ) (b : BufId) (w : Why) (known : 
 
   -- the thread had others
   has_others : (d : BufId) → HasIn (course s t) d → d ≡ b → ⊥
-  has_others d h q = let m = known.owned.held t d h in none_or (grip s b).holder m.0 free (subst (λ z. (grip s z).holder ≡ Some m.0) q m.2)
+  has_others d h q = let m = known.owned.held t d h in none_or (reservation s b).holder m.0 free (subst (λ z. (reservation s z).holder ≡ Some m.0) q m.2)
 
   others_stay : (d : BufId) → HasIn (course s t) d → buffer (after script s t (kind.Catch b w)) d ≡ buffer s d
   others_stay d h = ap (λ o. unwrap_or o (new_buffer 0)) (untouched script s t (kind.Catch b w) d (other_is b d (λ q. has_others d h (sym q))))
@@ -214,5 +214,5 @@ module _ (script : Script) (s : State) (t : ℕ) (b : BufId) (w : Why) (known : 
       let buffers = sum_kept (option_map (λ x. leaves_tt x.mem x)) leaves_left s.core.buffers b.0 in
       let locks =
       locks_stay script s t (kind.Catch b w) known st (with_victim b w (course s t)) refl refl refl refl refl
-      (λ d h g. ap (λ z. z.holder) (grip_other s.grips b d (with_holder (course s t).stamp (grip s b)) (λ q. none_or (grip s b).holder h free (subst (λ z. (grip s z).holder ≡ Some h) q g))) ∙ g) in
+      (λ d h g. ap (λ z. z.holder) (reservation_other s.reservations b d (with_holder (course s t).stamp (reservation s b)) (λ q. none_or (reservation s b).holder h free (subst (λ z. (reservation s z).holder ≡ Some h) q g))) ∙ g) in
       omega (arith, now, less, between, same, debts_are, debts, none, old, buffers, locks))

@@ -16,17 +16,17 @@ use Rattle.journal_model.specs.declared.script.Command.{Command}
 use Rattle.journal_model.specs.declared.state.State.{State}
 use Rattle.journal_model.specs.declared.state.Course.{Course}
 use Rattle.journal_model.specs.declared.state.Victim.{Victim}
-use Rattle.journal_model.specs.declared.state.Aim.TheVariants.{Asked, Hop}
+use Rattle.journal_model.specs.declared.state.SearchAim.TheVariants.{Asked, Hop}
 use Rattle.journal_model.specs.declared.state.Task.{Task}
 use Rattle.journal_model.specs.declared.entry.Why.{Why}
 use Rattle.journal_model.specs.declared.entry.DryWhy.{DryWhy}
 use Rattle.journal_model.specs.declared.entry.Kind.{Kind}
 use Rattle.journal_model.specs.declared.entry.Kind.TheVariants as kind
-use Rattle.journal_model.specs.State.{new_buffer, buffer, course, grip, same_buffer, has_buffer, without_buffer}
+use Rattle.journal_model.specs.State.{new_buffer, buffer, course, reservation, same_buffer, has_buffer, without_buffer}
 use Rattle.journal_model.specs.Commands.{commands_of, named, command_at_work, asked_places}
 use Rattle.journal_model.specs.Choice.{choice}
 use Rattle.journal_model.specs.Ready.{has_some_target, is_in_place, is_filled, is_ready, first_unready}
-use Rattle.journal_model.specs.Search.{Quest, quest, quest_at_work, is_caught}
+use Rattle.journal_model.specs.Search.{PlaceSearch, place_search, place_search_at_work, is_caught}
 use Rattle.journal_model.specs.Tasks.{starts, first_missing}
 use Rattle.journal_model.specs.Legal.{first_state}
 use Rattle.journal_model.specs.Apply.{applied}
@@ -35,11 +35,11 @@ use Rattle.journal_model.specs.ApplyVictims.{failed_if, with_fail, gone_dry, cou
 use Rattle.laws.specs.law_sound.Sound.{command_of}
 use Rattle.laws.proofs.law_sound.Along.{Stepped, OfWorker, packet, done, reap, first_course}
 use Rattle.laws.proofs.law_sound.Turns.{Turn, Works, OnMisplaced, OnCarried, answer, start, lock, victim_unbind, victim_empty, victim_give, victim_skip, victim_move, victim_fill, victim_search, refuse, give, give_up, act, fill_in_place, ask, bind, fill_to_bind, hop_up, unbind, move_up, move_across, move_down, fill_to_move, hop_down}
-use Rattle.laws.proofs.law_sound.Gifts.{Gives, Sought, Filled, answers, makes, exists, shifts, draws, no_buffer, reserves, backs, seeks, binds, unbinds, moves, fills, lets_go, empties, depopulates, untakes, skips, gives_up, refuses, arms, frees, swaps, no_swap, acts, finds, evicts, dries, fresh, again, back, evicts_for_swap, nothing}
+use Rattle.laws.proofs.law_sound.Gifts.{Gives, SearchOutcome, Filled, answers, makes, exists, shifts, draws, no_buffer, reserves, backs, seeks, binds, unbinds, moves, fills, lets_go, empties, depopulates, untakes, skips, gives_up, refuses, arms, frees, swaps, no_swap, acts, finds, evicts, dries, fresh, again, back, evicts_for_swap, nothing}
 use Rattle.laws.proofs.law_sound.Bufs.{same_self, other_is, has_found, none_missing, none_last, last_caught, none_caught}
 use Rattle.laws.proofs.law_sound.Steadies.{next_course, own_course}
 use Rattle.laws.proofs.law_sound.Owners.{none_or}
-use Rattle.laws.proofs.law_sound.Grips.{IsFree, victim_free, swap_free}
+use Rattle.laws.proofs.law_sound.Reservations.{IsFree, victim_free, swap_free}
 use Rattle.laws.proofs.lemma_end_measure.Frame.{touches, untouched}
 use Rattle.laws.proofs.lemma_end_measure.Border.{Known, one, others_same}
 use Rattle.laws.proofs.lemma_end_measure.Parts.{after}
@@ -155,8 +155,8 @@ module _ (script : Script) (s : State) (t : ℕ) (known : Known script s) (dry :
     not_caught v d c h q = both_ways (has_buffer (course s t).held v) ((known.owned.steady t).apart v c) (subst (λ z. has_buffer (course s t).held z ≡ true) q h)
 
     -- nor free
-    not_free : (v d : BufId) → (grip s v).holder ≡ None → has_buffer (course s t).held d ≡ true → d ≡ v → ⊥
-    not_free v d free h q = let m = known.owned.held t d (inl h) in none_or (grip s v).holder m.0 free (subst (λ z. (grip s z).holder ≡ Some m.0) q m.2)
+    not_free : (v d : BufId) → (reservation s v).holder ≡ None → has_buffer (course s t).held d ≡ true → d ≡ v → ⊥
+    not_free v d free h q = let m = known.owned.held t d (inl h) in none_or (reservation s v).holder m.0 free (subst (λ z. (reservation s z).holder ≡ Some m.0) q m.2)
 
     -- an entry on a victim
     on_victim : (k : Kind) (v : BufId) → next_course script s t k ≡ course s t → is_caught (course s t) v ≡ true → ((d : BufId) → touches script s t k d ≡ same_buffer v d) → Kept k
@@ -181,10 +181,10 @@ module _ (script : Script) (s : State) (t : ℕ) (known : Known script s) (dry :
     took b mem spans c = never (kind.Take b mem spans) (record (course s t) { forced = false; dry = 0 }) (ap (λ q. if q then course s t else record (course s t) { forced = false; dry = 0 }) c) (λ f n. zero_less n)
 
     dry_course : (b : BufId) (k : ℕ) (w : DryWhy) → command_at_work script s t ≡ Some cmd → is_caught (course s t) b ≡ false
-        → next_course script s t (kind.Dry b k w) ≡ gone_dry k (length (forced_places (quest_at_work script s (course s t) cmd b).list)) (course s t)
+        → next_course script s t (kind.Dry b k w) ≡ gone_dry k (length (forced_places (place_search_at_work script s (course s t) cmd b).list)) (course s t)
     dry_course b k w work c =
         ap (λ o. course_after_dry script s b k o (course s t)) work
-        ∙ ap (λ z. if z then with_fail b deny.NoSpace (course s t) else gone_dry k (length (forced_places (quest_at_work script s (course s t) cmd b).list)) (course s t)) c
+        ∙ ap (λ z. if z then with_fail b deny.NoSpace (course s t) else gone_dry k (length (forced_places (place_search_at_work script s (course s t) cmd b).list)) (course s t)) c
 
     -- not the last place
     not_last : (k places : ℕ) → (if k + 1 == places then Some deny.NoSpace else (course s t).fail) ≡ None → k + 1 ≡ places → ⊥
@@ -214,41 +214,41 @@ module _ (script : Script) (s : State) (t : ℕ) (known : Known script s) (dry :
           fewer = omega (arith, real, other);
         }))
       where
-        list_is : length (forced_places (quest_at_work script s (course s t) cmd b).list) ≡ length (forced_places (asked_places script cmd b))
-        list_is = ap (λ q. length (forced_places (quest script cmd (course s t) b (if q then Hop else Asked)).list)) (ap₂ (λ p q. p || q) c bare)
+        list_is : length (forced_places (place_search_at_work script s (course s t) cmd b).list) ≡ length (forced_places (asked_places script cmd b))
+        list_is = ap (λ q. length (forced_places (place_search script cmd (course s t) b (if q then Hop else Asked)).list)) (ap₂ (λ p q. p || q) c bare)
 
-        own : next_course script s t (kind.Dry b k w) ≡ gone_dry k (length (forced_places (quest_at_work script s (course s t) cmd b).list)) (course s t)
+        own : next_course script s t (kind.Dry b k w) ≡ gone_dry k (length (forced_places (place_search_at_work script s (course s t) cmd b).list)) (course s t)
         own = dry_course b k w work c
 
         is : cmd ≡ d
         is = same_command d (command_of script t (next_course script s t (kind.Dry b k w))) (ap (command_of script t) own ∙ at) e
 
         other : k + 1 ≡ length (forced_places (asked_places script cmd b)) → ⊥
-        other q = not_last k (length (forced_places (quest_at_work script s (course s t) cmd b).list)) (sym (ap (λ z. z.fail) own) ∙ f) (q ∙ sym list_is)
+        other q = not_last k (length (forced_places (place_search_at_work script s (course s t) cmd b).list)) (sym (ap (λ z. z.fail) own) ∙ f) (q ∙ sym list_is)
 
     -- a hop has one place alone
     hop_dry : (b : BufId) (w : DryWhy) → command_at_work script s t ≡ Some cmd → has_some_target (buffer s b) ≡ true → is_caught (course s t) b ≡ false → (course s t).dry ≡ 0 → (k : ℕ) → k ≡ 0 → Kept (kind.Dry b k w)
     hop_dry b w work some c none k is =
-        never (kind.Dry b k w) (gone_dry k (length (forced_places (quest_at_work script s (course s t) cmd b).list)) (course s t)) (dry_course b k w work c)
-        (λ f n. not_last k (length (forced_places (quest_at_work script s (course s t) cmd b).list)) f (ap (λ m. m + 1) is ∙ sym list_is))
+        never (kind.Dry b k w) (gone_dry k (length (forced_places (place_search_at_work script s (course s t) cmd b).list)) (course s t)) (dry_course b k w work c)
+        (λ f n. not_last k (length (forced_places (place_search_at_work script s (course s t) cmd b).list)) f (ap (λ m. m + 1) is ∙ sym list_is))
       where
         one_place : (q : Bool) → length (forced_places (hop (course s t) q).list) ≡ 1
         one_place true = refl
         one_place false = refl
 
-        list_is : length (forced_places (quest_at_work script s (course s t) cmd b).list) ≡ 0 + 1
-        list_is = ap (λ q. length (forced_places (quest script cmd (course s t) b (if q then Hop else Asked)).list)) (ap₂ (λ p q. p || q) c some) ∙ one_place (is_caught (course s t) b)
+        list_is : length (forced_places (place_search_at_work script s (course s t) cmd b).list) ≡ 0 + 1
+        list_is = ap (λ q. length (forced_places (place_search script cmd (course s t) b (if q then Hop else Asked)).list)) (ap₂ (λ p q. p || q) c some) ∙ one_place (is_caught (course s t) b)
 
     -- ---- searches and fills
 
     asked_sought : (b : BufId) (k : Kind) → command_at_work script s t ≡ Some cmd → OnMisplaced script s (course s t) cmd b → has_some_target (buffer s b) ≡ false → is_caught (course s t) b ≡ false
-        → Sought script s (course s t) b (quest script cmd (course s t) b Asked) k → Kept k
+        → SearchOutcome script s (course s t) b (place_search script cmd (course s t) b Asked) k → Kept k
     asked_sought b k work on bare c (finds place {mem} {spans} w m h) = took b mem spans c
     asked_sought b k work on bare c (evicts place {v} {w} at lacks is found) = catches v w (victim_free script s (course s t).skips place v found)
     asked_sought b k work on bare c (dries place {w} at lacks) =
         asked_dry b (course s t).dry w work on bare c (real_place script s b (forced_places (asked_places script cmd b)) (course s t).dry (subst (λ p. choice script s.core b p ≡ None) at lacks))
 
-    hop_sought : (b : BufId) (k : Kind) (q : Quest) → command_at_work script s t ≡ Some cmd → has_some_target (buffer s b) ≡ true → is_caught (course s t) b ≡ false → (course s t).dry ≡ 0 → q.dry ≡ (course s t).dry → Sought script s (course s t) b q k → Kept k
+    hop_sought : (b : BufId) (k : Kind) (q : PlaceSearch) → command_at_work script s t ≡ Some cmd → has_some_target (buffer s b) ≡ true → is_caught (course s t) b ≡ false → (course s t).dry ≡ 0 → q.dry ≡ (course s t).dry → SearchOutcome script s (course s t) b q k → Kept k
     hop_sought b k q work some c none is (finds place {mem} {spans} w m h) = took b mem spans c
     hop_sought b k q work some c none is (evicts place {v} {w} at lacks why_is found) = catches v w (victim_free script s (course s t).skips place v found)
     hop_sought b k q work some c none is (dries place {w} at lacks) = hop_dry b w work some c none q.dry (is ∙ none)
@@ -274,14 +274,14 @@ module _ (script : Script) (s : State) (t : ℕ) (known : Known script s) (dry :
         victims_differ (kind.NoPages v.b) (map (failed_if deny.NoPages v.b) (course s t).caught) (course s t).skips
         (ap (λ z. if z then record (course s t) { caught = map (failed_if deny.NoPages v.b) (course s t).caught } else record (course s t) { fail = Some deny.NoPages }) c) refl
 
-    victim_sought : (v : Victim) (k : Kind) (q : Quest) → command_at_work script s t ≡ Some cmd → is_caught (course s t) v.b ≡ true → Sought script s (course s t) v.b q k → Kept k
+    victim_sought : (v : Victim) (k : Kind) (q : PlaceSearch) → command_at_work script s t ≡ Some cmd → is_caught (course s t) v.b ≡ true → SearchOutcome script s (course s t) v.b q k → Kept k
     victim_sought v k q work c (finds place {mem} {spans} w m h) =
         on_victim (kind.Take v.b mem spans) v.b (ap (λ z. if z then course s t else record (course s t) { forced = false; dry = 0 }) c) c (λ d. refl)
     victim_sought v k q work c (evicts place {v = x} {w} at lacks is found) = catches x w (victim_free script s (course s t).skips place x found)
     victim_sought v k q work c (dries place {w} at lacks) =
         victims_differ (kind.Dry v.b q.dry w) (map (failed_if deny.NoSpace v.b) (course s t).caught) (course s t).skips
         (ap (λ o. course_after_dry script s v.b q.dry o (course s t)) work
-        ∙ (ap (λ z. if z then with_fail v.b deny.NoSpace (course s t) else gone_dry q.dry (length (forced_places (quest_at_work script s (course s t) cmd v.b).list)) (course s t)) c
+        ∙ (ap (λ z. if z then with_fail v.b deny.NoSpace (course s t) else gone_dry q.dry (length (forced_places (place_search_at_work script s (course s t) cmd v.b).list)) (course s t)) c
         ∙ ap (λ z. if z then record (course s t) { caught = map (failed_if deny.NoSpace v.b) (course s t).caught } else record (course s t) { fail = Some deny.NoSpace }) c)) refl
 
     -- of a named buffer nothing is caught
@@ -296,13 +296,13 @@ module _ (script : Script) (s : State) (t : ℕ) (known : Known script s) (dry :
         by zero e = e
         by (suc n) e = absurd (targeted b on.on.on.first on.some on.on.on.fine (omega (arith, e)))
 
-    hop_dry_is : (b : BufId) → is_caught (course s t) b ≡ false → (quest script cmd (course s t) b Hop).dry ≡ (course s t).dry
+    hop_dry_is : (b : BufId) → is_caught (course s t) b ≡ false → (place_search script cmd (course s t) b Hop).dry ≡ (course s t).dry
     hop_dry_is b c = ap (λ q. (hop (course s t) q).dry) c
 
-    hops_on : {mem : Mem} (b : BufId) (k : Kind) → command_at_work script s t ≡ Some cmd → OnCarried script s (course s t) cmd b mem → Sought script s (course s t) b (quest script cmd (course s t) b Hop) k → Kept k
+    hops_on : {mem : Mem} (b : BufId) (k : Kind) → command_at_work script s t ≡ Some cmd → OnCarried script s (course s t) cmd b mem → SearchOutcome script s (course s t) b (place_search script cmd (course s t) b Hop) k → Kept k
     hops_on b k work on sought =
         let c = uncaught b on.on.on.named.alone in
-        hop_sought b k (quest script cmd (course s t) b Hop) work on.some c (carried_none b on) (hop_dry_is b c) sought
+        hop_sought b k (place_search script cmd (course s t) b Hop) work on.some c (carried_none b on) (hop_dry_is b c) sought
 
     -- ---- each task
 
@@ -323,7 +323,7 @@ module _ (script : Script) (s : State) (t : ℕ) (known : Known script s) (dry :
     own_kept x k work (victim_skip v d on vram f g) skips = victims_differ k (no_longer_caught v.b (course s t)).caught ((course s t).skips ++ v.b ∷ []) refl refl
     own_kept x k work (victim_move v on vram f q r) moves = on_victim k v.b refl (last_caught (course s t) v on.last) (λ d. refl)
     own_kept x k work (victim_fill v on vram f q r) (fills filled) = victim_filled v k (last_caught (course s t) v on.last) filled
-    own_kept x k work (victim_search v on vram f q) (seeks sought) = victim_sought v k (quest script cmd (course s t) v.b Hop) work (last_caught (course s t) v on.last) sought
+    own_kept x k work (victim_search v on vram f q) (seeks sought) = victim_sought v k (place_search script cmd (course s t) v.b Hop) work (last_caught (course s t) v on.last) sought
     own_kept x k work (refuse on r) refuses = never k (on_to_next (course s t)) refl (λ f n. zero_less n)
     own_kept x k work (give d on a f u g) (depopulates m h) = never k (course s t) refl (λ e n. failed d f e)
     own_kept x k work (give d on a f u g) (untakes h) = never k (course s t) refl (λ e n. failed d f e)

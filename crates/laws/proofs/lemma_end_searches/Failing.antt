@@ -18,7 +18,7 @@ use Rattle.journal_model.specs.declared.state.Victim.{Victim}
 use Rattle.journal_model.specs.declared.state.Buffer.{Buffer}
 use Rattle.journal_model.specs.declared.entry.Why.TheVariants as why
 use Rattle.journal_model.specs.declared.entry.Kind.{Kind}
-use Rattle.journal_model.specs.State.{new_buffer, buffer, course, grip_in, live_in, same_buffer, has_buffer, has_target}
+use Rattle.journal_model.specs.State.{new_buffer, buffer, course, reservation_in, live_in, same_buffer, has_buffer, has_target}
 use Rattle.journal_model.specs.Commands.{decl, undeclared, named}
 use Rattle.journal_model.specs.Holds.{free_slot}
 use Rattle.journal_model.specs.Dry.{has_frame}
@@ -120,7 +120,7 @@ module _ (script : Script) (s : State) (t : ℕ) (k : Kind) (known : Known scrip
 
 -- ---- the search of a victim fails
 
-module _ (script : Script) (s : State) (t : ℕ) (k : Kind) (known : Known script s) (st : Stepped script s t k) (core : (after script s t k).core ≡ s.core) (grips : (after script s t k).grips ≡ s.grips) (stamp : Stamp) (e : (course s t).stamp ≡ Some stamp)
+module _ (script : Script) (s : State) (t : ℕ) (k : Kind) (known : Known script s) (st : Stepped script s t k) (core : (after script s t k).core ≡ s.core) (reservations : (after script s t k).reservations ≡ s.reservations) (stamp : Stamp) (e : (course s t).stamp ≡ Some stamp)
     (v : Victim) (x : Buffer) (on : OnVictim (course s t) st.step.cmd v) (fine : (course s t).fail ≡ None) (live : live_in s.core.buffers v.b ≡ Some x) (few : Caught (course s t).caught) (vram : InVram v (buffer s v.b)) (unfailed : v.fail ≡ None)
     (unskipped : has_buffer (course s t).skips v.b ≡ false) (d : Deny) where
   alone : (course s t).caught ≡ v ∷ []
@@ -210,7 +210,7 @@ module _ (script : Script) (s : State) (t : ℕ) (k : Kind) (known : Known scrip
       let others : shared (after script s t k) ≡ shared s = ap (λ z. shared (record s { core = z })) core in
       let locks =
       locks_stay script s t k known st (record (course s t) { caught = map (failed_if d v.b) (course s t).caught }) own refl refl refl refl
-      (λ b h g. ap (λ gs. (grip_in gs b).holder) grips ∙ g) in
+      (λ b h g. ap (λ gs. (reservation_in gs b).holder) reservations ∙ g) in
       omega (arith, now, was, falls, debts, others, locks))
     where
       no_debt : (free : Bool) (y : Buffer) → slot_debt free y (record v { fail = Some d }) ≡ 0

@@ -16,10 +16,10 @@ use Rattle.ttm_base.specs.declared.Actor.TheVariants as actor
 use Rattle.journal_model.specs.declared.script.Script.{Script}
 use Rattle.journal_model.specs.declared.state.State.{State}
 use Rattle.journal_model.specs.declared.state.Buffer.{Buffer}
-use Rattle.journal_model.specs.declared.state.Grip.{Grip}
+use Rattle.journal_model.specs.declared.state.Reservation.{Reservation}
 use Rattle.journal_model.specs.declared.entry.Kind.{Kind}
 use Rattle.journal_model.specs.declared.entry.Kind.TheVariants as kind
-use Rattle.journal_model.specs.State.{new_buffer, buffer, grip, grip_in, no_grip, live_in, changed, same_buffer, has_buffer, without_buffer, course}
+use Rattle.journal_model.specs.State.{new_buffer, buffer, reservation, reservation_in, no_reservation, live_in, changed, same_buffer, has_buffer, without_buffer, course}
 use Rattle.journal_model.specs.Commands.{decl, command_at_work}
 use Rattle.journal_model.specs.Lists.{in_order, list_number, behind_last, placed_in, is_mate, taken_off, put_on, listed_as, touched, is_member, members_last}
 use Rattle.journal_model.specs.Dry.{has_frame, is_loose}
@@ -34,7 +34,7 @@ use Rattle.journal_model.specs.ApplyVictims.{leaves_tt}
 use Rattle.laws.proofs.law_state.Lists.{set_at, get_mapped, live_changed}
 use Rattle.laws.proofs.law_sound.Along.{OfWorker, packet, done, reap}
 use Rattle.laws.proofs.law_sound.Bufs.{same_is, has_found, has_without, without_gone, clash}
-use Rattle.laws.proofs.law_sound.Grips.{live_set}
+use Rattle.laws.proofs.law_sound.Reservations.{live_set}
 use Rattle.laws.proofs.lemma_end_searches.VictimsKeep.{SwapsBelow}
 
 -- by the place of the list among the twelve
@@ -118,7 +118,7 @@ module _ (b : BufId) (f : BufId → Mem) (lists : List (List BufId)) (low : LowB
       by (inl e) = off_low i l n (sym e ∙ h) d k m
       by (inr e) = new e.0 e.1
 
-  pub listed_low : (script : Script) (g : Grip) (o : Option Buffer) → ((x : Buffer) → o ≡ Some x → f b ≡ x.mem) → Low f (listed_as script lists b g o)
+  pub listed_low : (script : Script) (g : Reservation) (o : Option Buffer) → ((x : Buffer) → o ≡ Some x → f b ≡ x.mem) → Low f (listed_as script lists b g o)
   listed_low script g None is = off_low
   listed_low script g (Some x) is = by (g.pins == 0)
     where
@@ -127,12 +127,12 @@ module _ (b : BufId) (f : BufId → Mem) (lists : List (List BufId)) (low : LowB
       by false = off_low
 
 -- a touched buffer stands on its own list
-pub touched_low : (script : Script) (buffers : List (Option Buffer)) (grips : List Grip) (lists : List (List BufId)) (b : BufId) → LowBut b (mem_in buffers) lists → Low (mem_in buffers) (touched script buffers grips lists b)
-touched_low script buffers grips lists b low = listed_low b (mem_in buffers) lists low script (grip_in grips b) (live_in buffers b) (λ x e. ap (λ o. (unwrap_or o (new_buffer 0)).mem) e)
+pub touched_low : (script : Script) (buffers : List (Option Buffer)) (reservations : List Reservation) (lists : List (List BufId)) (b : BufId) → LowBut b (mem_in buffers) lists → Low (mem_in buffers) (touched script buffers reservations lists b)
+touched_low script buffers reservations lists b low = listed_low b (mem_in buffers) lists low script (reservation_in reservations b) (live_in buffers b) (λ x e. ap (λ o. (unwrap_or o (new_buffer 0)).mem) e)
 
-all_touched : (script : Script) (buffers : List (Option Buffer)) (grips : List Grip) (bs : List BufId) (lists : List (List BufId)) → Low (mem_in buffers) lists → Low (mem_in buffers) (fold (touched script buffers grips) lists bs)
-all_touched script buffers grips [] lists low = low
-all_touched script buffers grips (b ∷ bs) lists low = all_touched script buffers grips bs (touched script buffers grips lists b) (touched_low script buffers grips lists b (λ i l n h d q k m. low i l n h d k m))
+all_touched : (script : Script) (buffers : List (Option Buffer)) (reservations : List Reservation) (bs : List BufId) (lists : List (List BufId)) → Low (mem_in buffers) lists → Low (mem_in buffers) (fold (touched script buffers reservations) lists bs)
+all_touched script buffers reservations [] lists low = low
+all_touched script buffers reservations (b ∷ bs) lists low = all_touched script buffers reservations bs (touched script buffers reservations lists b) (touched_low script buffers reservations lists b (λ i l n h d q k m. low i l n h d k m))
 
 bulk_low : (member : BufId → Bool) (f : BufId → Mem) (lists : List (List BufId)) → Low f lists → Low f (map (members_last member) lists)
 bulk_low member f lists low i l n h d k m =
@@ -173,8 +173,8 @@ low_same : (f g : BufId → Mem) (lists : List (List BufId)) → ((d : BufId) �
 low_same f g lists same low i l n h d k m = low i l n h d k (sym (same d) ∙ m)
 
 -- one buffer changed, and is put on its list
-relisted_low : (script : Script) (f : Buffer → Buffer) (xs : List (Option Buffer)) (grips : List Grip) (lists : List (List BufId)) (b : BufId) → Low (mem_in xs) lists → Low (mem_in (changed f xs b)) (touched script (changed f xs b) grips lists b)
-relisted_low script f xs grips lists b low = touched_low script (changed f xs b) grips lists b (λ i l n h d q k m. low i l n h d k (sym (mem_other xs b d (option_map f (live_in xs b)) q) ∙ m))
+relisted_low : (script : Script) (f : Buffer → Buffer) (xs : List (Option Buffer)) (reservations : List Reservation) (lists : List (List BufId)) (b : BufId) → Low (mem_in xs) lists → Low (mem_in (changed f xs b)) (touched script (changed f xs b) reservations lists b)
+relisted_low script f xs reservations lists b low = touched_low script (changed f xs b) reservations lists b (λ i l n h d q k m. low i l n h d k (sym (mem_other xs b d (option_map f (live_in xs b)) q) ∙ m))
 
 -- a buffer set anew, or gone
 set_here : (xs : List (Option Buffer)) (b : BufId) (o : Option Buffer) → (live_in (slice_set xs b.0 o) b ≡ o) ⊎ (live_in (slice_set xs b.0 o) b ≡ None)
@@ -194,7 +194,7 @@ pub listed_keeps : (script : Script) (s : State) (t : ℕ) (k : Kind) → Listed
 listed_keeps script s t (kind.New b) low =
     let x = new_buffer (decl script b).pages in
     listed_low b (mem_in (slice_set s.core.buffers b.0 (Some (new_buffer (decl script b).pages)))) s.lists
-    (λ i l n h d q k m. low i l n h d k (sym (mem_other s.core.buffers b d (Some (new_buffer (decl script b).pages)) q) ∙ m)) script no_grip (Some (new_buffer (decl script b).pages))
+    (λ i l n h d q k m. low i l n h d k (sym (mem_other s.core.buffers b d (Some (new_buffer (decl script b).pages)) q) ∙ m)) script no_reservation (Some (new_buffer (decl script b).pages))
     (λ y e. new_mem s.core.buffers b (decl script b).pages ∙ sym (system y e))
   where
     system : (y : Buffer) → Some (new_buffer (decl script b).pages) ≡ Some y → y.mem ≡ System
@@ -207,9 +207,9 @@ listed_keeps script s t (kind.Untake b mem) low = low_same (mem_in s.core.buffer
 listed_keeps script s t (kind.Populate b page frame) low = low_same (mem_in s.core.buffers) _ s.lists (mem_kept (with_loc page (loc.Frame frame)) (λ x. refl) s.core.buffers b) low
 listed_keeps script s t (kind.SwapIn b page slot frame) low = low_same (mem_in s.core.buffers) _ s.lists (mem_kept (with_loc page (loc.Frame frame)) (λ x. refl) s.core.buffers b) low
 listed_keeps script s t (kind.Depopulate b) low = low_same (mem_in s.core.buffers) _ s.lists (mem_kept without_frames (λ x. refl) s.core.buffers b) low
-listed_keeps script s t (kind.Bind b) low = relisted_low script bound s.core.buffers s.grips s.lists b low
-listed_keeps script s t (kind.Unbind b) low = relisted_low script unbound s.core.buffers s.grips s.lists b low
-listed_keeps script s t (kind.Move b mem n l) low = relisted_low script (moved mem (record { ctx = 0; num = n })) s.core.buffers s.grips s.lists b low
+listed_keeps script s t (kind.Bind b) low = relisted_low script bound s.core.buffers s.reservations s.lists b low
+listed_keeps script s t (kind.Unbind b) low = relisted_low script unbound s.core.buffers s.reservations s.lists b low
+listed_keeps script s t (kind.Move b mem n l) low = relisted_low script (moved mem (record { ctx = 0; num = n })) s.core.buffers s.reservations s.lists b low
 listed_keeps script s t (kind.Catch b w) low = low_same (mem_in s.core.buffers) _ s.lists (mem_kept (λ x. leaves_tt x.mem x) (λ x. leaves_mem x.mem x) s.core.buffers b) low
 listed_keeps script s t (kind.Loose b) low = touched_low script s.core.buffers _ s.lists b (λ i l n h d q k m. low i l n h d k m)
 listed_keeps script s t (kind.SwapOut b page slot) low = low_same (mem_in s.core.buffers) _ s.lists (mem_kept (with_loc page (loc.Slot slot)) (λ x. refl) s.core.buffers b) low
@@ -248,7 +248,7 @@ pub swaps_below : (s : State) → Listed s → SwapsBelow s
 swaps_below s low b found m =
     ⊎_elim (λ k. at System (omega arith) k) (λ k. at Tt (omega arith) k)
     (or_cases (has_buffer (in_order s System) b) (has_buffer (in_order s Tt) b)
-    (sym (list_any-append (same_buffer b) (in_order s System) (in_order s Tt)) ∙ has_found (λ d. is_loose (grip s d) && has_frame (buffer s d)) (in_order s System ++ in_order s Tt) b found))
+    (sym (list_any-append (same_buffer b) (in_order s System) (in_order s Tt)) ∙ has_found (λ d. is_loose (reservation s d) && has_frame (buffer s d)) (in_order s System ++ in_order s Tt) b found))
   where
     at : (mem : Mem) → 4 * mem_number mem + 4 ≤ 8 → has_buffer (in_order s mem) b ≡ true → ⊥
     at mem n k =

@@ -24,8 +24,8 @@ use Rattle.journal_model.specs.declared.state.State.{State}
 use Rattle.journal_model.specs.declared.state.Course.{Course}
 use Rattle.journal_model.specs.declared.state.Victim.{Victim}
 use Rattle.journal_model.specs.declared.state.Buffer.{Buffer}
-use Rattle.journal_model.specs.declared.state.Aim.{Aim}
-use Rattle.journal_model.specs.declared.state.Aim.TheVariants.{Asked, Hop}
+use Rattle.journal_model.specs.declared.state.SearchAim.{SearchAim}
+use Rattle.journal_model.specs.declared.state.SearchAim.TheVariants.{Asked, Hop}
 use Rattle.journal_model.specs.declared.state.Task.{Task}
 use Rattle.journal_model.specs.declared.entry.DryWhy.{DryWhy}
 use Rattle.journal_model.specs.declared.entry.Why.{Why}
@@ -40,7 +40,7 @@ use Rattle.journal_model.specs.Choice.{choice}
 use Rattle.journal_model.specs.Places.{is_frame}
 use Rattle.journal_model.specs.Dry.{has_frame}
 use Rattle.journal_model.specs.Ready.{meets, has_all_frames, has_some_target, is_in_place, is_filled, is_ready, uses_bytes, first_unready}
-use Rattle.journal_model.specs.Search.{Quest, quest, quest_at_work, why_of, is_caught}
+use Rattle.journal_model.specs.Search.{PlaceSearch, place_search, place_search_at_work, why_of, is_caught}
 use Rattle.journal_model.specs.Tasks.{starts}
 use Rattle.journal_model.specs.Next.{step_of_task}
 use Rattle.journal_model.specs.ApplyVictims.{failed_if, with_fail, gone_dry, course_after_dry}
@@ -51,10 +51,10 @@ use Rattle.laws.specs.law_sound.Sound.{Carried, Fits, at_target, system_tt, syst
 use Rattle.laws.proofs.law_sound.Measure.{room_for_victims, measure}
 use Rattle.laws.proofs.law_sound.Along.{Stepped}
 use Rattle.laws.proofs.law_sound.Turns.{Turn, Works, OnVictim, OnNamed, OnBuffer, InVram, victim_empty, victim_fill, victim_search, act, fill_in_place, ask, fill_to_bind, hop_up, fill_to_move, hop_down}
-use Rattle.laws.proofs.law_sound.Gifts.{Gives, Sought, Filled, answers, seeks, fills, lets_go, empties, swaps, finds, evicts, dries, fresh, again, back, evicts_for_swap, nothing}
+use Rattle.laws.proofs.law_sound.Gifts.{Gives, SearchOutcome, Filled, answers, seeks, fills, lets_go, empties, swaps, finds, evicts, dries, fresh, again, back, evicts_for_swap, nothing}
 use Rattle.laws.proofs.law_sound.Bufs.{same_self, clash, has_found, found_passes, none_found, none_missing, none_last, last_caught, none_caught}
 use Rattle.laws.proofs.law_sound.Steadies.{next_course}
-use Rattle.laws.proofs.law_sound.Grips.{IsFree, victim_free, swap_free, swap_passes}
+use Rattle.laws.proofs.law_sound.Reservations.{IsFree, victim_free, swap_free, swap_passes}
 use Rattle.laws.proofs.law_sound.OwnedKeeps.{has_stamp, begun_locks}
 use Rattle.laws.proofs.lemma_end_measure.Border.{Known}
 use Rattle.laws.proofs.lemma_end_measure.Parts.{after, locks_stay}
@@ -259,14 +259,14 @@ module _ (script : Script) (s : State) (t : ℕ) (known : Known script s) (good 
   -- ---- dry places
 
   dry_course : (b : BufId) (k : ℕ) (w : DryWhy) (st : Stepped script s t (kind.Dry b k w)) (q : Bool) → is_caught (course s t) b ≡ q
-      → next_course script s t (kind.Dry b k w) ≡ (if q then with_fail b deny.NoSpace (course s t) else gone_dry k (length (forced_places (quest_at_work script s (course s t) st.step.cmd b).list)) (course s t))
+      → next_course script s t (kind.Dry b k w) ≡ (if q then with_fail b deny.NoSpace (course s t) else gone_dry k (length (forced_places (place_search_at_work script s (course s t) st.step.cmd b).list)) (course s t))
   dry_course b k w st q h =
       ap (λ o. course_after_dry script s b k o (course s t)) st.step.at_work
-      ∙ ap (λ z. if z then with_fail b deny.NoSpace (course s t) else gone_dry k (length (forced_places (quest_at_work script s (course s t) st.step.cmd b).list)) (course s t)) h
+      ∙ ap (λ z. if z then with_fail b deny.NoSpace (course s t) else gone_dry k (length (forced_places (place_search_at_work script s (course s t) st.step.cmd b).list)) (course s t)) h
 
   dry_named : (b : BufId) (k : ℕ) (w : DryWhy) (st : Stepped script s t (kind.Dry b k w)) → (course s t).caught ≡ [] → Works (course s t) st.step.cmd → (course s t).fail ≡ None → k ≡ (course s t).dry → k + 1 ≤ 8 → Lower (kind.Dry b k w)
   dry_named b k w st alone works fine is most =
-      by (k + 1 == length (forced_places (quest_at_work script s (course s t) st.step.cmd b).list)) (dry_course b k w st false (alone_caught b alone))
+      by (k + 1 == length (forced_places (place_search_at_work script s (course s t) st.step.cmd b).list)) (dry_course b k w st false (alone_caught b alone))
     where
       by : (q : Bool) → next_course script s t (kind.Dry b k w) ≡ record (course s t) { forced = true; dry = k + 1; fail = if q then Some deny.NoSpace else (course s t).fail } → Lower (kind.Dry b k w)
       by true own =
@@ -308,22 +308,22 @@ module _ (script : Script) (s : State) (t : ℕ) (known : Known script s) (good 
       let stamp = stamp_of (kind.Catch b w) st works.begun in
       catch_falls script s t b w known st stamp.0 stamp.1 works fine (live_is b free.live) free.free prey room
 
-  named_seeks : (k : Kind) (st : Stepped script s t k) (b : BufId) (aim : Aim) → OnBuffer script s (course s t) st.step.cmd b → Sought script s (course s t) b (quest script st.step.cmd (course s t) b aim) k → is_search k ≡ true → Lower k
-  named_seeks k st b aim on sought mine = by k st on.named.works (quest script st.step.cmd (course s t) b aim) (quest_is aim) sought mine
+  named_seeks : (k : Kind) (st : Stepped script s t k) (b : BufId) (aim : SearchAim) → OnBuffer script s (course s t) st.step.cmd b → SearchOutcome script s (course s t) b (place_search script st.step.cmd (course s t) b aim) k → is_search k ≡ true → Lower k
+  named_seeks k st b aim on sought mine = by k st on.named.works (place_search script st.step.cmd (course s t) b aim) (place_search_is aim) sought mine
     where
       alone : (course s t).caught ≡ []
       alone = none_last (course s t).caught on.named.alone
 
       -- its dry places are the course's, and its places few
-      quest_is : (a : Aim) → ((quest script st.step.cmd (course s t) b a).dry ≡ (course s t).dry) × (length (forced_places (quest script st.step.cmd (course s t) b a).list) ≤ 8)
-      quest_is Asked = (refl, few_asked script known.rules st.step.cmd b)
-      quest_is Hop = by_caught (is_caught (course s t) b) (alone_caught b alone)
+      place_search_is : (a : SearchAim) → ((place_search script st.step.cmd (course s t) b a).dry ≡ (course s t).dry) × (length (forced_places (place_search script st.step.cmd (course s t) b a).list) ≤ 8)
+      place_search_is Asked = (refl, few_asked script known.rules st.step.cmd b)
+      place_search_is Hop = by_caught (is_caught (course s t) b) (alone_caught b alone)
         where
           by_caught : (q : Bool) → q ≡ false → ((hop (course s t) q).dry ≡ (course s t).dry) × (length (forced_places (hop (course s t) q).list) ≤ 8)
           by_caught true h = absurd (clash h)
           by_caught false h = (refl, omega arith)
 
-      by : (l : Kind) (z : Stepped script s t l) → Works (course s t) z.step.cmd → (q : Quest) → (q.dry ≡ (course s t).dry) × (length (forced_places q.list) ≤ 8) → Sought script s (course s t) b q l → is_search l ≡ true → Lower l
+      by : (l : Kind) (z : Stepped script s t l) → Works (course s t) z.step.cmd → (q : PlaceSearch) → (q.dry ≡ (course s t).dry) × (length (forced_places q.list) ≤ 8) → SearchOutcome script s (course s t) b q l → is_search l ≡ true → Lower l
       by l z works q is (finds place w m c) mine = cc
       by l z works q is (evicts place {v} {w} at lacks why_is found) mine =
           catch_at v w z works on.fine (victim_free script s (course s t).skips place v found) (evicted script s (course s t).skips b v place w lacks why_is found)
@@ -333,13 +333,13 @@ module _ (script : Script) (s : State) (t : ℕ) (known : Known script s) (good 
           let most = is.1 in
           dry_named b q.dry w z alone works on.fine is.0 (omega (arith, real, most))
 
-  victim_seeks : (k : Kind) (st : Stepped script s t k) (v : Victim) → OnVictim (course s t) st.step.cmd v → InVram v (buffer s v.b) → v.fail ≡ None → Sought script s (course s t) v.b (quest script st.step.cmd (course s t) v.b Hop) k → is_search k ≡ true → Lower k
-  victim_seeks k st v on vram unfailed sought mine = by k st on (quest script st.step.cmd (course s t) v.b Hop) (hops script st.step.cmd (course s t) v.b (last_caught (course s t) v on.last)) sought mine
+  victim_seeks : (k : Kind) (st : Stepped script s t k) (v : Victim) → OnVictim (course s t) st.step.cmd v → InVram v (buffer s v.b) → v.fail ≡ None → SearchOutcome script s (course s t) v.b (place_search script st.step.cmd (course s t) v.b Hop) k → is_search k ≡ true → Lower k
+  victim_seeks k st v on vram unfailed sought mine = by k st on (place_search script st.step.cmd (course s t) v.b Hop) (hops script st.step.cmd (course s t) v.b (last_caught (course s t) v on.last)) sought mine
     where
       tt_no_vram : why.Tt ≡ why.Vram → ⊥
       tt_no_vram h = cc
 
-      by : (l : Kind) (z : Stepped script s t l) → OnVictim (course s t) z.step.cmd v → (q : Quest) → unwrap_or (slice_get (forced_places q.list) q.dry) (whole System) ≡ whole Tt → Sought script s (course s t) v.b q l → is_search l ≡ true → Lower l
+      by : (l : Kind) (z : Stepped script s t l) → OnVictim (course s t) z.step.cmd v → (q : PlaceSearch) → unwrap_or (slice_get (forced_places q.list) q.dry) (whole System) ≡ whole Tt → SearchOutcome script s (course s t) v.b q l → is_search l ≡ true → Lower l
       by l z now q is (finds place w m c) mine = cc
       by l z now q is (evicts place {v = b} {w} at lacks why_is found) mine =
           let in_tt : why.Tt ≡ w = sym (ap (λ p. why_of p.mem) (at ∙ is)) ∙ why_is in
@@ -422,13 +422,13 @@ module _ (script : Script) (s : State) (t : ℕ) (known : Known script s) (good 
   thread_falls : (k : Kind) (st : Stepped script s t k) (cmd : Command) → st.step.cmd ≡ cmd → (x : Task) → Turn script s (course s t) cmd x → Gives script s (course s t) cmd x k → step_of_task script s (course s t) cmd x ≡ Ok k → is_search k ≡ true → Lower k
   thread_falls k st cmd e x turn answers step mine = cc
   thread_falls k st cmd e x (victim_search v on vram f n) (seeks sought) step mine =
-      victim_seeks k st v (subst (λ z. OnVictim (course s t) z v) (sym e) on) vram f (subst (λ z. Sought script s (course s t) v.b (quest script z (course s t) v.b Hop) k) (sym e) sought) mine
+      victim_seeks k st v (subst (λ z. OnVictim (course s t) z v) (sym e) on) vram f (subst (λ z. SearchOutcome script s (course s t) v.b (place_search script z (course s t) v.b Hop) k) (sym e) sought) mine
   thread_falls k st cmd e x (ask {b} on n) (seeks sought) step mine =
-      named_seeks k st b Asked (subst (λ z. OnBuffer script s (course s t) z b) (sym e) on.on) (subst (λ z. Sought script s (course s t) b (quest script z (course s t) b Asked) k) (sym e) sought) mine
+      named_seeks k st b Asked (subst (λ z. OnBuffer script s (course s t) z b) (sym e) on.on) (subst (λ z. SearchOutcome script s (course s t) b (place_search script z (course s t) b Asked) k) (sym e) sought) mine
   thread_falls k st cmd e x (hop_up {b} on n) (seeks sought) step mine =
-      named_seeks k st b Hop (subst (λ z. OnBuffer script s (course s t) z b) (sym e) on.on.on) (subst (λ z. Sought script s (course s t) b (quest script z (course s t) b Hop) k) (sym e) sought) mine
+      named_seeks k st b Hop (subst (λ z. OnBuffer script s (course s t) z b) (sym e) on.on.on) (subst (λ z. SearchOutcome script s (course s t) b (place_search script z (course s t) b Hop) k) (sym e) sought) mine
   thread_falls k st cmd e x (hop_down {b} on m n) (seeks sought) step mine =
-      named_seeks k st b Hop (subst (λ z. OnBuffer script s (course s t) z b) (sym e) on.on.on) (subst (λ z. Sought script s (course s t) b (quest script z (course s t) b Hop) k) (sym e) sought) mine
+      named_seeks k st b Hop (subst (λ z. OnBuffer script s (course s t) z b) (sym e) on.on.on) (subst (λ z. SearchOutcome script s (course s t) b (place_search script z (course s t) b Hop) k) (sym e) sought) mine
   thread_falls k st cmd e x (victim_fill v on vram f n lacks) (fills filled) step mine =
       filled_falls k st v.b (fill_victim k st v (subst (λ z. OnVictim (course s t) z v) (sym e) on) vram f lacks) filled mine
   thread_falls k st cmd e x (fill_in_place {b} on i) (fills filled) step mine =

@@ -25,7 +25,7 @@ use Rattle.journal_model.specs.declared.entry.Left.{Left}
 use Rattle.journal_model.specs.declared.entry.Left.TheVariants as left
 use Rattle.journal_model.specs.declared.entry.Kind.{Kind}
 use Rattle.journal_model.specs.declared.entry.Kind.TheVariants as kind
-use Rattle.journal_model.specs.State.{new_buffer, buffer, course, course_of, grip, live_in, changed, same_buffer, has_buffer, has_target}
+use Rattle.journal_model.specs.State.{new_buffer, buffer, course, course_of, reservation, live_in, changed, same_buffer, has_buffer, has_target}
 use Rattle.journal_model.specs.Commands.{command_at_work}
 use Rattle.ttm_base.specs.Reach.{same_mem, intersects}
 use Rattle.journal_model.specs.Choice.{choice, choice_in, reach_of}
@@ -33,7 +33,7 @@ use Rattle.journal_model.specs.Holds.{free_slot}
 use Rattle.journal_model.specs.Legal.{first_state}
 use Rattle.journal_model.specs.Dry.{has_frame, victim, swap_victim, is_loose}
 use Rattle.journal_model.specs.Ready.{has_some_target}
-use Rattle.journal_model.specs.Search.{Quest, quest_at_work, why_of, is_caught}
+use Rattle.journal_model.specs.Search.{PlaceSearch, place_search_at_work, why_of, is_caught}
 use Rattle.journal_model.specs.Tasks.{starts, first_missing}
 use Rattle.journal_model.specs.Apply.{applied}
 use Rattle.journal_model.specs.PageSteps.{target_to_untake, next_job, next_ghost}
@@ -44,11 +44,11 @@ use Rattle.journal_model.specs.Waits.{jobs_before_target}
 use Rattle.laws.specs.law_sound.Sound.{OnItsWay, locks, command_of}
 use Rattle.laws.proofs.law_sound.Along.{Stepped, OfWorker, packet, done, reap, first_course}
 use Rattle.laws.proofs.law_sound.Turns.{Turn, InVram, answer, start, lock, victim_unbind, victim_empty, victim_give, victim_skip, victim_move, victim_fill, victim_search, refuse, give, give_up, act, fill_in_place, ask, bind, fill_to_bind, hop_up, unbind, move_up, move_across, move_down, fill_to_move, hop_down}
-use Rattle.laws.proofs.law_sound.Gifts.{Gives, Sought, Filled, seeks, unbinds, moves, fills, lets_go, empties, depopulates, untakes, skips, finds, evicts, dries, fresh, again, back, evicts_for_swap, nothing}
+use Rattle.laws.proofs.law_sound.Gifts.{Gives, SearchOutcome, Filled, seeks, unbinds, moves, fills, lets_go, empties, depopulates, untakes, skips, finds, evicts, dries, fresh, again, back, evicts_for_swap, nothing}
 use Rattle.laws.proofs.law_sound.Bufs.{same_self, other_is, victims_of, let_go, none_last, last_caught}
 use Rattle.laws.proofs.law_sound.Steadies.{next_course, own_course, locking_command, lock_wants, locks_alone}
 use Rattle.laws.proofs.law_sound.Owners.{none_or}
-use Rattle.laws.proofs.law_sound.Grips.{IsFree, victim_free, swap_free, victim_passes, swap_passes}
+use Rattle.laws.proofs.law_sound.Reservations.{IsFree, victim_free, swap_free, victim_passes, swap_passes}
 use Rattle.laws.proofs.law_sound.OwnedKeeps.{bare, unlocked_alone}
 use Rattle.laws.proofs.lemma_end_measure.Frame.{untouched}
 use Rattle.laws.proofs.lemma_end_measure.Giving.{changed_here, target_there}
@@ -61,7 +61,7 @@ use Rattle.laws.proofs.lemma_end_searches.WaySteps.{way_untaken, way_unbound, wa
 
 -- a buffer that nobody holds has no target
 abbrev pub NoLooseTarget : State → Type 0
-NoLooseTarget s = (b : BufId) → has_some_target (buffer s b) ≡ true → (grip s b).holder ≡ None → ⊥
+NoLooseTarget s = (b : BufId) → has_some_target (buffer s b) ≡ true → (reservation s b).holder ≡ None → ⊥
 
 -- what is caught for swap isn't in VRAM
 abbrev pub SwapsBelow : State → Type 0
@@ -88,7 +88,7 @@ stays_alone script s t (kind.Dry b k w) q h = by_command (command_at_work script
     by_fail true = ap (map (failed_if deny.NoSpace b)) h
     by_fail false = h
 
-    by_caught : (cmd : Command) (z : Bool) → (if z then with_fail b deny.NoSpace (course s t) else gone_dry k (length (forced_places (quest_at_work script s (course s t) cmd b).list)) (course s t)).caught ≡ []
+    by_caught : (cmd : Command) (z : Bool) → (if z then with_fail b deny.NoSpace (course s t) else gone_dry k (length (forced_places (place_search_at_work script s (course s t) cmd b).list)) (course s t)).caught ≡ []
     by_caught cmd true = by_fail (is_caught (course s t) b)
     by_caught cmd false = h
 
@@ -204,7 +204,7 @@ module _ (script : Script) (s : State) (t : ℕ) (known : Known script s) (good 
       now_is = ap (λ o. unwrap_or o (new_buffer 0)) (changed_here (λ x. leaves_tt x.mem x) s.core.buffers b (buffer s b) live)
 
       not_mine : (d : BufId) → has_buffer (victims_of (course s t).caught) d ≡ true → d ≡ b → ⊥
-      not_mine d h q = let m = known.owned.held t d (inr h) in none_or (grip s b).holder m.0 free.free (subst (λ z. (grip s z).holder ≡ Some m.0) q m.2)
+      not_mine d h q = let m = known.owned.held t d (inr h) in none_or (reservation s b).holder m.0 free.free (subst (λ z. (reservation s z).holder ≡ Some m.0) q m.2)
 
   -- none was caught, or one for VRAM alone
   first_caught : (b : BufId) (w : Why) → (course s t).caught ≡ [] → Caught ((course s t).caught ++ record { b = b; why = w; fail = None } ∷ [])
@@ -213,11 +213,11 @@ module _ (script : Script) (s : State) (t : ℕ) (known : Known script s) (good 
   second_caught : (b : BufId) (w : Why) (v : Victim) → Last (course s t).caught v → v.why ≡ why.Vram → (w ≡ why.Vram → ⊥) → IsFree s b → Caught ((course s t).caught ++ record { b = b; why = w; fail = None } ∷ [])
   second_caught b w v h e n free =
       subst (λ vs. Caught (vs ++ record { b = b; why = w; fail = None } ∷ [])) (sym (alone_for_vram (course s t).caught v few_now h e))
-      (pair e n (other_is v.b b (λ q. let m = known.owned.held t v.b (inr (last_caught (course s t) v h)) in none_or (grip s b).holder m.0 free.free (subst (λ z. (grip s z).holder ≡ Some m.0) q m.2))))
+      (pair e n (other_is v.b b (λ q. let m = known.owned.held t v.b (inr (last_caught (course s t) v h)) in none_or (reservation s b).holder m.0 free.free (subst (λ z. (reservation s z).holder ≡ Some m.0) q m.2))))
 
   -- what was skipped isn't caught
   not_skipped_now : (place : Place) (v : BufId) → victim script s (course s t).skips place ≡ Some v → has_buffer (course s t).skips v ≡ false
-  not_skipped_now place v h = not-true (has_buffer (course s t).skips v) (fourth (same_mem (buffer s v).mem place.mem) (intersects (buffer s v).spans (reach_of script place)) (is_loose (grip s v)) (not (has_buffer (course s t).skips v)) (victim_passes script s (course s t).skips place v h))
+  not_skipped_now place v h = not-true (has_buffer (course s t).skips v) (fourth (same_mem (buffer s v).mem place.mem) (intersects (buffer s v).spans (reach_of script place)) (is_loose (reservation s v)) (not (has_buffer (course s t).skips v)) (victim_passes script s (course s t).skips place v h))
     where
       fourth : (a b c d : Bool) → (((a && b) && c) && d) ≡ true → d ≡ true
       fourth a b c d h = (and_parts ((a && b) && c) d h).1
@@ -244,7 +244,7 @@ module _ (script : Script) (s : State) (t : ℕ) (known : Known script s) (good 
 
   -- ---- searches and fills of named buffers
 
-  named_sought : (b : BufId) (q : Quest) (k : Kind) → (course s t).caught ≡ [] → Sought script s (course s t) b q k → Good k
+  named_sought : (b : BufId) (q : PlaceSearch) (k : Kind) → (course s t).caught ≡ [] → SearchOutcome script s (course s t) b q k → Good k
   named_sought b q k alone (finds place {mem} {spans} w m h) = quiet (kind.Take b mem spans) refl alone
   named_sought b q k alone (evicts place {v} {w} at lacks is found) = evicted_good b v place w lacks is found (first_caught v w alone)
   named_sought b q k alone (dries place {w} at lacks) = quiet (kind.Dry b q.dry w) refl alone
@@ -281,7 +281,7 @@ module _ (script : Script) (s : State) (t : ℕ) (known : Known script s) (good 
       (ap (λ z. if z then record (course s t) { caught = map (failed_if deny.NoPages v.b) (course s t).caught } else record (course s t) { fail = Some deny.NoPages }) (last_caught (course s t) v h)) refl h vram
 
   victim_sought : (v : Victim) (cmd : Command) (k : Kind) → command_at_work script s t ≡ Some cmd → Last (course s t).caught v → InVram v (buffer s v.b) → has_target Tt (buffer s v.b) ≡ false
-      → Sought script s (course s t) v.b (hop (course s t) true) k → Good k
+      → SearchOutcome script s (course s t) v.b (hop (course s t) true) k → Good k
   victim_sought v cmd k at h vram lacks (finds place {mem} {spans} w m c) =
       subst (λ z. Good (kind.Take v.b z spans)) (sym (hop_takes (course s t) place mem w m))
       (one_way (kind.Take v.b Tt spans) (λ x. with_kernel_fences (jobs_before_target s.core Tt) (with_spans Tt (Some spans) x)) v
@@ -295,7 +295,7 @@ module _ (script : Script) (s : State) (t : ℕ) (known : Known script s) (good 
   victim_sought v cmd k at h vram lacks (dries place {w} here none) =
       fails (kind.Dry v.b 0 w) v deny.NoSpace
       (ap (λ o. course_after_dry script s v.b 0 o (course s t)) at
-      ∙ (ap (λ z. if z then with_fail v.b deny.NoSpace (course s t) else gone_dry 0 (length (forced_places (quest_at_work script s (course s t) cmd v.b).list)) (course s t)) (last_caught (course s t) v h)
+      ∙ (ap (λ z. if z then with_fail v.b deny.NoSpace (course s t) else gone_dry 0 (length (forced_places (place_search_at_work script s (course s t) cmd v.b).list)) (course s t)) (last_caught (course s t) v h)
       ∙ ap (λ z. if z then record (course s t) { caught = map (failed_if deny.NoSpace v.b) (course s t).caught } else record (course s t) { fail = Some deny.NoSpace }) (last_caught (course s t) v h))) refl h vram
 
   moved_good : (v : Victim) (n : ℕ) (l : Left) → Last (course s t).caught v → (buffer s v.b).mem ≡ Vram → v.fail ≡ None → has_target Tt (buffer s v.b) ≡ true → Good (kind.Move v.b Tt n l)
@@ -348,7 +348,7 @@ module _ (script : Script) (s : State) (t : ℕ) (known : Known script s) (good 
     own_good x k (victim_move v on vram f q r) moves = moved_good v (next_job s 0) (if is_caught (course s t) v.b then left.Now else left.Ghost (next_ghost s)) on.last vram.mem f q
     own_good x k (victim_fill v on vram f q r) (fills filled) = victim_filled v k on.last vram filled
     own_good x k (victim_search v on vram f q) (seeks sought) =
-        victim_sought v cmd k work on.last vram q (subst (λ z. Sought script s (course s t) v.b z k) (ap (hop (course s t)) (last_caught (course s t) v on.last)) sought)
+        victim_sought v cmd k work on.last vram q (subst (λ z. SearchOutcome script s (course s t) v.b z k) (ap (hop (course s t)) (last_caught (course s t) v on.last)) sought)
     own_good x k (refuse {d} on r) gives = plain (task.Refuse d) k refl gives (none_last (course s t).caught on.alone)
     own_good x k (give {b} d on a f u g) gives = plain (task.GiveBack b) k refl gives (none_last (course s t).caught on.alone)
     own_good x k (give_up {d} on a f u) gives = plain (task.GiveUp d) k refl gives (none_last (course s t).caught on.alone)

@@ -16,21 +16,21 @@ use Rattle.journal_model.specs.declared.state.Victim.{Victim}
 use Rattle.journal_model.specs.declared.state.Buffer.{Buffer}
 use Rattle.journal_model.specs.declared.state.Task.{Task}
 use Rattle.journal_model.specs.declared.state.Task.TheVariants as task
-use Rattle.journal_model.specs.declared.state.Aim.{Aim}
-use Rattle.journal_model.specs.declared.state.Aim.TheVariants.{Hop}
+use Rattle.journal_model.specs.declared.state.SearchAim.{SearchAim}
+use Rattle.journal_model.specs.declared.state.SearchAim.TheVariants.{Hop}
 use Rattle.journal_model.specs.declared.entry.Why.{Why}
 use Rattle.journal_model.specs.declared.entry.Kind.{Kind}
 use Rattle.journal_model.specs.declared.entry.Kind.TheVariants as kind
 use Rattle.journal_model.specs.State.{buffer, course, has_buffer, has_target, live_in}
 use Rattle.journal_model.specs.Commands.{named}
 use Rattle.journal_model.specs.Ready.{is_in_place, is_ready, first_unready, has_some_target}
-use Rattle.journal_model.specs.Search.{quest, is_caught}
+use Rattle.journal_model.specs.Search.{place_search, is_caught}
 use Rattle.journal_model.specs.PageSteps.{target_to_untake}
 use Rattle.laws.specs.law_sound.Sound.{Carried, Fits, OnItsWay, in_vram, to_tt, out_of_vram, in_tt, in_system}
 use Rattle.laws.proofs.law_sound.Measure.{measure}
 use Rattle.laws.proofs.law_sound.Along.{Stepped}
 use Rattle.laws.proofs.law_sound.Turns.{Turn, Works, OnVictim, OnNamed, OnBuffer, OnCarried, victim_unbind, victim_give, victim_move, victim_search, give, ask, bind, hop_up, unbind, move_up, move_across, move_down, hop_down}
-use Rattle.laws.proofs.law_sound.Gifts.{Gives, Sought, Filled, PlaceOf, seeks, binds, unbinds, moves, fills, depopulates, untakes, finds, evicts, dries, fresh, again, back, evicts_for_swap, nothing}
+use Rattle.laws.proofs.law_sound.Gifts.{Gives, SearchOutcome, Filled, PlaceOf, seeks, binds, unbinds, moves, fills, depopulates, untakes, finds, evicts, dries, fresh, again, back, evicts_for_swap, nothing}
 use Rattle.laws.proofs.law_sound.Bufs.{has_found, last_caught, none_last, none_missing, clash}
 use Rattle.laws.proofs.law_sound.OwnedKeeps.{has_stamp, begun_locks}
 use Rattle.laws.proofs.lemma_end_measure.Border.{Known}
@@ -84,7 +84,7 @@ module _ (script : Script) (s : State) (t : ℕ) (known : Known script s) (carry
   -- ---- choices
 
   -- a hop is one in TT
-  hop_mem : (cmd : Command) (b : BufId) (place : Place) (mem : Mem) → (is_caught (course s t) b ≡ false → (course s t).dry ≡ 0) → PlaceOf (quest script cmd (course s t) b Hop) place → place.mem ≡ mem → Tt ≡ mem
+  hop_mem : (cmd : Command) (b : BufId) (place : Place) (mem : Mem) → (is_caught (course s t) b ≡ false → (course s t).dry ≡ 0) → PlaceOf (place_search script cmd (course s t) b Hop) place → place.mem ≡ mem → Tt ≡ mem
   hop_mem cmd b place mem fine w m = sym (ap (λ p. p.mem) (hop_place script cmd (course s t) b place fine w)) ∙ m
 
   not_dry : (cmd : Command) (b : BufId) → Places cmd → OnBuffer script s (course s t) cmd b → has_some_target (buffer s b) ≡ true → (course s t).dry ≡ 0
@@ -95,8 +95,8 @@ module _ (script : Script) (s : State) (t : ℕ) (known : Known script s) (carry
       → (st : Stepped script s t (kind.Take b mem spans)) → st.step.cmd ≡ cmd → Lower (kind.Take b mem spans)
   in_tt_falls b mem spans cmd is falls = subst (λ m. (st : Stepped script s t (kind.Take b m spans)) → st.step.cmd ≡ cmd → Lower (kind.Take b m spans)) is falls
 
-  take_falls : (b : BufId) (aim : Aim) (place : Place) (mem : Mem) (spans : List Span) (st : Stepped script s t (kind.Take b mem spans)) (cmd : Command) → st.step.cmd ≡ cmd → Places cmd → Turn script s (course s t) cmd (task.Search b aim)
-      → PlaceOf (quest script cmd (course s t) b aim) place → place.mem ≡ mem → Lower (kind.Take b mem spans)
+  take_falls : (b : BufId) (aim : SearchAim) (place : Place) (mem : Mem) (spans : List Span) (st : Stepped script s t (kind.Take b mem spans)) (cmd : Command) → st.step.cmd ≡ cmd → Places cmd → Turn script s (course s t) cmd (task.Search b aim)
+      → PlaceOf (place_search script cmd (course s t) b aim) place → place.mem ≡ mem → Lower (kind.Take b mem spans)
   take_falls b aim place mem spans st cmd e places (victim_search v on i f q) w m =
       in_tt_falls v.b mem spans cmd (hop_mem cmd v.b place mem (λ c. absurd (clash (sym (last_caught (course s t) v on.last) ∙ c))) w m)
       (λ z is. victim_take_falls script s t v spans known z (victim_of (kind.Take v.b Tt spans) z cmd v is on) i f q) st e
@@ -109,7 +109,7 @@ module _ (script : Script) (s : State) (t : ℕ) (known : Known script s) (carry
       in_tt_falls b mem spans cmd (hop_mem cmd b place mem (λ c. not_dry cmd b places on.on.on on.some) w m)
       (λ z is. hop_falls script s t b spans known z (named_of (kind.Take b Tt spans) z cmd b is on.on.on) on.some (down on.stands v q)) st e
 
-  seek_falls : (k : Kind) (st : Stepped script s t k) (cmd : Command) (b : BufId) (aim : Aim) → st.step.cmd ≡ cmd → Places cmd → Turn script s (course s t) cmd (task.Search b aim) → Sought script s (course s t) b (quest script cmd (course s t) b aim) k
+  seek_falls : (k : Kind) (st : Stepped script s t k) (cmd : Command) (b : BufId) (aim : SearchAim) → st.step.cmd ≡ cmd → Places cmd → Turn script s (course s t) cmd (task.Search b aim) → SearchOutcome script s (course s t) b (place_search script cmd (course s t) b aim) k
       → is_carry k ≡ true → Lower k
   seek_falls k st cmd b aim e places turn (finds place {mem} {spans} w m ch) h = take_falls b aim place mem spans st cmd e places turn w m
   seek_falls k st cmd b aim e places turn (evicts place a n c f) h = absurd (clash (sym h))

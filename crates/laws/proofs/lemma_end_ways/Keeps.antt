@@ -24,18 +24,18 @@ use Rattle.journal_model.specs.declared.state.Buffer.{Buffer}
 use Rattle.journal_model.specs.declared.state.Victim.{Victim}
 use Rattle.journal_model.specs.declared.state.Task.{Task}
 use Rattle.journal_model.specs.declared.state.Task.TheVariants as task
-use Rattle.journal_model.specs.declared.state.Aim.{Aim}
-use Rattle.journal_model.specs.declared.state.Aim.TheVariants.{Asked, Hop}
+use Rattle.journal_model.specs.declared.state.SearchAim.{SearchAim}
+use Rattle.journal_model.specs.declared.state.SearchAim.TheVariants.{Asked, Hop}
 use Rattle.journal_model.specs.declared.entry.Why.{Why}
 use Rattle.journal_model.specs.declared.entry.Why.TheVariants as why
 use Rattle.journal_model.specs.declared.entry.Left.{Left}
 use Rattle.journal_model.specs.declared.entry.Kind.{Kind}
 use Rattle.journal_model.specs.declared.entry.Kind.TheVariants as kind
-use Rattle.journal_model.specs.State.{new_buffer, buffer, grip, course, course_of, has_buffer, same_buffer, without_buffer, live_in, changed}
+use Rattle.journal_model.specs.State.{new_buffer, buffer, reservation, course, course_of, has_buffer, same_buffer, without_buffer, live_in, changed}
 use Rattle.journal_model.specs.Commands.{commands_of, named, asked_places, command_at_work}
 use Rattle.journal_model.specs.Choice.{choice}
 use Rattle.journal_model.specs.Ready.{meets, is_in_place, is_filled, is_ready, first_unready, has_some_target}
-use Rattle.journal_model.specs.Search.{quest}
+use Rattle.journal_model.specs.Search.{place_search}
 use Rattle.journal_model.specs.Tasks.{first_missing}
 use Rattle.journal_model.specs.PageSteps.{target_to_untake, next_job}
 use Rattle.journal_model.specs.ApplyCommands.{named_in, on_to_next}
@@ -46,11 +46,11 @@ use Rattle.journal_model.specs.ApplyVictims.{with_fail, with_victim, course_afte
 use Rattle.laws.proofs.law_state.Lists.{get_within, live_changed}
 use Rattle.laws.specs.law_sound.Sound.{Carried, Fits, asks, command_of, locks, at_target}
 use Rattle.laws.proofs.law_sound.Turns.{Turn, Works, OnVictim, OnNamed, OnBuffer, OnMisplaced, start, lock, victim_unbind, victim_empty, victim_give, victim_skip, victim_move, victim_fill, victim_search, give, act, fill_in_place, ask, bind, fill_to_bind, hop_up, unbind, move_up, move_across, move_down, fill_to_move, hop_down}
-use Rattle.laws.proofs.law_sound.Gifts.{Gives, Sought, Filled, PlaceOf, answers, makes, shifts, draws, reserves, backs, seeks, binds, unbinds, moves, fills, lets_go, empties, depopulates, untakes, skips, arms, frees, swaps, finds, evicts, dries, fresh, again, back, evicts_for_swap, nothing}
+use Rattle.laws.proofs.law_sound.Gifts.{Gives, SearchOutcome, Filled, PlaceOf, answers, makes, shifts, draws, reserves, backs, seeks, binds, unbinds, moves, fills, lets_go, empties, depopulates, untakes, skips, arms, frees, swaps, finds, evicts, dries, fresh, again, back, evicts_for_swap, nothing}
 use Rattle.laws.proofs.law_sound.Bufs.{same_or_other, other_is, has_found, has_pushed, has_without, without_gone, last_caught, none_missing, clash}
 use Rattle.laws.proofs.law_sound.Steadies.{next_course, locking_command}
 use Rattle.laws.proofs.law_sound.Owners.{none_or}
-use Rattle.laws.proofs.law_sound.Grips.{live_set, victim_free, swap_free}
+use Rattle.laws.proofs.law_sound.Reservations.{live_set, victim_free, swap_free}
 use Rattle.laws.proofs.law_sound.OwnedKeeps.{bare, unlocked, at_search, at_fill}
 use Rattle.laws.proofs.lemma_end_measure.Frame.{untouched}
 use Rattle.laws.proofs.lemma_end_measure.Giving.{live_at, changed_here}
@@ -141,7 +141,7 @@ module _ (script : Script) (s : State) (t : ℕ) (cmd : Command) (here : IsSome 
 
   -- the buffers that it holds stay
   own_same : (k : Kind) (c : Course) → SameLock (course s t) c → Works (course s t) cmd → (c.fail ≡ None → (course s t).fail ≡ None) → ((d : BufId) → has_buffer (course s t).held d ≡ true → buffer (after script s t k) d ≡ buffer s d)
-      → ((d : BufId) → (grip (after script s t k) d).pins ≡ (grip s d).pins) → Own k c
+      → ((d : BufId) → (reservation (after script s t k) d).pins ≡ (reservation s d).pins) → Own k c
   own_same k c l works fails same pins x d e h some =
       let held = subst (λ bs. has_buffer bs d ≡ true) l.held h in
       let w = carrying.carried t cmd d at held (subst (λ y. has_some_target y ≡ true) (same d held) some) in
@@ -157,7 +157,7 @@ module _ (script : Script) (s : State) (t : ℕ) (cmd : Command) (here : IsSome 
   -- the first unready one has changed, and is on its way if it has targets
   own_first : (k : Kind) (c : Course) (b : BufId) → SameLock (course s t) c → Works (course s t) cmd → first_unready script s cmd ≡ Some b
       → ((d : BufId) → same_buffer b d ≡ false → buffer (after script s t k) d ≡ buffer s d)
-      → (has_some_target (buffer (after script s t k) b) ≡ true → (asks cmd ≡ true) × ((grip (after script s t k) b).pins ≡ 0) × Carried (Fits script c cmd b (buffer (after script s t k) b)) (buffer (after script s t k) b))
+      → (has_some_target (buffer (after script s t k) b) ≡ true → (asks cmd ≡ true) × ((reservation (after script s t k) b).pins ≡ 0) × Carried (Fits script c cmd b (buffer (after script s t k) b)) (buffer (after script s t k) b))
       → Own k c
   own_first k c b l works u others goes x d e h some =
       subst (λ z. OnWay script (after script s t k) c z d) (one_command c x l e) (⊎_elim it other (same_or_other d b))
@@ -187,7 +187,7 @@ module _ (script : Script) (s : State) (t : ℕ) (cmd : Command) (here : IsSome 
 
   -- it had targets, so it was on its way
   own_step : (k : Kind) (c : Course) (b : BufId) → SameLock (course s t) c → Works (course s t) cmd → first_unready script s cmd ≡ Some b
-      → ((d : BufId) → same_buffer b d ≡ false → buffer (after script s t k) d ≡ buffer s d) → (grip (after script s t k) b).pins ≡ (grip s b).pins
+      → ((d : BufId) → same_buffer b d ≡ false → buffer (after script s t k) d ≡ buffer s d) → (reservation (after script s t k) b).pins ≡ (reservation s b).pins
       → (has_some_target (buffer (after script s t k) b) ≡ true → has_some_target (buffer s b) ≡ true)
       → (OnWay script s (course s t) cmd b → (has_some_target (buffer (after script s t k) b) ≡ false) ⊎ Carried (Fits script c cmd b (buffer (after script s t k) b)) (buffer (after script s t k) b))
       → Own k c
@@ -216,10 +216,10 @@ module _ (script : Script) (s : State) (t : ℕ) (cmd : Command) (here : IsSome 
   same_live k d e = ap (λ o. unwrap_or o (new_buffer 0)) e
 
   -- a victim that nobody held
-  own_catch : (v : BufId) (w : Why) → Works (course s t) cmd → (grip s v).holder ≡ None → Own (kind.Catch v w) (with_victim v w (course s t))
+  own_catch : (v : BufId) (w : Why) → Works (course s t) cmd → (reservation s v).holder ≡ None → Own (kind.Catch v w) (with_victim v w (course s t))
   own_catch v w works free =
       own_same (kind.Catch v w) (with_victim v w (course s t)) (record { answered = refl; made = refl; stamp = refl; held = refl; first = refl }) works (λ f. f)
-      (λ d h. same_live (kind.Catch v w) d (untouched script s t (kind.Catch v w) d (other_is v d (λ e. (let a = known.owned.held t d (inl h) in none_or (grip s d).holder a.0 (subst (λ z. (grip s z).holder ≡ None) e free) a.2)))))
+      (λ d h. same_live (kind.Catch v w) d (untouched script s t (kind.Catch v w) d (other_is v d (λ e. (let a = known.owned.held t d (inl h) in none_or (reservation s d).holder a.0 (subst (λ z. (reservation s z).holder ≡ None) e free) a.2)))))
       (λ d. pins_same script s t (kind.Catch v w) d refl)
 
   -- ---- searches
@@ -231,20 +231,20 @@ module _ (script : Script) (s : State) (t : ℕ) (cmd : Command) (here : IsSome 
   taken_here b mem spans live = ap (λ o. unwrap_or o (new_buffer 0)) (changed_here (taken s mem spans) s.core.buffers b (buffer s b) live)
 
   -- a hop is one in TT
-  hop_mem : (b : BufId) (place : Place) (mem : Mem) → OnBuffer script s (course s t) cmd b → has_some_target (buffer s b) ≡ true → PlaceOf (quest script cmd (course s t) b Hop) place → place.mem ≡ mem → Tt ≡ mem
+  hop_mem : (b : BufId) (place : Place) (mem : Mem) → OnBuffer script s (course s t) cmd b → has_some_target (buffer s b) ≡ true → PlaceOf (place_search script cmd (course s t) b Hop) place → place.mem ≡ mem → Tt ≡ mem
   hop_mem b place mem on some w m =
       sym (ap (λ p. p.mem) (hop_place script cmd (course s t) b place
       (λ c. ⊎_elim (λ z. z) (λ more. absurd (clash (sym some ∙ (left b on more).0))) (zero_or_more (course s t).dry)) w))
       ∙ m
 
-  own_asked : (b : BufId) (place : Place) (mem : Mem) (spans : List Span) → OnMisplaced script s (course s t) cmd b → has_some_target (buffer s b) ≡ false → PlaceOf (quest script cmd (course s t) b Asked) place → place.mem ≡ mem
+  own_asked : (b : BufId) (place : Place) (mem : Mem) (spans : List Span) → OnMisplaced script s (course s t) cmd b → has_some_target (buffer s b) ≡ false → PlaceOf (place_search script cmd (course s t) b Asked) place → place.mem ≡ mem
       → choice script s.core b place ≡ Some spans → Own (kind.Take b mem spans) (search_over b (course s t))
   own_asked b place mem spans on none w m ch =
       own_first (kind.Take b mem spans) (search_over b (course s t)) b (search_lock b (course s t)) on.on.named.works on.on.first
       (λ d h. same_live (kind.Take b mem spans) d (untouched script s t (kind.Take b mem spans) d h))
       (λ some. (
         asks_of script b (buffer s b) cmd on.misplaced none,
-        no_pins (grip s b).pins on.loose,
+        no_pins (reservation s b).pins on.loose,
         subst (λ z. Carried (Fits script (search_over b (course s t)) cmd b z) z) (sym (taken_here b mem spans live)) (meet_fits script cmd b (search_over b (course s t)) (taken s mem spans (buffer s b)) row),
       ))
     where
@@ -262,7 +262,7 @@ module _ (script : Script) (s : State) (t : ℕ) (cmd : Command) (here : IsSome 
           (zero_or_more (course s t).dry)
 
       listed : IsListed place (asked_places script cmd b)
-      listed = place_listed (quest script cmd (course s t) b Asked) place w more_places
+      listed = place_listed (place_search script cmd (course s t) b Asked) place w more_places
 
       fits : MeetsAt script cmd b (taken s mem spans (buffer s b)) mem
       fits = asked_fits script known.rules s.core cmd b place mem spans (at_target mem (taken s mem spans (buffer s b))) listed m ch refl (taken_spans mem spans (buffer s b) (taken s mem spans (buffer s b)) (took b mem spans))
@@ -284,7 +284,7 @@ module _ (script : Script) (s : State) (t : ℕ) (cmd : Command) (here : IsSome 
       (λ d h. same_live (kind.Take b Tt spans) d (untouched script s t (kind.Take b Tt spans) d h)) refl (λ h. some)
       (λ w. row_now (kind.Take b Tt spans) (search_over b (course s t)) b (taken s Tt spans (buffer s b)) (taken_here b Tt spans (first_live b on.named.works on.first)) (inr (row (fits_meet script cmd b (course s t) (buffer s b) on.fine w.row))))
 
-  own_take : (b : BufId) (aim : Aim) (place : Place) (mem : Mem) (spans : List Span) → Turn script s (course s t) cmd (task.Search b aim) → PlaceOf (quest script cmd (course s t) b aim) place → place.mem ≡ mem
+  own_take : (b : BufId) (aim : SearchAim) (place : Place) (mem : Mem) (spans : List Span) → Turn script s (course s t) cmd (task.Search b aim) → PlaceOf (place_search script cmd (course s t) b aim) place → place.mem ≡ mem
       → choice script s.core b place ≡ Some spans → Own (kind.Take b mem spans) (search_over b (course s t))
   own_take b aim place mem spans (victim_search v on i f q) w m ch =
       own_same (kind.Take v.b mem spans) (search_over v.b (course s t)) (search_lock v.b (course s t)) on.works (λ e. unfailed v on)
@@ -297,7 +297,7 @@ module _ (script : Script) (s : State) (t : ℕ) (cmd : Command) (here : IsSome 
       subst (λ z. Own (kind.Take b z spans) (search_over b (course s t))) (hop_mem b place mem on.on.on on.some w m)
       (own_hop b spans on.on.on on.some (down_row script cmd b spans (buffer s b) (taken s Tt spans (buffer s b)) (took b Tt spans) on.stands v q))
 
-  own_sought : (b : BufId) (aim : Aim) (k : Kind) → Turn script s (course s t) cmd (task.Search b aim) → Sought script s (course s t) b (quest script cmd (course s t) b aim) k → Own k (next_course script s t k)
+  own_sought : (b : BufId) (aim : SearchAim) (k : Kind) → Turn script s (course s t) cmd (task.Search b aim) → SearchOutcome script s (course s t) b (place_search script cmd (course s t) b aim) k → Own k (next_course script s t k)
   own_sought b aim k turn (finds place {mem} {spans} w m ch) = own_take b aim place mem spans turn w m ch
   own_sought b aim k turn (evicts place {v} {w} a n e f) = own_catch v w (at_search script s t cmd (known.owned.steady t) b aim turn).works (victim_free script s (course s t).skips place v f).free
   own_sought b aim k turn (dries place {w} a n) =
@@ -307,7 +307,7 @@ module _ (script : Script) (s : State) (t : ℕ) (cmd : Command) (here : IsSome 
   -- ---- pages
 
   own_page_of : (b : BufId) (k : Kind) (page : ℕ) (l : Loc) → OnBuffer script s (course s t) cmd b → (after script s t k).core.buffers ≡ changed (with_loc page l) s.core.buffers b
-      → ((d : BufId) → same_buffer b d ≡ false → live_in (after script s t k).core.buffers d ≡ live_in s.core.buffers d) → ((d : BufId) → (grip (after script s t k) d).pins ≡ (grip s d).pins) → Own k (course s t)
+      → ((d : BufId) → same_buffer b d ≡ false → live_in (after script s t k).core.buffers d ≡ live_in s.core.buffers d) → ((d : BufId) → (reservation (after script s t k) d).pins ≡ (reservation s d).pins) → Own k (course s t)
   own_page_of b k page l on core others pins =
       own_step k (course s t) b (lock_same (course s t)) on.named.works on.first (λ d h. same_live k d (others d h)) (pins b)
       (λ h. subst (λ y. has_some_target y ≡ true) is h)
@@ -318,7 +318,7 @@ module _ (script : Script) (s : State) (t : ℕ) (cmd : Command) (here : IsSome 
 
   -- the table of the buffer that is filled changes alone
   own_page : (b : BufId) (k : Kind) (page : ℕ) (l : Loc) → Turn script s (course s t) cmd (task.Fill b) → (after script s t k).core.buffers ≡ changed (with_loc page l) s.core.buffers b
-      → ((d : BufId) → same_buffer b d ≡ false → live_in (after script s t k).core.buffers d ≡ live_in s.core.buffers d) → ((d : BufId) → (grip (after script s t k) d).pins ≡ (grip s d).pins) → Own k (course s t)
+      → ((d : BufId) → same_buffer b d ≡ false → live_in (after script s t k).core.buffers d ≡ live_in s.core.buffers d) → ((d : BufId) → (reservation (after script s t k) d).pins ≡ (reservation s d).pins) → Own k (course s t)
   own_page b k page l (victim_fill v on i f q r) core others pins =
       own_same k (course s t) (lock_same (course s t)) on.works (λ f. f) (λ d h. same_live k d (others d (away v on d h))) pins
   own_page b k page l (fill_in_place on i) core others pins = own_page_of b k page l on core others pins
@@ -341,7 +341,7 @@ module _ (script : Script) (s : State) (t : ℕ) (cmd : Command) (here : IsSome 
 
   -- one step nearer
   own_carried : (k : Kind) (b : BufId) (y : Buffer) → OnBuffer script s (course s t) cmd b → has_some_target (buffer s b) ≡ true
-      → ((d : BufId) → same_buffer b d ≡ false → live_in (after script s t k).core.buffers d ≡ live_in s.core.buffers d) → (grip (after script s t k) b).pins ≡ (grip s b).pins → buffer (after script s t k) b ≡ y
+      → ((d : BufId) → same_buffer b d ≡ false → live_in (after script s t k).core.buffers d ≡ live_in s.core.buffers d) → (reservation (after script s t k) b).pins ≡ (reservation s b).pins → buffer (after script s t k) b ≡ y
       → (Carried (MeetsAt script cmd b (buffer s b)) (buffer s b) → Nearer script cmd b (buffer s b) y) → Own k (course s t)
   own_carried k b y on some others pins is near =
       own_step k (course s t) b (lock_same (course s t)) on.named.works on.first (λ d h. same_live k d (others d h)) pins (λ h. some)
@@ -363,7 +363,7 @@ module _ (script : Script) (s : State) (t : ℕ) (cmd : Command) (here : IsSome 
   -- ---- what a failed search gives back
 
   own_given : (b : BufId) (d : Deny) (f : Buffer → Buffer) (k : Kind) → OnNamed s (course s t) cmd → (course s t).fail ≡ Some d → first_unready script s cmd ≡ Some b
-      → ((e : BufId) → same_buffer b e ≡ false → live_in (after script s t k).core.buffers e ≡ live_in s.core.buffers e) → (grip (after script s t k) b).pins ≡ (grip s b).pins → (after script s t k).core.buffers ≡ changed f s.core.buffers b
+      → ((e : BufId) → same_buffer b e ≡ false → live_in (after script s t k).core.buffers e ≡ live_in s.core.buffers e) → (reservation (after script s t k) b).pins ≡ (reservation s b).pins → (after script s t k).core.buffers ≡ changed f s.core.buffers b
       → (has_some_target (f (buffer s b)) ≡ true → has_some_target (buffer s b) ≡ true)
       → (Carried (Fits script (course s t) cmd b (buffer s b)) (buffer s b) → (has_some_target (f (buffer s b)) ≡ false) ⊎ Carried (Fits script (course s t) cmd b (f (buffer s b))) (f (buffer s b))) → Own k (course s t)
   own_given b d f k on failed u others pins core had row =
@@ -389,7 +389,7 @@ module _ (script : Script) (s : State) (t : ℕ) (cmd : Command) (here : IsSome 
       own_none k _
       (λ d h. ⊎_elim
       (λ held. clear_locking b f d held)
-      (λ q. false_from_ne_true (has_some_target (buffer s d)) (λ some. carrying.targets d some (subst (λ z. (grip s z).holder ≡ None) (sym q) free)))
+      (λ q. false_from_ne_true (has_some_target (buffer s d)) (λ some. carrying.targets d some (subst (λ z. (reservation s z).holder ≡ None) (sym q) free)))
       (has_pushed (course s t).held b d h))
   own_keeps x k (lock m n f) (backs l h q) = own_none k _ (λ d h. absurd (clash (sym h)))
   own_keeps x k turn (seeks {b} {aim} sought) = own_sought b aim k turn sought

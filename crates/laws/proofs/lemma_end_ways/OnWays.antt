@@ -11,16 +11,16 @@ use Rattle.journal_model.specs.declared.script.Command.{Command}
 use Rattle.journal_model.specs.declared.script.Command.TheVariants as command
 use Rattle.journal_model.specs.declared.state.State.{State}
 use Rattle.journal_model.specs.declared.state.Course.{Course}
-use Rattle.journal_model.specs.declared.state.Grip.{Grip}
+use Rattle.journal_model.specs.declared.state.Reservation.{Reservation}
 use Rattle.journal_model.specs.declared.state.Task.{Task}
 use Rattle.journal_model.specs.declared.state.Task.TheVariants as task
 use Rattle.journal_model.specs.declared.entry.Kind.{Kind}
 use Rattle.journal_model.specs.declared.entry.Kind.TheVariants as kind
 use Rattle.journal_model.specs.declared.entry.Shown.{Shown}
-use Rattle.journal_model.specs.State.{new_buffer, buffer, grip, grip_in, no_grip, regripped, course, has_buffer, same_buffer}
+use Rattle.journal_model.specs.State.{new_buffer, buffer, reservation, reservation_in, no_reservation, reservation_changed, course, has_buffer, same_buffer}
 use Rattle.journal_model.specs.Commands.{named, command_at_work}
 use Rattle.journal_model.specs.Ready.{is_in_place, is_filled, is_ready, first_unready, has_some_target}
-use Rattle.journal_model.specs.Search.{is_caught, quest_at_work}
+use Rattle.journal_model.specs.Search.{is_caught, place_search_at_work}
 use Rattle.journal_model.specs.Tasks.{starts}
 use Rattle.journal_model.specs.ApplyCommands.{with_holder, released, with_pins, pinned_more, pinned_less}
 use Rattle.journal_model.specs.ApplyPages.{search_over}
@@ -33,7 +33,7 @@ use Rattle.laws.proofs.law_sound.Turns.{Turn, Works, answer, act}
 use Rattle.laws.proofs.law_sound.Gifts.{Gives, answers, seeks, fills, acts}
 use Rattle.laws.proofs.law_sound.Bufs.{same_self, same_is, same_or_other, has_found, none_missing, clash}
 use Rattle.laws.proofs.law_sound.Owners.{OneCourse, none_or}
-use Rattle.laws.proofs.law_sound.Grips.{grip_other}
+use Rattle.laws.proofs.law_sound.Reservations.{reservation_other}
 use Rattle.laws.proofs.law_sound.OwnedKeeps.{HasIn}
 use Rattle.laws.proofs.lemma_end_measure.Frame.{touches, untouched, touched_mine}
 use Rattle.laws.proofs.lemma_end_measure.Parts.{after}
@@ -44,12 +44,12 @@ pub record OnWay (script : Script) (s : State) (c : Course) (cmd : Command) (b :
   pub works : Works c cmd
   pub first : first_unready script s cmd ≡ Some b
   pub asked : asks cmd ≡ true
-  pub loose : (grip s b).pins ≡ 0
+  pub loose : (reservation s b).pins ≡ 0
   pub row : Carried (Fits script c cmd b (buffer s b)) (buffer s b)
 
 -- a buffer with targets has a holder, and where a thread holds it by name, it is on its way
 pub record Carrying (script : Script) (s : State) : Type 0 where
-  pub targets : (b : BufId) → has_some_target (buffer s b) ≡ true → (grip s b).holder ≡ None → ⊥
+  pub targets : (b : BufId) → has_some_target (buffer s b) ≡ true → (reservation s b).holder ≡ None → ⊥
   pub carried : (t : ℕ) (cmd : Command) (b : BufId) → command_of script t (course s t) ≡ Some cmd → has_buffer (course s t).held b ≡ true → has_some_target (buffer s b) ≡ true → OnWay script s (course s t) cmd b
 
 -- ---- the first that passes
@@ -115,22 +115,22 @@ pub dry_lock : (script : Script) (s : State) (b : BufId) (k : ℕ) (o : Option C
 dry_lock script s b k None c = lock_same c
 dry_lock script s b k (Some cmd) c = by (is_caught c b)
   where
-    by : (q : Bool) → SameLock c (if q then with_fail b deny.NoSpace c else gone_dry k (length (forced_places (quest_at_work script s c cmd b).list)) c)
+    by : (q : Bool) → SameLock c (if q then with_fail b deny.NoSpace c else gone_dry k (length (forced_places (place_search_at_work script s c cmd b).list)) c)
     by true = fail_lock b deny.NoSpace c
     by false = record { answered = refl; made = refl; stamp = refl; held = refl; first = refl }
 
 -- ---- pins
 
-pins_set : (grips : List Grip) (b d : BufId) (g : Grip) → g.pins ≡ (grip_in grips b).pins → (grip_in (slice_set grips b.0 g) d).pins ≡ (grip_in grips d).pins
-pins_set grips b d g h =
+pins_set : (reservations : List Reservation) (b d : BufId) (g : Reservation) → g.pins ≡ (reservation_in reservations b).pins → (reservation_in (slice_set reservations b.0 g) d).pins ≡ (reservation_in reservations d).pins
+pins_set reservations b d g h =
     ⊎_elim
-    (λ e. ap (λ o. (unwrap_or o no_grip).pins) e)
-    (λ e. ap (λ o. (unwrap_or o no_grip).pins) e.1 ∙ (h ∙ ap (λ i. (unwrap_or (slice_get grips i) no_grip).pins) e.0))
-    (set_at grips b.0 d.0 g)
+    (λ e. ap (λ o. (unwrap_or o no_reservation).pins) e)
+    (λ e. ap (λ o. (unwrap_or o no_reservation).pins) e.1 ∙ (h ∙ ap (λ i. (unwrap_or (slice_get reservations i) no_reservation).pins) e.0))
+    (set_at reservations b.0 d.0 g)
 
-pins_released : (bs : List BufId) (grips : List Grip) (d : BufId) → (grip_in (released grips bs) d).pins ≡ (grip_in grips d).pins
-pins_released [] grips d = refl
-pins_released (b ∷ bs) grips d = pins_released bs (regripped (with_holder None) grips b) d ∙ pins_set grips b d (with_holder None (grip_in grips b)) refl
+pins_released : (bs : List BufId) (reservations : List Reservation) (d : BufId) → (reservation_in (released reservations bs) d).pins ≡ (reservation_in reservations d).pins
+pins_released [] reservations d = refl
+pins_released (b ∷ bs) reservations d = pins_released bs (reservation_changed (with_holder None) reservations b) d ∙ pins_set reservations b d (with_holder None (reservation_in reservations b)) refl
 
 abbrev pub pinned_by : Option Command → BufId → Bool
 pinned_by (Some (command.Pin b)) d = same_buffer b d
@@ -147,29 +147,29 @@ repinned script s t _ d = false
 not_it : (b d : BufId) → same_buffer b d ≡ false → d ≡ b → ⊥
 not_it b d h e = both_ways (same_buffer b d) h (subst (λ z. same_buffer b z ≡ true) (sym e) (same_self b))
 
-pins_with : (o : Option Command) (grips : List Grip) (d : BufId) → pinned_by o d ≡ false → (grip_in (with_pins o grips) d).pins ≡ (grip_in grips d).pins
-pins_with None grips d h = refl
-pins_with (Some (command.Pin b)) grips d h = ap (λ g. g.pins) (grip_other grips b d (pinned_more (grip_in grips b)) (not_it b d h))
-pins_with (Some (command.Unpin b)) grips d h = ap (λ g. g.pins) (grip_other grips b d (pinned_less (grip_in grips b)) (not_it b d h))
-pins_with (Some cmd) grips d h = refl
+pins_with : (o : Option Command) (reservations : List Reservation) (d : BufId) → pinned_by o d ≡ false → (reservation_in (with_pins o reservations) d).pins ≡ (reservation_in reservations d).pins
+pins_with None reservations d h = refl
+pins_with (Some (command.Pin b)) reservations d h = ap (λ g. g.pins) (reservation_other reservations b d (pinned_more (reservation_in reservations b)) (not_it b d h))
+pins_with (Some (command.Unpin b)) reservations d h = ap (λ g. g.pins) (reservation_other reservations b d (pinned_less (reservation_in reservations b)) (not_it b d h))
+pins_with (Some cmd) reservations d h = refl
 
-pub pins_same : (script : Script) (s : State) (t : ℕ) (k : Kind) (d : BufId) → repinned script s t k d ≡ false → (grip (after script s t k) d).pins ≡ (grip s d).pins
-pins_same script s t (kind.New b) d h = ap (λ g. g.pins) (grip_other s.grips b d no_grip (not_it b d h))
-pins_same script s t (kind.Free b g) d h = ap (λ g. g.pins) (grip_other s.grips b d no_grip (not_it b d h))
-pins_same script s t (kind.Result r) d h = pins_with (command_at_work script s t) (released s.grips (course s t).held) d h ∙ pins_released (course s t).held s.grips d
-pins_same script s t (kind.Refused x) d h = pins_released (course s t).held s.grips d
-pins_same script s t (kind.Backoff b stamp) d h = pins_released (course s t).held s.grips d
-pins_same script s t (kind.Reserve b) d h = pins_set s.grips b d (with_holder (course s t).stamp (grip s b)) refl
-pins_same script s t (kind.Catch b w) d h = pins_set s.grips b d (with_holder (course s t).stamp (grip s b)) refl
-pins_same script s t (kind.Loose b) d h = pins_set s.grips b d (with_holder None (grip s b)) refl
-pins_same script s t (kind.Skip b) d h = pins_set s.grips b d (with_holder None (grip s b)) refl
+pub pins_same : (script : Script) (s : State) (t : ℕ) (k : Kind) (d : BufId) → repinned script s t k d ≡ false → (reservation (after script s t k) d).pins ≡ (reservation s d).pins
+pins_same script s t (kind.New b) d h = ap (λ g. g.pins) (reservation_other s.reservations b d no_reservation (not_it b d h))
+pins_same script s t (kind.Free b g) d h = ap (λ g. g.pins) (reservation_other s.reservations b d no_reservation (not_it b d h))
+pins_same script s t (kind.Result r) d h = pins_with (command_at_work script s t) (released s.reservations (course s t).held) d h ∙ pins_released (course s t).held s.reservations d
+pins_same script s t (kind.Refused x) d h = pins_released (course s t).held s.reservations d
+pins_same script s t (kind.Backoff b stamp) d h = pins_released (course s t).held s.reservations d
+pins_same script s t (kind.Reserve b) d h = pins_set s.reservations b d (with_holder (course s t).stamp (reservation s b)) refl
+pins_same script s t (kind.Catch b w) d h = pins_set s.reservations b d (with_holder (course s t).stamp (reservation s b)) refl
+pins_same script s t (kind.Loose b) d h = pins_set s.reservations b d (with_holder None (reservation s b)) refl
+pins_same script s t (kind.Skip b) d h = pins_set s.reservations b d (with_holder None (reservation s b)) refl
 pins_same script s t k d h = refl
 
 -- ---- on its way still
 
 -- the buffers of the command are the same, and the course stays in its locks
 pub on_way_kept : (script : Script) (s s' : State) (c c' : Course) (cmd : Command) (b : BufId) → SameLock c c' → (c'.fail ≡ None → c.fail ≡ None)
-    → ((d : BufId) → has_buffer (named cmd) d ≡ true → buffer s' d ≡ buffer s d) → (grip s' b).pins ≡ (grip s b).pins → OnWay script s c cmd b → OnWay script s' c' cmd b
+    → ((d : BufId) → has_buffer (named cmd) d ≡ true → buffer s' d ≡ buffer s d) → (reservation s' b).pins ≡ (reservation s b).pins → OnWay script s c cmd b → OnWay script s' c' cmd b
 on_way_kept script s s' c c' cmd b lock fails same pins w =
     record {
       works = works_alike c c' cmd lock w.works;
@@ -199,7 +199,7 @@ module _ (script : Script) (s : State) (t : ℕ) (k : Kind) (owned : Owned scrip
       ⊎_elim
       (λ g. absurd (⊎_elim
       (λ m. not_mine u d other h m)
-      (λ f. let b = owned.held u d h in none_or (grip s d).holder b.0 f b.2)
+      (λ f. let b = owned.held u d h in none_or (reservation s d).holder b.0 f b.2)
       (touched_mine script s t st.step.cmd st.step.at_work owned st.step.task k d st.turn st.gives g)))
       (λ g. g)
       (cases_Bool (touches script s t k d))

@@ -32,7 +32,7 @@ use Rattle.journal_model.specs.ScriptRules.{is_name, is_group, is_flagged, is_ol
 use Rattle.journal_model.specs.Holds.{size_of, is_free_page}
 use Rattle.journal_model.specs.Choice.{choice, choice_in, range_at, blocks_at, reach_of}
 use Rattle.journal_model.specs.Ready.{meets}
-use Rattle.journal_model.specs.Search.{Quest}
+use Rattle.journal_model.specs.Search.{PlaceSearch}
 use Rattle.laws.proofs.law_state.JobsKeep.{all_at}
 use Rattle.laws.proofs.law_state.Rules.{Rules}
 use Rattle.laws.proofs.law_sound.Gifts.{PlaceOf, first, forced}
@@ -252,7 +252,7 @@ get_below (x ∷ xs) zero h = (x, refl)
 get_below (x ∷ xs) (suc i) h = get_below xs i (omega arith)
 
 -- the place of a search is one of its list, as long as a forced place is left
-pub place_listed : (q : Quest) (place : Place) → PlaceOf q place → q.dry < length (forced_places q.list) → IsListed place q.list
+pub place_listed : (q : PlaceSearch) (place : Place) → PlaceOf q place → q.dry < length (forced_places q.list) → IsListed place q.list
 place_listed q place (first i f h) left = kept_listed (λ p. not p.fallback) q.list i place h
 place_listed q place (forced e) left =
     let it = get_below (forced_places q.list) q.dry left in

@@ -16,7 +16,7 @@ use Rattle.journal_model.specs.declared.state.State.{State}
 use Rattle.journal_model.specs.declared.state.Course.{Course}
 use Rattle.journal_model.specs.declared.state.Victim.{Victim}
 use Rattle.journal_model.specs.declared.state.Buffer.{Buffer}
-use Rattle.journal_model.specs.declared.state.Aim.TheVariants.{Hop}
+use Rattle.journal_model.specs.declared.state.SearchAim.TheVariants.{Hop}
 use Rattle.journal_model.specs.declared.entry.Kind.TheVariants as kind
 use Rattle.journal_model.specs.State.{new_buffer, buffer, course, has_buffer, has_target, with_target, changed}
 use Rattle.journal_model.specs.Commands.{whole}
@@ -25,7 +25,7 @@ use Rattle.journal_model.specs.Holds.{has_number}
 use Rattle.journal_model.specs.Waits.{jobs_before_target}
 use Rattle.journal_model.specs.Ready.{has_some_target, is_in_place}
 use Rattle.ttm_base.specs.Placement.{forced_places}
-use Rattle.journal_model.specs.Search.{quest, is_caught, through_tt}
+use Rattle.journal_model.specs.Search.{place_search, is_caught, through_tt}
 use Rattle.journal_model.specs.Apply.{applied}
 use Rattle.journal_model.specs.ApplyPages.{with_fence, with_spans, with_kernel_fences}
 use Rattle.laws.proofs.law_sound.Measure.{carries_left, steps_left, slots_to_fill, named_left, not_skipped, victim_left, page_left, left_of_buffer, measure}
@@ -88,7 +88,7 @@ some_taken s mem spans x =
     by Vram = or_right (is_some x.targets.system || is_some x.targets.tt) true refl
 
 -- a choice for a hop is one in TT
-pub hop_place : (script : Script) (cmd : Command) (c : Course) (b : BufId) (place : Place) → (is_caught c b ≡ false → c.dry ≡ 0) → PlaceOf (quest script cmd c b Hop) place → place ≡ whole Tt
+pub hop_place : (script : Script) (cmd : Command) (c : Course) (b : BufId) (place : Place) → (is_caught c b ≡ false → c.dry ≡ 0) → PlaceOf (place_search script cmd c b Hop) place → place ≡ whole Tt
 hop_place script cmd c b place fresh h = by (is_caught c b) refl h
   where
     by : (q : Bool) → is_caught c b ≡ q → PlaceOf (if q then record { list = through_tt; forced = false; dry = 0 } else record { list = through_tt; forced = c.forced; dry = c.dry }) place → place ≡ whole Tt

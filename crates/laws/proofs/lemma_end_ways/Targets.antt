@@ -18,16 +18,16 @@ use Rattle.journal_model.specs.declared.state.Buffer.{Buffer}
 use Rattle.journal_model.specs.declared.state.Victim.{Victim}
 use Rattle.journal_model.specs.declared.state.Task.{Task}
 use Rattle.journal_model.specs.declared.state.Task.TheVariants as task
-use Rattle.journal_model.specs.declared.state.Aim.{Aim}
+use Rattle.journal_model.specs.declared.state.SearchAim.{SearchAim}
 use Rattle.journal_model.specs.declared.entry.Why.{Why}
 use Rattle.journal_model.specs.declared.entry.Why.TheVariants as why
 use Rattle.journal_model.specs.declared.entry.Kind.{Kind}
 use Rattle.journal_model.specs.declared.entry.Kind.TheVariants as kind
-use Rattle.journal_model.specs.State.{new_buffer, buffer, grip, grip_in, no_grip, course, course_of, has_buffer, has_target, same_buffer, live_in, is_live}
+use Rattle.journal_model.specs.State.{new_buffer, buffer, reservation, reservation_in, no_reservation, course, course_of, has_buffer, has_target, same_buffer, live_in, is_live}
 use Rattle.journal_model.specs.Commands.{named, command_at_work}
 use Rattle.journal_model.specs.Dry.{has_frame}
 use Rattle.journal_model.specs.Ready.{is_ready, first_unready, has_some_target}
-use Rattle.journal_model.specs.Search.{quest}
+use Rattle.journal_model.specs.Search.{place_search}
 use Rattle.journal_model.specs.Tasks.{forbidden}
 use Rattle.journal_model.specs.ApplyCommands.{named_in, released, with_holder}
 use Rattle.journal_model.specs.Apply.{applied}
@@ -37,10 +37,10 @@ use Rattle.laws.proofs.law_state.Lists.{set_at}
 use Rattle.laws.specs.law_sound.Sound.{asks, command_of, locks, OnItsWay, in_vram, to_tt, out_of_vram, in_tt, in_system}
 use Rattle.laws.proofs.law_sound.Along.{Stepped, OfWorker, packet, done, reap}
 use Rattle.laws.proofs.law_sound.Turns.{Turn, Works, OnNamed, Emptied, for_tt, for_swap, left_vram, Refusal, ban, pinned, Surrender, bare, ready, answer, start, lock, victim_empty, victim_skip, refuse, give_up, act}
-use Rattle.laws.proofs.law_sound.Gifts.{Gives, Sought, Filled, answers, makes, exists, shifts, draws, no_buffer, reserves, backs, seeks, binds, unbinds, moves, fills, lets_go, empties, depopulates, untakes, skips, gives_up, refuses, arms, frees, swaps, no_swap, acts, finds, evicts, dries, fresh, again, back, evicts_for_swap, nothing}
+use Rattle.laws.proofs.law_sound.Gifts.{Gives, SearchOutcome, Filled, answers, makes, exists, shifts, draws, no_buffer, reserves, backs, seeks, binds, unbinds, moves, fills, lets_go, empties, depopulates, untakes, skips, gives_up, refuses, arms, frees, swaps, no_swap, acts, finds, evicts, dries, fresh, again, back, evicts_for_swap, nothing}
 use Rattle.laws.proofs.law_sound.Bufs.{same_self, same_is, same_or_other, other_is, has_found, none_missing, clash}
 use Rattle.laws.proofs.law_sound.Owners.{none_or}
-use Rattle.laws.proofs.law_sound.Grips.{IsFree, grip_other, grip_here, released_other, pins_hold, live_set, live_within, victim_free, swap_free, one_course}
+use Rattle.laws.proofs.law_sound.Reservations.{IsFree, reservation_other, reservation_here, released_other, pins_hold, live_set, live_within, victim_free, swap_free, one_course}
 use Rattle.laws.proofs.law_sound.OwnedKeeps.{HasIn, unlocked, at_search, at_fill, has_stamp, begun_locks}
 use Rattle.laws.proofs.law_sound.Steadies.{own_course}
 use Rattle.laws.proofs.lemma_end_measure.Frame.{touches, untouched, turn_has}
@@ -71,36 +71,36 @@ module _ (script : Script) (s : State) (t : ℕ) (cmd : Command) (here : IsSome 
   Clear = (d : BufId) → has_buffer (course s t).held d ≡ true → has_some_target (buffer s d) ≡ false
 
   abbrev Held : Kind → Type 0
-  Held k = (d : BufId) → has_some_target (buffer (after script s t k) d) ≡ true → (grip (after script s t k) d).holder ≡ None → ⊥
+  Held k = (d : BufId) → has_some_target (buffer (after script s t k) d) ≡ true → (reservation (after script s t k) d).holder ≡ None → ⊥
 
   is_clear : ((d : BufId) → OnWay script s (course s t) cmd d → has_some_target (buffer s d) ≡ true → ⊥) → Clear
   is_clear = clear script s t cmd here at known spanless carrying places
 
   -- only buffers that the thread has change, and no holder
-  changes_own : (k : Kind) → ((d : BufId) → touches script s t k d ≡ true → HasIn (course s t) d) → ((d : BufId) → (grip (after script s t k) d).holder ≡ (grip s d).holder) → Held k
+  changes_own : (k : Kind) → ((d : BufId) → touches script s t k d ≡ true → HasIn (course s t) d) → ((d : BufId) → (reservation (after script s t k) d).holder ≡ (reservation s d).holder) → Held k
   changes_own k own holders d some none =
       ⊎_elim
-      (λ g. let w = known.owned.held t d (own d g) in none_or (grip s d).holder w.0 (sym (holders d) ∙ none) w.2)
+      (λ g. let w = known.owned.held t d (own d g) in none_or (reservation s d).holder w.0 (sym (holders d) ∙ none) w.2)
       (λ g. carrying.targets d (subst (λ y. has_some_target y ≡ true) (ap (λ o. unwrap_or o (new_buffer 0)) (untouched script s t k d g)) some) (sym (holders d) ∙ none))
       (cases_Bool (touches script s t k d))
 
-  changes_none : (k : Kind) → ((d : BufId) → touches script s t k d ≡ false) → ((d : BufId) → (grip (after script s t k) d).holder ≡ (grip s d).holder) → Held k
+  changes_none : (k : Kind) → ((d : BufId) → touches script s t k d ≡ false) → ((d : BufId) → (reservation (after script s t k) d).holder ≡ (reservation s d).holder) → Held k
   changes_none k none holders = changes_own k (λ d g. absurd (clash (sym g ∙ none d))) holders
 
   its : (b d : BufId) → HasIn (course s t) b → same_buffer b d ≡ true → HasIn (course s t) d
   its b d h q = subst (HasIn (course s t)) (same_is b d q) h
 
   -- all that is held is let go, and has no target
-  lets_all : (k : Kind) → Clear → ((d : BufId) → buffer (after script s t k) d ≡ buffer s d) → ((d : BufId) → (grip (after script s t k) d).holder ≡ (grip_in (released s.grips (course s t).held) d).holder) → Held k
+  lets_all : (k : Kind) → Clear → ((d : BufId) → buffer (after script s t k) d ≡ buffer s d) → ((d : BufId) → (reservation (after script s t k) d).holder ≡ (reservation_in (released s.reservations (course s t).held) d).holder) → Held k
   lets_all k none same holders d some free =
       let was = subst (λ y. has_some_target y ≡ true) (same d) some in
       ⊎_elim
       (λ h. clash (sym was ∙ none d h))
-      (λ h. carrying.targets d was (ap (λ g. g.holder) (sym (released_other (course s t).held s.grips d h)) ∙ (sym (holders d) ∙ free)))
+      (λ h. carrying.targets d was (ap (λ g. g.holder) (sym (released_other (course s t).held s.reservations d h)) ∙ (sym (holders d) ∙ free)))
       (cases_Bool (has_buffer (course s t).held d))
 
   -- one victim is let go, and has no target
-  lets_one : (k : Kind) (b : BufId) → has_some_target (buffer s b) ≡ false → ((d : BufId) → buffer (after script s t k) d ≡ buffer s d) → ((d : BufId) → (d ≡ b → ⊥) → (grip (after script s t k) d).holder ≡ (grip s d).holder) → Held k
+  lets_one : (k : Kind) (b : BufId) → has_some_target (buffer s b) ≡ false → ((d : BufId) → buffer (after script s t k) d ≡ buffer s d) → ((d : BufId) → (d ≡ b → ⊥) → (reservation (after script s t k) d).holder ≡ (reservation s d).holder) → Held k
   lets_one k b none same holders d some free =
       let was = subst (λ y. has_some_target y ≡ true) (same d) some in
       ⊎_elim
@@ -113,17 +113,17 @@ module _ (script : Script) (s : State) (t : ℕ) (cmd : Command) (here : IsSome 
       ⊎_elim
       (λ e.
       let st = has_stamp script s t cmd here at known.owned (begun_locks script s t cmd here at known.owned works.begun) works.begun in
-      let now = ap (λ g. g.holder) (grip_here s.grips v (with_holder (course s t).stamp (grip s v)) (let l = live_within s.core.buffers v.0 free.live in let g = known.owned.grips in omega (arith, l, g))) ∙ st.1 in
-      none_or (grip (after script s t (kind.Catch v w)) v).holder st.0 (subst (λ z. (grip (after script s t (kind.Catch v w)) z).holder ≡ None) e none) now)
+      let now = ap (λ g. g.holder) (reservation_here s.reservations v (with_holder (course s t).stamp (reservation s v)) (let l = live_within s.core.buffers v.0 free.live in let g = known.owned.reservations in omega (arith, l, g))) ∙ st.1 in
+      none_or (reservation (after script s t (kind.Catch v w)) v).holder st.0 (subst (λ z. (reservation (after script s t (kind.Catch v w)) z).holder ≡ None) e none) now)
       (λ n.
       carrying.targets d (subst (λ y. has_some_target y ≡ true) (ap (λ o. unwrap_or o (new_buffer 0)) (untouched script s t (kind.Catch v w) d (other_is v d (λ q. n (sym q))))) some)
-      (sym (ap (λ g. g.holder) (grip_other s.grips v d (with_holder (course s t).stamp (grip s v)) n)) ∙ none))
+      (sym (ap (λ g. g.holder) (reservation_other s.reservations v d (with_holder (course s t).stamp (reservation s v)) n)) ∙ none))
       (same_or_other d v)
 
-  sought_held : (b : BufId) (aim : Aim) (k : Kind) → Turn script s (course s t) cmd (task.Search b aim) → Sought script s (course s t) b (quest script cmd (course s t) b aim) k → Held k
+  sought_held : (b : BufId) (aim : SearchAim) (k : Kind) → Turn script s (course s t) cmd (task.Search b aim) → SearchOutcome script s (course s t) b (place_search script cmd (course s t) b aim) k → Held k
   sought_held b aim k turn (finds place {mem} {spans} w m e) = changes_own (kind.Take b mem spans) (λ d q. its b d (turn_has script s (course s t) cmd (task.Search b aim) b turn refl) q) (λ d. refl)
   sought_held b aim k turn (evicts place {v} {w} a n e f) = catches v w (at_search script s t cmd (known.owned.steady t) b aim turn).works (victim_free script s (course s t).skips place v f)
-  sought_held b aim k turn (dries place {w} a n) = changes_none (kind.Dry b (quest script cmd (course s t) b aim).dry w) (λ d. refl) (λ d. refl)
+  sought_held b aim k turn (dries place {w} a n) = changes_none (kind.Dry b (place_search script cmd (course s t) b aim).dry w) (λ d. refl) (λ d. refl)
 
   filled_held : (b : BufId) (k : Kind) → Turn script s (course s t) cmd (task.Fill b) → Filled script s b k → Held k
   filled_held b k turn (fresh {frame} f l) = changes_own (kind.Populate b _ frame) (λ d q. its b d (turn_has script s (course s t) cmd (task.Fill b) b turn refl) q) (λ d. refl)
@@ -140,7 +140,7 @@ module _ (script : Script) (s : State) (t : ℕ) (cmd : Command) (here : IsSome 
   banned (command.SwapOut b) e is f d w =
       let member = subst (λ z. has_buffer (named z) d ≡ true) is (has_found (λ y. not (is_ready script s cmd y)) (named cmd) d w.first) in
       let it : d ≡ b = ⊎_elim (λ q. same_is d b q) (λ q. absurd (let z : false ≡ true = q in cc)) (or_cases (same_buffer d b) false member) in
-      let loose : (grip s b).pins ≡ 0 = subst (λ z. (grip s z).pins ≡ 0) it w.loose in
+      let loose : (reservation s b).pins ≡ 0 = subst (λ z. (reservation s z).pins ≡ 0) it w.loose in
       let z : None ≡ Some e = sym (ap (λ n. if nat_lt 0 n then Some deny.Pinned else None) loose) ∙ f in cc
   banned cmd e is f d w = cc
 
@@ -150,7 +150,7 @@ module _ (script : Script) (s : State) (t : ℕ) (cmd : Command) (here : IsSome 
       is_clear
       (λ d w some.
       let it : d ≡ b = (let z : Some d ≡ Some b = sym w.first ∙ u in cc) in
-      let loose : (grip s b).pins ≡ 0 = subst (λ z. (grip s z).pins ≡ 0) it w.loose in
+      let loose : (reservation s b).pins ≡ 0 = subst (λ z. (reservation s z).pins ≡ 0) it w.loose in
       clash (sym q ∙ ap (λ n. nat_lt 0 n) loose))
 
   given_clear : Surrender script s cmd → Clear
@@ -178,7 +178,7 @@ module _ (script : Script) (s : State) (t : ℕ) (cmd : Command) (here : IsSome 
       (λ same. clash (sym (subst (λ y. has_some_target y ≡ true) (ap (λ o. unwrap_or (option_and_then (λ x. x) o) (new_buffer 0)) same) some) ∙ subst (λ z. has_some_target (buffer s z) ≡ false) (sym e) (dead_bare b dead)))
       (λ now. clash (sym (subst (λ y. has_some_target y ≡ true) (ap (λ o. unwrap_or (option_and_then (λ x. x) o) (new_buffer 0)) now.1) some)))
       (set_at s.core.buffers b.0 d.0 _))
-      (λ n. carrying.targets d (subst (λ y. has_some_target y ≡ true) (ap (λ o. unwrap_or o (new_buffer 0)) (live_set s.core.buffers b d _ n)) some) (sym (ap (λ g. g.holder) (grip_other s.grips b d no_grip n)) ∙ none))
+      (λ n. carrying.targets d (subst (λ y. has_some_target y ≡ true) (ap (λ o. unwrap_or o (new_buffer 0)) (live_set s.core.buffers b d _ n)) some) (sym (ap (λ g. g.holder) (reservation_other s.reservations b d no_reservation n)) ∙ none))
       (same_or_other d b)
 
   frees_held : (b : BufId) (g : ℕ) → has_buffer (course s t).held b ≡ true → Clear → Held (kind.Free b g)
@@ -188,7 +188,7 @@ module _ (script : Script) (s : State) (t : ℕ) (cmd : Command) (here : IsSome 
       (λ same. clash (sym (subst (λ y. has_some_target y ≡ true) (ap (λ o. unwrap_or (option_and_then (λ x. x) o) (new_buffer 0)) same) some) ∙ subst (λ z. has_some_target (buffer s z) ≡ false) (sym e) (none b mine)))
       (λ now. clash (sym (subst (λ y. has_some_target y ≡ true) (ap (λ o. unwrap_or (option_and_then (λ x. x) o) (new_buffer 0)) now.1) some)))
       (set_at s.core.buffers b.0 d.0 None))
-      (λ n. carrying.targets d (subst (λ y. has_some_target y ≡ true) (ap (λ o. unwrap_or o (new_buffer 0)) (live_set s.core.buffers b d None n)) some) (sym (ap (λ z. z.holder) (grip_other s.grips b d no_grip n)) ∙ free))
+      (λ n. carrying.targets d (subst (λ y. has_some_target y ≡ true) (ap (λ o. unwrap_or o (new_buffer 0)) (live_set s.core.buffers b d None n)) some) (sym (ap (λ z. z.holder) (reservation_other s.reservations b d no_reservation n)) ∙ free))
       (same_or_other d b)
 
   ready_clear : first_unready script s cmd ≡ None → Clear
@@ -201,7 +201,7 @@ module _ (script : Script) (s : State) (t : ℕ) (cmd : Command) (here : IsSome 
   alone b x e h = subst (λ z. has_buffer (named z) b ≡ true) (sym e) h
 
   pub targets_keep : (x : Task) (k : Kind) → Turn script s (course s t) cmd x → Gives script s (course s t) cmd x k → Held k
-  targets_keep x k (answer m) (answers) = lets_all k (is_clear (λ d w some. clash (sym m ∙ w.works.unmade))) (λ d. refl) (λ d. pins_hold (command_at_work script s t) (released s.grips (course s t).held) d)
+  targets_keep x k (answer m) (answers) = lets_all k (is_clear (λ d w some. clash (sym m ∙ w.works.unmade))) (λ d. refl) (λ d. pins_hold (command_at_work script s t) (released s.reservations (course s t).held) d)
   targets_keep x k (start m q) (makes {b} e dead) = makes_held b dead
   targets_keep x k (start m q) (exists e) = lets_all k (none_held (ap locks e)) (λ d. refl) (λ d. refl)
   targets_keep x k (start m q) (shifts e) = changes_none k (λ d. refl) (λ d. refl)
@@ -210,8 +210,8 @@ module _ (script : Script) (s : State) (t : ℕ) (cmd : Command) (here : IsSome 
   targets_keep x k (lock m n f) (reserves {b} l free) =
       λ d some none.
       ⊎_elim
-      (λ e. carrying.targets d some (subst (λ z. (grip s z).holder ≡ None) (sym e) free))
-      (λ n. carrying.targets d some (sym (ap (λ g. g.holder) (grip_other s.grips b d (with_holder (course s t).stamp (grip s b)) n)) ∙ none))
+      (λ e. carrying.targets d some (subst (λ z. (reservation s z).holder ≡ None) (sym e) free))
+      (λ n. carrying.targets d some (sym (ap (λ g. g.holder) (reservation_other s.reservations b d (with_holder (course s t).stamp (reservation s b)) n)) ∙ none))
       (same_or_other d b)
   targets_keep x k (lock m n f) (backs {b} l h q) = lets_all k (clear_locking script s t cmd here at known spanless carrying places b f) (λ d. refl) (λ d. refl)
   targets_keep x k turn (seeks {b} {aim} sought) = sought_held b aim k turn sought
@@ -223,16 +223,16 @@ module _ (script : Script) (s : State) (t : ℕ) (cmd : Command) (here : IsSome 
   targets_keep x k turn (depopulates {b} m f) = changes_own k (λ d q. its b d (turn_has script s (course s t) cmd (task.GiveBack b) b turn refl) q) (λ d. refl)
   targets_keep x k turn (untakes {b} n) = changes_own k (λ d q. its b d (turn_has script s (course s t) cmd (task.GiveBack b) b turn refl) q) (λ d. refl)
   targets_keep x k (victim_empty v on q e) lets_go =
-      lets_one k v.b (way_bare v (buffer s v.b) q e v.why v.fail refl (way v on.last)) (λ d. refl) (λ d n. ap (λ g. g.holder) (grip_other s.grips v.b d (with_holder None (grip s v.b)) n))
+      lets_one k v.b (way_bare v (buffer s v.b) q e v.why v.fail refl (way v on.last)) (λ d. refl) (λ d n. ap (λ g. g.holder) (reservation_other s.reservations v.b d (with_holder None (reservation s v.b)) n))
   targets_keep x k (victim_skip v d on i f q) skips =
-      lets_one k v.b (or_parts (same_mem (buffer s v.b).mem Vram && has_frame (buffer s v.b)) (has_some_target (buffer s v.b)) q).1 (λ d. refl) (λ d n. ap (λ g. g.holder) (grip_other s.grips v.b d (with_holder None (grip s v.b)) n))
+      lets_one k v.b (or_parts (same_mem (buffer s v.b).mem Vram && has_frame (buffer s v.b)) (has_some_target (buffer s v.b)) q).1 (λ d. refl) (λ d n. ap (λ g. g.holder) (reservation_other s.reservations v.b d (with_holder None (reservation s v.b)) n))
   targets_keep x k (give_up on a f u) gives_up = lets_all k (given_clear u) (λ d. refl) (λ d. refl)
   targets_keep x k (refuse on r) refuses = lets_all k (refused_clear r) (λ d. refl) (λ d. refl)
   targets_keep x k (act on a f u) (arms ops e) = changes_own k (λ d q. named_held d on (sym (ap (λ z. has_buffer (named_in z) d) at_work) ∙ q)) (λ d. refl)
   targets_keep x k (act on a f u) (frees {b} {g} e q) = frees_held b g (none_missing (course s t) cmd b on.works.whole (alone b (command.Free b) e (or_left (same_buffer b b) false (same_self b)))) (ready_clear u)
   targets_keep x k (act on a f u) (swaps {b} e q r) = changes_own k (λ d q. its b d (named_held b on (alone b (command.SwapOut b) e (or_left (same_buffer b b) false (same_self b)))) q) (λ d. refl)
   targets_keep x k (act on a f u) (no_swap e) = lets_all k (ready_clear u) (λ d. refl) (λ d. refl)
-  targets_keep x k (act on a f u) acts = lets_all k (ready_clear u) (λ d. refl) (λ d. pins_hold (command_at_work script s t) (released s.grips (course s t).held) d)
+  targets_keep x k (act on a f u) acts = lets_all k (ready_clear u) (λ d. refl) (λ d. pins_hold (command_at_work script s t) (released s.reservations (course s t).held) d)
 
 -- ---- of a state
 

@@ -4,14 +4,14 @@ use Rattle.ttm_base.specs.declared.BufId.{BufId}
 use Rattle.ttm_base.specs.declared.Stamp.{Stamp}
 use Rattle.journal_model.specs.declared.state.State.{State}
 use Rattle.journal_model.specs.declared.state.Job.{Job}
-use Rattle.journal_model.specs.State.{buffer, grip, course}
+use Rattle.journal_model.specs.State.{buffer, reservation, course}
 use Rattle.journal_model.specs.Ready.{has_some_target}
 use Rattle.laws.specs.law_sound.Sound.{Has}
 
 -- the buffer's holder is the stamp of a thread that has it, as a named one or as a victim
 pub record IsHeld (s : State) (b : BufId) : Type 0 where
   pub stamp : Stamp
-  pub holder : (grip s b).holder ≡ Some stamp
+  pub holder : (reservation s b).holder ≡ Some stamp
   pub thread : ℕ
   pub by : (course s thread).stamp ≡ Some stamp
   pub has : Has s thread b

@@ -7,7 +7,7 @@ use Rattle.ttm_base.specs.declared.Actor.TheVariants as actor
 use Rattle.journal_model.specs.declared.script.Script.{Script}
 use Rattle.journal_model.specs.declared.state.State.{State}
 use Rattle.journal_model.specs.declared.entry.Kind.TheVariants as kind
-use Rattle.journal_model.specs.State.{course, grip}
+use Rattle.journal_model.specs.State.{course, reservation}
 use Rattle.journal_model.specs.Apply.{applied}
 use Rattle.journal_model.specs.Legal.{Made}
 use Rattle.journal_model.specs.PlainMemory.{Plain, plain_after, plain_after_kind}
@@ -17,4 +17,4 @@ use Rattle.journal_model.specs.Causes.{in_command}
 pub record LeavesNothing (script : Script) (before : List Made) (s : State) (t : ℕ) (d : Deny) : Type 0 where
   pub memory : (i : ℕ) (m : Made) (p : Plain) → slice_get (in_command t before) i ≡ Some m → (plain_after script p m.entry).memory ≡ p.memory
   pub refusal : (p : Plain) → (plain_after_kind script p t (kind.Refused d)).memory ≡ p.memory
-  pub free : (b : BufId) (stamp : Stamp) → (course s t).stamp ≡ Some stamp → (grip (applied script s (actor.Thread t) (kind.Refused d)) b).holder ≡ Some stamp → ⊥
+  pub free : (b : BufId) (stamp : Stamp) → (course s t).stamp ≡ Some stamp → (reservation (applied script s (actor.Thread t) (kind.Refused d)) b).holder ≡ Some stamp → ⊥

@@ -5,7 +5,7 @@ use Rattle.ttm_base.specs.declared.BufId.{BufId}
 use Rattle.journal_model.specs.declared.script.Script.{Script}
 use Rattle.journal_model.specs.declared.state.State.{State}
 use Rattle.journal_model.specs.declared.state.Buffer.{Buffer}
-use Rattle.journal_model.specs.State.{grip, live_in, has_buffer}
+use Rattle.journal_model.specs.State.{reservation, live_in, has_buffer}
 use Rattle.journal_model.specs.Commands.{decl}
 use Rattle.journal_model.specs.Lists.{list_number, is_member}
 
@@ -17,7 +17,7 @@ IsOn s i b = (l : List BufId) × (slice_get s.lists i ≡ Some l) × (has_buffer
 pub record BelongsOn (script : Script) (s : State) (i : ℕ) (b : BufId) : Type 0 where
   pub buffer : Buffer
   pub live : live_in s.core.buffers b ≡ Some buffer
-  pub loose : (grip s b).pins ≡ 0
+  pub loose : (reservation s b).pins ≡ 0
   pub number : i ≡ list_number buffer.mem (decl script b).prio
 
 -- no buffer stands twice
@@ -39,7 +39,7 @@ pub record SideBySide (member : BufId → Bool) (l : List BufId) : Type 0 where
 -- stand together
 pub record GoodLists (script : Script) (s : State) : Type 0 where
   pub twelve : length s.lists ≡ 12
-  pub listed : (b : BufId) (x : Buffer) → live_in s.core.buffers b ≡ Some x → (grip s b).pins ≡ 0 → IsOn s (list_number x.mem (decl script b).prio) b
+  pub listed : (b : BufId) (x : Buffer) → live_in s.core.buffers b ≡ Some x → (reservation s b).pins ≡ 0 → IsOn s (list_number x.mem (decl script b).prio) b
   pub no_other : (i : ℕ) (b : BufId) → IsOn s i b → BelongsOn script s i b
   pub once : (i : ℕ) (l : List BufId) → slice_get s.lists i ≡ Some l → stand_once l ≡ true
   pub groups : (i : ℕ) (l : List BufId) (group : ℕ) → slice_get s.lists i ≡ Some l → SideBySide (is_member script group) l

@@ -13,15 +13,15 @@ use Rattle.journal_model.specs.declared.entry.Kind.TheVariants as kind
 use Rattle.journal_model.specs.declared.entry.Why.{Why}
 use Rattle.journal_model.specs.declared.entry.Why.TheVariants as why
 use Rattle.journal_model.specs.declared.state.State.{State}
-use Rattle.journal_model.specs.declared.state.Aim.{Aim}
+use Rattle.journal_model.specs.declared.state.SearchAim.{SearchAim}
 use Rattle.journal_model.specs.declared.state.Task.TheVariants as task
-use Rattle.journal_model.specs.State.{buffer, course, grip}
+use Rattle.journal_model.specs.State.{buffer, course, reservation}
 use Rattle.journal_model.specs.Commands.{command_at_work}
 use Rattle.journal_model.specs.Choice.{choice}
 use Rattle.journal_model.specs.Dry.{is_evictable, is_loose, has_frame}
 use Rattle.journal_model.specs.Holds.{free_frame}
 use Rattle.journal_model.specs.Lists.{in_order}
-use Rattle.journal_model.specs.Search.{quest, why_of}
+use Rattle.journal_model.specs.Search.{place_search, why_of}
 use Rattle.journal_model.specs.Tasks.{task_of}
 use Rattle.journal_model.specs.Legal.{Made, made_of}
 
@@ -39,10 +39,10 @@ pub record IsEvicted (script : Script) (s : State) (t : ℕ) (v : BufId) (w : Wh
   pub cmd : Command
   pub at_work : command_at_work script s t ≡ Some cmd
   pub b : BufId
-  pub aim : Aim
+  pub aim : SearchAim
   pub searching : task_of script s t ≡ task.Search b aim
   pub place : Place
-  pub here : slice_get (forced_places (quest script cmd (course s t) b aim).list) (quest script cmd (course s t) b aim).dry ≡ Some place
+  pub here : slice_get (forced_places (place_search script cmd (course s t) b aim).list) (place_search script cmd (course s t) b aim).dry ≡ Some place
   pub lacks : choice script s.core b place ≡ None
   pub reason : w ≡ why_of place.mem
   pub first : IsFirst (is_evictable script s (course s t).skips place) v (in_order s place.mem)
@@ -53,7 +53,7 @@ pub record IsSwapped (script : Script) (s : State) (t : ℕ) (v : BufId) : Type 
   pub b : BufId
   pub filling : task_of script s t ≡ task.Fill b
   pub full : free_frame script s.core ≡ None
-  pub first : IsFirst (λ b. is_loose (grip s b) && has_frame (buffer s b)) v (in_order s System ++ in_order s Tt)
+  pub first : IsFirst (λ b. is_loose (reservation s b) && has_frame (buffer s b)) v (in_order s System ++ in_order s Tt)
 
 -- by what the victim is caught for
 abbrev pub IsNamedVictim : Script → State → ℕ → BufId → Why → Type 0

@@ -18,7 +18,7 @@ use Rattle.journal_model.specs.declared.entry.Why.{Why}
 use Rattle.journal_model.specs.declared.entry.Why.TheVariants as why
 use Rattle.journal_model.specs.declared.script.Command.{Command}
 use Rattle.journal_model.specs.declared.script.Command.TheVariants as command
-use Rattle.journal_model.specs.State.{buffer, grip, is_live, live_in, course, has_buffer, has_target, target_of}
+use Rattle.journal_model.specs.State.{buffer, reservation, is_live, live_in, course, has_buffer, has_target, target_of}
 use Rattle.journal_model.specs.Commands.{commands_of, command_at_work, named, decl, asked_places}
 use Rattle.ttm_base.specs.Placement.{forced_places}
 use Rattle.journal_model.specs.Waits.{same_job}
@@ -97,10 +97,10 @@ pub record Steady (script : Script) (t : ℕ) (c : Course) : Type 0 where
 -- who has a live buffer is told by its holder
 pub record Owned (script : Script) (s : State) : Type 0 where
   pub courses : length s.courses ≡ length script.threads
-  pub grips : length s.grips ≡ length s.core.buffers
+  pub reservations : length s.reservations ≡ length s.core.buffers
   pub steady : (t : ℕ) → Steady script t (course s t)
-  pub holder : (b : BufId) (st : Stamp) → (grip s b).holder ≡ Some st → (t : ℕ) × ((course s t).stamp ≡ Some st) × Has s t b
-  pub held : (t : ℕ) (b : BufId) → Has s t b → (st : Stamp) × (is_live s b ≡ true) × ((grip s b).holder ≡ Some st) × ((course s t).stamp ≡ Some st)
+  pub holder : (b : BufId) (st : Stamp) → (reservation s b).holder ≡ Some st → (t : ℕ) × ((course s t).stamp ≡ Some st) × Has s t b
+  pub held : (t : ℕ) (b : BufId) → Has s t b → (st : Stamp) × (is_live s b ≡ true) × ((reservation s b).holder ≡ Some st) × ((course s t).stamp ≡ Some st)
   pub one : (t u : ℕ) (st : Stamp) → (course s t).stamp ≡ Some st → (course s u).stamp ≡ Some st → t ≡ u
   pub below : (t : ℕ) (st : Stamp) → (course s t).stamp ≡ Some st → st.0 ≤ s.last_stamp
 
@@ -161,7 +161,7 @@ pub record UnderWay (script : Script) (s : State) (c : Course) (cmd : Command) (
   pub unmade : c.made ≡ false
   pub first : first_unready script s cmd ≡ Some b
   pub asked : asks cmd ≡ true
-  pub loose : (grip s b).pins ≡ 0
+  pub loose : (reservation s b).pins ≡ 0
   pub row : Carried (Fits script c cmd b (buffer s b)) (buffer s b)
 
 -- a search that has gone dry at some places
@@ -187,7 +187,7 @@ pub record Searched (script : Script) (s : State) : Type 0 where
   pub victims : (t : ℕ) → Victims (course s t).caught
   pub ways : (t : ℕ) (v : Victim) → Contains (course s t).caught v → OnItsWay (buffer s v.b) v.why v.fail
   pub unskipped : (t : ℕ) (v : Victim) → Contains (course s t).caught v → v.why ≡ why.Vram → has_buffer (course s t).skips v.b ≡ false
-  pub targets : (b : BufId) → has_some_target (buffer s b) ≡ true → (grip s b).holder ≡ None → ⊥
+  pub targets : (b : BufId) → has_some_target (buffer s b) ≡ true → (reservation s b).holder ≡ None → ⊥
   pub carried : (t : ℕ) (cmd : Command) (b : BufId) → command_at_work script s t ≡ Some cmd → has_buffer (course s t).held b ≡ true →
       has_some_target (buffer s b) ≡ true → UnderWay script s (course s t) cmd b
   pub dry : (t : ℕ) (cmd : Command) → command_at_work script s t ≡ Some cmd → (course s t).made ≡ false → (course s t).fail ≡ None →

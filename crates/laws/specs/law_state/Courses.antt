@@ -5,8 +5,8 @@ use Rattle.journal_model.specs.declared.script.Script.{Script}
 use Rattle.journal_model.specs.declared.script.Command.{Command}
 use Rattle.journal_model.specs.declared.script.Command.TheVariants as command
 use Rattle.journal_model.specs.declared.state.State.{State}
-use Rattle.journal_model.specs.declared.state.Grip.{Grip}
-use Rattle.journal_model.specs.State.{course, grip_in}
+use Rattle.journal_model.specs.declared.state.Reservation.{Reservation}
+use Rattle.journal_model.specs.State.{course, reservation_in}
 use Rattle.journal_model.specs.Commands.{commands_of}
 
 -- the command has an entry of its own before its result
@@ -18,10 +18,10 @@ makes (command.Submit engine ops) = true
 makes _ = false
 
 -- no buffer has more pins than can be counted
-abbrev pub HaveFewPins : List Grip → Type 0
-HaveFewPins grips = (b : BufId) → (grip_in grips b).pins ≤ 255
+abbrev pub HaveFewPins : List Reservation → Type 0
+HaveFewPins reservations = (b : BufId) → (reservation_in reservations b).pins ≤ 255
 
 -- and only a command that makes something is made
 pub record GoodCourses (script : Script) (s : State) : Type 0 where
-  pub pins : HaveFewPins s.grips
+  pub pins : HaveFewPins s.reservations
   pub makes : (t : ℕ) (cmd : Command) → slice_get (commands_of script t) (course s t).answered ≡ Some cmd → (course s t).made ≡ true → makes cmd ≡ true

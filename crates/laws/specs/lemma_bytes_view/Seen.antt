@@ -5,7 +5,7 @@ use Rattle.ttm_base.specs.declared.Packet.TheVariants as packet
 use Rattle.ttm_base.specs.ListWords.{count_from}
 use Rattle.ttm_base.specs.Pages as pages
 use Rattle.journal_model.specs.declared.state.Job.{Job}
-use Rattle.journal_model.specs.PlainMemory.{Dues}
+use Rattle.journal_model.specs.PlainMemory.{OwedProbes}
 use Rattle.laws.specs.lemma_bytes_model.Memory as memory
 use Rattle.laws.specs.lemma_bytes_model.Memory.{Bytes, Step, Write, Show}
 use Rattle.laws.specs.law_holders.Holding.{seen}
@@ -34,5 +34,5 @@ steps_from aper due k [] = []
 steps_from aper due k (p ∷ ps) = record { packet = meant aper p; due = due k } ∷ steps_from aper due (suc k) ps
 
 -- what is left of a job
-abbrev pub steps_of : pages.Aperture → Dues → Job → List Step
-steps_of aper dues x = steps_from aper (dues x.id) x.ran (drop x.ran x.packets)
+abbrev pub steps_of : pages.Aperture → OwedProbes → Job → List Step
+steps_of aper owed_probes x = steps_from aper (owed_probes x.id) x.ran (drop x.ran x.packets)

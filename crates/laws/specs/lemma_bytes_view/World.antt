@@ -1,4 +1,4 @@
--- A view is that of a state with its bytes, its plain memory and the dues of its probes.
+-- A view is that of a state with its bytes, its plain memory and the owed_probes of its probes.
 use Rattle.std.specs.Prelude.{◌≡◌, ℕ, ◌+◌, ◌*◌, ◌<◌, true, false, List, length, Some, ◌⊎◌, slice_get, nat_lt, ◌&&◌, if◌then◌else◌}
 use Rattle.std.specs.List.{list_any}
 use Rattle.ttm_base.specs.Pages as pages
@@ -9,7 +9,7 @@ use Rattle.journal_model.specs.declared.state.Ghost as ghosts
 use Rattle.journal_model.specs.Places.{aperture, place_of}
 use Rattle.journal_model.specs.Waits.{same_job, jobs_before_read, jobs_before_write}
 use Rattle.journal_model.specs.Stores.{is_there}
-use Rattle.journal_model.specs.PlainMemory.{Memory, Dues}
+use Rattle.journal_model.specs.PlainMemory.{Memory, OwedProbes}
 use Rattle.laws.specs.lemma_bytes_model.Memory.{Page, Own, touched}
 use Rattle.laws.specs.lemma_bytes_model.View.{Owner, View}
 use Rattle.laws.specs.law_holders.Holding.{seen, buffer_at}
@@ -51,11 +51,11 @@ pub record IsMover (c : Core) (j : ℕ) : Type 0 where
   pub at : slice_get c.jobs j ≡ Some job
   pub is : c.move_fence ≡ Some job.id
 
--- what a view tells of a state, its bytes, its plain memory and the dues of its probes, where pages have these owners
-pub record SeenBy (IsOwner : Page → Owner → Type 0) (script : Script) (c : Core) (dues : Dues) (memory : Memory) (bytes : pages.PageBytes) (v : View) : Type 0 where
+-- what a view tells of a state, its bytes, its plain memory and the owed_probes of its probes, where pages have these owners
+pub record SeenBy (IsOwner : Page → Owner → Type 0) (script : Script) (c : Core) (owed_probes : OwedProbes) (memory : Memory) (bytes : pages.PageBytes) (v : View) : Type 0 where
   -- jobs
   pub count : v.count ≡ length c.jobs
-  pub left : (i : ℕ) (x : Job) → slice_get c.jobs i ≡ Some x → v.left i ≡ steps_of (aperture c) dues x
+  pub left : (i : ℕ) (x : Job) → slice_get c.jobs i ≡ Some x → v.left i ≡ steps_of (aperture c) owed_probes x
   pub begun : (i : ℕ) (x : Job) → slice_get c.jobs i ≡ Some x → v.begun i ≡ nat_lt 0 x.ran
   pub done : (i : ℕ) (x : Job) → slice_get c.jobs i ≡ Some x → v.done i ≡ x.finished
   -- who is waited for

@@ -19,14 +19,14 @@ use Rattle.journal_model.specs.Legal.{state_of}
 use Rattle.journal_model.specs.Places.{frame_of}
 use Rattle.journal_model.specs.State.{buffer}
 use Rattle.laws.specs.lemma_bytes_told.Told.{IsThere}
-use Rattle.room_ties.proofs.lemma_room_jobs.Needs.{set_is}
-use Rattle.room_ties.proofs.lemma_room_jobs.Sets.{set_length}
-use Rattle.room_ties.proofs.lemma_room_jobs.BufferSets.{empty_set, freed_ghost}
-use Rattle.room_ties.specs.declared.parts.Parts.{Parts}
-use Rattle.room_ties.specs.Fences.{fences_of, set_at}
-use Rattle.room_ties.specs.Ghosts.{IsGhost}
-use Rattle.room_ties.specs.Held.{AreHeld}
-use Rattle.room_ties.proofs.room_steps.Lent.{lent_is, lent_table, stands_at}
+use Rattle.room_representation.proofs.lemma_room_jobs.Needs.{set_is}
+use Rattle.room_representation.proofs.lemma_room_jobs.Sets.{set_length}
+use Rattle.room_representation.proofs.lemma_room_jobs.BufferSets.{empty_set, freed_ghost}
+use Rattle.room_representation.specs.declared.parts.Parts.{Parts}
+use Rattle.room_representation.specs.Fences.{fences_of, set_at}
+use Rattle.room_representation.specs.Ghosts.{IsGhost}
+use Rattle.room_representation.specs.Held.{AreHeld}
+use Rattle.room_representation.proofs.room_steps.Lent.{lent_is, lent_table, stands_at}
 use Rattle.room_pages.specs.room_ghosts.Leaving.{all_jobs, ghost_of, spans_if}
 
 -- spans that a manager keeps where there are some
@@ -49,7 +49,7 @@ module _ (script : Script) (journal : List Entry) (p : Parts) (held : AreHeld sc
   -- its set has all contexts
   contexts : length bo.resv.fences ≡ length (state_of script journal).last_jobs
   contexts =
-      ap length (set_now ∙ set_is (state_of script journal).last_jobs (state_of script journal).core.buffers p.bos.fences held.ties.bos.fences_are b (Some x) (stands_at (state_of script journal).core.buffers b x live))
+      ap length (set_now ∙ set_is (state_of script journal).last_jobs (state_of script journal).core.buffers p.bos.fences held.represents.bos.fences_are b (Some x) (stands_at (state_of script journal).core.buffers b x live))
       ∙ set_length (length (state_of script journal).last_jobs) (fences_of (Some x))
 
   -- the ghost's set has them all
@@ -59,4 +59,4 @@ module _ (script : Script) (journal : List Entry) (p : Parts) (held : AreHeld sc
   -- its ghost is the state's
   pub lent_ghost : (g : ℕ) → IsGhost (state_of script journal).core.jobs (state_of script journal).last_jobs (ghost_of_freed (state_of script journal).core x g) (ghost_of bo g)
   lent_ghost g =
-      freed_ghost (state_of script journal) p.bos.fences held.ties.bos.fences_are b x live g (ghost_of bo g) refl (lent_spans Vram) (lent_spans Tt) (ap (filter_map frame_of) (lent_table script journal p held b live bo lent)) jobs_now
+      freed_ghost (state_of script journal) p.bos.fences held.represents.bos.fences_are b x live g (ghost_of bo g) refl (lent_spans Vram) (lent_spans Tt) (ap (filter_map frame_of) (lent_table script journal p held b live bo lent)) jobs_now

@@ -5,8 +5,8 @@ use Rattle.ttm_base.specs.declared.Loc.{Loc}
 use Rattle.ttm_base.specs.declared.Loc.TheVariants as loc
 use Rattle.swap_store.specs.Slots.{SwapSlots}
 use Rattle.journal_model.specs.Places.{slot_of}
-use Rattle.room_ties.specs.lemma_room_bytes.GivenBack.{given, given_back}
-use Rattle.room_ties.proofs.lemma_room_bytes.Walks.{passed, table_given}
+use Rattle.room_representation.specs.lemma_room_bytes.GivenBack.{given, given_back}
+use Rattle.room_representation.proofs.lemma_room_bytes.Walks.{passed, table_given}
 
 module _ (see : Loc → Option ℕ) (pool : List Bool) (places : List Loc) (i : ℕ) (l : Loc) (at : slice_get places i ≡ Some l) where
   -- the next place

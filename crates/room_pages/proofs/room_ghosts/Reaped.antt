@@ -19,29 +19,29 @@ use Rattle.journal_model.specs.Legal.{IsLegalNext, state_of, world_of, world_aft
 use Rattle.laws.proofs.law_owners.Law.{owner_law, once_law}
 use Rattle.laws.specs.law_transparent.OwnPages.{GoodGhosts}
 use Rattle.laws.proofs.law_transparent.PagesLaw.{ghosts_law}
-use Rattle.room_ties.specs.lemma_room_spans.Calls.{given}
-use Rattle.room_ties.specs.lemma_room_spans.Owned.{HoldsAsOwned}
-use Rattle.room_ties.proofs.lemma_room_spans.Carried.{reap_spans}
-use Rattle.room_ties.proofs.lemma_room_spans.Holders.{ghost_kept}
-use Rattle.room_ties.proofs.lemma_room_spans.MoveFence.{behind_fence}
-use Rattle.room_ties.proofs.lemma_room_jobs.GhostSteps.{IsFound, IsReap, ghost_found, ghosts_reaped, reap_of}
-use Rattle.room_ties.proofs.lemma_room_jobs.Packets.{nothing_beyond}
-use Rattle.room_ties.specs.lemma_room_bytes.GivenBack.{given_back}
-use Rattle.room_ties.proofs.lemma_room_bytes.Asks.{ghost_frame_may_go}
-use Rattle.room_ties.proofs.lemma_room_bytes.Pools.{reap_pooled}
-use Rattle.room_ties.proofs.lemma_room_bytes.SlotKinds.{reap_slots}
-use Rattle.room_ties.specs.lemma_room_bytes.Mapped.{cleared}
-use Rattle.room_ties.proofs.lemma_room_bytes.Entries.{reap_tie}
-use Rattle.room_ties.proofs.lemma_room_bytes.Holders.{ghost_inside}
-use Rattle.room_ties.specs.declared.parts.Ghost.{Ghost}
-use Rattle.room_ties.specs.declared.parts.Parts.{Parts}
-use Rattle.room_ties.specs.Ghosts.{AreGhosts}
-use Rattle.room_ties.specs.Held.{AreHeld}
-use Rattle.room_ties.specs.Pages.{ArePooled}
-use Rattle.room_ties.specs.Ties.{Ties}
+use Rattle.room_representation.specs.lemma_room_spans.Calls.{given}
+use Rattle.room_representation.specs.lemma_room_spans.Owned.{HoldsAsOwned}
+use Rattle.room_representation.proofs.lemma_room_spans.Carried.{reap_spans}
+use Rattle.room_representation.proofs.lemma_room_spans.Holders.{ghost_kept}
+use Rattle.room_representation.proofs.lemma_room_spans.MoveFence.{behind_fence}
+use Rattle.room_representation.proofs.lemma_room_jobs.GhostSteps.{IsFound, IsReap, ghost_found, ghosts_reaped, reap_of}
+use Rattle.room_representation.proofs.lemma_room_jobs.Packets.{nothing_beyond}
+use Rattle.room_representation.specs.lemma_room_bytes.GivenBack.{given_back}
+use Rattle.room_representation.proofs.lemma_room_bytes.Asks.{ghost_frame_may_go}
+use Rattle.room_representation.proofs.lemma_room_bytes.Pools.{reap_pooled}
+use Rattle.room_representation.proofs.lemma_room_bytes.SlotKinds.{reap_slots}
+use Rattle.room_representation.specs.lemma_room_bytes.Mapped.{cleared}
+use Rattle.room_representation.proofs.lemma_room_bytes.Entries.{reap_representation}
+use Rattle.room_representation.proofs.lemma_room_bytes.Holders.{ghost_inside}
+use Rattle.room_representation.specs.declared.parts.Ghost.{Ghost}
+use Rattle.room_representation.specs.declared.parts.Parts.{Parts}
+use Rattle.room_representation.specs.Ghosts.{AreGhosts}
+use Rattle.room_representation.specs.Held.{AreHeld}
+use Rattle.room_representation.specs.Pages.{ArePooled}
+use Rattle.room_representation.specs.Represents.{Represents}
 use Rattle.room_pages.specs.room_binds.Apertures.{AreBelow}
-use Rattle.room_ties.proofs.room_steps.Lent.{is_below}
-use Rattle.room_ties.proofs.room_steps.Steps.{held_after, step_as}
+use Rattle.room_representation.proofs.room_steps.Lent.{is_below}
+use Rattle.room_representation.proofs.room_steps.Steps.{held_after, step_as}
 use Rattle.room_pages.proofs.room_ghosts.Lent.{kept_spans}
 use Rattle.room_pages.specs.room_ghosts.InTurn.{AreHeldInTurn}
 
@@ -71,7 +71,7 @@ module _ (script : Script) (journal : List Entry) (p : Parts) (entry : Entry) (n
 
   -- the first of the parts' ghosts stands for it
   found : IsFound s.core.jobs s.last_jobs reaped.ghost p.ghosts 0
-  found = ghost_found s.core.jobs s.last_jobs s.core.ghosts p.ghosts held.ties.ghosts 0 reaped.ghost reaped.first
+  found = ghost_found s.core.jobs s.last_jobs s.core.ghosts p.ghosts held.represents.ghosts 0 reaped.ghost reaped.first
 
   -- there is a ghost
   pub reap_some : 0 < length p.ghosts
@@ -81,12 +81,12 @@ module _ (script : Script) (journal : List Entry) (p : Parts) (entry : Entry) (n
   tt_is : spans_at (owner.Ghost n) p.tt.held ≡ reaped.ghost.tt
   tt_is =
       ap (λ m. spans_at (owner.Ghost m) p.tt.held) (sym reaped.num)
-      ∙ ap (λ o. unwrap_or o []) (ghost_kept script.sizes.tt Tt s p.tt held.ties.tt good.first 0 reaped.ghost reaped.first) ∙ kept_spans reaped.ghost.tt
+      ∙ ap (λ o. unwrap_or o []) (ghost_kept script.sizes.tt Tt s p.tt held.represents.tt good.first 0 reaped.ghost reaped.first) ∙ kept_spans reaped.ghost.tt
 
   -- these pages are within the aperture
   pub reap_pages : AreBelow (pages_of (spans_at (owner.Ghost n) p.tt.held)) (length p.stores.aper)
   reap_pages i k at =
-      subst (λ size. k < size) (sym held.ties.stores.aper_size)
+      subst (λ size. k < size) (sym held.represents.stores.aper_size)
       (ghost_inside script s.core (once_law script journal held.fits held.legal) k 0 i reaped.ghost reaped.first (ap (λ ss. slice_get (pages_of ss) i) (sym tt_is) ∙ at))
 
   module _ (ghost : Ghost) (first : slice_get p.ghosts 0 ≡ Some ghost) where
@@ -102,7 +102,7 @@ module _ (script : Script) (journal : List Entry) (p : Parts) (entry : Entry) (n
     pub reap_turns : AreHeldInTurn p.pool ghost.frames
     reap_turns i f at =
         subst (λ fs. slice_get (given_back p.pool (take i fs)) f ≡ Some true) (sym frames_are)
-        (ghost_frame_may_go script s (owner_law script journal held.fits held.legal) p.pool held.ties.pool 0 reaped.ghost i f reaped.first (ap (λ fs. slice_get fs i) (sym frames_are) ∙ at))
+        (ghost_frame_may_go script s (owner_law script journal held.fits held.legal) p.pool held.represents.pool 0 reaped.ghost i f reaped.first (ap (λ fs. slice_get fs i) (sym frames_are) ∙ at))
 
     -- the parts tell the journal with the entry
     pub reap_held : (ghosts : List Ghost) (v : room.Vram) (u : Resources) (pool : List Bool) (aper : List (Option ℕ)) → ghosts ≡ drop 1 p.ghosts → v.resources ≡ given (owner.Ghost n) p.vram.resources →
@@ -110,31 +110,31 @@ module _ (script : Script) (journal : List Entry) (p : Parts) (entry : Entry) (n
         AreHeld script (journal ++ entry ∷ []) (record p { ghosts = ghosts; vram = v; tt = u; pool = pool; stores = record p.stores { aper = aper } })
     reap_held ghosts v u pool aper ge ve rule ue pe ae =
         let w = world_of script journal in
-        let ties = held.ties in
+        let represents = held.represents in
         let q : Parts = record p { ghosts = ghosts; vram = v; tt = u; pool = pool; stores = record p.stores { aper = aper } } in
         let given_now : pool ≡ given_back p.pool reaped.ghost.frames = pe ∙ ap (given_back p.pool) frames_are in
         let cleared_now : aper ≡ cleared p.stores.aper (pages_of reaped.ghost.tt) = ae ∙ ap (λ ss. cleared p.stores.aper (pages_of ss)) tt_is in
         held_after script journal p q entry held legal
-        (subst (λ (y : Entry). Ties script (world_after script w y).state (world_after script w y).stores q) (sym is)
+        (subst (λ (y : Entry). Represents script (world_after script w y).state (world_after script w y).stores q) (sym is)
         (record {
-          bos = ties.bos;
-          line = ties.line;
-          rings = ties.rings;
+          bos = represents.bos;
+          line = represents.line;
+          rings = represents.rings;
           ghosts = subst (λ rs. AreGhosts s.core.jobs s.last_jobs (after_reap s n).core.ghosts rs) (sym ge)
-              (ghosts_reaped s.core.jobs s.last_jobs s.core.ghosts p.ghosts ties.ghosts n reaped.ghost reaped.first reaped.num good.distinct);
+              (ghosts_reaped s.core.jobs s.last_jobs s.core.ghosts p.ghosts represents.ghosts n reaped.ghost reaped.first reaped.num good.distinct);
           vram = record {
-            rule = rule ∙ ties.vram.rule;
-            held_as = subst (λ x. HoldsAsOwned script.sizes.vram Vram s.core.buffers (after_reap s n).core.ghosts x) (sym ve) (reap_spans script.sizes.vram Vram no_system_vram s p.vram.resources ties.vram.held_as n);
-            fence = record { kept_is = ap (λ (x : Resources). x.move_fence) ve ∙ behind_fence Vram (kind.Reap n) p.vram.resources ∙ ties.vram.fence.kept_is; known = ties.vram.fence.known };
+            rule = rule ∙ represents.vram.rule;
+            held_as = subst (λ x. HoldsAsOwned script.sizes.vram Vram s.core.buffers (after_reap s n).core.ghosts x) (sym ve) (reap_spans script.sizes.vram Vram no_system_vram s p.vram.resources represents.vram.held_as n);
+            fence = record { kept_is = ap (λ (x : Resources). x.move_fence) ve ∙ behind_fence Vram (kind.Reap n) p.vram.resources ∙ represents.vram.fence.kept_is; known = represents.vram.fence.known };
           };
-          tt = subst (λ x. HoldsAsOwned script.sizes.tt Tt s.core.buffers (after_reap s n).core.ghosts x) (sym ue) (reap_spans script.sizes.tt Tt no_system_tt s p.tt ties.tt n);
+          tt = subst (λ x. HoldsAsOwned script.sizes.tt Tt s.core.buffers (after_reap s n).core.ghosts x) (sym ue) (reap_spans script.sizes.tt Tt no_system_tt s p.tt represents.tt n);
           pool = subst (λ l. ArePooled script.sizes.frames (held_frames (after_reap s n).core) l) (sym given_now)
-              (reap_pooled script s p.pool ties.pool (owner_law script journal held.fits held.legal).frames n 0 reaped.ghost reaped.first reaped.num only);
-          swap = reap_slots script s actor.Reaper w.stores p.swap ties.swap n;
-          stores = reap_tie script journal held.fits held.legal p.stores ties.stores n reaped.ghost aper (subst (λ (y : Entry). IsLegalNext script w y) is legal) reaped.first cleared_now;
-          lists = ties.lists;
-          courses = ties.courses;
-          stamp = ties.stamp;
-          ghost = ties.ghost;
+              (reap_pooled script s p.pool represents.pool (owner_law script journal held.fits held.legal).frames n 0 reaped.ghost reaped.first reaped.num only);
+          swap = reap_slots script s actor.Reaper w.stores p.swap represents.swap n;
+          stores = reap_representation script journal held.fits held.legal p.stores represents.stores n reaped.ghost aper (subst (λ (y : Entry). IsLegalNext script w y) is legal) reaped.first cleared_now;
+          lists = represents.lists;
+          courses = represents.courses;
+          stamp = represents.stamp;
+          ghost = represents.ghost;
           no_more = nothing_beyond script.sizes (stores_after script s actor.Reaper (kind.Reap n) w.stores);
         }))

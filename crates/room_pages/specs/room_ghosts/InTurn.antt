@@ -1,7 +1,7 @@
 -- Numbers that are given back one by one.
 use Rattle.std.specs.Prelude.{◌≡◌, ℕ, Bool, true, List, Option, Some, filter_map, slice_get, take}
 use Rattle.ttm_base.specs.declared.Loc.{Loc}
-use Rattle.room_ties.specs.lemma_room_bytes.GivenBack.{given_back}
+use Rattle.room_representation.specs.lemma_room_bytes.GivenBack.{given_back}
 
 -- each number is held when its turn comes, behind those before it
 abbrev pub AreHeldInTurn : List Bool → List ℕ → Type 0

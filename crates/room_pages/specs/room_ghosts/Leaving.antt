@@ -15,7 +15,7 @@ use Rattle.journal_model.specs.declared.state.Course.{Course}
 use Rattle.journal_model.specs.ApplyCommands.{has_made}
 use Rattle.journal_model.specs.Places.{frame_of}
 use Rattle.journal_model.specs.State.{without_buffer}
-use Rattle.room_ties.specs.declared.parts.Ghost.{Ghost}
+use Rattle.room_representation.specs.declared.parts.Ghost.{Ghost}
 
 -- spans of one memory type, as another sees them
 abbrev pub spans_if : Mem → Mem → List Span → List Span

@@ -3,12 +3,12 @@ ghost use Rattle.ttm_base.specs.declared.Actor.TheVariants as actor;
 ghost use Rattle.journal_model.specs.declared.entry.Kind.TheVariants as kind;
 ghost use Rattle.journal_model.specs.Legal.{IsLegalNext, world_of};
 ghost use Rattle.lru_bulk.specs.Lists.{relisted};
-ghost use Rattle.room_ties.specs.Held.{AreHeld};
+ghost use Rattle.room_representation.specs.Held.{AreHeld};
 
 use crate::room_binds::apertures::{give_mapped, map_target};
 use journal_model::{Entry, Script};
 use lru_bulk::Lru;
-use room_ties::Parts;
+use room_representation::Parts;
 use ttm_base::{BufId, Mem, Owner};
 
 /// Places a buffer on the list of another memory type, if it is on one.

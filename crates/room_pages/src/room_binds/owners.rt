@@ -1,6 +1,6 @@
 ghost use Rattle.std.specs.Prelude.{◌≡◌, false};
 ghost use Rattle.resource_core.specs.Resources.{holds};
-ghost use Rattle.room_ties.specs.lemma_room_spans.Calls.{given, passed_on};
+ghost use Rattle.room_representation.specs.lemma_room_spans.Calls.{given, passed_on};
 
 use resource_core::Manager;
 use ttm_base::Owner;

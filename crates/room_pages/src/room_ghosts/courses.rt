@@ -1,6 +1,6 @@
 ghost use Rattle.std.specs.Prelude.{◌≡◌, IsSome};
 ghost use Rattle.journal_model.specs.State.{without_buffer};
-ghost use Rattle.room_ties.specs.room_steps.Courses.{course_at, with_course_by};
+ghost use Rattle.room_representation.specs.room_steps.Courses.{course_at, with_course_by};
 ghost use Rattle.room_pages.specs.room_ghosts.Leaving.{freeing};
 
 use journal_model::{BufIds, Courses};

@@ -2,7 +2,7 @@ ghost use Rattle.std.specs.Prelude.{◌≡◌, ◌<◌, ◌∷◌, ◌++◌, [],
 ghost use Rattle.ttm_base.specs.declared.Actor.TheVariants as actor;
 ghost use Rattle.journal_model.specs.declared.entry.Kind.TheVariants as kind;
 ghost use Rattle.journal_model.specs.Legal.{IsLegalNext, world_of};
-ghost use Rattle.room_ties.specs.Held.{AreHeld};
+ghost use Rattle.room_representation.specs.Held.{AreHeld};
 ghost use Rattle.room_pages.specs.room_ghosts.Leaving.{off_list};
 
 use crate::give_frames;
@@ -12,7 +12,7 @@ use crate::room_ghosts::leaving::ghost_of;
 use crate::room_ghosts::pages::drop_slots;
 use journal_model::{Entry, Script};
 use lru_bulk::Lru;
-use room_ties::Parts;
+use room_representation::Parts;
 use std::alloc::Global;
 use ttm_base::{BufId, NoMemory, Owner};
 

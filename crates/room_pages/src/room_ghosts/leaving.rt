@@ -4,7 +4,7 @@ ghost use Rattle.room_pages.specs.room_ghosts.Leaving.{spans_if, all_jobs, ghost
 use crate::room_binds::frames_in;
 use bo_table::Bo;
 use fence_core::FenceSet;
-use room_ties::Ghost;
+use room_representation::Ghost;
 use std::alloc::Global;
 use ttm_base::{Mem, NoMemory, Spans, Usage};
 

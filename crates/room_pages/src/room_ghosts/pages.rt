@@ -1,6 +1,6 @@
 ghost use Rattle.std.specs.Prelude.{◌≡◌, filter_map};
 ghost use Rattle.journal_model.specs.Places.{slot_of};
-ghost use Rattle.room_ties.specs.lemma_room_bytes.GivenBack.{given_back};
+ghost use Rattle.room_representation.specs.lemma_room_bytes.GivenBack.{given_back};
 ghost use Rattle.room_pages.specs.room_ghosts.InTurn.{AreHeldInTurn, AreHeldAlong};
 
 use page_pool::PagePool;

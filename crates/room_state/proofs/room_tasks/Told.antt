@@ -14,7 +14,7 @@ use Rattle.journal_model.specs.declared.script.Command.TheVariants as command
 use Rattle.journal_model.specs.declared.entry.Entry.{Entry}
 use Rattle.journal_model.specs.declared.state.Buffer.{Buffer}
 use Rattle.journal_model.specs.declared.state.Course.{Course}
-use Rattle.journal_model.specs.declared.state.Grip.{Grip}
+use Rattle.journal_model.specs.declared.state.Reservation.{Reservation}
 use Rattle.journal_model.specs.declared.state.State.{State}
 use Rattle.journal_model.specs.declared.state.Task.{Task}
 use Rattle.journal_model.specs.declared.state.Task.TheVariants as task
@@ -22,14 +22,14 @@ use Rattle.journal_model.specs.declared.state.Victim.{Victim}
 use Rattle.journal_model.specs.Commands.{commands_of, named}
 use Rattle.journal_model.specs.Legal.{state_of}
 use Rattle.journal_model.specs.Ready.{is_in_place, is_filled, is_ready, first_unready}
-use Rattle.journal_model.specs.State.{buffer, grip, grip_in, live_in, new_buffer, new_course}
+use Rattle.journal_model.specs.State.{buffer, reservation, reservation_in, live_in, new_buffer, new_course}
 use Rattle.journal_model.specs.Tasks.{starts, first_missing, forbidden, gives_back, task_of_victim, task_of_failed, task_of_misplaced, task_of_unready, task_of_held, task_of_command, task_of}
 use Rattle.laws.proofs.law_sound.Along.{sound_law}
-use Rattle.room_ties.specs.declared.parts.Parts.{Parts}
-use Rattle.room_ties.specs.Bos.{AreBos, unfenced}
-use Rattle.room_ties.specs.Held.{AreHeld}
-use Rattle.room_ties.specs.room_steps.Courses.{course_at}
-use Rattle.room_state.specs.room_tasks.Seen.{seen, HasGrips}
+use Rattle.room_representation.specs.declared.parts.Parts.{Parts}
+use Rattle.room_representation.specs.Bos.{AreBos, unfenced}
+use Rattle.room_representation.specs.Held.{AreHeld}
+use Rattle.room_representation.specs.room_steps.Courses.{course_at}
+use Rattle.room_state.specs.room_tasks.Seen.{seen, HasReservations}
 use Rattle.room_state.proofs.room_tasks.Unfenced.{in_place_same, ready_same, victim_same, misplaced_same}
 
 -- tests that agree find the same
@@ -37,10 +37,10 @@ find_same : {A : Type 0} (p q : A → Bool) (xs : List A) → ((x : A) → p x �
 find_same p q [] h = refl
 find_same p q (x ∷ xs) h = ap₂ (λ t o. cond t (Some x) o) (h x) (find_same p q xs h)
 
-module _ (script : Script) (s : State) (last : List ℕ) (t : Bos) (ties : AreBos script s.core.buffers s.grips last t) where
+module _ (script : Script) (s : State) (last : List ℕ) (t : Bos) (represents : AreBos script s.core.buffers s.reservations last t) where
   buffer_seen : (b : BufId) → buffer (seen t) b ≡ unfenced (buffer s b)
   buffer_seen b =
-      ap (λ xs. unwrap_or (live_in xs b) (new_buffer 0)) ties.buffers_are
+      ap (λ xs. unwrap_or (live_in xs b) (new_buffer 0)) represents.buffers_are
       ∙ ap (λ o. unwrap_or (option_and_then (λ x. x) o) (new_buffer 0)) (get_map (option_map unfenced) s.core.buffers b.0)
       ∙ by (slice_get s.core.buffers b.0)
     where
@@ -49,8 +49,8 @@ module _ (script : Script) (s : State) (last : List ℕ) (t : Bos) (ties : AreBo
       by (Some None) = refl
       by (Some (Some x)) = refl
 
-  grip_seen : (b : BufId) → grip (seen t) b ≡ grip s b
-  grip_seen b = ap (λ gs. grip_in gs b) ties.grips_are
+  reservation_seen : (b : BufId) → reservation (seen t) b ≡ reservation s b
+  reservation_seen b = ap (λ gs. reservation_in gs b) represents.reservations_are
 
   in_place_seen : (cmd : Command) (b : BufId) → is_in_place script cmd b (buffer (seen t) b) ≡ is_in_place script cmd b (buffer s b)
   in_place_seen cmd b = ap (is_in_place script cmd b) (buffer_seen b) ∙ in_place_same script cmd b (buffer s b)
@@ -64,10 +64,10 @@ module _ (script : Script) (s : State) (last : List ℕ) (t : Bos) (ties : AreBo
 
   -- what a command may not ask
   pub forbidden_seen : (cmd : Command) → forbidden (seen t) cmd ≡ forbidden s cmd
-  forbidden_seen (command.Pin b) = ap (λ (g : Grip). if g.pins == 255 then Some deny.PinMax else None) (grip_seen b)
-  forbidden_seen (command.Unpin b) = ap (λ (g : Grip). if g.pins == 0 then Some deny.NotPinned else None) (grip_seen b)
-  forbidden_seen (command.Free b) = ap (λ (g : Grip). if nat_lt 0 g.pins then Some deny.Pinned else None) (grip_seen b)
-  forbidden_seen (command.SwapOut b) = ap (λ (g : Grip). if nat_lt 0 g.pins then Some deny.Pinned else None) (grip_seen b)
+  forbidden_seen (command.Pin b) = ap (λ (g : Reservation). if g.pins == 255 then Some deny.PinMax else None) (reservation_seen b)
+  forbidden_seen (command.Unpin b) = ap (λ (g : Reservation). if g.pins == 0 then Some deny.NotPinned else None) (reservation_seen b)
+  forbidden_seen (command.Free b) = ap (λ (g : Reservation). if nat_lt 0 g.pins then Some deny.Pinned else None) (reservation_seen b)
+  forbidden_seen (command.SwapOut b) = ap (λ (g : Reservation). if nat_lt 0 g.pins then Some deny.Pinned else None) (reservation_seen b)
   forbidden_seen cmd = refl
 
   -- what can be given back
@@ -91,7 +91,7 @@ module _ (script : Script) (s : State) (last : List ℕ) (t : Bos) (ties : AreBo
   at_work_seen : (cmd : Command) (b : BufId) → task_of_unready script (seen t) cmd b ≡ task_of_unready script s cmd b
   at_work_seen cmd b =
       ap₂ (λ q next. elim q [ true ↦ task.Fill b | false ↦ next ]) (in_place_seen cmd b)
-      (ap₂ (λ g x. task_of_misplaced b g x) (grip_seen b) (buffer_seen b) ∙ misplaced_same b (grip s b) (buffer s b))
+      (ap₂ (λ g x. task_of_misplaced b g x) (reservation_seen b) (buffer_seen b) ∙ misplaced_same b (reservation s b) (buffer s b))
 
   held_seen : (c : Course) (cmd : Command) → task_of_held script (seen t) c cmd ≡ task_of_held script s c cmd
   held_seen c cmd =
@@ -143,31 +143,31 @@ module _ (script : Script) (s : State) (thread : ℕ) where
     its_command cmd e = sym (ap (task_by script s thread) here ∙ ap (λ o. elim o [ None ↦ task.Idle | Some d ↦ task_of_command script s c d ]) e)
 
 module _ (script : Script) (journal : List Entry) (p : Parts) (held : AreHeld script journal p) where
-  -- each buffer has a grip
-  pub has_grips : HasGrips p.bos
-  has_grips =
-      let grips = (sound_law script journal held.fits held.legal).owned.grips in
-      let some = ap length held.ties.bos.grips_are in
-      let many = ap length held.ties.bos.buffers_are in
+  -- each buffer has a reservation
+  pub has_reservations : HasReservations p.bos
+  has_reservations =
+      let reservations = (sound_law script journal held.fits held.legal).owned.reservations in
+      let some = ap length held.represents.bos.reservations_are in
+      let many = ap length held.represents.bos.buffers_are in
       let same = length-map (state_of script journal).core.buffers (option_map unfenced) in
-      omega (arith, grips, some, many, same)
+      omega (arith, reservations, some, many, same)
 
   -- the buffer at work
   pub unready_told : (cmd : Command) → first_unready script (seen p.bos) cmd ≡ first_unready script (state_of script journal) cmd
-  unready_told = unready_seen script (state_of script journal) (state_of script journal).last_jobs p.bos held.ties.bos
+  unready_told = unready_seen script (state_of script journal) (state_of script journal).last_jobs p.bos held.represents.bos
 
   -- what may not be asked
   pub forbidden_told : (cmd : Command) → forbidden (seen p.bos) cmd ≡ forbidden (state_of script journal) cmd
-  forbidden_told = forbidden_seen script (state_of script journal) (state_of script journal).last_jobs p.bos held.ties.bos
+  forbidden_told = forbidden_seen script (state_of script journal) (state_of script journal).last_jobs p.bos held.represents.bos
 
   -- what can be given back
   pub gives_told : (b : BufId) → gives_back (buffer (seen p.bos) b) ≡ gives_back (buffer (state_of script journal) b)
-  gives_told = gives_seen script (state_of script journal) (state_of script journal).last_jobs p.bos held.ties.bos
+  gives_told = gives_seen script (state_of script journal) (state_of script journal).last_jobs p.bos held.represents.bos
 
   module _ (thread : ℕ) where
     -- where a thread stands
     course_told : (o : Option Course) → o ≡ course_at p.courses thread → course_at (state_of script journal).courses thread ≡ o
-    course_told o e = sym (e ∙ ap (λ cs. course_at cs thread) held.ties.courses)
+    course_told o e = sym (e ∙ ap (λ cs. course_at cs thread) held.represents.courses)
 
     -- a thread that isn't there has nothing to do
     pub idle_beyond : None ≡ course_at p.courses thread → task.Idle ≡ task_of script (state_of script journal) thread
@@ -181,5 +181,5 @@ module _ (script : Script) (journal : List Entry) (p : Parts) (held : AreHeld sc
     pub task_told : (c : Course) → Some c ≡ course_at p.courses thread → (cmd : Command) → slice_get (commands_of script thread) c.answered ≡ Some cmd →
         task_of_command script (seen p.bos) c cmd ≡ task_of script (state_of script journal) thread
     task_told c e cmd some =
-        command_seen script (state_of script journal) (state_of script journal).last_jobs p.bos held.ties.bos c cmd
+        command_seen script (state_of script journal) (state_of script journal).last_jobs p.bos held.represents.bos c cmd
         ∙ its_command script (state_of script journal) thread c (course_told (Some c) e) cmd some

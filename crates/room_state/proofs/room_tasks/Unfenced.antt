@@ -9,13 +9,13 @@ use Rattle.journal_model.specs.declared.script.Script.{Script}
 use Rattle.journal_model.specs.declared.script.Command.{Command}
 use Rattle.journal_model.specs.declared.script.Command.TheVariants as command
 use Rattle.journal_model.specs.declared.state.Buffer.{Buffer}
-use Rattle.journal_model.specs.declared.state.Grip.{Grip}
+use Rattle.journal_model.specs.declared.state.Reservation.{Reservation}
 use Rattle.journal_model.specs.declared.state.Victim.{Victim}
-use Rattle.journal_model.specs.declared.state.Aim.TheVariants.{Asked}
+use Rattle.journal_model.specs.declared.state.SearchAim.TheVariants.{Asked}
 use Rattle.journal_model.specs.declared.state.Task.TheVariants as task
 use Rattle.journal_model.specs.Ready.{has_some_target, meets, is_in_place, is_filled}
 use Rattle.journal_model.specs.Tasks.{task_of_victim, carried, task_of_misplaced}
-use Rattle.room_ties.specs.Bos.{unfenced}
+use Rattle.room_representation.specs.Bos.{unfenced}
 
 meets_same : (script : Script) (cmd : Command) (b : BufId) (x : Buffer) → meets script cmd b (unfenced x) ≡ meets script cmd b x
 meets_same script (command.Submit engine ops) b x = refl
@@ -37,7 +37,7 @@ pub victim_same : (v : Victim) (x : Buffer) → task_of_victim v (unfenced x) �
 victim_same v x = refl
 
 -- and with a buffer that isn't in place
-pub misplaced_same : (b : BufId) (g : Grip) (x : Buffer) → task_of_misplaced b g (unfenced x) ≡ task_of_misplaced b g x
+pub misplaced_same : (b : BufId) (g : Reservation) (x : Buffer) → task_of_misplaced b g (unfenced x) ≡ task_of_misplaced b g x
 misplaced_same b g x = ap (λ q. elim (nat_lt 0 g.pins) [ true ↦ task.Refuse deny.Pinned | false ↦ elim (has_some_target x) [ true ↦ q | false ↦ task.Search b Asked ] ]) (carried_same x.mem b x)
   where
     carried_same : (mem : Mem) (b : BufId) (x : Buffer) → carried mem b (unfenced x) ≡ carried mem b x

@@ -10,7 +10,7 @@ use Rattle.journal_model.specs.declared.state.State.{State}
 use Rattle.journal_model.specs.declared.state.Task.{Task}
 use Rattle.journal_model.specs.declared.state.Task.TheVariants as task
 use Rattle.journal_model.specs.declared.entry.Entry.{Entry}
-use Rattle.journal_model.specs.State.{course, course_of, grip, has_buffer, new_course}
+use Rattle.journal_model.specs.State.{course, course_of, reservation, has_buffer, new_course}
 use Rattle.journal_model.specs.Commands.{command_at_work, commands_of, named}
 use Rattle.journal_model.specs.Legal.{IsLegal, state_of}
 use Rattle.journal_model.specs.Ready.{is_ready}
@@ -20,11 +20,11 @@ use Rattle.laws.proofs.law_state.GoodStates.{good_law}
 use Rattle.laws.specs.law_sound.Sound.{Has, Owned, command_of}
 use Rattle.laws.proofs.law_sound.Along.{sound_law}
 use Rattle.laws.proofs.law_sound.Bufs.{clash, has_found, last_caught, missing_not_held, none_missing}
-use Rattle.laws.proofs.law_sound.Grips.{live_within}
+use Rattle.laws.proofs.law_sound.Reservations.{live_within}
 use Rattle.laws.proofs.law_sound.Steadies.{lock_wants, locks_alone}
 use Rattle.laws.proofs.law_sound.Turns.{Turn, OnBuffer, OnNamed, OnVictim, turn_of, lock, victim_unbind, victim_give, give, act, unbind}
 use Rattle.laws.specs.lemma_bytes_told.Told.{IsThere}
-use Rattle.room_ties.proofs.room_steps.Lent.{is_there}
+use Rattle.room_representation.proofs.room_steps.Lent.{is_there}
 use Rattle.room_state.proofs.room_turns.Threads.{task_at}
 
 -- the command at work is that of the course
@@ -98,7 +98,7 @@ module _ (script : Script) (journal : List Entry) (fits : IsTrue (is_script scri
     locks = turn_at script s t cmd (task.Lock b) at is
 
     -- another one is the holder
-    pub lock_other : (mine : Stamp) → (course s t).stamp ≡ Some mine → (grip s b).holder ≡ Some mine → ⊥
+    pub lock_other : (mine : Stamp) → (course s t).stamp ≡ Some mine → (reservation s b).holder ≡ Some mine → ⊥
     lock_other mine stamp holder = by locks
       where
         owned : Owned script s

@@ -9,7 +9,7 @@ use Rattle.bo_table.specs.Seen.{first_bos}
 use Rattle.journal_model.specs.declared.script.Script.{Script}
 use Rattle.journal_model.specs.declared.script.Sizes.{Sizes}
 use Rattle.journal_model.specs.State.{new_course}
-use Rattle.room_ties.specs.lemma_room_spans.Owned.{kind_of}
+use Rattle.room_representation.specs.lemma_room_spans.Owned.{kind_of}
 use Rattle.room_state.specs.declared.room_first.first.Buffers.{Buffers}
 use Rattle.room_state.specs.declared.room_first.first.Memory.{Memory}
 use Rattle.room_state.specs.declared.room_first.first.Work.{Work}

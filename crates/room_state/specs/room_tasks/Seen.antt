@@ -9,14 +9,14 @@ use Rattle.journal_model.specs.declared.state.Buffer.{Buffer}
 use Rattle.journal_model.specs.declared.state.State.{State}
 use Rattle.journal_model.specs.Ready.{is_ready}
 use Rattle.journal_model.specs.State.{new_buffer}
-use Rattle.room_ties.specs.room_steps.Lent.{as_buffer}
+use Rattle.room_representation.specs.room_steps.Lent.{as_buffer}
 
--- a state with the buffers of a table, without their fences, and with their grips: no more is read
+-- a state with the buffers of a table, without their fences, and with their reservations: no more is read
 abbrev pub seen : Bos → State
 seen t =
     record {
       core = record { buffers = t.buffers; jobs = []; ghosts = []; move_fence = None };
-      grips = t.grips;
+      reservations = t.reservations;
       lists = [];
       last_stamp = 0;
       last_ghost = 0;
@@ -33,6 +33,6 @@ standing (Some bo) = as_buffer bo
 unfoldable pub is_unready : Script → Bos → Command → BufId → Bool
 is_unready script t cmd b = not (is_ready script (seen t) cmd b)
 
--- each buffer of the table has a grip
-abbrev pub HasGrips : Bos → Type 0
-HasGrips t = length t.grips ≡ length t.buffers
+-- each buffer of the table has a reservation
+abbrev pub HasReservations : Bos → Type 0
+HasReservations t = length t.reservations ≡ length t.buffers

@@ -15,7 +15,7 @@ use Rattle.journal_model.specs.declared.state.Task.{Task}
 use Rattle.journal_model.specs.declared.state.Task.TheVariants as task
 use Rattle.journal_model.specs.declared.entry.Entry.{Entry}
 use Rattle.journal_model.specs.declared.entry.Kind.{Kind}
-use Rattle.journal_model.specs.State.{buffer, course, grip, is_live}
+use Rattle.journal_model.specs.State.{buffer, course, reservation, is_live}
 use Rattle.journal_model.specs.Commands.{command_at_work}
 use Rattle.journal_model.specs.Dry.{has_frame}
 use Rattle.journal_model.specs.Holds.{free_slot}
@@ -44,7 +44,7 @@ holder_before c (Some holder) = if backs_off c holder then None else Some holder
 
 -- the holder that a task waits for
 abbrev pub holder_in : State → Course → Task → Option Stamp
-holder_in s c (task.Lock b) = if is_live s b then holder_before c (grip s b).holder else None
+holder_in s c (task.Lock b) = if is_live s b then holder_before c (reservation s b).holder else None
 holder_in s c _ = None
 
 -- the same of a thread's task

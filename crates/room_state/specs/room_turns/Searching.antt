@@ -13,45 +13,45 @@ use Rattle.journal_model.specs.State.{course}
 use Rattle.journal_model.specs.Commands.{command_at_work, whole}
 use Rattle.journal_model.specs.Choice.{choice}
 use Rattle.journal_model.specs.Dry.{is_long_enough, victim}
-use Rattle.journal_model.specs.Search.{Quest, quest, first_choice}
+use Rattle.journal_model.specs.Search.{PlaceSearch, place_search, first_choice}
 use Rattle.journal_model.specs.Tasks.{task_of}
 
 -- pages are searched for a buffer
-pub record Hunt : Type 0 where
+pub record BufferSearch : Type 0 where
   pub b : BufId
-  pub quest : Quest
+  pub place_search : PlaceSearch
 
 -- the search of a task
-abbrev pub hunt_in : Script → State → ℕ → Command → Task → Option Hunt
-hunt_in script s thread cmd (task.Search b aim) = Some (record { b = b; quest = quest script cmd (course s thread) b aim })
-hunt_in script s thread cmd _ = None
+abbrev pub buffer_search_in : Script → State → ℕ → Command → Task → Option BufferSearch
+buffer_search_in script s thread cmd (task.Search b aim) = Some (record { b = b; place_search = place_search script cmd (course s thread) b aim })
+buffer_search_in script s thread cmd _ = None
 
 -- the search at which a thread is
-abbrev pub hunt_of : Script → State → ℕ → Option Hunt
-hunt_of script s thread = option_and_then (λ cmd. hunt_in script s thread cmd (task_of script s thread)) (command_at_work script s thread)
+abbrev pub buffer_search_of : Script → State → ℕ → Option BufferSearch
+buffer_search_of script s thread = option_and_then (λ cmd. buffer_search_in script s thread cmd (task_of script s thread)) (command_at_work script s thread)
 
 -- the forced place at work
-abbrev pub place_at_work : Quest → Place
+abbrev pub place_at_work : PlaceSearch → Place
 place_at_work q = unwrap_or (slice_get (forced_places q.list) q.dry) (whole System)
 
 -- a place to try now has a choice: one of those tried first, unless the search is under pressure, or the forced place at work
-abbrev pub has_choice : Script → State → Hunt → Bool
+abbrev pub has_choice : Script → State → BufferSearch → Bool
 has_choice script s h =
-    not h.quest.forced && is_some (first_choice script s h.b (first_places h.quest.list))
-    || is_some (choice script s.core h.b (place_at_work h.quest))
+    not h.place_search.forced && is_some (first_choice script s h.b (first_places h.place_search.list))
+    || is_some (choice script s.core h.b (place_at_work h.place_search))
 
 -- the same of a thread's search
 abbrev pub finds_choice : Script → State → ℕ → Bool
-finds_choice script s thread = elim (hunt_of script s thread) [ Some h ↦ has_choice script s h | None ↦ false ]
+finds_choice script s thread = elim (buffer_search_of script s thread) [ Some h ↦ has_choice script s h | None ↦ false ]
 
 -- the buffer to evict for a search, if the place at work is long enough and some buffer is evictable
-abbrev pub victim_for : Script → State → ℕ → Hunt → Option BufId
+abbrev pub victim_for : Script → State → ℕ → BufferSearch → Option BufId
 victim_for script s thread h =
-    elim (is_long_enough script h.b (place_at_work h.quest)) [
-      | true ↦ victim script s (course s thread).skips (place_at_work h.quest)
+    elim (is_long_enough script h.b (place_at_work h.place_search)) [
+      | true ↦ victim script s (course s thread).skips (place_at_work h.place_search)
       | false ↦ None
     ]
 
 -- the same of a thread's search
 abbrev pub victim_of : Script → State → ℕ → Option BufId
-victim_of script s thread = option_and_then (victim_for script s thread) (hunt_of script s thread)
+victim_of script s thread = option_and_then (victim_for script s thread) (buffer_search_of script s thread)

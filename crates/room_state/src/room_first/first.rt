@@ -1,8 +1,8 @@
 ghost use Rattle.std.specs.Prelude.{◌≡◌, ◌≤◌, IfOk, IsTrue, [], length, map};
-ghost use Rattle.room_ties.specs.lemma_room_spans.Owned.{kind_of};
+ghost use Rattle.room_representation.specs.lemma_room_spans.Owned.{kind_of};
 ghost use Rattle.journal_model.specs.State as words;
 ghost use Rattle.journal_model.specs.ScriptRules.{is_script};
-ghost use Rattle.room_ties.specs.Held.{AreHeld};
+ghost use Rattle.room_representation.specs.Held.{AreHeld};
 ghost use Rattle.room_state.specs.room_first.First as first;
 
 use aperture_table::Aperture;
@@ -15,7 +15,7 @@ use journal_model::{Commands, Courses, Script, Sizes};
 use lru_bulk::Lru;
 use page_pool::PagePool;
 use resource_core::{PagesKind, RangeRoom, VramRoom};
-use room_ties::{Ghosts, Parts};
+use room_representation::{Ghosts, Parts};
 use state_words::new_course;
 use std::alloc::Global;
 use swap_store::SwapStore;

@@ -5,14 +5,14 @@ ghost use Rattle.journal_model.specs.Legal.{state_of};
 ghost use Rattle.journal_model.specs.Ready as ready;
 ghost use Rattle.journal_model.specs.State.{buffer};
 ghost use Rattle.journal_model.specs.Tasks as words;
-ghost use Rattle.room_ties.specs.Held.{AreHeld};
-ghost use Rattle.room_ties.specs.room_steps.Courses.{course_at};
+ghost use Rattle.room_representation.specs.Held.{AreHeld};
+ghost use Rattle.room_representation.specs.room_steps.Courses.{course_at};
 
 use crate::room_tasks::ready::unready;
 use crate::room_tasks::standing::live;
 use crate::room_tasks::tasks::{can_give, refusal, task_of_command};
 use journal_model::{Command, Course, Courses, Entry, Script, Task};
-use room_ties::Parts;
+use room_representation::Parts;
 use state_words::commands_of;
 use ttm_base::{BufId, Deny};
 

@@ -2,7 +2,7 @@ ghost use Rattle.std.specs.Prelude.{◌≡◌, find, flat_map};
 ghost use Rattle.std.specs.Option.{option_copied};
 ghost use Rattle.journal_model.specs.Commands.{buffers_of_op};
 ghost use Rattle.journal_model.specs.Ready as words;
-ghost use Rattle.room_state.specs.room_tasks.Seen.{is_unready, seen, standing, HasGrips};
+ghost use Rattle.room_state.specs.room_tasks.Seen.{is_unready, seen, standing, HasReservations};
 
 use crate::room_tasks::mentions::{buffers_of, mentions_of};
 use crate::room_tasks::standing::{has_all_frames, has_some_target, live, mem_of, spans_of};
@@ -62,7 +62,7 @@ fn is_filled(command: &Command, bo: Option<&Bo>) -> bool
 
 /// In place and filled.
 fn is_ready(script: &Script, bos: &BoTable, command: &Command, b: BufId) -> bool
-    requires { HasGrips bos.now }
+    requires { HasReservations bos.now }
     ensures { result ≡ words.is_ready script.now (seen bos.now) command.now b }
 {
     let bo = live(bos, b);
@@ -72,7 +72,7 @@ fn is_ready(script: &Script, bos: &BoTable, command: &Command, b: BufId) -> bool
 /// The first buffer of an operation that isn't ready.
 #[tactic(auto, unfolding(crate::specs::room_tasks::Seen::is_unready))]
 fn unready_of(script: &Script, bos: &BoTable, command: &Command, op: &Op) -> Option<BufId>
-    requires { HasGrips bos.now }
+    requires { HasReservations bos.now }
     ensures { result ≡ find (is_unready script.now bos.now command.now) (buffers_of_op op.now) }
 {
     let (first, second) = buffers_of(op);
@@ -87,7 +87,7 @@ fn unready_of(script: &Script, bos: &BoTable, command: &Command, op: &Op) -> Opt
 
 /// The first buffer of operations that isn't ready.
 fn unready_in(script: &Script, bos: &BoTable, command: &Command, ops: &[Op]) -> Option<BufId>
-    requires { HasGrips bos.now }
+    requires { HasReservations bos.now }
     ensures { result ≡ find (is_unready script.now bos.now command.now) (flat_map buffers_of_op ops.now) }
 {
     for op in ops {
@@ -101,7 +101,7 @@ fn unready_in(script: &Script, bos: &BoTable, command: &Command, ops: &[Op]) -> 
 
 /// The named buffer at work: the first that isn't ready.
 pub(crate) fn unready(script: &Script, bos: &BoTable, command: &Command) -> Option<BufId>
-    requires { HasGrips bos.now }
+    requires { HasReservations bos.now }
     ensures { result ≡ words.first_unready script.now (seen bos.now) command.now }
 {
     let mentions = mentions_of(command);

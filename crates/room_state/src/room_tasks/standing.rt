@@ -3,7 +3,7 @@ ghost use Rattle.std.specs.Option.{option_copied};
 ghost use Rattle.journal_model.specs.Dry as dry;
 ghost use Rattle.journal_model.specs.Ready as words;
 ghost use Rattle.journal_model.specs.State as state;
-ghost use Rattle.room_state.specs.room_tasks.Seen.{seen, standing, HasGrips};
+ghost use Rattle.room_state.specs.room_tasks.Seen.{seen, standing, HasReservations};
 
 use bo_table::{Bo, BoTable};
 use state_words::target_of;
@@ -11,7 +11,7 @@ use ttm_base::{BufId, Mem, Span};
 
 /// The buffer, if it is live. None stands for an empty buffer in SYSTEM.
 pub(crate) fn live(bos: &BoTable, b: BufId) -> Option<&Bo>
-    requires { HasGrips bos.now }
+    requires { HasReservations bos.now }
     ensures { standing (option_copied result) ≡ state.buffer (seen bos.now) b }
 {
     if b.0 as usize >= bos.len() {
@@ -23,8 +23,8 @@ pub(crate) fn live(bos: &BoTable, b: BufId) -> Option<&Bo>
 
 /// How often a buffer is pinned.
 pub(crate) fn pins(bos: &BoTable, b: BufId) -> u8
-    requires { HasGrips bos.now }
-    ensures { result ≡ (state.grip (seen bos.now) b).pins }
+    requires { HasReservations bos.now }
+    ensures { result ≡ (state.reservation (seen bos.now) b).pins }
 {
     if (b.0 as usize) < bos.len() {
         bos.get(b).pins

@@ -1,9 +1,9 @@
 ghost use Rattle.std.specs.Prelude.{◌≡◌};
 ghost use Rattle.std.specs.Option.{option_copied};
 ghost use Rattle.ttm_base.specs.ListWords.{last_of};
-ghost use Rattle.journal_model.specs.State.{grip};
+ghost use Rattle.journal_model.specs.State.{reservation};
 ghost use Rattle.journal_model.specs.Tasks as words;
-ghost use Rattle.room_state.specs.room_tasks.Seen.{seen, standing, HasGrips};
+ghost use Rattle.room_state.specs.room_tasks.Seen.{seen, standing, HasReservations};
 
 use crate::room_tasks::mentions::first_missing;
 use crate::room_tasks::ready::{is_in_place, unready};
@@ -11,7 +11,7 @@ use crate::room_tasks::standing::{
     has_all_frames, has_frame, has_some_target, has_target, live, mem_of, pins,
 };
 use bo_table::{Bo, BoTable};
-use journal_model::{Aim, Command, Course, Script, Stage, Task, Victim, Why};
+use journal_model::{Command, Course, Script, SearchAim, Stage, Task, Victim, Why};
 use state_words::same_mem;
 use ttm_base::{BufId, Deny, Mem};
 
@@ -57,7 +57,10 @@ fn task_in_vram(victim: Victim, bo: Option<&Bo>) -> Task
     } else if has_target(Mem::Tt, bo) {
         filled_then(Task::Move { b, mem: Mem::Tt }, b, bo)
     } else {
-        Task::Search { b, aim: Aim::Hop }
+        Task::Search {
+            b,
+            aim: SearchAim::Hop,
+        }
     }
 }
 
@@ -90,7 +93,7 @@ fn task_of_victim(victim: Victim, bo: Option<&Bo>) -> Task
 
 /// What the command may not ask of its buffer.
 pub(crate) fn refusal(bos: &BoTable, command: &Command) -> Option<Deny>
-    requires { HasGrips bos.now }
+    requires { HasReservations bos.now }
     ensures { result ≡ words.forbidden (seen bos.now) command.now }
 {
     match command {
@@ -104,7 +107,7 @@ pub(crate) fn refusal(bos: &BoTable, command: &Command) -> Option<Deny>
 
 /// A search failed: the buffer at work gives back what it took, and the command is refused.
 fn task_of_failed(script: &Script, bos: &BoTable, command: &Command, deny: Deny) -> Task
-    requires { HasGrips bos.now }
+    requires { HasReservations bos.now }
     ensures { result ≡ words.task_of_failed script.now (seen bos.now) command.now deny }
 {
     match unready(script, bos, command) {
@@ -122,7 +125,10 @@ fn carried(b: BufId, bo: Option<&Bo>) -> Task
             if has_target(Mem::Tt, bo) {
                 filled_then(Task::Bind(b), b, bo)
             } else {
-                Task::Search { b, aim: Aim::Hop }
+                Task::Search {
+                    b,
+                    aim: SearchAim::Hop,
+                }
             }
         }
         Mem::Tt => {
@@ -138,7 +144,10 @@ fn carried(b: BufId, bo: Option<&Bo>) -> Task
             } else if has_target(Mem::Tt, bo) {
                 filled_then(Task::Move { b, mem: Mem::Tt }, b, bo)
             } else {
-                Task::Search { b, aim: Aim::Hop }
+                Task::Search {
+                    b,
+                    aim: SearchAim::Hop,
+                }
             }
         }
     }
@@ -146,21 +155,24 @@ fn carried(b: BufId, bo: Option<&Bo>) -> Task
 
 /// A buffer that isn't in place.
 fn task_of_misplaced(bos: &BoTable, b: BufId, bo: Option<&Bo>) -> Task
-    requires { HasGrips bos.now }
-    ensures { result ≡ words.task_of_misplaced b (grip (seen bos.now) b) (standing (option_copied bo.entry)) }
+    requires { HasReservations bos.now }
+    ensures { result ≡ words.task_of_misplaced b (reservation (seen bos.now) b) (standing (option_copied bo.entry)) }
 {
     if pins(bos, b) > 0 {
         Task::Refuse(Deny::Pinned)
     } else if has_some_target(bo) {
         carried(b, bo)
     } else {
-        Task::Search { b, aim: Aim::Asked }
+        Task::Search {
+            b,
+            aim: SearchAim::Asked,
+        }
     }
 }
 
 /// The named buffer at work.
 fn task_of_unready(script: &Script, bos: &BoTable, command: &Command, b: BufId) -> Task
-    requires { HasGrips bos.now }
+    requires { HasReservations bos.now }
     ensures { result ≡ words.task_of_unready script.now (seen bos.now) command.now b }
 {
     let bo = live(bos, b);
@@ -173,7 +185,7 @@ fn task_of_unready(script: &Script, bos: &BoTable, command: &Command, b: BufId) 
 
 /// What is left once each buffer is held and no victim is caught.
 fn task_of_held(script: &Script, bos: &BoTable, course: &Course, command: &Command) -> Task
-    requires { HasGrips bos.now }
+    requires { HasReservations bos.now }
     ensures { result ≡ words.task_of_held script.now (seen bos.now) course.now command.now }
 {
     if let Some(deny) = refusal(bos, command) {
@@ -195,7 +207,7 @@ pub(crate) fn task_of_command(
     course: &Course,
     command: &Command,
 ) -> Task
-    requires { HasGrips bos.now }
+    requires { HasReservations bos.now }
     ensures { result ≡ words.task_of_command script.now (seen bos.now) course.now command.now }
 {
     if course.made {

@@ -5,15 +5,15 @@ use Rattle.ttm_base.specs.declared.Mem.{Mem}
 use Rattle.ttm_base.specs.declared.BufId.{BufId}
 use Rattle.journal_model.specs.declared.script.Script.{Script}
 use Rattle.journal_model.specs.declared.state.Buffer.{Buffer}
-use Rattle.journal_model.specs.declared.state.Grip.{Grip}
+use Rattle.journal_model.specs.declared.state.Reservation.{Reservation}
 use Rattle.ttm_base.specs.declared.Stamp.{Stamp}
 use Rattle.journal_model.specs.ApplyCommands.{with_holder}
-use Rattle.journal_model.specs.State.{live_in, changed, grip_in, regripped}
+use Rattle.journal_model.specs.State.{live_in, changed, reservation_in, reservation_changed}
 use Rattle.journal_model.specs.Lists.{listed_as, put_on, taken_off, touched}
-use Rattle.state_words.proofs.Pins.{pins-regripped}
+use Rattle.state_words.proofs.Pins.{pins-reservation_changed}
 use Rattle.rules_state.specs.rules_parts.Listing.{listed_mem, listed_in, relisted}
 
-pub listed_as_in : (script : Script) (lists : List (List BufId)) (b : BufId) (g : Grip) (x : Option Buffer) → listed_as script lists b g x ≡ listed_in script lists b (listed_mem g x)
+pub listed_as_in : (script : Script) (lists : List (List BufId)) (b : BufId) (g : Reservation) (x : Option Buffer) → listed_as script lists b g x ≡ listed_in script lists b (listed_mem g x)
 listed_as_in script lists b g None = refl
 listed_as_in script lists b g (Some x) =
     elim (g.pins == 0) as (λ t. (if t then put_on script (taken_off lists b) b x.mem else taken_off lists b) ≡ listed_in script lists b (if t then Some x.mem else None)) [
@@ -32,7 +32,7 @@ pub live_in-changed : (f : Buffer → Buffer) (buffers : List (Option Buffer)) (
 live_in-changed f buffers b = live_at f buffers b.0
 
 -- a buffer that went to a memory type
-listed_mem-map : (f : Buffer → Buffer) (mem : Mem) → ((x : Buffer) → (f x).mem ≡ mem) → (g : Grip) (x : Option Buffer) → listed_mem g (option_map f x) ≡ option_map (λ m. mem) (listed_mem g x)
+listed_mem-map : (f : Buffer → Buffer) (mem : Mem) → ((x : Buffer) → (f x).mem ≡ mem) → (g : Reservation) (x : Option Buffer) → listed_mem g (option_map f x) ≡ option_map (λ m. mem) (listed_mem g x)
 listed_mem-map f mem moves g None = refl
 listed_mem-map f mem moves g (Some x) =
     elim (g.pins == 0) as (λ t. (if t then Some (f x).mem else None) ≡ option_map (λ m. mem) (if t then Some x.mem else None)) [
@@ -41,16 +41,16 @@ listed_mem-map f mem moves g (Some x) =
     ]
 
 -- the lists after a buffer was changed that went to a memory type
-pub touched-moved : (f : Buffer → Buffer) (mem : Mem) → ((x : Buffer) → (f x).mem ≡ mem) → (script : Script) (buffers : List (Option Buffer)) (grips : List Grip) (lists : List (List BufId)) (b : BufId) → touched script (changed f buffers b) grips lists b ≡ relisted script buffers grips lists b mem
-touched-moved f mem moves script buffers grips lists b =
-    rw (live_in-changed f buffers b) (listed_as_in script lists b (grip_in grips b) (option_map f (live_in buffers b)) ∙ ap (listed_in script lists b) (listed_mem-map f mem moves (grip_in grips b) (live_in buffers b)))
+pub touched-moved : (f : Buffer → Buffer) (mem : Mem) → ((x : Buffer) → (f x).mem ≡ mem) → (script : Script) (buffers : List (Option Buffer)) (reservations : List Reservation) (lists : List (List BufId)) (b : BufId) → touched script (changed f buffers b) reservations lists b ≡ relisted script buffers reservations lists b mem
+touched-moved f mem moves script buffers reservations lists b =
+    rw (live_in-changed f buffers b) (listed_as_in script lists b (reservation_in reservations b) (option_map f (live_in buffers b)) ∙ ap (listed_in script lists b) (listed_mem-map f mem moves (reservation_in reservations b) (live_in buffers b)))
 
 -- pins alone decide whether a buffer is listed
-listed_as-pins : (script : Script) (lists : List (List BufId)) (b : BufId) (g h : Grip) → g.pins ≡ h.pins → (x : Option Buffer) → listed_as script lists b g x ≡ listed_as script lists b h x
+listed_as-pins : (script : Script) (lists : List (List BufId)) (b : BufId) (g h : Reservation) → g.pins ≡ h.pins → (x : Option Buffer) → listed_as script lists b g x ≡ listed_as script lists b h x
 listed_as-pins script lists b g h same None = refl
 listed_as-pins script lists b g h same (Some x) = rw same
 
 -- a buffer that was let go is listed as before
-pub touched_released : (holder : Option Stamp) (script : Script) (buffers : List (Option Buffer)) (grips : List Grip) (lists : List (List BufId)) (b c : BufId) → touched script buffers (regripped (with_holder holder) grips b) lists c ≡ touched script buffers grips lists c
-touched_released holder script buffers grips lists b c =
-    listed_as-pins script lists c (grip_in (regripped (with_holder holder) grips b) c) (grip_in grips c) (pins-regripped holder grips b c) (live_in buffers c)
+pub touched_released : (holder : Option Stamp) (script : Script) (buffers : List (Option Buffer)) (reservations : List Reservation) (lists : List (List BufId)) (b c : BufId) → touched script buffers (reservation_changed (with_holder holder) reservations b) lists c ≡ touched script buffers reservations lists c
+touched_released holder script buffers reservations lists b c =
+    listed_as-pins script lists c (reservation_in (reservation_changed (with_holder holder) reservations b) c) (reservation_in reservations c) (pins-reservation_changed holder reservations b c) (live_in buffers c)

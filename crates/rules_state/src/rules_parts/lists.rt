@@ -2,8 +2,10 @@ ghost use Rattle.std.specs.Prelude.{◌≡◌, ◌++◌, IfOk, OnOk, fold, filte
 ghost use Rattle.journal_model.specs.Lists as words;
 ghost use Rattle.rules_state.specs.rules_parts.Listing as listing;
 
-use crate::{declared_prio, grip_in, is_mate, is_member, list_number, live_in, without_buffer};
-use journal_model::{BufIds, Buffer, Grip, Lists, Script};
+use crate::{
+    declared_prio, is_mate, is_member, list_number, live_in, reservation_in, without_buffer,
+};
+use journal_model::{BufIds, Buffer, Lists, Reservation, Script};
 use std::alloc::Global;
 use ttm_base::{BufId, Mem, NoMemory};
 
@@ -42,11 +44,11 @@ fn put_in(script: &Script, list: &mut BufIds, b: BufId) -> Result<(), NoMemory>
 }
 
 /// The memory type in whose lists a buffer stands, if any: that of a live buffer without pins.
-pub fn listed_mem(grip: Grip, buffer: Option<&Buffer>) -> Option<Mem>
-    ensures { result ≡ listing.listed_mem grip (option_copied buffer.entry) }
+pub fn listed_mem(reservation: Reservation, buffer: Option<&Buffer>) -> Option<Mem>
+    ensures { result ≡ listing.listed_mem reservation (option_copied buffer.entry) }
 {
     match buffer {
-        Some(buffer) if grip.pins == 0 => Some(buffer.mem),
+        Some(buffer) if reservation.pins == 0 => Some(buffer.mem),
         _ => None,
     }
 }
@@ -76,14 +78,14 @@ pub fn relisted(
     alloc: Global,
     script: &Script,
     buffers: &[Option<Buffer>],
-    grips: &[Grip],
+    reservations: &[Reservation],
     lists: &[BufIds],
     b: BufId,
     mem: Mem,
 ) -> Result<Lists, NoMemory>
-    ensures { IfOk result (λ new. new ≡ listing.relisted script.now buffers.now grips.now lists.now b mem) }
+    ensures { IfOk result (λ new. new ≡ listing.relisted script.now buffers.now reservations.now lists.now b mem) }
 {
-    let listed = listed_mem(grip_in(grips, b), live_in(buffers, b)).map(|_| mem);
+    let listed = listed_mem(reservation_in(reservations, b), live_in(buffers, b)).map(|_| mem);
     listed_in(alloc, script, lists, b, listed)
 }
 
@@ -93,13 +95,13 @@ pub fn touched(
     alloc: Global,
     script: &Script,
     buffers: &[Option<Buffer>],
-    grips: &[Grip],
+    reservations: &[Reservation],
     lists: &[BufIds],
     b: BufId,
 ) -> Result<Lists, NoMemory>
-    ensures { IfOk result (λ new. new ≡ words.touched script.now buffers.now grips.now lists.now b) }
+    ensures { IfOk result (λ new. new ≡ words.touched script.now buffers.now reservations.now lists.now b) }
 {
-    let mem = listed_mem(grip_in(grips, b), live_in(buffers, b));
+    let mem = listed_mem(reservation_in(reservations, b), live_in(buffers, b));
     listed_in(alloc, script, lists, b, mem)
 }
 
@@ -120,15 +122,15 @@ pub fn touched_all(
     alloc: Global,
     script: &Script,
     buffers: &[Option<Buffer>],
-    grips: &[Grip],
+    reservations: &[Reservation],
     lists: &[BufIds],
     bs: &[BufId],
 ) -> Result<Lists, NoMemory>
-    ensures { IfOk result (λ new. new ≡ fold (words.touched script.now buffers.now grips.now) lists.now bs.now) }
+    ensures { IfOk result (λ new. new ≡ fold (words.touched script.now buffers.now reservations.now) lists.now bs.now) }
 {
     let mut new = copied(alloc, lists)?;
     for b in bs {
-        new = touched(alloc, script, buffers, grips, new.items(), *b)?;
+        new = touched(alloc, script, buffers, reservations, new.items(), *b)?;
     }
     Ok(new)
 }

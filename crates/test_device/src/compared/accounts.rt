@@ -4,7 +4,7 @@ use bo_table::BoTable;
 use journal_model::Script;
 use report_text::{Account, Accounts};
 use resource_core::{Lengths, Manager};
-use room_ties::Parts;
+use room_representation::Parts;
 use ttm_base::{BufId, Loc};
 
 /// The account of a manager.
@@ -36,7 +36,7 @@ fn slots_in(places: &[Loc]) -> u64 {
 
 /// How many buffers a table has. None has more than 32 bits hold.
 fn count_of(bos: &BoTable) -> u32
-    ensures { result ≤ length bos.now.grips }
+    ensures { result ≤ length bos.now.reservations }
 {
     match u32::try_from(bos.len()) {
         Ok(count) => count,

@@ -2,7 +2,7 @@ ghost use Rattle.std.specs.Prelude.{◌≡◌, ◌*◌, length};
 
 use super::difference::{Difference, Stop, agree};
 use device_core::Device;
-use room_ties::Parts;
+use room_representation::Parts;
 use rules_stores::{PlainStores, StorePage};
 
 /// Bytes of a page.

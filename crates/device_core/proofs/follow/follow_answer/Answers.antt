@@ -4,7 +4,7 @@ use Rattle.journal_model.specs.declared.state.Course.{Course}
 use Rattle.journal_model.specs.Legal.{state_of}
 use Rattle.map_follow.specs.Ends.{with_end}
 use Rattle.map_follow.specs.Founds.{found_by, with_found}
-use Rattle.device_core.proofs.Behind.{after_none, after_some, fits_pages, is_there, known_grip, some_answered}
+use Rattle.device_core.proofs.Behind.{after_none, after_some, fits_pages, is_there, known_reservation, some_answered}
 use Rattle.device_core.proofs.follow.follow_answer.Goals as goal
 use Rattle.device_core.proofs.follow.follow_answer.Goals.{in-Some, in_default}
 
@@ -18,7 +18,7 @@ overflow_sub-answered c =
 
 pub get-bo-requires : goal.get-bo-requires
 get-bo-requires c =
-    known_grip c.args.rooms.now.script c.args.rooms.now.journal c.args.before.now c.args.entry.now c.journal-legal.ensures.fits c.journal-legal.ensures.legal c.requires.last c.args.thread c.requires.who c.from-answered.result
+    known_reservation c.args.rooms.now.script c.args.rooms.now.journal c.args.before.now c.args.entry.now c.journal-legal.ensures.fits c.journal-legal.ensures.legal c.requires.last c.args.thread c.requires.who c.from-answered.result
     (c.from-answered.ensures ∙ ap (λ (x : Course). x.answered) c.course.ensures) c.in-Some.found
     (ap (λ (s : Script). found_by s (c.from-answered.result - 1) c.args.entry.now) (sym c.script-script.ensures.script) ∙ sym c.found_by.ensures ∙ c.in-Some.is)
     (state_of c.args.rooms.now.script c.args.rooms.now.journal).last_jobs c.bos.result.now c.bos.ensures
@@ -37,7 +37,7 @@ returns c =
     elim c.match-found_by.branch [
       | in-Some w ↦
           after_some c.args.rooms.now.script c.args.rooms.now.journal c.args.before.now c.args.entry.now c.journal-legal.ensures.fits c.journal-legal.ensures.legal c.requires.last c.args.thread c.requires.who c.from-answered.result told w.in-Some.found (found_is ∙ w.in-Some.is)
-          (state_of c.args.rooms.now.script c.args.rooms.now.journal).grips (state_of c.args.rooms.now.script c.args.rooms.now.journal).last_jobs
+          (state_of c.args.rooms.now.script c.args.rooms.now.journal).reservations (state_of c.args.rooms.now.script c.args.rooms.now.journal).last_jobs
           w.bos.result.now w.bos.ensures w.get-bo.result.now w.get-bo.ensures c.args.maps.now c.match-found_by.maps c.end_mappings.new.maps
           (w.maps-is ∙ w.fault_in.ensures
           ∙ ap (λ xs. with_found w.in-Some.found w.get-bo.result.now.mem xs w.places.result.now c.args.maps.now) w.items.ensures

@@ -16,8 +16,8 @@ overflow_cast-b c =
     let r = c.args.rooms.now in
     let few = few_buffers r.script c.journal-legal.ensures.fits in
     let many = (good_law r.script c.journal-legal.ensures.fits r.journal c.journal-legal.ensures.legal).many in
-    let known = (sound_law r.script r.journal c.journal-legal.ensures.fits c.journal-legal.ensures.legal).owned.grips in
-    let lent = ap length c.bos-bos.ensures.grips_are in
+    let known = (sound_law r.script r.journal c.journal-legal.ensures.fits c.journal-legal.ensures.legal).owned.reservations in
+    let lent = ap length c.bos-bos.ensures.reservations_are in
     omega (arith, few, many, known, lent, c.len-i-end.ensures, c.loop-i-test.true)
 
 pub loop-i-preserved : goal.loop-i-preserved
@@ -26,15 +26,15 @@ loop-i-preserved c =
     let s = state_behind r in
     let b : BufId = record { 0 = c.loop-i.i } in
     let same = row_same r.script s c.args.place b c.bos-bos.result.now c.bos-bos.ensures c.get.result.now c.get.ensures in
-    let more = row_more r.script s.grips c.args.place s.core.buffers c.loop-i.i same.0 same.1 in
-    let row : c.row_in.result ≡ option_and_then (λ x. cause_row r.script s.grips c.args.place (b, x)) same.0 =
+    let more = row_more r.script s.reservations c.args.place s.core.buffers c.loop-i.i same.0 same.1 in
+    let row : c.row_in.result ≡ option_and_then (λ x. cause_row r.script s.reservations c.args.place (b, x)) same.0 =
     c.row_in.ensures ∙ ap (λ (x : Script). row_in x c.args.place b c.get.result.now) c.script.ensures.script ∙ same.2 in
     grind (arith, common_steps, more, row)
 
 pub returns : goal.returns
 returns c =
     let r = c.args.rooms.now in
-    let known = (sound_law r.script r.journal c.journal-legal.ensures.fits c.journal-legal.ensures.legal).owned.grips in
-    let lent = ap length c.bos-bos.ensures.grips_are in
+    let known = (sound_law r.script r.journal c.journal-legal.ensures.fits c.journal-legal.ensures.legal).owned.reservations in
+    let lent = ap length c.bos-bos.ensures.reservations_are in
     let all : length (state_behind r).core.buffers ≤ c.loop-i.i = omega (arith, known, lent, c.len-i-end.ensures, c.loop-i-test.false) in
     c.loop-i.invariant ∙ rows_all r.script (state_behind r) c.args.place c.loop-i.i all

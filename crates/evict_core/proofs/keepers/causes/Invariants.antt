@@ -5,4 +5,4 @@ use Rattle.evict_core.proofs.keepers.causes.Given as goal
 
 -- the rows of the buffers before
 abbrev pub invariant-loop-i : goal.invariant-loop-i
-invariant-loop-i l = l.rows ≡ rows_up_to l.rooms.script (state_behind l.rooms).grips l.place (state_behind l.rooms).core.buffers l.i
+invariant-loop-i l = l.rows ≡ rows_up_to l.rooms.script (state_behind l.rooms).reservations l.place (state_behind l.rooms).core.buffers l.i

@@ -3,7 +3,7 @@ use Rattle.std.specs.Prelude.{option_map}
 use Rattle.journal_model.specs.declared.script.Script.{Script}
 use Rattle.journal_model.specs.Choice.{reach_of}
 use Rattle.room_state.specs.room_turns.Turns.{state_behind}
-use Rattle.room_ties.specs.declared.parts.Ghost.{Ghost}
+use Rattle.room_representation.specs.declared.parts.Ghost.{Ghost}
 use Rattle.evict_core.specs.Rows.{ghost_in}
 use Rattle.evict_core.proofs.Rows.{ghost_same}
 use Rattle.evict_core.proofs.keepers.ghost_in.Goals as goal

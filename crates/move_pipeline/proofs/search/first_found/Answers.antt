@@ -1,7 +1,7 @@
 use Rattle.std.proofs.Common.{◌≡◌, Some, None, slice_get, ◌∙◌, sym, ap}
 use Rattle.journal_model.specs.declared.script.Script.{Script}
 use Rattle.room_state.specs.room_turns.Turns.{Kept, state_behind}
-use Rattle.room_state.specs.room_turns.Hunts.{list_of}
+use Rattle.room_state.specs.room_turns.BufferSearches.{list_of}
 use Rattle.move_pipeline.specs.Finds.{tried_at}
 use Rattle.move_pipeline.proofs.Founds.{having, lacking}
 use Rattle.move_pipeline.proofs.search.first_found.Goals as goal
@@ -9,7 +9,7 @@ use Rattle.move_pipeline.proofs.search.first_found.Goals as goal
 pub returns-in-Some-clause-found : goal.returns-in-Some-clause-found
 returns-in-Some-clause-found c =
     let r = c.args.rooms.now in
-    let h = c.args.hunt in
+    let h = c.args.buffer_search in
     let p = c.place_at-tried.result in
     let same = c.loop-at.invariant.same in
     let script = c.script-in-loop-at.ensures.script ∙ ap (λ (k : Kept). k.script) same in
@@ -20,7 +20,7 @@ returns-in-Some-clause-found c =
 pub loop-at-preserved : goal.loop-at-preserved
 loop-at-preserved c =
     let r = c.args.rooms.now in
-    let h = c.args.hunt in
+    let h = c.args.buffer_search in
     let p = c.place_at-tried.result in
     let same = c.loop-at.invariant.same in
     let script = c.script-in-loop-at.ensures.script ∙ ap (λ (k : Kept). k.script) same in

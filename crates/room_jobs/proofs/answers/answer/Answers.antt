@@ -20,7 +20,7 @@ write-requires c = answer_writes c.args.script.now c.args.before.now c.args.part
 pub change_pins-requires : goal.change_pins-requires
 change_pins-requires c =
     answer_pins c.args.script.now c.args.before.now c.args.parts.now c.args.entry.now c.args.thread c.args.shown.now c.requires.held c.requires.is c.requires.next c.command_of-command.result.now c.release_all.new.bos c.command_of-command.ensures
-    (c.release_all.ensures ∙ ap (λ l. record c.args.parts.now.bos { grips = released c.args.parts.now.bos.grips l }) c.held_by-held.ensures)
+    (c.release_all.ensures ∙ ap (λ l. record c.args.parts.now.bos { reservations = released c.args.parts.now.bos.reservations l }) c.held_by-held.ensures)
 
 pub go_on-requires-clause-there : goal.go_on-requires-clause-there
 go_on-requires-clause-there c = answer_there c.args.script.now c.args.before.now c.args.parts.now c.args.entry.now c.args.thread c.args.shown.now c.requires.held c.requires.is c.requires.next
@@ -33,6 +33,6 @@ returns-clause-ok c =
     answer_held c.args.script.now c.args.before.now c.args.parts.now c.args.entry.now c.args.thread c.args.shown.now c.requires.held c.requires.is c.requires.next c.command_of-command.result.now c.go_on.new.courses c.change_pins.new.bos c.relist.new.lru c.write.new.stores c.command_of-command.ensures
     (subst (λ l. AreRelisted c.args.script.now c.args.parts.now.bos l c.command_of-command.result.now c.args.parts.now.lru c.relist.new.lru) c.held_by-held.ensures c.in_ok-relist.ensures.ok) c.write.ensures
     (c.change_pins.ensures
-    ∙ ap (λ (x : Bos). record x { grips = with_pins (Some c.command_of-command.result.now) x.grips }) c.release_all.ensures
-    ∙ ap (λ l. record c.args.parts.now.bos { grips = with_pins (Some c.command_of-command.result.now) (released c.args.parts.now.bos.grips l) }) c.held_by-held.ensures)
+    ∙ ap (λ (x : Bos). record x { reservations = with_pins (Some c.command_of-command.result.now) x.reservations }) c.release_all.ensures
+    ∙ ap (λ l. record c.args.parts.now.bos { reservations = with_pins (Some c.command_of-command.result.now) (released c.args.parts.now.bos.reservations l) }) c.held_by-held.ensures)
     c.go_on.ensures c.members_stand_once.ensures.listed

@@ -10,4 +10,4 @@ pub begin_anew-requires : goal.begin_anew-requires
 begin_anew-requires c = backoff_there c.args.script.now c.args.before.now c.args.parts.now c.args.entry.now c.args.thread c.args.b c.args.holder c.requires.held c.requires.is c.requires.next
 
 pub returns : goal.returns
-returns c = backoff_held c.args.script.now c.args.before.now c.args.parts.now c.args.entry.now c.args.thread c.args.b c.args.holder c.requires.held c.requires.is c.requires.next c.begin_anew.new.courses c.release_all.new.bos c.begin_anew.ensures (c.release_all.ensures ∙ ap (λ l. record c.args.parts.now.bos { grips = released c.args.parts.now.bos.grips l }) c.held_by-held.ensures)
+returns c = backoff_held c.args.script.now c.args.before.now c.args.parts.now c.args.entry.now c.args.thread c.args.b c.args.holder c.requires.held c.requires.is c.requires.next c.begin_anew.new.courses c.release_all.new.bos c.begin_anew.ensures (c.release_all.ensures ∙ ap (λ l. record c.args.parts.now.bos { reservations = released c.args.parts.now.bos.reservations l }) c.held_by-held.ensures)

@@ -13,4 +13,4 @@ pub go_on-requires-clause-room : goal.go_on-requires-clause-room
 go_on-requires-clause-room c = refuse_room c.args.script.now c.args.before.now c.args.parts.now c.args.entry.now c.args.thread c.args.deny c.requires.held c.requires.is c.requires.next
 
 pub returns : goal.returns
-returns c = refuse_held c.args.script.now c.args.before.now c.args.parts.now c.args.entry.now c.args.thread c.args.deny c.requires.held c.requires.is c.requires.next c.go_on.new.courses c.release_all.new.bos c.go_on.ensures (c.release_all.ensures ∙ ap (λ l. record c.args.parts.now.bos { grips = released c.args.parts.now.bos.grips l }) c.held_by-held.ensures)
+returns c = refuse_held c.args.script.now c.args.before.now c.args.parts.now c.args.entry.now c.args.thread c.args.deny c.requires.held c.requires.is c.requires.next c.go_on.new.courses c.release_all.new.bos c.go_on.ensures (c.release_all.ensures ∙ ap (λ l. record c.args.parts.now.bos { reservations = released c.args.parts.now.bos.reservations l }) c.held_by-held.ensures)

@@ -1,7 +1,7 @@
 use Rattle.std.proofs.Common.{◌∙◌}
 use Rattle.journal_model.specs.Legal.{state_of, stores_of}
-use Rattle.room_ties.proofs.lemma_room_bytes.Lowest.{slot_first}
+use Rattle.room_representation.proofs.lemma_room_bytes.Lowest.{slot_first}
 use Rattle.room_queries.proofs.counters.free_slot.Goals as goal
 
 pub returns : goal.returns
-returns c = c.first.ensures ∙ slot_first c.args.script.now (state_of c.args.script.now c.args.before.now).core (stores_of c.args.script.now c.args.before.now) c.args.parts.now.swap c.requires.ties.swap
+returns c = c.first.ensures ∙ slot_first c.args.script.now (state_of c.args.script.now c.args.before.now).core (stores_of c.args.script.now c.args.before.now) c.args.parts.now.swap c.requires.represents.swap

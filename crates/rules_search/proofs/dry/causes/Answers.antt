@@ -6,6 +6,6 @@ use Rattle.rules_search.proofs.dry.causes.Goals as goal
 pub loop-i-preserved : goal.loop-i-preserved
 loop-i-preserved c =
     let more =
-    causes_more c.args.script.now c.args.state.now.grips c.args.place c.items-slots.result.now c.loop-i.i c.index-slots-i.result c.loop-i-test.true
+    causes_more c.args.script.now c.args.state.now.reservations c.args.place c.items-slots.result.now c.loop-i.i c.index-slots-i.result c.loop-i-test.true
     in
     grind (arith, common_steps, more)

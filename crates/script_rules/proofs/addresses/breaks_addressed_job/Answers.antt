@@ -13,7 +13,7 @@ some_buffer_is_twice-requires c = rw (c.items.ensures, c.in_ok-ops.ensures) (ops
 
 pub returns-then-branch : goal.returns-then-branch
 returns-then-branch c =
-    let rs = c.args.desk.now.regions in
+    let rs = c.args.thread_mappings.now.regions in
     let ops = c.items.ensures ∙ c.in_ok-ops.ensures in
     twice_told rs c.args.words.now c.in_ok-some_buffer_is_twice.field-0 (c.in_ok-some_buffer_is_twice.ensures ∙ ap (list_any (λ v. not (has_apart_ranges rs v))) ops) c.if-branch.true
 
@@ -22,7 +22,7 @@ is_big-requires c = rw (c.items-2.ensures, c.in_ok-ops.ensures) (ops_inside c.ar
 
 pub returns : goal.returns
 returns c =
-    let rs = c.args.desk.now.regions in
+    let rs = c.args.thread_mappings.now.regions in
     let ops = c.items.ensures ∙ c.in_ok-ops.ensures in
     let told = big_told rs c.args.words.now c.in_ok-some_buffer_is_twice.field-0 (c.in_ok-some_buffer_is_twice.ensures ∙ ap (list_any (λ v. not (has_apart_ranges rs v))) ops) c.if-branch.false in
     let named = ap (λ vs. is_big_named_job (job_by_name rs vs)) (c.items-2.ensures ∙ c.in_ok-ops.ensures) in

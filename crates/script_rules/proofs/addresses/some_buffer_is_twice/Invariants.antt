@@ -6,4 +6,4 @@ use Rattle.script_rules.proofs.addresses.some_buffer_is_twice.Given as goal
 
 abbrev pub invariant-loop-op : goal.invariant-loop-op
 invariant-loop-op l =
-    list_any (λ v. not (has_apart_ranges l.desk.regions v)) (drop l.op-index l.ops) ≡ list_any (λ v. not (has_apart_ranges l.desk.regions v)) l.ops
+    list_any (λ v. not (has_apart_ranges l.thread_mappings.regions v)) (drop l.op-index l.ops) ≡ list_any (λ v. not (has_apart_ranges l.thread_mappings.regions v)) l.ops

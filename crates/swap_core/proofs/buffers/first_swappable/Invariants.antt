@@ -1,6 +1,6 @@
 use Rattle.std.proofs.Common.{◌≡◌}
 use Rattle.std.specs.Prelude.{◌&&◌, find}
-use Rattle.journal_model.specs.State.{buffer, grip}
+use Rattle.journal_model.specs.State.{buffer, reservation}
 use Rattle.journal_model.specs.Dry.{has_frame, is_loose}
 use Rattle.room_state.specs.room_turns.Turns.{state_behind}
 use Rattle.swap_core.proofs.buffers.first_swappable.Given as goal
@@ -10,5 +10,5 @@ abbrev pub invariant-loop-b : goal.invariant-loop-b
 invariant-loop-b l =
     (goal.iterator-loop-b).can_next l.b-iterator
     × (goal.iterator-loop-b).is_finite l.b-iterator
-    × (find (λ b. is_loose (grip (state_behind l.rooms) b) && has_frame (buffer (state_behind l.rooms) b)) l.b-iterator
-    ≡ find (λ b. is_loose (grip (state_behind l.rooms) b) && has_frame (buffer (state_behind l.rooms) b)) l.fn.walk)
+    × (find (λ b. is_loose (reservation (state_behind l.rooms) b) && has_frame (buffer (state_behind l.rooms) b)) l.b-iterator
+    ≡ find (λ b. is_loose (reservation (state_behind l.rooms) b) && has_frame (buffer (state_behind l.rooms) b)) l.fn.walk)

@@ -6,7 +6,7 @@ pub returns-then-b-len : goal.returns-then-b-len
 returns-then-b-len c =
     let many = c.len.ensures in
     let past = c.if-b-len.true in
-    let beyond : length c.parts.result.now.bos.grips ≤ c.args.b.0 = omega (arith, many, past) in
+    let beyond : length c.parts.result.now.bos.reservations ≤ c.args.b.0 = omega (arith, many, past) in
     lent_beyond c.args.rooms.now.script c.args.rooms.now.journal c.parts.result.now c.parts.ensures c.args.b beyond
 
 pub returns-then-bo : goal.returns-then-bo

@@ -1,7 +1,7 @@
 use Rattle.std.proofs.Common.{ap, subst, sym, ◌∙◌}
 use Rattle.std.specs.Prelude.{filter_map}
 use Rattle.journal_model.specs.Places.{frame_of, slot_of}
-use Rattle.room_ties.specs.lemma_room_bytes.GivenBack.{given_back}
+use Rattle.room_representation.specs.lemma_room_bytes.GivenBack.{given_back}
 use Rattle.room_pages.specs.Tables.{AreHeldInTurn}
 use Rattle.room_pages.specs.room_ghosts.InTurn.{AreHeldAlong}
 use Rattle.room_pages.proofs.room_ghosts.Freed.{free_there, free_below, free_frames, free_held_slots, free_pages, idle_held}

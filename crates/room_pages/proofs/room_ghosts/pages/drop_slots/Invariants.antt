@@ -1,7 +1,7 @@
 use Rattle.std.proofs.Common.{◌≡◌, take}
 use Rattle.std.specs.Prelude.{filter_map}
 use Rattle.journal_model.specs.Places.{slot_of}
-use Rattle.room_ties.specs.lemma_room_bytes.GivenBack.{given_back}
+use Rattle.room_representation.specs.lemma_room_bytes.GivenBack.{given_back}
 use Rattle.room_pages.proofs.room_ghosts.pages.drop_slots.Given as goal
 
 abbrev pub invariant-loop-place : goal.invariant-loop-place

@@ -1,5 +1,5 @@
 use Rattle.std.proofs.Common.{ap, subst, sym, ◌∙◌}
-use Rattle.room_ties.specs.lemma_room_bytes.GivenBack.{given_back}
+use Rattle.room_representation.specs.lemma_room_bytes.GivenBack.{given_back}
 use Rattle.room_pages.specs.room_ghosts.InTurn.{AreHeldInTurn}
 use Rattle.room_pages.proofs.room_ghosts.Reaped.{reap_some, reap_turns, reap_pages, reap_held}
 use Rattle.room_pages.proofs.room_ghosts.reaps.reap.Goals as goal

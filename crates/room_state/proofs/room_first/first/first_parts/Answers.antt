@@ -1,4 +1,4 @@
-use Rattle.room_state.proofs.room_first.FirstTied.{few_buffers, few_engines, made_held}
+use Rattle.room_state.proofs.room_first.FirstRepresented.{few_buffers, few_engines, made_held}
 use Rattle.room_state.proofs.room_first.first.first_parts.Goals as goal
 
 pub first_buffers-requires-clause-engines : goal.first_buffers-requires-clause-engines

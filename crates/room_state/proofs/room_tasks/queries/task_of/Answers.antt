@@ -1,10 +1,10 @@
 use Rattle.std.proofs.Common.{sym, ◌∙◌, ap}
 use Rattle.std.specs.Option.{option_copied}
-use Rattle.room_state.proofs.room_tasks.Told.{has_grips, idle_behind, task_told}
+use Rattle.room_state.proofs.room_tasks.Told.{has_reservations, idle_behind, task_told}
 use Rattle.room_state.proofs.room_tasks.queries.task_of.Goals as goal
 
 pub task_of_command-requires : goal.task_of_command-requires
-task_of_command-requires c = has_grips c.args.script.now c.args.before.now c.args.parts.now c.requires
+task_of_command-requires c = has_reservations c.args.script.now c.args.before.now c.args.parts.now c.requires
 
 pub returns-in-Some-command_of : goal.returns-in-Some-command_of
 returns-in-Some-command_of c =

@@ -6,7 +6,7 @@ use Rattle.journal_model.specs.declared.script.Script.{Script}
 use Rattle.journal_model.specs.Commands.{commands_of}
 use Rattle.journal_model.specs.Complete.{thread_numbers}
 use Rattle.journal_model.specs.CommandRules.{command_len, is_between, is_command}
-use Rattle.journal_model.specs.MarkRules.{empty_desk, are_in_order, is_in_thread, has_few_lines, marks_fit, have_marks}
+use Rattle.journal_model.specs.MarkRules.{empty_thread_mappings, are_in_order, is_in_thread, has_few_lines, marks_fit, have_marks}
 use Rattle.journal_model.specs.ScriptRules.{has_distinct_names, has_sizes, is_decl, is_script, is_turn_line}
 use Rattle.script_spelling.specs.Cursors.{ArePlaced}
 use Rattle.test_rules.proofs.words.marks.is_told.Goals as goal
@@ -26,7 +26,7 @@ marks_of_script s h =
 placed : (s : Script) → is_script s ≡ true → ArePlaced s
 placed s h =
     let f = second_and_third ((s.version == 2) || (length s.marks == 0)) (are_in_order s.marks) (list_all (is_in_thread s) s.marks) (list_all (has_few_lines s) (thread_numbers s))
-    (list_all (λ t. marks_fit s t 0 empty_desk (commands_of s t)) (thread_numbers s)) (marks_of_script s h) in
+    (list_all (λ t. marks_fit s t 0 empty_thread_mappings (commands_of s t)) (thread_numbers s)) (marks_of_script s h) in
     record { order = f.0; placed = f.1 }
 
 pub write_script-requires : goal.write_script-requires

@@ -1,0 +1,17 @@
+pub mod Heads
+pub mod Rows
+pub mod Changed
+pub mod Emitted
+pub mod First
+pub mod LegalJobs
+pub mod Packets
+pub mod Represented
+pub mod Armed
+pub mod BufferSets
+pub mod Lists
+pub mod Later
+pub mod Needs
+pub mod Sets
+pub mod GhostSteps
+pub mod Stays
+pub mod Told

@@ -1,0 +1,4 @@
+pub mod Due
+pub mod Represents
+pub mod KindLaws
+pub mod ScriptLaws

@@ -1,0 +1,14 @@
+pub mod room_steps
+pub mod lemma_room_bytes
+pub mod lemma_room_spans
+pub mod lemma_room_lists
+pub mod Fences
+pub mod Lines
+pub mod RingJobs
+pub mod Ghosts
+pub mod MoveFences
+pub mod Pages
+pub mod Bos
+pub mod Managers
+pub mod Represents
+pub mod Held

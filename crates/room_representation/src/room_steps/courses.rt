@@ -1,0 +1,145 @@
+ghost use Rattle.std.specs.Prelude.{◌≡◌, ◌+◌, ◌^◌, ◌<◌, IsSome, Some, OnOk, OnErr};
+ghost use Rattle.journal_model.specs.ApplyCommands as rows;
+ghost use Rattle.journal_model.specs.ApplyPages.{search_over};
+ghost use Rattle.journal_model.specs.ApplyVictims.{with_victim, with_skip, no_longer_caught, with_fail, gone_dry};
+ghost use Rattle.room_representation.specs.room_steps.Courses.{command_in, course_at, course_in, with_course_by, stamped, with_held, begun_anew};
+
+use journal_model::{Command, Courses, Script, Why};
+use state_words::{commands_of, courses, new_course};
+use std::alloc::Global;
+use ttm_base::{BufId, Deny, NoMemory, Stamp};
+
+/// The ticket of a thread.
+pub fn stamp_of(courses: &Courses, thread: u32) -> Option<Stamp>
+    requires { IsSome (course_at courses.now thread) }
+    ensures { result ≡ (course_in courses.now thread).stamp }
+{
+    courses.get(thread as usize - 1).stamp
+}
+
+/// The command that a thread is at.
+pub fn command_of<'a>(script: &'a Script, courses: &Courses, thread: u32) -> &'a Command
+    requires there { IsSome (course_at courses.now thread) }
+    requires left { IsSome (command_in script.now courses.now thread) }
+    ensures { command_in script.now courses.now thread ≡ Some result.now }
+{
+    let course = courses.get(thread as usize - 1);
+    &commands_of(script, thread)[course.answered as usize]
+}
+
+/// The named buffers that a thread holds.
+pub fn held_by(courses: &Courses, thread: u32) -> &[BufId]
+    requires { IsSome (course_at courses.now thread) }
+    ensures { result.now ≡ (course_in courses.now thread).held }
+{
+    courses.get(thread as usize - 1).held.items()
+}
+
+/// A thread has a ticket.
+pub fn give_ticket(courses: &mut Courses, thread: u32, stamp: Stamp)
+    requires { IsSome (course_at courses.old thread) }
+    ensures { courses.new ≡ with_course_by (stamped stamp) courses.old thread }
+{
+    let course = courses.get_mut(thread as usize - 1);
+    course.stamp = Some(stamp);
+}
+
+/// A thread holds one more buffer.
+#[tactic(auto, using(ttm_base::proofs::ListLaws::set_same))]
+pub fn hold(courses: &mut Courses, thread: u32, b: BufId) -> Result<(), NoMemory>
+    requires { IsSome (course_at courses.old thread) }
+    ensures ok { OnOk result (courses.new ≡ with_course_by (with_held b) courses.old thread) }
+    ensures err { OnErr result (courses.new ≡ courses.old) }
+{
+    let course = courses.get_mut(thread as usize - 1);
+    course.held.push(b)?;
+    Ok(())
+}
+
+/// A thread holds nothing, and begins anew with a buffer.
+pub fn begin_anew(courses: &mut Courses, thread: u32, b: BufId)
+    requires { IsSome (course_at courses.old thread) }
+    ensures { courses.new ≡ with_course_by (begun_anew b) courses.old thread }
+{
+    let course = courses.get_mut(thread as usize - 1);
+    course.held.clear();
+    course.first = Some(b);
+}
+
+/// A thread has done what its command is for.
+pub fn has_made(courses: &mut Courses, thread: u32)
+    requires { IsSome (course_at courses.old thread) }
+    ensures { courses.new ≡ with_course_by rows.has_made courses.old thread }
+{
+    let course = courses.get_mut(thread as usize - 1);
+    course.made = true;
+}
+
+/// A thread has caught one more buffer.
+#[tactic(auto, using(ttm_base::proofs::ListLaws::set_same))]
+pub fn add_victim(courses: &mut Courses, thread: u32, b: BufId, why: Why) -> Result<(), NoMemory>
+    requires { IsSome (course_at courses.old thread) }
+    ensures ok { OnOk result (courses.new ≡ with_course_by (with_victim b why) courses.old thread) }
+    ensures err { OnErr result (courses.new ≡ courses.old) }
+{
+    let course = courses.get_mut(thread as usize - 1);
+    courses::add_victim(course, b, why)
+}
+
+/// A thread has let a victim go.
+pub fn forget_victim(courses: &mut Courses, thread: u32, b: BufId)
+    requires { IsSome (course_at courses.old thread) }
+    ensures { courses.new ≡ with_course_by (no_longer_caught b) courses.old thread }
+{
+    let course = courses.get_mut(thread as usize - 1);
+    courses::forget_victim(course, b);
+}
+
+/// A thread has let a victim go, and passes over it.
+#[tactic(auto, using(ttm_base::proofs::ListLaws::set_same))]
+pub fn skip_victim(courses: &mut Courses, thread: u32, b: BufId) -> Result<(), NoMemory>
+    requires { IsSome (course_at courses.old thread) }
+    ensures ok { OnOk result (courses.new ≡ with_course_by (λ c. with_skip b (no_longer_caught b c)) courses.old thread) }
+    ensures err { OnErr result (courses.new ≡ courses.old) }
+{
+    let course = courses.get_mut(thread as usize - 1);
+    courses::skip_victim(course, b)
+}
+
+/// The search of a thread for a buffer has failed.
+pub fn fail_search(courses: &mut Courses, thread: u32, b: BufId, deny: Deny)
+    requires { IsSome (course_at courses.old thread) }
+    ensures { courses.new ≡ with_course_by (with_fail b deny) courses.old thread }
+{
+    let course = courses.get_mut(thread as usize - 1);
+    courses::fail_search(course, b, deny);
+}
+
+/// The search of a thread for a named buffer begins anew.
+pub fn end_search(courses: &mut Courses, thread: u32, b: BufId)
+    requires { IsSome (course_at courses.old thread) }
+    ensures { courses.new ≡ with_course_by (search_over b) courses.old thread }
+{
+    let course = courses.get_mut(thread as usize - 1);
+    courses::end_search(course, b);
+}
+
+/// One more place of a search for a named buffer is dry.
+pub fn go_dry(courses: &mut Courses, thread: u32, k: u32, places: usize)
+    requires there { IsSome (course_at courses.old thread) }
+    requires room { k + 1 < 2 ^ 32 }
+    ensures { courses.new ≡ with_course_by (gone_dry k places) courses.old thread }
+{
+    let course = courses.get_mut(thread as usize - 1);
+    courses::go_dry(course, k, places);
+}
+
+/// A thread goes on to its next command.
+pub fn go_on(courses: &mut Courses, alloc: Global, thread: u32)
+    requires there { IsSome (course_at courses.old thread) }
+    requires room { (course_in courses.old thread).answered + 1 < 2 ^ 32 }
+    ensures { courses.new ≡ with_course_by rows.on_to_next courses.old thread }
+{
+    let course = courses.get_mut(thread as usize - 1);
+    *course = new_course(alloc, course.answered + 1);
+}

@@ -1,4 +1,0 @@
-pub mod Due
-pub mod Ties
-pub mod KindLaws
-pub mod ScriptLaws

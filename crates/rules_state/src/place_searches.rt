@@ -1,0 +1,97 @@
+ghost use Rattle.std.specs.Prelude.{◌≡◌, IfOk};
+ghost use Rattle.journal_model.specs.State.{new_buffer};
+ghost use Rattle.journal_model.specs.Ready as ready;
+ghost use Rattle.journal_model.specs.Search as words;
+ghost use Rattle.rules_state.specs.PlaceSearches.{place_search_of};
+
+use crate::buffers::{buffer_in, dead_buffer, has_target};
+use crate::commands::{asked_places, only_place};
+use journal_model::{Buffer, Command, Course, Script, SearchAim, State};
+use state_words::{as_fallback, is_caught, whole};
+use std::alloc::Global;
+use ttm_base::{BufId, FlaggedPlaces, Mem, NoMemory};
+
+/// The places that a search tries, whether it is under pressure, and how many forced places are dry.
+#[derive(Drop)]
+pub struct PlaceSearch {
+    pub list: FlaggedPlaces,
+    pub forced: bool,
+    pub dry: u32,
+}
+
+/// Something waits for the buffer.
+pub fn has_some_target(buffer: &Buffer) -> bool
+    ensures { result ≡ ready.has_some_target buffer.now }
+{
+    has_target(Mem::System, buffer) || has_target(Mem::Tt, buffer) || has_target(Mem::Vram, buffer)
+}
+
+/// A victim, and a buffer that has a target, hop through TT; any other goes where its command asks.
+pub fn aim_of(course: &Course, b: BufId, buffer: &Buffer) -> SearchAim
+    ensures { result ≡ words.aim_of course.now b buffer.now }
+{
+    if is_caught(course, b) || has_some_target(buffer) {
+        SearchAim::Hop
+    } else {
+        SearchAim::Asked
+    }
+}
+
+/// The hop on the way between SYSTEM and VRAM: all of TT, tried under pressure alone.
+fn through_tt(alloc: Global) -> Result<FlaggedPlaces, NoMemory>
+    ensures { IfOk result (λ places. places ≡ words.through_tt) }
+{
+    only_place(alloc, as_fallback(whole(Mem::Tt)))
+}
+
+/// The search of a buffer for a command. A victim's search has come no way.
+pub fn place_search_for(
+    alloc: Global,
+    script: &Script,
+    command: &Command,
+    course: &Course,
+    b: BufId,
+    aim: SearchAim,
+) -> Result<PlaceSearch, NoMemory>
+    ensures { IfOk result (λ q. place_search_of q ≡ words.place_search script.now command.now course.now b aim) }
+{
+    match aim {
+        SearchAim::Asked => Ok(PlaceSearch {
+            list: asked_places(alloc, script, command, b)?,
+            forced: course.forced,
+            dry: course.dry,
+        }),
+        SearchAim::Hop => {
+            let list = through_tt(alloc)?;
+            if is_caught(course, b) {
+                Ok(PlaceSearch {
+                    list,
+                    forced: false,
+                    dry: 0,
+                })
+            } else {
+                Ok(PlaceSearch {
+                    list,
+                    forced: course.forced,
+                    dry: course.dry,
+                })
+            }
+        }
+    }
+}
+
+/// The search of a buffer, as its state tells it.
+pub fn place_search_at_work(
+    alloc: Global,
+    script: &Script,
+    state: &State,
+    course: &Course,
+    command: &Command,
+    b: BufId,
+) -> Result<PlaceSearch, NoMemory>
+    ensures { IfOk result (λ q. place_search_of q ≡ words.place_search_at_work script.now state.now course.now command.now b) }
+{
+    let dead = dead_buffer(alloc);
+    let aim = aim_of(course, b, buffer_in(&state.core, b, &dead));
+    place_search_for(alloc, script, command, course, b, aim)
+}

@@ -1,0 +1,72 @@
+ghost use Rattle.std.specs.Prelude.{◌≡◌, Some, slice_set};
+ghost use Rattle.journal_model.specs.State.{reservation_changed};
+ghost use Rattle.journal_model.specs.ApplyCommands.{with_holder, released, pinned_more, pinned_less, with_pins};
+ghost use Rattle.rules_state.specs.rules_parts.Pins.{CanPin, HasPinsLeft};
+
+use journal_model::{Command, Reservation, Reservations};
+use ttm_base::{BufId, Stamp};
+
+/// Puts another reservation, if the buffer is declared.
+pub fn put_reservation(reservations: &mut Reservations, b: BufId, reservation: Reservation)
+    ensures { reservations.new ≡ slice_set reservations.old b.0 reservation }
+{
+    let index = b.0 as usize;
+    if index < reservations.len() {
+        reservations.set(index, reservation);
+    }
+}
+
+/// Gives a buffer another holder, or none.
+pub fn set_holder(reservations: &mut Reservations, b: BufId, holder: Option<Stamp>)
+    ensures { reservations.new ≡ reservation_changed (with_holder holder) reservations.old b }
+{
+    let index = b.0 as usize;
+    if index < reservations.len() {
+        let reservation = reservations.get_mut(index);
+        reservation.holder = holder;
+    }
+}
+
+/// Leaves each of these buffers without a holder.
+pub fn release_all(reservations: &mut Reservations, bs: &[BufId])
+    ensures { reservations.new ≡ released reservations.old bs.now }
+{
+    for b in bs {
+        set_holder(reservations, *b, None);
+    }
+}
+
+/// Pins a buffer once more.
+fn pin(reservations: &mut Reservations, b: BufId)
+    requires { CanPin reservations.old b }
+    ensures { reservations.new ≡ reservation_changed pinned_more reservations.old b }
+{
+    let index = b.0 as usize;
+    if index < reservations.len() {
+        let reservation = reservations.get_mut(index);
+        reservation.pins += 1;
+    }
+}
+
+/// Pins a buffer once less, if it is pinned.
+fn unpin(reservations: &mut Reservations, b: BufId)
+    ensures { reservations.new ≡ reservation_changed pinned_less reservations.old b }
+{
+    let index = b.0 as usize;
+    if index < reservations.len() {
+        let reservation = reservations.get_mut(index);
+        reservation.pins = reservation.pins.saturating_sub(1);
+    }
+}
+
+/// Changes the pins as a command asks.
+pub fn change_pins(reservations: &mut Reservations, command: &Command)
+    requires { HasPinsLeft reservations.old (Some command.now) }
+    ensures { reservations.new ≡ with_pins (Some command.now) reservations.old }
+{
+    match command {
+        Command::Pin { b } => pin(reservations, *b),
+        Command::Unpin { b } => unpin(reservations, *b),
+        _ => {}
+    }
+}

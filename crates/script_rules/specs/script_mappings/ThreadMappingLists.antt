@@ -1,0 +1,15 @@
+-- What a thread has mapped, as the code keeps it and as the definitions have it.
+use Rattle.std.specs.Prelude.{◌≡◌, ℕ, List}
+use Rattle.journal_model.specs.Spaces.{Region}
+use Rattle.journal_model.specs.MarkRules.{ThreadMappings}
+use Rattle.gpu_spaces.specs.Sets.{IsSetOf}
+
+-- which buffers are mapped, by their numbers, and the mappings of the space
+pub record Seen : Type 0 where
+  pub mapped : List ℕ
+  pub regions : List Region
+
+-- both say the same
+pub record IsThreadMappings (seen : Seen) (d : ThreadMappings) : Type 0 where
+  pub mapped : IsSetOf seen.mapped d.mapped
+  pub regions : seen.regions ≡ d.regions
