@@ -1,15 +1,20 @@
 -- What holds of the mappings of a space holds of them after a request.
 use Rattle.std.proofs.Common.{◌≡◌, ℕ, ◌+◌, ◌-◌, ◌<◌, ◌≤◌, List, [], ◌∷◌, ◌++◌, Option, Some, None, arith, inl, inr, sym, ap, ◌∙◌}
-use Rattle.std.specs.Prelude.{flat_map, nat_lt, option_map, option_to_list, IfSome, Result, Ok, Err, OnOk}
-use Rattle.std.proofs.lemmas.Bool.{cases_Bool, ltb-true}
+use mathlib.Core.Path.{fun_ext}
+use Rattle.std.specs.Prelude.{filter, flat_map, length, nat_lt, option_map, option_to_list, IfSome, IsTrue, Result, Ok, Err, OnOk, OnErr}
+use Rattle.std.proofs.lemmas.Bool.{cases_Bool, ltb-true, lt-ltb}
 use Rattle.ttm_base.specs.declared.Span.{Span}
 use Rattle.ttm_base.specs.declared.BufId.{BufId}
 use Rattle.ttm_base.specs.Holes.{has_page}
+use Rattle.journal_model.specs.declared.script.MarkKind.{MarkKind}
 use Rattle.journal_model.specs.declared.script.MarkKind.TheVariants as mark
-use Rattle.journal_model.specs.Spaces.{Region, new_region, regions_after}
+use Rattle.journal_model.specs.declared.space.VStep.{VStep}
+use Rattle.journal_model.specs.Spaces.{Region, new_region, regions_after, regions_space, after_request, has_pages, steps_of, is_remap}
 use Rattle.law_legal.specs.law_spaces.Rising.{IsRising}
 use Rattle.law_legal.specs.law_spaces.Sides.{head_of, tail_of, sides}
 use Rattle.law_legal.proofs.law_spaces.Sides.{after_is_sides, pages_of_rising}
+use Rattle.law_legal.proofs.law_spaces.Points.{after_there}
+use Rattle.law_legal.proofs.law_spaces.Remaps.{remaps_are_few}
 use Rattle.gpu_spaces.specs.declared.mappings.Mapping.{Mapping}
 use Rattle.gpu_spaces.specs.Kept.{region_of}
 use Rattle.gpu_spaces.specs.Regions.{AreSmall, IsKept}
@@ -71,3 +76,15 @@ sides_are_mapped now rs va n b off l r e = e ∙ sym (after_is_sides rs (mark.Vm
 
 pub sides_are_unmapped : (now rs : List Region) (va n : ℕ) → 1 ≤ n → IsRising rs → now ≡ sides (record { start = va; end = va + n }) [] rs → now ≡ regions_after rs (mark.Vunmap va n)
 sides_are_unmapped now rs va n l r e = e ∙ sym (after_is_sides rs (mark.Vunmap va n) (some_pages va n l) (pages_of_rising rs r))
+
+-- ---- what a request does to each page, and how many parts it leaves
+
+pub asks_for_pages : (n : ℕ) → 1 ≤ n → IsTrue (nat_lt 0 n)
+asks_for_pages n l = lt-ltb 0 n (omega (arith, l))
+
+pub pages_are_given : (now rs : List Region) (q : MarkKind) → IsTrue (has_pages q) → IsRising rs → now ≡ regions_after rs q → regions_space now ≡ after_request (regions_space rs) q
+pages_are_given now rs q p r e = ap regions_space e ∙ fun_ext (λ page. after_there rs q page p r)
+
+pub few_remaps : {T E : Type 0} (result : Result T E) (steps : List VStep) (rs : List Region) (q : MarkKind) → IsRising rs → OnOk result (steps ≡ steps_of rs q) → OnErr result (steps ≡ []) → length (filter is_remap steps) ≤ 2
+few_remaps (Ok x) steps rs q r e n = let few = remaps_are_few rs q r in let same : length (filter is_remap steps) ≡ length (filter is_remap (steps_of rs q)) = ap (λ xs. length (filter is_remap xs)) e in omega (arith, few, same)
+few_remaps (Err x) steps rs q r e n = let same : length (filter is_remap steps) ≡ 0 = ap (λ xs. length (filter is_remap xs)) n in omega (arith, same)

@@ -4,3 +4,4 @@ pub mod Regions
 pub mod Spots
 pub mod Sets
 pub mod Inside
+pub mod Meaning

@@ -12,4 +12,4 @@ mod spot;
 mod steps;
 
 pub use pieces::{Piece, Pieces};
-pub use space::{SPACE_PAGES, Space};
+pub use space::Space;

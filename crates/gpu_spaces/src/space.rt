@@ -1,11 +1,14 @@
-ghost use Rattle.std.specs.Prelude.{◌≡◌, ◌+◌, ◌≤◌, [], true, IfOk, OnOk, OnErr, length, min, map, option_map};
+ghost use Rattle.std.specs.Prelude.{◌≡◌, ◌+◌, ◌≤◌, [], true, IfOk, IfSome, IfNone, IsTrue, OnOk, OnErr, filter, length, min, map, option_map};
 ghost use Rattle.std.specs.List.{list_all};
 ghost use Rattle.journal_model.specs.declared.script.MarkKind.TheVariants as mark;
 ghost use Rattle.journal_model.specs.ByName.{parts_of_range, job_by_name};
 ghost use Rattle.journal_model.specs.MarkRules.{has_apart_ranges};
 ghost use Rattle.gpu_spaces.specs.Inside.{is_inside};
 ghost use Rattle.gpu_spaces.specs.Spots.{part_of};
-ghost use Rattle.journal_model.specs.Spaces.{regions_after, regions_space, steps_of};
+ghost use Rattle.gpu_spaces.specs.Meaning.{parts_shown, range_shown, IsMappedRange, LacksPage};
+ghost use Rattle.journal_model.specs.PlainMemory.{Memory};
+ghost use Rattle.journal_model.specs.Spaces.{regions_after, regions_space, steps_of, after_request, are_disjoint, is_remap};
+ghost use Rattle.law_legal.specs.law_addresses.Addressed.{MeansAddresses};
 
 use crate::apart::is_apart;
 use crate::change::change;
@@ -17,17 +20,15 @@ use journal_model::{Ops, VOp, VSteps};
 use std::alloc::Global;
 use std::collections::BTreeMap;
 use std::marker::Model;
+use ttm_base::limits::SPACE_PAGES;
 use ttm_base::{BufId, NoMemory, Span};
-
-/// The pages of an address space.
-pub const SPACE_PAGES: u32 = 1_048_576;
 
 /// The address space of a thread: its mappings, in rising order, of which no two have a page in common.
 pub struct Space {
     mappings: Mappings,
 }
 
-/// By hand, so that no crate above proves how each part goes.
+/// Written out, so that no crate above proves how each part is dropped.
 impl Drop for Space {
     fn drop(self) {
         let Self { mappings: _ } = self;
@@ -57,7 +58,8 @@ impl Space {
         }
     }
 
-    /// Maps `n` pages from `va` on to the buffer's pages from `off` on. Where memory is wanted, nothing is changed.
+    /// Maps the `n` pages from `va` on to the pages of buffer `b` from `off` on, and tells in `steps` what becomes of the mappings that they
+    /// meet (drm_gpuvm_sm_map). After `NoMemory` nothing is changed.
     pub fn map(
         &mut self,
         va: u32,
@@ -71,7 +73,10 @@ impl Space {
         requires pages { off + n ≤ 4096 }
         requires no_steps { steps.old ≡ [] }
         ensures mappings { OnOk result (self.new ≡ regions_after self.old (mark.Vmap va n b off)) }
+        ensures pages { OnOk result (regions_space self.new ≡ after_request (regions_space self.old) (mark.Vmap va n b off)) }
+        ensures disjoint { IsTrue (are_disjoint self.new) }
         ensures steps { OnOk result (steps.new ≡ steps_of self.old (mark.Vmap va n b off)) }
+        ensures few_remaps { length (filter is_remap steps.new) ≤ 2 }
         ensures mappings_stay { OnErr result (self.new ≡ self.old) }
         ensures no_steps { OnErr result (steps.new ≡ []) }
     {
@@ -82,13 +87,17 @@ impl Space {
         self.request(span, Some(Mapping { span, b, off }), steps)
     }
 
-    /// Takes `n` pages from `va` on out of what is mapped. Where memory is wanted, nothing is changed.
+    /// Unmaps the `n` pages from `va` on, and tells in `steps` what becomes of the mappings that they meet (drm_gpuvm_sm_unmap). After
+    /// `NoMemory` nothing is changed.
     pub fn unmap(&mut self, va: u32, n: u32, steps: &mut VSteps) -> Result<(), NoMemory>
         requires some { 1 ≤ n }
         requires inside { va + n ≤ SPACE_PAGES }
         requires no_steps { steps.old ≡ [] }
         ensures mappings { OnOk result (self.new ≡ regions_after self.old (mark.Vunmap va n)) }
+        ensures pages { OnOk result (regions_space self.new ≡ after_request (regions_space self.old) (mark.Vunmap va n)) }
+        ensures disjoint { IsTrue (are_disjoint self.new) }
         ensures steps { OnOk result (steps.new ≡ steps_of self.old (mark.Vunmap va n)) }
+        ensures few_remaps { length (filter is_remap steps.new) ≤ 2 }
         ensures mappings_stay { OnErr result (self.new ≡ self.old) }
         ensures no_steps { OnErr result (steps.new ≡ []) }
     {
@@ -99,7 +108,7 @@ impl Space {
         self.request(span, None, steps)
     }
 
-    /// The page of a buffer that stands at a page.
+    /// Answers the buffer and its page that stand at `page`, or None where `page` isn't mapped.
     pub fn at(&self, page: u32) -> Option<(BufId, u32)>
         ensures { result ≡ regions_space self.now page }
     {
@@ -109,23 +118,29 @@ impl Space {
         }
     }
 
-    /// The parts of a range of addresses, in rising order, cut at each border of a mapping. None where a page isn't mapped.
+    /// Cuts the `len` bytes from address `addr` on at each border of a mapping, and answers their parts in rising order, or None where a page
+    /// of theirs isn't mapped.
     pub fn pieces(&self, alloc: Global, addr: u64, len: u32) -> Result<Option<Pieces>, NoMemory>
         requires { addr + len ≤ 4294967296 }
-        ensures { IfOk result (λ pieces. option_map (map part_of) pieces ≡ parts_of_range self.now addr len) }
+        ensures parts { IfOk result (λ pieces. option_map (map part_of) pieces ≡ parts_of_range self.now addr len) }
+        ensures bytes { IfOk result (λ o. IfSome o (λ pieces. (memory : Memory) → parts_shown memory (map part_of pieces) ≡ range_shown (regions_space self.now) memory addr len)) }
+        ensures mapped { IfOk result (λ o. IfSome o (λ pieces. IsMappedRange (regions_space self.now) addr len)) }
+        ensures unmapped { IfOk result (λ o. IfNone o (LacksPage (regions_space self.now) addr len)) }
     {
         pieces_of(alloc, &self.mappings, addr, len)
     }
 
-    /// The job by name of operations with addresses, each cut at the borders of mappings. None where a page isn't mapped.
+    /// Cuts each of `ops`, in rising address order, at the borders of mappings, and answers the job by name, or None where a page isn't mapped.
+    /// The job means what `ops` mean through the space, where no buffer stands in both ranges of one of them.
     pub fn job(&self, alloc: Global, ops: &[VOp]) -> Result<Option<Ops>, NoMemory>
         requires { list_all is_inside ops.now ≡ true }
-        ensures { IfOk result (λ job. job ≡ job_by_name self.now ops.now) }
+        ensures job { IfOk result (λ job. job ≡ job_by_name self.now ops.now) }
+        ensures means { IfOk result (λ o. IfSome o (λ job. list_all (has_apart_ranges self.now) ops.now ≡ true → MeansAddresses (regions_space self.now) ops.now job)) }
     {
         job_of(alloc, &self.mappings, ops)
     }
 
-    /// How many operations that job has, counted up to `most`. None where a page isn't mapped.
+    /// Counts the operations of that job up to `most`, or answers None where a page isn't mapped.
     pub fn job_len(&self, ops: &[VOp], most: u32) -> Option<u32>
         requires { list_all is_inside ops.now ≡ true }
         ensures { result ≡ option_map (λ job. min (length job) most) (job_by_name self.now ops.now) }
@@ -133,7 +148,7 @@ impl Space {
         job_len(&self.mappings, ops, most)
     }
 
-    /// No buffer stands in both ranges of an operation, as far as their pages are mapped.
+    /// Tells whether no buffer stands in both ranges of `op`, as far as their pages are mapped.
     pub fn is_apart(&self, alloc: Global, op: VOp) -> Result<bool, NoMemory>
         requires { is_inside op ≡ true }
         ensures { IfOk result (λ apart. apart ≡ has_apart_ranges self.now op) }
@@ -149,7 +164,7 @@ impl Space {
     ghost use Rattle.law_legal.specs.law_spaces.Sides.{sides};
     ghost use Rattle.gpu_spaces.specs.Kept.{region_of};
 
-    /// Tells the steps of a request, and gives the pages of its range to a mapping, or to none.
+    /// Tells the steps of a request for `range`, and gives its pages to the mapping `new`, or unmaps them.
     fn request(
         &mut self,
         range: Span,
@@ -162,6 +177,7 @@ impl Space {
         requires pages { IfSome new (λ m. m.off + (m.span.end - m.span.start) ≤ 4096) }
         requires no_steps { steps.old ≡ [] }
         ensures rising { IsRising self.old }
+        ensures rising_now { IsRising self.new }
         ensures mappings { OnOk result (self.new ≡ sides range (option_to_list (option_map region_of new)) self.old) }
         ensures steps { OnOk result (steps.new ≡ map (step_at range) (filter (does_meet range) self.old) ++ map map_step (option_to_list (option_map region_of new))) }
         ensures mappings_stay { OnErr result (self.new ≡ self.old) }

@@ -9,10 +9,11 @@ ghost use Rattle.journal_model.specs.Mapped.{is_through, mapping_of};
 ghost use Rattle.map_access.specs.Accesses.{access_in, has_ended_by, is_way_of, mapped_from, paged};
 
 use journal_model::{Command, Entry, Kind, Mark, MarkKind, Script};
+use ttm_base::limits::PAGE_BYTES;
 use ttm_base::{Actor, BufId};
 
 /// The bytes of a page.
-const PAGE: u64 = 4096;
+const PAGE: u64 = PAGE_BYTES as u64;
 
 /// Pages of a buffer that a command reads or writes: the first, and the one behind the last.
 #[derive(Clone, Copy)]

@@ -7,6 +7,8 @@ use Rattle.script_text.specs.declared.ScriptFault.TheVariants as fault
 use Rattle.journal_model.specs.Words.{Text}
 use Rattle.journal_model.specs.FirstFault.{script_of}
 use Rattle.journal_model.specs.ScriptRules.{IsScript}
+use Rattle.law_legal.specs.law_addresses.Addressed.{JobsMeanAddresses}
+use Rattle.law_legal.proofs.law_addresses.Jobs.{jobs_mean}
 use Rattle.law_legal.proofs.law_script.TakesScript.{takes_scripts}
 use Rattle.law_legal.proofs.law_script.ReadsScript.{reads_scripts}
 use Rattle.script_text.specs.Steps.{Gives}
@@ -71,3 +73,7 @@ pub no_spelling : (bytes : Text) (r : Result Script ScriptFault) (line rule : �
 no_spelling bytes (Ok t) line rule s h e k = absurd cc
 no_spelling bytes (Err fault.NoMemory) line rule s h e k = absurd cc
 no_spelling bytes (Err (fault.Bad l j)) line rule s h e k = no_fault (script_of bytes) s l j (reads_scripts bytes s k) h
+
+pub means : (bytes : Text) (r : Result Script ScriptFault) → Gives r (script_of bytes) → IfOk r JobsMeanAddresses
+means bytes (Ok script) h = jobs_mean script (takes_scripts bytes script h).fits
+means bytes (Err e) h = tt

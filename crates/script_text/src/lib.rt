@@ -5,6 +5,7 @@ ghost use Rattle.std.specs.Prelude.{◌≡◌, ◌≤◌, ℕ, ◌⊎◌, Some, 
 ghost use Rattle.journal_model.specs.FirstFault.{script_of, first_fault, script_from, nothing_read};
 ghost use Rattle.journal_model.specs.Cut.{lines_of};
 ghost use Rattle.journal_model.specs.ScriptRules.{IsScript};
+ghost use Rattle.law_legal.specs.law_addresses.Addressed.{JobsMeanAddresses};
 ghost use Rattle.script_text.specs.Steps.{Gives};
 
 use journal_model::Script;
@@ -13,6 +14,7 @@ use script_words::cut::len_of_line;
 use script_words::names::Names;
 use std::alloc::Global;
 use ttm_base::NoMemory;
+use ttm_base::limits::MAX_SCRIPT_BYTES;
 
 mod marks;
 mod reader;
@@ -20,7 +22,7 @@ mod values;
 
 use crate::reader::{Known, is_done, start, take_line};
 
-/// Why bytes weren't read: their first broken line, counted from 1, and on it the least broken rule, or want of memory.
+/// Why bytes weren't read: their first broken line, counted from 1, and on it the least broken rule; or memory ran out.
 /// Line 0 is the whole text, where it has more than 1,048,576 bytes (rule 1).
 #[derive(Clone, Copy, Debug, PartialEq, Eq)]
 pub enum ScriptFault {
@@ -61,17 +63,19 @@ fn read_lines(alloc: Global, bytes: &[u8]) -> Result<Script, ScriptFault>
 fn read_all(alloc: Global, bytes: &[u8]) -> Result<Script, ScriptFault>
     ensures { Gives result (script_of bytes.now) }
 {
-    if bytes.len() > 1_048_576 {
+    if bytes.len() > MAX_SCRIPT_BYTES {
         return Err(ScriptFault::Bad { line: 0, rule: 1 });
     }
     read_lines(alloc, bytes)
 }
 
-/// Reads a script, or finds its first broken line and on it the least broken rule.
+/// Reads `bytes` as a script, or answers its first broken line and on it the least broken rule.
 pub fn read_script(alloc: Global, bytes: &[u8]) -> Result<Script, ScriptFault>
     // What is read is what the lines say, and the bytes are its spelling.
     ensures ok { IfOk result (λ script. script_of bytes.now ≡ Ok script) }
     ensures spelled { IfOk result (λ script. IsScript bytes.now script) }
+    // Each job that is written with addresses means them, through the address space of its thread at its line.
+    ensures means { IfOk result JobsMeanAddresses }
     // The spelling of a script is read, unless memory runs out.
     ensures reads { (script : Script) → IsScript bytes.now script → (result ≡ Ok script) ⊎ (result ≡ Err ScriptFault.NoMemory) }
     // A fault is the first one, and on its line the least; then the bytes are the spelling of no script.

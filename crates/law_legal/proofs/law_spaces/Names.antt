@@ -46,10 +46,10 @@ same_mapping p q (x ∷ rs) r h e t = elim (cases_Bool (has_page p x.span)) [
 ]
 
 -- an address has a byte of a buffer
-record IsThere (space : Space) (addr : ℕ) (b : BufId) (off : ℕ) : Type 0 where
-  page : ℕ
-  at : space (addr / 4096) ≡ Some (b, page)
-  byte : 4096 * page + addr % 4096 ≡ off
+pub record IsThere (space : Space) (addr : ℕ) (b : BufId) (off : ℕ) : Type 0 where
+  pub page : ℕ
+  pub at : space (addr / 4096) ≡ Some (b, page)
+  pub byte : 4096 * page + addr % 4096 ≡ off
 
 bytes_of_mapping : (rs : List Region) (addr : ℕ) (r : Region) → IsRising rs → find (λ x. has_page (addr / 4096) x.span) rs ≡ Some r →
     (k : ℕ) → k < 4096 * r.span.end - addr → IsThere (regions_space rs) (addr + k) r.b ((4096 * r.off + (addr - 4096 * r.span.start)) + k)
@@ -118,7 +118,7 @@ byte_makes space (vop.Xor addr from len) i k n d s m t u =
     (ap₂ bit_xor (ap (m d.b.0) (let z : d.off + k ≡ (d.off + k) + 0 = omega arith in z)) (ap (m s.b.0) (let z : s.off + k ≡ (s.off + k) + 0 = omega arith in z)))
 byte_makes space (vop.Probe addr len) i k n d s m t u = refl
 
-count-split : (n k start : ℕ) → count_from 1 (n + k) start ≡ count_from 1 n start ++ count_from 1 k (start + n)
+pub count-split : (n k start : ℕ) → count_from 1 (n + k) start ≡ count_from 1 n start ++ count_from 1 k (start + n)
 count-split zero k start = ap₂ (λ a b. count_from 1 a b) (let z : 0 + k ≡ k = omega arith in z) (let z : start ≡ start + 0 = omega arith in z)
 count-split (suc n) k start =
     ap (λ a. count_from 1 a start) (let z : suc n + k ≡ suc (n + k) = omega arith in z)
@@ -178,7 +178,7 @@ next_of rs v at len fuel ops e = elim (cases_option (spot_at rs (first_address v
 ]
 
 -- the bytes of the next part are there, in both ranges
-first_bytes : (rs : List Region) (a at : ℕ) (s : Spot) (n : ℕ) → IsRising rs → spot_at rs (a + at) ≡ Some s → n ≤ s.room → (k : ℕ) → k < n → IsThere (regions_space rs) (a + (at + k)) s.b (s.off + k)
+pub first_bytes : (rs : List Region) (a at : ℕ) (s : Spot) (n : ℕ) → IsRising rs → spot_at rs (a + at) ≡ Some s → n ≤ s.room → (k : ℕ) → k < n → IsThere (regions_space rs) (a + (at + k)) s.b (s.off + k)
 first_bytes rs a at s n h e l k w =
     let z : (a + at) + k ≡ a + (at + k) = omega arith in
     subst (λ x. IsThere (regions_space rs) x s.b (s.off + k)) z (spot_bytes rs (a + at) s h e k (omega (arith, l, w)))
@@ -212,7 +212,7 @@ part_shown space m (vop.Probe addr len) at n = map (λ i. byte_there space (addr
 part_shown space m _ at n = []
 
 -- bytes side by side in the buffer are so in the space
-seen_range : (space : Space) (addr : ℕ) (b : BufId) (m : Memory) (n at off : ℕ) → ((k : ℕ) → k < n → IsThere space (addr + (at + k)) b (off + k)) →
+pub seen_range : (space : Space) (addr : ℕ) (b : BufId) (m : Memory) (n at off : ℕ) → ((k : ℕ) → k < n → IsThere space (addr + (at + k)) b (off + k)) →
     map (m b.0) (count_from 1 n off) ≡ map (λ i. byte_there space (addr + i) m) (count_from 1 n at)
 seen_range space addr b m zero at off t = refl
 seen_range space addr b m (suc n) at off t =

@@ -1,9 +1,10 @@
 use Request::{Map, Unmap};
 use Told::{Gone, Kept, Made};
-use gpu_spaces::{SPACE_PAGES, Space};
+use gpu_spaces::Space;
 use journal_model::{VStep, VSteps};
 use std::alloc::Global;
 use std::process::Abort;
+use ttm_base::limits::SPACE_PAGES;
 use ttm_base::{BufId, Span};
 
 pub const A: BufId = BufId(0);

@@ -1,8 +1,9 @@
 use Rattle.std.proofs.Common.{◌≡◌, ◌+◌, []}
 use Rattle.journal_model.specs.declared.script.MarkKind.TheVariants as mark
-use Rattle.journal_model.specs.Spaces.{regions_after}
+use Rattle.journal_model.specs.Spaces.{regions_after, regions_space, after_request}
 use Rattle.law_legal.specs.law_spaces.Sides.{sides}
-use Rattle.gpu_spaces.proofs.Small.{on_ok, sides_are_unmapped}
+use Rattle.law_legal.proofs.law_spaces.Order.{disjoint_of_rising}
+use Rattle.gpu_spaces.proofs.Small.{on_ok, sides_are_unmapped, asks_for_pages, pages_are_given, few_remaps}
 use Rattle.gpu_spaces.proofs.space.Space.unmap.Goals as goal
 
 pub returns-clause-mappings : goal.returns-clause-mappings
@@ -12,3 +13,17 @@ returns-clause-mappings c =
     let now = c.request.new.self in
     on_ok c.request.result (now ≡ sides (record { start = a.va; end = a.va + a.n }) [] rs) (now ≡ regions_after rs (mark.Vunmap a.va a.n))
     (sides_are_unmapped now rs a.va a.n c.requires.some c.request.ensures.rising) c.request.ensures.mappings
+
+pub returns-clause-pages : goal.returns-clause-pages
+returns-clause-pages c =
+    let a = c.args in
+    let rs = c.args.self.now in
+    let now = c.request.new.self in
+    on_ok c.request.result (now ≡ sides (record { start = a.va; end = a.va + a.n }) [] rs) (regions_space now ≡ after_request (regions_space rs) (mark.Vunmap a.va a.n))
+    (λ e. pages_are_given now rs (mark.Vunmap a.va a.n) (asks_for_pages a.n c.requires.some) c.request.ensures.rising (sides_are_unmapped now rs a.va a.n c.requires.some c.request.ensures.rising e)) c.request.ensures.mappings
+
+pub returns-clause-disjoint : goal.returns-clause-disjoint
+returns-clause-disjoint c = disjoint_of_rising c.request.new.self c.request.ensures.rising_now
+
+pub returns-clause-few_remaps : goal.returns-clause-few_remaps
+returns-clause-few_remaps c = let a = c.args in few_remaps c.request.result c.request.new.steps c.args.self.now (mark.Vunmap a.va a.n) c.request.ensures.rising c.request.ensures.steps c.request.ensures.no_steps
