@@ -13,6 +13,7 @@ use report_verdict::{Ending, judge};
 use script_text::{ScriptFault, read_script};
 use std::alloc::Global;
 use ttm_base::NoMemory;
+use ttm_base::limits::MAX_CHECK_BYTES;
 
 /// What a script and a report come to.
 #[derive(Clone, Copy)]
@@ -40,9 +41,6 @@ impl Finding {
         }
     }
 }
-
-/// The most bytes that are looked at.
-const MOST_BYTES: usize = 68_157_440;
 
 /// What the report of a script comes to.
 fn judged(alloc: Global, script: &Script, report: &[u8]) -> Result<Finding, NoMemory>
@@ -76,7 +74,7 @@ pub fn read_finding<S: Source>(alloc: Global, source: &mut S) -> Result<Finding,
     ensures finds { IfOk result (Finds (record { before = S.left source.old; after = S.left source.new; faults_before = S.faults source.old; faults_after = S.faults source.new })) }
     ensures faults { OnErr result (S.faults source.new ≡ S.faults source.old) }
 {
-    match read_all(alloc, source, MOST_BYTES) {
+    match read_all(alloc, source, MAX_CHECK_BYTES) {
         Ok(bytes) => finding_in(alloc, bytes.as_slice()),
         Err(ReadFault::TooLong) => Ok(Finding::Rejected { entry: 0, rule: 1 }),
         Err(ReadFault::Failed) => Ok(Finding::ReadFault),

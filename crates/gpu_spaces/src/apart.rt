@@ -15,10 +15,11 @@ use crate::buffer_set::BufferSet;
 use crate::mappings::{Mappings, around};
 use journal_model::{BufIds, VOp};
 use std::alloc::Global;
+use ttm_base::limits::PAGE_BYTES;
 use ttm_base::{BufId, NoMemory, Span};
 
 /// The bytes of a page.
-const PAGE: u64 = 4096;
+const PAGE: u64 = PAGE_BYTES as u64;
 
 /// The pages of a range of addresses.
 fn pages_of(addr: u64, len: u32) -> Span

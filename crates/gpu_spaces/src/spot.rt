@@ -7,9 +7,10 @@ ghost use Rattle.gpu_spaces.specs.Spots.{spot_of};
 
 use crate::mappings::{Mappings, around};
 use ttm_base::BufId;
+use ttm_base::limits::PAGE_BYTES;
 
 /// The bytes of a page.
-const PAGE: u64 = 4096;
+const PAGE: u64 = PAGE_BYTES as u64;
 
 /// Where an address stands: a byte of a buffer, and how many bytes there are up to the end of the mapping.
 #[derive(Clone, Copy)]

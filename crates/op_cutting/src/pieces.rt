@@ -2,9 +2,10 @@ ghost use Rattle.std.specs.Prelude.{◌≡◌, ◌+◌, ◌<◌, length};
 ghost use Rattle.ttm_base.specs.Cutting as words;
 
 use ttm_base::Op;
+use ttm_base::limits::PAGE_BYTES;
 
 /// Bytes of a page.
-pub const PAGE: u64 = 4096;
+pub const PAGE: u64 = PAGE_BYTES as u64;
 
 /// The bytes from a place of an operation up to the next page border.
 fn to_border(off: u32, at: u32) -> u32

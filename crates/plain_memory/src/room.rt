@@ -3,9 +3,10 @@ ghost use Rattle.std.specs.Prelude.{◌≡◌, ◌+◌, ◌*◌, ◌≤◌, ◌+
 use std::alloc::Global;
 use std::marker::Model;
 use ttm_base::NoMemory;
+use ttm_base::limits::PAGE_BYTES;
 
 /// Bytes of a page.
-const PAGE: usize = 4096;
+const PAGE: usize = PAGE_BYTES as usize;
 
 /// The bytes of one buffer. Nothing but `new` takes memory.
 #[derive(Drop)]

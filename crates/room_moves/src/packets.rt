@@ -8,10 +8,8 @@ ghost use Rattle.room_moves.specs.Copies.{copies, named};
 use bo_table::Bo;
 use place_list::PageCursor;
 use std::alloc::Global;
+use ttm_base::limits::PAGE_BYTES;
 use ttm_base::{Mem, NoMemory, Packet, PagePlace, Span};
-
-/// Bytes of a page.
-const PAGE: u32 = 4096;
 
 /// How packets name a page of VRAM or TT.
 fn name(mem: Mem, page: u32) -> PagePlace
@@ -44,7 +42,7 @@ fn copy_of_page(to: PagePlace, from: PagePlace) -> Packet
         toff: 0,
         from,
         foff: 0,
-        len: PAGE,
+        len: PAGE_BYTES,
     }
 }
 

@@ -15,10 +15,11 @@ use journal_model::{Bytes, Command, Core, Kind, Script, Shown, State};
 use rules_state::command_at_work;
 use rules_state::rules_parts::actors::{engine_of, thread_of};
 use std::alloc::Global;
+use ttm_base::limits::PAGE_BYTES;
 use ttm_base::{Actor, BufId, JobId, NoMemory, Packet};
 
 /// Bytes of a page.
-const PAGE: u64 = 4096;
+const PAGE: u64 = PAGE_BYTES as u64;
 
 /// The byte of a buffer at an offset that is counted from another.
 fn buffer_byte(stores: &PlainStores, core: &Core, b: BufId, off: u32, i: u32) -> u8

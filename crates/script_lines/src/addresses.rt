@@ -11,6 +11,7 @@ use script_words::names::Names;
 use script_words::words::{address, byte, engine, is, is_lone_semicolon, number, offset};
 use std::alloc::Global;
 use ttm_base::NoMemory;
+use ttm_base::limits::MAX_BUFFER_PAGES;
 
 pub fn vmap(names: &Names, words: &[Bytes]) -> Option<Line>
     requires { length names.now ≤ 256 }
@@ -19,9 +20,9 @@ pub fn vmap(names: &Names, words: &[Bytes]) -> Option<Line>
     match words {
         [_, va, n, b, off] => Some(Line::Vmap {
             va: number(0, 1_048_575, va.items()),
-            n: number(1, 4096, n.items()),
+            n: number(1, MAX_BUFFER_PAGES, n.items()),
             b: names.find(b.items()),
-            off: number(0, 4095, off.items()),
+            off: number(0, MAX_BUFFER_PAGES - 1, off.items()),
         }),
         _ => None,
     }
@@ -33,7 +34,7 @@ pub fn vunmap(words: &[Bytes]) -> Option<Line>
     match words {
         [_, va, n] => Some(Line::Vunmap {
             va: number(0, 1_048_575, va.items()),
-            n: number(1, 4096, n.items()),
+            n: number(1, MAX_BUFFER_PAGES, n.items()),
         }),
         _ => None,
     }

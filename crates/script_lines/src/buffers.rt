@@ -9,6 +9,7 @@ use journal_model::line::{BufferHead, Line};
 use script_words::words::{group, is, number, owned};
 use std::alloc::Global;
 use ttm_base::NoMemory;
+use ttm_base::limits::{MAX_ALIGN, MAX_BUFFER_PAGES};
 
 fn head(
     alloc: Global,
@@ -22,10 +23,10 @@ fn head(
 {
     Ok(BufferHead {
         name: owned(alloc, name)?,
-        pages: number(1, 4096, pages),
+        pages: number(1, MAX_BUFFER_PAGES, pages),
         prio: number(0, 3, prio),
         group: group(group_word),
-        align: number(1, 4096, align),
+        align: number(1, MAX_ALIGN, align),
     })
 }
 

@@ -14,6 +14,7 @@ use script_words::names::Names;
 use script_words::words::{actor, bytes, is, memory, number, offset};
 use std::alloc::Global;
 use ttm_base::NoMemory;
+use ttm_base::limits::{MAX_ENGINES, MAX_LINE_ACTORS, MAX_MEMORY_PAGES, MAX_SLOTS};
 
 fn version_of(words: &[Bytes]) -> Option<Line>
     ensures { result ≡ version_line words.now }
@@ -40,12 +41,12 @@ fn vram_of(words: &[Bytes]) -> Option<Line>
             if is(kind.items(), b"range") {
                 Some(Line::Vram {
                     buddy: false,
-                    size: number(0, 16384, size.items()),
+                    size: number(0, MAX_MEMORY_PAGES, size.items()),
                 })
             } else if is(kind.items(), b"buddy") {
                 Some(Line::Vram {
                     buddy: true,
-                    size: number(0, 16384, size.items()),
+                    size: number(0, MAX_MEMORY_PAGES, size.items()),
                 })
             } else {
                 None
@@ -60,7 +61,7 @@ fn tt(words: &[Bytes]) -> Option<Line>
 {
     match words {
         [_, size] => Some(Line::Tt {
-            size: number(0, 16384, size.items()),
+            size: number(0, MAX_MEMORY_PAGES, size.items()),
         }),
         _ => None,
     }
@@ -71,7 +72,7 @@ fn frames(words: &[Bytes]) -> Option<Line>
 {
     match words {
         [_, size] => Some(Line::Frames {
-            size: number(0, 16384, size.items()),
+            size: number(0, MAX_MEMORY_PAGES, size.items()),
         }),
         _ => None,
     }
@@ -82,7 +83,7 @@ fn swap(words: &[Bytes]) -> Option<Line>
 {
     match words {
         [_, size] => Some(Line::Swap {
-            size: number(0, 32768, size.items()),
+            size: number(0, MAX_SLOTS, size.items()),
         }),
         _ => None,
     }
@@ -93,7 +94,7 @@ fn engines(words: &[Bytes]) -> Option<Line>
 {
     match words {
         [_, size] => Some(Line::Engines {
-            size: number(0, 8, size.items()),
+            size: number(0, MAX_ENGINES, size.items()),
         }),
         _ => None,
     }
@@ -139,7 +140,7 @@ fn turn_of(actors: ActorWords) -> Option<Line>
     ensures { result ≡ turn_of_actors actors }
 {
     let count = actors.len();
-    if 1 <= count && count <= 64 && !is_some_no_actor(actors.items()) {
+    if 1 <= count && count <= MAX_LINE_ACTORS && !is_some_no_actor(actors.items()) {
         Some(Line::Turn { actors })
     } else {
         None

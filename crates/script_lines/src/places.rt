@@ -9,6 +9,7 @@ use journal_model::line::{Flags, PlaceWord, PlaceWords};
 use script_words::cut::cut;
 use script_words::words::{is, memory, number};
 use std::alloc::Global;
+use ttm_base::limits::MAX_MEMORY_PAGES;
 use ttm_base::{FlaggedPlace, Mem, NoMemory, Place};
 
 fn last_flags(two: bool, topdown: bool, contig: bool, words: &[Bytes]) -> Option<Flags>
@@ -117,8 +118,8 @@ fn with_two_numbers(mem: Mem, first: &[u8], last: &[u8], flags: Flags) -> PlaceW
     if is_in_system(mem) || first.is_empty() || last.is_empty() {
         return PlaceWord::Malformed;
     }
-    let first = number(0, 16384, first);
-    let last = number(0, 16384, last);
+    let first = number(0, MAX_MEMORY_PAGES, first);
+    let last = number(0, MAX_MEMORY_PAGES, last);
     with_range(mem, first, last, flags)
 }
 

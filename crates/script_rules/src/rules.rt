@@ -23,10 +23,8 @@ use journal_model::line::{
 use journal_model::{Bytes, Script};
 use script_words::names::Names;
 use std::alloc::Global;
+use ttm_base::limits::{MAX_BUFFERS, MAX_OP_BYTES, MAX_THREAD_LINES, MAX_THREADS, SPACE_PAGES};
 use ttm_base::{BufId, ItemList, NoMemory};
-
-/// The pages of an address space.
-const SPACE_PAGES: u64 = 1_048_576;
 
 fn lacks_head_number(head: &BufferHead) -> bool
     ensures { result ≡ lacks_number_in_head head.now }
@@ -360,9 +358,9 @@ fn breaks_range(script: &Script, line: &Line) -> bool
         }
         Line::Submit { ops, .. } => some_op_passes(script, ops.items()),
         Line::Vmap { va, n, b, off } => {
-            does_pass_end(SPACE_PAGES, *va, *n) || pages_pass(script, *b, *off, *n)
+            does_pass_end(u64::from(SPACE_PAGES), *va, *n) || pages_pass(script, *b, *off, *n)
         }
-        Line::Vunmap { va, n } => does_pass_end(SPACE_PAGES, *va, *n),
+        Line::Vunmap { va, n } => does_pass_end(u64::from(SPACE_PAGES), *va, *n),
         Line::Vsubmit { ops, .. } => some_address_passes(ops.items()),
         _ => false,
     }
@@ -538,8 +536,8 @@ fn breaks_count(progress: &Progress, line: &Line) -> bool
     ensures { result ≡ is_one_too_many progress.now line.now }
 {
     match line {
-        Line::Buffer { .. } | Line::Placed { .. } => 256 <= progress.script.buffers.len(),
-        Line::Thread => 16 <= progress.script.threads.len(),
+        Line::Buffer { .. } | Line::Placed { .. } => MAX_BUFFERS <= progress.script.buffers.len(),
+        Line::Thread => MAX_THREADS <= progress.script.threads.len(),
         Line::Plain { .. }
         | Line::Write { .. }
         | Line::Read { .. }
@@ -550,7 +548,7 @@ fn breaks_count(progress: &Progress, line: &Line) -> bool
         | Line::Unmap { .. }
         | Line::Vmap { .. }
         | Line::Vunmap { .. }
-        | Line::Vsubmit { .. } => 4096 <= progress.lines,
+        | Line::Vsubmit { .. } => MAX_THREAD_LINES <= progress.lines,
         _ => false,
     }
 }
@@ -588,9 +586,12 @@ fn breaks_lens(progress: &Progress, line: &Line) -> bool
     ensures { result ≡ is_too_long progress.now line.now }
 {
     match line {
-        Line::Submit { ops, .. } => lens_within(67_108_864 - progress.lens, ops.items()).is_none(),
+        Line::Submit { ops, .. } => lens_within(
+            u64::from(MAX_OP_BYTES) - progress.lens,
+            ops.items(),
+        ).is_none(),
         Line::Vsubmit { ops, .. } => {
-            addressed_lens_within(67_108_864 - progress.lens, ops.items()).is_none()
+            addressed_lens_within(u64::from(MAX_OP_BYTES) - progress.lens, ops.items()).is_none()
         }
         _ => false,
     }

@@ -20,6 +20,7 @@ use journal_model::{Command, Mark, MarkKind, Ops, VOp};
 use script_rules::script_mappings::ThreadMappings;
 use script_rules::{addressed_lens_within, vops_of};
 use std::alloc::Global;
+use ttm_base::limits::MAX_OP_BYTES;
 use ttm_base::{BufId, NoMemory};
 
 /// A mark behind the commands so far of the thread at work.
@@ -113,7 +114,7 @@ pub fn put_vsubmit(
     requires thread_mappings { thread_mappings.now.regions ≡ (thread_mappings_at_end progress.old.script).regions }
     ensures { OnOk result (progress.new ≡ with_line progress.old (Line.Vsubmit engine words)) }
 {
-    let lens = lens(67_108_864 - progress.lens, words.items());
+    let lens = lens(u64::from(MAX_OP_BYTES) - progress.lens, words.items());
     let vops = vops_of(alloc, words.items())?;
     let ops = job_of(alloc, thread_mappings, vops.items())?;
     put_mark(progress, MarkKind::Vsubmit { ops: vops })?;

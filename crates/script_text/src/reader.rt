@@ -29,6 +29,7 @@ use script_words::cut::cut;
 use script_words::keywords::{can_come, keyword};
 use script_words::names::Names;
 use std::alloc::Global;
+use ttm_base::limits::MAX_OP_BYTES;
 use ttm_base::{BufId, NoMemory};
 
 /// What the lines so far have declared, and what the thread at work has mapped.
@@ -187,7 +188,7 @@ fn put_submit(
     requires short { is_too_long progress.old (Line.Submit engine ops) ≡ false }
     ensures { OnOk result (progress.new ≡ with_line progress.old (Line.Submit engine ops)) }
 {
-    let lens = lens(67_108_864 - progress.lens, ops.items());
+    let lens = lens(u64::from(MAX_OP_BYTES) - progress.lens, ops.items());
     let ops = ops_of(alloc, ops.items())?;
     let engine = engine_of(engine);
     put_job(progress, Command::Submit { engine, ops }, lens)

@@ -7,6 +7,7 @@ use journal_model::Script;
 use script_text::{ScriptFault, read_script};
 use std::alloc::Global;
 use ttm_base::NoMemory;
+use ttm_base::limits::MAX_SCRIPT_BYTES;
 
 /// What a source gives.
 #[derive(Drop)]
@@ -17,9 +18,6 @@ pub enum Input {
     /// A read failed.
     Failed,
 }
-
-/// The most bytes that a script has.
-const MOST_BYTES: usize = 1_048_576;
 
 fn parsed(alloc: Global, bytes: &[u8]) -> Result<Input, NoMemory>
     ensures { IfOk result (Says bytes.now) }
@@ -36,7 +34,7 @@ pub fn read_input<S: Source>(alloc: Global, source: &mut S) -> Result<Input, NoM
     ensures gave { IfOk result (Gave (record { before = S.left source.old; after = S.left source.new; faults_before = S.faults source.old; faults_after = S.faults source.new })) }
     ensures faults { OnErr result (S.faults source.new ≡ S.faults source.old) }
 {
-    match read_all(alloc, source, MOST_BYTES) {
+    match read_all(alloc, source, MAX_SCRIPT_BYTES) {
         Ok(bytes) => parsed(alloc, bytes.as_slice()),
         Err(ReadFault::TooLong) => Ok(Input::Bad { line: 0, rule: 1 }),
         Err(ReadFault::Failed) => Ok(Input::Failed),
