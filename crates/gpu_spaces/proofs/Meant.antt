@@ -1,16 +1,23 @@
 -- The parts of a range of addresses show what the space has there, and there are none only where a page isn't mapped.
 use Rattle.std.proofs.Common.{◌≡◌, ℕ, zero, suc, ◌+◌, ◌-◌, ◌/◌, ◌<◌, ◌≤◌, min, List, [], ◌∷◌, ◌++◌, Option, Some, None, refl, ap, ap₂, sym, ◌∙◌, subst, arith, inl, inr}
-use Rattle.std.specs.Prelude.{IsSome, IfSome, IfNone, map, flat_map, find, length, filter, option_map}
+use Rattle.std.specs.Prelude.{Result, Ok, Err, IfOk, IsSome, IfSome, IfNone, true, map, find, option_map}
+use Rattle.std.specs.List.{list_all}
+use Rattle.ttm_base.specs.declared.Op.{Op}
+use Rattle.journal_model.specs.declared.space.VOp.{VOp}
+use Rattle.journal_model.specs.MarkRules.{has_apart_ranges}
+use Rattle.law_legal.specs.law_addresses.Addressed.{MeansAddresses}
 use Rattle.std.proofs.lemmas.Bool.{cases_lt}
 use Rattle.std.proofs.lemmas.List.{map-append}
 use Rattle.ttm_base.specs.Holes.{has_page}
 use Rattle.ttm_base.specs.ListWords.{count_from}
-use Rattle.journal_model.specs.PlainMemory.{Memory, memory_range}
+use Rattle.journal_model.specs.PlainMemory.{Memory}
 use Rattle.journal_model.specs.Spaces.{Space, Region, regions_space}
-use Rattle.journal_model.specs.ByName.{Spot, Part, spot_in, spot_at, parts_from, parts_of_range, byte_there}
+use Rattle.journal_model.specs.ByName.{Spot, Part, spot_in, spot_at, parts_from, parts_of_range, job_by_name, byte_there}
 use Rattle.law_legal.specs.law_spaces.Rising.{IsRising}
 use Rattle.law_legal.proofs.law_spaces.Found.{cases_option, spot_has_room}
-use Rattle.law_legal.proofs.law_spaces.Names.{IsThere, first_bytes, seen_range, count-split}
+use Rattle.law_legal.proofs.law_spaces.Names.{IsThere, first_bytes, seen_range, count-split, job_is_meant}
+use Rattle.gpu_spaces.specs.declared.pieces.Piece.{Piece}
+use Rattle.gpu_spaces.specs.Spots.{part_of}
 use Rattle.gpu_spaces.specs.Meaning.{parts_shown, range_shown, IsMappedRange, LacksPage}
 
 -- the bytes from a place of the range on
@@ -23,7 +30,7 @@ record IsMeant (rs : List Region) (memory : Memory) (addr at len : ℕ) (parts :
   mapped : (k : ℕ) → k < len → IsSome (regions_space rs ((addr + (at + k)) / 4096))
 
 is_some_there : (space : Space) (addr : ℕ) (s : Spot) (k : ℕ) → IsThere space addr s.b (s.off + k) → IsSome (space (addr / 4096))
-is_some_there space addr s k t = subst IsSome (sym t.at) tt
+is_some_there space addr s k t = subst IsSome (sym t.at) refl
 
 -- the first part, and those after it
 join : (rs : List Region) (memory : Memory) (addr at len n : ℕ) (s : Spot) (parts : List Part) → n ≤ len →
@@ -115,3 +122,54 @@ no_parts_lack_a_page rs addr len e =
     let z : addr ≡ addr + 0 = omega arith in
     let y : 0 + len ≡ len = omega arith in
     subst (LacksPage (regions_space rs) addr) y (lacks_from rs addr 0 len len (omega arith) (subst (λ x. parts_from rs x len len ≡ None) z e))
+
+-- ---- what is answered
+
+abbrev pub AreTheSpace : List Region → ℕ → ℕ → Option (List Piece) → Type 0
+AreTheSpace rs addr len o = IfSome o (λ pieces. (memory : Memory) → parts_shown memory (map part_of pieces) ≡ range_shown (regions_space rs) memory addr len)
+
+some_show : (rs : List Region) (addr len : ℕ) (o : Option (List Piece)) → IsRising rs → option_map (map part_of) o ≡ parts_of_range rs addr len → AreTheSpace rs addr len o
+some_show rs addr len None h e = tt
+some_show rs addr len (Some pieces) h e = λ memory. parts_are_the_space rs memory addr len (map part_of pieces) h (sym e)
+
+pub pieces_show : {E : Type 0} (r : Result (Option (List Piece)) E) (rs : List Region) (addr len : ℕ) → IsRising rs → IfOk r (λ pieces. option_map (map part_of) pieces ≡ parts_of_range rs addr len) → IfOk r (AreTheSpace rs addr len)
+pieces_show (Ok o) rs addr len h e = some_show rs addr len o h e
+pieces_show (Err x) rs addr len h e = tt
+
+abbrev pub AreMapped : List Region → ℕ → ℕ → Option (List Piece) → Type 0
+AreMapped rs addr len o = IfSome o (λ pieces. IsMappedRange (regions_space rs) addr len)
+
+abbrev pub LackAPage : List Region → ℕ → ℕ → Option (List Piece) → Type 0
+LackAPage rs addr len o = IfNone o (LacksPage (regions_space rs) addr len)
+
+some_mapped : (rs : List Region) (addr len : ℕ) (o : Option (List Piece)) → IsRising rs → option_map (map part_of) o ≡ parts_of_range rs addr len → IfSome o (λ pieces. IsMappedRange (regions_space rs) addr len)
+some_mapped rs addr len None h e = tt
+some_mapped rs addr len (Some pieces) h e = parts_are_mapped rs addr len (map part_of pieces) h (sym e)
+
+pub pieces_are_mapped : {E : Type 0} (r : Result (Option (List Piece)) E) (rs : List Region) (addr len : ℕ) → IsRising rs → IfOk r (λ pieces. option_map (map part_of) pieces ≡ parts_of_range rs addr len) →
+    IfOk r (AreMapped rs addr len)
+pieces_are_mapped (Ok o) rs addr len h e = some_mapped rs addr len o h e
+pieces_are_mapped (Err x) rs addr len h e = tt
+
+none_lack : (rs : List Region) (addr len : ℕ) (o : Option (List Piece)) → option_map (map part_of) o ≡ parts_of_range rs addr len → IfNone o (LacksPage (regions_space rs) addr len)
+none_lack rs addr len None e = no_parts_lack_a_page rs addr len (sym e)
+none_lack rs addr len (Some pieces) e = tt
+
+pub no_pieces_lack_a_page : {E : Type 0} (r : Result (Option (List Piece)) E) (rs : List Region) (addr len : ℕ) → IfOk r (λ pieces. option_map (map part_of) pieces ≡ parts_of_range rs addr len) →
+    IfOk r (LackAPage rs addr len)
+no_pieces_lack_a_page (Ok o) rs addr len e = none_lack rs addr len o e
+no_pieces_lack_a_page (Err x) rs addr len e = tt
+
+abbrev pub Means : List Region → List VOp → Option (List Op) → Type 0
+Means rs vs o = IfSome o (λ job. list_all (has_apart_ranges rs) vs ≡ true → MeansAddresses (regions_space rs) vs job)
+
+some_means : (rs : List Region) (vs : List VOp) (o : Option (List Op)) → IsRising rs → o ≡ job_by_name rs vs → Means rs vs o
+some_means rs vs None h e = tt
+some_means rs vs (Some job) h e = λ apart. record {
+  bytes = λ memory b i. ap (λ (f : Memory). f b i) (job_is_meant rs vs job memory h apart (sym e)).memory;
+  shown = λ memory. (job_is_meant rs vs job memory h apart (sym e)).shown;
+}
+
+pub job_means : {E : Type 0} (r : Result (Option (List Op)) E) (rs : List Region) (vs : List VOp) → IsRising rs → IfOk r (λ job. job ≡ job_by_name rs vs) → IfOk r (Means rs vs)
+job_means (Ok o) rs vs h e = some_means rs vs o h e
+job_means (Err x) rs vs h e = tt

@@ -1,5 +1,5 @@
 -- What a space says of a range of addresses, byte by byte.
-use Rattle.std.specs.Prelude.{ℕ, ◌+◌, ◌<◌, ◌/◌, ◌≡◌, List, Option, None, IsSome, flat_map, map}
+use Rattle.std.specs.Prelude.{ℕ, ◌+◌, ◌<◌, ◌/◌, ◌≡◌, List, None, IsSome, flat_map, map}
 use Rattle.ttm_base.specs.ListWords.{count_from}
 use Rattle.journal_model.specs.PlainMemory.{Memory, memory_range}
 use Rattle.journal_model.specs.Spaces.{Space}

@@ -1,4 +1,4 @@
-use Rattle.std.proofs.Common.{◌≡◌, ◌∙◌, [], ℕ, ap, sym}
+use Rattle.std.proofs.Common.{◌≡◌, ◌∙◌, [], ap, sym}
 use Rattle.std.specs.Prelude.{map}
 use Rattle.journal_model.specs.Spaces.{Region}
 use Rattle.journal_model.specs.ByName as name
