@@ -18,6 +18,7 @@ pub struct Choice {
 }
 
 /// The pages that are taken.
+#[inline(always)]
 pub(crate) fn chosen(
     holes: &Holes,
     pages: u32,
