@@ -5,7 +5,8 @@ usage: unproved_object.py OBJECT.o
 
 A library isn't built without its proof, a program is, for a try. So a copy of mm_c becomes a program whose `main` reaches each call of C
 (reach.rt.in). The LLVM module that `rt try` makes of it is caught, the calls get their C names, the checks of a run that isn't proved are
-left out, as a proof does, and it is compiled with the flags of `rt run`. It takes a minute or two of processor time.
+left out, as a proof does, the sources' hints on inlining, which a try leaves out, are put back, and it is compiled with the flags of `rt run`.
+It takes a minute or two of processor time.
 """
 
 import os
@@ -21,6 +22,11 @@ HERE = Path(__file__).resolve().parent
 TOP = HERE.parent.parent
 LLVM_FLAGS = """-no-trap-after-noreturn -trap-unreachable -no-x86-call-frame-opt -disable-machine-licm -disable-postra-machine-licm
     -sink-common-insts=false""".split()
+HINT_WORDS = {"inline(always)": "alwaysinline", "inline(never)": "noinline", "inline": "inlinehint", "cold": "cold"}
+HINT = re.compile(r"\s*#\[(%s)\]$" % "|".join(re.escape(hint) for hint in HINT_WORDS))
+FUNCTION = re.compile(r"(\s*)(?:pub(?:\(\w+\))? )?fn (\w+)")
+IMPL = re.compile(r"impl(?:<[^>]*>)? (?:\w+(?:<[^>]*>)? for )?(\w+)")
+DEFINED = re.compile(r'define internal .*?@"([^"]*?)(?:::<[^"]*)?"\(.*\)(?= #\d+ \{$)')
 CALL = re.compile(r'@"mm_c::\w+::(pearoar_\w+)"')
 
 
@@ -83,12 +89,33 @@ def catch_module(room):
     return max(links, key=lambda link: link.stat().st_size)
 
 
-def as_library(text):
-    """The module with C's names, without `main` and without checks."""
+def hints_in(crates):
+    """LLVM's words for the hints on inlining that stand in these crates' sources, by the names of the functions."""
+    hints = {}
+    for file in crates.glob("*/src/**/*.rt"):
+        crate, _, *folders = file.relative_to(crates).parts[:-1]
+        module = [crate, *folders, *([file.stem] if file.stem not in ("lib", "main") else [])]
+        owner, words = [], []
+        for line in file.read_text().splitlines():
+            if hint := HINT.match(line):
+                words.append(HINT_WORDS[hint[1]])
+            elif impl := IMPL.match(line):
+                owner = [impl[1]]
+            elif function := FUNCTION.match(line):
+                if words:
+                    hints["::".join([*module, *(owner if function[1] else []), function[2]])] = " ".join(words)
+                words = []
+    return hints
+
+
+def as_library(text, hints):
+    """The module with C's names and with hints on inlining, without `main` and without checks."""
     lines = []
     for line in text.splitlines():
         if "call void @llvm.trap()" in line:
             continue
+        if (defined := DEFINED.match(line)) and defined[1] in hints:
+            line = f"{defined[0]} {hints[defined[1]]}{line[defined.end() :]}"
         if line.startswith("define internal ") and CALL.search(line.split("(")[0]):
             line = line.replace("define internal ", "define ", 1)
         if line.startswith("define i32 @main("):
@@ -108,7 +135,7 @@ def main():
         module = catch_module(room)
         made = room / "module.ll"
         subprocess.run([*clang, "-S", "-emit-llvm", "-O0", "-Xclang", "-disable-llvm-passes", "-x", "ir", module, "-o", made], check=True)
-        made.write_text(as_library(made.read_text()))
+        made.write_text(as_library(made.read_text(), hints_in(room / "crates")))
         flags = [f"--sysroot={kit / 'toolchain'}", "-march=x86-64", "-O3", "-fPIE", "-ffunction-sections", "-fdata-sections"]
         flags += [word for flag in LLVM_FLAGS for word in ("-mllvm", flag)]
         subprocess.run([*clang, *flags, "-c", "-x", "ir", made, "-o", sys.argv[1]], check=True)

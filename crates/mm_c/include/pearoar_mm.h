@@ -85,7 +85,10 @@ struct pearoar_range_request {
 	uint32_t mode;		/* an enum pearoar_mode */
 };
 
-/* Makes a manager of so many pages, all of them free (drm_mm_init). It takes 4 bytes a page. PEAROAR_NO_MEMORY: it stays closed. */
+/*
+ * Makes a manager of so many pages, all of them free (drm_mm_init). It takes 24 bytes for each 1,024 pages; 4,096 bytes come with the first
+ * span that begins in 1,024 pages, and stay until the manager is destroyed. PEAROAR_NO_MEMORY: it stays closed.
+ */
 enum pearoar_status pearoar_ranges_create(struct pearoar_ranges *ranges, uint32_t pages);
 
 /* Frees a manager, whether something is held there or not (drm_mm_takedown), and closes it. */

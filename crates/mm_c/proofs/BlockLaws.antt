@@ -16,8 +16,8 @@ pub same_list : (s : ℕ) (es : List ℕ) → held_spans s es ≡ held_from s es
 same_list s [] = refl
 same_list s (e ∷ es) = ap (λ rest. if nat_lt s e then record { start = s; end = e } ∷ rest else rest) (same_list (s + 1) es)
 
-pub begins_here : (es : List ℕ) (start : ℕ) → start < length es → start < get_or es start 0 → find (starts_at start) (held_from 0 es) ≡ Some (record { start = start; end = get_or es start 0 })
-begins_here es start l h = ap (find (starts_at start)) (sym (same_list 0 es)) ∙ find_held es start l h
+pub begins_here : (es : List ℕ) (start : ℕ) → start < get_or es start 0 → find (starts_at start) (held_from 0 es) ≡ Some (record { start = start; end = get_or es start 0 })
+begins_here es start h = ap (find (starts_at start)) (sym (same_list 0 es)) ∙ find_held es start h
 
 pub begins_not : (es : List ℕ) (start : ℕ) → get_or es start 0 ≤ start → find (starts_at start) (held_from 0 es) ≡ None
 begins_not es start h = ap (find (starts_at start)) (sym (same_list 0 es)) ∙ find_not_held es start h

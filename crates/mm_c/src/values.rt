@@ -7,7 +7,7 @@ use std::collections::BTreeMap;
 use std::marker::Model;
 use ttm_base::NoMemory;
 
-/// A 64-bit value for each page, 0 until it is set. Memory is taken for the pages alone whose value was set.
+/// Keeps a 64-bit value for each page, 0 until it is set. Memory is taken for those pages alone whose value was set.
 #[derive(Drop)]
 pub struct Values {
     set: BTreeMap<u32, u64>,
@@ -49,7 +49,18 @@ impl Values {
     }
 
     /// Sets the value of a page to 0. It takes no memory.
+    #[inline]
     pub fn clear(&mut self, page: u32)
+        ensures { (other : ℕ) → value_at self.new other ≡ (if other == page then 0 else value_at self.old other) }
+    {
+        if !self.set.is_empty() {
+            self.unset(page);
+        }
+    }
+
+    /// Removes the value of a page. It stays out of line, so that a call where no value is set pays one comparison.
+    #[inline(never)]
+    fn unset(&mut self, page: u32)
         ensures { (other : ℕ) → value_at self.new other ≡ (if other == page then 0 else value_at self.old other) }
     {
         let _ = self.set.remove(&page);

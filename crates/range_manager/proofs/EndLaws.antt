@@ -3,6 +3,7 @@ use Rattle.std.proofs.Common.{◌≡◌, ℕ, zero, suc, ◌+◌, ◌<◌, ◌�
 use Rattle.std.specs.Option.{IsSome, is_some}
 use Rattle.std.specs.List.{find, list_any}
 use Rattle.std.proofs.lemmas.Bool.{cases_lt, or_parts, lt-ltb, le-ltb, eq-eqb, ne_eqb, both_ways}
+use Rattle.std.proofs.lemmas.List.{get_or_past}
 use Rattle.ttm_base.specs.declared.Span.{Span}
 use Rattle.ttm_base.specs.Holes.{has_page}
 use Rattle.hole_tree.specs.HoleSet.{starts_at, with_hole, without}
@@ -125,11 +126,15 @@ find_past s (x ∷ es) start l = two (nat_lt s x) (find_past (s + 1) es start (o
   two true r = ap (λ t. if t then Some (record { start = s; end = x }) else find (starts_at start) (held_spans (s + 1) es)) (ne_eqb s start (λ e. omega arith)) ∙ r
   two false r = r
 
-pub find_held : (es : List ℕ) (start : ℕ) → start < length es → start < get_or es start 0 → find (starts_at start) (held_spans 0 es) ≡ Some (record { start = start; end = get_or es start 0 })
-find_held es start l h =
+pub find_held : (es : List ℕ) (start : ℕ) → start < get_or es start 0 → find (starts_at start) (held_spans 0 es) ≡ Some (record { start = start; end = get_or es start 0 })
+find_held es start h =
     let z : 0 + start ≡ start = omega arith in
-    ap (λ n. find (starts_at n) (held_spans 0 es)) (sym z) ∙ find_at 0 es start l ∙ ap (λ n. span_if (nat_lt n (get_or es start 0)) (record { start = n; end = get_or es start 0 })) z
-    ∙ ap (λ t. span_if t (record { start = start; end = get_or es start 0 })) (lt-ltb start (get_or es start 0) h)
+    elim (cases_lt start (length es)) [
+      | inl l ↦
+          ap (λ n. find (starts_at n) (held_spans 0 es)) (sym z) ∙ find_at 0 es start l ∙ ap (λ n. span_if (nat_lt n (get_or es start 0)) (record { start = n; end = get_or es start 0 })) z
+          ∙ ap (λ t. span_if t (record { start = start; end = get_or es start 0 })) (lt-ltb start (get_or es start 0) h)
+      | inr l ↦ let e = get_or_past es start 0 l in absurd (omega (arith, e, h))
+    ]
 
 pub find_not_held : (es : List ℕ) (start : ℕ) → get_or es start 0 ≤ start → find (starts_at start) (held_spans 0 es) ≡ None
 find_not_held es start h =
@@ -141,9 +146,6 @@ find_not_held es start h =
       | inr l ↦ find_past 0 es start (omega arith)
     ]
 
-pub find_no_page : (es : List ℕ) (start : ℕ) → length es ≤ start → find (starts_at start) (held_spans 0 es) ≡ None
-find_no_page es start l = find_past 0 es start (omega arith)
-
 -- where the span ends that begins at a page
 pub record Begins (es : List ℕ) (start : ℕ) : Type 0 where
   pub below : start < length es
@@ -152,10 +154,11 @@ pub record Begins (es : List ℕ) (start : ℕ) : Type 0 where
 
 pub begins : (es : List ℕ) (start : ℕ) → IsSome (find (starts_at start) (held_spans 0 es)) → Begins es start
 begins es start h =
-    elim (cases_lt start (length es)) [
-      | inr l ↦ absurd (both_ways (is_some (find (starts_at start) (held_spans 0 es))) (ap is_some (find_no_page es start l)) h)
-      | inl l ↦ elim (cases_lt start (get_or es start 0)) [
-        | inr n ↦ absurd (both_ways (is_some (find (starts_at start) (held_spans 0 es))) (ap is_some (find_not_held es start n)) h)
-        | inl s ↦ record { below = l; some = s; found = find_held es start l s }
-      ]
+    elim (cases_lt start (get_or es start 0)) [
+      | inr n ↦ absurd (both_ways (is_some (find (starts_at start) (held_spans 0 es))) (ap is_some (find_not_held es start n)) h)
+      | inl s ↦ record {
+        below = elim (cases_lt start (length es)) [ | inl l ↦ l | inr l ↦ let e = get_or_past es start 0 l in absurd (omega (arith, e, s)) ];
+        some = s;
+        found = find_held es start s;
+      }
     ]

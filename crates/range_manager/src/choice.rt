@@ -17,7 +17,8 @@ pub struct Choice {
     pub pages: Span,
 }
 
-/// The pages that are taken.
+/// Chooses the pages that are taken, and the hole that has them.
+#[inline(always)]
 pub(crate) fn chosen(
     holes: &Holes,
     pages: u32,
@@ -42,7 +43,8 @@ pub(crate) fn chosen(
     })
 }
 
-/// The hole that is taken.
+/// Chooses the hole.
+#[inline(always)]
 fn chosen_hole(holes: &Holes, pages: u32, align: u32, range: Span, mode: Mode) -> Option<Span>
     requires { 1 ≤ align }
     ensures { result ≡ chosen_hole mode holes.now.holes pages align range.start range.end }
@@ -54,7 +56,8 @@ fn chosen_hole(holes: &Holes, pages: u32, align: u32, range: Span, mode: Mode) -
     }
 }
 
-/// Where the pages begin in a hole that they fit.
+/// Finds where the pages begin in a hole that they fit.
+#[inline(always)]
 fn start_in(hole: Span, pages: u32, align: u32, range: Span, mode: Mode) -> u32
     requires align { 1 ≤ align }
     requires fits { start_to_test mode pages align (common hole range) < 2 ^ 32 }

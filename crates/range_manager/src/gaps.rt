@@ -50,6 +50,7 @@ pub(crate) fn around(holes: &Holes, page: u32) -> Option<Span>
 }
 
 /// Takes pages of a hole: what is left of it on both sides are holes.
+#[inline(always)]
 pub(crate) fn take(holes: &mut Holes, hole: Span, taken: Span)
     requires spaced { IsSpaced 1 holes.old.holes }
     requires hole { find (starts_at hole.start) holes.old.holes ≡ Some hole }

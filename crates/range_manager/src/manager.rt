@@ -1,4 +1,4 @@
-ghost use Rattle.std.specs.Prelude.{◌≡◌, ℕ, ◌+◌, ◌<◌, ◌≤◌, true, [], Some, None, Ok, Err, IfOk, OnOk, OnErr, IsSome, length, replicate};
+ghost use Rattle.std.specs.Prelude.{◌≡◌, ℕ, ◌+◌, ◌<◌, ◌≤◌, true, [], Some, None, Ok, Err, IfOk, OnOk, OnErr, IsSome, length};
 ghost use Rattle.std.specs.List.{find};
 ghost use Rattle.ttm_base.specs.Holes.{holes, has_page, is_free_beside};
 ghost use Rattle.ttm_base.specs.RangeChoice.{range_choice};
@@ -11,22 +11,23 @@ use crate::InsertFault;
 use crate::choice::{Choice, chosen};
 use crate::gaps::{around, give, make_room, take, whole};
 use hole_tree::Holes;
+use sparse_table::SparseTable;
 use std::alloc::Global;
 use std::marker::Model;
 use ttm_base::{Mode, NoMemory, Span};
 
-/// The pages of a memory type by ranges, seen as the number of pages and the spans that are held. The other pages are free.
+/// Manages the pages of a memory type by ranges, seen as the number of pages and the spans that are held. The other pages are free.
 pub struct RangeManager {
     holes: Holes,
-    /// For each page the end of the span that begins there, or else 0.
-    ends: Vec<u32>,
-    /// How many pages are held.
+    /// The end of the span that begins at a page, or 0 where none does.
+    ends: SparseTable,
+    /// The pages that are held.
     used: u32,
-    /// How many spans are held.
+    /// The number of spans that are held.
     count: u32,
 }
 
-/// By hand, so that no crate above proves how each part goes.
+/// Names each part, so that no crate above proves how they are dropped.
 impl Drop for RangeManager {
     fn drop(self) {
         let Self {
@@ -47,41 +48,34 @@ impl Model for RangeManager {
     ghost use Rattle.range_manager.specs.Held.{held_spans};
     ghost use Rattle.range_manager.specs.Kept.{IsManaged};
 
-    ghost view = { λ m. record { size = length m.ends.items; held = held_spans 0 m.ends.items } };
+    ghost view = { λ m. record { size = length m.ends; held = held_spans 0 m.ends } };
 
-    ghost invariant = { λ m. IsManaged m.holes m.ends.items m.used m.count };
+    ghost invariant = { λ m. IsManaged m.holes m.ends m.used m.count };
 }
 
-/// For each page that no span begins there.
-fn no_ends(alloc: Global, pages: u32) -> Result<Vec<u32>, NoMemory>
-    ensures { IfOk result (λ ends. ends.items ≡ replicate pages 0) }
-{
-    let ends = vec![in alloc; 0; pages as usize]?;
-    Ok(ends)
-}
-
-/// Holds pages that a hole has.
+/// Holds pages of a hole. All memory is taken before anything changes.
+#[inline(always)]
 fn hold(
     holes: &mut Holes,
-    ends: &mut Vec<u32>,
+    ends: &mut SparseTable,
     used: &mut u32,
     count: &mut u32,
     choice: Choice,
 ) -> Result<(), NoMemory>
-    requires managed { IsManaged holes.old ends.old.items used.old count.old }
+    requires managed { IsManaged holes.old ends.old used.old count.old }
     requires hole { find (starts_at choice.hole.start) holes.old.holes ≡ Some choice.hole }
     requires some { choice.pages.start < choice.pages.end }
     requires from { choice.hole.start ≤ choice.pages.start }
     requires to { choice.pages.end ≤ choice.hole.end }
-    ensures managed { IsManaged holes.new ends.new.items used.new count.new }
-    ensures size { length ends.new.items ≡ length ends.old.items }
-    ensures held { OnOk result (held_spans 0 ends.new.items ≡ with_span choice.pages (held_spans 0 ends.old.items)) }
-    ensures same { OnErr result (ends.new.items ≡ ends.old.items) }
+    ensures managed { IsManaged holes.new ends.new used.new count.new }
+    ensures size { length ends.new ≡ length ends.old }
+    ensures held { OnOk result (held_spans 0 ends.new ≡ with_span choice.pages (held_spans 0 ends.old)) }
+    ensures same { OnErr result (ends.new ≡ ends.old) }
 {
     make_room(holes, *count)?;
     let Choice { hole, pages } = choice;
+    ends.set(pages.start as usize, pages.end)?;
     take(holes, hole, pages);
-    ends[pages.start as usize] = pages.end;
     *used += pages.end - pages.start;
     *count += 1;
     Ok(())
@@ -93,7 +87,7 @@ impl RangeManager {
         ensures size { IfOk result (λ manager. manager.size ≡ pages) }
         ensures held { IfOk result (λ manager. manager.held ≡ []) }
     {
-        let ends = no_ends(alloc, pages)?;
+        let ends = SparseTable::new(alloc, pages)?;
         let holes = whole(alloc, pages)?;
         Ok(RangeManager {
             holes,
@@ -188,12 +182,13 @@ impl RangeManager {
         ensures size { self.new.size ≡ self.old.size }
         ensures held { self.new.held ≡ without start self.old.held }
     {
+        let at = start as usize;
         let span = Span {
             start,
-            end: self.ends[start as usize],
+            end: self.ends.get(at),
         };
+        self.ends.replace(at, 0);
         give(&mut self.holes, span);
-        self.ends[start as usize] = 0;
         self.used -= span.end - span.start;
         self.count -= 1;
     }
@@ -202,7 +197,7 @@ impl RangeManager {
     pub fn held_from(&self, start: u32) -> Option<Span>
         ensures { result ≡ find (starts_at start) self.now.held }
     {
-        let end = *self.ends.get(start as usize)?;
+        let end = self.ends.get(start as usize);
         if start < end {
             Some(Span { start, end })
         } else {

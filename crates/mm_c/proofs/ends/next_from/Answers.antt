@@ -5,8 +5,7 @@ use Rattle.mm_c.proofs.ends.next_from.Goals as goal
 
 pub returns-then-start-end-clause-some : goal.returns-then-start-end-clause-some
 returns-then-start-end-clause-some c =
-    let l = c.loop-start-test.true in
-    next_at (held_from 0 c.args.ends.now) c.args.from c.loop-start.start _ c.loop-start.auto.start (begins_here c.args.ends.now c.loop-start.start l c.if-start-end.true) c.loop-start.invariant
+    next_at (held_from 0 c.args.ends.now) c.args.from c.loop-start.start _ c.loop-start.auto.start (begins_here c.args.ends.now c.loop-start.start c.if-start-end.true) c.loop-start.invariant
 
 pub loop-start-preserved : goal.loop-start-preserved
 loop-start-preserved c =

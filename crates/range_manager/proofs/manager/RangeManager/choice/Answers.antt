@@ -12,7 +12,7 @@ told : (c : After-chosen) → option_map (λ x. x.pages) c.chosen.result ≡ ran
 told c =
     let range : Span = record { start = c.args.first; end = c.args.last } in
     c.chosen.ensures.pages
-    ∙ ap (λ hs. range_choice c.args.mode hs c.args.pages c.args.align range) (managed_holes c.self.inside.holes c.self.inside.ends.items c.self.inside.used c.self.inside.count c.self.invariant)
+    ∙ ap (λ hs. range_choice c.args.mode hs c.args.pages c.args.align range) (managed_holes c.self.inside.holes c.self.inside.ends c.self.inside.used c.self.inside.count c.self.invariant)
     ∙ ap (λ (m : Managed). range_choice c.args.mode (holes (is_free_beside m.held) m.size) c.args.pages c.args.align range) c.self.view_is
 
 pub returns-in_err-choice : goal.returns-in_err-choice

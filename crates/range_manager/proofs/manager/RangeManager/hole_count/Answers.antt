@@ -7,5 +7,5 @@ use Rattle.range_manager.proofs.manager.RangeManager.hole_count.Goals as goal
 pub returns : goal.returns
 returns c =
     c.hole_count.ensures
-    ∙ ap (λ hs. length hs) (managed_holes c.self.inside.holes c.self.inside.ends.items c.self.inside.used c.self.inside.count c.self.invariant)
+    ∙ ap (λ hs. length hs) (managed_holes c.self.inside.holes c.self.inside.ends c.self.inside.used c.self.inside.count c.self.invariant)
     ∙ ap (λ (m : Managed). length (holes (is_free_beside m.held) m.size)) c.self.view_is

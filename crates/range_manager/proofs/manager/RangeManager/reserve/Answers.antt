@@ -7,14 +7,14 @@ use Rattle.range_manager.proofs.manager.RangeManager.reserve.Goals as goal
 pub returns-in_default-clause-none : goal.returns-in_default-clause-none
 returns-in_default-clause-none c = λ e.
     subst (λ m. HasTakenPage m c.args.span) c.self.view_is
-    (taken_first c.self.inside.holes c.self.inside.ends.items c.self.inside.used c.self.inside.count c.args.span c.self.invariant (omega arith) c.in_default.ensures.none)
+    (taken_first c.self.inside.holes c.self.inside.ends c.self.inside.used c.self.inside.count c.args.span c.self.invariant (omega arith) c.in_default.ensures.none)
 
 pub returns-then-hole-span-clause-none : goal.returns-then-hole-span-clause-none
 returns-then-hole-span-clause-none c = λ e.
     subst (λ m. HasTakenPage m c.args.span) c.self.view_is
-    (taken_past c.self.inside.holes c.self.inside.ends.items c.self.inside.used c.self.inside.count c.args.span c.in-Some.hole c.self.invariant c.in-Some.ensures.hole c.in-Some.ensures.page c.if-hole-span.true)
+    (taken_past c.self.inside.holes c.self.inside.ends c.self.inside.used c.self.inside.count c.args.span c.in-Some.hole c.self.invariant c.in-Some.ensures.hole c.in-Some.ensures.page c.if-hole-span.true)
 
 pub returns-clause-free : goal.returns-clause-free
 returns-clause-free c =
     subst (λ m. (page : ℕ) → has_page page c.args.span ≡ true → is_open m page ≡ true) c.self.view_is
-    (all_open_in c.self.inside.holes c.self.inside.ends.items c.self.inside.used c.self.inside.count c.args.span c.in-Some.hole c.self.invariant c.in-Some.ensures.hole c.in-Some.ensures.page (omega arith))
+    (all_open_in c.self.inside.holes c.self.inside.ends c.self.inside.used c.self.inside.count c.args.span c.in-Some.hole c.self.invariant c.in-Some.ensures.hole c.in-Some.ensures.page (omega arith))
