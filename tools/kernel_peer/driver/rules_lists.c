@@ -1,4 +1,4 @@
-/* Rules sole and unpin, and which buffers a walk over the lists passes over for rules ghost and skip. */
+/* Rules sole, unpin and notouch, and which buffers a walk over the lists passes over for rules ghost and skip. */
 #include "peer.h"
 #include "rules.h"
 
