@@ -108,7 +108,8 @@ def show_cases(cases: list[Case]) -> None:
     for case in cases:
         print(f"{case.name} ({case.rule}, {'lagging' if case.order.lagging else 'eager'} engines): {case.about}")
         for side in ("project", "kernel"):
-            print(f"  answer {case.answers['answer']} of the {side}: " + "; ".join(f"{part} {value}" for part, value in case.answers[side].items()))
+            parts = "; ".join(f"{part} {value}" for part, value in case.answers[side].items())
+            print(f"  answer {case.answers['answer']} of the {side}: {parts}")
 
 
 def write_cases(cases: list[Case]) -> None:

@@ -116,7 +116,8 @@ def print_tables(room: Path) -> bool:
     print("\n| rule | " + " | ".join(MODES) + " |\n|---|---:|---:|")
     for rule in known_rules():
         print(f"| `{rule}` | " + " | ".join(f"{totals[mode]['needs ' + rule]:,}" for mode in MODES) + " |")
-    print(f"\n{sum(counts['shown'] for counts in sums.values()):,} reads and probes of both sides; {len(others)} lines of runs that aren't explained")
+    shown = sum(counts["shown"] for counts in sums.values())
+    print(f"\n{shown:,} reads and probes of both sides; {len(others)} lines of runs that aren't explained")
     print("\n".join(others))
     return not others
 

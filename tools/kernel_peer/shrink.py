@@ -3,13 +3,14 @@
 
 usage: shrink.py RULE FAMILY FIRST COUNT eager|lagging
 
-Of that many random scripts the first four that need RULE alone are made smaller, without drains; the shortest is printed.
+Of that many random scripts the first four that need RULE alone are made smaller, without drains; the shortest is printed. If none needs it
+alone, the first four that need it beside other rules are: they differ where all others are swapped, and agree where all are.
 """
 
 from __future__ import annotations
 
 import sys
-from collections.abc import Callable, Iterator
+from collections.abc import Callable, Iterator, Sequence
 
 from families import FAMILIES
 from kernel_side import PeerFault, known_rules, run_each
@@ -20,15 +21,25 @@ from scripts import Script, named_buffers
 from trials import make_trial
 
 Holds = Callable[[Script], bool]
+Needs = Callable[[Script, str, Order], bool]
+
+
+def differs_until(script: Script, order: Order, without: Sequence[str], swapped: Sequence[str]) -> bool:
+    """Whether the two sides differ where the first rules are swapped, and agree where the second are."""
+    try:
+        project = run_project(script, order)
+        one, other = run_each(script, order, (without, swapped))
+    except (PeerFault, ProgramFault):
+        return False
+    return first_difference(project, one) is not None and first_difference(project, other) is None
 
 
 def needs_alone(script: Script, rule: str, order: Order) -> bool:
-    try:
-        project = run_project(script, order)
-        kernel, swapped = run_each(script, order, ((), (rule,)))
-    except (PeerFault, ProgramFault):
-        return False
-    return first_difference(project, kernel) is not None and first_difference(project, swapped) is None
+    return differs_until(script, order, (), (rule,))
+
+
+def needs_beside_others(script: Script, rule: str, order: Order) -> bool:
+    return differs_until(script, order, [other for other in known_rules() if other != rule], known_rules())
 
 
 def without_commands(script: Script) -> Iterator[Script]:
@@ -94,12 +105,12 @@ def shrink(script: Script, holds: Holds) -> Script:
     return script
 
 
-def smallest(rule: str, family: str, numbers: range, lagging: bool) -> Script | None:
+def smallest(rule: str, family: str, numbers: range, lagging: bool, needs: Needs) -> Script | None:
     order, found = Order(lagging), []
     for number in numbers:
         script = make_trial(family, number).script
-        if needs_alone(script, rule, order):
-            found.append(shrink(script, lambda smaller: needs_alone(smaller, rule, order)))
+        if needs(script, rule, order):
+            found.append(shrink(script, lambda smaller: needs(smaller, rule, order)))
         if len(found) == 4:
             break
     return min(found, key=lambda script: len(script.text()), default=None)
@@ -109,8 +120,8 @@ def main(words: list[str]) -> int:
     if len(words) != 5 or words[0] not in known_rules() or words[1] not in FAMILIES or words[4] not in ("eager", "lagging"):
         print(__doc__, file=sys.stderr)
         return 2
-    first = int(words[2])
-    script = smallest(words[0], words[1], range(first, first + int(words[3])), words[4] == "lagging")
+    numbers, lagging = range(int(words[2]), int(words[2]) + int(words[3])), words[4] == "lagging"
+    script = smallest(words[0], words[1], numbers, lagging, needs_alone) or smallest(words[0], words[1], numbers, lagging, needs_beside_others)
     if script is None:
         print("none")
         return 1

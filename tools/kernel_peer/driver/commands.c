@@ -154,6 +154,8 @@ static const char *with_buffer(struct declaration *declared, action *act, char *
 		refusal = act(buffer, words);
 	}
 	if (act == do_free && !refusal) {
+		if (ours(RULE_SLOTS))
+			give_slots_back(&buffer->tbo);
 		dma_resv_unlock(buffer->tbo.base.resv);
 		if (ours(RULE_FREED))
 			let_ghosts_forget(&buffer->tbo);

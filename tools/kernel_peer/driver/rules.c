@@ -6,7 +6,7 @@ static const char *const rule_names[RULES] = {
 	[RULE_TIE] = "tie", [RULE_SOLE] = "sole", [RULE_UNPIN] = "unpin", [RULE_CONTIG] = "contig",
 	[RULE_SHORT] = "short", [RULE_GHOST] = "ghost", [RULE_RETRY] = "retry", [RULE_SKIP] = "skip",
 	[RULE_FREED] = "freed", [RULE_REAP] = "reap", [RULE_NOTOUCH] = "notouch",
-	[RULE_BUSY] = "busy", [RULE_ORDER] = "order", [RULE_PARTIAL] = "partial",
+	[RULE_BUSY] = "busy", [RULE_ORDER] = "order", [RULE_PARTIAL] = "partial", [RULE_SLOTS] = "slots",
 #ifndef PEER_WITHOUT_BLOCKS
 	[RULE_BLOCK] = "block",
 #endif

@@ -4,7 +4,7 @@
 
 enum rule {
 	RULE_TIE, RULE_SOLE, RULE_UNPIN, RULE_CONTIG, RULE_SHORT, RULE_GHOST, RULE_RETRY, RULE_SKIP, RULE_FREED, RULE_REAP, RULE_NOTOUCH,
-	RULE_BLOCK, RULE_BUSY, RULE_ORDER, RULE_PARTIAL, RULE_STAY,
+	RULE_BLOCK, RULE_BUSY, RULE_ORDER, RULE_PARTIAL, RULE_SLOTS, RULE_STAY,
 	RULES
 };
 
@@ -40,6 +40,8 @@ void let_ghosts_forget(struct ttm_buffer_object *bo);
 /* Tells whether any page has a frame; gives to swap what a reserved buffer in SYSTEM can, and tells whether it was all (rules_pages.c). */
 bool has_frames(const struct ttm_tt *tt);
 bool swap_pages_out(struct ttm_buffer_object *bo);
+/* Gives back the slots of a buffer that is being freed, by rule slots. */
+void give_slots_back(struct ttm_buffer_object *bo);
 /* Moves a reserved buffer from TT to SYSTEM, when it is idle; 0 or an error (places.c). */
 int move_to_system(struct ttm_buffer_object *bo);
 

@@ -1,4 +1,4 @@
-/* Rules sole and unpin, and which buffers a walk over the lists passes over for rules ghost and skip. */
+/* Rules sole, unpin and notouch, and which buffers a walk over the lists passes over for rules ghost and skip. */
 #include "peer.h"
 #include "rules.h"
 
@@ -32,12 +32,16 @@ void __wrap_ttm_resource_move_to_lru_tail(struct ttm_resource *res)
 		__real_ttm_resource_move_to_lru_tail(res);
 }
 
-/* Rule sole, of a move within a memory type: TTM puts the new resource in the list where the old one was. */
+/*
+ * A buffer that has moved is the last in its list. TTM puts a resource on the list when it is taken, before the evictions of a hop; that is seen
+ * where the command is then refused and, by rule notouch, doesn't touch the buffer. A group's only member that moves within its memory type
+ * stays where it was in the list, but for rule sole.
+ */
 void note_moved(struct ttm_resource *res)
 {
 	spin_lock(&device.lru_lock);
-	if (ours(RULE_SOLE) && is_sole_member(res))
-		list_move_tail(lru_link(res), &ttm_manager_type(&device, res->mem_type)->lru[res->bo->priority]);
+	if (ours(RULE_NOTOUCH) || (ours(RULE_SOLE) && is_sole_member(res)))
+		ttm_resource_move_to_lru_tail(res);
 	spin_unlock(&device.lru_lock);
 }
 

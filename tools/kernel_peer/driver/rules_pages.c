@@ -3,6 +3,8 @@
  * many pages as there are slots. In the kernel a whole ttm_tt is populated or swapped out, or nothing of it.
  *
  * Where the rule is swapped, a page of tt->swap_storage is a slot, and TTM_TT_FLAG_SWAPPED isn't used.
+ *
+ * Rule slots: a freed buffer's slots are free at once. In the kernel its ttm_tt has them until it is destroyed, when its jobs are done.
  */
 #include "peer.h"
 #include "rules.h"
@@ -47,6 +49,15 @@ bool swap_pages_out(struct ttm_buffer_object *bo)
 		swap_page_out(tt, i);
 	}
 	return !has_frames(tt);
+}
+
+void give_slots_back(struct ttm_buffer_object *bo)
+{
+	struct file *slots = bo->ttm ? bo->ttm->swap_storage : NULL;
+	u32 i;
+
+	for (i = 0; slots && i < bo->ttm->num_pages; i++)
+		drop_slot(slots->f_mapping, i);
 }
 
 /* Reserves the first buffer on the lists of the memory type that has frames and is neither pinned nor held; NULL if there is none. */
