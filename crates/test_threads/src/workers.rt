@@ -8,7 +8,7 @@ use std::sync::Wait;
 use std::test::Fail;
 use ttm_base::{Actor, Logged, Stepper};
 use turn_lock::{Pass, Turns};
-use worker_pool::{IdleGate, work_all};
+use worker_pool::{IdleGate, work, work_all};
 
 /// One turn for the actor, after which the word of context 0 is raised to what is done there.
 fn turn_of<R: Wait>(rt: &R, turns: &Turns<Counter>, pass: &mut Pass<Counter>, who: Actor) -> u64
@@ -47,6 +47,24 @@ fn fence_words_tell_what_was_raised(rt: HostRuntime) -> Result<(), Fail> {
     Ok(())
 }
 
+/// One worker makes the entries of both actors, and raises the fence word of the engine after each job.
+#[test]
+fn one_worker_makes_all_entries(rt: HostRuntime) -> Result<(), Fail> {
+    let (turns, mut pass) = Turns::new(rt.alloc(), Counter::new(rt.alloc(), 10), 1)
+        .ok()
+        .ok_or("memory")?;
+    assert!(rt; turns.contexts() == 1);
+    let actors = [Actor::Thread(1), Actor::Engine(0)];
+    let answer = work(&rt, &turns, &mut pass, &IdleGate, 1, &actors);
+    assert!(rt; answer.is_ok());
+    let tenth = turns.peek_fence(&mut pass, 0, 10);
+    let eleventh = turns.peek_fence(&mut pass, 0, 11);
+    assert!(rt; (tenth, eleventh) == (true, false));
+    let counter = turns.close(&rt, pass);
+    assert!(rt; (counter.count(), counter.done(0)) == (20, 10));
+    Ok(())
+}
+
 #[test]
 fn two_workers_are_at_work_at_once(rt: HostRuntime) -> Result<(), Fail> {
     let (turns, pass) = Turns::new(rt.alloc(), Counter::new(rt.alloc(), 10), 1)
@@ -61,7 +79,7 @@ fn two_workers_are_at_work_at_once(rt: HostRuntime) -> Result<(), Fail> {
     Ok(())
 }
 
-/// Behind its first turn worker 1 has the floor.
+/// After its first turn worker 1 has a batch of turns.
 #[test]
 fn a_worker_that_is_held_stops_nobody(rt: HostRuntime) -> Result<(), Fail> {
     let (turns, pass) = Turns::new(rt.alloc(), Counter::new(rt.alloc(), 10), 1)

@@ -15,7 +15,7 @@ use Rattle.turn_lock.specs.Growing.{Grows}
 use Rattle.turn_lock.specs.declared.Known.{Known}
 use Rattle.turn_lock.specs.declared.Stage.{Stage}
 use Rattle.turn_lock.specs.declared.Stage.TheVariants.{Idle, Waiting, Called, Holding}
-use Rattle.turn_lock.specs.Turning.{Has, Holds, Knows, Once, times, total, staged, fenced, told, joined, spent_view, wrote, IsSeat, IsLine, InPlace, IsTurning, IsDone, drew, looked, called, published, advanced, settled, peeked, raised, start}
+use Rattle.turn_lock.specs.Turning.{Has, Holds, Knows, Once, times, total, staged, fenced, told, joined, spent_view, wrote, IsSeat, IsLine, InPlace, IsTurning, IsDone, IsTaken, drew, looked, called, published, advanced, settled, peeked, raised, start}
 use Rattle.turn_lock.proofs.Prefixes.{longer_behind, longer_whole, shorter_behind, longer_length, prefix_self, prefix_trans, prefix_length}
 use Rattle.turn_lock.proofs.Seats.{set_at, each_set, one_value, line_set, total_set, total_more, total_has, total_none, times_append, times_none, times_last, times_here}
 
@@ -64,7 +64,7 @@ module _ {I : Type 0} where
   has_below sv t current seen (Called m) n k h = let a = k.0 in let b = k.1 in let e : m ≡ n = h in (omega arith, omega arith)
   has_below sv t current seen (Holding m) n k h = let a = k.0 in let b = k.1 in let e : m ≡ n = h in (omega arith, omega arith)
 
-  grown : (xs ys : List I) → Grows xs ys → IsPrefix xs ys
+  pub grown : (xs ys : List I) → Grows xs ys → IsPrefix xs ys
   grown xs ys (inl e) = subst (λ (l : List I). IsPrefix xs l) (sym e) (prefix_self xs)
   grown xs ys (inr e) = (e.0 ∷ [], sym e.1)
 
@@ -260,6 +260,7 @@ module _ {V I R : Type 0} (list : V → List I) (root : V → R) (done : List I 
               before = more;
               same_root = λ x e. h.3 ∙ sym (seat.rooted x e);
               once = own_once s.views id me.0 at rule.apart;
+              within = seat.owns;
               fences = subst (λ (l : List I). IsDone list root done l me.0) (sym h.2) (done_below cur fs me.0 seat.reached rule.done_all);
             },
           )),
@@ -326,7 +327,7 @@ module _ {V I R : Type 0} (list : V → List I) (root : V → R) (done : List I 
         keeps,
         tt,
         unmoved (t ∷ sv ∷ length cur ∷ fs) s.homes s.views id me.0 (subst (λ (ws : List ℕ). Rule record { words = ws; homes = s.homes; views = s.views }) rule.words rule) at,
-        (refl, (rule.line.each id me.0 at).also_behind, own_once s.views id me.0 at rule.apart),
+        (refl, (rule.line.each id me.0 at).also_behind, own_once s.views id me.0 at rule.apart, (rule.line.each id me.0 at).owns),
       )
 
   abbrev carried_value : V → List (ℕ × Option V) → V
@@ -423,7 +424,8 @@ module _ {V I R : Type 0} (list : V → List I) (root : V → R) (done : List I 
         (subst (λ (l : List I). All (λ p. p < length l) me.0.own) (sym e) (rule.line.each id me.0 at).owns)
         (apart_set s.views id me.0 (wrote list root done me.0 (list y) me.0.own) at refl rule.apart)
         (λ c. let same : done me.0.seen c ≡ done (list y) c = ap (λ (l : List I). done l c) (sym e) in omega arith)
-        (λ z is. let same = same_value z is in (me.0.own, ap (λ (q : V). (wrote list root done me.0 (list q) me.0.own, me.1)) same, (λ _. refl), (λ x longer_by. absurd (no_longer me.0.seen x (sym e ∙ (ap list same ∙ longer_by))))))
+        (λ z is. let same = same_value z is in (me.0.own, ap (λ (q : V). (wrote list root done me.0 (list q) me.0.own, me.1)) same, (λ _. refl), (λ x longer_by. absurd (no_longer me.0.seen x (sym e ∙ (ap list same ∙ longer_by)))),
+        own_once s.views id me.0 at rule.apart, subst (λ (l : List I). All (λ p. p < length l) me.0.own) (sym e ∙ ap list same) (rule.line.each id me.0 at).owns))
     publishes_at up (inr e) = let last : ℕ = length me.0.seen in let own : List ℕ = me.0.own ++ last ∷ [] in let w : D = wrote list root done me.0 (list y) own in
         let len : length (list y) ≡ suc last = one_more me.0.seen (list y) e.0 e.1 in
         let seat = rule.line.each id me.0 at in let old_owns = seat.owns in
@@ -431,15 +433,18 @@ module _ {V I R : Type 0} (list : V → List I) (root : V → R) (done : List I 
         let none_here : total (λ (v : D). times last v.own) s.views ≡ 0 = total_none (λ (v : D). times last v.own) s.views (λ j v e. let that = rule.line.each j v e in
         let short = prefix_length v.seen the_current that.behind in let same : length me.0.seen ≡ length the_current = ap length mine.2 in
         times_none last (length v.seen) v.own that.owns (omega arith)) in
-        publish_as own (e.0 ∷ [], sym e.1)
-        (All-push (λ p. p < length (list y)) me.0.own last (All-weaker (λ p. p < last) (λ p. p < length (list y)) (λ p a. omega arith) me.0.own old_owns) (omega arith))
-        (λ p. let h = total_set (λ (v : D). times p v.own) s.views id me.0 w at in let b = rule.apart p in dite (ℕ_discrete p last)
+        let within : All (λ p. p < length (list y)) own = All-push (λ p. p < length (list y)) me.0.own last (All-weaker (λ p. p < last) (λ p. p < length (list y)) (λ p a. omega arith) me.0.own old_owns) (omega arith) in
+        let apart : Apart (set s.views id w) = λ p. let h = total_set (λ (v : D). times p v.own) s.views id me.0 w at in let b = rule.apart p in dite (ℕ_discrete p last)
         (λ is. let z : total (λ (v : D). times p v.own) s.views ≡ 0 = subst (λ (q : ℕ). total (λ (v : D). times q v.own) s.views ≡ 0) (sym is) none_here in
         let o : times p me.0.own ≡ 0 = subst (λ (q : ℕ). times q me.0.own ≡ 0) (sym is) (times_none last last me.0.own old_owns (le_refl last)) in
         let new : times p own ≡ 1 = subst (λ (q : ℕ). times q own ≡ 1) (sym is) (times_here last me.0.own (times_none last last me.0.own old_owns (le_refl last))) in omega arith)
-        (λ not. let same : times p own ≡ times p me.0.own = times_last p last me.0.own not in omega arith))
+        (λ not. let same : times p own ≡ times p me.0.own = times_last p last me.0.own not in omega arith) in
+        publish_as own (e.0 ∷ [], sym e.1)
+        within
+        apart
         (λ c. subst (λ (l : List I). done me.0.seen c ≤ done l c) (sym e.1) (up me.0.seen (e.0 ∷ []) c))
-        (λ z is. let same = same_value z is in (own, ap (λ (q : V). (wrote list root done me.0 (list q) own, me.1)) same, (λ kept. absurd (no_longer me.0.seen e.0 (sym kept ∙ (ap list (sym same) ∙ e.1)))), (λ x _. refl)))
+        (λ z is. let same = same_value z is in (own, ap (λ (q : V). (wrote list root done me.0 (list q) own, me.1)) same, (λ kept. absurd (no_longer me.0.seen e.0 (sym kept ∙ (ap list (sym same) ∙ e.1)))), (λ x _. refl),
+        own_once (set s.views id w) id w (set_at s.views id me.0 w at) apart, subst (λ (l : List I). All (λ p. p < length l) own) (ap list same) within))
 
   pub publishes : (slots id : ℕ) (me : M) (n k : ℕ) (y : V) → ((xs zs : List I) (c : ℕ) → done xs c ≤ done (xs ++ zs) c) → me.0.stage ≡ Holding n → me.1 ≡ (0, Some y) ∷ [] → Grows me.0.seen (list y) → me.0.root ≡ Some (root y) → k ≡ length (list y)
       → Allows Rule slots id me 2 (λ _. k) (λ _. published list root done (step slots 2 k 0 none) me k)
@@ -578,10 +583,16 @@ module _ {V I R : Type 0} (list : V → List I) (root : V → R) (done : List I 
 
   -- the seat that was called finds the value at home
   pub rests : (s : St) (id : ℕ) (v : D) (n : ℕ) → Rule s → get_elem? s.views id ≡ some v → v.stage ≡ Called n
-      → (y : V) × (get_elem? s.homes 0 ≡ some (some (Some y))) × IsPrefix v.seen (list y) × ((x : R) → v.root ≡ Some x → root y ≡ x)
-  rests s id v n rule at is = let sv : ℕ = rule.served in let t : ℕ = rule.ticket in let cur : List I = rule.current in let seat = rule.line.each id v at in ⊎_elim
+      → (y : V) × (get_elem? s.homes 0 ≡ some (some (Some y))) × IsTaken list root done v y
+  rests s id v n rule at is = let sv : ℕ = rule.served in let t : ℕ = rule.ticket in let cur : List I = rule.current in let fs : List ℕ = rule.fence_words in let seat = rule.line.each id v at in ⊎_elim
       (λ (h : Home cur s.homes s.views).
-      (h.0, subst (λ (hs : Homes). get_elem? hs 0 ≡ some (some (Some h.0))) (sym h.1) refl, subst (λ (l : List I). IsPrefix v.seen l) (sym h.2) seat.behind, (λ x e. h.3 ∙ sym (seat.rooted x e))))
+      (h.0, subst (λ (hs : Homes). get_elem? hs 0 ≡ some (some (Some h.0))) (sym h.1) refl, record {
+        before = subst (λ (l : List I). IsPrefix v.seen l) (sym h.2) seat.behind;
+        same_root = λ x e. h.3 ∙ sym (seat.rooted x e);
+        once = own_once s.views id v at rule.apart;
+        within = seat.owns;
+        fences = subst (λ (l : List I). IsDone list root done l v) (sym h.2) (done_below cur fs v seat.reached rule.done_all);
+      }))
       (λ h. let j = h.1.0 in let u = h.1.1 in
       let k = subst (Knows sv t cur v.seen) is seat.knows in
       let had : Has sv v.stage = subst (λ (z : Stage). Has sv z) (sym is) (sym k.0) in
@@ -592,16 +603,16 @@ module _ {V I R : Type 0} (list : V → List I) (root : V → R) (done : List I 
 
   -- so it is what a closed table has
   pub closes : (id : ℕ) (v : D) (n : ℕ) (ws : List ℕ) (xs : List (Option V)) (got : Option V) → Final (Seen Rule id v) ws xs → v.stage ≡ Called n → get_elem? xs 0 ≡ some got
-      → (y : V) × (got ≡ Some y) × IsPrefix v.seen (list y) × ((x : R) → v.root ≡ Some x → root y ≡ x)
+      → (y : V) × (got ≡ Some y) × IsTaken list root done v y
   closes id v n ws xs got end is e = let q = rests end.0 id v n end.1.0 end.1.1 is in
-      (q.0, some-injective got (Some q.0) (sym e ∙ end.4 0 (Some q.0) q.1), q.2, q.3)
+      (q.0, some-injective got (Some q.0) (sym e ∙ end.4 0 (Some q.0) q.1), q.2)
 
-  pub closes_with : (id : ℕ) (v u : D) (n : ℕ) (ws : List ℕ) (xs : List (Option V)) (got : Option V) → Final (Seen Rule id v) ws xs → v.stage ≡ Called n → get_elem? xs 0 ≡ some got
-      → v.seen ≡ u.seen → v.root ≡ u.root → (y : V) → got ≡ Some y → IsPrefix u.seen (list y) × ((x : R) → u.root ≡ Some x → root y ≡ x)
-  closes_with id v u n ws xs got end is e same_seen same_root y taken = let t = closes id v n ws xs got end is e in let same : t.0 ≡ y = let q : Some t.0 ≡ Some y = sym t.1 ∙ taken in cc in (
-    subst (λ (z : List I × V). IsPrefix z.0 (list z.1)) (λ i. (same_seen i, same i)) t.2,
-    (λ x h. ap root (sym same) ∙ t.3 x (same_root ∙ h)),
-  )
+  -- of a view that drew its number and was called since
+  pub closes_with : (id : ℕ) (v u : D) (n : ℕ) (ws : List ℕ) (xs : List (Option V)) (got : Option V) → Final (Seen Rule id v) ws xs → v ≡ staged u (Called n) → get_elem? xs 0 ≡ some got
+      → (y : V) → got ≡ Some y → IsTaken list root done u y
+  closes_with id v u n ws xs got end is e y taken = let t = closes id v n ws xs got end (ap (λ (z : D). z.stage) is) e in let same : t.0 ≡ y = let q : Some t.0 ≡ Some y = sym t.1 ∙ taken in cc in
+      let k : IsTaken list root done (staged u (Called n)) y = subst (λ (z : D × V). IsTaken list root done z.0 z.1) (λ i. (is i, same i)) t.2 in
+      record { before = k.before; same_root = k.same_root; once = k.once; within = k.within; fences = k.fences }
 
   abbrev unset : ℕ → List ℕ
   unset n = replicate n 0

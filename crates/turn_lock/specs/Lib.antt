@@ -1,4 +1,4 @@
 pub mod Growing
 pub mod Turning
 pub mod Locks
-pub mod Spells
+pub mod Batches

@@ -3,10 +3,10 @@ ghost use Rattle.std.specs.Prelude.{◌≡◌, ◌≢◌, ℕ, ◌+◌, ◌<◌,
 ghost use mathlib.Core.List.{IsPrefix};
 ghost use Rattle.turn_lock.specs.Growing.{Grows};
 ghost use Rattle.turn_lock.specs.declared.Stage.TheVariants.{Idle, Waiting, Called, Holding};
-ghost use Rattle.turn_lock.specs.Turning.{staged, fenced, told, joined, longer, start, Once, Took, IsDone, IsFree, IsHolder, IsSame};
+ghost use Rattle.turn_lock.specs.Turning.{staged, fenced, told, joined, longer, start, Once, Took, IsDone, IsFree, IsHolder, IsSame, IsWithin};
 
 use super::plays::{Advance, Call, Draw, Look, Merge, Peek, Publish, Raise, Settle, Tell};
-use super::{Floor, Lanes, Pass};
+use super::{Handoff, Lanes, Pass};
 use atomic_table::{Refused, Table};
 use std::alloc::{AllocError, Global};
 use std::hint::spin_loop;
@@ -28,7 +28,7 @@ const LOOKS: u64 = 200;
 pub struct Turns<V: Logged> {
     table: Lanes<V>,
     contexts: u32,
-    floor: Floor,
+    handoff: Handoff,
     ghost sized: { (table.shared.table_id.words ≡ contexts + 3) × (table.shared.table_id.slots ≡ 1) × (table.shared.key.1 ≡ contexts) },
 }
 
@@ -71,7 +71,7 @@ impl<V: Logged> Turns<V> {
                 Turns {
                     table,
                     contexts,
-                    floor: Floor::new(),
+                    handoff: Handoff::new(),
                 },
                 pass,
             )),
@@ -86,9 +86,9 @@ impl<V: Logged> Turns<V> {
         self.contexts
     }
 
-    /// Who goes on with turns.
-    pub fn floor(&self) -> &Floor {
-        &self.floor
+    /// Lends the handoff, by which callers take turns in batches.
+    pub fn handoff(&self) -> &Handoff {
+        &self.handoff
     }
 
     /// A second pass, which has seen the same.
@@ -108,6 +108,7 @@ impl<V: Logged> Turns<V> {
         ensures same { IsSame pass.old pass.new × (pass.new.me ≡ (joined pass.old.me.0 other.me.0, [])) }
         ensures seen { IsPrefix pass.old.me.0.seen pass.new.me.0.seen × IsPrefix other.me.0.seen pass.new.me.0.seen }
         ensures once { Once pass.new.me.0.own }
+        ensures within { IsWithin pass.new.me.0.seen pass.new.me.0.own }
     {
         self.table.shared.join_seat::<Merge>(pass, other);
         self.table.shared.load::<Settle>(pass, TICKET);
@@ -172,6 +173,7 @@ impl<V: Logged> Turns<V> {
         ensures seen { pass.new.me.0.seen ≡ V.list result.value }
         ensures root { (pass.new.me.0.root ≡ Some (V.root result.value)) × ((r : _) → pass.old.me.0.root ≡ Some r → V.root result.value ≡ r) }
         ensures own { (pass.new.me.0.own ≡ pass.old.me.0.own) × Once pass.new.me.0.own }
+        ensures within { IsWithin pass.old.me.0.seen pass.new.me.0.own }
         ensures fences { (pass.new.me.0.fences ≡ pass.old.me.0.fences) × All (λ f. f.1 ≤ V.done (V.list result.value) f.0) pass.new.me.0.fences }
     {
         let number = self.draw(rt, pass);
@@ -193,6 +195,8 @@ impl<V: Logged> Turns<V> {
         ensures root { pass.new.me.0.root ≡ pass.old.me.0.root }
         ensures none_made { V.list held.value ≡ pass.old.me.0.seen → pass.new.me.0.own ≡ pass.old.me.0.own }
         ensures one_made { (e : _) → V.list held.value ≡ pass.old.me.0.seen ++ e ∷ [] → pass.new.me.0.own ≡ pass.old.me.0.own ++ length pass.old.me.0.seen ∷ [] }
+        ensures once { Once pass.new.me.0.own }
+        ensures within { IsWithin pass.new.me.0.seen pass.new.me.0.own }
         ensures fences { pass.new.me.0.fences ≡ pass.old.me.0.fences }
     {
         let Held { value } = held;
@@ -228,13 +232,15 @@ impl<V: Logged> Turns<V> {
         requires free { IsFree pass }
         ensures before { IsPrefix pass.me.0.seen (V.list result) }
         ensures root { (r : _) → pass.me.0.root ≡ Some r → V.root result ≡ r }
+        ensures own { Once pass.me.0.own × IsWithin pass.me.0.seen pass.me.0.own }
+        ensures fences { All (λ f. f.1 ≤ V.done (V.list result) f.0) pass.me.0.fences }
     {
         let number = self.draw(rt, &mut pass);
         self.call(rt, &mut pass, number);
         let Turns {
             table,
             contexts: _,
-            floor: _,
+            handoff: _,
         } = self;
         let mut closed = table.close_with(pass);
         let slot = closed.take(0);

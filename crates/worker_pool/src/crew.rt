@@ -1,7 +1,7 @@
 //! One worker.
 ghost use Rattle.std.specs.Prelude.{◌≡◌, ℕ, ◌≤◌, Some, IfOk, length, true};
 ghost use Rattle.turn_lock.specs.Locks.{lock_id, context_count};
-ghost use Rattle.turn_lock.specs.Turning.{IsFree};
+ghost use Rattle.turn_lock.specs.Turning.{IsFree, IsOnward};
 
 use crate::{Gate, work};
 use std::sync::Wait;
@@ -21,9 +21,8 @@ pub fn worked<R: Wait, V: Stepper, G: Gate>(
     requires free { IsFree pass }
     requires actor { (1 ≤ worker) × (worker ≤ length actors.now) }
     ensures own { result.1.table_id ≡ lock_id turns.now }
-    ensures free { IsFree result.1 }
+    ensures onward { IsOnward pass result.1 }
     ensures over { IfOk result.0 (λ _. (r : _) × (result.1.me.0.root ≡ Some r) × (V.is_over r result.1.me.0.seen ≡ true)) }
-    ensures root { (r : _) → pass.me.0.root ≡ Some r → result.1.me.0.root ≡ Some r }
 {
     let answer = work(rt, turns, &mut pass, gate, worker, actors);
     (answer, pass)

@@ -88,9 +88,9 @@ fn side_by_side<R: Threads + Wait + Sync, V: Stepper + Send, G: Gate + Sync>(
     requires last { (1 ≤ last) × (last ≤ length actors.now) }
     ensures own { IfOk result.0 (λ v. All (λ b. b.1.table_id ≡ lock_id turns.now) v.items) }
     ensures free { IfOk result.0 (λ v. All (λ b. IsFree b.1) v.items) }
-    ensures last_own { (result.1.1.table_id ≡ lock_id turns.now) × IsFree result.1.1 }
+    ensures last_own { result.1.1.table_id ≡ lock_id turns.now }
+    ensures onward { IsOnward pass result.1.1 }
     ensures over { IfOk result.1.0 (λ _. (r : _) × (result.1.1.me.0.root ≡ Some r) × (V.is_over r result.1.1.me.0.seen ≡ true)) }
-    ensures root { (r : _) → pass.me.0.root ≡ Some r → result.1.1.me.0.root ≡ Some r }
 {
     join(
         rt,
@@ -114,8 +114,8 @@ pub fn work_all<R: Threads + Wait + Sync, V: Stepper + Send, G: Gate + Sync>(
     requires own { pass.table_id ≡ lock_id turns.now }
     requires free { IsFree pass }
     requires actors { (1 ≤ length actors.now) × (length actors.now < 2 ^ 32) }
-    ensures own { (result.1.table_id ≡ lock_id turns.now) × IsFree result.1 }
-    ensures root { (r : _) → pass.me.0.root ≡ Some r → result.1.me.0.root ≡ Some r }
+    ensures own { result.1.table_id ≡ lock_id turns.now }
+    ensures onward { IsOnward pass result.1 }
     ensures over { IfOk result.0 (λ _. (xs : _) × IsPrefix xs result.1.me.0.seen × ((r : _) × (result.1.me.0.root ≡ Some r) × (V.is_over r xs ≡ true))) }
 {
     let last = actors.len() as u32;
@@ -134,8 +134,8 @@ fn with_all<V: Stepper>(turns: &Turns<V>, back: Back<V>, backs: Vec<Back<V>, Glo
     requires backs_own { All (λ b. b.1.table_id ≡ lock_id turns.now) backs.items }
     requires backs_free { All (λ b. IsFree b.1) backs.items }
     requires over { IfOk back.0 (λ _. (r : _) × (back.1.me.0.root ≡ Some r) × (V.is_over r back.1.me.0.seen ≡ true)) }
-    ensures own { (result.1.table_id ≡ lock_id turns.now) × IsFree result.1 }
-    ensures root { (r : _) → back.1.me.0.root ≡ Some r → result.1.me.0.root ≡ Some r }
+    ensures own { result.1.table_id ≡ lock_id turns.now }
+    ensures onward { IsOnward back.1 result.1 }
     ensures over { IfOk result.0 (λ _. (xs : _) × IsPrefix xs result.1.me.0.seen × ((r : _) × (result.1.me.0.root ≡ Some r) × (V.is_over r xs ≡ true))) }
 {
     let (answer, mut pass) = back;

@@ -14,7 +14,7 @@ pub use crew::Back;
 pub use crowd::work_all;
 use std::sync::Wait;
 use ttm_base::{Actor, JobId, Need, NoMemory, Stepper, Turn};
-use turn_lock::{Held, Pass, Spell, Turns};
+use turn_lock::{Batch, Held, Pass, Turns};
 
 /// Called by a worker before each of its turns, while it holds none.
 pub trait Gate {
@@ -36,7 +36,7 @@ enum Offered {
     Over,
 }
 
-// What a turn takes of the worker's spell. An entry of another actor takes more, since that actor's own worker makes it sooner.
+// What a turn costs of the budget of the worker's batch. An entry of another actor costs more, since that actor's own worker makes it sooner.
 fn cost_of(offered: &Result<Offered, NoMemory>) -> u64
     ensures { result ≡ cost_of offered.now }
 {
@@ -108,9 +108,11 @@ fn reached<V: Stepper>(
 
 fn raise_to<V: Stepper>(turns: &Turns<V>, pass: &mut Pass<V>, raise: Option<(u32, u64)>)
     requires own { pass.old.table_id ≡ lock_id turns.now }
+    requires free { IsFree pass.old }
     requires inside { IfSome raise (λ f. f.0 < context_count turns.now) }
     requires done { IfSome raise (λ f. f.1 ≤ V.done pass.old.me.0.seen f.0) }
-    ensures { IsSame pass.old pass.new × (pass.new.me.0.stage ≡ pass.old.me.0.stage) × (pass.new.me.0.seen ≡ pass.old.me.0.seen) × (pass.new.me.0.root ≡ pass.old.me.0.root) × (pass.new.me.1 ≡ pass.old.me.1) }
+    ensures onward { IsOnward pass.old pass.new }
+    ensures seen { pass.new.me.0.seen ≡ pass.old.me.0.seen }
 {
     if let Some((ctx, num)) = raise {
         turns.raise_fence(pass, ctx, num);
@@ -182,14 +184,14 @@ pub fn work<R: Wait, V: Stepper, G: Gate>(
     let own = worker as usize - 1;
     let mut blocked: Option<JobId> = None;
     let mut number = 0u64;
-    let mut spell: Option<Spell> = None;
+    let mut batch: Option<Batch> = None;
     for _ in rt.forever() {
         number = number.saturating_add(1);
         gate.before_turn(worker, number);
-        let going = turns.floor().go_on(rt, spell);
+        let current = turns.handoff().resume(rt, batch);
         blocked = still_blocked(turns, pass, blocked);
         let offered = turn(rt, turns, pass, actors, own, blocked);
-        spell = Some(turns.floor().spend(going, cost_of(&offered)));
+        batch = Some(turns.handoff().charge(current, cost_of(&offered)));
         match offered? {
             Offered::Own => blocked = None,
             Offered::Other(_, need) => blocked = need,

@@ -18,7 +18,7 @@ pub returns-in-Ok : goal.returns-in-Ok
 returns-in-Ok g c =
     let first : c.in_ok-turns.pass.me.0.root ≡ Some c.args.script =
     ap (λ m. m.0.root) c.in_ok-turns.ensures.1 ∙ ap (λ (d : Kept). Some d.script) c.in_ok-device.ensures in
-    let seen = c.work_all-answer.ensures.root c.args.script first in
+    let seen = c.work_all-answer.ensures.onward.root c.args.script first in
     finished c.args.script c.close-device.result c.work_all-answer.result.1.me.0.seen c.work_all-answer.result.1.me.0.root c.requires
     (at_ok _ c.work_all-answer.result.0 _ c.in-Ok.is c.work_all-answer.ensures.over)
     seen c.close-device.ensures.before (c.close-device.ensures.root c.args.script seen) c.journal-legal.ensures.legal

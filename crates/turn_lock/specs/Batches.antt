@@ -1,0 +1,12 @@
+-- The budget of a batch of turns.
+use Rattle.std.specs.Prelude.{◌≡◌, ◌≤◌, ◌⊎◌, Option, Some}
+use Rattle.turn_lock.specs.declared.batch.Batch.{Batch}
+
+-- a batch begins with a budget of 1 to 64
+pub record Begins (batch : Batch) : Type 0 where
+  pub some : 1 ≤ batch.left
+  pub few : batch.left ≤ 64
+
+-- the caller's own batch goes on, or one begins
+abbrev pub Resumes : Option Batch → Batch → Type 0
+Resumes before batch = (before ≡ Some batch) ⊎ Begins batch
