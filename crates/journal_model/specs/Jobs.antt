@@ -13,11 +13,11 @@ pub record ArePending (jobs pending : List Job) : Type 0 where
   pub joined : jobs ≡ closed ++ pending
   pub done : IsTrue (list_all (λ j. j.finished) closed)
 
--- the job is another, or one more packet of it can be counted
+-- the job is another, or has run so few packets that one more can be counted in 32 bits
 abbrev pub has_packets_left : JobId → Job → Bool
 has_packets_left i j = not (same_job i j.id) || nat_lt (j.ran + 1) (2 ^ 32)
 
--- the closed jobs are done, and share no name with an pending one
+-- the closed jobs are done, and share no name with a pending one
 pub record AreClosed (closed pending : List Job) : Type 0 where
   pub done : IsTrue (list_all (λ j. j.finished) closed)
   pub apart : IsTrue (list_all (λ j. not (list_any (λ k. same_job j.id k.id) pending)) closed)

@@ -43,11 +43,11 @@ pages_given c (kind.Bind b) = pages_of (target_spans Tt (buffer_in c b))
 pages_given c (kind.Move b Tt n l) = pages_of (target_spans Tt (buffer_in c b))
 pages_given c _ = []
 
--- no unfinished job names one of these pages of the aperture
+-- the job isn't done, and a packet of it, which has run or not, names the page of the aperture
 abbrev pub job_names : ℕ → Job → Bool
 job_names page j = not j.finished && list_any (packet_names page) j.packets
 
--- no job is at work on one of these pages
+-- no unfinished job names one of these pages of the aperture
 abbrev pub are_unnamed : Core → List ℕ → Bool
 are_unnamed c pages = list_all (λ page. not (list_any (job_names page) c.jobs)) pages
 

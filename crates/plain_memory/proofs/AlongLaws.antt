@@ -1,6 +1,6 @@
 -- The memory and the numbers of answered commands, as code keeps them, are those of the definition along a journal; and mismatches
 -- are counted from the front and at the end alike.
-use Rattle.std.proofs.Common.{◌≡◌, ◌≢◌, ℕ, zero, suc, ◌+◌, ◌-◌, ◌≤◌, ◌<◌, Bool, true, false, inl, inr, refl, ap, subst, sym, ◌∙◌, List, [], ◌∷◌, ◌++◌, length, take, get_or, replicate, Option, unwrap_or, IsTrue, arith, add_assoc, if◌then◌else◌}
+use Rattle.std.proofs.Common.{◌≡◌, ◌≢◌, ℕ, zero, suc, ◌+◌, ◌-◌, ◌≤◌, ◌<◌, Bool, true, false, inl, inr, refl, ap, subst, sym, ◌∙◌, List, [], ◌∷◌, ◌++◌, length, take, get_or, replicate, Option, Some, None, unwrap_or, IsTrue, arith, add_assoc, if◌then◌else◌}
 use Rattle.std.specs.Prelude.{◌==◌, slice_get, fold, not}
 use Rattle.std.proofs.Math.ListN.{set}
 use Rattle.std.proofs.lemmas.Bool.{cases_lt}
@@ -21,12 +21,12 @@ use Rattle.journal_model.specs.declared.entry.Shown.TheVariants as shown
 use Rattle.journal_model.specs.Apply.{thread_of}
 use Rattle.journal_model.specs.Commands.{commands_of}
 use Rattle.journal_model.specs.PlainMemory.{Memory, Plain, first_plain, plain_of, plain_after, plain_after_kind, command_of, answered_one_more}
-use Rattle.journal_model.specs.Transparent.{read_of, IsKindPlain, IsTransparentFrom, IsTransparent}
+use Rattle.journal_model.specs.Transparent.{bytes_shown, bytes_owed, IsKindPlain, IsTransparentFrom, IsTransparent}
 use Rattle.plain_memory.specs.Kept.{BecomesMemory, memory_in, sizes_in, sizes_of}
 use Rattle.journal_model.specs.ScriptRules.{is_script}
 use Rattle.plain_memory.specs.Fits.{CommandFits}
 use Rattle.plain_memory.specs.Along.{memory_after, is_answer, command_by, counts_after, IsPlain}
-use Rattle.plain_memory.specs.Mismatches.{is_mismatch, mismatch_at, mismatches_from, mismatches_of}
+use Rattle.plain_memory.specs.Mismatches.{shows, is_mismatch, mismatch_at, mismatches_from, mismatches_of}
 use Rattle.plain_memory.proofs.RoomLaws.{zeros}
 use Rattle.plain_memory.proofs.FitLaws.{command_fits}
 
@@ -51,9 +51,17 @@ memory_stays command (kind.Arm engine n) memory x y z v = absurd (z engine n ref
 memory_stays command (kind.Result r) memory x y z v = absurd (v r refl)
 memory_stays command k memory x y z v = refl
 
+shows_so : (r : Shown) (owed : Option (List ℕ)) → bytes_shown r ≡ owed → shows r owed ≡ true
+shows_so (shown.Read bytes) (Some owed) h = (bytes_eq-Decides bytes owed).1 (let e : bytes ≡ owed = cc in e)
+shows_so (shown.Read bytes) None h = cc
+shows_so shown.Plain (Some owed) h = cc
+shows_so shown.Plain None h = refl
+shows_so (shown.Find mem spans) (Some owed) h = cc
+shows_so (shown.Find mem spans) None h = refl
+
 -- an entry that is transparent is no mismatch
 no_mismatch : (script : Script) (p : Plain) (who : Actor) (k : Kind) → IsKindPlain script p who k → mismatch_at script p (record { who = who; kind = k }) ≡ 0
-no_mismatch script p who (kind.Result (shown.Read bytes)) h = let e = (bytes_eq-Decides bytes (read_of (command_of script p (thread_of who)) p.memory)).1 h in let count : Bool → ℕ = λ b. if not b then 1 else 0 in ap count e
+no_mismatch script p who (kind.Result r) h = let count : Bool → ℕ = λ b. if not b then 1 else 0 in ap count (shows_so r (bytes_owed (command_of script p (thread_of who)) p.memory) h)
 no_mismatch script p who k h = refl
 
 no_mismatches : (script : Script) (p : Plain) (es : List Entry) → IsTransparentFrom script p es → mismatches_from script p es ≡ 0

@@ -1,19 +1,27 @@
--- The reads of a journal that show other bytes than the plain memory has.
-use Rattle.std.specs.Prelude.{ℕ, ◌+◌, Bool, false, List, [], ◌∷◌, Option, not, if◌then◌else◌}
+-- The results of a journal that show other bytes than the plain memory has.
+use Rattle.std.specs.Prelude.{ℕ, ◌+◌, Bool, true, false, List, [], ◌∷◌, Option, Some, None, not, if◌then◌else◌}
 use Rattle.std.specs.Str.{bytes_eq}
 use Rattle.journal_model.specs.declared.script.Script.{Script}
 use Rattle.journal_model.specs.declared.script.Command.{Command}
 use Rattle.journal_model.specs.declared.entry.Entry.{Entry}
 use Rattle.journal_model.specs.declared.entry.Kind.{Kind}
 use Rattle.journal_model.specs.declared.entry.Kind.TheVariants as kind
+use Rattle.journal_model.specs.declared.entry.Shown.{Shown}
 use Rattle.journal_model.specs.declared.entry.Shown.TheVariants as shown
 use Rattle.journal_model.specs.Apply.{thread_of}
 use Rattle.journal_model.specs.PlainMemory.{Memory, Plain, first_plain, plain_after, command_of}
-use Rattle.journal_model.specs.Transparent.{read_of}
+use Rattle.journal_model.specs.Transparent.{bytes_owed}
 
--- a read of a thread at this command shows other bytes than it has to
+-- a result shows these bytes, or none where none are owed
+abbrev pub shows : Shown → Option (List ℕ) → Bool
+shows (shown.Read bytes) (Some owed) = bytes_eq bytes owed
+shows (shown.Read bytes) None = false
+shows _ (Some owed) = false
+shows _ None = true
+
+-- the result of a thread at this command shows other bytes than it has to
 abbrev pub is_mismatch : Option Command → Memory → Kind → Bool
-is_mismatch command memory (kind.Result (shown.Read bytes)) = not (bytes_eq bytes (read_of command memory))
+is_mismatch command memory (kind.Result r) = not (shows r (bytes_owed command memory))
 is_mismatch command memory _ = false
 
 -- 1 for an entry that is a mismatch, and 0 for another

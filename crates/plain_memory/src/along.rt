@@ -3,7 +3,7 @@ ghost use Rattle.journal_model.specs.Apply as actors;
 ghost use Rattle.journal_model.specs.ApplyJobs as jobs;
 ghost use Rattle.journal_model.specs.PlainMemory.{memory_after_result, with_zeros};
 ghost use Rattle.journal_model.specs.ScriptRules.{is_script};
-ghost use Rattle.journal_model.specs.Transparent.{read_of, IsTransparent};
+ghost use Rattle.journal_model.specs.Transparent.{bytes_owed, IsTransparent};
 ghost use Rattle.plain_memory.specs.Along as words;
 ghost use Rattle.plain_memory.specs.Fits.{CommandFits};
 ghost use Rattle.plain_memory.specs.Kept.{BecomesMemory, memory_in, sizes_in};
@@ -38,26 +38,30 @@ fn ops_of(command: Option<&Command>) -> &[Op]
     }
 }
 
-/// What a read has to show.
-fn expected<'a>(memory: &'a PlainMemory, command: Option<&Command>) -> &'a [u8]
+/// Whether a result shows the bytes that its command has to show: a read those of the memory, and any other command none.
+fn shows(memory: &PlainMemory, command: Option<&Command>, shown: &Shown) -> bool
     requires { CommandFits (sizes_in memory.now) (option_copied command) }
-    ensures { result.now ≡ read_of (option_copied command.entry) (memory_in memory.now) }
+    ensures { result ≡ counted.shows shown.now (bytes_owed (option_copied command.entry) (memory_in memory.now)) }
 {
     match command {
-        Some(Command::Read { b, off, len }) => memory.range(*b, *off, *len),
-        _ => &[],
+        Some(Command::Read { b, off, len }) => match shown {
+            Shown::Read(bytes) => bytes.items() == memory.range(*b, *off, *len),
+            _ => false,
+        },
+        _ => match shown {
+            Shown::Read(_) => false,
+            _ => true,
+        },
     }
 }
 
-/// Whether a read shows other bytes than it has to.
+/// Whether a result shows other bytes than it has to.
 fn is_mismatch(memory: &PlainMemory, command: Option<&Command>, kind: &Kind) -> bool
     requires { CommandFits (sizes_in memory.now) (option_copied command) }
     ensures { result ≡ counted.is_mismatch (option_copied command.entry) (memory_in memory.now) kind.now }
 {
     match kind {
-        Kind::Result {
-            shown: Shown::Read(bytes),
-        } => bytes.items() != expected(memory, command),
+        Kind::Result { shown } => !shows(memory, command, shown),
         _ => false,
     }
 }
@@ -158,7 +162,7 @@ fn no_answers(alloc: Global, threads: usize) -> Result<Numbers, NoMemory>
     Ok(answered)
 }
 
-/// How many reads of a journal show other bytes than the plain memory has, in time linear in the journal and the bytes that
+/// How many results of a journal show other bytes than the plain memory has, in time linear in the journal and the bytes that
 /// its entries touch. The buffers of the script take their whole size in memory.
 pub fn mismatches(alloc: Global, script: &Script, journal: &[Entry]) -> Result<u64, NoMemory>
     requires { IsTrue (is_script script.now) }

@@ -1,5 +1,5 @@
 -- The state after a thread's command was armed or answered, or freed a buffer, in the words of the code.
-use Rattle.std.proofs.Common.{◌≡◌, ℕ, ◌+◌, ◌-◌, List, [], ◌∷◌, ◌++◌, Bool, true, false, Option, Some, None, sym, ap, subst, arith}
+use Rattle.std.proofs.Common.{◌≡◌, ℕ, ◌+◌, ◌-◌, List, [], ◌∷◌, ◌++◌, Bool, true, false, Option, Some, None, refl, sym, ◌∙◌, ap, subst, arith}
 use Rattle.std.proofs.lemmas.Bool.{false≢true}
 use Rattle.std.proofs.lemmas.Bool.Decides.{nat_tests}
 use Rattle.std.specs.Prelude.{◌≢◌, ◌==◌, IsSome, if◌then◌else◌, filter, flat_map, fold, slice_get, slice_set, unwrap_or}
@@ -15,7 +15,7 @@ use Rattle.journal_model.specs.declared.state.Core.{Core}
 use Rattle.journal_model.specs.declared.state.Buffer.{Buffer}
 use Rattle.journal_model.specs.declared.state.Course.{Course}
 use Rattle.journal_model.specs.declared.state.Reservation.{Reservation}
-use Rattle.journal_model.specs.State.{buffer_in, course, has_buffer, new_course, no_reservation, without_buffer}
+use Rattle.journal_model.specs.State.{buffer_in, course, has_buffer, new_course, no_reservation, without_buffer, with_course}
 use Rattle.journal_model.specs.Commands.{command_at_work}
 use Rattle.journal_model.specs.Places.{packet_place}
 use Rattle.journal_model.specs.Waits.{jobs_before_use}
@@ -33,6 +33,18 @@ course_by false found x there e = sym (ap (λ o. unwrap_or o (new_course 0)) e)
 course_is : (s : State) (t : ℕ) (x : Course) → IsThread s t → slice_get s.courses (t - 1) ≡ Some x → x ≡ course s t
 course_is s t x there e = course_by (t == 0) (slice_get s.courses (t - 1)) x there e
 
+-- the number of a thread that is there isn't 0
+number_is : (s : State) (t : ℕ) → IsThread s t → (t == 0) ≡ false
+number_is s t there = by (t == 0) there
+  where
+    by : (q : Bool) → IsSome (if q then None else slice_get s.courses (t - 1)) → q ≡ false
+    by true h = absurd (false≢true h)
+    by false h = refl
+
+-- the courses that the code writes
+set_is : (s : State) (courses : List Course) (t : ℕ) (x : Course) → IsThread s t → slice_set courses (t - 1) x ≡ with_course courses t x
+set_is s courses t x there = sym (ap (λ q. if q then courses else slice_set courses (t - 1) x) (number_is s t there))
+
 -- a job that was armed
 pub after_arm_is : (script : Script) (s : State) (t : ℕ) (job : JobId) (cmd : Option Command) (ops : List Op) (bs read used : List BufId) (waits : List JobId) (packets : List Packet) (core : Core) (last_jobs : List ℕ) (x : Course) →
     IsThread s t → cmd ≡ command_at_work script s t → ops ≡ ops_of cmd → bs ≡ named_in cmd → read ≡ bs → used ≡ bs →
@@ -41,7 +53,9 @@ pub after_arm_is : (script : Script) (s : State) (t : ℕ) (job : JobId) (cmd : 
     last_jobs ≡ slice_set s.last_jobs job.ctx job.num → slice_get s.courses (t - 1) ≡ Some x →
     record s { core = core; last_jobs = last_jobs; courses = slice_set s.courses (t - 1) (has_made x) } ≡ after_arm script s t job.ctx job.num
 after_arm_is script s t job cmd ops bs read used waits packets core last_jobs x there m o b r u w p k l e =
-    let y : x ≡ course s t = course_is s t x there e in rw (k, l, w, p, r, u, b, o, m, y)
+    let y : x ≡ course s t = course_is s t x there e in
+    let set : slice_set s.courses (t - 1) (has_made x) ≡ with_course s.courses t (has_made x) = set_is s s.courses t (has_made x) there in
+    rw (set, k, l, w, p, r, u, b, o, m, y)
 
 -- a command that was answered
 pub after_result_is : (script : Script) (s : State) (t : ℕ) (cmd : Option Command) (x next : Course) (held touching : List BufId) (reservations read : List Reservation) (buffers : List (Option Buffer)) (old lists : List (List BufId)) (courses : List Course) →
@@ -50,7 +64,9 @@ pub after_result_is : (script : Script) (s : State) (t : ℕ) (cmd : Option Comm
     lists ≡ fold (touched script buffers read) old (filter (has_buffer touching) (named_in cmd)) → courses ≡ slice_set s.courses (t - 1) next →
     record s { reservations = reservations; lists = lists; courses = courses } ≡ after_result script s t
 after_result_is script s t cmd x next held touching reservations read buffers old lists courses there m e n h u g b r o l k =
-    let y : x ≡ course s t = course_is s t x there e in rw (l, k, r, o, b, g, h, u, n, m, y)
+    let y : x ≡ course s t = course_is s t x there e in
+    let set : courses ≡ with_course s.courses t next = k ∙ set_is s s.courses t next there in
+    rw (l, set, r, o, b, g, h, u, n, m, y)
 
 -- the number of the last ghost, by whether one was left
 pub last_ghost_left : (num old : ℕ) → num ≢ 0 → num ≡ (if num == 0 then old else num)
@@ -69,4 +85,5 @@ pub after_free_is : (s z : State) (t : ℕ) (b : BufId) (num : ℕ) (x y : Cours
 after_free_is s z t b num x y read held old lists core buffers reservation reservations last_ghost there e r h o l k f g i n w d =
     let before : x ≡ course s t = course_is s t x there e in
     let now : y ≡ course s t = course_is s t y there (subst (λ (v : State). slice_get v.courses (t - 1) ≡ Some y) w d) in
-    rw (w, f, k, i, g, l, o, h, r, n, before, now)
+    let set : slice_set z.courses (t - 1) (record y { held = held; made = true }) ≡ with_course z.courses t (record y { held = held; made = true }) = set_is s z.courses t (record y { held = held; made = true }) there in
+    rw (set, w, f, k, i, g, l, o, h, r, n, before, now)

@@ -1,6 +1,6 @@
 -- The cause of each entry that gives up, by what is known of its thread's searches.
 use Rattle.std.proofs.Common.{◌≡◌, ℕ, Bool, true, false, List, [], ◌∷◌, length, Option, Some, None, Ok, refl, sym, ◌∙◌, ap, ap₂, subst, arith, ◌⊎◌, inl, inr, ⊎_elim}
-use Rattle.std.specs.Prelude.{not, nat_lt, is_none, unwrap_or, option_map, slice_get, ◌==◌, ◌&&◌, ◌||◌, if◌then◌else◌}
+use Rattle.std.specs.Prelude.{not, nat_lt, is_none, unwrap_or, option_map, option_and_then, slice_get, ◌==◌, ◌&&◌, ◌||◌, if◌then◌else◌}
 use Rattle.std.specs.List.{list_any, list_all}
 use Rattle.std.proofs.lemmas.Grind.{common_steps}
 use Rattle.std.proofs.lemmas.Bool.{or_left, or_right, or_cases}
@@ -27,10 +27,14 @@ use Rattle.journal_model.specs.declared.state.Task.TheVariants as task
 use Rattle.journal_model.specs.declared.entry.Kind.{Kind}
 use Rattle.journal_model.specs.declared.entry.Kind.TheVariants as kind
 use Rattle.journal_model.specs.declared.entry.DryWhy.{DryWhy}
+use Rattle.journal_model.specs.declared.entry.DryWhy.TheVariants as dry
+use Rattle.journal_model.specs.declared.entry.Cause.{Cause}
+use Rattle.journal_model.specs.declared.entry.Cause.TheVariants as cause
+use Rattle.journal_model.specs.declared.entry.CauseRow.{CauseRow}
 use Rattle.journal_model.specs.State.{buffer, reservation, course, same_buffer, has_buffer}
 use Rattle.journal_model.specs.Commands.{named, command_at_work}
 use Rattle.journal_model.specs.Holds.{live_buffers, free_frame, free_slot}
-use Rattle.journal_model.specs.Dry.{has_frame, is_loose, swap_victim, ghost_with_frame}
+use Rattle.journal_model.specs.Dry.{has_frame, is_loose, is_dry, swap_victim, ghost_with_frame, dry_why, same_cause, same_rows, same_why}
 use Rattle.journal_model.specs.Ready.{is_in_place, first_unready}
 use Rattle.journal_model.specs.declared.state.SearchAim.TheVariants.{Asked, Hop}
 use Rattle.journal_model.specs.Ready.{has_some_target}
@@ -40,16 +44,16 @@ use Rattle.journal_model.specs.Legal.{Made}
 use Rattle.journal_model.specs.Next.{next, step_of_task}
 use Rattle.laws.proofs.law_state.Moves.{thread_step}
 use Rattle.ttm_base.specs.declared.Actor.TheVariants as actor
-use Rattle.journal_model.specs.Causes.{is_out_of_frames, is_older, in_command, is_no_pages_of, places_sought, search_of, PressedSearch, pressed_by, no_first_had_room, all_went_dry, all_were_dry, is_search_over, is_out_of_space, has_its_cause}
-use Rattle.laws.proofs.law_sound.Turns.{Turn, turn_of, give_up}
+use Rattle.journal_model.specs.Causes.{is_out_of_frames, is_older, is_holder, wants_next, in_command, is_no_pages_of, places_sought, search_of, PressedSearch, pressed_by, no_first_had_room, all_went_dry, all_were_dry, is_search_over, is_out_of_space, has_its_cause}
+use Rattle.laws.proofs.law_sound.Turns.{Turn, turn_of, lock, give_up}
 use Rattle.laws.proofs.law_sound.Gifts.{Gives, task_gives, seeks, fills, backs, exists, no_buffer, no_swap, gives_up, refuses}
-use Rattle.laws.proofs.law_sound.Bufs.{same_is, none_last, last_caught, clash}
+use Rattle.laws.proofs.law_sound.Bufs.{same_self, same_is, none_last, last_caught, clash}
 use Rattle.laws.specs.law_causes.Explains.{Explains}
 use Rattle.laws.proofs.lemma_causes_trail.Found.{Found, dries, place_search_found, Starved, fill_starved}
 use Rattle.laws.proofs.lemma_causes_trail.Windows.{Trail}
 use Rattle.laws.proofs.lemma_causes_trail.Tasks.{places_of, place_search_places, aim_is_named, Searcher, searcher_of, victims, named_one}
 use Rattle.laws.proofs.lemma_causes_trail.Stages.{Stage, calm, pressed, spent, frameless, none_caught_is}
-use Rattle.laws.proofs.law_causes.Steps.{places_are, dry_place}
+use Rattle.laws.proofs.law_causes.Steps.{places_are}
 use Rattle.laws.proofs.law_causes.Carry.{of_search, of_fill}
 
 -- ---- backoffs
@@ -69,6 +73,27 @@ backed_off (Some x) (Some y) st n e h =
     by true true c h k = k
     by true false c h k = cc
     by false b c h k = cc
+
+-- ---- what a dry entry says
+
+cause_self : (c : Cause) → same_cause c c ≡ true
+cause_self cause.Pinned = refl
+cause_self (cause.Reserved a) = same a.0
+  where
+    same : (n : ℕ) → (n == n) ≡ true
+    same n = grind (arith, nat_tests)
+cause_self cause.Outside = refl
+cause_self cause.Skipped = refl
+
+rows_self : (rows : List CauseRow) → same_rows rows rows ≡ true
+rows_self [] = refl
+rows_self (x ∷ xs) =
+    ap (λ q. q && same_cause x.cause x.cause && same_rows xs xs) (same_self x.b)
+    ∙ (ap (λ q. q && same_rows xs xs) (cause_self x.cause) ∙ rows_self xs)
+
+why_self : (w : DryWhy) → same_why w w ≡ true
+why_self dry.Short = refl
+why_self (dry.Of rows) = rows_self rows
 
 -- ---- a search that has ended
 
@@ -230,7 +255,9 @@ module _ (script : Script) (s : State) (t : ℕ) (cmd : Command) (at : command_a
 
   dry_cause : (a : BufId) (aim : SearchAim) (b : BufId) (n : ℕ) (w : DryWhy) → Searcher script s (course s t) cmd a aim → Found script s (course s t) a (place_search script cmd (course s t) a aim) (kind.Dry b n w) → HasCause (kind.Dry b n w)
   dry_cause a aim b n w by (dries place here d y x) =
-      dry_place script s t cmd at b (forced_places (places_sought script s t b)) n place (ap (λ l. slice_get (forced_places l) n) (list_is b aim by) ∙ here) d
+      ap (λ o. elim o [ None ↦ false | Some place ↦ is_dry script s (course s t).skips b place && same_why w (dry_why script s b place) ])
+      (ap (λ l. slice_get (forced_places l) n) (list_is b aim by) ∙ here)
+      ∙ ap₂ (λ q r. q && r) d (ap (λ z. same_why z (dry_why script s b place)) y ∙ why_self (dry_why script s b place))
 
   dry_by : (b : BufId) (n : ℕ) (w : DryWhy) (x : Task) → Turn script s (course s t) cmd x → step_of_task script s (course s t) cmd x ≡ Ok (kind.Dry b n w) → Gives script s (course s t) cmd x (kind.Dry b n w) → HasCause (kind.Dry b n w)
   dry_by b n w x turn step (seeks {b = a} {aim} f) =
@@ -246,10 +273,17 @@ module _ (script : Script) (s : State) (t : ℕ) (cmd : Command) (at : command_a
       dry_explains a aim b n w (searcher_of script s (course s t) cmd a aim turn) (place_search_found script s (course s t) a (place_search script cmd (course s t) a aim) (kind.Dry b n w) step)
   explains_by b n w x turn step (fills {b = a} f) = absurd (clash (sym (of_fill script s (course s t) cmd a (kind.Dry b n w) f)))
 
-  backed_by : (b : BufId) (st : Stamp) (x : Task) → Gives script s (course s t) cmd x (kind.Backoff b st) → HasCause (kind.Backoff b st)
-  backed_by b st x (backs l h q) = backed_off (reservation s b).holder (course s t).stamp st (nat_lt 0 (length (course s t).held)) h q
-  backed_by b st x (seeks {b = a} {aim} f) = absurd (clash (sym (of_search script s (course s t) cmd a aim (kind.Backoff b st) f)))
-  backed_by b st x (fills {b = a} f) = absurd (clash (sym (of_fill script s (course s t) cmd a (kind.Backoff b st) f)))
+  wanted : (b : BufId) → first_missing (course s t) cmd ≡ Some b → wants_next script s t b ≡ true
+  wanted b f =
+      ap (λ o. elim (option_and_then (first_missing (course s t)) o) [ Some c ↦ same_buffer b c | None ↦ false ]) at
+      ∙ (ap (λ o. elim o [ Some c ↦ same_buffer b c | None ↦ false ]) f ∙ same_self b)
+
+  backed_by : (b : BufId) (st : Stamp) (x : Task) → Turn script s (course s t) cmd x → Gives script s (course s t) cmd x (kind.Backoff b st) → HasCause (kind.Backoff b st)
+  backed_by b st x (lock m n f) (backs l h q) =
+      ap (λ w. (w && nat_lt 0 (length (course s t).held) && is_older (reservation s b).holder (course s t).stamp) && is_holder (reservation s b) st) (wanted b f)
+      ∙ backed_off (reservation s b).holder (course s t).stamp st (nat_lt 0 (length (course s t).held)) h q
+  backed_by b st x turn (seeks {b = a} {aim} f) = absurd (clash (sym (of_search script s (course s t) cmd a aim (kind.Backoff b st) f)))
+  backed_by b st x turn (fills {b = a} f) = absurd (clash (sym (of_fill script s (course s t) cmd a (kind.Backoff b st) f)))
 
   starved_by : NoneGives s → (b : BufId) (x : Task) → step_of_task script s (course s t) cmd x ≡ Ok (kind.NoPages b) → Gives script s (course s t) cmd x (kind.NoPages b) → HasCause (kind.NoPages b)
   starved_by none b x step (seeks {b = a} {aim} f) = absurd (clash (sym (of_search script s (course s t) cmd a aim (kind.NoPages b) f)))
@@ -315,7 +349,7 @@ module _ (script : Script) (s : State) (t : ℕ) (cmd : Command) (at : command_a
   refused_by _ x turn other g stage = refl
 
   pub own_cause : (x : Task) (k : Kind) → x ≡ task_of_command script s (course s t) cmd → Turn script s (course s t) cmd x → step_of_task script s (course s t) cmd x ≡ Ok k → Gives script s (course s t) cmd x k → NoneGives s → Stage script s j t (course s t) cmd → HasCause k
-  own_cause x (kind.Backoff b stamp) is turn step g none stage = backed_by b stamp x g
+  own_cause x (kind.Backoff b stamp) is turn step g none stage = backed_by b stamp x turn g
   own_cause x (kind.Dry b k w) is turn step g none stage = dry_by b k w x turn step g
   own_cause x (kind.NoPages b) is turn step g none stage = starved_by none b x step g
   own_cause x (kind.Refused d) is turn step g none stage = refused_by d x turn (subst (λ z. is_other z ≡ true) (sym is) (command_other script s (course s t) cmd)) g stage

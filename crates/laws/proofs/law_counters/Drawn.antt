@@ -12,7 +12,7 @@ use Rattle.journal_model.specs.declared.state.Course.{Course}
 use Rattle.journal_model.specs.declared.state.Task.{Task}
 use Rattle.journal_model.specs.declared.entry.Kind.{Kind}
 use Rattle.journal_model.specs.declared.entry.Kind.TheVariants as kind
-use Rattle.journal_model.specs.State.{course, course_of, new_course}
+use Rattle.journal_model.specs.State.{course, course_of, new_course, with_course}
 use Rattle.journal_model.specs.PageSteps.{next_job}
 use Rattle.journal_model.specs.Apply.{applied}
 use Rattle.journal_model.specs.Legal.{first_state}
@@ -60,11 +60,19 @@ course_there s t here = by (t == 0) here
     by true h = cc
     by false h = known (slice_get s.courses (t - 1)) h (new_course 0)
 
+-- the courses of a thread that is there
+set_there : (courses : List Course) (t : ℕ) (c : Course) → IsSome (if t == 0 then None else slice_get courses (t - 1)) → with_course courses t c ≡ slice_set courses (t - 1) c
+set_there courses t c here = by (t == 0) here
+  where
+    by : (q : Bool) → IsSome (if q then None else slice_get courses (t - 1)) → (if q then courses else slice_set courses (t - 1) c) ≡ slice_set courses (t - 1) c
+    by true h = cc
+    by false h = refl
+
 sum_after : (f : Course → ℕ) (script : Script) (s : State) (t : ℕ) (k : Kind) → IsSome (course_of s t) →
     summed f (applied script s (actor.Thread t) k).courses + f (course s t) ≡ summed f s.courses + f (next_course script s t k)
 sum_after f script s t k here =
     ⊎_elim
-    (λ e. ap (λ cs. summed f cs + f (course s t)) e ∙ set_sum f s.courses (t - 1) (course s t) (next_course script s t k) (course_there s t here))
+    (λ e. ap (λ cs. summed f cs + f (course s t)) (e ∙ set_there s.courses t (next_course script s t k) here) ∙ set_sum f s.courses (t - 1) (course s t) (next_course script s t k) (course_there s t here))
     (λ e. ap (λ cs. summed f cs + f (course s t)) e.0 ∙ ap (λ c. summed f s.courses + f c) (sym e.1))
     (courses_after script s t k)
 

@@ -1,6 +1,6 @@
 -- Holders in lists of reservations, what is live, and what keeps its length.
 use Rattle.std.proofs.Common.{◌≡◌, ℕ, ◌<◌, zero, suc, true, false, List, [], ◌∷◌, length, Option, Some, None, IsSome, refl, sym, ◌∙◌, ap, subst, arith, ⊎_elim}
-use Rattle.std.specs.Prelude.{slice_get, slice_set, unwrap_or, is_some, is_none, option_map, option_and_then, fold, ◌&&◌, ◌==◌, ◌-◌, not}
+use Rattle.std.specs.Prelude.{slice_get, slice_set, unwrap_or, is_some, is_none, option_map, option_and_then, fold, ◌&&◌, ◌==◌, ◌-◌, if◌then◌else◌, not}
 use Rattle.std.proofs.lemmas.Bool.{and_parts, or_parts, or_cases}
 use Rattle.std.proofs.Math.ListN.{length-set}
 use Rattle.ttm_base.specs.declared.BufId.{BufId}
@@ -19,6 +19,7 @@ use Rattle.journal_model.specs.declared.state.Reservation.{Reservation}
 use Rattle.journal_model.specs.declared.state.Buffer.{Buffer}
 use Rattle.journal_model.specs.declared.entry.Kind.{Kind}
 use Rattle.journal_model.specs.declared.entry.Kind.TheVariants as kind
+use Rattle.journal_model.specs.declared.state.Course.{Course}
 use Rattle.journal_model.specs.State.{new_buffer, same_buffer, has_buffer, live_in, is_live, buffer, changed, no_reservation, reservation_in, reservation, reservation_changed, course, course_of}
 use Rattle.journal_model.specs.Commands.{command_at_work}
 use Rattle.journal_model.specs.Dry.{is_loose, is_evictable, victim, swap_victim, has_frame}
@@ -188,7 +189,11 @@ length-reservations script s t (kind.Refused d) = length-released (course s t).h
 length-reservations script s t k = refl
 
 length-courses : (script : Script) (s : State) (t : ℕ) (k : Kind) → length (applied script s (actor.Thread t) k).courses ≡ length s.courses
-length-courses script s t k = ⊎_elim (λ e. ap length e ∙ length-set s.courses (t - 1) _) (λ e. ap length e.0) (courses_after script s t k)
+length-courses script s t k = ⊎_elim (λ e. ap length e ∙ set (t == 0) (next_course script s t k)) (λ e. ap length e.0) (courses_after script s t k)
+  where
+    set : (q : Bool) (c : Course) → length (if q then s.courses else slice_set s.courses (t - 1) c) ≡ length s.courses
+    set true c = refl
+    set false c = length-set s.courses (t - 1) c
 
 pub one_course : (script : Script) (s : State) (t : ℕ) (k : Kind) → IsSome (course_of s t) → OneCourse s (applied script s (actor.Thread t) k) t
 one_course script s t k here =

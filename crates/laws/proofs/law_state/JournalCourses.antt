@@ -66,7 +66,7 @@ get_set_other (y ∷ ys) (suc i) zero x h = refl
 get_set_other (y ∷ ys) (suc i) (suc j) x h = get_set_other ys i j x (λ e. h (ap (λ n. suc n) e))
 
 picked_set : (b : Bool) (courses : List Course) (i : ℕ) (c : Course) → IsSome (if b then None else slice_get courses i) →
-    unwrap_or (if b then None else slice_get (slice_set courses i c) i) (new_course 0) ≡ c
+    unwrap_or (if b then None else slice_get (if b then courses else slice_set courses i c) i) (new_course 0) ≡ c
 picked_set true courses i c h = cc
 picked_set false courses i c h = ap (λ o. unwrap_or o (new_course 0)) (get_set_same courses i c h)
 
@@ -75,7 +75,7 @@ pub course_set : (courses : List Course) (t : ℕ) (c : Course) → IsSome (if t
 course_set courses t c h = picked_set (t == 0) courses (t - 1) c h
 
 picked_kept : (a b : Bool) (courses : List Course) (i j : ℕ) (c : Course) → IsSome (if a then None else slice_get courses i) → (a ≡ false → b ≡ false → j ≡ i → ⊥) →
-    unwrap_or (if b then None else slice_get (slice_set courses i c) j) (new_course 0) ≡ unwrap_or (if b then None else slice_get courses j) (new_course 0)
+    unwrap_or (if b then None else slice_get (if a then courses else slice_set courses i c) j) (new_course 0) ≡ unwrap_or (if b then None else slice_get courses j) (new_course 0)
 picked_kept true b courses i j c h d = cc
 picked_kept false true courses i j c h d = refl
 picked_kept false false courses i j c h d = ap (λ o. unwrap_or o (new_course 0)) (get_set_other courses i j c (d refl refl))

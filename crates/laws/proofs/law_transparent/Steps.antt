@@ -31,7 +31,7 @@ use Rattle.journal_model.specs.PageSteps.{page_to_fill, first_frame_page, next_j
 use Rattle.journal_model.specs.Stores.{Stores, within, written, stores_after, showing, shown_by_read}
 use Rattle.journal_model.specs.Waits.{waited_for, jobs_before_read}
 use Rattle.journal_model.specs.PlainMemory.{Memory, OwedProbes, Plain, command_of, memory_after_result, plain_after_kind, after_ops, pieces_shown, with_owed_probes}
-use Rattle.journal_model.specs.Transparent.{IsKindPlain, read_of}
+use Rattle.journal_model.specs.Transparent.{IsKindPlain, bytes_owed}
 use Rattle.laws.proofs.law_state.JournalCourses.{one_more_if, own_answered, others_kept, thread_is_there, of_engine, of_reaper, is_of_engine, is_of_reaper}
 use Rattle.laws.specs.law_state.GoodState.{GoodState}
 use Rattle.laws.specs.law_state.Courses.{GoodCourses}
@@ -45,7 +45,7 @@ use Rattle.laws.proofs.lemma_bytes_view.Binds.{IsAt}
 use Rattle.laws.proofs.lemma_bytes_view.ReadShows.{read_shows}
 use Rattle.laws.proofs.lemma_bytes_view.Viewed.{Viewed}
 use Rattle.laws.proofs.lemma_bytes_told.Spots.{fill_spot, frame_spot}
-use Rattle.laws.specs.lemma_bytes_told.Told.{is_still, is_write, shows_bytes, OnWay, Told, still, makes, frees, leaves, takes, untakes, populates, swaps_in, depopulates, binds, unbinds, moves_up, moves_across, moves_down, evicts, catches, swaps_out, arms, reads, writes, results}
+use Rattle.laws.specs.lemma_bytes_told.Told.{is_still, is_write, is_read, shows_bytes, OnWay, Told, still, makes, frees, leaves, takes, untakes, populates, swaps_in, depopulates, binds, unbinds, moves_up, moves_across, moves_down, evicts, catches, swaps_out, arms, reads, writes, results}
 use Rattle.laws.proofs.lemma_bytes_told.Telling.{tells}
 use Rattle.laws.proofs.lemma_bytes_told.Shapes.{HaveShapes, shapes_keep}
 use Rattle.laws.proofs.lemma_bytes_told.Numbers.{NumberedState, not_zero, numbers_keep, filtered}
@@ -184,27 +184,31 @@ module _ (script : Script) (r : Rules script) (s : State) (bytes : Stores) (p : 
   thread_viewed t k (writes b off values e there ready quiet) once =
       result_of t shown.Plain (command.Write b off values) e
       (written_viewed script s p.owed_probes p.memory bytes c.viewed known.held known.good c.shapes b off values (at_work_rules script r s t (command.Write b off values) e).command there ready quiet)
-  thread_viewed t k (results {r = x} cmd e w h) once = quiet_result t x cmd e w
+  thread_viewed t k (results {r = x} cmd e w n h) once = quiet_result t x cmd e w
 
   -- what it shows
   read_plain : (t : ℕ) (b : BufId) (off len : ℕ) → command_at_work script s t ≡ Some (command.Read b off len) → waited_for s.core (jobs_before_read (buffer s b)) ≡ None →
-      shown_by_read bytes s (command_at_work script s t) ≡ read_of (command_of script p t) p.memory
+      Some (shown_by_read bytes s (command_at_work script s t)) ≡ bytes_owed (command_of script p t) p.memory
   read_plain t b off len e none =
-      ap (shown_by_read bytes s) e
-      ∙ read_shows script s.core p.owed_probes p.memory bytes c.viewed.view c.viewed.seen c.viewed.good b none off len
-      ∙ sym (ap (λ o. read_of o p.memory) (at_plain t (command.Read b off len) e))
+      ap (λ o. Some (shown_by_read bytes s o)) e
+      ∙ ap Some (read_shows script s.core p.owed_probes p.memory bytes c.viewed.view c.viewed.seen c.viewed.good b none off len)
+      ∙ sym (ap (λ o. bytes_owed o p.memory) (at_plain t (command.Read b off len) e))
 
-  result_plain : (t : ℕ) (x : Shown) → shows_bytes x ≡ false → IsKindPlain script p (actor.Thread t) (showing script bytes s (actor.Thread t) (kind.Result x))
-  result_plain t shown.Plain h = tt
-  result_plain t (shown.Find mem spans) h = tt
-  result_plain t (shown.Read values) h = cc
+  owes_none : (cmd : Command) → is_read cmd ≡ false → bytes_owed (Some cmd) p.memory ≡ None
+  owes_none (command.Read b off len) n = cc
+  owes_none cmd n = refl
+
+  result_plain : (t : ℕ) (x : Shown) (cmd : Command) → command_at_work script s t ≡ Some cmd → is_read cmd ≡ false → shows_bytes x ≡ false → IsKindPlain script p (actor.Thread t) (showing script bytes s (actor.Thread t) (kind.Result x))
+  result_plain t (shown.Read values) cmd e n h = cc
+  result_plain t shown.Plain cmd e n h = sym (ap (λ o. bytes_owed o p.memory) (at_plain t cmd e) ∙ owes_none cmd n)
+  result_plain t (shown.Find mem spans) cmd e n h = sym (ap (λ o. bytes_owed o p.memory) (at_plain t cmd e) ∙ owes_none cmd n)
 
   thread_plain : (t : ℕ) (k : Kind) → Told script s t k → IsKindPlain script p (actor.Thread t) (showing script bytes s (actor.Thread t) k)
   thread_plain t k (still q) = subst (IsKindPlain script p (actor.Thread t)) (sym (still_shown script s bytes p (actor.Thread t) k q)) (still_plain script s bytes p (actor.Thread t) k q)
   thread_plain t k (swaps_in {b} {k = slot} {f} there free l some tt_not) = tt
   thread_plain t k (swaps_out {b} {k = slot} there m quiet f free) = tt
   thread_plain t k (reads b off len e none) = read_plain t b off len e none
-  thread_plain t k (results {r = x} cmd e w h) = result_plain t x h
+  thread_plain t k (results {r = x} cmd e w n h) = result_plain t x cmd e n h
   thread_plain t k x = tt
 
   -- owed_probes of the move engine

@@ -313,7 +313,7 @@ shapes_keep script s t k tables h (arms {engine} ops at live ready) =
     uses_shape _ (ops_of (command_at_work script s t)) (named_in (command_at_work script s t)) s.core.buffers h
 shapes_keep script s t k tables h (reads b off len at none) = h
 shapes_keep script s t k tables h (writes b off bytes at there ready quiet) = h
-shapes_keep script s t k tables h (results cmd at w r) = h
+shapes_keep script s t k tables h (results cmd at w r n) = h
 
 -- none is live at first
 pub first_shapes : {X : Type 0} (xs : List X) → HaveShapes (map (λ x. None) xs)

@@ -46,7 +46,7 @@ use Rattle.laws.proofs.law_sound.Gifts as gifts
 use Rattle.laws.proofs.law_sound.Gifts.{Gives, SearchOutcome, Filled, PlaceOf}
 use Rattle.laws.proofs.law_sound.Bufs.{same_self, same_is, has_found, found_passes, last_caught, none_last, none_found, none_missing}
 use Rattle.laws.proofs.lemma_bytes_told.Spots.{unfilled}
-use Rattle.laws.specs.lemma_bytes_told.Told.{is_write, OnWay, IsThere, IsQuiet, Told, still, makes, frees, leaves, takes, untakes, populates, swaps_in, depopulates, binds, unbinds, moves_up, moves_across, moves_down, evicts, catches, swaps_out, arms, reads, writes, results}
+use Rattle.laws.specs.lemma_bytes_told.Told.{is_write, is_read, OnWay, IsThere, IsQuiet, Told, still, makes, frees, leaves, takes, untakes, populates, swaps_in, depopulates, binds, unbinds, moves_up, moves_across, moves_down, evicts, catches, swaps_out, arms, reads, writes, results}
 
 -- ---- places in lists
 
@@ -179,7 +179,7 @@ module _ (script : Script) (s : State) (t : ℕ) (cmd : Command) (at : command_a
           let one : shown.Read [] ≡ r = (let two : kind.Result (shown.Read []) ≡ kind.Result r = cc in cc) in
           subst (λ r. Told script s t (kind.Result r)) one (reads b off len (at ∙ ap Some e) q)
       by (Some i) q g = cc
-  act_told r on f asked e h = results cmd at (ap is_write e) (grind (arith, common_steps, nat_tests))
+  act_told r on f asked e h = results cmd at (ap is_write e) (ap is_read e) (grind (arith, common_steps, nat_tests))
 
   -- a command that makes something writes nothing
   made_writes_none : (x : Command) → courses.makes x ≡ true → is_write x ≡ false
@@ -188,6 +188,14 @@ module _ (script : Script) (s : State) (t : ℕ) (cmd : Command) (at : command_a
   made_writes_none (command.Touch group) h = refl
   made_writes_none (command.Submit engine ops) h = refl
   made_writes_none cmd h = cc
+
+  -- and reads nothing
+  made_reads_none : (x : Command) → courses.makes x ≡ true → is_read x ≡ false
+  made_reads_none (command.New b) h = refl
+  made_reads_none (command.Free b) h = refl
+  made_reads_none (command.Touch group) h = refl
+  made_reads_none (command.Submit engine ops) h = refl
+  made_reads_none cmd h = cc
 
   free_told : (b : BufId) (g : ℕ) → IsThere s b → g ≡ (if is_idle s.core (buffer s b) then 0 else next_ghost s) → Told script s t (kind.Free b g)
   free_told b g there e = by (is_idle s.core (buffer s b)) refl e
@@ -291,7 +299,7 @@ module _ (script : Script) (s : State) (t : ℕ) (cmd : Command) (at : command_a
       mem_is (buffer s b).mem System m.1
 
   pub tells : (x : Task) (k : Kind) → ((course s t).made ≡ true → courses.makes cmd ≡ true) → step_of_task script s (course s t) cmd x ≡ Ok k → is_due s k ≡ true → Turn script s (course s t) cmd x → Gives script s (course s t) cmd x k → Told script s t k
-  tells x k made step due (answer m) gifts.answers = results cmd at (made_writes_none cmd (made m)) refl
+  tells x k made step due (answer m) gifts.answers = results cmd at (made_writes_none cmd (made m)) (made_reads_none cmd (made m)) refl
   tells x k made step due (start m q) (gifts.makes {b} e l) = makes (is_dead s b l)
   tells x k made step due turn (gifts.seeks {b} {aim} sought) = search_told b aim k turn sought
   tells x k made step due turn (gifts.binds {b}) = bind_told b turn

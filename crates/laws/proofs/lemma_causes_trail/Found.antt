@@ -28,12 +28,11 @@ use Rattle.journal_model.specs.Commands.{whole}
 use Rattle.journal_model.specs.Places.{loc_of}
 use Rattle.journal_model.specs.Holds.{free_frame, free_slot}
 use Rattle.journal_model.specs.Choice.{choice, choice_in}
-use Rattle.journal_model.specs.Dry.{is_long_enough, victim, ghost_in, is_dry, causes, swap_victim, ghost_with_frame}
+use Rattle.journal_model.specs.Dry.{is_long_enough, victim, ghost_in, is_dry, causes, dry_why, swap_victim, ghost_with_frame}
 use Rattle.journal_model.specs.Search.{Step, PlaceSearch, why_of, step_of_crowded, step_of_forced_place, step_of_forced, first_choice, step_of_place_search}
 use Rattle.journal_model.specs.PageSteps.{page_to_fill, filled_by, step_without_victim, step_without_frame, step_of_fill}
 use Rattle.journal_model.specs.Causes.{presses}
 use Rattle.laws.proofs.law_sound.Reservations.{IsFree, victim_free}
-use Rattle.laws.specs.lemma_causes_trail.Explained.{explanation}
 
 -- no place that is tried first has a choice
 abbrev pub no_first : Script → State → BufId → List FlaggedPlace → Bool
@@ -46,7 +45,7 @@ Unchosen script s b q = q.forced ≡ false → no_first script s b q.list ≡ tr
 pub data Found (script : Script) (s : State) (c : Course) (b : BufId) (q : PlaceSearch) : Kind → Type 0 where
   takes : {mem : Mem} {spans : List Span} → Found script s c b q (kind.Take b mem spans)
   catches : {v : BufId} {w : Why} → Unchosen script s b q → presses (kind.Catch v w) ≡ true → IsFree s v → Found script s c b q (kind.Catch v w)
-  dries : {w : DryWhy} (place : Place) → slice_get (forced_places q.list) q.dry ≡ Some place → is_dry script s c.skips b place ≡ true → w ≡ explanation script s b place → Unchosen script s b q → Found script s c b q (kind.Dry b q.dry w)
+  dries : {w : DryWhy} (place : Place) → slice_get (forced_places q.list) q.dry ≡ Some place → is_dry script s c.skips b place ≡ true → w ≡ dry_why script s b place → Unchosen script s b q → Found script s c b q (kind.Dry b q.dry w)
 
 -- a place in SYSTEM has a choice
 in_system : (script : Script) (s : State) (b : BufId) (place : Place) → choice script s.core b place ≡ None → place.mem ≡ System → ⊥

@@ -7,13 +7,12 @@ use Rattle.journal_model.specs.declared.script.Script.{Script}
 use Rattle.journal_model.specs.declared.state.State.{State}
 use Rattle.journal_model.specs.declared.entry.DryWhy.{DryWhy}
 use Rattle.journal_model.specs.State.{course}
-use Rattle.journal_model.specs.Dry.{is_dry}
+use Rattle.journal_model.specs.Dry.{is_dry, dry_why}
 use Rattle.journal_model.specs.Causes.{places_sought}
-use Rattle.laws.specs.lemma_causes_trail.Explained.{explanation}
 
 -- the place is the k-th forced one of the search, it is dry, and the entry names `short` or each live buffer's first cause
 pub record Explains (script : Script) (s : State) (t : ℕ) (b : BufId) (k : ℕ) (w : DryWhy) : Type 0 where
   pub place : Place
   pub at : slice_get (forced_places (places_sought script s t b)) k ≡ Some place
   pub dry : is_dry script s (course s t).skips b place ≡ true
-  pub why : w ≡ explanation script s b place
+  pub why : w ≡ dry_why script s b place

@@ -46,6 +46,10 @@ abbrev pub is_write : Command → Bool
 is_write (command.Write b off bytes) = true
 is_write _ = false
 
+abbrev pub is_read : Command → Bool
+is_read (command.Read b off len) = true
+is_read _ = false
+
 -- the result shows bytes
 abbrev pub shows_bytes : Shown → Bool
 shows_bytes (shown.Read bytes) = true
@@ -89,4 +93,4 @@ pub data Told (script : Script) (s : State) (t : ℕ) : Kind → Type 0 where
       ((b : BufId) → has_buffer (named (command.Submit engine ops)) b ≡ true → is_ready script s (command.Submit engine ops) b ≡ true) → Told script s t (kind.Arm engine (next_job s engine))
   reads : (b : BufId) (off len : ℕ) → command_at_work script s t ≡ Some (command.Read b off len) → waited_for s.core (jobs_before_read (buffer s b)) ≡ None → Told script s t (kind.Result (shown.Read []))
   writes : (b : BufId) (off : ℕ) (bytes : List ℕ) → command_at_work script s t ≡ Some (command.Write b off bytes) → IsThere s b → is_ready script s (command.Write b off bytes) b ≡ true → IsQuiet s b → Told script s t (kind.Result shown.Plain)
-  results : {r : Shown} (cmd : Command) → command_at_work script s t ≡ Some cmd → is_write cmd ≡ false → shows_bytes r ≡ false → Told script s t (kind.Result r)
+  results : {r : Shown} (cmd : Command) → command_at_work script s t ≡ Some cmd → is_write cmd ≡ false → is_read cmd ≡ false → shows_bytes r ≡ false → Told script s t (kind.Result r)
