@@ -8,9 +8,14 @@ usage: tools/check_docs.py [DOCUMENT ...]      without documents: README.md, exa
                                                function of crates/law*) stands in docs/CLAIMS.md;
                                                that README.md has at most 7 KB and its table of sizes is right;
                                                that docs/CHANGING.md lists the files that name every kind or
-                                               every command (docs_lists.py); and that the documents of
-                                               PLAIN_ENGLISH have no phrases to avoid (docs_english.py)
-       tools/check_docs.py --sizes             that table's rows
+                                               every command (docs_lists.py); that blocks that are made from the
+                                               sources are as the sources have them (docs_made.py); and that no
+                                               document has phrases to avoid (docs_english.py)
+       tools/check_docs.py --write             makes anew what documents have from the sources: numbers of lines,
+                                               README's sizes, lists of files, made blocks, the lines of links
+       tools/check_docs.py --link              makes links of the names in docs/READING.md's tables, too
+       tools/check_docs.py --words             how many words each document has, and all together
+       tools/check_docs.py --sizes             README's table of sizes
        tools/check_docs.py --closure MODULE    the definition files that MODULE rests on, as rows of a table
 
 In backquotes, outside of blocks of code, are checked:
@@ -27,12 +32,15 @@ In backquotes, outside of blocks of code, are checked:
   `crate::f` (one, other)             a function with clauses of these names
   `name()`, `struct name`             the kernel's, which isn't checked; nor is a name that begins as one of KERNEL below
 
-Links `[..](path)` are checked from the document's folder, with their `#heading`. In a row of a table that begins with a backquoted
-`crates/..` file and then a number, the number is the file's lines without imports, comments and blanks; in a row that begins with
-`sum`, it is the sum of such rows above in the same table.
+Links `[..](path)` are checked from the document's folder, with their `#heading`; in a link of a name to a line, `[`name`](path#L12)`,
+the name stands there or some lines off. In a row of a table that begins with a backquoted `crates/..` file and then a number, the number
+is the file's lines without imports, comments and blanks; in a row that begins with `sum`, it is the sum of such rows above in the same
+table.
+
+Words are those with a letter, outside of code, names in backquotes, targets of links and blocks that are made.
 
 A mark that a merge left is a fault, too. Each fault is a line `document:line: what`; the exit status is 1 if there is one.
-tools/test_check_docs.py tests the lists of files and the phrases.
+tools/test_check_docs.py tests it with planted faults.
 """
 import collections
 import glob
@@ -40,8 +48,9 @@ import pathlib
 import re
 import sys
 
-from docs_english import faults_of_english
+from docs_english import faults_of_text, words_of_text
 from docs_lists import faults_of_lists
+from docs_made import LINKED, code_lines, fault_of_line, faults_of_blocks, linked_text, made_text
 
 TOP = pathlib.Path(__file__).resolve().parent.parent
 FOLDERS = ("crates/", "docs/", "tools/", "examples/", ".ci/", "src/", "specs/", "proofs/", "must-fail/")
@@ -50,9 +59,6 @@ KERNEL = ("ttm_", "drm_", "dma_", "ww_", "amdgpu_", "nouveau_", "radeon_", "rese
 WORD = r"[A-Za-z_][A-Za-z0-9_]*"
 README_BYTES = 7 * 1024
 PAGE_BYTES = 4 * 1024
-# Documents without phrases to avoid (docs_english.py); others join them once they have none.
-PLAIN_ENGLISH = ("docs/ARCHITECTURE.md", "docs/CHANGING.md", "docs/CLAIMS.md", "docs/DECISIONS.md", "docs/GATE.md", "docs/PROOF.md",
-                 "docs/READING.md", "docs/SPECIFICATION.md", "docs/SPEED.md")
 SLACK = 5  # percent by which a rounded number of README.md may be off, so that it needn't follow each change
 
 
@@ -67,8 +73,10 @@ class Index:
         self.clauses = collections.defaultdict(set)
         self.words = set()
         self.crates = {path.name for path in (TOP / "crates").iterdir() if path.is_dir()}
-        # (a module of a crate that has a page of its own beside the crate's)
+        # (a module of a crate that has a page or definitions of its own)
         self.parts = {path.stem for path in (TOP / "crates").glob("*/*.md") if path.stem != "README"}
+        self.parts |= {path.name for folder in ("specs", "proofs") for path in (TOP / "crates").glob(f"*/{folder}/*") if path.is_dir()}
+        self.places = collections.defaultdict(list)
         self.libraries = {"std"}
         for line in (TOP / "crates.txt").read_text().splitlines():
             if ":" in line and not line.startswith("#"):
@@ -91,7 +99,7 @@ class Index:
         if path.stem not in ("lib", "main"):
             self.modules[crate].add(path.stem)
         owner = function = None
-        for line in path.read_text().splitlines():
+        for number, line in enumerate(path.read_text().splitlines(), 1):
             clause = re.match(r"\s*(?:ensures|requires)\*? (" + WORD + r") \{", line)
             if clause:
                 self.clauses[function].add(clause[1])
@@ -99,6 +107,8 @@ class Index:
             opened = re.match(r"(?:pub(?:\([a-z]+\))? )?(struct|enum|trait|union) (" + WORD + ")", line)
             implemented = re.match(r"(?:unsafe )?impl(?:<.*?>)? (?:[^{]*? for )?&?(?:mut )?(" + WORD + ")", line)
             named = re.match(r"(\s*)(?:pub(?:\([a-z]+\))? )?(?:unsafe )?(?:fn|type|const|static|mod|ghost) (" + WORD + ")", line)
+            if opened or named:
+                self.places[(opened or named)[2]].append((path, number, owner if named and named[1] else None))
             if opened:
                 owner = opened[2]
                 self.items[crate].add(owner)
@@ -116,16 +126,35 @@ class Index:
                 inside = re.match(r" {4}(?:pub(?:\([a-z]+\))? )?(" + WORD + r")\s*[:,({]", line)
                 if inside:
                     self.inner[crate][owner].add(inside[1])
+                    self.places[inside[1]].append((path, number, owner))
         for names in re.findall(r"^pub use ([^;]*);", path.read_text(), re.M):
             self.items[crate].update(re.findall(WORD, names))
 
     def read_definitions(self, crate, path):
         names = self.specs[crate][path.stem]
-        for line in path.read_text().splitlines():
+        for number, line in enumerate(path.read_text().splitlines(), 1):
             self.words.update(re.findall(WORD, line.split("--")[0]))
             named = re.match(r"\s*(?:abbrev |unfoldable )?(?:pub )?(?:record |data |abbrev )?(" + WORD + r")\b.*:", line)
             if named and not line.startswith("use "):
                 names.add(named[1])
+                self.places[named[1]].append((path, number, None))
+
+    def place_of(self, text):
+        """The file and the line where a name stands, if it is a definition, a function, a type or what is inside of one."""
+        definition = re.fullmatch(rf"(?:([a-z_0-9]+)/)?({WORD})\.({WORD})", text)
+        if definition and definition[3] != "antt" and definition[2][0].isupper():
+            above, module, name = definition.groups()
+            found = [(path, line) for path, line, _ in self.places[name]
+                     if path.stem == module and path.suffix == ".antt" and (not above or above in path.parts)]
+            first = [(path, line) for path, line in found if above or path.parts[-3] in ("journal_model", "ttm_base")]
+            return (first or found or [None])[0]
+        *above, name = text.split("::")
+        found = []
+        for path, line, owner in self.places[name]:
+            names = {*path.parts, path.stem, owner}
+            if path.suffix == ".rt" and above and all(part in names for part in above):
+                found.append((path, line))
+        return (found or [None])[0]
 
     def has_definition(self, crate, module, name):
         return module in self.specs[crate] and (name is None or name in self.specs[crate][module])
@@ -157,20 +186,6 @@ class Index:
         if any(self.has_path(crate, parts) for crate in sorted(self.crates)):
             return None
         return f"no crate, module or type {parts[0]} with {'::'.join(parts[1:])}"
-
-
-def code_lines(path):
-    """How many lines a file has without imports, comments and blanks."""
-    count, importing = 0, False
-    for line in path.read_text().splitlines():
-        text = line.strip()
-        if re.match(r"(ghost |pub )*use ", text):
-            importing = path.suffix == ".rt" and not text.endswith(";")
-        elif importing:
-            importing = not text.endswith(";")
-        elif text and not text.startswith(("--", "//")):
-            count += 1
-    return count
 
 
 def fault_of_file(text):
@@ -218,6 +233,8 @@ def fault_of_link(document, target):
     file = (document.parent / path).resolve() if path else document
     if not file.exists():
         return f"no file {target}"
+    if re.fullmatch(r"L\d+", heading):
+        return None
     if heading and file.suffix == ".md" and heading not in headings_of(file):
         return f"no heading {heading} in {path or document.name}"
     return None
@@ -238,7 +255,9 @@ def faults_of(index, document):
             yield number, fault
         for target in re.findall(r"\]\(([^)]+)\)", line):
             yield number, fault_of_link(document, target)
-        sized = re.match(r"\| `(crates/[^`]+)` \| (\d+) \|", line)
+        for name, path, at in LINKED.findall(line):
+            yield number, fault_of_line(document, name, path, int(at), index.place_of)
+        sized = re.match(r"\| \[?`(crates/[^`]+)`(?:\]\([^)]*\))? \| (\d+) \|", line)
         summed = re.match(r"\| sum[^|]*\| (\d+) \|", line)
         if not line.startswith("|"):
             total = 0
@@ -312,6 +331,42 @@ def faults_of_readme():
                 yield f"README.md:{rows[0][0]}: it has {number}, and should have the row {size_row(what, paths, unit)}"
 
 
+def readme_text():
+    """README.md with the rows of its table of sizes, and its first one where its text says it."""
+    text = (TOP / "README.md").read_text()
+    for what, paths, unit in sizes():
+        text = re.sub(rf"^\| {re.escape(what)} \|.*$", lambda _: size_row(what, paths, unit), text, flags=re.M)
+    count = sum(map(code_lines, sizes()[0][1]))
+    return re.sub(r"[\d,]+ lines of definitions", f"{count:,} lines of definitions", text)
+
+
+def write(index, documents):
+    """Makes anew what documents have from the sources; tells which have changed."""
+    for document in documents:
+        before = document.read_text()
+        text = readme_text() if document == TOP / "README.md" else made_text(TOP, document, index.place_of)
+        if text != before:
+            document.write_text(text)
+            print(f"{document.relative_to(TOP)}: written")
+
+
+def link(index):
+    """Makes links of the names in the tables of docs/READING.md that have none."""
+    document = TOP / "docs" / "READING.md"
+    lines = document.read_text().split("\n")
+    for at, line in enumerate(lines):
+        if line.startswith("| ") and not re.match(r"\| \[?`crates/", line):
+            lines[at] = re.sub(r"(?<!\[)`([^`]+)`(?!\])", lambda found: f"[`{found[1]}`](.#L1)" if index.place_of(found[1]) else found[0], line)
+        elif line.startswith("| `crates/"):
+            lines[at] = re.sub(r"^\| `([^`]+)`", r"| [`\1`](../\1)", line)
+    document.write_text(linked_text(TOP, document, "\n".join(lines), index.place_of))
+
+
+def words_of_documents(documents):
+    """Each document with the number of its words, most first."""
+    return sorted(((words_of_text(document.read_text()), document.relative_to(TOP)) for document in documents), reverse=True)
+
+
 def faults_of_pages(index):
     """Each crate has its page, headed by its name and short."""
     for crate in sorted(index.crates):
@@ -354,11 +409,11 @@ def faults_of_all(index):
     yield from faults_of_pages(index)
     yield from faults_of_readme()
     yield from faults_of_lists(TOP, TOP / "docs" / "CHANGING.md")
-    yield from faults_of_english(TOP, PLAIN_ENGLISH)
 
 
 def main():
     words = sys.argv[1:]
+    option = words.pop(0) if words and words[0] in ("--write", "--link", "--words") else None
     if words and words[0] == "--closure":
         paths = closure_of(words[1])
         for path in paths:
@@ -370,19 +425,30 @@ def main():
             print(size_row(*row))
         return
     documents = [pathlib.Path(word).resolve() for word in words] or [
-        TOP / "README.md", TOP / "examples" / "README.md", *sorted((TOP / "docs").glob("*.md")),
-        *sorted((TOP / "crates").glob("*/*.md"))]
+        TOP / "README.md", TOP / "CHANGELOG.md", TOP / "editors" / "README.md", TOP / "examples" / "README.md",
+        *sorted((TOP / "docs").glob("*.md")), *sorted((TOP / "crates").glob("*/*.md"))]
+    if option == "--words":
+        for count, name in words_of_documents(documents):
+            print(f"{count:6} {name}")
+        print(f"{sum(count for count, _ in words_of_documents(documents)):6} words of {len(documents)} documents")
+        return
     index = Index()
+    if option in ("--write", "--link"):
+        if option == "--link":
+            link(index)
+        write(index, documents)
+        return
     faults = 0
     for fault in [] if words else faults_of_all(index):
         faults += 1
         print(fault)
     for document in documents:
-        for number, fault in faults_of(index, document):
+        for number, fault in [*faults_of(index, document), *faults_of_blocks(TOP, document), *faults_of_text(document.read_text())]:
             if fault:
                 faults += 1
                 print(f"{document.relative_to(TOP)}:{number}: {fault}")
-    print(f"{len(documents)} documents, {faults} faults")
+    words = sum(count for count, _ in words_of_documents(documents))
+    print(f"{len(documents)} documents, {words} words, {faults} faults")
     sys.exit(1 if faults else 0)
 
 

@@ -4,7 +4,6 @@ Text in backquotes, blocks of code and links' targets aren't looked at, and neit
 """
 from __future__ import annotations
 
-import pathlib
 import re
 from dataclasses import dataclass
 from typing import Iterator, Pattern, Tuple
@@ -68,8 +67,12 @@ def faults_of_text(text: str) -> Iterator[Tuple[int, str]]:
             yield plain.count("\n", 0, start) + 1, f'"{words[:40]}" is hard to read; better: {phrase.better}'
 
 
-def faults_of_english(top: pathlib.Path, documents: Tuple[str, ...]) -> Iterator[str]:
-    """Returns the faults of documents, which are paths from the top."""
-    for name in documents:
-        for line, fault in sorted(faults_of_text((top / name).read_text())):
-            yield f"{name}:{line}: {fault}"
+def words_of_text(text: str) -> int:
+    """Returns how many words a document has: those with a letter, outside of code, names in backquotes, targets of links, blocks that are
+    made from the sources, and rules of tables."""
+    text = re.sub(r"<!-- made: .*?<!-- end -->", "", text, flags=re.S)
+    text = re.sub(r"^```.*?^```", "", text, flags=re.M | re.S)
+    text = re.sub(r"^    .*$", "", text, flags=re.M)
+    text = re.sub(r"\]\([^)]*\)", "]", text)
+    text = re.sub(r"`[^`\n]*`", "", text)
+    return sum(1 for word in text.split() if re.search(r"[A-Za-z]", word))
