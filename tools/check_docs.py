@@ -50,7 +50,7 @@ import sys
 
 from docs_english import faults_of_text, words_of_text
 from docs_lists import faults_of_lists
-from docs_made import LINKED, code_lines, fault_of_line, faults_of_blocks, linked_text, made_text
+from docs_made import BLOCK, LINKED, code_lines, fault_of_line, faults_of_blocks, linked_text, made_text
 
 TOP = pathlib.Path(__file__).resolve().parent.parent
 FOLDERS = ("crates/", "docs/", "tools/", "examples/", ".ci/", "src/", "specs/", "proofs/", "must-fail/")
@@ -375,8 +375,8 @@ def faults_of_pages(index):
             yield f"crates/{crate}/README.md:1: no such page"
         elif page.read_text().splitlines()[:1] != [f"# `{crate}`"]:
             yield f"crates/{crate}/README.md:1: its heading isn't the crate's name"
-        elif len(page.read_bytes()) > PAGE_BYTES:
-            yield f"crates/{crate}/README.md:1: it has {len(page.read_bytes())} bytes, more than {PAGE_BYTES}"
+        elif (length := len(BLOCK.sub("", page.read_text()).encode())) > PAGE_BYTES:
+            yield f"crates/{crate}/README.md:1: it has {length} bytes, more than {PAGE_BYTES}, without blocks that are made"
         for page in sorted((TOP / "crates" / crate).glob("*.md")):
             if page.stem != "README" and page.read_text().splitlines()[:1] != [f"# `{page.stem}`"]:
                 yield f"crates/{crate}/{page.name}:1: its heading isn't the part's name"

@@ -1,6 +1,6 @@
 """Turns of phrase that the documents avoid, since readers stumble over them. Used by check_docs.py.
 
-Text in backquotes, blocks of code and links' targets aren't looked at, and neither are EXCEPTIONS.
+Text in backquotes, blocks of code, blocks that are made from the sources and links' targets aren't looked at, and neither are EXCEPTIONS.
 """
 from __future__ import annotations
 
@@ -48,6 +48,7 @@ def blanked(text: str) -> str:
     def blank(found: "re.Match[str]") -> str:
         return re.sub(r"[^\n]", "`", found[0])
 
+    text = re.sub(r"<!-- made: .*?<!-- end -->", blank, text, flags=re.S)
     text = re.sub(r"^```.*?^```", blank, text, flags=re.M | re.S)
     text = re.sub(r"^    .*$", blank, text, flags=re.M)
     text = re.sub(r"`[^`\n]+`", blank, text)

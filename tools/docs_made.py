@@ -88,7 +88,7 @@ def page_sentence(page: pathlib.Path) -> str:
 def head_sentence(module: pathlib.Path) -> str:
     """Returns the first sentence of a module's head."""
     head = re.match(r"(?://! ?.*\n)+", module.read_text())
-    return first_sentence(re.sub(r"^//! ?", "", head[0], flags=re.M)) if head else ""
+    return first_sentence(re.sub(r"^//! ?", "", head[0], flags=re.M)).replace("`crate::", "`") if head else ""
 
 
 def groups(top: pathlib.Path) -> Iterator[Tuple[str, List[str]]]:
@@ -99,8 +99,8 @@ def groups(top: pathlib.Path) -> Iterator[Tuple[str, List[str]]]:
             if names:
                 yield head, names
             head, names = line[1:].strip(), []
-        elif re.match(rf"{WORD}:", line):
-            names.append(line.split(":")[0])
+        elif re.match(rf"{WORD}\b[^#]*:", line):
+            names.append(re.match(WORD, line)[0])
 
 
 def table_of_crates(top: pathlib.Path, document: pathlib.Path) -> List[str]:
