@@ -34,7 +34,7 @@ In backquotes, outside of blocks of code, are checked:
 
 Links `[..](path)` are checked from the document's folder, with their `#heading`; in a link of a name to a line, `[`name`](path#L12)`,
 the name stands there or some lines off. In a row of a table that begins with a backquoted `crates/..` file and then a number, the number
-is the file's lines without imports, comments and blanks; in a row that begins with `sum`, it is the sum of such rows above in the same
+is the file's lines without imports, comments and blanks, and what follows is what the file's head says; in a row that begins with `sum`, it is the sum of such rows above in the same
 table.
 
 Words are those with a letter, outside of code, names in backquotes, targets of links and blocks that are made.
@@ -50,7 +50,7 @@ import sys
 
 from docs_english import faults_of_text, words_of_text
 from docs_lists import faults_of_lists
-from docs_made import BLOCK, LINKED, code_lines, fault_of_line, faults_of_blocks, linked_text, made_text
+from docs_made import BLOCK, LINKED, code_lines, fault_of_line, fault_of_sized, faults_of_blocks, linked_text, made_text
 
 TOP = pathlib.Path(__file__).resolve().parent.parent
 FOLDERS = ("crates/", "docs/", "tools/", "examples/", ".ci/", "src/", "specs/", "proofs/", "must-fail/")
@@ -263,6 +263,7 @@ def faults_of(index, document):
             total = 0
         elif sized and (TOP / sized[1]).is_file():
             total += int(sized[2])
+            yield number, fault_of_sized(TOP, line)
             lines = code_lines(TOP / sized[1])
             yield number, None if lines == int(sized[2]) else f"{sized[1]} has {lines} lines, not {sized[2]}"
         elif summed:

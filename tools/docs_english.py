@@ -69,9 +69,10 @@ def faults_of_text(text: str) -> Iterator[Tuple[int, str]]:
 
 
 def words_of_text(text: str) -> int:
-    """Returns how many words a document has: those with a letter, outside of code, names in backquotes, targets of links, blocks that are
-    made from the sources, and rules of tables."""
+    """Returns how many words a document has: those with a letter, outside of code, names in backquotes, targets of links, blocks and
+    rows of files that are made from the sources, and rules of tables."""
     text = re.sub(r"<!-- made: .*?<!-- end -->", "", text, flags=re.S)
+    text = re.sub(r"^\| \[?`crates/[^`]+`(?:\]\([^)]*\))? \| \d+ \|.*$", "", text, flags=re.M)
     text = re.sub(r"^```.*?^```", "", text, flags=re.M | re.S)
     text = re.sub(r"^    .*$", "", text, flags=re.M)
     text = re.sub(r"\]\([^)]*\)", "]", text)

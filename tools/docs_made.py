@@ -1,4 +1,4 @@
-"""What documents have from the sources: numbers of lines, README's sizes, lists of files, tables of crates and of modules, and the lines
+"""What documents have from the sources: numbers of lines with what a file's head says, README's sizes, lists of files, tables of crates and of modules, and the lines
 that links name. Used by check_docs.py, which compares it, and with `--write` makes it again.
 
 A block that is made stands between `<!-- made: WHAT -->` and `<!-- end -->`:
@@ -16,7 +16,7 @@ from typing import Callable, Dict, Iterator, List, Optional, Tuple
 from docs_lists import TABLES, files_of, rows_of
 
 WORD = r"[A-Za-z_][A-Za-z0-9_]*"
-SIZED = re.compile(r"(\| \[?`(crates/[^`]+)`(?:\]\([^)]*\))? \| )(\d+)( \|.*)")
+SIZED = re.compile(r"(\| \[?`(crates/[^`]+)`(?:\]\([^)]*\))? \| )(\d+)( \| )(.*)( \|)")
 SUMMED = re.compile(r"(\| sum[^|]*\| )(\d+)( \|.*)")
 LINKED = re.compile(r"\[`([^`]+)`\]\(([^)#]+)#L(\d+)\)")
 BLOCK = re.compile(r"(<!-- made: ([a-z]+) -->\n)(.*?)(<!-- end -->)", re.S)
@@ -42,7 +42,7 @@ def code_lines(path: pathlib.Path) -> int:
 
 
 def sized_text(top: pathlib.Path, text: str) -> str:
-    """Returns a text with the right number of lines in each row that has a file, and the right sums after them."""
+    """Returns a text with the right number of lines and what its head says in each row that has a file, and the right sums after them."""
     lines, total = [], 0
     for line in text.split("\n"):
         sized, summed = SIZED.fullmatch(line), SUMMED.fullmatch(line)
@@ -51,7 +51,7 @@ def sized_text(top: pathlib.Path, text: str) -> str:
         elif sized and (top / sized[2]).is_file():
             count = code_lines(top / sized[2])
             total += count
-            line = f"{sized[1]}{count}{sized[4]}"
+            line = f"{sized[1]}{count} | {head_sentence(top / sized[2]) or sized[5]} |"
         elif summed:
             line, total = f"{summed[1]}{total}{summed[3]}", 0
         lines.append(line)
@@ -86,9 +86,10 @@ def page_sentence(page: pathlib.Path) -> str:
 
 
 def head_sentence(module: pathlib.Path) -> str:
-    """Returns the first sentence of a module's head."""
-    head = re.match(r"(?://! ?.*\n)+", module.read_text())
-    return first_sentence(re.sub(r"^//! ?", "", head[0], flags=re.M)).replace("`crate::", "`") if head else ""
+    """Returns the first sentence of the head of a module, or of a file of definitions."""
+    mark = "//!" if module.suffix == ".rt" else "--"
+    head = re.match(rf"(?:{mark} ?.*\n)+", module.read_text())
+    return first_sentence(re.sub(rf"^{mark} ?", "", head[0], flags=re.M)).replace("`crate::", "`") if head else ""
 
 
 def groups(top: pathlib.Path) -> Iterator[Tuple[str, List[str]]]:
@@ -172,6 +173,15 @@ def fault_of_line(document: pathlib.Path, name: str, path: str, line: int, find:
     if (document.parent / path).resolve() != place[0].resolve() or abs(place[1] - line) > NEAR:
         return f"{name} is at line {place[1]} of {os.path.relpath(place[0], document.parent)}, not {line} of {path}"
     return None
+
+
+def fault_of_sized(top: pathlib.Path, line: str) -> Optional[str]:
+    """Tells a row of a file that doesn't say what the file's head says."""
+    sized = SIZED.fullmatch(line)
+    if not sized or not (top / sized[2]).is_file():
+        return None
+    said = head_sentence(top / sized[2])
+    return None if said in ("", sized[5]) else f"the head of {sized[2]} says: {said}"
 
 
 def faults_of_blocks(top: pathlib.Path, document: pathlib.Path) -> Iterator[Tuple[int, str]]:
