@@ -8,7 +8,10 @@ usage: tools/check_docs.py [DOCUMENT ...]      without documents: README.md, exa
                                                function of crates/law*) stands in docs/CLAIMS.md;
                                                that README.md has at most 7 KB and its table of sizes is right;
                                                that docs/CHANGING.md lists the files that name every kind or
-                                               every command (docs_lists.py); that blocks that are made from the
+                                               every command (docs_lists.py); that numbers are the sources'
+                                               (docs_counts.py); that the kernel's names in documents and
+                                               comments are in tools/kernel_names.txt (docs_kernel.py); that
+                                               tools/README.md has each tool; that blocks that are made from the
                                                sources are as the sources have them (docs_made.py); and that no
                                                document has phrases to avoid (docs_english.py)
        tools/check_docs.py --write             makes anew what documents have from the sources: numbers of lines,
@@ -43,12 +46,15 @@ A mark that a merge left is a fault, too. Each fault is a line `document:line: w
 tools/test_check_docs.py tests it with planted faults.
 """
 import collections
+import functools
 import glob
 import pathlib
 import re
 import sys
 
+from docs_counts import faults_of_counts
 from docs_english import faults_of_text, words_of_text
+from docs_kernel import faults_of_kernel, ours_of, stored, texts
 from docs_lists import faults_of_lists
 from docs_made import BLOCK, LINKED, code_lines, fault_of_line, fault_of_sized, faults_of_blocks, linked_text, made_text
 
@@ -77,12 +83,13 @@ class Index:
         self.parts = {path.stem for path in (TOP / "crates").glob("*/*.md") if path.stem != "README"}
         self.parts |= {path.name for folder in ("specs", "proofs") for path in (TOP / "crates").glob(f"*/{folder}/*") if path.is_dir()}
         self.places = collections.defaultdict(list)
+        self.foreign = set()
         self.libraries = {"std"}
         for line in (TOP / "crates.txt").read_text().splitlines():
             if ":" in line and not line.startswith("#"):
                 self.libraries.update(line.split(":", 1)[1].split())
         self.libraries -= self.crates
-        for crate in self.crates:
+        for crate in sorted(self.crates):
             for path in sorted((TOP / "crates" / crate).glob("src/**/*.rt")):
                 self.read_source(crate, path)
             for folder in ("specs", "proofs"):
@@ -93,7 +100,12 @@ class Index:
                         self.read_definitions(part, path)
             for path in (TOP / "crates" / crate).glob("must-fail/*"):
                 self.words.add(path.stem)
-        self.words |= self.crates | self.libraries | {path.stem for path in (TOP / "examples").iterdir()}
+        self.words |= self.crates | self.libraries | {path.stem for folder in ("examples", "tools") for path in (TOP / folder).iterdir()}
+
+    @functools.lru_cache(maxsize=None)
+    def source_of(self, crate):
+        """All sources of a crate, as one text."""
+        return "\n".join(path.read_text() for path in sorted((TOP / "crates" / crate).glob("src/**/*.rt")))
 
     def read_source(self, crate, path):
         if path.stem not in ("lib", "main"):
@@ -114,6 +126,8 @@ class Index:
                 self.items[crate].add(owner)
             elif implemented:
                 owner = implemented[1]
+                if not re.search(rf"\b(?:struct|enum|trait|union) {owner}\b", self.source_of(crate)):
+                    self.foreign.add((path, owner))
             elif line.startswith("}"):
                 owner = None
             if named and re.search(r"\bfn\b", line):
@@ -151,10 +165,11 @@ class Index:
         *above, name = text.split("::")
         found = []
         for path, line, owner in self.places[name]:
-            names = {*path.parts, path.stem, owner}
-            if path.suffix == ".rt" and above and all(part in names for part in above):
-                found.append((path, line))
-        return (found or [None])[0]
+            if path.suffix == ".rt" and above and all(part in {*path.parts, path.stem, owner} for part in above):
+                crate = path.relative_to(TOP / "crates").parts[0]
+                defines = owner is None or owner in self.items[crate] and (path, owner) not in self.foreign
+                found.append((not defines, crate.startswith(("plain_", "rules_", "test_")), path, line))
+        return min(found)[2:] if found else None
 
     def has_definition(self, crate, module, name):
         return module in self.specs[crate] and (name is None or name in self.specs[crate][module])
@@ -368,6 +383,11 @@ def words_of_documents(documents):
     return sorted(((words_of_text(document.read_text()), document.relative_to(TOP)) for document in documents), reverse=True)
 
 
+def words_told(documents):
+    """How many words documents have, without the pages of examples and tools."""
+    return sum(count for count, name in words_of_documents(documents) if name.parts[0] not in ("examples", "tools"))
+
+
 def faults_of_pages(index):
     """Each crate has its page, headed by its name and short."""
     for crate in sorted(index.crates):
@@ -403,6 +423,28 @@ def missing_laws():
                 yield f"docs/CLAIMS.md:1: it doesn't have the law {law}"
 
 
+def faults_of_tools(top):
+    """Tools without a line in tools/README.md, or with more than one, and lines of what isn't there."""
+    page = top / "tools" / "README.md"
+    told = collections.Counter()
+    for line in page.read_text().splitlines() if page.is_file() else ():
+        if line.startswith("| ["):
+            told.update(re.findall(r"\[`([^`]+)`\]\(", line.split(" | ")[0]))
+    there = {path.name for path in (top / "tools").iterdir() if not path.name.startswith((".", "__"))} - {"README.md"}
+    for name in sorted(there | set(told)):
+        if name not in there:
+            yield f"tools/README.md:1: there is no tool {name}"
+        elif told[name] != 1:
+            yield f"tools/README.md:1: it has {told[name]} lines on {name}"
+
+
+def faults_of_names(documents):
+    """The kernel's names, in documents and in comments of sources, that aren't in the stored list."""
+    known, ours = stored(), ours_of()
+    for path, text in texts(documents):
+        yield from faults_of_kernel(str(path.relative_to(TOP)), text, known, ours)
+
+
 def faults_of_all(index):
     """The faults that no single document shows: what is missing, and what isn't as the sources have it."""
     yield from missing_crates(index)
@@ -410,6 +452,8 @@ def faults_of_all(index):
     yield from faults_of_pages(index)
     yield from faults_of_readme()
     yield from faults_of_lists(TOP, TOP / "docs" / "CHANGING.md")
+    yield from faults_of_counts(TOP)
+    yield from faults_of_tools(TOP)
 
 
 def main():
@@ -426,12 +470,12 @@ def main():
             print(size_row(*row))
         return
     documents = [pathlib.Path(word).resolve() for word in words] or [
-        TOP / "README.md", TOP / "CHANGELOG.md", TOP / "editors" / "README.md", TOP / "examples" / "README.md",
+        TOP / "README.md", TOP / "CHANGELOG.md", TOP / "editors" / "README.md", TOP / "examples" / "README.md", TOP / "tools" / "README.md",
         *sorted((TOP / "docs").glob("*.md")), *sorted((TOP / "crates").glob("*/*.md"))]
     if option == "--words":
         for count, name in words_of_documents(documents):
             print(f"{count:6} {name}")
-        print(f"{sum(count for count, _ in words_of_documents(documents)):6} words of {len(documents)} documents")
+        print(f"{words_told(documents):6} words, without those of examples/ and tools/")
         return
     index = Index()
     if option in ("--write", "--link"):
@@ -440,7 +484,7 @@ def main():
         write(index, documents)
         return
     faults = 0
-    for fault in [] if words else faults_of_all(index):
+    for fault in [] if words else [*faults_of_all(index), *faults_of_names(documents)]:
         faults += 1
         print(fault)
     for document in documents:
@@ -448,8 +492,7 @@ def main():
             if fault:
                 faults += 1
                 print(f"{document.relative_to(TOP)}:{number}: {fault}")
-    words = sum(count for count, _ in words_of_documents(documents))
-    print(f"{len(documents)} documents, {words} words, {faults} faults")
+    print(f"{len(documents)} documents, {words_told(documents)} words without those of examples/ and tools/, {faults} faults")
     sys.exit(1 if faults else 0)
 
 

@@ -42,6 +42,9 @@ PHRASES = (
 # Names that have no backquotes, and quoted text of the kernel: left alone where they are written as here. (Now there are none.)
 EXCEPTIONS: Tuple[str, ...] = ()
 
+# A row that docs_made.py makes of a file: its lines, and what its head says.
+ROW_OF_FILE = r"^\| \[?`crates/[^`]+`(?:\]\([^)]*\))? \| \d+ \|.*$"
+
 
 def blanked(text: str) -> str:
     """Returns a document's text with code, links' targets and exceptions blanked out; lines and columns stay where they are."""
@@ -49,6 +52,7 @@ def blanked(text: str) -> str:
         return re.sub(r"[^\n]", "`", found[0])
 
     text = re.sub(r"<!-- made: .*?<!-- end -->", blank, text, flags=re.S)
+    text = re.sub(ROW_OF_FILE, blank, text, flags=re.M)
     text = re.sub(r"^```.*?^```", blank, text, flags=re.M | re.S)
     text = re.sub(r"^    .*$", blank, text, flags=re.M)
     text = re.sub(r"`[^`\n]+`", blank, text)
@@ -72,7 +76,7 @@ def words_of_text(text: str) -> int:
     """Returns how many words a document has: those with a letter, outside of code, names in backquotes, targets of links, blocks and
     rows of files that are made from the sources, and rules of tables."""
     text = re.sub(r"<!-- made: .*?<!-- end -->", "", text, flags=re.S)
-    text = re.sub(r"^\| \[?`crates/[^`]+`(?:\]\([^)]*\))? \| \d+ \|.*$", "", text, flags=re.M)
+    text = re.sub(ROW_OF_FILE, "", text, flags=re.M)
     text = re.sub(r"^```.*?^```", "", text, flags=re.M | re.S)
     text = re.sub(r"^    .*$", "", text, flags=re.M)
     text = re.sub(r"\]\([^)]*\)", "]", text)

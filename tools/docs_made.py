@@ -16,7 +16,7 @@ from typing import Callable, Dict, Iterator, List, Optional, Tuple
 from docs_lists import TABLES, files_of, rows_of
 
 WORD = r"[A-Za-z_][A-Za-z0-9_]*"
-SIZED = re.compile(r"(\| \[?`(crates/[^`]+)`(?:\]\([^)]*\))? \| )(\d+)( \| )(.*)( \|)")
+SIZED = re.compile(r"(\| \[?`(crates/[^`]+)`(?:\]\([^)]*\))? \| )(\d+) \|(.*)\|")
 SUMMED = re.compile(r"(\| sum[^|]*\| )(\d+)( \|.*)")
 LINKED = re.compile(r"\[`([^`]+)`\]\(([^)#]+)#L(\d+)\)")
 BLOCK = re.compile(r"(<!-- made: ([a-z]+) -->\n)(.*?)(<!-- end -->)", re.S)
@@ -51,7 +51,7 @@ def sized_text(top: pathlib.Path, text: str) -> str:
         elif sized and (top / sized[2]).is_file():
             count = code_lines(top / sized[2])
             total += count
-            line = f"{sized[1]}{count} | {head_sentence(top / sized[2]) or sized[5]} |"
+            line = f"{sized[1]}{count} | {head_sentence(top / sized[2]) or sized[4].strip()} |"
         elif summed:
             line, total = f"{summed[1]}{total}{summed[3]}", 0
         lines.append(line)
@@ -181,7 +181,7 @@ def fault_of_sized(top: pathlib.Path, line: str) -> Optional[str]:
     if not sized or not (top / sized[2]).is_file():
         return None
     said = head_sentence(top / sized[2])
-    return None if said in ("", sized[5]) else f"the head of {sized[2]} says: {said}"
+    return None if said in ("", sized[4].strip()) else f"the head of {sized[2]} says: {said}"
 
 
 def faults_of_blocks(top: pathlib.Path, document: pathlib.Path) -> Iterator[Tuple[int, str]]:
