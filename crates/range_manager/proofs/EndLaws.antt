@@ -157,7 +157,7 @@ begins es start h =
     elim (cases_lt start (get_or es start 0)) [
       | inr n ↦ absurd (both_ways (is_some (find (starts_at start) (held_spans 0 es))) (ap is_some (find_not_held es start n)) h)
       | inl s ↦ record {
-        below = elim (cases_lt start (length es)) [ | inl l ↦ l | inr l ↦ let e = get_or_past es start 0 l in absurd (omega (arith, e, s)) ];
+        below = elim (cases_lt start (length es)) [ inl l ↦ l | inr l ↦ let e = get_or_past es start 0 l in absurd (omega (arith, e, s)) ];
         some = s;
         found = find_held es start s;
       }
