@@ -424,8 +424,14 @@ module _ {V I R : Type 0} (list : V → List I) (root : V → R) (done : List I 
         (subst (λ (l : List I). All (λ p. p < length l) me.0.own) (sym e) (rule.line.each id me.0 at).owns)
         (apart_set s.views id me.0 (wrote list root done me.0 (list y) me.0.own) at refl rule.apart)
         (λ c. let same : done me.0.seen c ≡ done (list y) c = ap (λ (l : List I). done l c) (sym e) in omega arith)
-        (λ z is. let same = same_value z is in (me.0.own, ap (λ (q : V). (wrote list root done me.0 (list q) me.0.own, me.1)) same, (λ _. refl), (λ x longer_by. absurd (no_longer me.0.seen x (sym e ∙ (ap list same ∙ longer_by)))),
-        own_once s.views id me.0 at rule.apart, subst (λ (l : List I). All (λ p. p < length l) me.0.own) (sym e ∙ ap list same) (rule.line.each id me.0 at).owns))
+        (λ z is. let same = same_value z is in (
+          me.0.own,
+          ap (λ (q : V). (wrote list root done me.0 (list q) me.0.own, me.1)) same,
+          (λ _. refl),
+          (λ x longer_by. absurd (no_longer me.0.seen x (sym e ∙ (ap list same ∙ longer_by)))),
+          own_once s.views id me.0 at rule.apart,
+          subst (λ (l : List I). All (λ p. p < length l) me.0.own) (sym e ∙ ap list same) (rule.line.each id me.0 at).owns,
+        ))
     publishes_at up (inr e) = let last : ℕ = length me.0.seen in let own : List ℕ = me.0.own ++ last ∷ [] in let w : D = wrote list root done me.0 (list y) own in
         let len : length (list y) ≡ suc last = one_more me.0.seen (list y) e.0 e.1 in
         let seat = rule.line.each id me.0 at in let old_owns = seat.owns in
@@ -443,8 +449,14 @@ module _ {V I R : Type 0} (list : V → List I) (root : V → R) (done : List I 
         within
         apart
         (λ c. subst (λ (l : List I). done me.0.seen c ≤ done l c) (sym e.1) (up me.0.seen (e.0 ∷ []) c))
-        (λ z is. let same = same_value z is in (own, ap (λ (q : V). (wrote list root done me.0 (list q) own, me.1)) same, (λ kept. absurd (no_longer me.0.seen e.0 (sym kept ∙ (ap list (sym same) ∙ e.1)))), (λ x _. refl),
-        own_once (set s.views id w) id w (set_at s.views id me.0 w at) apart, subst (λ (l : List I). All (λ p. p < length l) own) (ap list same) within))
+        (λ z is. let same = same_value z is in (
+          own,
+          ap (λ (q : V). (wrote list root done me.0 (list q) own, me.1)) same,
+          (λ kept. absurd (no_longer me.0.seen e.0 (sym kept ∙ (ap list (sym same) ∙ e.1)))),
+          (λ x _. refl),
+          own_once (set s.views id w) id w (set_at s.views id me.0 w at) apart,
+          subst (λ (l : List I). All (λ p. p < length l) own) (ap list same) within,
+        ))
 
   pub publishes : (slots id : ℕ) (me : M) (n k : ℕ) (y : V) → ((xs zs : List I) (c : ℕ) → done xs c ≤ done (xs ++ zs) c) → me.0.stage ≡ Holding n → me.1 ≡ (0, Some y) ∷ [] → Grows me.0.seen (list y) → me.0.root ≡ Some (root y) → k ≡ length (list y)
       → Allows Rule slots id me 2 (λ _. k) (λ _. published list root done (step slots 2 k 0 none) me k)
@@ -585,14 +597,17 @@ module _ {V I R : Type 0} (list : V → List I) (root : V → R) (done : List I 
   pub rests : (s : St) (id : ℕ) (v : D) (n : ℕ) → Rule s → get_elem? s.views id ≡ some v → v.stage ≡ Called n
       → (y : V) × (get_elem? s.homes 0 ≡ some (some (Some y))) × IsTaken list root done v y
   rests s id v n rule at is = let sv : ℕ = rule.served in let t : ℕ = rule.ticket in let cur : List I = rule.current in let fs : List ℕ = rule.fence_words in let seat = rule.line.each id v at in ⊎_elim
-      (λ (h : Home cur s.homes s.views).
-      (h.0, subst (λ (hs : Homes). get_elem? hs 0 ≡ some (some (Some h.0))) (sym h.1) refl, record {
-        before = subst (λ (l : List I). IsPrefix v.seen l) (sym h.2) seat.behind;
-        same_root = λ x e. h.3 ∙ sym (seat.rooted x e);
-        once = own_once s.views id v at rule.apart;
-        within = seat.owns;
-        fences = subst (λ (l : List I). IsDone list root done l v) (sym h.2) (done_below cur fs v seat.reached rule.done_all);
-      }))
+      (λ (h : Home cur s.homes s.views). (
+        h.0,
+        subst (λ (hs : Homes). get_elem? hs 0 ≡ some (some (Some h.0))) (sym h.1) refl,
+        record {
+          before = subst (λ (l : List I). IsPrefix v.seen l) (sym h.2) seat.behind;
+          same_root = λ x e. h.3 ∙ sym (seat.rooted x e);
+          once = own_once s.views id v at rule.apart;
+          within = seat.owns;
+          fences = subst (λ (l : List I). IsDone list root done l v) (sym h.2) (done_below cur fs v seat.reached rule.done_all);
+        },
+      ))
       (λ h. let j = h.1.0 in let u = h.1.1 in
       let k = subst (Knows sv t cur v.seen) is seat.knows in
       let had : Has sv v.stage = subst (λ (z : Stage). Has sv z) (sym is) (sym k.0) in
