@@ -32,6 +32,7 @@ use Rattle.room_representation.proofs.lemma_room_jobs.Lists.{get_map}
 use Rattle.room_representation.proofs.lemma_room_bytes.Walks.{page_held, slots_within}
 use Rattle.room_representation.proofs.lemma_room_bytes.Places.{page_there}
 use Rattle.room_representation.proofs.lemma_room_bytes.Shown.{range_append}
+use Rattle.room_representation.proofs.lemma_room_bytes.Slots.{held_below}
 use Rattle.room_representation.proofs.room_steps.Lent.{is_below, stands_at}
 use Rattle.room_queries.specs.Bytes.{byte_in, bytes_in, page_of_bo, standing, zeros, HasPart}
 
@@ -135,7 +136,7 @@ module _ (script : Script) (journal : List Entry) (p : Parts) (held : AreHeld sc
   represented_byte n o nowhere at = held.represents.no_more nowhere o refl
   represented_byte n o (vram q) at = sym (held.represents.stores.in_vram q o)
   represented_byte n o (frame f) at = sym (held.represents.stores.in_frames f o)
-  represented_byte n o (slot k) at = sym (held.represents.swap.bytes_are k o (slot_held n k at))
+  represented_byte n o (slot k) at = sym (held.represents.swap.bytes_are k o (held_below script (held_slots (state_of script journal).core) (stores_of script journal) p.swap held.represents.swap k (slot_held n k at)))
 
   -- so has each byte of the buffer
   seen_byte : (i : ℕ) → byte_of (stores_of script journal) x i ≡ byte_in p (page_at x (i / 4096)) (i % 4096)

@@ -16,5 +16,5 @@ push_part-requires-2-clause-there c = lent_has c.args.script.now c.args.before.n
 pub returns : goal.returns
 returns c =
     both_shown c.args.script.now c.args.before.now c.args.parts.now c.requires.held c.args.b c.requires.live c.get-bo.result.now c.get-bo.ensures c.args.off c.args.len c.min-first.result c.push_part.new.out c.push_part-2.new.out c.min-first.ensures c.requires.short
-    (c.in_ok-push_part.ensures ∙ ap (λ l. l ++ bytes_in c.args.parts.now (page_of_bo c.get-bo.result.now (c.args.off / 4096)) (c.args.off % 4096) c.min-first.result) c.new-out.ensures)
-    c.in_ok-push_part-2.ensures
+    (c.push_part.ensures ∙ ap (λ l. l ++ bytes_in c.args.parts.now (page_of_bo c.get-bo.result.now (c.args.off / 4096)) (c.args.off % 4096) c.min-first.result) c.set.ensures)
+    c.push_part-2.ensures
