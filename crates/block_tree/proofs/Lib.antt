@@ -1,5 +1,4 @@
 pub mod Numbers
-pub mod MarkLaws
 pub mod SearchLaws
 pub mod FreeLaws
 pub mod PieceLaws
@@ -10,6 +9,3 @@ pub mod FoundLaws
 pub mod HolderLaws
 pub mod MarkingLaws
 pub mod SpanLaws
-pub mod BitLaws
-pub mod BitWalks
-pub mod BitWalksBack
