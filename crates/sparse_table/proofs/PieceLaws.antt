@@ -3,7 +3,7 @@ use Rattle.std.proofs.Common.{◌≡◌, ◌≢◌, ℕ, zero, suc, ◌+◌, ◌
 use Rattle.std.specs.Prelude.{◌%◌, ◌==◌}
 use Rattle.std.proofs.lemmas.Bool.{cases_lt, eq-eqb, ne_eqb}
 use Rattle.std.proofs.lemmas.Grind.{same_number_lists}
-use Rattle.std.proofs.lemmas.List.{length-replicate}
+use Rattle.std.proofs.lemmas.List.{get_or_past, length-replicate}
 use Rattle.sparse_table.specs.Pieces.{number_in, numbers_from}
 
 pub length-numbers : (ps : List (List ℕ)) (start n : ℕ) → length (numbers_from ps start n) ≡ n
@@ -17,6 +17,24 @@ at_from ps (suc n) start (suc k) l = let e : start + 1 + k ≡ start + suc k = o
 
 pub number_at : (ps : List (List ℕ)) (n k : ℕ) → k < n → get_or (numbers_from ps 0 n) k 0 ≡ number_in ps k
 number_at ps n k l = let e : 0 + k ≡ k = omega arith in at_from ps n 0 k l ∙ ap (number_in ps) e
+
+-- a place whose number isn't 0: its piece has numbers
+pub record HasNumber (ps : List (List ℕ)) (n at : ℕ) : Type 0 where
+  pub below : at < n
+  pub inside : at % 1024 < length (get_or ps (at / 1024) [])
+
+pub has_number : (ps : List (List ℕ)) (n at : ℕ) → 0 < get_or (numbers_from ps 0 n) at 0 → HasNumber ps n at
+has_number ps n at some =
+    elim (cases_lt at n) [
+      | inr past ↦ let e = get_or_past (numbers_from ps 0 n) at 0 (omega (arith, past, length-numbers ps 0 n)) in absurd (omega (arith, e, some))
+      | inl below ↦ elim (cases_lt (at % 1024) (length (get_or ps (at / 1024) []))) [
+        | inl inside ↦ record { below = below; inside = inside }
+        | inr past ↦
+            let e = get_or_past (get_or ps (at / 1024) []) (at % 1024) 0 past in
+            let f = number_at ps n at below in
+            absurd (omega (arith, e, f, some))
+      ]
+    ]
 
 -- where there are only zeros, each number is 0
 pub zeros : (n k : ℕ) → get_or {A = ℕ} (replicate n 0) k 0 ≡ 0

@@ -1,4 +1,4 @@
-//! A number for each of many places, of which memory is taken for those pieces alone in which one was set.
+//! A number for each of many places, with memory for those pieces alone in which one was set.
 #![tactic(auto)]
 
 mod piece;

@@ -1,14 +1,14 @@
-//! The numbers of places side by side.
+//! The numbers of neighbouring places.
 ghost use Rattle.std.specs.Prelude.{◌≡◌, ℕ, ◌<◌, ◌==◌, [], IfOk, OnOk, OnErr, length, replicate, slice_index, if◌then◌else◌};
 
 use std::alloc::Global;
 use std::marker::Model;
 use ttm_base::NoMemory;
 
-/// How many numbers a piece has.
+/// Counts the numbers of a piece.
 pub const PIECE: usize = 1024;
 
-/// None before a number is set, and then all of the piece, of which the others are 0.
+/// Holds no numbers before one is set, and then all `PIECE` of them, of which the others are 0.
 #[derive(Drop)]
 pub struct Piece {
     numbers: Vec<u32>,
@@ -26,7 +26,9 @@ impl Model for Piece {
     ghost invariant = { λ p. IsPiece p.numbers.items };
 }
 
-/// The numbers of a piece, all of them 0.
+/// Makes the numbers of a piece, all of them 0.
+#[cold]
+#[inline(never)]
 fn zeros(alloc: Global) -> Result<Vec<u32>, NoMemory>
     ensures { IfOk result (λ numbers. numbers.items ≡ replicate 1024 0) }
 {
@@ -35,7 +37,7 @@ fn zeros(alloc: Global) -> Result<Vec<u32>, NoMemory>
 }
 
 impl Piece {
-    /// No number is set.
+    /// Makes a piece in which no number is set. It takes no memory.
     pub fn new(alloc: Global) -> Piece
         ensures { result ≡ [] }
     {
@@ -44,6 +46,8 @@ impl Piece {
         }
     }
 
+    /// Gives the number at `at`, which is 0 where none was set.
+    #[inline]
     pub fn get(&self, at: usize) -> u32
         ensures { result ≡ slice_index self.now at }
     {
@@ -51,6 +55,7 @@ impl Piece {
     }
 
     /// Makes room for all numbers of the piece. After a refusal nothing is changed.
+    #[inline]
     fn fill(&mut self) -> Result<(), NoMemory>
         ensures size { OnOk result (length self.new ≡ 1024) }
         ensures kept { (other : ℕ) → slice_index self.new other ≡ slice_index self.old other }
@@ -63,7 +68,8 @@ impl Piece {
         Ok(())
     }
 
-    /// Sets a number. After a refusal nothing is changed.
+    /// Sets the number at `at`. After a refusal nothing is changed.
+    #[inline]
     pub fn set(&mut self, at: usize, number: u32) -> Result<(), NoMemory>
         requires { at < 1024 }
         ensures set { OnOk result ((other : ℕ) → slice_index self.new other ≡ (if other == at then number else slice_index self.old other)) }
@@ -74,12 +80,12 @@ impl Piece {
         Ok(())
     }
 
-    /// Sets a number to 0. It takes no memory.
-    pub fn clear(&mut self, at: usize)
-        ensures { (other : ℕ) → slice_index self.new other ≡ (if other == at then 0 else slice_index self.old other) }
+    /// Replaces the number at `at` of a piece that has numbers. It takes no memory.
+    #[inline]
+    pub fn replace(&mut self, at: usize, number: u32)
+        requires { at < length self.old }
+        ensures { (other : ℕ) → slice_index self.new other ≡ (if other == at then number else slice_index self.old other) }
     {
-        if at < self.numbers.len() {
-            self.numbers[at] = 0;
-        }
+        self.numbers[at] = number;
     }
 }

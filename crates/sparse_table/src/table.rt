@@ -5,13 +5,14 @@ use std::alloc::Global;
 use std::marker::Model;
 use ttm_base::NoMemory;
 
-/// A number for each place, 0 until it is set.
+/// Keeps a number for each place, 0 until it is set. Memory is taken for those pieces of 1,024 places alone in which a number was set, and is
+/// kept until the table goes.
 pub struct SparseTable {
     pieces: Vec<Piece>,
     len: usize,
 }
 
-/// Written out, so that no crate above proves how each part is dropped.
+/// Names each part, so that no crate above proves how they are dropped.
 impl Drop for SparseTable {
     fn drop(self) {
         let Self { pieces: _, len: _ } = self;
@@ -30,7 +31,7 @@ impl Model for SparseTable {
     ghost invariant = { λ t. HasPieces t.pieces.items t.len };
 }
 
-/// Pieces in which no number is set.
+/// Makes `count` pieces in which no number is set.
 #[tactic(auto, using(crate::proofs::PieceLaws::one_more))]
 fn no_numbers(alloc: Global, count: usize) -> Result<Vec<Piece>, NoMemory>
     ensures { IfOk result (λ pieces. pieces.items ≡ replicate count []) }
@@ -43,7 +44,7 @@ fn no_numbers(alloc: Global, count: usize) -> Result<Vec<Piece>, NoMemory>
 }
 
 impl SparseTable {
-    /// So many places, of which none has a number.
+    /// Makes a table of `len` places, each with the number 0. It takes 24 bytes for each 1,024 places.
     pub fn new(alloc: Global, len: u32) -> Result<SparseTable, NoMemory>
         ensures { IfOk result (λ table. table ≡ replicate len 0) }
     {
@@ -52,14 +53,16 @@ impl SparseTable {
         Ok(SparseTable { pieces, len })
     }
 
-    /// How many places there are.
+    /// Counts the places.
+    #[inline]
     pub fn len(&self) -> usize
         ensures { result ≡ length self.now }
     {
         self.len
     }
 
-    /// The number of a place, 0 where there is no such place.
+    /// Gives the number of a place, or 0 where there is no such place.
+    #[inline]
     pub fn get(&self, at: usize) -> u32
         ensures { result ≡ slice_index self.now at }
     {
@@ -69,7 +72,8 @@ impl SparseTable {
         self.pieces[at / PIECE].get(at % PIECE)
     }
 
-    /// Sets the number of a place. It takes memory for the first one of a piece. After a refusal nothing is changed.
+    /// Sets the number of a place. It takes 4,096 bytes for the first one of a piece. After a refusal nothing is changed.
+    #[inline]
     pub fn set(&mut self, at: usize, number: u32) -> Result<(), NoMemory>
         requires { at < length self.old }
         ensures set { OnOk result (self.new ≡ slice_set self.old at number) }
@@ -79,11 +83,12 @@ impl SparseTable {
         Ok(())
     }
 
-    /// Sets the number of a place to 0. It takes no memory.
-    pub fn clear(&mut self, at: usize)
-        requires { at < length self.old }
-        ensures { self.new ≡ slice_set self.old at 0 }
+    /// Replaces the number of a place that has one other than 0. It takes no memory.
+    #[inline]
+    pub fn replace(&mut self, at: usize, number: u32)
+        requires { 0 < slice_index self.old at }
+        ensures { self.new ≡ slice_set self.old at number }
     {
-        self.pieces[at / PIECE].clear(at % PIECE);
+        self.pieces[at / PIECE].replace(at % PIECE, number);
     }
 }
