@@ -1,4 +1,5 @@
 pub mod Numbers
+pub mod MarkLaws
 pub mod SearchLaws
 pub mod FreeLaws
 pub mod PieceLaws
