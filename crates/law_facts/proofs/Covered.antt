@@ -91,9 +91,10 @@ module _ (script : Script) (fits : IsTrue (is_script script)) (journal : List En
       let k = at_has (pages_of (target_spans mem.Vram (buffer_in (state_of script journal).core b))) p h in
       let owner : owner_of (bare (state_of script journal).core) (Vram p) ≡ Target b.0 k.0 = owner_is (bare (state_of script journal).core) (once script fits journal legal) (Vram p) (Target b.0 k.0) (λ q. cc) (ap (λ o. seen (page_in_vram o)) k.1) in
       let g = guarded script fits journal legal a.0 i (pages.vram p) (Target b.0 k.0) a.1 t owner in
-      let r = strong_at b true g.0.0 g.0.1 in
-      (covered script fits journal legal (jobs_before_read (buffer_in (state_of script journal).core b)) g.0.0 a.0 r.job i r.at a.1 f r.among g.0.2,
-      by_mover script fits journal legal a.0 i g.1.0 a.1 f g.1.1 g.1.2)
+      let r = strong_at b true g.0.0 g.0.1 in (
+        covered script fits journal legal (jobs_before_read (buffer_in (state_of script journal).core b)) g.0.0 a.0 r.job i r.at a.1 f r.among g.0.2,
+        by_mover script fits journal legal a.0 i g.1.0 a.1 f g.1.1 g.1.2,
+      )
 
   after_so : (m n : ℕ) (i j : Job) → slice_get (state_of script journal).core.jobs m ≡ Some i → slice_get (state_of script journal).core.jobs n ≡ Some j → After (viewed script fits journal legal).view.fences.prior n m → ComesAfter (state_of script journal).core.jobs j i
   after_so m n i j a b h =

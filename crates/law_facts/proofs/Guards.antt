@@ -76,14 +76,16 @@ module _ (script : Script) (fits : IsTrue (is_script script)) (journal : List En
       let two : Some b.later ≡ Some x = sym b.at ∙ at in
       let is : b.later ≡ x = cc in
       let cx = has_of x (state_of script journal).core.jobs m at in
-      let cy = has_of b.earlier (state_of script journal).core.jobs n b.there in
-      (b.earlier, b.there,
-      ⊎_elim
-      (λ w. by_wait cx cy (subst (λ (z : Job). list_any (same_job b.earlier.id) z.waits ≡ true) is w))
-      (λ r.
-      let ctx : b.earlier.id.ctx ≡ x.id.ctx = sym r.1 ∙ ap (λ (z : Job). z.id.ctx) is in
-      by_context cx cy ctx ((line_law script journal x.id.ctx fits legal).rises n m b.earlier x r.0 b.there at ctx refl))
-      b.why)
+      let cy = has_of b.earlier (state_of script journal).core.jobs n b.there in (
+        b.earlier,
+        b.there,
+        ⊎_elim
+            (λ w. by_wait cx cy (subst (λ (z : Job). list_any (same_job b.earlier.id) z.waits ≡ true) is w))
+            (λ r.
+            let ctx : b.earlier.id.ctx ≡ x.id.ctx = sym r.1 ∙ ap (λ (z : Job). z.id.ctx) is in
+            by_context cx cy ctx ((line_law script journal x.id.ctx fits legal).rises n m b.earlier x r.0 b.there at ctx refl))
+            b.why,
+      )
 
   pub covers_so : (m n : ℕ) (x y : Job) → slice_get (state_of script journal).core.jobs m ≡ Some x → slice_get (state_of script journal).core.jobs n ≡ Some y → Covers viewed.view.fences.prior m n → Reaches x y
   covers_so m n x y a b self = let two : Some x ≡ Some y = sym a ∙ b in inl cc
