@@ -1,7 +1,7 @@
 -- What an unfinished job names of the aperture stays mapped, to one frame.
-use Rattle.std.proofs.Common.{◌≡◌, ℕ, ◌+◌, ◌<◌, zero, suc, Bool, true, false, List, [], ◌∷◌, ◌++◌, length, Option, Some, None, Ok, IsTrue, take, drop, refl, sym, subst, ◌∙◌, ap, arith, ◌⊎◌, inl, inr, ⊎_elim}
-use Rattle.std.specs.Prelude.{Contains, slice_get, not, nat_eq, ◌||◌, ◌&&◌}
-use Rattle.std.specs.List.{list_any, list_all}
+use Rattle.std.proofs.Common.{◌≡◌, ℕ, ◌+◌, zero, suc, Bool, true, false, List, [], ◌∷◌, ◌++◌, Some, Ok, IsTrue, take, drop, refl, sym, subst, ◌∙◌, ap, ◌⊎◌, inl, inr, ⊎_elim}
+use Rattle.std.specs.Prelude.{slice_get, not, nat_eq, ◌&&◌}
+use Rattle.std.specs.List.{list_any}
 use Rattle.std.proofs.lemmas.Bool.{and_parts, or_cases, or_left, or_right, eqb-true}
 use Rattle.ttm_base.specs.declared.Actor.{Actor}
 use Rattle.ttm_base.specs.declared.Actor.TheVariants as actor
@@ -21,21 +21,21 @@ use Rattle.journal_model.specs.ScriptRules.{is_script}
 use Rattle.journal_model.specs.Places.{aperture}
 use Rattle.journal_model.specs.Holds.{has_number}
 use Rattle.journal_model.specs.Waits.{same_job}
-use Rattle.journal_model.specs.Spares.{pages_taken, pages_given, job_names, are_unnamed, spares_jobs, remaining}
+use Rattle.journal_model.specs.Spares.{pages_taken, pages_given, job_names, are_unnamed, remaining}
 use Rattle.journal_model.specs.Next.{next}
 use Rattle.journal_model.specs.Apply.{applied}
 use Rattle.journal_model.specs.Stores.{showing}
 use Rattle.journal_model.specs.Legal.{World, first_world, world_after, world_along, world_of, state_of, IsLegalNext, IsLegalFrom, IsLegal}
 use Rattle.journal_model.specs.Facts.{MappingsStay, LegalMappingsStay}
 use Rattle.laws.specs.law_holders.Maps.{Maps}
-use Rattle.laws.specs.law_transparent.NamedPlaces.{IsMapped, IsThere, IsPart, IsRunnable}
+use Rattle.laws.specs.law_transparent.NamedPlaces.{IsThere, IsRunnable}
 use Rattle.laws.specs.lemma_bytes_told.Told.{Told, still, makes, frees, leaves, takes, untakes, populates, swaps_in, depopulates, binds, unbinds, moves_up, moves_across, moves_down, evicts, catches, swaps_out, arms, reads, writes, results}
 use Rattle.laws.proofs.law_state.Shown.{LegalStep, legal_step}
 use Rattle.laws.proofs.law_state.GoodStates.{good_law}
 use Rattle.laws.proofs.law_state.JournalCourses.{is_of_engine, is_of_reaper, of_engine, of_reaper}
 use Rattle.laws.proofs.law_state.Lists.{get_pushed}
 use Rattle.laws.proofs.law_sound.Along.{OfWorker, of_worker, packet, done, reap}
-use Rattle.laws.proofs.law_owners.Law.{AreHeldOnce, once_law}
+use Rattle.laws.proofs.law_owners.Law.{once_law}
 use Rattle.laws.proofs.law_owners.Fronts.{legal_front}
 use Rattle.laws.proofs.law_holders.Mapped.{aperture_maps, maps_aperture}
 use Rattle.laws.proofs.lemma_bytes_model.Actions.{or_first, or_second}
@@ -45,7 +45,7 @@ use Rattle.laws.proofs.law_transparent.Law.{world_push, legal_push}
 use Rattle.laws.proofs.law_transparent.Carried.{clear_law, told_law}
 use Rattle.laws.proofs.law_transparent.PacketPlacesLaw.{places_law}
 use Rattle.laws.proofs.law_spares.Law.{entry_spares}
-use Rattle.law_facts.proofs.Jobs.{at_of, Later, GoOn, go_same, go_more, go_ran, go_done, go_through}
+use Rattle.law_facts.proofs.Jobs.{at_of, GoOn, go_same, go_more, go_ran, go_done, go_through}
 use Rattle.law_facts.proofs.Mapped.{has_left, alike, maps_keep, maps_reaped}
 
 -- ---- jobs go on with each entry

@@ -1,6 +1,6 @@
 -- Places, targets and conflicts, as the view of a state tells them.
-use Rattle.std.proofs.Common.{◌≡◌, ℕ, ◌<◌, Bool, true, false, List, Option, Some, IsTrue, refl, sym, subst, ◌∙◌, ap, ◌⊎◌, inl, inr, ⊎_elim}
-use Rattle.std.specs.Prelude.{Contains, slice_get, option_to_list, not, ◌||◌, ◌&&◌, if◌then◌else◌}
+use Rattle.std.proofs.Common.{◌≡◌, ℕ, Bool, true, false, List, Some, IsTrue, refl, sym, subst, ◌∙◌, ap, ⊎_elim}
+use Rattle.std.specs.Prelude.{slice_get, not, ◌&&◌, if◌then◌else◌}
 use Rattle.std.specs.List.{list_any}
 use Rattle.std.proofs.lemmas.Bool.{and_parts, or_cases}
 use Rattle.ttm_base.specs.declared.Mem.TheVariants as mem
@@ -8,27 +8,25 @@ use Rattle.ttm_base.specs.declared.BufId.{BufId}
 use Rattle.ttm_base.specs.Pages as pages
 use Rattle.journal_model.specs.declared.script.Script.{Script}
 use Rattle.journal_model.specs.declared.entry.Entry.{Entry}
-use Rattle.journal_model.specs.declared.state.Core.{Core}
 use Rattle.journal_model.specs.declared.state.Job.{Job}
 use Rattle.journal_model.specs.ScriptRules.{is_script}
 use Rattle.journal_model.specs.State.{buffer_in, target_spans}
 use Rattle.journal_model.specs.Places.{pages_of, page_in_vram, place_of, aperture}
-use Rattle.journal_model.specs.Holds.{has_number}
 use Rattle.journal_model.specs.Waits.{same_job, changes, jobs_before_read, jobs_before_write}
 use Rattle.journal_model.specs.Spares.{remaining}
 use Rattle.journal_model.specs.After.{ComesAfter, through}
 use Rattle.journal_model.specs.Legal.{state_of, IsLegal}
 use Rattle.journal_model.specs.PlainMemory.{plain_of}
-use Rattle.journal_model.specs.Facts.{touches, writes_to, IsCovered, conflict}
-use Rattle.laws.specs.lemma_bytes_model.Memory.{Page, Nowhere, Vram, Frame, Slot, touched, written}
-use Rattle.laws.specs.lemma_bytes_model.View.{Live, Target, Idle, After, is_fence, Guarded}
+use Rattle.journal_model.specs.Facts.{touches, writes_to, IsCovered}
+use Rattle.laws.specs.lemma_bytes_model.Memory.{Nowhere, Vram, written}
+use Rattle.laws.specs.lemma_bytes_model.View.{Live, Target, Idle, After, is_fence}
 use Rattle.laws.specs.law_holders.Holding.{seen}
 use Rattle.laws.proofs.law_holders.Owner.{owner_of, owner_is}
 use Rattle.laws.proofs.lemma_bytes_view.World.{bare}
 use Rattle.laws.proofs.lemma_bytes_view.Binds.{among_all}
 use Rattle.laws.proofs.lemma_bytes_view.Tables.{at_has}
 use Rattle.law_facts.specs.Covered.{PlacesAreCovered, TargetsAreCovered, ConflictsAreOrdered, LegalPlacesAreCovered, LegalTargetsAreCovered, LegalConflictsAreOrdered}
-use Rattle.law_facts.proofs.Jobs.{at_of, has_of}
+use Rattle.law_facts.proofs.Jobs.{at_of}
 use Rattle.law_facts.proofs.Touches.{written_so}
 use Rattle.law_facts.proofs.Guards.{viewed, once, guarded, touched_at, covered, next_to, covers_so, by_mover}
 

@@ -1,6 +1,6 @@
 -- Which jobs cover one that touches a page, by who holds the page.
-use Rattle.std.proofs.Common.{◌≡◌, ℕ, ◌<◌, Bool, true, false, List, [], ◌∷◌, Option, Some, IsTrue, refl, sym, subst, ◌∙◌, ap, ◌⊎◌, inl, inr, ⊎_elim}
-use Rattle.std.specs.Prelude.{Contains, slice_get, option_to_list, unwrap_or, ◌||◌, ◌&&◌}
+use Rattle.std.proofs.Common.{◌≡◌, ℕ, Bool, true, false, List, Some, IsTrue, refl, sym, subst, ◌∙◌, ap, ◌⊎◌, inl, inr, ⊎_elim}
+use Rattle.std.specs.Prelude.{slice_get, option_to_list, unwrap_or, ◌||◌}
 use Rattle.std.specs.List.{list_any}
 use Rattle.ttm_base.specs.declared.Mem.TheVariants as mem
 use Rattle.ttm_base.specs.declared.BufId.{BufId}
@@ -22,11 +22,10 @@ use Rattle.journal_model.specs.Spares.{remaining}
 use Rattle.journal_model.specs.After.{ComesAfter, by_context, by_wait, through}
 use Rattle.journal_model.specs.Legal.{state_of, stores_of, IsLegal}
 use Rattle.journal_model.specs.PlainMemory.{plain_of}
-use Rattle.journal_model.specs.Facts.{touches, writes_to, is_among, IsCovered, GhostsAreFenced, FreePagesAreFenced, LegalGhostsAreFenced, LegalFreePagesAreFenced}
+use Rattle.journal_model.specs.Facts.{touches, IsCovered, GhostsAreFenced, FreePagesAreFenced, LegalGhostsAreFenced, LegalFreePagesAreFenced}
 use Rattle.laws.specs.lemma_bytes_model.Memory.{Page, Nowhere, Vram, Frame, touched, written}
-use Rattle.laws.specs.lemma_bytes_model.View.{View, Good, Owner, Idle, Free, Live, Kept, Target, Ghost, Covers, self, behind, After, Guarded}
+use Rattle.laws.specs.lemma_bytes_model.View.{Owner, Idle, Free, Kept, Ghost, Covers, self, behind, Guarded}
 use Rattle.laws.specs.law_holders.Holding.{seen, HeldOnce, in_ghost, kept_in, buffer_at}
-use Rattle.laws.specs.lemma_bytes_view.World.{Before, IsGhostly, IsMover}
 use Rattle.laws.proofs.law_owners.Law.{AreHeldOnce, once_law}
 use Rattle.laws.proofs.law_owners.Weights.{vram_pages, frames, times-held}
 use Rattle.laws.proofs.law_owners.Taken.{free_stands_none, has_none}
@@ -44,7 +43,7 @@ use Rattle.laws.proofs.law_transparent.PagesLaw.{ghosts_law}
 use Rattle.law_facts.proofs.Jobs.{at_of, has_of}
 use Rattle.law_facts.proofs.Order.{done_after}
 use Rattle.law_facts.proofs.Reach.{AfterAt, in_context, waiting, over}
-use Rattle.law_facts.proofs.Touches.{touched_so, written_so}
+use Rattle.law_facts.proofs.Touches.{touched_so}
 
 clash : (a : Bool) → a ≡ true → a ≡ false → ⊥
 clash true e f = cc

@@ -1,7 +1,7 @@
 -- A mapped page of TT stays mapped to its frame, behind each entry that doesn't take it.
-use Rattle.std.proofs.Common.{◌≡◌, ℕ, ◌<◌, zero, suc, Bool, true, false, List, [], ◌∷◌, ◌++◌, length, Option, Some, None, refl, sym, subst, ◌∙◌, ap, arith, ◌⊎◌, inl, inr, ⊎_elim}
-use Rattle.std.specs.Prelude.{slice_get, slice_set, option_map, option_and_then, unwrap_or, filter, flat_map, fold, not, nat_eq, ◌==◌, ◌||◌, if◌then◌else◌}
-use Rattle.std.proofs.lemmas.Bool.{or_cases, eqb-true, true≢false}
+use Rattle.std.proofs.Common.{◌≡◌, ℕ, zero, suc, Bool, true, false, List, [], ◌∷◌, ◌++◌, length, Option, Some, None, refl, sym, subst, ◌∙◌, ap, inl, inr, ⊎_elim}
+use Rattle.std.specs.Prelude.{slice_get, slice_set, option_map, option_and_then, unwrap_or, filter, fold, not, nat_eq, ◌==◌, if◌then◌else◌}
+use Rattle.std.proofs.lemmas.Bool.{or_cases}
 use Rattle.ttm_base.specs.declared.Mem.{Mem}
 use Rattle.ttm_base.specs.declared.Mem.TheVariants.{System, Tt, Vram}
 use Rattle.ttm_base.specs.declared.BufId.{BufId}
@@ -26,7 +26,7 @@ use Rattle.journal_model.specs.Spares.{tt_of_ghosts, pages_taken}
 use Rattle.journal_model.specs.PageSteps.{page_to_fill, first_frame_page, next_job, next_ghost}
 use Rattle.journal_model.specs.Apply.{applied}
 use Rattle.journal_model.specs.ApplyCommands.{named_in, ghost_of_freed}
-use Rattle.journal_model.specs.ApplyPages.{with_fence, with_kernel_fences, with_spans, with_loc, without_frames, bound, unbound}
+use Rattle.journal_model.specs.ApplyPages.{with_fence, with_kernel_fences, with_spans, with_loc, without_frames, bound}
 use Rattle.journal_model.specs.ApplyMoves.{moved, frames_left, ghost_of_moved}
 use Rattle.journal_model.specs.ApplyVictims.{leaves_tt}
 use Rattle.journal_model.specs.ApplyJobs.{ops_of, with_use}

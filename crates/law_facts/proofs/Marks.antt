@@ -1,17 +1,14 @@
 -- Marks tell nothing of a journal, and turn nothing: scripts that differ in version and marks alone are one to these definitions.
-use Rattle.std.proofs.Common.{◌≡◌, ℕ, Bool, true, false, List, [], ◌∷◌, ◌++◌, Option, Some, None, refl, sym, ap, subst}
-use Rattle.std.specs.Prelude.{◌↔◌, ◌==◌, ◌&&◌, ◌||◌, not, filter, filter_map, find, length, is_none, nat_le, option_and_then, slice_get, if◌then◌else◌}
+use Rattle.std.proofs.Common.{◌≡◌, ℕ, true, false, List, [], ◌∷◌, ◌++◌, Some, None, refl, sym, ap, subst}
+use Rattle.std.specs.Prelude.{◌==◌, ◌&&◌, ◌||◌, not, filter, find, length, is_none, option_and_then, slice_get, if◌then◌else◌}
 use Rattle.std.specs.List.{list_all, list_any}
-use Rattle.ttm_base.specs.declared.Mem.{Mem}
 use Rattle.ttm_base.specs.declared.BufId.{BufId}
 use Rattle.ttm_base.specs.declared.Place.{Place}
 use Rattle.ttm_base.specs.declared.FlaggedPlace.{FlaggedPlace}
 use Rattle.ttm_base.specs.declared.Deny.TheVariants as deny
 use Rattle.ttm_base.specs.Placement.{first_places, forced_places}
-use Rattle.ttm_base.specs.ListWords.{count_from, same_numbers}
 use Rattle.journal_model.specs.declared.script.Script.{Script}
 use Rattle.journal_model.specs.declared.script.Mark.{Mark}
-use Rattle.journal_model.specs.declared.script.Command.{Command}
 use Rattle.journal_model.specs.declared.entry.Entry.{Entry}
 use Rattle.journal_model.specs.declared.entry.Kind.{Kind}
 use Rattle.journal_model.specs.declared.entry.Kind.TheVariants as kind
@@ -20,11 +17,11 @@ use Rattle.journal_model.specs.declared.entry.DryWhy.TheVariants as dry
 use Rattle.journal_model.specs.declared.state.State.{State}
 use Rattle.journal_model.specs.State.{course, buffer, same_buffer}
 use Rattle.journal_model.specs.Commands.{command_at_work}
-use Rattle.journal_model.specs.Complete.{is_complete, is_by_thread, answers_of, thread_numbers}
+use Rattle.journal_model.specs.Complete.{is_complete, answers_of, thread_numbers}
 use Rattle.journal_model.specs.Commands.{commands_of}
-use Rattle.journal_model.specs.Legal.{World, Made, first_world, world_along, made_along, made_of, state_of}
+use Rattle.journal_model.specs.Legal.{World, Made, first_world, world_along, made_along}
 use Rattle.journal_model.specs.PlainMemory.{Plain, first_plain, plain_after, plain_after_kind}
-use Rattle.journal_model.specs.Transparent.{IsKindPlain, IsTransparentFrom, IsTransparent}
+use Rattle.journal_model.specs.Transparent.{IsKindPlain, IsTransparentFrom}
 use Rattle.journal_model.specs.Apply.{thread_of}
 use Rattle.journal_model.specs.Dry.{is_dry, dry_why, same_why}
 use Rattle.journal_model.specs.Search.{aim_of}

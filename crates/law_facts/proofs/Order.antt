@@ -1,8 +1,8 @@
 -- Jobs are done in their order, and wait for jobs that were emitted before them.
-use Rattle.std.proofs.Common.{◌≡◌, ℕ, ◌<◌, ◌≤◌, zero, suc, Bool, true, false, List, [], ◌∷◌, Some, IsTrue, take, refl, sym, subst, ◌∙◌, ap, arith, ⊎_elim}
-use Rattle.std.specs.Prelude.{Contains, slice_get, not, nat_le, ◌||◌}
+use Rattle.std.proofs.Common.{◌≡◌, ℕ, ◌<◌, zero, suc, Bool, true, false, List, [], ◌∷◌, Some, IsTrue, take, refl, sym, subst, ◌∙◌, ap, arith, ⊎_elim}
+use Rattle.std.specs.Prelude.{Contains, slice_get, not, nat_le}
 use Rattle.std.specs.List.{list_any, list_all}
-use Rattle.std.proofs.lemmas.Bool.{and_parts, or_cases, cases_lt}
+use Rattle.std.proofs.lemmas.Bool.{and_parts, or_cases}
 use Rattle.std.proofs.lemmas.Bool.Decides.{nat_tests}
 use Rattle.ttm_base.specs.declared.JobId.{JobId}
 use Rattle.journal_model.specs.declared.script.Script.{Script}
@@ -13,7 +13,7 @@ use Rattle.journal_model.specs.ScriptRules.{is_script}
 use Rattle.journal_model.specs.Legal.{state_of, IsLegal}
 use Rattle.journal_model.specs.Waits.{same_job}
 use Rattle.journal_model.specs.After.{ComesAfter, by_context, by_wait, through}
-use Rattle.journal_model.specs.Facts.{AreInOrder, LegalJobsAreInOrder}
+use Rattle.journal_model.specs.Facts.{LegalJobsAreInOrder}
 use Rattle.laws.specs.law_sound.Sound.{waits_for_none_of, WaitsGoBack, is_among, waits_for_some_of}
 use Rattle.laws.specs.law_jobs.JobLines.{done_of}
 use Rattle.laws.proofs.law_state.JobsKeep.{all_at}

@@ -1,5 +1,5 @@
 -- When a job comes after another, by their places among the jobs.
-use Rattle.std.proofs.Common.{◌≡◌, ℕ, ◌<◌, ◌≤◌, Bool, true, false, List, Some, IsTrue, refl, sym, subst, ◌∙◌, ap, arith, ◌⊎◌, inl, inr, ⊎_elim}
+use Rattle.std.proofs.Common.{◌≡◌, ℕ, ◌<◌, true, List, Some, IsTrue, refl, sym, subst, ◌∙◌, ap, arith, ⊎_elim}
 use Rattle.std.specs.Prelude.{slice_get}
 use Rattle.std.specs.List.{list_any}
 use Rattle.std.proofs.lemmas.Bool.{cases_lt}
@@ -13,7 +13,7 @@ use Rattle.journal_model.specs.After.{ComesAfter, by_context, by_wait, through}
 use Rattle.journal_model.specs.Legal.{state_of, IsLegal}
 use Rattle.laws.proofs.law_jobs.Law.{line_law}
 use Rattle.laws.proofs.law_sound.Along.{sound_law}
-use Rattle.law_facts.proofs.Jobs.{has_of, Later, GoOn}
+use Rattle.law_facts.proofs.Jobs.{has_of, GoOn}
 use Rattle.law_facts.proofs.Order.{goes_back}
 
 -- job m comes after job n

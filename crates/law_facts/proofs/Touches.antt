@@ -1,6 +1,6 @@
 -- What a job touches and writes, as the view of a state tells it.
-use Rattle.std.proofs.Common.{◌≡◌, ℕ, suc, Bool, true, false, List, [], ◌∷◌, refl, sym, ◌∙◌, ap, ⊎_elim}
-use Rattle.std.specs.Prelude.{◌==◌, ◌||◌, eqb}
+use Rattle.std.proofs.Common.{◌≡◌, ℕ, suc, true, false, List, [], ◌∷◌, refl, sym, ⊎_elim}
+use Rattle.std.specs.Prelude.{◌||◌}
 use Rattle.std.specs.List.{list_any}
 use Rattle.std.proofs.lemmas.Bool.{or_cases, eqb-true, eq-eqb}
 use Rattle.ttm_base.specs.declared.Packet.{Packet}

@@ -1,6 +1,6 @@
 -- Three facts on which transparency rests, as the good view of a state gives them (dma_resv's usages, by pages). `Facts` states them
 -- stronger: with KERNEL jobs where these have KERNEL or WRITE ones, and with waits where these have what comes after.
-use Rattle.std.specs.Prelude.{◌≡◌, ℕ, ◌<◌, true, false, List, Some, Contains, option_to_list, slice_get, if◌then◌else◌}
+use Rattle.std.specs.Prelude.{◌≡◌, ℕ, ◌<◌, true, false, Some, Contains, option_to_list, slice_get, if◌then◌else◌}
 use Rattle.ttm_base.specs.declared.Mem.TheVariants.{Vram}
 use Rattle.ttm_base.specs.declared.BufId.{BufId}
 use Rattle.ttm_base.specs.Pages.{Page, vram}
