@@ -26,7 +26,7 @@ use Rattle.journal_model.specs.Next.{next}
 use Rattle.journal_model.specs.Apply.{applied}
 use Rattle.journal_model.specs.Stores.{showing}
 use Rattle.journal_model.specs.Legal.{World, first_world, world_after, world_along, world_of, state_of, IsLegalNext, IsLegalFrom, IsLegal}
-use Rattle.journal_model.specs.Facts.{MappingsStay, LegalMappingsStay}
+use Rattle.law_facts.specs.Facts.{MappingsStay, LegalMappingsStay}
 use Rattle.laws.specs.law_holders.Maps.{Maps}
 use Rattle.laws.specs.law_transparent.NamedPlaces.{IsThere, IsRunnable}
 use Rattle.laws.specs.lemma_bytes_told.Told.{Told, still, makes, frees, leaves, takes, untakes, populates, swaps_in, depopulates, binds, unbinds, moves_up, moves_across, moves_down, evicts, catches, swaps_out, arms, reads, writes, results}

@@ -17,7 +17,7 @@ use Rattle.journal_model.specs.Spares.{remaining}
 use Rattle.journal_model.specs.After.{ComesAfter, through}
 use Rattle.journal_model.specs.Legal.{state_of, IsLegal}
 use Rattle.journal_model.specs.PlainMemory.{plain_of}
-use Rattle.journal_model.specs.Facts.{touches, writes_to, IsCovered}
+use Rattle.law_facts.specs.Facts.{touches, writes_to, IsCovered}
 use Rattle.laws.specs.lemma_bytes_model.Memory.{Nowhere, Vram, written}
 use Rattle.laws.specs.lemma_bytes_model.View.{Live, Target, Idle, After, is_fence}
 use Rattle.laws.specs.law_holders.Holding.{seen}

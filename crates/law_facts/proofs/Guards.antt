@@ -22,7 +22,7 @@ use Rattle.journal_model.specs.Spares.{remaining}
 use Rattle.journal_model.specs.After.{ComesAfter, by_context, by_wait, through}
 use Rattle.journal_model.specs.Legal.{state_of, stores_of, IsLegal}
 use Rattle.journal_model.specs.PlainMemory.{plain_of}
-use Rattle.journal_model.specs.Facts.{touches, IsCovered, GhostsAreFenced, FreePagesAreFenced, LegalGhostsAreFenced, LegalFreePagesAreFenced}
+use Rattle.law_facts.specs.Facts.{touches, IsCovered, GhostsAreFenced, FreePagesAreFenced, LegalGhostsAreFenced, LegalFreePagesAreFenced}
 use Rattle.laws.specs.lemma_bytes_model.Memory.{Page, Nowhere, Vram, Frame, touched, written}
 use Rattle.laws.specs.lemma_bytes_model.View.{Owner, Idle, Free, Kept, Ghost, Covers, self, behind, Guarded}
 use Rattle.laws.specs.law_holders.Holding.{seen, HeldOnce, in_ghost, kept_in, buffer_at}

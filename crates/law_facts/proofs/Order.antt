@@ -13,7 +13,7 @@ use Rattle.journal_model.specs.ScriptRules.{is_script}
 use Rattle.journal_model.specs.Legal.{state_of, IsLegal}
 use Rattle.journal_model.specs.Waits.{same_job}
 use Rattle.journal_model.specs.After.{ComesAfter, by_context, by_wait, through}
-use Rattle.journal_model.specs.Facts.{LegalJobsAreInOrder}
+use Rattle.law_facts.specs.Facts.{LegalJobsAreInOrder}
 use Rattle.laws.specs.law_sound.Sound.{waits_for_none_of, WaitsGoBack, is_among, waits_for_some_of}
 use Rattle.laws.specs.law_jobs.JobLines.{done_of}
 use Rattle.laws.proofs.law_state.JobsKeep.{all_at}

@@ -15,7 +15,7 @@ use Rattle.journal_model.specs.Commands.{whole}
 use Rattle.journal_model.specs.Places.{place_of, aperture}
 use Rattle.journal_model.specs.Holds.{is_free_page}
 use Rattle.journal_model.specs.Scheduled.{run_of, run_along}
-use Rattle.journal_model.specs.Facts.{touches, writes_to}
+use Rattle.law_facts.specs.Facts.{touches, writes_to}
 use Rattle.journal_model.proofs.Rows.{sizes, buf, buf_id, span, script_of, alone}
 
 abbrev evict_script : Script

@@ -11,7 +11,7 @@ use Rattle.journal_model.specs.Places.{pages_of, place_of}
 use Rattle.journal_model.specs.Holds.{has_number}
 use Rattle.journal_model.specs.Waits.{jobs_before_read, jobs_before_write}
 use Rattle.journal_model.specs.After.{ComesAfter}
-use Rattle.journal_model.specs.Facts.{ForStates, touches, writes_to, IsCovered, conflict}
+use Rattle.law_facts.specs.Facts.{ForStates, touches, writes_to, IsCovered, conflict}
 
 -- a job of the buffer covers a job that touches a place of it, as KERNEL or WRITE where that one writes it
 abbrev pub PlacesAreCovered : Core → Type 0

@@ -2,7 +2,7 @@
 //! that does nothing.
 #![tactic(auto)]
 
-ghost use Rattle.journal_model.specs.Facts.{LegalJobsAreInOrder, LegalGhostsAreFenced, LegalFreePagesAreFenced, LegalMappingsStay};
+ghost use Rattle.law_facts.specs.Facts.{LegalJobsAreInOrder, LegalGhostsAreFenced, LegalFreePagesAreFenced, LegalMappingsStay};
 ghost use Rattle.law_facts.specs.Covered.{LegalPlacesAreCovered, LegalTargetsAreCovered, LegalConflictsAreOrdered};
 ghost use Rattle.journal_model.specs.MarkLaws.{MarksTellNothing, MarksTurnNothing};
 
