@@ -54,14 +54,19 @@ pub(crate) fn is_held(ends: &SparseTable, block: Span) -> bool
     block.start < block.end && ends.get(block.start as usize) == block.end
 }
 
+/// Tells whether a block is among blocks.
+fn is_among(block: Span, blocks: &[Span]) -> bool
+    ensures { result ≡ is_held block blocks.now }
+{
+    blocks.iter().any(|other| block.start == other.start && block.end == other.end)
+}
+
 /// Tells whether blocks are distinct and each is held. It compares each with those after it.
 pub(crate) fn are_held(ends: &SparseTable, blocks: &[Span]) -> bool
     ensures { result ≡ all_held blocks.now (held_from 0 ends.now) }
 {
     for (i, block) in blocks.iter().enumerate() {
-        let again = blocks[i + 1..].iter().any(|other| block.start == other.start
-            && block.end == other.end);
-        if again || !is_held(ends, *block) {
+        if is_among(*block, &blocks[i + 1..]) || !is_held(ends, *block) {
             return false;
         }
     }
