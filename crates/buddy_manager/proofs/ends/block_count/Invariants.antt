@@ -1,6 +1,6 @@
 use Rattle.std.proofs.Common.{◌≡◌, ◌+◌, ◌≤◌, length, drop}
 use Rattle.buddy_manager.specs.Held.{held_from}
-use Rattle.mm_c.proofs.ends.block_count.Given as goal
+use Rattle.buddy_manager.proofs.ends.block_count.Given as goal
 
 abbrev pub invariant-loop-start : goal.invariant-loop-start
 invariant-loop-start l =
