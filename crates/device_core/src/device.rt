@@ -5,14 +5,14 @@ ghost use Rattle.journal_model.specs.Legal.{IsLegal, made_of, state_of};
 ghost use Rattle.map_follow.specs.Follows.{KnowExactly};
 ghost use Rattle.room_state.specs.room_turns.Turns.{step_of};
 ghost use Rattle.laws.specs.law_sound.Sound.{SomeGoesOn};
-ghost use Rattle.report_text.specs.Accounts.{AreAccountsOf};
+ghost use Rattle.page_accounts.specs.Accounts.{AreAccountsOf};
 ghost use Rattle.device_core.specs.Done.{done_of};
 ghost use Rattle.device_core.specs.Kept.{entry_of, after_step, turn_of, after_turn, goes_on, order_of, next_actor, after_found};
 
 use crate::follow::follow;
 use cpu_maps::CpuMaps;
 use journal_model::{Entry, Script};
-use report_text::Accounts;
+use page_accounts::Accounts;
 use room_accounts::accounts_of;
 use room_device::turn;
 use room_state::room_turns::{Rooms, Step};

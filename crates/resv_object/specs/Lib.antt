@@ -1,1 +1,1 @@
-pub mod Reservations
+pub mod ReservationObjects
