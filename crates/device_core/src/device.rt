@@ -7,7 +7,7 @@ ghost use Rattle.journal_model.specs.Transparent.{IsTransparent};
 ghost use Rattle.map_follow.specs.Follows.{KnowExactly};
 ghost use Rattle.room_state.specs.room_turns.Turns.{step_of};
 ghost use Rattle.laws.specs.law_sound.Sound.{SomeGoesOn};
-ghost use Rattle.report_text.specs.Accounts.{AreAccountsOf};
+ghost use Rattle.page_accounts.specs.Accounts.{AreAccountsOf};
 ghost use Rattle.device_core.specs.Done.{done_of};
 ghost use Rattle.device_core.specs.Mapped.{NamePlaces};
 ghost use Rattle.device_core.specs.Kept.{entry_of, after_step, turn_of, after_turn, goes_on, order_of, next_actor, after_found};
@@ -15,7 +15,7 @@ ghost use Rattle.device_core.specs.Kept.{entry_of, after_step, turn_of, after_tu
 use crate::follow::follow;
 use cpu_maps::CpuMaps;
 use journal_model::{Entry, Script};
-use report_text::Accounts;
+use page_accounts::Accounts;
 use room_accounts::accounts_of;
 use room_device::turn;
 use room_state::room_turns::{Rooms, Step};

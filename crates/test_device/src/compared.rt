@@ -17,7 +17,7 @@ use crate::common::print_aperture;
 use accounts::accounts_in;
 use difference::{Difference, Stop};
 use pair::Pair;
-use report_text::{Account, Accounts};
+use page_accounts::{Account, Accounts};
 use room_state::Rooms;
 use std::alloc::Global;
 use std::io;

@@ -9,7 +9,7 @@ use super::replay::Replay;
 use bo_table::BoTable;
 use copy_packet::ProbeBytes;
 use journal_model::{Buffer, Script, State};
-use page_accounts::accounts_of;
+use plain_accounts::accounts_of;
 use room_state::Rooms;
 use rules_holds::{free_frame, free_slot, waited_before_read, waited_before_write};
 use rules_state::{declared_pages, list_number, live_in};
