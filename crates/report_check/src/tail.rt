@@ -15,10 +15,10 @@ ghost use Rattle.report_text.specs.Parts.{journal_part, mappings_part, outcome_p
 use crate::parts::same_bytes;
 use io_edge::{Failed, Sink, write_all};
 use journal_model::{Entry, Script, State};
-use plain_accounts::accounts_of;
-use report_text::report::{write_mappings, write_outcome};
 use page_accounts::Accounts;
+use plain_accounts::accounts_of;
 use report_text::WriteFault;
+use report_text::report::{write_mappings, write_outcome};
 use std::alloc::Global;
 use text_line::Line;
 use ttm_base::NoMemory;
