@@ -117,6 +117,13 @@ fn status_of(fault: AllocFault) -> u32
     }
 }
 
+/// Finds the held block that begins at `start`.
+fn block_from(manager: &BuddyManager, start: u32) -> Option<Span>
+    ensures { result ≡ find (starts_at start) manager.now.held }
+{
+    manager.held_from(start)
+}
+
 impl Blocks {
     pub fn new(alloc: Global, pages: u32) -> Result<Box<Blocks>, NoMemory>
         ensures size { IfOk result (λ blocks. blocks.value.size ≡ pages) }
@@ -202,7 +209,7 @@ impl Blocks {
         if !self.manager.is_held(block) {
             return NOT_HELD;
         }
-        if keep == 0 || keep > block.end - block.start {
+        if keep == 0 || keep > block.end.saturating_sub(block.start) {
             return INVALID;
         }
         self.manager.trim(block, keep);
@@ -218,7 +225,7 @@ impl Blocks {
         ensures same { result ≢ DONE → self.new ≡ self.old }
         ensures status { Contains (DONE ∷ NO_MEMORY ∷ NOT_HELD ∷ []) result }
     {
-        if self.manager.held_from(start).is_none() {
+        if block_from(&self.manager, start).is_none() {
             return NOT_HELD;
         }
         match self.values.set(start, value) {
@@ -233,7 +240,7 @@ impl Blocks {
         ensures not_held { (result ≡ NOT_HELD) ↔ (find (starts_at start) self.now.held ≡ None) }
         ensures status { Contains (DONE ∷ NOT_HELD ∷ []) result }
     {
-        if self.manager.held_from(start).is_none() {
+        if block_from(&self.manager, start).is_none() {
             return NOT_HELD;
         }
         *value = self.values.get(start);
