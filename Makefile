@@ -27,7 +27,7 @@ install:
 	tools/install.sh "$(DESTDIR)$(PREFIX)"
 	[ ! -e libpearoar_mm.a ] || tools/install_c_library.sh "$(PREFIX)" "$(DESTDIR)"
 
-C_CRATES = ttm_base step_count hole_tree sparse_table range_manager block_tree buddy_manager manager_walk mm_c
+C_CRATES = ttm_base step_count bit_set sparse_table hole_tree range_manager block_tree buddy_manager manager_walk mm_c
 C_SOURCES = $(wildcard $(C_CRATES:%=crates/%/src/*.rt))
 
 libpearoar_mm.a: $(C_SOURCES)

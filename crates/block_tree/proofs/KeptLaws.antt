@@ -11,7 +11,7 @@ use Rattle.block_tree.specs.FreeSet.{beside, is_free, place, has_block, is_cover
 use Rattle.block_tree.specs.Masks.{is_marked}
 use Rattle.block_tree.specs.Searching.{numbered}
 use Rattle.block_tree.specs.declared.block.Block.{Block}
-use Rattle.block_tree.specs.BitSet.{IsFirstFrom, IsLastTo}
+use Rattle.bit_set.specs.Marks.{IsFirstFrom, IsLastTo}
 use Rattle.block_tree.specs.Holding.{IsFree, IsFirstFree, IsLastFree}
 use Rattle.block_tree.proofs.Numbers.{some_pages, small_pow, small_order, pow_next, block_pages}
 use Rattle.block_tree.proofs.SetLaws.{bool_cases, HasBlock, Tells, tell_same, IsSetAt, taken_out, put_in, of_whole, is_whole, around_free, own_block}

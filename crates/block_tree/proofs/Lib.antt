@@ -10,6 +10,3 @@ pub mod FoundLaws
 pub mod HolderLaws
 pub mod MarkingLaws
 pub mod SpanLaws
-pub mod BitLaws
-pub mod BitWalks
-pub mod BitWalksBack

@@ -1,5 +1,4 @@
 pub mod Masks
-pub mod BitSet
 pub mod Searching
 pub mod FreeSet
 pub mod Pieces

@@ -7,9 +7,9 @@ ghost use Rattle.block_tree.specs.Masks.{is_marked};
 ghost use Rattle.block_tree.specs.Pieces.{LeastWholeOf, FirstPieceOf};
 ghost use Rattle.block_tree.specs.Searching.{numbered};
 
-use crate::bits::Bits;
 use crate::block::{Block, block_len};
 use crate::request::{Found, Pieces, Request};
+use bit_set::BitSet;
 use std::alloc::Global;
 use std::marker::Model;
 use ttm_base::{NoMemory, Span, log2, order_of};
@@ -19,7 +19,7 @@ use ttm_base::{NoMemory, Span, log2, order_of};
 /// It is seen as a mark for each page, whether it is free. A call takes no memory but for `new`.
 #[derive(Drop)]
 pub struct FreeBlocks {
-    blocks: Bits,
+    blocks: BitSet,
     /// Twice as many as there are blocks of order 0.
     count: usize,
     order: u32,
@@ -89,7 +89,7 @@ impl FreeBlocks {
     {
         let order = order_of(pages);
         let count = 2 * block_len(order) as usize;
-        let blocks = Bits::new(alloc, count)?;
+        let blocks = BitSet::new(alloc, count)?;
         Ok(FreeBlocks {
             blocks,
             count,
@@ -156,7 +156,7 @@ impl FreeBlocks {
         if block.order >= self.order {
             return false;
         }
-        self.blocks.has(place(self.count, block.beside()))
+        self.blocks.contains(place(self.count, block.beside()))
     }
 
     /// The free block that has a block.
@@ -170,7 +170,7 @@ impl FreeBlocks {
                 order,
                 number: block.number >> (order - block.order),
             };
-            if self.blocks.has(place(self.count, above)) {
+            if self.blocks.contains(place(self.count, above)) {
                 return Some(above);
             }
         }
@@ -187,7 +187,7 @@ impl FreeBlocks {
         if from.order > self.order {
             return None;
         }
-        let at = self.blocks.from(place(self.count, from))?;
+        let at = self.blocks.first_from(place(self.count, from))?;
         Some(block_at(self.count, self.order, at))
     }
 
@@ -200,7 +200,7 @@ impl FreeBlocks {
         if to.order > self.order {
             return None;
         }
-        let at = self.blocks.down_from(place(self.count, to))?;
+        let at = self.blocks.last_to(place(self.count, to))?;
         let block = block_at(self.count, self.order, at);
         if block.order == to.order {
             Some(block)

@@ -1,7 +1,6 @@
 //! The free pages of a buddy allocator (drm_buddy), as a set of the largest free blocks.
 #![tactic(auto)]
 
-mod bits;
 mod block;
 mod free_blocks;
 mod request;

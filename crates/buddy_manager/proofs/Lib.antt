@@ -2,7 +2,7 @@ pub mod HeldLaws
 pub mod TakingLaws
 pub mod ManagedLaws
 pub mod BackLaws
-pub mod UndoneLaws
+pub mod EndLaws
 pub mod FindLaws
 pub mod KnownLaws
 pub mod FindingLaws

@@ -230,6 +230,19 @@ managed_released marks after ends new used bs m r l h s f =
       | inr l ↦ two (nat_lt page (length marks)) (is_free_beside (held_from 0 ends) page) (list_any (has_page page) bs) (λ e. past_all (length marks) page bs (all_held_by (length marks) bs (held_from 0 ends) r m.within) l)
     ]
 
+-- one block
+pub managed_gone : (marks after : List Bool) (ends : List ℕ) (used : ℕ) (b : Span) → IsManaged marks ends used → is_held b (held_from 0 ends) ≡ true → length after ≡ length marks
+    → ((page : ℕ) → is_free after page ≡ is_marked b true (is_free marks page) page) → IsManaged after (set ends b.start 0) (used - (b.end - b.start))
+managed_gone marks after ends used b m h s f =
+    let len : length (set ends b.start 0) ≡ length ends = grind (arith, common_steps) in
+    let n : pages_of (b ∷ []) ≡ b.end - b.start = omega arith in
+    subst (λ k. IsManaged after (set ends b.start 0) (used - k)) n
+    (managed_released marks after ends (set ends b.start 0) used (b ∷ []) m (h, tt) len (let_go_one ends b h) s
+    (λ page. f page ∙ marked_more b (is_free marks page) page ∙ ap (λ t. is_free marks page || t) (or_none (has_page page b)))) where
+      or_none : (t : Bool) → t ≡ (t || false)
+      or_none true = refl
+      or_none false = refl
+
 -- ---- a block that was cut
 
 pub trimmed_ends : (es : List ℕ) (b : Span) (keep : ℕ) → 1 ≤ keep → is_held b (held_from 0 es) ≡ true → held_from 0 (set es b.start (b.start + keep)) ≡ with_block (record { start = b.start; end = b.start + keep }) (without b (held_from 0 es))

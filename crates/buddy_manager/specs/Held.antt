@@ -1,5 +1,5 @@
 -- Blocks that are held, in rising order.
-use Rattle.std.specs.Prelude.{◌≡◌, ℕ, ◌+◌, ◌<◌, ◌≤◌, ◌==◌, ◌&&◌, Bool, true, List, [], ◌∷◌, nat_lt, not, slice_set, if◌then◌else◌}
+use Rattle.std.specs.Prelude.{◌≡◌, ℕ, ◌+◌, ◌<◌, ◌≤◌, ◌==◌, ◌&&◌, Bool, true, List, [], ◌∷◌, nat_lt, not, if◌then◌else◌}
 use Rattle.std.specs.List.{list_any}
 use Rattle.ttm_base.specs.declared.Span.{Span}
 use Rattle.ttm_base.specs.Reach.{length_of}
@@ -47,11 +47,6 @@ AreHeld (b ∷ bs) hs = (is_held b hs ≡ true) × AreHeld bs (without b hs)
 abbrev pub all_held : List Span → List Span → Bool
 all_held [] hs = true
 all_held (b ∷ bs) hs = is_held b hs && (not (is_held b bs) && all_held bs hs)
-
--- the ends behind blocks that are entered, the last first
-abbrev pub undone : List Span → List ℕ → List ℕ
-undone [] ends = ends
-undone (b ∷ bs) ends = slice_set (undone bs ends) b.start b.end
 
 -- how many pages they have
 abbrev pub pages_of : List Span → ℕ

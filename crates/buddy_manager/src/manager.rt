@@ -1,4 +1,5 @@
-ghost use Rattle.std.specs.Prelude.{◌≡◌, ◌+◌, ◌^◌, ◌<◌, ◌≤◌, true, [], Some, None, replicate, Decides, IfOk, OnOk, OnErr};
+ghost use Rattle.std.specs.Prelude.{◌≡◌, ◌+◌, ◌^◌, ◌<◌, ◌≤◌, ◌==◌, true, [], Some, None, length, Decides, IfOk, OnOk, OnErr};
+ghost use Rattle.std.specs.List.{find};
 ghost use Rattle.ttm_base.specs.BuddyChoice.{buddy_choice};
 ghost use Rattle.ttm_base.specs.Holes.{is_free_beside};
 ghost use Rattle.ttm_base.specs.Reach.{length_of};
@@ -6,9 +7,10 @@ ghost use Rattle.buddy_manager.specs.Held.{with_block, with_blocks, without, wit
 ghost use Rattle.buddy_manager.specs.Taking.{AreTaken};
 
 use crate::choice::{find_choice, free_spans, take_choice, take_spans};
-use crate::ends::{are_held, cut, hold, is_held, let_go, pages_of};
+use crate::ends::{are_held, block_count, block_from, cut, hold, is_held, let_go, pages_of};
 use crate::{AllocFault, BuddyFlags};
 use block_tree::FreeBlocks;
+use sparse_table::SparseTable;
 use std::alloc::Global;
 use std::marker::Model;
 use ttm_base::{NoMemory, Span, Spans};
@@ -19,7 +21,7 @@ const MOST_PAGES: u32 = i32::MAX as u32;
 /// The pages of a memory type by blocks, seen as the number of pages and the blocks that are held. The other pages are free.
 pub struct BuddyManager {
     free: FreeBlocks,
-    ends: Vec<u32>,
+    ends: SparseTable,
     used: u32,
 }
 
@@ -43,17 +45,9 @@ impl Model for BuddyManager {
     ghost use Rattle.buddy_manager.specs.Held.{held_from};
     ghost use Rattle.buddy_manager.specs.Taking.{IsManaged};
 
-    ghost view = { λ m. record { size = length m.free; held = held_from 0 m.ends.items } };
+    ghost view = { λ m. record { size = length m.free; held = held_from 0 m.ends } };
 
-    ghost invariant = { λ m. IsManaged m.free m.ends.items m.used };
-}
-
-/// For each page that no block begins there.
-fn no_ends(alloc: Global, pages: u32) -> Result<Vec<u32>, NoMemory>
-    ensures { IfOk result (λ ends. ends.items ≡ replicate pages 0) }
-{
-    let ends = vec![in alloc; 0; pages as usize]?;
-    Ok(ends)
+    ghost invariant = { λ m. IsManaged m.free m.ends m.used };
 }
 
 impl BuddyManager {
@@ -67,7 +61,7 @@ impl BuddyManager {
             return Err(NoMemory);
         }
         let free = FreeBlocks::new(alloc, pages)?;
-        let ends = no_ends(alloc, pages)?;
+        let ends = SparseTable::new(alloc, pages)?;
         Ok(BuddyManager {
             free,
             ends,
@@ -126,20 +120,26 @@ impl BuddyManager {
             end: last,
         };
         take_choice(&mut self.free, range, flags, pages, out)?;
-        hold(&mut self.ends, out.items());
+        let Ok(()) = hold(&mut self.ends, out.items()) else {
+            free_spans(&mut self.free, out.items());
+            out.clear();
+            return Err(AllocFault::NoMemory);
+        };
         self.used += pages_of(out.items());
         Ok(())
     }
 
-    /// Holds these blocks, as a journal names them. It takes no memory.
-    pub fn hold(&mut self, spans: &Spans)
+    /// Holds these blocks, as a journal names them. After a refusal nothing is changed.
+    pub fn hold(&mut self, spans: &Spans) -> Result<(), NoMemory>
         requires { AreTaken (is_free_beside self.old.held) self.old.size spans.now }
         ensures size { self.new.size ≡ self.old.size }
-        ensures held { self.new.held ≡ with_blocks spans.now self.old.held }
+        ensures held { OnOk result (self.new.held ≡ with_blocks spans.now self.old.held) }
+        ensures same { OnErr result (self.new ≡ self.old) }
     {
+        hold(&mut self.ends, spans.items())?;
         take_spans(&mut self.free, spans.items());
-        hold(&mut self.ends, spans.items());
         self.used += pages_of(spans.items());
+        Ok(())
     }
 
     /// A block is held, as it was given out or as `trim` left it.
@@ -149,12 +149,25 @@ impl BuddyManager {
         is_held(&self.ends, block)
     }
 
-    /// Blocks are distinct, and each is held. It costs a step a block, since each is let go and put back.
-    pub fn are_held(&mut self, blocks: &Spans) -> bool
-        ensures value { Decides result (AreHeld blocks.now self.old.held) }
-        ensures same { self.new ≡ self.old }
+    /// Tells whether blocks are distinct and each is held. It compares each with those after it.
+    pub fn are_held(&self, blocks: &Spans) -> bool
+        ensures { Decides result (AreHeld blocks.now self.now.held) }
     {
-        are_held(&mut self.ends, blocks.items())
+        are_held(&self.ends, blocks.items())
+    }
+
+    /// Finds the held block that begins at `start`.
+    pub fn held_from(&self, start: u32) -> Option<Span>
+        ensures { result ≡ find (λ block. block.start == start) self.now.held }
+    {
+        block_from(&self.ends, start)
+    }
+
+    /// Counts the blocks that are held. It costs a step a page.
+    pub fn block_count(&self) -> usize
+        ensures { result ≡ length self.now.held }
+    {
+        block_count(&self.ends)
     }
 
     /// Gives blocks back that are held. It takes no memory.
@@ -166,6 +179,17 @@ impl BuddyManager {
         let_go(&mut self.ends, spans.items());
         free_spans(&mut self.free, spans.items());
         self.used -= pages_of(spans.items());
+    }
+
+    /// Gives back a block that is held. It takes no memory.
+    pub fn release_block(&mut self, block: Span)
+        requires { is_held block self.old.held ≡ true }
+        ensures size { self.new.size ≡ self.old.size }
+        ensures held { self.new.held ≡ without block self.old.held }
+    {
+        self.ends.replace(block.start as usize, 0);
+        self.free.give(block);
+        self.used -= block.end - block.start;
     }
 
     /// Gives back the pages of a held block beyond the first `keep`. It takes no memory.

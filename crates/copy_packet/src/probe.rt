@@ -1,4 +1,4 @@
-ghost use Rattle.std.specs.Prelude.{◌≡◌, ◌≤◌, [], IfOk, length};
+ghost use Rattle.std.specs.Prelude.{◌≡◌, ◌+◌, ◌≤◌, ◌++◌, [], IfOk, length};
 
 use std::alloc::Global;
 use std::marker::Model;
@@ -7,7 +7,7 @@ use ttm_base::NoMemory;
 /// How many bytes a probe shows at most.
 const ROOM: usize = 256;
 
-/// The bytes that a probe shows, seen as a list of at most 256. Nothing but `new` takes memory.
+/// The bytes that a probe or a read shows, seen as a list of at most 256. Nothing but `new` takes memory.
 #[derive(Drop)]
 pub struct ProbeBytes {
     bytes: Vec<u8>,
@@ -45,6 +45,14 @@ impl ProbeBytes {
         ensures { self.new ≡ bytes.now }
     {
         self.bytes.clear();
+        self.bytes.extend_from_slice(bytes).unwrap();
+    }
+
+    /// Adds bytes behind those that there are, at most 256 in all.
+    pub fn extend(&mut self, bytes: &[u8])
+        requires { length self.old + length bytes.now ≤ 256 }
+        ensures { self.new ≡ self.old ++ bytes.now }
+    {
         self.bytes.extend_from_slice(bytes).unwrap();
     }
 

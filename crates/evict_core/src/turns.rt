@@ -6,9 +6,8 @@ ghost use Rattle.journal_model.specs.Tasks.{stage_of, task_of};
 ghost use Rattle.journal_model.specs.Search as words;
 ghost use Rattle.room_state.specs.room_turns.Turns.{state_behind};
 ghost use Rattle.room_state.specs.declared.room_turns.Step.TheVariants as step_words;
-ghost use Rattle.room_state.specs.room_turns.Searching.{finds_choice, buffer_search_of, victim_of};
+ghost use Rattle.room_state.specs.room_turns.Searching.{finds_choice, victim_of};
 ghost use Rattle.room_state.specs.room_turns.Turns.{after_step, entry_of, step_of};
-ghost use Rattle.room_state.specs.room_turns.BufferSearches.{seen};
 ghost use Rattle.evict_core.specs.Tasks.{is_skip, lets_go};
 
 use crate::keepers::{causes, ghost_in};
@@ -31,11 +30,14 @@ fn why_of(mem: Mem) -> Why
     }
 }
 
-/// The buffer that is evicted for a search.
-fn victim_for(rooms: &Rooms, thread: u32, buffer_search: BufferSearch) -> Option<BufId>
-    requires { buffer_search_of rooms.now.script (state_behind rooms.now) thread ≡ Some (seen rooms.now.script buffer_search) }
+/// Finds the buffer that is evicted for a thread's search: none where the forced place at work is shorter than the buffer that looks for pages, or
+/// where no buffer in it may be evicted. Takes time by the lists of the place's memory type up to the first that may be, by the spans of their buffers, and
+/// by the buffers that were skipped.
+pub fn next_victim(rooms: &Rooms, thread: u32) -> Option<BufId>
+    requires { stage_of (task_of rooms.now.script (state_behind rooms.now) thread) ≡ stage.Search }
     ensures { result ≡ victim_of rooms.now.script (state_behind rooms.now) thread }
 {
+    let buffer_search = buffer_search_at_work(rooms, thread);
     let place = place_at_work(rooms.script(), buffer_search);
     if !is_long_enough(rooms.script(), buffer_search.b, place) {
         return None;
@@ -43,17 +45,7 @@ fn victim_for(rooms: &Rooms, thread: u32, buffer_search: BufferSearch) -> Option
     victim(rooms, rooms.course(thread).skips.items(), place)
 }
 
-/// The buffer that is evicted for a thread's search: none where the forced place at work is shorter than the buffer that looks for pages, or
-/// where no buffer in it may be evicted. Takes time by the lists of the place's memory type up to the first that may be, by the spans of their buffers, and
-/// by the buffers that were skipped.
-pub fn next_victim(rooms: &Rooms, thread: u32) -> Option<BufId>
-    requires { stage_of (task_of rooms.now.script (state_behind rooms.now) thread) ≡ stage.Search }
-    ensures { result ≡ victim_of rooms.now.script (state_behind rooms.now) thread }
-{
-    victim_for(rooms, thread, buffer_search_at_work(rooms, thread))
-}
-
-/// Catches the buffer that is evicted for a thread's search; false where there is none.
+/// Catches the buffer that is evicted for a thread's search (`next_victim`); false where there is none.
 ///
 /// # Errors
 ///
@@ -67,10 +59,10 @@ pub fn catch(rooms: &mut Rooms, thread: u32) -> Result<bool, NoMemory>
     ensures none { result ≡ Ok false → rooms.new ≡ rooms.old }
     ensures err { OnErr result (rooms.new ≡ rooms.old) }
 {
-    let buffer_search = buffer_search_at_work(rooms, thread);
-    let Some(v) = victim_for(rooms, thread, buffer_search) else {
+    let Some(v) = next_victim(rooms, thread) else {
         return Ok(false);
     };
+    let buffer_search = buffer_search_at_work(rooms, thread);
     let why = why_of(place_at_work(rooms.script(), buffer_search).mem);
     make(rooms, Actor::Thread(thread), Kind::Catch { b: v, why })?;
     Ok(true)

@@ -1,4 +1,3 @@
-pub mod WordLaws
-pub mod BitmapLaws
 pub mod CountLaws
+pub mod FirstLaws
 pub mod FoundLaws

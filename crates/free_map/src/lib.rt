@@ -1,45 +1,44 @@
 //! The numbers below a length that are free, and the lowest of them: the frames of a pool of pages (ttm_pool), or swap slots.
-//! Only `new` takes memory. The other calls look at three words where there are at most 262,144 numbers.
+//! Only `new` takes memory.
 #![tactic(auto)]
 
 ghost use Rattle.std.specs.Prelude.{◌≡◌, ℕ, ◌<◌, Bool, true, false, not, List, length, Some, IfOk, IfSome, IfNone, count_by, find, position, replicate, slice_get, slice_set};
 ghost use Rattle.ttm_base.specs.ListWords.{count_from};
 
-use bitmap::Bitmap;
+use bit_set::BitSet;
 use std::alloc::Global;
 use std::marker::Model;
 use ttm_base::NoMemory;
 
-mod bitmap;
-mod words;
-
 /// For each number below a length whether it is held, seen as a list.
 #[derive(Drop)]
 pub struct FreeMap {
-    held: Bitmap,
+    /// The numbers that are free.
+    numbers: BitSet,
+    /// How many are free.
     free: u32,
 }
 
 impl Model for FreeMap {
-    ghost use Rattle.std.specs.Prelude.{◌≡◌, ◌^◌, ◌<◌, Bool, List, count_by, not, length};
+    ghost use Rattle.std.specs.Prelude.{◌≡◌, ◌^◌, ◌<◌, Bool, List, count_by, not, length, map};
 
     ghost Value = { List Bool };
 
-    ghost view = { λ m. m.held };
+    ghost view = { λ m. map not m.numbers };
 
-    ghost invariant = { λ m. (m.free ≡ count_by not m.held) × (length m.held < 2 ^ 32) };
+    ghost invariant = { λ m. (m.free ≡ count_by not (map not m.numbers)) × (length m.numbers < 2 ^ 32) };
 }
 
 impl FreeMap {
-    /// So many numbers, each of them free.
+    /// Makes `len` numbers, each of them free.
     pub fn new(alloc: Global, len: u32) -> Result<FreeMap, NoMemory>
         ensures { IfOk result (λ map. map ≡ replicate len false) }
     {
-        let mut held = Bitmap::all_held(alloc, len)?;
+        let mut numbers = BitSet::new(alloc, len as usize)?;
         for number in 0..len {
-            held.set(number, false);
+            numbers.set(number as usize);
         }
-        Ok(FreeMap { held, free: len })
+        Ok(FreeMap { numbers, free: len })
     }
 
     /// Takes the lowest free number, which is then held.
@@ -48,33 +47,34 @@ impl FreeMap {
         ensures taken { IfSome result (λ number. self.new ≡ slice_set self.old number true) }
         ensures none { IfNone result (self.new ≡ self.old) }
     {
-        let number = self.held.first()?;
-        self.held.set(number, true);
+        let number = self.numbers.first_from(0)?;
+        self.numbers.clear(number);
         self.free -= 1;
-        Some(number)
+        Some(number as u32)
     }
 
-    /// Gives a number back that is held.
+    /// Gives back `number`, which is held.
     pub fn give(&mut self, number: u32)
         requires { slice_get self.old number ≡ Some true }
         ensures { self.new ≡ slice_set self.old number false }
     {
-        self.held.set(number, false);
+        self.numbers.set(number as usize);
         self.free += 1;
     }
 
-    /// How many numbers are free.
+    /// Tells how many numbers are free.
     pub fn free(&self) -> u32
         ensures { result ≡ count_by not self.now }
     {
         self.free
     }
 
-    /// The lowest free number, which `take` would give.
+    /// Finds the lowest free number, which `take` would give.
     pub fn first(&self) -> Option<u32>
         ensures { result ≡ position not self.now }
     {
-        self.held.first()
+        let number = self.numbers.first_from(0)?;
+        Some(number as u32)
     }
 }
 

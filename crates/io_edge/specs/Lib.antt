@@ -1,4 +1,5 @@
 pub mod Faults
+pub mod Lines
 pub mod Memory
 pub mod ReadFault
 pub mod Standard

@@ -1,9 +1,10 @@
 //! Where bytes come in and go out: sources and sinks that may fail, and count how often they did.
 #![tactic(auto)]
 
-ghost use Rattle.std.specs.Prelude.{◌≡◌, ℕ, List, ◌<◌, ◌≤◌, ◌↔◌, [], Option, length, take, IfOk, IfSome, MatchResult};
+ghost use Rattle.std.specs.Prelude.{◌≡◌, ℕ, List, ◌<◌, ◌≤◌, ◌↔◌, [], Option, length, take, IfOk, IfSome, IsTrue, MatchResult};
 ghost use Rattle.std.specs.Io.KnownBytes.{append_known, prepend_known};
 ghost use Rattle.io_edge.specs.Faults.{faults_after};
+ghost use Rattle.io_edge.specs.Lines.{is_line};
 
 pub mod memory;
 pub mod standard;
@@ -44,6 +45,9 @@ pub trait Sink {
     /// How many calls have failed so far, counted up to `u64::MAX`.
     ghost faults: { Self → ℕ };
 
+    /// How many calls so far were given a piece that is no line, as a sink may count them: only such a call changes it.
+    ghost broken: { Self → ℕ };
+
     /// Appends the first bytes of the piece, and answers how many, which is never 0.
     fn write(&mut self, piece: &[u8]) -> Result<usize, Failed>
         requires { 0 < length piece.now }
@@ -52,5 +56,6 @@ pub trait Sink {
         ensures moved { MatchResult result
             (λ n. written self.new ≡ append_known (written self.old) (take n piece.now))
             (λ _. written self.new ≡ written self.old) }
-        ensures faults { faults self.new ≡ faults_after result (faults self.old) };
+        ensures faults { faults self.new ≡ faults_after result (faults self.old) }
+        ensures lines { IsTrue (is_line piece.now) → broken self.new ≡ broken self.old };
 }

@@ -78,6 +78,8 @@ impl<W: Write> Sink for StdSink<W> {
 
     ghost faults = { sink_faults };
 
+    ghost broken = { λ _. 0 };
+
     fn write(&mut self, piece: &[u8]) -> Result<usize, Failed>
         requires { 0 < length piece.now }
         ensures some { IfOk result (λ n. 1 ≤ n) }

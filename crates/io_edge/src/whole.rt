@@ -1,7 +1,8 @@
-ghost use Rattle.std.specs.Prelude.{◌≡◌, ℕ, List, ◌+◌, ◌^◌, ◌-◌, ◌<◌, ◌≤◌, [], length, take, IfOk, IfErr, IfSome, OnOk, OnErr};
+ghost use Rattle.std.specs.Prelude.{◌≡◌, ℕ, List, ◌+◌, ◌^◌, ◌-◌, ◌<◌, ◌≤◌, [], length, take, IfOk, IfErr, IfSome, IsTrue, OnOk, OnErr};
 ghost use Rattle.std.specs.Option.{option_map};
 ghost use Rattle.std.specs.Io.KnownBytes.{append_known, prepend_known};
 ghost use Rattle.io_edge.specs.Faults.{faults_after};
+ghost use Rattle.io_edge.specs.Lines.{is_line};
 ghost use Rattle.io_edge.specs.ReadFault.{TookBefore, faults_after_all};
 ghost use Rattle.io_edge.specs.Written.{Writes};
 
@@ -73,6 +74,9 @@ pub fn read_all<S: Source>(
 pub fn write_all<K: Sink>(sink: &mut K, bytes: &[u8]) -> Result<(), Failed>
     ensures text { Writes result (K.written sink.old) (K.written sink.new) bytes.now }
     ensures faults { K.faults sink.new ≡ faults_after result (K.faults sink.old) }
+
+    // A line goes out as a line: each piece that the sink is given is an end of it.
+    ensures lines { IsTrue (is_line bytes.now) → K.broken sink.new ≡ K.broken sink.old }
 {
     let mut at = 0;
     while at < bytes.len() {

@@ -1,12 +1,16 @@
 -- Laws of mappings by the CPU and of versions, as statements. A crate `law_*` that proves one cites it by its name here; the README says
 -- which those are.
-use Rattle.std.specs.Prelude.{◌≡◌, ◌↔◌, ℕ, List, Some, Contains, drop, length}
+use Rattle.std.specs.Prelude.{◌≡◌, ◌↔◌, ℕ, List, [], Some, Contains, drop, length}
 use Rattle.journal_model.specs.declared.script.Script.{Script}
 use Rattle.journal_model.specs.declared.entry.Entry.{Entry}
 use Rattle.ttm_base.specs.Pages.{Page}
 use Rattle.journal_model.specs.Places.{place_of}
 use Rattle.journal_model.specs.Words.{Text}
 use Rattle.journal_model.specs.Legal.{state_of, IsLegal, made_of}
+use Rattle.journal_model.specs.Complete.{is_complete}
+use Rattle.journal_model.specs.Transparent.{IsTransparent}
+use Rattle.journal_model.specs.Causes.{have_causes}
+use Rattle.journal_model.specs.Scheduled.{scheduled}
 use Rattle.journal_model.specs.Marks.{core_of}
 use Rattle.journal_model.specs.Mapped.{Mapping, mappings, mapped_entry}
 use Rattle.journal_model.specs.ReportText.{report, report_head}
@@ -25,6 +29,19 @@ LegalMapsAreRight = ForLegal MapsAreRight
 -- marks change nothing of what happens: a script and the same without marks have the same legal journals
 abbrev pub MarksChangeNothing : Type 0
 MarksChangeNothing = (script : Script) (journal : List Entry) → IsLegal (core_of script) journal ↔ IsLegal script journal
+
+-- nor what is said of a journal: whether it is transparent, whether it is complete, and whether what gives up has its cause
+pub record HaveOneStory (script other : Script) (journal : List Entry) : Type 0 where
+  pub transparent : IsTransparent script journal ↔ IsTransparent other journal
+  pub complete : is_complete script journal ≡ is_complete other journal
+  pub causes : have_causes script [] (made_of script journal) ≡ have_causes other [] (made_of other journal)
+
+abbrev pub MarksTellNothing : Type 0
+MarksTellNothing = (script : Script) (journal : List Entry) → HaveOneStory (core_of script) script journal
+
+-- nor the journal after so many turns of the simulator
+abbrev pub MarksTurnNothing : Type 0
+MarksTurnNothing = (script : Script) (n : ℕ) → scheduled (core_of script) n ≡ scheduled script n
 
 -- a report without its first line
 abbrev pub behind_head : Script → List Entry → Text

@@ -1,7 +1,7 @@
 //! The free blocks of a buddy manager (drm_buddy_print).
-ghost use Rattle.std.specs.Prelude.{◌≡◌, ◌+◌, ◌^◌, ◌<◌, ◌≤◌, ◌++◌, [], IfOk, OnOk, flat_map};
+ghost use Rattle.std.specs.Prelude.{◌≡◌, ◌+◌, ◌^◌, ◌<◌, ◌≤◌, ◌++◌, [], IfOk, IfSome, IfNone, OnOk, flat_map};
 ghost use Rattle.ttm_base.specs.Holes.{holes, is_free_beside};
-ghost use Rattle.manager_walk.specs.Walk.{is_open};
+ghost use Rattle.manager_walk.specs.Walk.{is_open, IsNextHeld, NoneFrom};
 ghost use Rattle.manager_walk.specs.Cutting.{grown, blocks_of, free_list};
 
 use crate::listing::add_page;
@@ -14,6 +14,21 @@ const ALONE: BuddyFlags = BuddyFlags {
     topdown: false,
     contig: true,
 };
+
+/// Finds the first block that is held from a page on, or from a later one, of a manager of so many pages. It costs a step a page.
+#[tactic(auto, using(crate::proofs::OpenLaws::none_to_next, crate::proofs::OpenLaws::next_at))]
+pub fn next_block(manager: &BuddyManager, size: u32, from: u32) -> Option<Span>
+    requires { manager.now.size ≡ size }
+    ensures some { IfSome result (IsNextHeld manager.now.held from) }
+    ensures none { IfNone result (NoneFrom manager.now.held from size) }
+{
+    for page in from..size {
+        if let Some(block) = manager.held_from(page) {
+            return Some(block);
+        }
+    }
+    None
+}
 
 /// A page is free. The list is for the answer of the search, and is empty behind it.
 fn is_open(manager: &mut BuddyManager, page: u32, room: &mut Spans) -> Result<bool, NoMemory>

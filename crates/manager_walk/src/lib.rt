@@ -5,6 +5,6 @@ mod blocks;
 mod listing;
 mod ranges;
 
-pub use blocks::free_blocks;
+pub use blocks::{free_blocks, next_block};
 pub use listing::holes;
 pub use ranges::{is_open, next_held, next_hole};

@@ -149,8 +149,8 @@ struct pearoar_block_request {
 };
 
 /*
- * Makes a manager of so many pages, all of them free (drm_buddy_init). It takes 8 bytes a page and more. PEAROAR_NO_MEMORY: it stays
- * closed; so it does from 2^31 pages on.
+ * Makes a manager of so many pages, all of them free (drm_buddy_init). It takes two and a quarter bits a page. PEAROAR_NO_MEMORY: it
+ * stays closed; so it does from 2^31 pages on.
  */
 enum pearoar_status pearoar_blocks_create(struct pearoar_blocks *blocks, uint32_t pages);
 

@@ -1,2 +1,1 @@
-pub mod BlockLaws
 pub mod ValueLaws

@@ -1,6 +1,5 @@
 pub mod BlockOwned
 pub mod Calls
-pub mod Kept
 pub mod RangeOwned
 pub mod States
 pub mod UserValues

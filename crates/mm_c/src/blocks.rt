@@ -12,13 +12,12 @@ ghost use Rattle.mm_c.specs.States.{free_blocks_of, has_order};
 ghost use Rattle.mm_c.specs.UserValues.{value_at};
 ghost use Rattle.mm_c.specs.declared.status.TheConstants.{DONE, NO_ROOM, NO_MEMORY, INVALID, NOT_HELD, TOO_MANY, NO_MORE};
 
-use crate::ends::{begins, block_count, enter, next_from, no_ends};
 use crate::page_span::{PageSpan, write};
 use crate::ranges::tell;
 use crate::status::{DONE, INVALID, NO_MEMORY, NO_ROOM, NOT_HELD, TOO_MANY};
 use crate::values::Values;
 use buddy_manager::{AllocFault, BuddyFlags, BuddyManager};
-use manager_walk::free_blocks;
+use manager_walk::{free_blocks, next_block};
 use std::alloc::Global;
 use std::marker::Model;
 use ttm_base::{NoMemory, Span, Spans};
@@ -26,29 +25,25 @@ use ttm_base::{NoMemory, Span, Spans};
 /// The orders of blocks, since there are fewer than 2^31 pages.
 const ORDERS: usize = 31;
 
-/// A buddy manager with room for the blocks of a call, where each block ends, and the caller's values of the blocks by where they begin.
+/// A buddy manager, its size, room for the blocks of a call, and the caller's values of the blocks by where they begin.
 #[derive(Drop)]
 pub struct Blocks {
     manager: BuddyManager,
-    /// For each page where the block that begins there ends; a page where none begins has no end above it.
-    ends: Vec<u32>,
+    size: u32,
     /// The blocks of a call.
     room: Spans,
-    /// One block, so that giving it back takes no memory.
-    one: Spans,
     values: Values,
 }
 
 impl Model for Blocks {
+    ghost use Rattle.std.specs.Prelude.{◌≡◌};
     ghost use Rattle.mm_c.specs.States.{State};
 
     ghost Value = { State };
 
-    ghost use Rattle.mm_c.specs.Kept.{AreBlocks};
-
     ghost view = { λ b. record { size = b.manager.size; held = b.manager.held; values = b.values } };
 
-    ghost invariant = { λ b. AreBlocks b.manager b.ends.items b.one };
+    ghost invariant = { λ b. b.manager.size ≡ b.size };
 }
 
 /// What an alloc asks for.
@@ -122,6 +117,13 @@ fn status_of(fault: AllocFault) -> u32
     }
 }
 
+/// Finds the held block that begins at `start`.
+fn block_from(manager: &BuddyManager, start: u32) -> Option<Span>
+    ensures { result ≡ find (starts_at start) manager.now.held }
+{
+    manager.held_from(start)
+}
+
 impl Blocks {
     pub fn new(alloc: Global, pages: u32) -> Result<Box<Blocks>, NoMemory>
         ensures size { IfOk result (λ blocks. blocks.value.size ≡ pages) }
@@ -129,14 +131,10 @@ impl Blocks {
         ensures values { IfOk result (λ blocks. blocks.value.values ≡ []) }
     {
         let manager = BuddyManager::new(alloc, pages)?;
-        let ends = no_ends(alloc, pages)?;
-        let mut one = Spans::new(alloc);
-        one.push(Span { start: 0, end: 0 })?;
         let blocks = Blocks {
             manager,
-            ends,
+            size: pages,
             room: Spans::new(alloc),
-            one,
             values: Values::new(alloc),
         };
         Box::new(alloc, blocks).map_err(|_| NoMemory)
@@ -176,7 +174,6 @@ impl Blocks {
             return TOO_MANY;
         }
         write(self.room.items(), out);
-        enter(&mut self.ends, self.room.items());
         DONE
     }
 
@@ -192,9 +189,7 @@ impl Blocks {
         if !self.manager.is_held(block) {
             return NOT_HELD;
         }
-        self.one.set(0, block);
-        self.manager.release(&self.one);
-        self.ends[block.start as usize] = 0;
+        self.manager.release_block(block);
         self.values.clear(block.start);
         DONE
     }
@@ -214,11 +209,10 @@ impl Blocks {
         if !self.manager.is_held(block) {
             return NOT_HELD;
         }
-        if keep == 0 || keep > block.end - block.start {
+        if keep == 0 || keep > block.end.saturating_sub(block.start) {
             return INVALID;
         }
         self.manager.trim(block, keep);
-        self.ends[block.start as usize] = block.start + keep;
         DONE
     }
 
@@ -231,7 +225,7 @@ impl Blocks {
         ensures same { result ≢ DONE → self.new ≡ self.old }
         ensures status { Contains (DONE ∷ NO_MEMORY ∷ NOT_HELD ∷ []) result }
     {
-        if !begins(&self.ends, start) {
+        if block_from(&self.manager, start).is_none() {
             return NOT_HELD;
         }
         match self.values.set(start, value) {
@@ -246,7 +240,7 @@ impl Blocks {
         ensures not_held { (result ≡ NOT_HELD) ↔ (find (starts_at start) self.now.held ≡ None) }
         ensures status { Contains (DONE ∷ NOT_HELD ∷ []) result }
     {
-        if !begins(&self.ends, start) {
+        if block_from(&self.manager, start).is_none() {
             return NOT_HELD;
         }
         *value = self.values.get(start);
@@ -266,7 +260,7 @@ impl Blocks {
             return NO_MEMORY;
         };
         (stats.free, stats.held) = self.manager.lengths();
-        stats.blocks = block_count(&self.ends);
+        stats.blocks = self.manager.block_count();
         count_orders(free.items(), &mut stats.orders);
         DONE
     }
@@ -284,6 +278,6 @@ impl Blocks {
         ensures none { result ≡ NO_MORE → NoneFrom self.now.held from self.now.size }
         ensures status { Contains (DONE ∷ NO_MORE ∷ []) result }
     {
-        tell(next_from(&self.ends, from), span)
+        tell(next_block(&self.manager, self.size, from), span)
     }
 }

@@ -4,7 +4,6 @@
 mod block_calls;
 mod block_handle;
 mod blocks;
-mod ends;
 mod page_span;
 mod parts;
 mod range_calls;

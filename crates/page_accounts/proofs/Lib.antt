@@ -1,1 +1,3 @@
-pub mod HoldingLaws
+pub mod Sums
+pub mod Adding
+pub mod Closing

@@ -1,1 +1,3 @@
-pub mod Holdings
+pub mod Accounts
+pub mod Amounts
+pub mod Counting

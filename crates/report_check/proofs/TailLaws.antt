@@ -10,8 +10,8 @@ use Rattle.journal_model.specs.declared.state.State.{State}
 use Rattle.journal_model.specs.Words.{Text, line}
 use Rattle.journal_model.specs.Legal.{state_of}
 use Rattle.journal_model.specs.ReportText.{report}
-use Rattle.report_text.specs.declared.accounts.Accounts.{Accounts}
-use Rattle.report_text.specs.Accounts.{AreAccountsOf}
+use Rattle.page_accounts.specs.declared.accounts.Accounts.{Accounts}
+use Rattle.page_accounts.specs.Accounts.{AreAccountsOf}
 use Rattle.report_text.specs.Parts.{journal_part, mappings_part, outcome_part}
 use Rattle.report_text.proofs.Parts.{report_by_parts}
 

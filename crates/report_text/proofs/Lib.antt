@@ -2,3 +2,4 @@ pub mod SpacedLaws
 pub mod WrittenLines
 pub mod Kept
 pub mod Parts
+pub mod LineLaws

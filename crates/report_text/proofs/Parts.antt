@@ -15,8 +15,8 @@ use Rattle.journal_model.specs.Complete.{thread_numbers}
 use Rattle.journal_model.specs.Legal.{state_of}
 use Rattle.journal_model.specs.EntryText.{entry_line}
 use Rattle.journal_model.specs.ReportText.{account_line, account_lines, maps_part, report, spaces_part, thread_results}
-use Rattle.report_text.specs.declared.accounts.Accounts.{Accounts}
-use Rattle.report_text.specs.Accounts.{AreAccountsOf}
+use Rattle.page_accounts.specs.declared.accounts.Accounts.{Accounts}
+use Rattle.page_accounts.specs.Accounts.{AreAccountsOf}
 use Rattle.report_text.specs.Parts.{four_lines, journal_part, mappings_part, outcome_part}
 use Rattle.report_text.proofs.WrittenLines.{line_has_some}
 

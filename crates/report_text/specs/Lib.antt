@@ -1,3 +1,3 @@
 pub mod WriteFault
-pub mod Accounts
 pub mod Parts
+pub mod Lines

@@ -8,8 +8,8 @@ use Rattle.journal_model.specs.Complete.{thread_numbers}
 use Rattle.journal_model.specs.Words.{Text, line}
 use Rattle.journal_model.specs.EntryText.{entry_line}
 use Rattle.journal_model.specs.ReportText.{account_line, maps_part, spaces_part, thread_results}
-use Rattle.report_text.specs.declared.accounts.Accounts.{Accounts}
-use Rattle.report_text.specs.Accounts.{told}
+use Rattle.page_accounts.specs.declared.accounts.Accounts.{Accounts}
+use Rattle.page_accounts.specs.Accounts.{told}
 
 -- the lines of four accounts
 abbrev pub four_lines : Sizes → Accounts → Text

@@ -7,18 +7,20 @@ ghost use Rattle.journal_model.specs.EntryText.{entry_line};
 ghost use Rattle.journal_model.specs.ReportText.{account_line, account_lines, answer_line, answer_of, answer_words, report, thread_results};
 ghost use Rattle.journal_model.specs.Complete.{is_by_thread, thread_numbers};
 ghost use Rattle.journal_model.specs.Legal.{state_of};
-ghost use Rattle.report_text.specs.Accounts.{AreAccountsOf, told};
+ghost use Rattle.page_accounts.specs.Accounts.{AreAccountsOf, told};
 ghost use Rattle.report_mappings.specs.Faults.{IsLegalIfMapped};
 ghost use Rattle.report_mappings.specs.Requests.{are_in_spaces};
+ghost use Rattle.report_text.specs.Lines.{are_lines};
 ghost use Rattle.report_text.specs.Parts.{four_lines, journal_part, mappings_part, outcome_part};
 ghost use Rattle.text_line.specs.Spaced.{spaced_out};
 ghost use Rattle.report_text.specs.WriteFault.{faults_after_writing};
 
-use crate::accounts::{Account, Accounts};
 use crate::entry::{make_entry_line, put_answer};
 use io_edge::{Failed, Sink, write_all};
 use journal_model::{Entry, Kind, Script, Sizes};
+use page_accounts::{Account, Accounts};
 use report_mappings::{has_map, has_vmap, put_maps, put_spaces};
+use script_words::cut::len_of_line;
 use std::alloc::Global;
 use text_line::{Line, put_numbered};
 use ttm_base::{Actor, NoMemory};
@@ -50,12 +52,20 @@ impl From<NoMemory> for WriteFault {
     }
 }
 
-/// Writes a line as a piece of its own.
-fn write_line<K: Sink>(line: &Line, sink: &mut K) -> Result<(), WriteFault>
-    ensures text { Writes result (K.written sink.old) (K.written sink.new) line.now }
+/// Writes each line of a text as a piece of its own.
+fn write_lines<K: Sink>(text: &[u8], sink: &mut K) -> Result<(), WriteFault>
+    requires { IsTrue (are_lines text.now) }
+    ensures text { Writes result (K.written sink.old) (K.written sink.new) text.now }
     ensures faults { K.faults sink.new ≡ faults_after_writing result (K.faults sink.old) }
+    ensures lines { K.broken sink.new ≡ K.broken sink.old }
 {
-    write_all(sink, line.bytes())?;
+    let mut at = 0;
+    while at < text.len() {
+        let (_, behind) = text.split_at(at);
+        let (line, _) = behind.split_at(len_of_line(behind));
+        write_all(sink, line)?;
+        at += line.len();
+    }
     Ok(())
 }
 
@@ -68,9 +78,10 @@ fn write_entry<K: Sink>(
 ) -> Result<(), WriteFault>
     ensures text { Writes result (K.written sink.old) (K.written sink.new) (entry_line script.now (number, entry.now)) }
     ensures faults { K.faults sink.new ≡ faults_after_writing result (K.faults sink.old) }
+    ensures lines { K.broken sink.new ≡ K.broken sink.old }
 {
     make_entry_line(line, script, number, entry)?;
-    write_line(line, sink)
+    write_lines(line.bytes(), sink)
 }
 
 fn write_entries<K: Sink>(
@@ -81,6 +92,7 @@ fn write_entries<K: Sink>(
 ) -> Result<(), WriteFault>
     ensures text { Writes result (K.written sink.old) (K.written sink.new) (flat_map (entry_line script.now) (enumerate_from 1 journal.now)) }
     ensures faults { K.faults sink.new ≡ faults_after_writing result (K.faults sink.old) }
+    ensures lines { K.broken sink.new ≡ K.broken sink.old }
 {
     for (i, entry) in journal.iter().enumerate() {
         write_entry(line, script, i as u64 + 1, entry, sink)?;
@@ -92,9 +104,10 @@ fn write_entries<K: Sink>(
 fn write_heading<K: Sink>(line: &mut Line, word: &[u8], sink: &mut K) -> Result<(), WriteFault>
     ensures text { Writes result (K.written sink.old) (K.written sink.new) (line_of (word.now ∷ [])) }
     ensures faults { K.faults sink.new ≡ faults_after_writing result (K.faults sink.old) }
+    ensures lines { K.broken sink.new ≡ K.broken sink.old }
 {
     make_heading(line, word)?;
-    write_line(line, sink)
+    write_lines(line.bytes(), sink)
 }
 
 fn make_heading(line: &mut Line, word: &[u8]) -> Result<(), NoMemory>
@@ -114,9 +127,10 @@ fn write_count<K: Sink>(
 ) -> Result<(), WriteFault>
     ensures text { Writes result (K.written sink.old) (K.written sink.new) (line_of (word.now ∷ decimal number ∷ [])) }
     ensures faults { K.faults sink.new ≡ faults_after_writing result (K.faults sink.old) }
+    ensures lines { K.broken sink.new ≡ K.broken sink.old }
 {
     make_count(line, word, number)?;
-    write_line(line, sink)
+    write_lines(line.bytes(), sink)
 }
 
 fn make_count(line: &mut Line, word: &[u8], number: u64) -> Result<(), NoMemory>
@@ -160,9 +174,10 @@ fn write_answer<K: Sink>(
 ) -> Result<(), WriteFault>
     ensures text { Writes result (K.written sink.old) (K.written sink.new) (answer_line thread (number, unwrap_or (answer_words kind.now) [])) }
     ensures faults { K.faults sink.new ≡ faults_after_writing result (K.faults sink.old) }
+    ensures lines { K.broken sink.new ≡ K.broken sink.old }
 {
     make_answer_line(line, thread, number, kind)?;
-    write_line(line, sink)
+    write_lines(line.bytes(), sink)
 }
 
 fn make_answer_line(line: &mut Line, thread: u64, number: u64, kind: &Kind) -> Result<(), NoMemory>
@@ -183,6 +198,7 @@ fn write_thread_results<K: Sink>(
 ) -> Result<(), WriteFault>
     ensures text { Writes result (K.written sink.old) (K.written sink.new) (thread_results journal.now thread) }
     ensures faults { K.faults sink.new ≡ faults_after_writing result (K.faults sink.old) }
+    ensures lines { K.broken sink.new ≡ K.broken sink.old }
 {
     let mut number = 1;
     for entry in journal {
@@ -202,6 +218,7 @@ fn write_results<K: Sink>(
 ) -> Result<(), WriteFault>
     ensures text { Writes result (K.written sink.old) (K.written sink.new) (flat_map (thread_results journal.now) (thread_numbers script.now)) }
     ensures faults { K.faults sink.new ≡ faults_after_writing result (K.faults sink.old) }
+    ensures lines { K.broken sink.new ≡ K.broken sink.old }
 {
     for index in 0..script.threads.len() {
         write_thread_results(line, index as u64 + 1, journal, sink)?;
@@ -218,9 +235,10 @@ fn write_account<K: Sink>(
 ) -> Result<(), WriteFault>
     ensures text { Writes result (K.written sink.old) (K.written sink.new) (account_line name.now size (told account.now)) }
     ensures faults { K.faults sink.new ≡ faults_after_writing result (K.faults sink.old) }
+    ensures lines { K.broken sink.new ≡ K.broken sink.old }
 {
     make_account_line(line, name, size, account)?;
-    write_line(line, sink)
+    write_lines(line.bytes(), sink)
 }
 
 fn make_account_line(
@@ -257,6 +275,7 @@ fn write_accounts<K: Sink>(
 ) -> Result<(), WriteFault>
     ensures text { Writes result (K.written sink.old) (K.written sink.new) (four_lines sizes.now accounts.now) }
     ensures faults { K.faults sink.new ≡ faults_after_writing result (K.faults sink.old) }
+    ensures lines { K.broken sink.new ≡ K.broken sink.old }
 {
     write_account(line, b"vram", sizes.vram, &accounts.vram, sink)?;
     write_account(line, b"tt", sizes.tt, &accounts.tt, sink)?;
@@ -273,6 +292,7 @@ pub fn write_journal<K: Sink>(
 ) -> Result<(), WriteFault>
     ensures text { Writes result (K.written sink.old) (K.written sink.new) (journal_part script.now journal.now) }
     ensures faults { K.faults sink.new ≡ faults_after_writing result (K.faults sink.old) }
+    ensures lines { K.broken sink.new ≡ K.broken sink.old }
 {
     write_count(line, b"report", script.version as u64, sink)?;
     write_count(line, b"journal", journal.len() as u64, sink)?;
@@ -289,6 +309,7 @@ pub fn write_outcome<K: Sink>(
 ) -> Result<(), WriteFault>
     ensures text { Writes result (K.written sink.old) (K.written sink.new) (outcome_part script.now journal.now accounts.now) }
     ensures faults { K.faults sink.new ≡ faults_after_writing result (K.faults sink.old) }
+    ensures lines { K.broken sink.new ≡ K.broken sink.old }
 {
     write_heading(line, b"results", sink)?;
     write_results(line, script, journal, sink)?;
@@ -319,8 +340,8 @@ fn make_mappings(
     put_spaces(line, alloc, script)
 }
 
-/// Writes the parts of a report behind the accounts, if the script has mappings: the faults of those by the CPU, and the steps of address spaces.
-/// They are one piece.
+/// Writes the parts of a report that follow the accounts, if the script has mappings: the faults of those by the CPU, and the steps of
+/// address spaces.
 pub fn write_mappings<K: Sink>(
     line: &mut Line,
     alloc: Global,
@@ -332,16 +353,21 @@ pub fn write_mappings<K: Sink>(
     requires legal { IsLegalIfMapped script.now journal.now }
     ensures text { Writes result (K.written sink.old) (K.written sink.new) (mappings_part script.now journal.now) }
     ensures faults { K.faults sink.new ≡ faults_after_writing result (K.faults sink.old) }
+    ensures lines { K.broken sink.new ≡ K.broken sink.old }
 {
     if !has_mappings(script) {
         return Ok(());
     }
     make_mappings(line, alloc, script, journal)?;
-    write_line(line, sink)
+    write_lines(line.bytes(), sink)
 }
 
-/// Writes the report of a journal, each line as a piece of its own, and the parts on mappings as one. The accounts are those of the state after
-/// the journal. After a refusal a front of the report was written, and not all.
+/// Writes the report of a journal, each line as a piece of its own. The accounts are those of the state after the journal. After a refusal
+/// a front of the report was written, and not all.
+///
+/// # Errors
+///
+/// `Failed` where the sink failed, `NoMemory` where memory runs out.
 pub fn write_report<K: Sink>(
     alloc: Global,
     script: &Script,
@@ -354,6 +380,7 @@ pub fn write_report<K: Sink>(
     requires accounts { AreAccountsOf script.now (state_of script.now journal.now).core accounts.now }
     ensures text { Writes result (K.written sink.old) (K.written sink.new) (report script.now journal.now) }
     ensures faults { K.faults sink.new ≡ faults_after_writing result (K.faults sink.old) }
+    ensures lines { K.broken sink.new ≡ K.broken sink.old }
 {
     let mut line = Line::new(alloc);
     write_journal(&mut line, script, journal, sink)?;

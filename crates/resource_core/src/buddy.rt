@@ -67,8 +67,7 @@ impl SpanManager for BuddyManager {
     }
 
     fn hold(&mut self, spans: &Spans) -> Result<(), NoMemory> {
-        BuddyManager::hold(self, spans);
-        Ok(())
+        BuddyManager::hold(self, spans)
     }
 
     fn put_back(&mut self, spans: &Spans) {

@@ -72,7 +72,7 @@ fn give_back(rooms: &mut Rooms, thread: u32) -> Result<Step, NoMemory>
 }
 
 /// A command does what it is for, and is answered. A Free, and a SwapOut of each page, are entries of their own.
-fn work(rooms: &mut Rooms, thread: u32) -> Result<Step, NoMemory>
+fn work(alloc: Global, rooms: &mut Rooms, thread: u32) -> Result<Step, NoMemory>
     requires { stage_of (task_of rooms.old.script (state_behind rooms.old) thread) ≡ stage.Act }
     ensures step { IfOk result (λ step. step ≡ step_of (entry_of rooms.old (actor.Thread thread))) }
     ensures made { OnOk result (rooms.new ≡ after_step rooms.old (entry_of rooms.old (actor.Thread thread))) }
@@ -83,7 +83,7 @@ fn work(rooms: &mut Rooms, thread: u32) -> Result<Step, NoMemory>
     } else if is_swap_out_due(rooms, thread) {
         swap_out_page(rooms, thread)
     } else {
-        act(rooms, thread)
+        act(alloc, rooms, thread)
     }
 }
 
@@ -106,6 +106,6 @@ pub(crate) fn turn_of_thread(
         Stage::Fill => fill(rooms, thread),
         Stage::Empty => empty(rooms, thread),
         Stage::Fail => give_back(rooms, thread),
-        Stage::Act => work(rooms, thread),
+        Stage::Act => work(alloc, rooms, thread),
     }
 }

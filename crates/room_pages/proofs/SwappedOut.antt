@@ -92,7 +92,7 @@ module _ (script : Script) (s : State) (who : Actor) (bytes : PageBytes) (swap :
         let represented = put_there (long_before swap.bytes copy (4096 * k) (4096 * length swap.held) (omega (arith, fits, whole)) full) in
         record {
           held_are = held ∙ represented.held_are;
-          bytes_are = λ i o e. ap (λ l. byte_at l i o) put ∙ represented.bytes_are i o (sym (ap (λ h. slice_get h i) held) ∙ e);
+          bytes_are = λ i o e. ap (λ l. byte_at l i o) put ∙ represented.bytes_are i o e;
         }
 
 -- ---- all parts

@@ -86,11 +86,13 @@ module _ (script : Script) (journal : List Entry) (p : Parts) (entry : Entry) (t
       let all = slots_within s.core b (buffer s b) back.live k in
       omega (arith, here, gone, all)
 
+  slot_there : k < script.sizes.swap
+  slot_there = owned_below script.sizes.swap (held_slots s.core) (owner_law script journal held.fits held.legal).slots k named
+
   -- the slot is held
   pub swap_in_slot : slice_get p.swap.held k ≡ Some true
   swap_in_slot =
-      let inside = owned_below script.sizes.swap (held_slots s.core) (owner_law script journal held.fits held.legal).slots k named in
-      ap (λ l. slice_get l k) held.represents.swap.held_are ∙ mark_at _ script.sizes.swap k inside ∙ ap (λ q. Some q) (has_some (held_slots s.core) k named)
+      ap (λ l. slice_get l k) held.represents.swap.held_are ∙ mark_at _ script.sizes.swap k slot_there ∙ ap (λ q. Some q) (has_some (held_slots s.core) k named)
 
   pub swap_in_below : k < length p.swap.held
   swap_in_below = is_below p.swap.held k true swap_in_slot
@@ -121,7 +123,7 @@ module _ (script : Script) (journal : List Entry) (p : Parts) (entry : Entry) (t
         pool = subst (λ l. ArePooled script.sizes.frames (held_frames (after_swap_in s b page f).core) l) (sym now) (swap_in_pooled script s b back.live p.pool represents.pool page k f back.at);
         swap = subst (λ x. AreSlots script.sizes.swap (held_slots (after_swap_in s b page f).core) (within script.sizes (stores_after script s (actor.Thread t) (kind.SwapIn b page k f) w.stores)) x) (sym gone)
             (swap_in_slots script s (actor.Thread t) w.stores p.swap represents.swap b back.live page k f (owner_law script journal held.fits held.legal).slots back.at);
-        stores = swap_in_stores script s w.stores p.stores represents.stores (actor.Thread t) b (λ x l m. back.out (ap (λ (y : Buffer). y.mem) (there x l) ∙ m)) page f below frames k (held_slots s.core) p.swap bytes represents.swap swap_in_slot inside whole put;
+        stores = swap_in_stores script s w.stores p.stores represents.stores (actor.Thread t) b (λ x l m. back.out (ap (λ (y : Buffer). y.mem) (there x l) ∙ m)) page f below frames k (held_slots s.core) p.swap bytes represents.swap slot_there inside whole put;
         lists = changed_unseen script (with_loc page (loc.Frame f)) s.core.buffers s.reservations s.lists p.lru b (λ x. refl) represents.lists;
         courses = represents.courses;
         stamp = represents.stamp;

@@ -32,6 +32,7 @@ use Rattle.room_representation.proofs.lemma_room_jobs.Lists.{get_map}
 use Rattle.room_representation.proofs.lemma_room_bytes.Walks.{page_held, slots_within}
 use Rattle.room_representation.proofs.lemma_room_bytes.Places.{page_there}
 use Rattle.room_representation.proofs.lemma_room_bytes.Shown.{range_append}
+use Rattle.room_representation.proofs.lemma_room_bytes.Slots.{held_below}
 use Rattle.room_representation.proofs.room_steps.Lent.{is_below, stands_at}
 use Rattle.room_queries.specs.Bytes.{byte_in, bytes_in, page_of_bo, standing, zeros, HasPart}
 
@@ -41,6 +42,18 @@ use Rattle.room_queries.specs.Bytes.{byte_in, bytes_in, page_of_bo, standing, ze
 pub zeros_are : (len off : ℕ) → zeros len ≡ map (λ o. 0) (count_from 1 len off)
 zeros_are zero off = refl
 zeros_are (suc len) off = ap (λ l. 0 ∷ l) (zeros_are len (1 + off))
+
+-- as many as are asked for
+bytes_counted : (f : ℕ → ℕ) (len off : ℕ) → length (map f (count_from 1 len off)) ≡ len
+bytes_counted f zero off = refl
+bytes_counted f (suc len) off = ap suc (bytes_counted f len (1 + off))
+
+-- behind the bytes of a first page there is room for the others
+pub room_behind : (p : Parts) (page : Page) (off len first left : ℕ) (one : List ℕ) → first ≡ min len left → len ≤ 256 → one ≡ [] ++ bytes_in p page off first → length one + (len - first) ≤ 256
+room_behind p page off len first left one is_first few is =
+    let long : length one ≡ first = ap length is ∙ bytes_counted (byte_in p page) first off in
+    let under : first ≤ len = grind (arith, is_first) in
+    omega (arith, long, under, few)
 
 -- a part of a store, within a page
 pub stored_are : (bytes : List ℕ) (page off len : ℕ) → HasPage bytes page → off + len ≤ 4096 → part bytes (4096 * page + off) len ≡ map (byte_at bytes page) (count_from 1 len off)
@@ -135,7 +148,7 @@ module _ (script : Script) (journal : List Entry) (p : Parts) (held : AreHeld sc
   represented_byte n o nowhere at = held.represents.no_more nowhere o refl
   represented_byte n o (vram q) at = sym (held.represents.stores.in_vram q o)
   represented_byte n o (frame f) at = sym (held.represents.stores.in_frames f o)
-  represented_byte n o (slot k) at = sym (held.represents.swap.bytes_are k o (slot_held n k at))
+  represented_byte n o (slot k) at = sym (held.represents.swap.bytes_are k o (held_below script (held_slots (state_of script journal).core) (stores_of script journal) p.swap held.represents.swap k (slot_held n k at)))
 
   -- so has each byte of the buffer
   seen_byte : (i : ℕ) → byte_of (stores_of script journal) x i ≡ byte_in p (page_at x (i / 4096)) (i % 4096)
@@ -184,7 +197,7 @@ module _ (script : Script) (journal : List Entry) (p : Parts) (held : AreHeld sc
         lent_bytes len off (omega (arith, start, few)) ∙ ap₂ (λ q o. bytes_in p (page_of_bo bo q) o len) (sym at) start
 
     -- what was read of two pages is what the journal has
-    pub both_shown : (off len first : ℕ) (one two : List ℕ) → first ≡ min len (4096 - off % 4096) → len ≤ 4096 → one ≡ [] ++ bytes_in p (page_of_bo bo (off / 4096)) (off % 4096) first →
+    pub both_shown : (off len first : ℕ) (one two : List ℕ) → first ≡ min len (4096 - off % 4096) → len ≤ 256 → one ≡ [] ++ bytes_in p (page_of_bo bo (off / 4096)) (off % 4096) first →
         two ≡ one ++ bytes_in p (page_of_bo bo (off / 4096 + 1)) 0 (len - first) → two ≡ model.bytes_of (stores_of script journal) x off len
     both_shown off len first one two is_first few a c =
         let all : first + (len - first) ≡ len = grind (arith, is_first) in

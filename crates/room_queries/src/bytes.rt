@@ -1,4 +1,4 @@
-ghost use Rattle.std.specs.Prelude.{◌≡◌, ◌+◌, ◌<◌, ◌≤◌, ◌++◌, IfOk, OnOk, length, map};
+ghost use Rattle.std.specs.Prelude.{◌≡◌, ◌+◌, ◌<◌, ◌≤◌, ◌++◌, length, map};
 ghost use Rattle.ttm_base.specs.ListWords.{count_from};
 ghost use Rattle.copy_packet.specs.StoreBytes.{byte_at, HasPage};
 ghost use Rattle.journal_model.specs.State.{buffer};
@@ -13,12 +13,11 @@ ghost use Rattle.room_queries.specs.Bytes.{bytes_in, standing, HasPart};
 use bo_table::Bo;
 use byte_store::{ByteStore, PAGE};
 use copy_packet::{ProbeBytes, show};
-use journal_model::{Bytes, Entry, Script};
+use journal_model::{Entry, Script};
 use room_representation::Parts;
 use state_words::page_at;
-use std::alloc::Global;
 use swap_store::SwapStore;
-use ttm_base::{BufId, Loc, Mem, NoMemory};
+use ttm_base::{BufId, Loc, Mem};
 
 /// How many bytes a page has.
 const PAGE_LEN: u32 = 4096;
@@ -48,44 +47,34 @@ fn standing_of(bo: &Bo, page: u32) -> Standing
     }
 }
 
-/// Puts zeros behind others.
+/// Adds `len` zeros.
 #[tactic(auto, using(crate::proofs::Read::zeros_more))]
-fn push_zeros(out: &mut Bytes, len: u32) -> Result<(), NoMemory>
-    ensures { OnOk result (out.new ≡ out.old ++ seen.zeros len) }
+fn push_zeros(out: &mut ProbeBytes, len: u32)
+    requires { length out.old + len ≤ 256 }
+    ensures { out.new ≡ out.old ++ seen.zeros len }
 {
     for _i in 0..len {
-        out.push(0)?;
+        out.extend(&[0]);
     }
-    Ok(())
 }
 
-/// Puts bytes of one page of a store behind others.
-fn push_stored(
-    out: &mut Bytes,
-    store: &ByteStore,
-    page: u32,
-    off: u32,
-    len: u32,
-) -> Result<(), NoMemory>
+/// Adds `len` bytes of one page of a store, from `off` on.
+fn push_stored(out: &mut ProbeBytes, store: &ByteStore, page: u32, off: u32, len: u32)
     requires page { HasPage store.now page }
     requires fits { off + len ≤ 4096 }
-    ensures { OnOk result (out.new ≡ out.old ++ map (byte_at store.now page) (count_from 1 len off)) }
+    requires room { length out.old + len ≤ 256 }
+    ensures { out.new ≡ out.old ++ map (byte_at store.now page) (count_from 1 len off) }
 {
     let bytes = store.part(PAGE * page as u64 + off as u64, len as u64);
     out.extend(bytes)
 }
 
-/// Puts bytes of one slot behind others.
-fn push_slot(
-    out: &mut Bytes,
-    swap: &SwapStore,
-    slot: u32,
-    off: u32,
-    len: u32,
-) -> Result<(), NoMemory>
+/// Adds `len` bytes of one slot, from `off` on.
+fn push_slot(out: &mut ProbeBytes, swap: &SwapStore, slot: u32, off: u32, len: u32)
     requires slot { slot < length swap.now.held }
     requires fits { off + len ≤ 4096 }
-    ensures { OnOk result (out.new ≡ out.old ++ map (byte_at swap.now.bytes slot) (count_from 1 len off)) }
+    requires room { length out.old + len ≤ 256 }
+    ensures { out.new ≡ out.old ++ map (byte_at swap.now.bytes slot) (count_from 1 len off) }
 {
     let page = swap.page(slot);
     let start = off as usize;
@@ -93,18 +82,12 @@ fn push_slot(
     out.extend(&page[start..end])
 }
 
-/// Puts bytes of one page of a buffer behind others, from the store where the page stands.
-fn push_part(
-    out: &mut Bytes,
-    parts: &Parts,
-    bo: &Bo,
-    page: u32,
-    off: u32,
-    len: u32,
-) -> Result<(), NoMemory>
+/// Adds `len` bytes of one page of a buffer, from `off` on, of the store where the page stands.
+fn push_part(out: &mut ProbeBytes, parts: &Parts, bo: &Bo, page: u32, off: u32, len: u32)
     requires there { HasPart parts.now (seen.page_of_bo bo.now page) }
     requires fits { off + len ≤ 4096 }
-    ensures { OnOk result (out.new ≡ out.old ++ bytes_in parts.now (seen.page_of_bo bo.now page) off len) }
+    requires room { length out.old + len ≤ 256 }
+    ensures { out.new ≡ out.old ++ bytes_in parts.now (seen.page_of_bo bo.now page) off len }
 {
     match standing_of(bo, page) {
         Standing::Nowhere => push_zeros(out, len),
@@ -114,34 +97,29 @@ fn push_part(
     }
 }
 
-/// The bytes of a live buffer, at most a page of them, from an offset on: those that the stores have at its places. They lie on two pages at
-/// most. Takes time by the bytes, and by the buffer's spans.
-///
-/// # Errors
-///
-/// Want of memory.
+/// Shows `len` bytes of a live buffer from `off` on, at most 256: those that the stores and slots have at its places. They lie on two pages at
+/// most. Takes no memory, and time by the bytes and by the buffer's spans.
 pub fn shown(
     parts: &Parts,
-    alloc: Global,
     script: &Script,
     before: &[Entry],
     b: BufId,
     off: u32,
     len: u32,
-) -> Result<Bytes, NoMemory>
+    out: &mut ProbeBytes,
+)
     requires held { AreHeld script.now before.now parts.now }
     requires live { IsThere (state_of script.now before.now) b }
-    requires short { len ≤ 4096 }
-    ensures { IfOk result (λ bytes. bytes ≡ words.bytes_of (stores_of script.now before.now) (buffer (state_of script.now before.now) b) off len) }
+    requires short { len ≤ 256 }
+    ensures { out.new ≡ words.bytes_of (stores_of script.now before.now) (buffer (state_of script.now before.now) b) off len }
 {
     let bo = parts.bos.get(b);
     let page = off / PAGE_LEN;
     let start = off % PAGE_LEN;
     let first = len.min(PAGE_LEN - start);
-    let mut out = Bytes::new(alloc);
-    push_part(&mut out, parts, bo, page, start, first)?;
-    push_part(&mut out, parts, bo, page + 1, 0, len - first)?;
-    Ok(out)
+    out.set(&[]);
+    push_part(out, parts, bo, page, start, first);
+    push_part(out, parts, bo, page + 1, 0, len - first)
 }
 
 /// The bytes that the head's next packet shows: none of one that isn't a probe. None where no packet is left, or no job. Takes time by the bytes.

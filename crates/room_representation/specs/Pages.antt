@@ -1,5 +1,5 @@
 -- Frames, slots, bytes and the aperture, as the state and its journal's bytes tell them.
-use Rattle.std.specs.Prelude.{◌≡◌, ℕ, ◌*◌, Bool, true, false, ◌&&◌, nat_lt, List, Some, map, length, slice_get}
+use Rattle.std.specs.Prelude.{◌≡◌, ℕ, ◌*◌, ◌<◌, Bool, true, false, ◌&&◌, nat_lt, List, map, length}
 use Rattle.ttm_base.specs.ListWords.{count_from}
 use Rattle.ttm_base.specs.Pages.{Page, vram, frame, slot, PageBytes, Aperture}
 use Rattle.copy_packet.specs.declared.stores.Stores.{Stores}
@@ -17,10 +17,10 @@ marks held size = map (has_number held) (count_from 1 size 0)
 pub record ArePooled (size : ℕ) (held : List ℕ) (pool : List Bool) : Type 0 where
   pub held_are : pool ≡ marks held size
 
--- a swap store holds the slots that tables name, with the bytes of the journal
+-- a swap store holds the slots that tables name, and each of its slots, held or free, has the bytes of the journal
 pub record AreSlots (size : ℕ) (named : List ℕ) (bytes : PageBytes) (s : SwapSlots) : Type 0 where
   pub held_are : s.held ≡ marks named size
-  pub bytes_are : (k o : ℕ) → slice_get s.held k ≡ Some true → byte_at s.bytes k o ≡ bytes (slot k) o
+  pub bytes_are : (k o : ℕ) → k < size → byte_at s.bytes k o ≡ bytes (slot k) o
 
 -- the stores have the bytes of the journal, and the aperture is the state's
 pub record AreStores (sizes : Sizes) (aper : Aperture) (bytes : PageBytes) (s : Stores) : Type 0 where

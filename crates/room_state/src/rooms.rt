@@ -1,9 +1,10 @@
-ghost use Rattle.std.specs.Prelude.{◌≡◌, ◌+◌, ◌<◌, ◌≤◌, [], IfOk, IsSome, IsTrue, OnOk, OnErr, length, option_and_then, option_copied, option_map, remove, slice_get};
+ghost use Rattle.std.specs.Prelude.{◌≡◌, ℕ, ◌+◌, ◌<◌, ◌≤◌, [], IfOk, IsSome, IsTrue, OnOk, OnErr, length, option_and_then, option_copied, option_map, remove, slice_get};
 ghost use Rattle.journal_model.specs.State.{buffer, course_of, course};
 ghost use Rattle.journal_model.specs.Choice.{choice as choice_of};
 ghost use Rattle.journal_model.specs.Complete.{is_complete};
 ghost use Rattle.journal_model.specs.Holds.{free_frame as frame_of, free_slot as slot_of};
 ghost use Rattle.journal_model.specs.Next.{head_of};
+ghost use Rattle.journal_model.specs.Places.{aperture};
 ghost use Rattle.journal_model.specs.PageSteps.{next_job as job_of, next_ghost as ghost_of};
 ghost use Rattle.journal_model.specs.Stores.{bytes_of};
 ghost use Rattle.journal_model.specs.Tasks.{stage_of, task_of};
@@ -21,14 +22,16 @@ ghost use Rattle.room_representation.specs.Held.{AreHeld};
 ghost use Rattle.room_representation.specs.Lines.{IsTimeline};
 ghost use Rattle.room_representation.specs.RingJobs.{AreRings};
 ghost use Rattle.room_state.specs.Kept.{with_entry, state_behind, world_behind, MayAppend};
+ghost use Rattle.aperture_table.specs.Translation.{frame_at};
 
 use crate::make::make_parts;
 use crate::room_first::first_parts;
+use aperture_table::Aperture;
 use bo_table::BoTable;
 use copy_engine::Rings;
 use copy_packet::ProbeBytes;
 use fence_core::Timeline;
-use journal_model::{Bytes, Command, Course, Entry, Script, Stage, Task};
+use journal_model::{Command, Course, Entry, Script, Stage, Task};
 use lru_bulk::Lru;
 use room_representation::{Ghost, Parts};
 use state_words::commands_of;
@@ -163,6 +166,14 @@ impl Rooms {
         self.parts.ghosts.items()
     }
 
+    /// Lends the aperture of its stores: each page of TT is mapped to the frame that the state names, or not at all. Takes no memory.
+    pub fn aperture(&self) -> &Aperture
+        ensures size { length result.now ≡ self.now.script.sizes.tt }
+        ensures mapped { (page : ℕ) → frame_at result.now page ≡ aperture (state_behind self.now).core page }
+    {
+        &self.parts.stores.aper
+    }
+
     /// All parts.
     pub fn parts(&self) -> &Parts
         ensures { AreHeld self.now.script self.now.journal result.now }
@@ -287,18 +298,14 @@ impl Rooms {
         room_queries::choice(&mut self.parts, self.alloc, &self.script, entries, b, place)
     }
 
-    /// The bytes of a live buffer, at most a page of them, from an offset on.
-    ///
-    /// # Errors
-    ///
-    /// Want of memory.
-    pub fn shown(&self, b: BufId, off: u32, len: u32) -> Result<Bytes, NoMemory>
+    /// Shows `len` bytes of a live buffer from `off` on, at most 256: those that the stores and slots have at its places. Takes no memory.
+    pub fn shown(&self, b: BufId, off: u32, len: u32, out: &mut ProbeBytes)
         requires live { IsThere (state_behind self.now) b }
-        requires short { len ≤ 4096 }
-        ensures { IfOk result (λ bytes. bytes ≡ bytes_of (world_behind self.now).stores (buffer (state_behind self.now) b) off len) }
+        requires short { len ≤ 256 }
+        ensures { out.new ≡ bytes_of (world_behind self.now).stores (buffer (state_behind self.now) b) off len }
     {
         let entries = self.journal.items();
-        room_queries::shown(&self.parts, self.alloc, &self.script, entries, b, off, len)
+        room_queries::shown(&self.parts, &self.script, entries, b, off, len, out);
     }
 
     /// The bytes that the head's next packet shows: none of one that isn't a probe.

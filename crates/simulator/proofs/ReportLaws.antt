@@ -5,8 +5,8 @@ use Rattle.journal_model.specs.declared.entry.Entry.{Entry}
 use Rattle.journal_model.specs.Legal.{state_of}
 use Rattle.report_mappings.specs.Requests.{are_in_spaces}
 use Rattle.report_mappings.proofs.Fits.{fits_spaces}
-use Rattle.report_text.specs.declared.accounts.Accounts.{Accounts}
-use Rattle.report_text.specs.Accounts.{AreAccountsOf}
+use Rattle.page_accounts.specs.declared.accounts.Accounts.{Accounts}
+use Rattle.page_accounts.specs.Accounts.{AreAccountsOf}
 use Rattle.room_representation.specs.declared.parts.Parts.{Parts}
 use Rattle.room_representation.specs.Held.{AreHeld}
 use Rattle.sim_drive.specs.Ends.{Kept}

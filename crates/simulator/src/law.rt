@@ -7,7 +7,7 @@ use room_representation::Parts;
 use sim_drive::Device;
 
 /// What holds of each device, whatever turns it has taken, and the parts of which it holds: the journal is legal and transparent, and
-/// keeps the other laws; VRAM, frames and held slots have the bytes that the journal leads to.
+/// keeps the other laws; VRAM, frames and slots, held or free, have the bytes that the journal leads to.
 #[tactic(auto, using(crate::proofs::DeviceLaws::laws_of, crate::proofs::DeviceLaws::bytes_of, crate::proofs::DeviceLaws::slots_of))]
 pub fn lawful_parts(device: &Device) -> &Parts
     ensures legal { IsLegal device.now.script device.now.journal }

@@ -209,7 +209,7 @@ fn named_pages_are_held(rt: HostRuntime) {
     let alloc = rt.alloc();
     let mut manager = BuddyManager::new(alloc, 12).expect(&rt, "a manager");
     let spans = named(&rt, alloc, Span { start: 5, end: 7 });
-    manager.hold(&spans);
+    manager.hold(&spans).expect(&rt, "the ends of blocks");
     assert!(rt; manager.lengths() == (10, 2));
     get(&rt, alloc, &mut manager, &BESIDE);
     gives_back_once(&rt, &mut manager, &spans);

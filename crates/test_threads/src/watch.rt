@@ -57,6 +57,8 @@ impl<'a> Sink for WatchedSink<'a> {
 
     ghost faults = { λ _. 0 };
 
+    ghost broken = { λ _. 0 };
+
     fn write(&mut self, piece: &[u8]) -> Result<usize, Failed>
         requires { 0 < length piece.now }
         ensures some { IfOk result (λ n. 1 ≤ n) }

@@ -13,4 +13,4 @@ pub use counts::Counts;
 pub use crowd::run_threads;
 pub use launch::{Launch, read_launch};
 pub use program_edges::Status;
-pub use top::ttm_top;
+pub use top::{ToldCounts, tell_counts, tell_run, ttm_top};

@@ -1,8 +1,11 @@
 ghost use Rattle.std.specs.Prelude.{◌≡◌, IfOk, OnErr};
+ghost use Rattle.io_edge.specs.Written.{Writes};
 ghost use Rattle.command_words.specs.Forms.{form_of};
-ghost use Rattle.program_edges.specs.Edges.{Edge};
+ghost use Rattle.report_text.specs.WriteFault.{faults_after_writing};
+ghost use Rattle.program_edges.specs.Edges.{Edge, IsUntouched};
 ghost use Rattle.simulator.specs.Ends.{EndsWith};
-ghost use Rattle.thread_program.specs.Counted.{EndsCounted, HasRunLoad};
+ghost use Rattle.simulator.specs.Outcomes.{text_of};
+ghost use Rattle.thread_program.specs.Counted.{EndsCounted, HasRunLoad, counts_text, load_counts};
 ghost use Rattle.thread_program.specs.Launches.{launch_of};
 ghost use Rattle.thread_program.specs.Threaded.{ComesThreaded, Launched};
 
@@ -13,7 +16,8 @@ use crate::launch::{Launch, read_launch};
 use command_words::Words;
 use io_edge::{Sink, Source};
 use program_edges::{Status, status_after};
-use simulator::{Device, Input, Outcome, read_input, sim_top, write_outcome};
+use report_text::WriteFault;
+use simulator::{Device, Input, Outcome, Told, read_input, sim_top, write_outcome};
 use std::alloc::Global;
 use std::sync::Wait;
 use std::thread::Threads;
@@ -40,7 +44,30 @@ fn outcome_of<R: Threads + Wait + Sync, S: Source, G: Gate + Sync>(
     }
 }
 
-/// Runs the script that the source gives on threads, and writes the report of what it did to the sink.
+/// Runs the script that the source gives on threads, and then writes the text of what it came to.
+///
+/// # Errors
+///
+/// `NoMemory` if memory runs out before the run has ended; nothing is written then.
+pub fn tell_run<R: Threads + Wait + Sync, S: Source, K: Sink, G: Gate + Sync>(
+    rt: &R,
+    alloc: Global,
+    source: &mut S,
+    sink: &mut K,
+    gate: &G,
+) -> Result<Told, NoMemory>
+    ensures comes { IfOk result (λ told. ComesThreaded (record { before = S.left source.old; after = S.left source.new; faults_before = S.faults source.old; faults_after = S.faults source.new }) told.outcome) }
+    ensures text { IfOk result (λ told. Writes told.written (K.written sink.old) (K.written sink.new) (text_of told.outcome)) }
+    ensures faults { IfOk result (λ told. K.faults sink.new ≡ faults_after_writing told.written (K.faults sink.old)) }
+    ensures source { OnErr result (S.faults source.new ≡ S.faults source.old) }
+    ensures nothing { OnErr result (IsUntouched (record { before = K.written sink.old; after = K.written sink.new; faults_before = K.faults sink.old; faults_after = K.faults sink.new })) }
+{
+    let outcome = outcome_of(rt, alloc, source, gate)?;
+    let written = write_outcome(alloc, &outcome, sink);
+    Ok(Told { outcome, written })
+}
+
+/// Runs the script that the source gives on threads, and answers the status.
 fn run_top<R: Threads + Wait + Sync, S: Source, K: Sink, G: Gate + Sync>(
     rt: &R,
     alloc: Global,
@@ -52,8 +79,8 @@ fn run_top<R: Threads + Wait + Sync, S: Source, K: Sink, G: Gate + Sync>(
         (record { before = S.left source.old; after = S.left source.new; faults_before = S.faults source.old; faults_after = S.faults source.new })
         (record { before = K.written sink.old; after = K.written sink.new; faults_before = K.faults sink.old; faults_after = K.faults sink.new }) result }
 {
-    match outcome_of(rt, alloc, source, gate) {
-        Ok(outcome) => { status_after(outcome.status(), write_outcome(alloc, &outcome, sink)) }
+    match tell_run(rt, alloc, source, sink, gate) {
+        Ok(Told { outcome, written }) => status_after(outcome.status(), written),
         Err(NoMemory) => Status::NoMemory,
     }
 }
@@ -71,7 +98,36 @@ fn run_drawn<R: Threads + Wait + Sync, G: Gate + Sync>(
     run_threads(rt, alloc, script, gate)
 }
 
-/// Draws a script from a number, runs it on threads, and writes what is counted of it to the sink.
+/// A device that has run a drawn script, and how the writing of its counts ended.
+#[derive(Drop)]
+pub struct ToldCounts {
+    pub device: Device,
+    pub written: Result<(), WriteFault>,
+}
+
+/// Draws a script from `number`, runs it on threads, and then writes what is counted of the run.
+///
+/// # Errors
+///
+/// `NoMemory` if memory runs out before the run has ended; nothing is written then.
+pub fn tell_counts<R: Threads + Wait + Sync, K: Sink, G: Gate + Sync>(
+    rt: &R,
+    alloc: Global,
+    number: u64,
+    sink: &mut K,
+    gate: &G,
+) -> Result<ToldCounts, NoMemory>
+    ensures ran { IfOk result (λ told. HasRunLoad number told.device) }
+    ensures text { IfOk result (λ told. Writes told.written (K.written sink.old) (K.written sink.new) (counts_text number load_counts)) }
+    ensures faults { IfOk result (λ told. K.faults sink.new ≡ faults_after_writing told.written (K.faults sink.old)) }
+    ensures nothing { OnErr result (IsUntouched (record { before = K.written sink.old; after = K.written sink.new; faults_before = K.faults sink.old; faults_after = K.faults sink.new })) }
+{
+    let device = run_drawn(rt, alloc, number, gate)?;
+    let written = write_counts(alloc, number, &device, sink);
+    Ok(ToldCounts { device, written })
+}
+
+/// Runs the script that is drawn from a number on threads, and answers the status.
 fn gen_top<R: Threads + Wait + Sync, K: Sink, G: Gate + Sync>(
     rt: &R,
     alloc: Global,
@@ -82,8 +138,8 @@ fn gen_top<R: Threads + Wait + Sync, K: Sink, G: Gate + Sync>(
     ensures { EndsCounted number
         (record { before = K.written sink.old; after = K.written sink.new; faults_before = K.faults sink.old; faults_after = K.faults sink.new }) result }
 {
-    match run_drawn(rt, alloc, number, gate) {
-        Ok(device) => { status_after(Status::Done, write_counts(alloc, number, &device, sink)) }
+    match tell_counts(rt, alloc, number, sink, gate) {
+        Ok(ToldCounts { device: _, written }) => status_after(Status::Done, written),
         Err(NoMemory) => Status::NoMemory,
     }
 }

@@ -16,8 +16,10 @@ ghost use Rattle.validate_list.specs.Acts.{act_of, IsActing};
 
 use crate::buffers::lent;
 use crate::enact::{Next, enact};
-use journal_model::{Command, Kind, Shown, Task};
+use copy_packet::ProbeBytes;
+use journal_model::{Bytes, Command, Kind, Shown, Task};
 use room_state::room_turns::{Rooms, Step};
+use std::alloc::Global;
 use ttm_base::{BufId, Deny, JobId, Need, NoMemory, Usage};
 
 /// An answer that shows nothing.
@@ -40,16 +42,25 @@ fn unless_waiting(job: Option<JobId>, kind: Kind) -> Next
 }
 
 /// The bytes of a buffer are shown once no job changes them.
-fn next_of_read(rooms: &Rooms, b: BufId, off: u32, len: u32) -> Result<Next, NoMemory>
+fn next_of_read(
+    alloc: Global,
+    rooms: &Rooms,
+    b: BufId,
+    off: u32,
+    len: u32,
+) -> Result<Next, NoMemory>
     requires live { IsThere (state_behind rooms.now) b }
     requires declared { b.0 < length rooms.now.script.buffers }
-    requires short { len ≤ 4096 }
+    requires short { len ≤ 256 }
     ensures { IfOk result (λ next. next ≡ act_of rooms.now (command.Read b off len)) }
 {
     if let Some(job) = rooms.need(b, Usage::Read) {
         return Ok(Err(Need::Fence(job)));
     }
-    let shown = Shown::Read(rooms.shown(b, off, len)?);
+    let mut seen = ProbeBytes::new(alloc)?;
+    rooms.shown(b, off, len, &mut seen);
+    let bytes = Bytes::from_slice(alloc, seen.bytes())?;
+    let shown = Shown::Read(bytes);
     Ok(Ok(Kind::Result { shown }))
 }
 
@@ -78,7 +89,7 @@ fn kind_of_swapped(rooms: &Rooms, b: BufId) -> Kind
 }
 
 /// The command itself, once all is held, in place and filled.
-fn next_of_command(rooms: &Rooms, command: &Command) -> Result<Next, NoMemory>
+fn next_of_command(alloc: Global, rooms: &Rooms, command: &Command) -> Result<Next, NoMemory>
     requires { IsActing rooms.now command.now }
     ensures { IfOk result (λ next. next ≡ act_of rooms.now command.now) }
 {
@@ -89,7 +100,7 @@ fn next_of_command(rooms: &Rooms, command: &Command) -> Result<Next, NoMemory>
         })),
         Command::SwapOut { b } => Ok(Ok(kind_of_swapped(rooms, *b))),
         Command::Write { b, .. } => Ok(unless_waiting(rooms.need(*b, Usage::Write), plain())),
-        Command::Read { b, off, len } => next_of_read(rooms, *b, *off, *len),
+        Command::Read { b, off, len } => next_of_read(alloc, rooms, *b, *off, *len),
         Command::Find { b } => Ok(Ok(kind_of_find(rooms, *b)?)),
         Command::Free { .. } => unreachable!(),
         _ => Ok(Ok(plain())),
@@ -97,7 +108,7 @@ fn next_of_command(rooms: &Rooms, command: &Command) -> Result<Next, NoMemory>
 }
 
 /// The next step of a thread whose command itself is at work.
-fn next_of_act(rooms: &Rooms, thread: u32) -> Result<Next, NoMemory>
+fn next_of_act(alloc: Global, rooms: &Rooms, thread: u32) -> Result<Next, NoMemory>
     requires act { task_of rooms.now.script (state_behind rooms.now) thread ≡ task.Act }
     requires no_free { free_due rooms.now.script (state_behind rooms.now) thread ≡ false }
     requires no_swap { swap_due rooms.now.script (state_behind rooms.now) thread ≡ false }
@@ -107,11 +118,11 @@ fn next_of_act(rooms: &Rooms, thread: u32) -> Result<Next, NoMemory>
     let Some(command) = rooms.command(thread) else {
         unreachable!()
     };
-    next_of_command(rooms, command)
+    next_of_command(alloc, rooms, command)
 }
 
 /// The next step of a thread that answers, refuses or does what its command is for.
-fn next_of_task(rooms: &Rooms, thread: u32) -> Result<Next, NoMemory>
+fn next_of_task(alloc: Global, rooms: &Rooms, thread: u32) -> Result<Next, NoMemory>
     requires act { stage_of (task_of rooms.now.script (state_behind rooms.now) thread) ≡ stage.Act }
     requires no_free { free_due rooms.now.script (state_behind rooms.now) thread ≡ false }
     requires no_swap { swap_due rooms.now.script (state_behind rooms.now) thread ≡ false }
@@ -120,7 +131,7 @@ fn next_of_task(rooms: &Rooms, thread: u32) -> Result<Next, NoMemory>
     match rooms.task(thread) {
         Task::Answer => Ok(Ok(plain())),
         Task::Refuse(deny) => Ok(Ok(Kind::Refused { deny })),
-        Task::Act => next_of_act(rooms, thread),
+        Task::Act => next_of_act(alloc, rooms, thread),
         _ => unreachable!(),
     }
 }
@@ -131,7 +142,7 @@ fn next_of_task(rooms: &Rooms, thread: u32) -> Result<Next, NoMemory>
 /// # Errors
 ///
 /// Want of memory; nothing is changed.
-pub fn act(rooms: &mut Rooms, thread: u32) -> Result<Step, NoMemory>
+pub fn act(alloc: Global, rooms: &mut Rooms, thread: u32) -> Result<Step, NoMemory>
     requires act { stage_of (task_of rooms.old.script (state_behind rooms.old) thread) ≡ stage.Act }
     requires no_free { free_due rooms.old.script (state_behind rooms.old) thread ≡ false }
     requires no_swap { swap_due rooms.old.script (state_behind rooms.old) thread ≡ false }
@@ -140,6 +151,6 @@ pub fn act(rooms: &mut Rooms, thread: u32) -> Result<Step, NoMemory>
     ensures made { OnOk result (rooms.new ≡ after_step rooms.old (entry_of rooms.old (actor.Thread thread))) }
     ensures err { OnErr result (rooms.new ≡ rooms.old) }
 {
-    let next = next_of_task(rooms, thread)?;
+    let next = next_of_task(alloc, rooms, thread)?;
     enact(rooms, thread, next)
 }

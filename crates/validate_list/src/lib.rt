@@ -10,6 +10,6 @@ mod refusals;
 mod starts;
 
 pub use acts::act;
-pub use locks::{lock, wait_die};
+pub use locks::lock;
 pub use refusals::refuse;
 pub use starts::start;

@@ -19,7 +19,7 @@ use ww_ticket::{Decision, decide};
 
 /// What a thread with a ticket does at a live buffer that it wants to hold (wait-die): it reserves one that nobody holds. It backs off from an
 /// older holder if it holds something itself, and waits for any other.
-pub fn wait_die(course: &Course, mine: Stamp, b: BufId, holder: Option<Stamp>) -> Next
+fn wait_die(course: &Course, mine: Stamp, b: BufId, holder: Option<Stamp>) -> Next
     requires ticket { course.now.stamp ≡ Some mine }
     requires other { holder ≢ Some mine }
     ensures { result ≡ words.step_of_holder course.now b holder }

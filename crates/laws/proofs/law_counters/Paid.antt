@@ -197,7 +197,7 @@ module _ (script : Script) (r : Rules script) (n : ℕ) (s : State) (t : ℕ) (p
       record { ghosts = omega (arith, u, ghosts); moves = omega (arith, u, e, moves) }
   paid_keeps k (reads b off len at none) = let g = p.ghosts in let m = p.moves in record { ghosts = omega (arith, g); moves = omega (arith, m) }
   paid_keeps k (writes b off bytes at there ready quiet) = let g = p.ghosts in let m = p.moves in record { ghosts = omega (arith, g); moves = omega (arith, m) }
-  paid_keeps k (results cmd at w h) = let g = p.ghosts in let m = p.moves in record { ghosts = omega (arith, g); moves = omega (arith, m) }
+  paid_keeps k (results cmd at w q h) = let g = p.ghosts in let m = p.moves in record { ghosts = omega (arith, g); moves = omega (arith, m) }
 
 pub paid_stays : (script : Script) (n : ℕ) (s : State) (who : Actor) (k : Kind) → OfWorker k → Paid n s → Paid (n + 1) (applied script s who k)
 paid_stays script n s who k packet p = let g = p.ghosts in let m = p.moves in record { ghosts = omega (arith, g); moves = omega (arith, m) }

@@ -95,17 +95,17 @@ module _ (v : ℕ) (ms : List Mark) (script : Script) where
   place_search_same cmd c b Asked = λ i. record { list = asked_same cmd b i; forced = c.forced; dry = c.dry }
   place_search_same cmd c b Hop = refl
 
-  long_same : (b : BufId) (place : Place) → is_long_enough (in_form v ms script) b place ≡ is_long_enough script b place
+  pub long_same : (b : BufId) (place : Place) → is_long_enough (in_form v ms script) b place ≡ is_long_enough script b place
   long_same b place = ap (λ r. nat_le (decl script b).pages (length_of r)) (reach_same place)
 
-  victim_same : (s : State) (skips : List BufId) (place : Place) → victim (in_form v ms script) s skips place ≡ victim script s skips place
+  pub victim_same : (s : State) (skips : List BufId) (place : Place) → victim (in_form v ms script) s skips place ≡ victim script s skips place
   victim_same s skips place =
       ap (λ r. find (λ b. same_mem (buffer s b).mem place.mem && intersects (buffer s b).spans r && is_loose (reservation s b) && not (has_buffer skips b)) (in_order s place.mem)) (reach_same place)
 
-  ghost_same : (s : State) (place : Place) → ghost_in (in_form v ms script) s place ≡ ghost_in script s place
+  pub ghost_same : (s : State) (place : Place) → ghost_in (in_form v ms script) s place ≡ ghost_in script s place
   ghost_same s place = ap (λ r. find (λ g. intersects (ghost_spans place.mem g) r) s.core.ghosts) (reach_same place)
 
-  causes_same : (s : State) (place : Place) → causes (in_form v ms script) s place ≡ causes script s place
+  pub causes_same : (s : State) (place : Place) → causes (in_form v ms script) s place ≡ causes script s place
   causes_same s place = ap (λ r. filter_map (cause_row_at r s.reservations place) (live_buffers s.core)) (reach_same place)
 
   crowded_same : (s : State) (c : Course) (b : BufId) (k : ℕ) (place : Place) → step_of_crowded (in_form v ms script) s c b k place ≡ step_of_crowded script s c b k place

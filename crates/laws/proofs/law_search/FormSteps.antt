@@ -42,7 +42,7 @@ use Rattle.laws.proofs.law_search.FormSearches.{in_form, place_search_same, sear
 module _ (v : ℕ) (ms : List Mark) (script : Script) where
   -- ---- tasks
 
-  unready_same : (s : State) (cmd : Command) → first_unready (in_form v ms script) s cmd ≡ first_unready script s cmd
+  pub unready_same : (s : State) (cmd : Command) → first_unready (in_form v ms script) s cmd ≡ first_unready script s cmd
   unready_same s cmd = λ i.
       find (λ b. not ((not (has_some_target (buffer s b)) && meets_same v ms script cmd b (buffer s b) i) && is_filled cmd (buffer s b))) (named cmd)
 

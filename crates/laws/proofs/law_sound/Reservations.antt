@@ -1,5 +1,5 @@
 -- Holders in lists of reservations, what is live, and what keeps its length.
-use Rattle.std.proofs.Common.{◌≡◌, ℕ, ◌<◌, zero, suc, true, false, List, [], ◌∷◌, length, Option, Some, None, IsSome, refl, sym, ◌∙◌, ap, subst, arith, ⊎_elim}
+use Rattle.std.proofs.Common.{◌≡◌, ℕ, ◌<◌, zero, suc, Bool, true, false, List, [], ◌∷◌, length, Option, Some, None, IsSome, refl, sym, ◌∙◌, ap, subst, arith, ⊎_elim}
 use Rattle.std.specs.Prelude.{slice_get, slice_set, unwrap_or, is_some, is_none, option_map, option_and_then, fold, ◌&&◌, ◌==◌, ◌-◌, if◌then◌else◌, not}
 use Rattle.std.proofs.lemmas.Bool.{and_parts, or_parts, or_cases}
 use Rattle.std.proofs.Math.ListN.{length-set}
@@ -29,7 +29,7 @@ use Rattle.journal_model.specs.Apply.{applied}
 use Rattle.journal_model.specs.ApplyCommands.{with_holder, released, with_pins, pinned_more, pinned_less}
 use Rattle.journal_model.specs.ApplyJobs.{with_use}
 use Rattle.journal_model.proofs.KeptLengths.{length-applied}
-use Rattle.laws.proofs.law_state.JournalCourses.{others_kept, courses_after}
+use Rattle.laws.proofs.law_state.JournalCourses.{next_course, others_kept, courses_after}
 use Rattle.laws.proofs.law_state.Lists.{set_at, live_changed}
 use Rattle.laws.proofs.law_sound.Bufs.{same_self, same_is, same_or_other, found_passes, clash}
 use Rattle.laws.proofs.law_sound.Owners.{OneCourse}

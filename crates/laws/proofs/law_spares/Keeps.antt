@@ -153,7 +153,7 @@ module _ (script : Script) (r : Rules script) (s : State) (t : ℕ) (good : Good
       (arm_holds script s.core (record { ctx = engine; num = next_job s engine }) ops (submitted script engine ops (at_work_rules script r s t (command.Submit engine ops) at).command) live declared_long h)
   holders_keep k (reads b off len at none) h = h
   holders_keep k (writes b off bytes at there ready quiet) h = h
-  holders_keep k (results cmd at w r) h = h
+  holders_keep k (results cmd at w q r) h = h
 
 -- ---- the order of jobs
 
@@ -188,7 +188,7 @@ order_keeps script s t k (swaps_out {b} {k = slot} there m quiet f free) h = h
 order_keeps script s t k (arms {engine} ops at live ready) h = pushed_order s.core.jobs _ refl h
 order_keeps script s t k (reads b off len at none) h = h
 order_keeps script s t k (writes b off bytes at there ready quiet) h = h
-order_keeps script s t k (results cmd at w r) h = h
+order_keeps script s t k (results cmd at w q r) h = h
 
 -- ---- packets, and the end of jobs
 
@@ -280,7 +280,7 @@ reap_step script s g h = by (slice_get s.core.ghosts 0) refl h
         free None k = (refl, cc)
         free (Some i) k = cc
 
-get_filtered : (p : Ghost → Bool) (gs : List Ghost) (i : ℕ) (h : Ghost) → slice_get gs i ≡ Some h → p h ≡ true → (j : ℕ) × (slice_get (filter p gs) j ≡ Some h)
+pub get_filtered : (p : Ghost → Bool) (gs : List Ghost) (i : ℕ) (h : Ghost) → slice_get gs i ≡ Some h → p h ≡ true → (j : ℕ) × (slice_get (filter p gs) j ≡ Some h)
 get_filtered p [] i h e t = cc
 get_filtered p (g ∷ gs) zero h e t = let same : g ≡ h = cc in by (p g) (ap p same ∙ t)
   where

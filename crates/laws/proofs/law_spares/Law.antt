@@ -181,7 +181,7 @@ shown_spares script stores s who c (kind.Refused d) = refl
 -- ---- along a journal
 
 module _ (script : Script) (fits : IsTrue (is_script script)) where
-  begun : (journal : List Entry) → IsLegal script journal → HaveBegun (state_of script journal).core.jobs
+  pub begun : (journal : List Entry) → IsLegal script journal → HaveBegun (state_of script journal).core.jobs
   begun journal l i x e f = let u = view_law script journal fits l in sym (u.seen.begun i x e) ∙ u.good.begins i (u.seen.done i x e ∙ f)
 
   keeps : (journal : List Entry) (who : Actor) (k : Kind) → IsLegal script journal → next script (state_of script journal) who ≡ Ok k → Kept (state_of script journal).core → Kept (applied script (state_of script journal) who k).core
@@ -195,10 +195,10 @@ module _ (script : Script) (fits : IsTrue (is_script script)) where
       engine_keeps script (state_of script journal) e k (good_law script fits journal l) (of_worker k (or_left (is_of_engine k) (is_of_reaper k) (of_engine script (state_of script journal) e k h))) h c
   keeps journal actor.Reaper k l h c = reaper_keeps script (state_of script journal) k (state_of script journal).last_ghost (ghosts_law script journal fits l) (begun journal l) h c
 
-  carried : (journal : List Entry) → IsLegal script journal → Kept (state_of script journal).core
+  pub carried : (journal : List Entry) → IsLegal script journal → Kept (state_of script journal).core
   carried journal l = kept_law script (λ n s. Kept s.core) (λ es who k m h c. keeps es who k m h c) (record { holders = λ i page j e f n. cc; order = λ i k x y m e f w b. cc }) journal l
 
-  entry_spares : (journal : List Entry) (e : Entry) → IsLegal script journal → IsLegalNext script (world_of script journal) e → spares_jobs (state_of script journal).core e.kind ≡ true
+  pub entry_spares : (journal : List Entry) (e : Entry) → IsLegal script journal → IsLegalNext script (world_of script journal) e → spares_jobs (state_of script journal).core e.kind ≡ true
   entry_spares journal e l h =
       let step = legal_step script (world_of script journal) e h in
       let c = (state_of script journal).core in

@@ -203,7 +203,7 @@ proper_keeps script s t k pages (arms {engine} ops at live ready) h =
     record { buffers = uses_proper _ (ops_of (command_at_work script s t)) (named_in (command_at_work script s t)) s.core.buffers h.buffers; ghosts = h.ghosts }
 proper_keeps script s t k pages (reads b off len at none) h = h
 proper_keeps script s t k pages (writes b off bytes at there ready quiet) h = h
-proper_keeps script s t k pages (results cmd at w r) h = h
+proper_keeps script s t k pages (results cmd at w q r) h = h
 
 pub proper_stays : (script : Script) (s : State) (who : Actor) (k : Kind) → OfWorker k → ProperCore s.core → ProperCore (applied script s who k).core
 proper_stays script s who k packet h = record { buffers = h.buffers; ghosts = h.ghosts }

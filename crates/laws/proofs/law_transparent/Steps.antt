@@ -208,6 +208,7 @@ module _ (script : Script) (r : Rules script) (s : State) (bytes : Stores) (p : 
   thread_plain t k (swaps_in {b} {k = slot} {f} there free l some tt_not) = tt
   thread_plain t k (swaps_out {b} {k = slot} there m quiet f free) = tt
   thread_plain t k (reads b off len e none) = read_plain t b off len e none
+  thread_plain t k (writes b off values e there ready quiet) = sym (ap (λ o. bytes_owed o p.memory) (at_plain t (command.Write b off values) e))
   thread_plain t k (results {r = x} cmd e w n h) = result_plain t x cmd e n h
   thread_plain t k x = tt
 

@@ -66,14 +66,14 @@ all_kept h f c b x is same e =
 
 -- ---- a mapping of a buffer that isn't changed, or of a ghost, stays
 
-stays : (f : Buffer → Buffer) (c : Core) (b : BufId) (x : Buffer) → IsAt c b x → (p q : ℕ) (m : BufferMaps c p q) → (b.0 ≡ m.b.0 → ⊥) → Maps (record c { buffers = changed f c.buffers b }) p q
+pub stays : (f : Buffer → Buffer) (c : Core) (b : BufId) (x : Buffer) → IsAt c b x → (p q : ℕ) (m : BufferMaps c p q) → (b.0 ≡ m.b.0 → ⊥) → Maps (record c { buffers = changed f c.buffers b }) p q
 stays f c b x is p q m ne =
     ⊎_elim
     (λ s. inl (record { b = m.b; buffer = m.buffer; live = s ∙ m.live; mem = m.mem; at = m.at; here = m.here; there = m.there }))
     (λ s. absurd (ne s.0))
     (live_either f c b x is m.b.0)
 
-ghost_stays : (f : Buffer → Buffer) (c : Core) (b : BufId) (p q : ℕ) → GhostMaps c p q → Maps (record c { buffers = changed f c.buffers b }) p q
+pub ghost_stays : (f : Buffer → Buffer) (c : Core) (b : BufId) (p q : ℕ) → GhostMaps c p q → Maps (record c { buffers = changed f c.buffers b }) p q
 ghost_stays f c b p q m = inr (record { place = m.place; ghost = m.ghost; is = m.is; at = m.at; here = m.here; there = m.there })
 
 -- a mapped page is mapped as before, or is one of the buffer's

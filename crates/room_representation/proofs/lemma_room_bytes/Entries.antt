@@ -1,5 +1,5 @@
 -- From a legal journal with one entry more, and what the part's call ensures: the stores have the bytes and the aperture behind it.
-use Rattle.std.proofs.Common.{◌≡◌, ℕ, ◌*◌, true, false, List, Option, Some, IsTrue, refl, sym, ◌∙◌, ap}
+use Rattle.std.proofs.Common.{◌≡◌, ℕ, ◌*◌, ◌<◌, true, false, List, Option, Some, IsTrue, refl, sym, ◌∙◌, ap}
 use Rattle.std.specs.Prelude.{slice_get, ◌==◌}
 use Rattle.ttm_base.specs.declared.Actor.{Actor}
 use Rattle.ttm_base.specs.declared.Actor.TheVariants as actor
@@ -71,11 +71,11 @@ module _ (script : Script) (journal : List Entry) (fits : IsTrue (is_script scri
 
   -- a page comes back from its slot: the slot's bytes are put over the frame
   pub swap_in_representation : (thread page k f : ℕ) (b : BufId) (named : List ℕ) (slots : SwapSlots) (xs new : List ℕ) → IsNext script journal (actor.Thread thread) (kind.SwapIn b page k f)
-      → AreSlots script.sizes.swap named (stores_of script journal) slots → slice_get slots.held k ≡ Some true → HasPage slots.bytes k → xs ≡ part slots.bytes (4096 * k) 4096
+      → AreSlots script.sizes.swap named (stores_of script journal) slots → k < script.sizes.swap → HasPage slots.bytes k → xs ≡ part slots.bytes (4096 * k) 4096
       → new ≡ overwritten st.frames (4096 * f) xs → HasStoresAfter script (state_of script journal) (stores_of script journal) (actor.Thread thread) (kind.SwapIn b page k f) (record st { frames = new })
-  swap_in_representation thread page k f b named slots xs new legal_next u slot has whole is =
+  swap_in_representation thread page k f b named slots xs new legal_next u below has whole is =
       let g = (entry_tells script journal fits legal thread (kind.SwapIn b page k f) refl legal_next).gets in
-      swap_in_stores script (state_of script journal) (stores_of script journal) st t (actor.Thread thread) b (is_outside (state_of script journal) b g.outside) page f g.frame new k named slots xs u slot has whole is
+      swap_in_stores script (state_of script journal) (stores_of script journal) st t (actor.Thread thread) b (is_outside (state_of script journal) b g.outside) page f g.frame new k named slots xs u below has whole is
 
   -- a page goes to a slot
   pub swap_out_representation : (thread page k : ℕ) (b : BufId) → IsNext script journal (actor.Thread thread) (kind.SwapOut b page k)

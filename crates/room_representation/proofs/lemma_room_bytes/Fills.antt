@@ -193,9 +193,9 @@ module _ (script : Script) (s : State) (bytes : PageBytes) (st : Stores) (t : Ha
           (frame_written (filled 4096 0) (λ o. 0) (length-filled 4096 0) (λ i l. get_or-filled 4096 0 i 0 l) is)
 
       -- a page comes back from its slot, with the slot's bytes
-      pub swap_in_stores : (k : ℕ) (named : List ℕ) (slots : SwapSlots) (xs : List ℕ) → AreSlots script.sizes.swap named bytes slots → slice_get slots.held k ≡ Some true → HasPage slots.bytes k
+      pub swap_in_stores : (k : ℕ) (named : List ℕ) (slots : SwapSlots) (xs : List ℕ) → AreSlots script.sizes.swap named bytes slots → k < script.sizes.swap → HasPage slots.bytes k
           → xs ≡ part slots.bytes (4096 * k) 4096 → new ≡ overwritten st.frames (4096 * f) xs → HasStoresAfter script s bytes who (kind.SwapIn b page k f) (record st { frames = new })
-      swap_in_stores k named slots xs u held has whole is =
+      swap_in_stores k named slots xs u below has whole is =
           stores_within script.sizes (aperture (applied script s who (kind.SwapIn b page k f)).core) (with_page_bytes (frame f) (bytes (slot k)) bytes) (record st { frames = new })
           (frame_written xs (bytes (slot k)) (ap length whole ∙ length-part slots.bytes (4096 * k) 4096 (omega (arith, has))) each is)
         where
@@ -205,4 +205,4 @@ module _ (script : Script) (s : State) (bytes : PageBytes) (st : Stores) (t : Ha
               ap (λ (l : List ℕ). get_or l i 0) (whole ∙ ap (λ n. part slots.bytes n 4096) start)
               ∙ page_byte (record { vram = []; frames = slots.bytes; aper = [] }) (frame k) 0 4096 i has (omega arith) l
               ∙ ap (byte_at slots.bytes k) (let e : 0 + i ≡ i = omega arith in e)
-              ∙ u.bytes_are k i held
+              ∙ u.bytes_are k i below

@@ -74,7 +74,7 @@ module _ (script : Script) (s : State) (t : ℕ) where
   told_tells k (arms {engine} ops at live ready) = tt
   told_tells k (reads b off len at none) = tt
   told_tells k (writes b off bytes at there ready quiet) = tt
-  told_tells k (results cmd at w r) = tt
+  told_tells k (results cmd at w q r) = tt
 
 -- ---- a step of the actor
 

@@ -60,7 +60,7 @@ module _ (script : Script) (s : State) (t : ℕ) (b : BufId) (off : ℕ) (values
       let same : command.Write c from bytes ≡ command.Write b off values = cc in
       let one : c ≡ b = cc in
       subst (λ d. IsReadyFor script s (command.Write b off values) d) one (subst (λ (cmd : Command). IsReadyFor script s cmd c) same (record { live = there; ready = ready }))
-  of_write k (results cmd at w shows) r e =
+  of_write k (results cmd at w q shows) r e =
       let z : Some cmd ≡ Some (command.Write b off values) = sym at ∙ at_work in
       let same : cmd ≡ command.Write b off values = cc in
       let f : is_write (command.Write b off values) ≡ false = subst (λ (c : Command). is_write c ≡ false) same w in

@@ -1,6 +1,6 @@
 -- The bytes that a read shows, and those that a page takes to its slot, are those that the parts have.
 use Rattle.std.proofs.Common.{◌≡◌, ℕ, zero, suc, ◌+◌, ◌*◌, ◌/◌, ◌%◌, ◌<◌, ◌≤◌, true, List, [], ◌∷◌, ◌++◌, Option, Some, refl, sym, ◌∙◌, ap, ap₂, arith, get_or, replicate}
-use Rattle.std.specs.Prelude.{map, slice_get}
+use Rattle.std.specs.Prelude.{map}
 use Rattle.ttm_base.specs.declared.Actor.{Actor}
 use Rattle.ttm_base.specs.declared.BufId.{BufId}
 use Rattle.ttm_base.specs.ListWords.{count_from}
@@ -64,15 +64,15 @@ module _ (sizes : Sizes) (aper : Aperture) (bytes : PageBytes) (st : Stores) (t 
       ∙ ap (byte_at st.frames f) e ∙ t.in_frames f i
 
   -- a byte whose page is in a slot is the slot's
-  pub slot_byte_shown : (named : List ℕ) (slots : SwapSlots) (x : Buffer) (i k : ℕ) → AreSlots sizes.swap named bytes slots → page_at x (i / 4096) ≡ slot k → slice_get slots.held k ≡ Some true
+  pub slot_byte_shown : (named : List ℕ) (slots : SwapSlots) (x : Buffer) (i k : ℕ) → AreSlots sizes.swap named bytes slots → page_at x (i / 4096) ≡ slot k → k < sizes.swap
       → byte_of bytes x i ≡ byte_at slots.bytes k (i % 4096)
-  slot_byte_shown named slots x i k u at held = ap (λ q. bytes q (i % 4096)) at ∙ sym (u.bytes_are k (i % 4096) held)
+  slot_byte_shown named slots x i k u at there = ap (λ q. bytes q (i % 4096)) at ∙ sym (u.bytes_are k (i % 4096) there)
 
   -- bytes of one page that is in a slot are a part of the slots' bytes
-  pub slot_range_shown : (named : List ℕ) (slots : SwapSlots) (x : Buffer) (off len k : ℕ) → AreSlots sizes.swap named bytes slots → page_at x (off / 4096) ≡ slot k → slice_get slots.held k ≡ Some true
+  pub slot_range_shown : (named : List ℕ) (slots : SwapSlots) (x : Buffer) (off len k : ℕ) → AreSlots sizes.swap named bytes slots → page_at x (off / 4096) ≡ slot k → k < sizes.swap
       → HasPage slots.bytes k → off % 4096 + len ≤ 4096 → model.bytes_of bytes x off len ≡ part slots.bytes (4096 * k + off % 4096) len
-  slot_range_shown named slots x off len k u at held has fits =
-      alike bytes x (slot k) (byte_at slots.bytes k) (λ i e. slot_byte_shown named slots x i k u e held) len off at fits
+  slot_range_shown named slots x off len k u at there has fits =
+      alike bytes x (slot k) (byte_at slots.bytes k) (λ i e. slot_byte_shown named slots x i k u e there) len off at fits
       ∙ sym (page_read (record { vram = []; frames = slots.bytes; aper = [] }) (frame k) (off % 4096) len has fits)
 
   module _ (none : HasNoMore sizes bytes) where

@@ -1,6 +1,6 @@
--- The swap store after each kind of entry that gives a slot to a table, or takes one out of it: what it holds, and the bytes of what it holds.
-use Rattle.std.proofs.Common.{◌≡◌, ℕ, zero, suc, ◌+◌, ◌-◌, ◌*◌, ◌<◌, ◌≤◌, Bool, true, false, List, [], ◌∷◌, length, Some, refl, sym, subst, ◌∙◌, ap, arith, ◌⊎◌, inl, inr, ⊎_elim}
-use Rattle.std.specs.Prelude.{◌&&◌, nat_eq, nat_le, nat_lt, slice_get, slice_index, slice_set, if◌then◌else◌}
+-- The swap store after each kind of entry that gives a slot to a table, or takes one out of it: what it holds, and the bytes of all its slots.
+use Rattle.std.proofs.Common.{◌≡◌, ℕ, ◌+◌, ◌-◌, ◌*◌, ◌<◌, ◌≤◌, Bool, true, false, List, [], ◌∷◌, length, Some, refl, sym, subst, ◌∙◌, ap, arith, ◌⊎◌, inl, inr, ⊎_elim}
+use Rattle.std.specs.Prelude.{◌&&◌, nat_eq, nat_le, nat_lt, slice_get, slice_index, if◌then◌else◌}
 use Rattle.std.proofs.lemmas.Bool.{cases_eq, cases_lt, eq-eqb, lt-ltb, ltb-true, ne_eqb}
 use Rattle.std.proofs.lemmas.Bool.Decides.{nat_tests}
 use Rattle.std.proofs.lemmas.Option.{slice_get_within}
@@ -17,26 +17,6 @@ use Rattle.laws.specs.law_owners.OneOwner.{AreOwned}
 use Rattle.room_representation.specs.Pages.{AreSlots}
 use Rattle.room_representation.specs.lemma_room_bytes.GivenBack.{given, given_back, taken}
 use Rattle.room_representation.proofs.lemma_room_bytes.Marks.{length-marks, marks_same, marks_more, marks_less, marks_without, owned_once}
-
--- ---- what is held still was held
-
-set_false : (held : List Bool) (i k : ℕ) → slice_get (slice_set held i false) k ≡ Some true → slice_get held k ≡ Some true
-set_false [] i k e = e
-set_false (b ∷ held) zero zero e = cc
-set_false (b ∷ held) zero (suc k) e = e
-set_false (b ∷ held) (suc i) zero e = e
-set_false (b ∷ held) (suc i) (suc k) e = set_false held i k e
-
-back_held : (ks : List ℕ) (held : List Bool) (k : ℕ) → slice_get (given_back held ks) k ≡ Some true → slice_get held k ≡ Some true
-back_held [] held k e = e
-back_held (j ∷ ks) held k e = set_false held j k (back_held ks (given held j) k e)
-
-set_other : (held : List Bool) (i k : ℕ) (b : Bool) → (k ≡ i → ⊥) → slice_get (slice_set held i b) k ≡ slice_get held k
-set_other [] i k b ne = refl
-set_other (c ∷ held) zero zero b ne = absurd (ne refl)
-set_other (c ∷ held) zero (suc k) b ne = refl
-set_other (c ∷ held) (suc i) zero b ne = refl
-set_other (c ∷ held) (suc i) (suc k) b ne = set_other held i k b (λ e. ne (ap suc e))
 
 -- ---- the bytes of a slot
 
@@ -82,11 +62,11 @@ module _ (script : Script) (old : List ℕ) (bytes : PageBytes) (swap : SwapSlot
       let fits : 4096 * k + 4096 ≤ length swap.bytes = omega (arith, inside, long) in
       get_or-part swap.bytes (4096 * k) 4096 o 0 l fits
       ∙ sym (ap (λ q. if q then slice_index swap.bytes (4096 * k + o) else 0) (lt-ltb o 4096 l))
-      ∙ representation.bytes_are k o e
+      ∙ representation.bytes_are k o (held_below k e)
 
   module _ (new : List ℕ) (after : PageBytes) (quiet : (k o : ℕ) → after (slot k) o ≡ bytes (slot k) o) where
-    kept : (k o : ℕ) → slice_get swap.held k ≡ Some true → byte_at swap.bytes k o ≡ within script.sizes after (slot k) o
-    kept k o e = within_slot script.sizes after swap.bytes k o (held_below k e) (λ l. representation.bytes_are k o e ∙ sym (quiet k o))
+    kept : (k o : ℕ) → k < size → byte_at swap.bytes k o ≡ within script.sizes after (slot k) o
+    kept k o there = within_slot script.sizes after swap.bytes k o there (λ l. representation.bytes_are k o there ∙ sym (quiet k o))
 
     -- the same slots are held
     pub slots_same : ((n : ℕ) → times n new ≡ times n old) → AreSlots size new (within script.sizes after) swap
@@ -96,14 +76,14 @@ module _ (script : Script) (old : List ℕ) (bytes : PageBytes) (swap : SwapSlot
     pub slots_less : (j : ℕ) → AreOwned size old → ((n : ℕ) → times n old ≡ times n new + one (nat_eq n j)) → AreSlots size new (within script.sizes after) (record { held = given swap.held j; bytes = swap.bytes })
     slots_less j owned h = record {
       held_are = ap (λ p. given p j) representation.held_are ∙ sym (marks_less old new size j h (owned_once size old owned j));
-      bytes_are = λ k o e. kept k o (set_false swap.held j k e);
+      bytes_are = kept;
     }
 
     -- these slots are held no more
     pub slots_without : (js : List ℕ) → AreOwned size old → ((n : ℕ) → times n old ≡ times n new + times n js) → AreSlots size new (within script.sizes after) (record { held = given_back swap.held js; bytes = swap.bytes })
     slots_without js owned h = record {
       held_are = ap (λ p. given_back p js) representation.held_are ∙ sym (marks_without old new size js h (owned_once size old owned));
-      bytes_are = λ k o e. kept k o (back_held js swap.held k e);
+      bytes_are = kept;
     }
 
   -- ---- a slot more, with a page of bytes
@@ -150,18 +130,17 @@ module _ (script : Script) (old : List ℕ) (bytes : PageBytes) (swap : SwapSlot
     pub slots_more : ((n : ℕ) → times n new ≡ times n old + one (nat_eq n j)) → AreSlots size new (within script.sizes after) (record { held = taken swap.held j; bytes = put })
     slots_more h = record {
       held_are = ap (λ p. taken p j) representation.held_are ∙ sym (marks_more old new size j h);
-      bytes_are = λ k o e. at k o e (cases_eq k j);
+      bytes_are = λ k o there. at k o there (cases_eq k j);
     }
       where
-        at : (k o : ℕ) → slice_get (taken swap.held j) k ≡ Some true → (k ≡ j) ⊎ (k ≡ j → ⊥) → byte_at put k o ≡ within script.sizes after (slot k) o
-        at k o e (inl here) =
+        at : (k o : ℕ) → k < size → (k ≡ j) ⊎ (k ≡ j → ⊥) → byte_at put k o ≡ within script.sizes after (slot k) o
+        at k o there (inl here) =
             subst (λ i. byte_at put i o ≡ within script.sizes after (slot i) o) (sym here)
             (within_slot script.sizes after put j o below
             (λ l. ap (λ q. if q then slice_index put (4096 * j + o) else 0) (lt-ltb o 4096 l) ∙ put_here o l ∙ left_here o l))
-        at k o e (inr ne) =
-            let was : slice_get swap.held k ≡ Some true = sym (set_other swap.held j k true ne) ∙ e in
-            within_slot script.sizes after put k o (held_below k was)
+        at k o there (inr ne) =
+            within_slot script.sizes after put k o there
             (λ l.
             ap (λ q. if q then slice_index put (4096 * k + o) else 0) (lt-ltb o 4096 l) ∙ put_there k o ne l
             ∙ sym (ap (λ q. if q then slice_index swap.bytes (4096 * k + o) else 0) (lt-ltb o 4096 l))
-            ∙ representation.bytes_are k o was ∙ left_there k o ne)
+            ∙ representation.bytes_are k o there ∙ left_there k o ne)

@@ -121,7 +121,7 @@ thread_tells script s t k full (writes b off bytes at there ready quiet) = λ c 
     let z : ◌≡◌ {A = Option Command} (Some (command.Write b off bytes)) (Some (command.Write c o values)) = sym at ∙ e in
     let same : b ≡ c = cc in
     subst (λ d. IsOffSlots (buffer s d)) same (ready_off_slots script s b off bytes full there ready)
-thread_tells script s t k full (results cmd at w r) = λ c o values e.
+thread_tells script s t k full (results cmd at w q r) = λ c o values e.
     let z : Some cmd ≡ Some (command.Write c o values) = sym at ∙ e in
     let same : cmd ≡ command.Write c o values = cc in
     let yes : is_write cmd ≡ true = ap is_write same in

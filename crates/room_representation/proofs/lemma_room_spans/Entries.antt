@@ -85,7 +85,7 @@ tells_of script s t k (swaps_out there m quiet f free) = tt
 tells_of script s t k (arms ops at live ready) = tt
 tells_of script s t k (reads b off len at none) = tt
 tells_of script s t k (writes b off bytes at there ready quiet) = tt
-tells_of script s t k (results cmd at w r) = tt
+tells_of script s t k (results cmd at w q r) = tt
 
 one_mem : (mine mem : Mem) → same_mem mem mine ≡ true → mem ≡ mine
 one_mem System System h = refl

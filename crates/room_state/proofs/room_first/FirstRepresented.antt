@@ -158,7 +158,7 @@ first_held script fits = record { fits = fits; legal = tt; represents = told }
           vram = first_vram script s.last_jobs;
           tt = first_spans script.sizes.tt Tt script.buffers None;
           pool = first_pool script;
-          swap = first_slots script (filled (4096 * script.sizes.swap) 0);
+          swap = first_slots script (filled (4096 * script.sizes.swap) 0) (zero_byte (4096 * script.sizes.swap));
           stores = first_bytes script;
           lists = first_lists script;
           courses = refl;

@@ -73,7 +73,7 @@ fn chosen(
     let answer = manager.choice(pages.max(1), range.0, range.1, flags, &mut out);
     if let Ok(()) = answer {
         assert_lengths(rt, manager, (free, used));
-        manager.hold(&out);
+        manager.hold(&out).expect(rt, "the ends of blocks");
         assert_lengths(
             rt,
             manager,

@@ -2,7 +2,7 @@ ghost use Rattle.std.specs.Prelude.{◌≤◌, length};
 
 use bo_table::BoTable;
 use journal_model::Script;
-use report_text::{Account, Accounts};
+use page_accounts::{Account, Accounts};
 use resource_core::{Lengths, Manager};
 use room_representation::Parts;
 use ttm_base::{BufId, Loc};

@@ -9,7 +9,7 @@ use rules_stores::{PlainStores, StorePage};
 const PAGE: u64 = 4096;
 
 /// Goes on only if the stores have these bytes on a page.
-pub fn compare_page(
+fn compare_page(
     stores: &PlainStores,
     page: StorePage,
     bytes: &[u8],

@@ -9,7 +9,7 @@ use super::report::{line_that_differs, report_of};
 use crate::common::device_for;
 use device_core::Device;
 use io_edge::MemSink;
-use page_accounts::accounts_of;
+use plain_accounts::accounts_of;
 use std::alloc::Global;
 use test_cases::When;
 use ttm_base::{Actor, Logged, NoMemory, Turn};

@@ -4,12 +4,12 @@ ghost use Rattle.room_state.specs.Kept.{state_behind};
 ghost use Rattle.test_device.specs.Steps.{AreInStep};
 
 use super::accounts::{accounts_in, are_same_accounts};
-use super::bytes::compare_page;
 use super::difference::{Difference, Stop, agree};
 use super::replay::Replay;
 use bo_table::BoTable;
+use copy_packet::ProbeBytes;
 use journal_model::{Buffer, Script, State};
-use page_accounts::accounts_of;
+use plain_accounts::accounts_of;
 use room_state::Rooms;
 use rules_holds::{free_frame, free_slot, waited_before_read, waited_before_write};
 use rules_state::{declared_pages, list_number, live_in};
@@ -20,20 +20,35 @@ use ttm_base::{BufId, JobId, Mem, PagePlace, Usage};
 /// Bytes of a page.
 const PAGE: u32 = 4096;
 
-/// The bytes of each page of a live buffer.
-fn compare_pages(replay: &Replay, b: BufId) -> Result<(), Stop>
+/// Bytes that are shown at once.
+const PIECE: u32 = 256;
+
+/// Compares `PIECE` bytes of a page of a live buffer, from `off` on.
+fn compare_piece(
+    replay: &Replay,
+    b: BufId,
+    page: u32,
+    off: u32,
+    seen: &mut ProbeBytes,
+) -> Result<(), Stop>
+    requires { IsThere (state_behind replay.now.rooms) b }
+{
+    let at = page.saturating_mul(PAGE).saturating_add(off);
+    replay.rooms.shown(b, at, PIECE, seen);
+    let place = StorePage::of(&replay.plain.state().core, b, page);
+    let mut wanted = [0; PIECE as usize];
+    replay.plain.stores().read(place, off, &mut wanted);
+    agree(seen.bytes() == wanted.as_slice(), Difference::Bytes(b))
+}
+
+/// Compares the bytes of each page of a live buffer.
+fn compare_pages(replay: &Replay, b: BufId, seen: &mut ProbeBytes) -> Result<(), Stop>
     requires { IsThere (state_behind replay.now.rooms) b }
 {
     for page in 0..declared_pages(replay.plain.script(), b) {
-        let off = page.saturating_mul(PAGE);
-        let shown = replay.rooms.shown(b, off, PAGE)?;
-        let place = StorePage::of(&replay.plain.state().core, b, page);
-        compare_page(
-            replay.plain.stores(),
-            place,
-            shown.items(),
-            Difference::Bytes(b),
-        )?;
+        for piece in 0..PAGE / PIECE {
+            compare_piece(replay, b, page, piece * PIECE, seen)?;
+        }
     }
     Ok(())
 }
@@ -55,7 +70,7 @@ fn is_alive(bos: &BoTable, b: BufId) -> bool {
 }
 
 /// What is to be known of a buffer.
-fn compare_buffer(replay: &Replay, b: BufId) -> Result<(), Stop>
+fn compare_buffer(replay: &Replay, b: BufId, seen: &mut ProbeBytes) -> Result<(), Stop>
     requires step { AreInStep replay.now.plain replay.now.rooms }
     requires declared { b.0 < length replay.now.rooms.script.buffers }
 {
@@ -64,7 +79,7 @@ fn compare_buffer(replay: &Replay, b: BufId) -> Result<(), Stop>
     agree(same, Difference::Live(b))?;
     if let Some(buffer) = live {
         compare_needs(replay, b, buffer)?;
-        compare_pages(replay, b)?;
+        compare_pages(replay, b, seen)?;
     }
     Ok(())
 }
@@ -79,11 +94,12 @@ fn declared(script: &Script) -> u32
     }
 }
 
-fn compare_buffers(replay: &Replay) -> Result<(), Stop>
+fn compare_buffers(replay: &Replay, alloc: Global) -> Result<(), Stop>
     requires { AreInStep replay.now.plain replay.now.rooms }
 {
+    let mut seen = ProbeBytes::new(alloc)?;
     for i in 0..declared(replay.rooms.script()) {
-        compare_buffer(replay, BufId(i))?;
+        compare_buffer(replay, BufId(i), &mut seen)?;
     }
     Ok(())
 }
@@ -98,7 +114,7 @@ fn frame_at(state: &State, page: u32) -> Option<u32> {
 
 /// The frame that each page of TT stands for.
 fn compare_aperture(replay: &Replay) -> Result<(), Stop> {
-    let aperture = &replay.rooms.parts().stores.aper;
+    let aperture = replay.rooms.aperture();
     for page in 0..replay.rooms.script().sizes.tt {
         let wanted = frame_at(replay.plain.state(), page);
         agree(aperture.get(page) == wanted, Difference::Aperture(page))?;
@@ -246,5 +262,5 @@ pub fn compare_parts(replay: &Replay, alloc: Global) -> Result<(), Stop>
     compare_aperture(replay)?;
     compare_free(replay, alloc)?;
     compare_accounts(replay, alloc)?;
-    compare_buffers(replay)
+    compare_buffers(replay, alloc)
 }

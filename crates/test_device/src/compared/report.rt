@@ -1,7 +1,8 @@
 use io_edge::MemSink;
 use journal_model::{Entry, Script};
+use page_accounts::Accounts;
+use report_text::WriteFault;
 use report_text::report::{write_journal, write_outcome};
-use report_text::{Accounts, WriteFault};
 use std::alloc::Global;
 use text_line::Line;
 use ttm_base::NoMemory;

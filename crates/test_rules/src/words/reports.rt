@@ -4,8 +4,9 @@ use io_edge::MemSink;
 use journal_model::{
     Bytes, Cause, CauseRow, Decls, DryWhy, Entry, Kind, Left, Script, Shown, Sizes,
 };
+use page_accounts::{Account, Accounts};
 use report_text::report::{write_journal, write_outcome};
-use report_text::{Account, Accounts, WriteFault, write_report};
+use report_text::{WriteFault, write_report};
 use script_text::read_script;
 use std::alloc::Global;
 use std::process::Abort;

@@ -1,12 +1,5 @@
-use Rattle.std.proofs.Common.{◌≡◌, length, drop}
-use Rattle.ttm_base.specs.Holes.{is_free_beside}
-use Rattle.buddy_manager.specs.Held.{held_from, with_blocks}
-use Rattle.buddy_manager.specs.Taking.{AreTaken}
+use Rattle.buddy_manager.proofs.EndLaws.{IsHolding}
 use Rattle.buddy_manager.proofs.ends.hold.Given as goal
 
-abbrev pub invariant-loop-block : goal.invariant-loop-block
-invariant-loop-block l =
-    record {
-      taken : AreTaken (is_free_beside (held_from 0 l.ends)) (length l.ends) (drop l.block-index l.blocks);
-      same : with_blocks (drop l.block-index l.blocks) (held_from 0 l.ends) ≡ with_blocks l.blocks (held_from 0 l.initial.ends);
-    }
+abbrev pub invariant-loop-i : goal.invariant-loop-i
+invariant-loop-i l = IsHolding l.initial.ends l.ends l.blocks l.i

@@ -18,6 +18,7 @@ loop-i-preserved g c = record {
       (read_numbered c.args.journal.now c.loop-i.i c.index-journal-i.result (omega arith) c.index-journal-i.is)
       c.loop-i.invariant.text c.in_ok-write_entry.ensures.text;
   faults = grind arith;
+  lines = grind arith;
 }
 
 pub returns-clause-text : goal.returns-clause-text

@@ -10,4 +10,5 @@ abbrev pub invariant-loop-i : goal.invariant-loop-i
 invariant-loop-i g l = record {
   text : g.K.Sink.written l.sink ≡ append_known (g.K.Sink.written l.fn.sink) (flat_map (entry_line l.fn.script) (take l.i (enumerate_from 1 l.journal)));
   faults : g.K.Sink.faults l.sink ≡ g.K.Sink.faults l.fn.sink;
+  lines : g.K.Sink.broken l.sink ≡ g.K.Sink.broken l.fn.sink;
 }

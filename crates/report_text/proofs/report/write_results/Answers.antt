@@ -29,6 +29,7 @@ loop-index-preserved g c = record {
       (counted (length c.args.script.now.threads) 1 c.loop-index.index (omega arith))
       c.loop-index.invariant.text c.in_ok-write_thread_results.ensures.text;
   faults = grind arith;
+  lines = grind arith;
 }
 
 pub returns-clause-text : goal.returns-clause-text

@@ -10,4 +10,5 @@ abbrev pub invariant-loop-index : goal.invariant-loop-index
 invariant-loop-index g l = record {
   text : g.K.Sink.written l.sink ≡ append_known (g.K.Sink.written l.fn.sink) (flat_map (thread_results l.journal) (take l.index (thread_numbers l.script)));
   faults : g.K.Sink.faults l.sink ≡ g.K.Sink.faults l.fn.sink;
+  lines : g.K.Sink.broken l.sink ≡ g.K.Sink.broken l.fn.sink;
 }

@@ -89,6 +89,7 @@ loop-entry-preserved g c =
                 c.loop-entry.invariant.text w.in_ok-write_answer.ensures.text
                 ∙ ap (λ n. append_known old (flat_map (answer_line thread) (take n ys))) (sym more);
             faults = ap g.K.Sink.faults w.sink-is ∙ w.in_ok-write_answer.ensures.faults ∙ c.loop-entry.invariant.faults;
+            lines = ap g.K.Sink.broken w.sink-is ∙ w.in_ok-write_answer.ensures.lines ∙ c.loop-entry.invariant.lines;
           }
       | else-answers w ↦
           let same = passed thread journal i e (omega arith) c.entry-item.is (sym c.answers.ensures ∙ w.if-answers.false) in
@@ -96,6 +97,7 @@ loop-entry-preserved g c =
             number = omega (arith, same, w.number-is, c.loop-entry.invariant.number);
             text = ap g.K.Sink.written w.sink-is ∙ c.loop-entry.invariant.text ∙ ap (λ n. append_known old (flat_map (answer_line thread) (take n ys))) (sym same);
             faults = ap g.K.Sink.faults w.sink-is ∙ c.loop-entry.invariant.faults;
+            lines = ap g.K.Sink.broken w.sink-is ∙ c.loop-entry.invariant.lines;
           }
     ]
 

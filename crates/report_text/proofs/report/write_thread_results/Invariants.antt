@@ -15,4 +15,5 @@ invariant-loop-entry g l =
       text : g.K.Sink.written l.sink ≡ append_known (g.K.Sink.written l.fn.sink)
           (flat_map (answer_line l.thread) (take before (enumerate_from 1 (filter_map (answer_of l.thread) l.journal))));
       faults : g.K.Sink.faults l.sink ≡ g.K.Sink.faults l.fn.sink;
+      lines : g.K.Sink.broken l.sink ≡ g.K.Sink.broken l.fn.sink;
     }

@@ -8,10 +8,7 @@ pub block_len-requires : goal.block_len-requires
 block_len-requires c = (subst (λ k. k ≤ 31) (sym c.order_of-order.ensures.value) (order_least c.args.pages 31 (let h = c.requires in omega (arith, h))))
 
 pub new-requires : goal.new-requires
-new-requires c =
-    let s = c.block_len.ensures.some in
-    let l = c.block_len.ensures.small in
-    record { some = omega (arith, s); small = omega (arith, l) }
+new-requires c = let l = c.block_len.ensures.small in omega (arith, l)
 
 pub invariant_of-result : goal.invariant_of-result
 invariant_of-result c = kept_held (2 * c.block_len.result) c.order_of-order.result c.args.pages c.in_ok-blocks.blocks c.in_ok-blocks.ensures (let v = c.block_len.ensures.value in let p = pow_next c.order_of-order.result in omega (arith, v, p)) (subst (λ k. k ≤ 31) (sym c.order_of-order.ensures.value) (order_least c.args.pages 31 (let h = c.requires in omega (arith, h)))) c.requires c.order_of-order.ensures.enough

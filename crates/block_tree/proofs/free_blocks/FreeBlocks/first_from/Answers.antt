@@ -1,12 +1,9 @@
 use Rattle.std.proofs.Common.{arith}
-use Rattle.block_tree.proofs.KeptLaws.{placed_start, placed_small, placed_spot, count_small, found_below, first_none, first_found, none_above, free_small}
+use Rattle.block_tree.proofs.KeptLaws.{placed_start, placed_small, count_small, found_below, first_none, first_found, none_above, free_small}
 use Rattle.block_tree.proofs.free_blocks.FreeBlocks.first_from.Goals as goal
 
 pub place-requires : goal.place-requires
 place-requires c = record { order = placed_small c.self.inside.count c.self.inside.order c.self.inside.size c.self.inside.blocks c.args.from.order c.args.from.number c.self.invariant (placed_start c.self.inside.count c.self.inside.order c.self.inside.size c.self.inside.blocks c.args.self.now c.args.from.order c.args.from.number c.self.invariant c.self.view_is c.if-from-self.false c.requires); count = count_small c.self.inside.count c.self.inside.order c.self.inside.size c.self.inside.blocks c.self.invariant }
-
-pub from-requires : goal.from-requires
-from-requires c = placed_spot c.self.inside.count c.self.inside.order c.self.inside.size c.self.inside.blocks c.args.from.order c.args.from.number c.place.result c.self.invariant (placed_start c.self.inside.count c.self.inside.order c.self.inside.size c.self.inside.blocks c.args.self.now c.args.from.order c.args.from.number c.self.invariant c.self.view_is c.if-from-self.false c.requires) c.place.ensures
 
 pub block_at-requires : goal.block_at-requires
 block_at-requires c = record { count = c.self.invariant.counted; order = c.self.invariant.order; at = found_below c.self.inside.count c.self.inside.order c.self.inside.size c.self.inside.blocks c.place.result c.in_ok-at.at c.self.invariant c.in_ok-at.ensures.some }

@@ -9,8 +9,8 @@ use Rattle.block_tree.proofs.free_blocks.FreeBlocks.has_beside.Goals as goal
 pub place-requires : goal.place-requires
 place-requires c = record { order = placed_small c.self.inside.count c.self.inside.order c.self.inside.size c.self.inside.blocks c.beside.result.order c.beside.result.number c.self.invariant (at_block (IsPlaced c.self.inside.order) c.beside.result.order c.beside.result.number c.args.block.order (beside c.args.block.number) c.beside.ensures.order c.beside.ensures.number (placed_beside c.self.inside.order c.args.block.order c.args.block.number (placed_block c.self.inside.count c.self.inside.order c.self.inside.size c.self.inside.blocks c.args.self.now c.args.block.order c.args.block.number c.self.invariant c.self.view_is c.requires) c.if-block-self.false)); count = count_small c.self.inside.count c.self.inside.order c.self.inside.size c.self.inside.blocks c.self.invariant }
 
-pub has-requires : goal.has-requires
-has-requires c = placed_spot c.self.inside.count c.self.inside.order c.self.inside.size c.self.inside.blocks c.beside.result.order c.beside.result.number c.place.result c.self.invariant (at_block (IsPlaced c.self.inside.order) c.beside.result.order c.beside.result.number c.args.block.order (beside c.args.block.number) c.beside.ensures.order c.beside.ensures.number (placed_beside c.self.inside.order c.args.block.order c.args.block.number (placed_block c.self.inside.count c.self.inside.order c.self.inside.size c.self.inside.blocks c.args.self.now c.args.block.order c.args.block.number c.self.invariant c.self.view_is c.requires) c.if-block-self.false)) c.place.ensures
+pub contains-requires : goal.contains-requires
+contains-requires c = placed_spot c.self.inside.count c.self.inside.order c.self.inside.size c.self.inside.blocks c.beside.result.order c.beside.result.number c.place.result c.self.invariant (at_block (IsPlaced c.self.inside.order) c.beside.result.order c.beside.result.number c.args.block.order (beside c.args.block.number) c.beside.ensures.order c.beside.ensures.number (placed_beside c.self.inside.order c.args.block.order c.args.block.number (placed_block c.self.inside.count c.self.inside.order c.self.inside.size c.self.inside.blocks c.args.self.now c.args.block.order c.args.block.number c.self.invariant c.self.view_is c.requires) c.if-block-self.false)) c.place.ensures
 
 pub returns : goal.returns
 returns c =
@@ -18,8 +18,8 @@ returns c =
     let l = c.if-block-self.false in
     let s = c.self.invariant.order in
     record {
-      yes = λ t. at_block (IsFree (is_free c.args.self.now) (length c.args.self.now)) c.args.block.order (beside c.args.block.number) c.beside.result.order c.beside.result.number (sym c.beside.ensures.order) (sym c.beside.ensures.number) (at_spot c.self.inside.count c.self.inside.order c.self.inside.size c.self.inside.blocks c.args.self.now c.beside.result.order c.beside.result.number c.place.result c.has.result c.self.invariant c.self.view_is p.order p.number c.place.ensures c.has.ensures t);
-      no = λ t w. not_at_spot c.self.inside.count c.self.inside.order c.self.inside.size c.self.inside.blocks c.args.self.now c.beside.result.order c.beside.result.number c.place.result c.has.result c.self.invariant c.self.view_is c.place.ensures c.has.ensures t (at_block (IsFree (is_free c.args.self.now) (length c.args.self.now)) c.beside.result.order c.beside.result.number c.args.block.order (beside c.args.block.number) c.beside.ensures.order c.beside.ensures.number w);
+      yes = λ t. at_block (IsFree (is_free c.args.self.now) (length c.args.self.now)) c.args.block.order (beside c.args.block.number) c.beside.result.order c.beside.result.number (sym c.beside.ensures.order) (sym c.beside.ensures.number) (at_spot c.self.inside.count c.self.inside.order c.self.inside.size c.self.inside.blocks c.args.self.now c.beside.result.order c.beside.result.number c.place.result c.contains.result c.self.invariant c.self.view_is p.order p.number c.place.ensures c.contains.ensures t);
+      no = λ t w. not_at_spot c.self.inside.count c.self.inside.order c.self.inside.size c.self.inside.blocks c.args.self.now c.beside.result.order c.beside.result.number c.place.result c.contains.result c.self.invariant c.self.view_is c.place.ensures c.contains.ensures t (at_block (IsFree (is_free c.args.self.now) (length c.args.self.now)) c.beside.result.order c.beside.result.number c.args.block.order (beside c.args.block.number) c.beside.ensures.order c.beside.ensures.number w);
       small = λ t. omega (arith, l, s);
     }
 

@@ -4,8 +4,8 @@ use Rattle.block_tree.proofs.free_blocks.FreeBlocks.last_to.Goals as goal
 pub place-requires : goal.place-requires
 place-requires c = record { order = placed_small c.self.inside.count c.self.inside.order c.self.inside.size c.self.inside.blocks c.args.to.order c.args.to.number c.self.invariant (placed_start c.self.inside.count c.self.inside.order c.self.inside.size c.self.inside.blocks c.args.self.now c.args.to.order c.args.to.number c.self.invariant c.self.view_is c.if-to-self.false c.requires); count = count_small c.self.inside.count c.self.inside.order c.self.inside.size c.self.inside.blocks c.self.invariant }
 
-pub down_from-requires : goal.down_from-requires
-down_from-requires c = placed_spot c.self.inside.count c.self.inside.order c.self.inside.size c.self.inside.blocks c.args.to.order c.args.to.number c.place.result c.self.invariant (placed_start c.self.inside.count c.self.inside.order c.self.inside.size c.self.inside.blocks c.args.self.now c.args.to.order c.args.to.number c.self.invariant c.self.view_is c.if-to-self.false c.requires) c.place.ensures
+pub last_to-requires : goal.last_to-requires
+last_to-requires c = placed_spot c.self.inside.count c.self.inside.order c.self.inside.size c.self.inside.blocks c.args.to.order c.args.to.number c.place.result c.self.invariant (placed_start c.self.inside.count c.self.inside.order c.self.inside.size c.self.inside.blocks c.args.self.now c.args.to.order c.args.to.number c.self.invariant c.self.view_is c.if-to-self.false c.requires) c.place.ensures
 
 pub block_at-block-requires : goal.block_at-block-requires
 block_at-block-requires c = record { count = c.self.invariant.counted; order = c.self.invariant.order; at = last_below c.self.inside.count c.self.inside.order c.self.inside.size c.self.inside.blocks c.place.result c.in_ok-at.at c.self.invariant (placed_spot c.self.inside.count c.self.inside.order c.self.inside.size c.self.inside.blocks c.args.to.order c.args.to.number c.place.result c.self.invariant (placed_start c.self.inside.count c.self.inside.order c.self.inside.size c.self.inside.blocks c.args.self.now c.args.to.order c.args.to.number c.self.invariant c.self.view_is c.if-to-self.false c.requires) c.place.ensures) c.in_ok-at.ensures.some }

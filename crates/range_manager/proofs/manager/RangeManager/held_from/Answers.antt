@@ -1,4 +1,4 @@
-use Rattle.std.proofs.Common.{Some, get_or, ap, sym, ◌∙◌, arith}
+use Rattle.std.proofs.Common.{Some, ap, sym, ◌∙◌, arith}
 use Rattle.std.specs.List.{find}
 use Rattle.hole_tree.specs.HoleSet.{starts_at}
 use Rattle.range_manager.specs.Held.{Managed}

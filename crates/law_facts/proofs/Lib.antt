@@ -1,0 +1,10 @@
+pub mod Jobs
+pub mod Order
+pub mod Mapped
+pub mod Apertures
+pub mod Touches
+pub mod Reach
+pub mod Guards
+pub mod Covered
+pub mod Marks
+mod Worked
