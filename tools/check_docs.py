@@ -37,8 +37,8 @@ In backquotes, outside of blocks of code, are checked:
 
 Links `[..](path)` are checked from the document's folder, with their `#heading`; in a link of a name to a line, `[`name`](path#L12)`,
 the name stands there or some lines off. In a row of a table that begins with a backquoted `crates/..` file and then a number, the number
-is the file's lines without imports, comments and blanks, and what follows is what the file's head says; in a row that begins with `sum`, it is the sum of such rows above in the same
-table.
+is the file's lines without imports, comments and blanks, and what follows is what the file's head says; in a row that begins with `sum`, it
+is the sum of such rows above in the same table.
 
 Words are those with a letter, outside of code, names in backquotes, targets of links and blocks that are made.
 

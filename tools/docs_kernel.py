@@ -1,6 +1,6 @@
 #!/usr/bin/env python3
-"""The kernel's identifiers that documents and comments name, against a stored list of those of kernels 6.1 and 6.12 (tools/kernel_names.txt). Used by
-check_docs.py; takes a second.
+"""The kernel's identifiers that documents and comments name, against a stored list of those of kernels 6.1 and 6.12 (tools/kernel_names.txt). Used
+by check_docs.py; takes a second.
 
 usage: tools/docs_kernel.py                     names that aren't in the list, and rows that nothing names
        tools/docs_kernel.py --write OLD NEW     writes the list from the unpacked source trees of both kernels: of each name the file and the
@@ -16,9 +16,10 @@ from typing import Dict, Iterable, Iterator, List, Set, Tuple
 TOP = pathlib.Path(__file__).resolve().parent.parent
 LIST = TOP / "tools" / "kernel_names.txt"
 NAME = re.compile(r"(?<![\w/.:-])(?:ttm|drm|dma|ww|amdgpu|nouveau|radeon|TTM|DRM)_[A-Za-z0-9_]*[A-Za-z0-9](?![\w/]|\.[a-z]|::|-\w)")
-PLACES = ("drivers/gpu/drm/ttm/*.c", "drivers/gpu/drm/ttm/tests/*", "include/drm/ttm/*.h", "drivers/gpu/drm/drm_mm.c", "drivers/gpu/drm/drm_buddy.c",
-          "drivers/gpu/buddy.c", "drivers/gpu/drm/drm_exec.c", "drivers/gpu/drm/drm_gpuvm.c", "drivers/gpu/drm/scheduler/*.c", "drivers/dma-buf/dma-*.c",
-          "drivers/gpu/drm/drm_print.c", "include/drm/*.h", "include/linux/*buddy.h", "include/linux/dma-*.h", "include/linux/ww_mutex.h",
+PLACES = ("drivers/gpu/drm/ttm/*.c", "drivers/gpu/drm/ttm/tests/*", "include/drm/ttm/*.h", "drivers/gpu/drm/drm_mm.c",
+          "drivers/gpu/drm/drm_buddy.c", "drivers/gpu/buddy.c", "drivers/gpu/drm/drm_exec.c", "drivers/gpu/drm/drm_gpuvm.c",
+          "drivers/gpu/drm/scheduler/*.c", "drivers/dma-buf/dma-*.c", "drivers/gpu/drm/drm_print.c",
+          "include/drm/*.h", "include/linux/*buddy.h", "include/linux/dma-*.h", "include/linux/ww_mutex.h",
           "kernel/locking/*mutex*", "drivers/gpu/drm/amd/amdgpu/amdgpu_*_mgr.c", "drivers/gpu/drm/amd/amdgpu/amdgpu_ttm.c",
           "drivers/gpu/drm/tests/*", "drivers/gpu/tests/*")
 

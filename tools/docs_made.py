@@ -1,5 +1,5 @@
-"""What documents have from the sources: numbers of lines with what a file's head says, README's sizes, lists of files, tables of crates and of modules, and the lines
-that links name. Used by check_docs.py, which compares it, and with `--write` makes it again.
+"""What documents have from the sources: numbers of lines with what a file's head says, README's sizes, lists of files, tables of crates and of
+modules, and the lines that links name. Used by check_docs.py, which compares it, and with `--write` makes it again.
 
 A block that is made stands between `<!-- made: WHAT -->` and `<!-- end -->`:
 
