@@ -1,8 +1,8 @@
 #!/usr/bin/env python3
-"""Checks that what documents name exists. Takes a second; needs Python alone, and no build.
+"""Checks that what documents name exists. Takes some seconds; needs Python alone, and no build.
 
-usage: tools/check_docs.py [DOCUMENT ...]      without documents: README.md, examples/README.md, docs/*.md and
-                                               crates/*/*.md; that each crate stands in crates.txt and in
+usage: tools/check_docs.py [DOCUMENT ...]      without documents: README.md, CHANGELOG.md, docs/*.md, crates/*/*.md and
+                                               README.md of editors, examples and tools; that each crate is in crates.txt and in
                                                docs/ARCHITECTURE.md and has its README.md, headed by its name (so do
                                                pages of a crate's parts, modules of its), and each law (public
                                                function of crates/law*) stands in docs/CLAIMS.md;
@@ -16,7 +16,7 @@ usage: tools/check_docs.py [DOCUMENT ...]      without documents: README.md, exa
                                                document has phrases to avoid (docs_english.py)
        tools/check_docs.py --write             makes anew what documents have from the sources: numbers of lines,
                                                README's sizes, lists of files, made blocks, the lines of links
-       tools/check_docs.py --link              makes links of the names in docs/READING.md's tables, too
+       tools/check_docs.py --link [DOCUMENT ..]  makes links of the names in its tables, too (docs/READING.md's, without one)
        tools/check_docs.py --words             how many words each document has, and all together
        tools/check_docs.py --sizes             README's table of sizes
        tools/check_docs.py --closure MODULE    the definition files that MODULE rests on, as rows of a table
@@ -366,9 +366,8 @@ def write(index, documents):
             print(f"{document.relative_to(TOP)}: written")
 
 
-def link(index):
-    """Makes links of the names in the tables of docs/READING.md that have none."""
-    document = TOP / "docs" / "READING.md"
+def link(index, document):
+    """Makes links of the names in a document's tables that have none."""
     lines = document.read_text().split("\n")
     for at, line in enumerate(lines):
         if line.startswith("| ") and not re.match(r"\| \[?`crates/", line):
@@ -480,7 +479,8 @@ def main():
     index = Index()
     if option in ("--write", "--link"):
         if option == "--link":
-            link(index)
+            for document in documents if words else [TOP / "docs" / "READING.md"]:
+                link(index, document)
         write(index, documents)
         return
     faults = 0
