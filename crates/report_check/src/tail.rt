@@ -35,6 +35,8 @@ impl Sink for TextSink {
 
     ghost written = { λ s. Some s.bytes.items };
 
+    ghost broken = { λ _. 0 };
+
     ghost faults = { λ s. s.faults };
 
     #[tactic(auto, using(crate::proofs::TailLaws::whole_piece))]
