@@ -1,4 +1,4 @@
-pub mod Standing
+mod Standing
 mod Areas
 mod Step
 mod Answered
