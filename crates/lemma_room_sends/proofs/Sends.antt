@@ -4,7 +4,7 @@ use denote.Enum.Enum.{Enum}
 use denote.Enum.Declared.{shape}
 use denote.Hole.{as_row}
 use denote.Model.Local.{Parts as Members, rows}
-use denote.Model.Goals.{send, has_of, part_has, one_law, represented_goals}
+use denote.Model.Goals.{send, has_of, part_has, one_law, tied_goals}
 use denote.Param.SendFields.{declared_send}
 use Rattle.std.proofs.Crossing.{crosses}
 use Rattle.std.proofs.MapsCrossing as maps
@@ -55,8 +55,8 @@ tree_at p s = search (sendable, crosses) depth 30
 one_deeper : (p : Members knot.frame) → ((i : the_members) → IsSend (rows knot.frame p i)) → (i : the_members) → IsSend (rows knot.frame (knot.step p) i)
 one_deeper p all member-Tree = has_of knot.frame send (knot.step p) member-Tree (part_has send (knot.view-Tree p) (tree_at p (top_at p (node_at p (all member-Tree)))))
 
-members : (i : the_members) → IsSend (rows knot.frame knot.represented i)
-members = represented_goals knot.frame knot.step knot.sizes (one_law the_members send) one_deeper
+members : (i : the_members) → IsSend (rows knot.frame knot.tied i)
+members = tied_goals knot.frame knot.step knot.sizes (one_law the_members send) one_deeper
 
 tree : IsSend Tree.the_row
 tree = members member-Tree
@@ -76,8 +76,8 @@ lengths_at p s = search (sendable, crosses) depth 30
 entry_deeper : (p : Members by_length.frame) → ((i : in_lengths.the_members) → IsSend (rows by_length.frame p i)) → (i : in_lengths.the_members) → IsSend (rows by_length.frame (by_length.step p) i)
 entry_deeper p all in_lengths.member-Lengths = has_of by_length.frame send (by_length.step p) in_lengths.member-Lengths (part_has send (by_length.view-Lengths p) (lengths_at p (link_at p (entry_at p (all in_lengths.member-Lengths)))))
 
-by_length_members : (i : in_lengths.the_members) → IsSend (rows by_length.frame by_length.represented i)
-by_length_members = represented_goals by_length.frame by_length.step by_length.sizes (one_law in_lengths.the_members send) entry_deeper
+by_length_members : (i : in_lengths.the_members) → IsSend (rows by_length.frame by_length.tied i)
+by_length_members = tied_goals by_length.frame by_length.step by_length.sizes (one_law in_lengths.the_members send) entry_deeper
 
 lengths : IsSend Lengths.the_row
 lengths = by_length_members in_lengths.member-Lengths
