@@ -139,7 +139,12 @@ fn gen_top<R: Threads + Wait + Sync, K: Sink, G: Gate + Sync>(
         (record { before = K.written sink.old; after = K.written sink.new; faults_before = K.faults sink.old; faults_after = K.faults sink.new }) result }
 {
     match tell_counts(rt, alloc, number, sink, gate) {
-        Ok(ToldCounts { device: _, written }) => status_after(Status::Done, written),
+        Ok(
+            ToldCounts {
+                device: _device,
+                written,
+            },
+        ) => status_after(Status::Done, written),
         Err(NoMemory) => Status::NoMemory,
     }
 }
