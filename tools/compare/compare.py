@@ -3,7 +3,7 @@
 
 usage: tools/compare/compare.py ORACLE COUNT [FIRST_SEED] [--program FILE]
 
-ORACLE is a program with the words `random SEED [--v2]` (prints a valid script), `mangle SEED` (breaks the script on its
+ORACLE (tools/definitions/model.py, which runs the definitions, is one) is a program with the words `random SEED [--v2]` (prints a valid script), `mangle SEED` (breaks the script on its
 standard input) and `sim` (runs a script as this program does). For each seed a script of each version, and the same
 broken, go through `sim` of the program and of ORACLE; status and every byte of the output must agree. The first difference is
 printed and ends the comparison with status 1. FILE is a built program; without it that is the one which `./ttm` runs, built unproved where there

@@ -3,7 +3,7 @@
 
 usage: tools/compare/compare_check.py ORACLE COUNT [FIRST_SEED] [--edits N] [--program FILE]
 
-ORACLE is a program with the words `random SEED [--v2]` (prints a valid script), `play SEED` (the report of a random interleaving of
+ORACLE (tools/definitions/model.py, which runs the definitions, is one) is a program with the words `random SEED [--v2]` (prints a valid script), `play SEED` (the report of a random interleaving of
 the script on its standard input) and `check` (judges a script with a report behind it, as this program does). For each seed and each
 version of scripts, the reports of `sim`, of `run` and of `play` must be valid, and N random edits of each (20 where none is named)
 must get the same verdict from both, status and every byte: a byte changed, taken out or put in, a line less, a line twice, two lines

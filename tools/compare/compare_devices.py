@@ -3,7 +3,7 @@
 
 usage: tools/compare/compare_devices.py ORACLE [--program FILE] [--scripts N] [--interleavings N] [--seed N]
 
-ORACLE is a program with the words `random SEED [--v2]`, which prints a valid script.
+ORACLE (tools/definitions/model.py is one) is a program with the words `random SEED [--v2]`, which prints a valid script.
 On N scripts (2,000) of each version the turns are those of the script's schedule and then the simulator's own; N times
 (500) they are those of actors drawn at random, until about all is done, and then the simulator's own. The program test_device takes
 them on both devices and compares the answer of each turn, the entry, whether all is over and how far each context is; and at the end all
