@@ -6,5 +6,9 @@ pub mod Touches
 pub mod Reach
 pub mod Guards
 pub mod Covered
+pub mod Lasting
+pub mod Covering
+pub mod Growth
+pub mod Steps
 pub mod Marks
 mod Worked
