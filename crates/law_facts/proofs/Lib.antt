@@ -10,5 +10,8 @@ pub mod Lasting
 pub mod Covering
 pub mod Growth
 pub mod Steps
+pub mod Emits
+pub mod Arming
+pub mod NewJobs
 pub mod Marks
 mod Worked
