@@ -13,5 +13,6 @@ pub mod Steps
 pub mod Emits
 pub mod Arming
 pub mod NewJobs
+pub mod Fenced
 pub mod Marks
 mod Worked
