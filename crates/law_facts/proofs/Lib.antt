@@ -14,5 +14,6 @@ pub mod Emits
 pub mod Arming
 pub mod NewJobs
 pub mod Fenced
+pub mod Conflicts
 pub mod Marks
 mod Worked
