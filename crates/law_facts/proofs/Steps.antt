@@ -190,7 +190,7 @@ module _ (script : Script) (fits : IsTrue (is_script script)) where
         record {
           packets = ap (λ (z : Job). z.packets) (sym is) ∙ g.packets;
           ran = subst (λ (z : Job). x.ran ≤ z.ran) is g.ran;
-          mapped = λ page h. let m = mapped_law script fits journal l page k x a undone h in both m.1 (one.maps page m.0 k x a undone h m.1);
+          mapped = λ page h. let m = mapped_law script fits journal l page k x a undone h in both {r = Some m.0} m.1 (one.maps page m.0 k x a undone h m.1);
         },
       )
     where
