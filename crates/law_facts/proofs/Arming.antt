@@ -1,8 +1,7 @@
 -- What a job with operations touches: places of its buffers, for whose jobs it waits.
-use Rattle.std.proofs.Common.{◌≡◌, ℕ, ◌<◌, Bool, true, false, List, [], ◌∷◌, Some, refl, sym, subst, ◌∙◌, ap, ◌⊎◌, inl, inr}
+use Rattle.std.proofs.Common.{◌≡◌, ℕ, ◌<◌, Bool, true, false, List, [], refl, sym, subst, ◌∙◌, ap, ◌⊎◌, inl, inr}
 use Rattle.std.specs.Prelude.{slice_get, flat_map, unwrap_or, if◌then◌else◌}
 use Rattle.std.specs.List.{list_any, list_all}
-use Rattle.std.proofs.lemmas.Bool.{cases_Bool}
 use Rattle.ttm_base.specs.declared.BufId.{BufId}
 use Rattle.ttm_base.specs.declared.JobId.{JobId}
 use Rattle.ttm_base.specs.declared.Op.{Op}
@@ -19,12 +18,12 @@ use Rattle.journal_model.specs.Places.{place_of, packet_place, aperture}
 use Rattle.journal_model.specs.Waits.{same_job, is_written, unfinished, jobs_before_read, jobs_before_write, jobs_before_use}
 use Rattle.journal_model.specs.PlainMemory.{Memory, OwedProbes, pieces_shown}
 use Rattle.law_facts.specs.Facts.{touches, writes_to}
-use Rattle.laws.specs.lemma_bytes_model.Memory.{Page, Nowhere, Step, touched, written}
-use Rattle.laws.specs.lemma_bytes_model.View.{View, Good, Owner, Idle, Live}
+use Rattle.laws.specs.lemma_bytes_model.Memory.{Page, Nowhere, touched, written}
+use Rattle.laws.specs.lemma_bytes_model.View.{View, Good, Idle, Live}
 use Rattle.laws.specs.lemma_bytes_model.Entries.{steps, Stands, AllNamed}
 use Rattle.laws.proofs.lemma_bytes_model.Arm.{Stood, touched_stood, written_stood}
-use Rattle.laws.specs.law_holders.Holding.{seen, live_at, buffer_at, unheld}
-use Rattle.laws.proofs.law_holders.Owner.{owner_of, owner_holds}
+use Rattle.laws.specs.law_holders.Holding.{seen, buffer_at, unheld}
+use Rattle.laws.proofs.law_holders.Owner.{owner_holds}
 use Rattle.laws.specs.lemma_bytes_view.Seen.{steps_from}
 use Rattle.laws.proofs.lemma_bytes_view.World.{Seen, bare}
 use Rattle.laws.proofs.lemma_bytes_view.PacketStep.{no_bytes}

@@ -1,6 +1,6 @@
 -- Of two jobs in conflict the later waits for the earlier, or for a job that comes after it.
-use Rattle.std.proofs.Common.{◌≡◌, ℕ, ◌<◌, Bool, true, false, List, [], ◌∷◌, ◌++◌, length, Some, IsTrue, refl, sym, subst, ◌∙◌, ap, ap₂, ◌⊎◌, inl, inr, arith, ⊎_elim}
-use Rattle.std.specs.Prelude.{slice_get, ◌&&◌, ◌||◌, if◌then◌else◌}
+use Rattle.std.proofs.Common.{◌≡◌, ℕ, ◌<◌, Bool, true, false, List, [], ◌∷◌, ◌++◌, length, Some, IsTrue, sym, subst, ◌∙◌, ap, ap₂, ◌⊎◌, inl, inr, ⊎_elim}
+use Rattle.std.specs.Prelude.{slice_get, ◌&&◌, if◌then◌else◌}
 use Rattle.std.specs.List.{list_any}
 use Rattle.std.proofs.lemmas.Bool.{and_parts, or_cases}
 use Rattle.ttm_base.specs.declared.BufId.{BufId}
@@ -17,7 +17,7 @@ use Rattle.journal_model.specs.State.{buffer_in}
 use Rattle.journal_model.specs.Places.{place_of, aperture}
 use Rattle.journal_model.specs.Spares.{remaining}
 use Rattle.journal_model.specs.Waits.{same_job, changes, unfinished, jobs_before_read, jobs_before_write}
-use Rattle.journal_model.specs.Legal.{World, first_world, world_after, world_along, world_of, state_of, IsLegalNext, IsLegalFrom, IsLegal}
+use Rattle.journal_model.specs.Legal.{World, first_world, world_along, world_of, state_of, IsLegalNext, IsLegalFrom, IsLegal}
 use Rattle.law_facts.specs.Facts.{touches, writes_to, conflict, LegalConflictsWait}
 use Rattle.laws.specs.lemma_bytes_model.Memory.{touched}
 use Rattle.laws.specs.law_holders.Holding.{seen}
@@ -31,7 +31,6 @@ use Rattle.law_facts.proofs.Guards.{viewed, touched_at}
 use Rattle.law_facts.proofs.Covered.{places_covered, targets_covered}
 use Rattle.law_facts.proofs.Lasting.{touched_before, written_before}
 use Rattle.law_facts.proofs.Covering.{CoveredAt, at_covered, covered_goes, unfinished_too, WaitsAt, waits_go, waits_of}
-use Rattle.law_facts.proofs.Growth.{Clear}
 use Rattle.law_facts.proofs.Steps.{goes_on}
 use Rattle.law_facts.proofs.Emits.{NewPage, stands, arrives, kept, WaitsForAll, WaitsForChanges}
 use Rattle.law_facts.proofs.NewJobs.{new_page}

@@ -2,7 +2,7 @@
 use Rattle.std.proofs.Common.{◌≡◌, ℕ, Bool, true, false, List, Some, IsTrue, refl, sym, subst, ◌∙◌, ap, ⊎_elim}
 use Rattle.std.specs.Prelude.{Contains, slice_get, not, ◌&&◌, option_to_list, if◌then◌else◌}
 use Rattle.std.specs.List.{list_any}
-use Rattle.std.proofs.lemmas.Bool.{and_parts, or_cases}
+use Rattle.std.proofs.lemmas.Bool.{or_cases}
 use Rattle.ttm_base.specs.declared.Mem.TheVariants as mem
 use Rattle.ttm_base.specs.declared.BufId.{BufId}
 use Rattle.ttm_base.specs.Pages as pages
@@ -17,12 +17,11 @@ use Rattle.journal_model.specs.Places.{pages_of, page_in_vram, place_of, apertur
 use Rattle.journal_model.specs.Holds.{has_number}
 use Rattle.journal_model.specs.Waits.{same_job, changes, jobs_before_read, jobs_before_write}
 use Rattle.journal_model.specs.Spares.{remaining}
-use Rattle.journal_model.specs.After.{ComesAfter, through}
 use Rattle.journal_model.specs.Legal.{state_of, IsLegal}
 use Rattle.journal_model.specs.PlainMemory.{plain_of}
 use Rattle.law_facts.specs.Facts.{touches, writes_to, IsCovered}
 use Rattle.laws.specs.lemma_bytes_model.Memory.{Nowhere, Vram, written}
-use Rattle.laws.specs.lemma_bytes_model.View.{Live, Target, Idle, After, is_fence}
+use Rattle.laws.specs.lemma_bytes_model.View.{Live, Target, Idle, is_fence}
 use Rattle.laws.specs.law_holders.Holding.{seen}
 use Rattle.laws.proofs.law_holders.Owner.{owner_of, owner_is}
 use Rattle.laws.proofs.lemma_bytes_view.World.{bare}

@@ -1,5 +1,5 @@
 -- Which of some jobs covers one, by their places among the jobs, from state to state.
-use Rattle.std.proofs.Common.{◌≡◌, ℕ, ◌<◌, Bool, true, false, List, [], ◌∷◌, Some, IsTrue, refl, sym, subst, ◌∙◌, ap, ◌⊎◌, inl, inr, arith, ⊎_elim}
+use Rattle.std.proofs.Common.{◌≡◌, ℕ, ◌<◌, Bool, true, false, List, Some, IsTrue, sym, subst, ◌∙◌, ap, ◌⊎◌, inl, inr, ⊎_elim}
 use Rattle.std.specs.Prelude.{Contains, slice_get}
 use Rattle.std.specs.List.{list_any}
 use Rattle.ttm_base.specs.declared.JobId.{JobId}

@@ -1,13 +1,12 @@
 -- What a new job touches: places of buffers whose jobs it waits for, and, where it moves a buffer, the pages to which the buffer goes.
-use Rattle.std.proofs.Common.{◌≡◌, ℕ, ◌+◌, ◌<◌, zero, suc, Bool, true, false, List, [], ◌∷◌, ◌++◌, length, Option, Some, None, IsTrue, refl, sym, subst, ◌∙◌, ap, ap₂, ◌⊎◌, inl, inr, arith, ⊎_elim, eqb-true}
-use Rattle.std.specs.Prelude.{Contains, slice_get, map, drop, flat_map, unwrap_or, ◌||◌, if◌then◌else◌}
-use Rattle.std.specs.List.{list_any, list_all}
-use Rattle.std.proofs.lemmas.Bool.{or_cases, cases_Bool}
+use Rattle.std.proofs.Common.{◌≡◌, ℕ, ◌+◌, ◌<◌, zero, suc, true, length, Option, Some, None, refl, sym, subst, ◌∙◌, ap, ◌⊎◌, inl, inr, arith, ⊎_elim, eqb-true}
+use Rattle.std.specs.Prelude.{slice_get, map, unwrap_or, ◌||◌}
+use Rattle.std.specs.List.{list_any}
+use Rattle.std.proofs.lemmas.Bool.{or_cases}
 use Rattle.ttm_base.specs.declared.Mem.{Mem}
 use Rattle.ttm_base.specs.declared.Mem.TheVariants.{System, Tt, Vram}
 use Rattle.ttm_base.specs.declared.BufId.{BufId}
 use Rattle.ttm_base.specs.declared.JobId.{JobId}
-use Rattle.ttm_base.specs.declared.Loc.{Loc}
 use Rattle.ttm_base.specs.declared.Loc.TheVariants as loc
 use Rattle.ttm_base.specs.declared.PagePlace.{PagePlace}
 use Rattle.ttm_base.specs.declared.PagePlace.TheVariants as place
@@ -18,16 +17,14 @@ use Rattle.journal_model.specs.declared.script.Script.{Script}
 use Rattle.journal_model.specs.declared.state.Core.{Core}
 use Rattle.journal_model.specs.declared.state.Buffer.{Buffer}
 use Rattle.journal_model.specs.declared.state.Job.{Job}
-use Rattle.journal_model.specs.declared.state.Ghost as ghosts
 use Rattle.journal_model.specs.State.{buffer_in, live_in, changed, new_buffer, target_spans, has_target}
-use Rattle.journal_model.specs.Places.{pages_of, page_in_vram, page_of_spans, page_at, place_of, loc_of, frames_of, packet_place, name_in, name_in_spans, aperture}
+use Rattle.journal_model.specs.Places.{pages_of, page_in_vram, page_at, place_of, frames_of, packet_place, name_in_spans, aperture}
 use Rattle.journal_model.specs.Holds.{has_number}
 use Rattle.journal_model.specs.Ready.{has_all_frames}
 use Rattle.journal_model.specs.Waits.{same_job, unfinished, jobs_before_read, jobs_before_write}
 use Rattle.journal_model.specs.ApplyMoves.{moved, move_packets, copy_of_page, table_left}
 use Rattle.law_facts.specs.Facts.{touches, writes_to}
-use Rattle.laws.specs.lemma_bytes_model.Memory.{Nowhere}
-use Rattle.laws.specs.law_holders.Holding.{seen, live_at, buffer_at}
+use Rattle.laws.specs.law_holders.Holding.{seen}
 use Rattle.laws.specs.law_holders.Maps.{Maps}
 use Rattle.laws.proofs.law_owners.Law.{AreHeldOnce}
 use Rattle.laws.proofs.law_holders.Mapped.{aperture_maps, maps_aperture}

@@ -17,8 +17,8 @@ use Rattle.journal_model.specs.State.{buffer_in, new_buffer, target_spans}
 use Rattle.journal_model.specs.Places.{pages_of, page_in_vram, page_in_table, page_at, place_of}
 use Rattle.journal_model.specs.Holds.{is_free_page, has_number}
 use Rattle.journal_model.specs.Waits.{same_job, changes, unfinished, jobs_before_read, jobs_before_write}
-use Rattle.journal_model.specs.Legal.{World, first_world, world_after, world_along, world_of, state_of, IsLegalNext, IsLegalFrom, IsLegal}
-use Rattle.law_facts.specs.Facts.{touches, writes_to, is_job_of, kernel_jobs, IsCovered, PlacesAreFenced, TargetsAreFenced, LegalPlacesAreFenced, LegalTargetsAreFenced}
+use Rattle.journal_model.specs.Legal.{World, first_world, world_along, world_of, state_of, IsLegalNext, IsLegalFrom, IsLegal}
+use Rattle.law_facts.specs.Facts.{touches, writes_to, is_job_of, kernel_jobs, LegalPlacesAreFenced, LegalTargetsAreFenced}
 use Rattle.laws.specs.lemma_bytes_model.Memory as memory
 use Rattle.laws.specs.lemma_bytes_model.View.{Live, Target}
 use Rattle.laws.specs.law_holders.Holding.{seen}
@@ -38,7 +38,7 @@ use Rattle.law_facts.proofs.Guards.{once, free_fenced}
 use Rattle.law_facts.proofs.Covered.{places_covered, targets_covered}
 use Rattle.law_facts.proofs.Lasting.{GoesOn, touched_before, written_before}
 use Rattle.law_facts.proofs.Covering.{CoveredAt, covered_goes, covered_of, at_covered, unfinished_too, covers_itself}
-use Rattle.law_facts.proofs.Growth.{PageFrom, stays, enters, clear, TargetFrom, same, free, Grown, BufferStep, grown, fresh, Clear, kernels_stay, job_stays}
+use Rattle.law_facts.proofs.Growth.{PageFrom, stays, enters, clear, TargetFrom, same, free, Grown, BufferStep, grown, fresh, kernels_stay, job_stays}
 use Rattle.law_facts.proofs.Steps.{spare_law, buffer_steps, goes_on}
 use Rattle.law_facts.proofs.Emits as emits
 use Rattle.law_facts.proofs.Emits.{NewPage}

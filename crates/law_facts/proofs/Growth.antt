@@ -1,6 +1,6 @@
 -- What an entry does to a buffer: its fences stay, and its pages and those of its target in VRAM were its own, or free.
-use Rattle.std.proofs.Common.{◌≡◌, ℕ, zero, suc, Bool, true, false, List, [], ◌∷◌, ◌++◌, Option, Some, None, refl, sym, subst, ◌∙◌, ap, ◌⊎◌, inl, inr, ⊎_elim}
-use Rattle.std.specs.Prelude.{Contains, slice_get, slice_set, map, filter, fold, option_map, option_and_then, unwrap_or, option_to_list, ◌||◌, if◌then◌else◌}
+use Rattle.std.proofs.Common.{◌≡◌, ℕ, Bool, true, false, List, [], ◌∷◌, ◌++◌, Option, Some, None, refl, sym, subst, ◌∙◌, ap, ◌⊎◌, inl, inr, ⊎_elim}
+use Rattle.std.specs.Prelude.{Contains, slice_get, slice_set, map, filter, fold, option_map, option_and_then, unwrap_or, option_to_list, if◌then◌else◌}
 use Rattle.std.specs.List.{list_any}
 use Rattle.std.proofs.lemmas.Bool.{or_cases}
 use Rattle.ttm_base.specs.declared.Mem.{Mem}
@@ -21,12 +21,12 @@ use Rattle.journal_model.specs.declared.state.Job.{Job}
 use Rattle.journal_model.specs.State.{live_in, buffer_in, changed, new_buffer, target_spans}
 use Rattle.journal_model.specs.Places.{pages_of, page_in_vram, page_in_table, page_in, page_at, loc_of}
 use Rattle.journal_model.specs.Holds.{is_free_page, has_number}
-use Rattle.journal_model.specs.Waits.{same_job, changes, unfinished, jobs_before_read, jobs_before_write, use_of}
+use Rattle.journal_model.specs.Waits.{same_job, changes, unfinished, use_of}
 use Rattle.journal_model.specs.ApplyPages.{with_fence, with_kernel_fences, with_spans, with_loc, without_frames, bound, unbound}
 use Rattle.journal_model.specs.ApplyMoves.{moved, table_left}
 use Rattle.journal_model.specs.ApplyVictims.{leaves_tt}
 use Rattle.journal_model.specs.ApplyJobs.{with_use}
-use Rattle.law_facts.specs.Facts.{touches, is_kernel, kernel_jobs, is_among, is_job_of}
+use Rattle.law_facts.specs.Facts.{touches, is_kernel, kernel_jobs, is_job_of}
 use Rattle.laws.proofs.law_state.Lists.{set_at}
 use Rattle.laws.proofs.lemma_bytes_model.Actions.{or_first, or_second}
 use Rattle.laws.specs.law_holders.Holding.{buffer_at}

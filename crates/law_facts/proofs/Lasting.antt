@@ -1,8 +1,7 @@
 -- A job touches in a later state no page that it didn't touch before: its packets run, and what they name stays mapped.
-use Rattle.std.proofs.Common.{◌≡◌, ℕ, ◌≤◌, zero, suc, Bool, true, false, List, [], ◌∷◌, drop, refl, sym, subst, ◌∙◌, ap, ap₂, arith, eq-eqb, ⊎_elim}
+use Rattle.std.proofs.Common.{◌≡◌, ℕ, ◌≤◌, zero, suc, Bool, true, false, List, [], ◌∷◌, drop, refl, subst, ◌∙◌, ap, ap₂, arith, eq-eqb}
 use Rattle.std.specs.Prelude.{◌||◌}
 use Rattle.std.specs.List.{list_any}
-use Rattle.std.proofs.lemmas.Bool.{or_cases}
 use Rattle.ttm_base.specs.declared.Packet.{Packet}
 use Rattle.ttm_base.specs.declared.Packet.TheVariants as packet
 use Rattle.ttm_base.specs.declared.PagePlace.{PagePlace}

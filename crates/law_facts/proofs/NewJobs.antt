@@ -1,12 +1,11 @@
 -- What the new job of a legal entry touches, by kind.
-use Rattle.std.proofs.Common.{◌≡◌, ℕ, ◌<◌, Bool, true, false, List, [], ◌∷◌, ◌++◌, length, Some, None, Ok, IsTrue, refl, sym, subst, ◌∙◌, ap, arith}
+use Rattle.std.proofs.Common.{◌≡◌, ℕ, ◌<◌, Bool, true, false, List, [], ◌∷◌, ◌++◌, length, Some, Ok, IsTrue, refl, sym, subst, ◌∙◌, ap, arith}
 use Rattle.std.specs.Prelude.{slice_get, flat_map, nat_le, ◌&&◌, ◌+◌}
 use Rattle.std.specs.List.{list_all}
 use Rattle.std.proofs.lemmas.Bool.{or_left, or_right}
 use Rattle.ttm_base.specs.declared.Mem.{Mem}
 use Rattle.ttm_base.specs.declared.Mem.TheVariants.{System, Tt, Vram}
 use Rattle.ttm_base.specs.declared.BufId.{BufId}
-use Rattle.ttm_base.specs.declared.JobId.{JobId}
 use Rattle.ttm_base.specs.declared.Op.{Op}
 use Rattle.ttm_base.specs.declared.Actor.{Actor}
 use Rattle.ttm_base.specs.declared.Actor.TheVariants as actor
@@ -21,19 +20,18 @@ use Rattle.journal_model.specs.declared.state.State.{State}
 use Rattle.journal_model.specs.declared.state.Core.{Core}
 use Rattle.journal_model.specs.declared.state.Job.{Job}
 use Rattle.journal_model.specs.ScriptRules.{is_script}
-use Rattle.journal_model.specs.State.{buffer, buffer_in, live_in, has_buffer}
+use Rattle.journal_model.specs.State.{buffer, buffer_in, live_in}
 use Rattle.journal_model.specs.Commands.{decl, named, command_at_work}
 use Rattle.journal_model.specs.CommandRules.{is_op, is_command, is_between}
 use Rattle.journal_model.specs.Places.{packet_place, frames_of}
 use Rattle.journal_model.specs.Holds.{has_number}
 use Rattle.journal_model.specs.Ready.{is_ready, uses_bytes}
-use Rattle.journal_model.specs.Waits.{unfinished, jobs_before_write, jobs_before_use}
+use Rattle.journal_model.specs.Waits.{jobs_before_use}
 use Rattle.journal_model.specs.PageSteps.{next_job}
 use Rattle.journal_model.specs.Next.{next}
 use Rattle.journal_model.specs.Apply.{applied}
 use Rattle.journal_model.specs.ApplyCommands.{named_in}
-use Rattle.journal_model.specs.ApplyMoves.{move_packets}
-use Rattle.journal_model.specs.ApplyJobs.{ops_of, core_after_arm}
+use Rattle.journal_model.specs.ApplyJobs.{ops_of}
 use Rattle.journal_model.specs.Legal.{World, first_world, world_of, state_of, stores_of, IsLegalNext, IsLegal}
 use Rattle.journal_model.specs.PlainMemory.{Memory, OwedProbes, plain_of}
 use Rattle.law_facts.specs.Facts.{touches, FreePagesAreFenced}

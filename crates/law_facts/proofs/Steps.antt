@@ -1,10 +1,8 @@
 -- What each legal entry does to buffers and jobs.
-use Rattle.std.proofs.Common.{◌≡◌, ℕ, ◌<◌, ◌≤◌, Bool, true, false, List, [], ◌∷◌, ◌++◌, length, Option, Some, None, Ok, IsTrue, refl, sym, subst, ◌∙◌, ap, ◌⊎◌, inl, inr, arith, ⊎_elim}
-use Rattle.std.specs.Prelude.{Contains, slice_get, not, nat_lt, unwrap_or, ◌&&◌, option_to_list, if◌then◌else◌}
-use Rattle.std.specs.List.{list_any}
+use Rattle.std.proofs.Common.{◌≡◌, ℕ, ◌≤◌, Bool, true, false, List, [], ◌∷◌, ◌++◌, Option, Some, None, Ok, IsTrue, refl, sym, subst, ◌∙◌, ap, arith, ⊎_elim}
+use Rattle.std.specs.Prelude.{slice_get, nat_lt, unwrap_or, ◌&&◌}
 use Rattle.std.proofs.lemmas.Bool.{or_left, or_right}
-use Rattle.ttm_base.specs.declared.Mem.{Mem}
-use Rattle.ttm_base.specs.declared.Mem.TheVariants.{System, Tt, Vram}
+use Rattle.ttm_base.specs.declared.Mem.TheVariants.{Tt, Vram}
 use Rattle.ttm_base.specs.declared.BufId.{BufId}
 use Rattle.ttm_base.specs.declared.Span.{Span}
 use Rattle.ttm_base.specs.declared.Place.{Place}
@@ -13,11 +11,9 @@ use Rattle.ttm_base.specs.declared.Loc.TheVariants as loc
 use Rattle.ttm_base.specs.declared.Actor.{Actor}
 use Rattle.ttm_base.specs.declared.Actor.TheVariants as actor
 use Rattle.ttm_base.specs.Pages as pages
-use Rattle.ttm_base.specs.Packets.{packet_names}
 use Rattle.journal_model.specs.declared.script.Script.{Script}
 use Rattle.journal_model.specs.declared.entry.Entry.{Entry}
 use Rattle.journal_model.specs.declared.entry.Kind.{Kind}
-use Rattle.journal_model.specs.declared.entry.Kind.TheVariants as kind
 use Rattle.journal_model.specs.declared.state.State.{State}
 use Rattle.journal_model.specs.declared.state.Core.{Core}
 use Rattle.journal_model.specs.declared.state.Buffer.{Buffer}
@@ -26,9 +22,9 @@ use Rattle.journal_model.specs.ScriptRules.{is_script}
 use Rattle.journal_model.specs.State.{buffer, buffer_in, live_in, new_buffer}
 use Rattle.journal_model.specs.Commands.{decl, command_at_work}
 use Rattle.journal_model.specs.Choice.{choice}
-use Rattle.journal_model.specs.Places.{pages_of, page_in_table, loc_of, aperture}
+use Rattle.journal_model.specs.Places.{pages_of, page_in_table, loc_of}
 use Rattle.journal_model.specs.Holds.{size_of, is_free_page, held_frames, has_number, free_frame}
-use Rattle.journal_model.specs.Waits.{unfinished, jobs_before_target}
+use Rattle.journal_model.specs.Waits.{jobs_before_target}
 use Rattle.journal_model.specs.PageSteps.{page_to_fill, first_frame_page, next_job}
 use Rattle.journal_model.specs.Next.{next}
 use Rattle.journal_model.specs.Apply.{applied}
@@ -54,8 +50,8 @@ use Rattle.laws.proofs.lemma_bytes_view.Tables.{at_has, frame_listed}
 use Rattle.laws.proofs.lemma_bytes_told.Shapes.{still_core}
 use Rattle.laws.proofs.law_transparent.Law.{world_push}
 use Rattle.laws.proofs.law_transparent.Carried.{told_law}
-use Rattle.law_facts.proofs.Jobs.{at_of, GoOn, Later}
-use Rattle.law_facts.proofs.Apertures.{WasThere, OneStep, one_step, old_or_new, mapped_law}
+use Rattle.law_facts.proofs.Jobs.{at_of}
+use Rattle.law_facts.proofs.Apertures.{one_step, mapped_law}
 use Rattle.law_facts.proofs.Guards.{viewed, touched_at, free_fenced, untouched, guarded}
 use Rattle.law_facts.proofs.Lasting.{GoesOn}
 use Rattle.law_facts.proofs.Growth.{Clear, BufferStep, same_step, set_step, changed_step, either_step, uses_step, respanned_grown, caught_grown, bound_grown, unbound_grown, paged_grown, emptied_grown, up_grown, down_grown, taken_grown}

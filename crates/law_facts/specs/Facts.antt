@@ -1,7 +1,7 @@
 -- The facts on which transparency rests, as laws of the state behind each legal journal (dma_fence, dma_resv, the move fence of a
 -- manager, delayed destroys). The functions of this crate have them as contracts, by their names here. A job touches the pages of its packets
 -- that haven't run; it is unfinished until its end is told.
-use Rattle.std.specs.Prelude.{◌≡◌, ℕ, ◌<◌, Bool, true, false, List, Option, Some, Contains, ◌⊎◌, ◌&&◌, ◌||◌, filter, map, take, option_to_list, slice_get, if◌then◌else◌}
+use Rattle.std.specs.Prelude.{◌≡◌, ℕ, ◌<◌, Bool, true, false, List, Some, Contains, ◌⊎◌, ◌&&◌, ◌||◌, filter, map, take, option_to_list, slice_get, if◌then◌else◌}
 use Rattle.std.specs.List.{list_any}
 use Rattle.ttm_base.specs.declared.Mem.TheVariants.{Vram}
 use Rattle.ttm_base.specs.declared.BufId.{BufId}
