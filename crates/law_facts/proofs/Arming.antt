@@ -25,6 +25,7 @@ use Rattle.laws.proofs.lemma_bytes_model.Arm.{Stood, touched_stood, written_stoo
 use Rattle.laws.specs.law_holders.Holding.{seen, buffer_at, unheld}
 use Rattle.laws.proofs.law_holders.Owner.{owner_holds}
 use Rattle.laws.specs.lemma_bytes_view.Seen.{steps_from}
+use Rattle.laws.proofs.lemma_bytes_model.Actions.{clash}
 use Rattle.laws.proofs.lemma_bytes_view.World.{Seen, bare}
 use Rattle.laws.proofs.lemma_bytes_view.PacketStep.{no_bytes}
 use Rattle.laws.specs.law_pieces.Pieces.{paged, views_of}
@@ -36,10 +37,6 @@ use Rattle.laws.proofs.lemma_bytes_arm.Fences.{among_flat}
 use Rattle.law_facts.proofs.Touches.{touched_so, written_so}
 use Rattle.law_facts.proofs.Lasting.{any_dropped}
 use Rattle.law_facts.proofs.Emits.{NewPage, stands, WaitsForAll, WaitsForChanges, seen_is}
-
-clash : (a : Bool) → a ≡ true → a ≡ false → ⊥
-clash true e f = cc
-clash false e f = cc
 
 module _ (script : Script) (c : Core) (owed_probes : OwedProbes) (m : Memory) (bytes : pages.PageBytes) (u : Viewed script c owed_probes m bytes) (ops : List Op) (ok : list_all (is_op script) ops ≡ true)
     (ready : (b : BufId) → has_buffer (first_mentions [] (flat_map buffers_of_op ops)) b ≡ true → (i : ℕ) → i < (decl script b).pages → Reached c b.0 i)
@@ -151,6 +148,6 @@ module _ (script : Script) (c : Core) (owed_probes : OwedProbes) (m : Memory) (b
             let w = written_stood v g.nowhere g.placed used changed within (views_of ops) (paged m) named (seen p) (written_step p h) in
             let two : Live w.buffer w.page ≡ Live z.buffer z.page = sym w.owned ∙ z.owned in
             let one : w.buffer ≡ z.buffer = cc in
-            clash (is_written ops (record { 0 = z.buffer })) (ap (λ n. is_written ops (record { 0 = n })) (sym one) ∙ w.these_has) e,
+            clash (ap (λ n. is_written ops (record { 0 = n })) (sym one) ∙ w.these_has) e,
         λ i w. waits_use (record { 0 = z.buffer }) z.these_has (unfinished c (jobs_before_read (buffer_at c z.buffer))) (ap (before (record { 0 = z.buffer })) e) i w,
       )

@@ -21,7 +21,7 @@ use Rattle.journal_model.specs.Legal.{World, first_world, world_along, world_of,
 use Rattle.law_facts.specs.Facts.{touches, writes_to, conflict, LegalConflictsWait}
 use Rattle.laws.specs.lemma_bytes_model.Memory.{touched}
 use Rattle.laws.specs.law_holders.Holding.{seen}
-use Rattle.laws.proofs.lemma_bytes_model.Actions.{bool_cases, or_first, or_second}
+use Rattle.laws.proofs.lemma_bytes_model.Actions.{clash, bool_cases, or_first, or_second}
 use Rattle.laws.proofs.lemma_bytes_view.Binds.{among_all}
 use Rattle.laws.proofs.lemma_bytes_view.MoreJobs.{among_unfinished}
 use Rattle.laws.proofs.law_transparent.Law.{world_push, legal_push}
@@ -35,10 +35,6 @@ use Rattle.law_facts.proofs.Steps.{goes_on}
 use Rattle.law_facts.proofs.Emits.{NewPage, stands, arrives, kept, WaitsForAll, WaitsForChanges}
 use Rattle.law_facts.proofs.NewJobs.{new_page}
 use Rattle.law_facts.proofs.Fenced.{no_later}
-
-clash : (a : Bool) → a ≡ true → a ≡ false → ⊥
-clash true e f = cc
-clash false e f = cc
 
 -- of two unfinished jobs in conflict the later waits
 abbrev pub AllWait : Core → Type 0
@@ -68,58 +64,59 @@ module _ (script : Script) (fits : IsTrue (is_script script)) where
     abbrev c : Core
     c = (state_of script journal).core
 
+    abbrev d : Core
+    d = (state_of script (journal ++ e ∷ [])).core
+
     -- a job among these, that isn't done, is waited for
-    by_fence : (ids : List JobId) (m : ℕ) (x y : Job) → slice_get (state_of script journal).core.jobs m ≡ Some x → x.finished ≡ false →
-        ((i : JobId) → list_any (same_job i) (unfinished (state_of script journal).core ids) ≡ true → list_any (same_job i) y.waits ≡ true) → CoveredAt (state_of script journal).core.jobs ids m → CoveredAt (state_of script journal).core.jobs y.waits m
+    by_fence : (ids : List JobId) (m : ℕ) (x y : Job) → slice_get c.jobs m ≡ Some x → x.finished ≡ false →
+        ((i : JobId) → list_any (same_job i) (unfinished c ids) ≡ true → list_any (same_job i) y.waits ≡ true) → CoveredAt c.jobs ids m → CoveredAt c.jobs y.waits m
     by_fence ids m x y a u waits w =
         let un = unfinished_too script fits journal l w.at m w.job x w.here a w.after u in
-        record { at = w.at; job = w.job; here = w.here; among = waits w.job.id (among_unfinished (state_of script journal).core ids w.at w.job w.here un w.among); after = w.after }
+        record { at = w.at; job = w.job; here = w.here; among = waits w.job.id (among_unfinished c ids w.at w.job w.here un w.among); after = w.after }
 
-    any_use : (b : BufId) (q : Bool) (m : ℕ) → CoveredAt (state_of script journal).core.jobs (if q then jobs_before_read (buffer_in (state_of script journal).core b) else jobs_before_write (buffer_in (state_of script journal).core b)) m →
-        CoveredAt (state_of script journal).core.jobs (jobs_before_write (buffer_in (state_of script journal).core b)) m
-    any_use b true m w = record { at = w.at; job = w.job; here = w.here; among = among_all (same_job w.job.id) changes (buffer_in (state_of script journal).core b).fences w.among; after = w.after }
+    any_use : (b : BufId) (q : Bool) (m : ℕ) → CoveredAt c.jobs (if q then jobs_before_read (buffer_in c b) else jobs_before_write (buffer_in c b)) m →
+        CoveredAt c.jobs (jobs_before_write (buffer_in c b)) m
+    any_use b true m w = record { at = w.at; job = w.job; here = w.here; among = among_all (same_job w.job.id) changes (buffer_in c b).fences w.among; after = w.after }
     any_use b false m w = w
 
-    new_waits : (m : ℕ) (x y : Job) (p : pages.Page) → slice_get (state_of script journal).core.jobs m ≡ Some x → x.finished ≡ false →
-        slice_get (state_of script (journal ++ e ∷ [])).core.jobs (length (state_of script journal).core.jobs) ≡ Some y →
-        touches (state_of script journal).core p x ≡ true → touches (state_of script (journal ++ e ∷ [])).core p y ≡ true →
-        (writes_to (state_of script (journal ++ e ∷ [])).core p y ≡ true) ⊎ (writes_to (state_of script journal).core p x ≡ true) → CoveredAt (state_of script journal).core.jobs y.waits m
+    new_waits : (m : ℕ) (x y : Job) (p : pages.Page) → slice_get c.jobs m ≡ Some x → x.finished ≡ false →
+        slice_get d.jobs (length c.jobs) ≡ Some y →
+        touches c p x ≡ true → touches d p y ≡ true →
+        (writes_to d p y ≡ true) ⊎ (writes_to c p x ≡ true) → CoveredAt c.jobs y.waits m
     new_waits m x y p a u at t ty w = by (new_page script fits journal e l n y at p ty)
       where
-        covering : (b : BufId) (k : ℕ) → place_of (state_of script journal).core b k ≡ p →
-            CoveredAt (state_of script journal).core.jobs (if writes_to (state_of script journal).core p x then jobs_before_read (buffer_in (state_of script journal).core b) else jobs_before_write (buffer_in (state_of script journal).core b)) m
+        covering : (b : BufId) (k : ℕ) → place_of c b k ≡ p →
+            CoveredAt c.jobs (if writes_to c p x then jobs_before_read (buffer_in c b) else jobs_before_write (buffer_in c b)) m
         covering b k is =
-            subst (λ q. CoveredAt (state_of script journal).core.jobs (if writes_to (state_of script journal).core q x then jobs_before_read (buffer_in (state_of script journal).core b) else jobs_before_write (buffer_in (state_of script journal).core b)) m) is
+            subst (λ q. CoveredAt c.jobs (if writes_to c q x then jobs_before_read (buffer_in c b) else jobs_before_write (buffer_in c b)) m) is
             (at_covered script fits journal l _ m x a
-            (places_covered script fits journal l x b k (has_of x (state_of script journal).core.jobs m a) u (subst (λ q. touches (state_of script journal).core q x ≡ true) (sym is) t)))
+            (places_covered script fits journal l x b k (has_of x c.jobs m a) u (subst (λ q. touches c q x ≡ true) (sym is) t)))
 
-        of_all : (b : BufId) (k : ℕ) → place_of (state_of script journal).core b k ≡ p → WaitsForAll (state_of script journal).core y b → CoveredAt (state_of script journal).core.jobs y.waits m
-        of_all b k is all = by_fence (jobs_before_write (buffer_in (state_of script journal).core b)) m x y a u all (any_use b (writes_to (state_of script journal).core p x) m (covering b k is))
+        of_all : (b : BufId) (k : ℕ) → place_of c b k ≡ p → WaitsForAll c y b → CoveredAt c.jobs y.waits m
+        of_all b k is all = by_fence (jobs_before_write (buffer_in c b)) m x y a u all (any_use b (writes_to c p x) m (covering b k is))
 
-        of_changes : (b : BufId) (k : ℕ) → place_of (state_of script journal).core b k ≡ p → writes_to (state_of script journal).core p x ≡ true → WaitsForChanges (state_of script journal).core y b → CoveredAt (state_of script journal).core.jobs y.waits m
+        of_changes : (b : BufId) (k : ℕ) → place_of c b k ≡ p → writes_to c p x ≡ true → WaitsForChanges c y b → CoveredAt c.jobs y.waits m
         of_changes b k is h some =
-            by_fence (jobs_before_read (buffer_in (state_of script journal).core b)) m x y a u some
-            (subst (λ q. CoveredAt (state_of script journal).core.jobs (if q then jobs_before_read (buffer_in (state_of script journal).core b) else jobs_before_write (buffer_in (state_of script journal).core b)) m) h (covering b k is))
+            by_fence (jobs_before_read (buffer_in c b)) m x y a u some
+            (subst (λ q. CoveredAt c.jobs (if q then jobs_before_read (buffer_in c b) else jobs_before_write (buffer_in c b)) m) h (covering b k is))
 
-        by : NewPage (state_of script journal).core (state_of script (journal ++ e ∷ [])).core y p → CoveredAt (state_of script journal).core.jobs y.waits m
+        by : NewPage c d y p → CoveredAt c.jobs y.waits m
         by (stands b k is (inl all)) = of_all b k is all
         by (stands b k is (inr some)) = ⊎_elim (λ h. absurd (some.0 h)) (λ h. of_changes b k is h some.1) w
         by (arrives b k q is target now all) =
-            by_fence (jobs_before_write (buffer_in (state_of script journal).core b)) m x y a u all
+            by_fence (jobs_before_write (buffer_in c b)) m x y a u all
             (any_use b true m
-            (at_covered script fits journal l (jobs_before_read (buffer_in (state_of script journal).core b)) m x a
-            (targets_covered script fits journal l x b q (has_of x (state_of script journal).core.jobs m a) u target (subst (λ z. touches (state_of script journal).core z x ≡ true) is t)).0))
-        by (kept f is none) = absurd (clash (touches (state_of script journal).core p x) t (none x (has_of x (state_of script journal).core.jobs m a) u))
+            (at_covered script fits journal l (jobs_before_read (buffer_in c b)) m x a
+            (targets_covered script fits journal l x b q (has_of x c.jobs m a) u target (subst (λ z. touches c z x ≡ true) is t)).0))
+        by (kept f is none) = clash t (none x (has_of x c.jobs m a) u)
 
     -- ---- one entry more
 
-    waits_more : AllWait (state_of script journal).core → AllWait (state_of script (journal ++ e ∷ [])).core
+    waits_more : AllWait c → AllWait d
     waits_more old m k i j page less a b ui uj h = by (old_or_new script fits journal e l n m i a) (old_or_new script fits journal e l n k j b)
       where
-        both_old : (x z : Job) → slice_get (state_of script journal).core.jobs m ≡ Some x → slice_get (state_of script journal).core.jobs k ≡ Some z → WaitsAt (state_of script (journal ++ e ∷ [])).core.jobs k m
+        both_old : (x z : Job) → slice_get c.jobs m ≡ Some x → slice_get c.jobs k ≡ Some z → WaitsAt d.jobs k m
         both_old x z ax az =
-            let c : Core = (state_of script journal).core in
-            let d : Core = (state_of script (journal ++ e ∷ [])).core in
             let gi = goes_on script fits journal e l n m x i ax a ui in
             let gj = goes_on script fits journal e l n k z j az b uj in
             let before : conflict c page x z ≡ true =
@@ -131,19 +128,17 @@ module _ (script : Script) (fits : IsTrue (is_script script)) where
             let w = and_parts (writes_to d page i) (touches d page j) q in
             or_second (touches c page x && writes_to c page z) (writes_to c page x && touches c page z) (ap₂ ◌&&◌ (written_before c d x i gi.1 page w.0) (touched_before c d z j gj.1 page w.1)))
             (or_cases (touches d page i && writes_to d page j) (writes_to d page i && touches d page j) h) in
-            waits_go (state_of script journal).core.jobs (state_of script (journal ++ e ∷ [])).core.jobs k m (one_step script fits journal e l n).goes (old m k x z page less ax az gi.0 gj.0 before)
+            waits_go c.jobs d.jobs k m (one_step script fits journal e l n).goes (old m k x z page less ax az gi.0 gj.0 before)
 
-        new_later : (x : Job) → slice_get (state_of script journal).core.jobs m ≡ Some x → k ≡ length (state_of script journal).core.jobs → WaitsAt (state_of script (journal ++ e ∷ [])).core.jobs k m
+        new_later : (x : Job) → slice_get c.jobs m ≡ Some x → k ≡ length c.jobs → WaitsAt d.jobs k m
         new_later x ax is =
-            let c : Core = (state_of script journal).core in
-            let d : Core = (state_of script (journal ++ e ∷ [])).core in
             let gi = goes_on script fits journal e l n m x i ax a ui in
             let t = both_touch d i j page h in
-            let w = new_waits m x j page ax gi.0 (subst (λ at. slice_get (state_of script (journal ++ e ∷ [])).core.jobs at ≡ Some j) is b) (touched_before c d x i gi.1 page t.0) t.1
+            let w = new_waits m x j page ax gi.0 (subst (λ at. slice_get d.jobs at ≡ Some j) is b) (touched_before c d x i gi.1 page t.0) t.1
             (⊎_elim (λ q. inl q) (λ q. inr (written_before c d x i gi.1 page q)) t.2) in
-            (j, b, covered_goes (state_of script journal).core.jobs (state_of script (journal ++ e ∷ [])).core.jobs j.waits j.waits m (one_step script fits journal e l n).goes (λ q z. z) w)
+            (j, b, covered_goes c.jobs d.jobs j.waits j.waits m (one_step script fits journal e l n).goes (λ q z. z) w)
 
-        by : WasThere script (state_of script journal) m i → WasThere script (state_of script journal) k j → WaitsAt (state_of script (journal ++ e ∷ [])).core.jobs k m
+        by : WasThere script (state_of script journal) m i → WasThere script (state_of script journal) k j → WaitsAt d.jobs k m
         by (inl p) (inl q) = both_old p.0 q.0 p.1 q.1
         by (inl p) (inr q) = new_later p.0 p.1 q.0
         by (inr p) q = absurd (no_later script fits journal e l n m p.0 k j b less)
@@ -167,7 +162,7 @@ module _ (script : Script) (fits : IsTrue (is_script script)) where
       (λ f.
       let v = viewed script fits journal l in
       let none : v.view.left m ≡ [] = v.good.ends m (v.seen.done m x a ∙ f) in
-      absurd (clash (touched (v.view.left m) (seen p)) (touched_at script fits journal l m x p a t) (ap (λ xs. touched xs (seen p)) none)))
+      clash (touched_at script fits journal l m x p a t) (ap (λ xs. touched xs (seen p)) none))
       (λ f. f)
       (bool_cases x.finished)
 

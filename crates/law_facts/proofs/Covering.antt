@@ -1,5 +1,5 @@
 -- Which of some jobs covers one, by their places among the jobs, from state to state.
-use Rattle.std.proofs.Common.{◌≡◌, ℕ, ◌<◌, Bool, true, false, List, Some, IsTrue, sym, subst, ◌∙◌, ap, ◌⊎◌, inl, inr, ⊎_elim}
+use Rattle.std.proofs.Common.{◌≡◌, ℕ, ◌<◌, true, false, List, Some, IsTrue, sym, subst, ◌∙◌, ap, ◌⊎◌, inl, inr, ⊎_elim}
 use Rattle.std.specs.Prelude.{Contains, slice_get}
 use Rattle.std.specs.List.{list_any}
 use Rattle.ttm_base.specs.declared.JobId.{JobId}
@@ -12,7 +12,7 @@ use Rattle.journal_model.specs.After.{ComesAfter, by_context, by_wait, through}
 use Rattle.journal_model.specs.Legal.{state_of, IsLegal}
 use Rattle.law_facts.specs.Facts.{IsCovered, WaitsFor}
 use Rattle.laws.proofs.law_state.GoodStates.{good_law}
-use Rattle.laws.proofs.lemma_bytes_model.Actions.{bool_cases}
+use Rattle.laws.proofs.lemma_bytes_model.Actions.{clash, bool_cases}
 use Rattle.laws.proofs.lemma_bytes_view.Jobs.{same_job-refl}
 use Rattle.law_facts.proofs.Jobs.{at_of, has_of, GoOn}
 use Rattle.law_facts.proofs.Order.{done_after}
@@ -52,50 +52,46 @@ module _ (script : Script) (fits : IsTrue (is_script script)) (journal : List En
   jobs = (state_of script journal).core.jobs
 
   -- a job has one place
-  place_of_job : (a b : ℕ) (x : Job) → slice_get (state_of script journal).core.jobs a ≡ Some x → slice_get (state_of script journal).core.jobs b ≡ Some x → a ≡ b
+  place_of_job : (a b : ℕ) (x : Job) → slice_get jobs a ≡ Some x → slice_get jobs b ≡ Some x → a ≡ b
   place_of_job a b x e f = (good_law script fits journal legal).jobs.names a b x x e f (same_job-refl x.id)
 
   -- from jobs to their places
-  after_at : (m n : ℕ) (x y : Job) → slice_get (state_of script journal).core.jobs m ≡ Some x → slice_get (state_of script journal).core.jobs n ≡ Some y → ComesAfter (state_of script journal).core.jobs x y → AfterAt (state_of script journal).core.jobs m n
+  after_at : (m n : ℕ) (x y : Job) → slice_get jobs m ≡ Some x → slice_get jobs n ≡ Some y → ComesAfter jobs x y → AfterAt jobs m n
   after_at m n x y a b (by_context cx cy e l) = in_context x y a b e l
   after_at m n x y a b (by_wait cx cy w) = waiting x y a b w
   after_at m n x y a b (through {k} p q) = let c = middle x k p in over (after_at m c.0 x k a c.1 p) (after_at c.0 n k y c.1 b q)
     where
-      last : (x k : Job) → ComesAfter (state_of script journal).core.jobs x k → Contains (state_of script journal).core.jobs k
+      last : (x k : Job) → ComesAfter jobs x k → Contains jobs k
       last x k (by_context cx ck e l) = ck
       last x k (by_wait cx ck w) = ck
       last x k (through {k = z} p q) = last z k q
 
-      middle : (x k : Job) → ComesAfter (state_of script journal).core.jobs x k → (i : ℕ) × (slice_get (state_of script journal).core.jobs i ≡ Some k)
-      middle x k p = at_of k (state_of script journal).core.jobs (last x k p)
-
-  clash : (a : Bool) → a ≡ true → a ≡ false → ⊥
-  clash true e f = cc
-  clash false e f = cc
+      middle : (x k : Job) → ComesAfter jobs x k → (i : ℕ) × (slice_get jobs i ≡ Some k)
+      middle x k p = at_of k jobs (last x k p)
 
   -- what covers an unfinished job is unfinished
-  pub unfinished_too : (m n : ℕ) (x y : Job) → slice_get (state_of script journal).core.jobs m ≡ Some x → slice_get (state_of script journal).core.jobs n ≡ Some y → (m ≡ n) ⊎ AfterAt (state_of script journal).core.jobs m n → y.finished ≡ false → x.finished ≡ false
-  unfinished_too m n x y a b r f = ⊎_elim (λ t. absurd (clash y.finished (ends r t) f)) (λ t. t) (bool_cases x.finished)
+  pub unfinished_too : (m n : ℕ) (x y : Job) → slice_get jobs m ≡ Some x → slice_get jobs n ≡ Some y → (m ≡ n) ⊎ AfterAt jobs m n → y.finished ≡ false → x.finished ≡ false
+  unfinished_too m n x y a b r f = ⊎_elim (λ t. clash (ends r t) f) (λ t. t) (bool_cases x.finished)
     where
-      ends : (m ≡ n) ⊎ AfterAt (state_of script journal).core.jobs m n → x.finished ≡ true → y.finished ≡ true
-      ends (inl e) t = let two : Some x ≡ Some y = sym a ∙ ap (slice_get (state_of script journal).core.jobs) e ∙ b in let is : x ≡ y = cc in ap (λ (z : Job). z.finished) (sym is) ∙ t
-      ends (inr e) t = done_after script fits journal legal x y (after_jobs (state_of script journal).core.jobs m n x y a b e) t
+      ends : (m ≡ n) ⊎ AfterAt jobs m n → x.finished ≡ true → y.finished ≡ true
+      ends (inl e) t = let two : Some x ≡ Some y = sym a ∙ ap (slice_get jobs) e ∙ b in let is : x ≡ y = cc in ap (λ (z : Job). z.finished) (sym is) ∙ t
+      ends (inr e) t = done_after script fits journal legal x y (after_jobs jobs m n x y a b e) t
 
-  pub covered_of : (ids : List JobId) (n : ℕ) (y : Job) → slice_get (state_of script journal).core.jobs n ≡ Some y → y.finished ≡ false → CoveredAt (state_of script journal).core.jobs ids n → IsCovered (state_of script journal).core.jobs ids y
+  pub covered_of : (ids : List JobId) (n : ℕ) (y : Job) → slice_get jobs n ≡ Some y → y.finished ≡ false → CoveredAt jobs ids n → IsCovered jobs ids y
   covered_of ids n y b f h = record {
     job = h.job;
-    there = has_of h.job (state_of script journal).core.jobs h.at h.here;
+    there = has_of h.job jobs h.at h.here;
     among = h.among;
     unfinished = unfinished_too h.at n h.job y h.here b h.after f;
     after = ⊎_elim
-        (λ e. let two : Some h.job ≡ Some y = sym h.here ∙ ap (slice_get (state_of script journal).core.jobs) e ∙ b in let is : h.job ≡ y = cc in inl is)
-        (λ e. inr (after_jobs (state_of script journal).core.jobs h.at n h.job y h.here b e))
+        (λ e. let two : Some h.job ≡ Some y = sym h.here ∙ ap (slice_get jobs) e ∙ b in let is : h.job ≡ y = cc in inl is)
+        (λ e. inr (after_jobs jobs h.at n h.job y h.here b e))
         h.after;
   }
 
-  pub at_covered : (ids : List JobId) (n : ℕ) (y : Job) → slice_get (state_of script journal).core.jobs n ≡ Some y → IsCovered (state_of script journal).core.jobs ids y → CoveredAt (state_of script journal).core.jobs ids n
+  pub at_covered : (ids : List JobId) (n : ℕ) (y : Job) → slice_get jobs n ≡ Some y → IsCovered jobs ids y → CoveredAt jobs ids n
   at_covered ids n y b h =
-      let a = at_of h.job (state_of script journal).core.jobs h.there in
+      let a = at_of h.job jobs h.there in
       record {
         at = a.0;
         job = h.job;
@@ -107,25 +103,25 @@ module _ (script : Script) (fits : IsTrue (is_script script)) (journal : List En
             h.after;
       }
 
-  pub waits_of : (m n : ℕ) (i j : Job) → slice_get (state_of script journal).core.jobs m ≡ Some i → slice_get (state_of script journal).core.jobs n ≡ Some j → WaitsAt (state_of script journal).core.jobs n m → WaitsFor (state_of script journal).core.jobs j i
+  pub waits_of : (m n : ℕ) (i j : Job) → slice_get jobs m ≡ Some i → slice_get jobs n ≡ Some j → WaitsAt jobs n m → WaitsFor jobs j i
   waits_of m n i j a b h =
       let two : Some h.0 ≡ Some j = sym h.1 ∙ b in
       let is : h.0 ≡ j = cc in
       let w = h.2 in
       record {
         job = w.job;
-        there = has_of w.job (state_of script journal).core.jobs w.at w.here;
+        there = has_of w.job jobs w.at w.here;
         waits = subst (λ (z : Job). list_any (same_job w.job.id) z.waits ≡ true) is w.among;
         after = ⊎_elim
-            (λ e. let both : Some w.job ≡ Some i = sym w.here ∙ ap (slice_get (state_of script journal).core.jobs) e ∙ a in let same : w.job ≡ i = cc in inl same)
-            (λ e. inr (after_jobs (state_of script journal).core.jobs w.at m w.job i w.here a e))
+            (λ e. let both : Some w.job ≡ Some i = sym w.here ∙ ap (slice_get jobs) e ∙ a in let same : w.job ≡ i = cc in inl same)
+            (λ e. inr (after_jobs jobs w.at m w.job i w.here a e))
             w.after;
       }
 
   -- the last job is covered by itself alone
-  pub covers_itself : (ids : List JobId) (n : ℕ) (y : Job) → slice_get (state_of script journal).core.jobs n ≡ Some y → ((m : ℕ) (x : Job) → slice_get (state_of script journal).core.jobs m ≡ Some x → n < m → ⊥) → CoveredAt (state_of script journal).core.jobs ids n → list_any (same_job y.id) ids ≡ true
+  pub covers_itself : (ids : List JobId) (n : ℕ) (y : Job) → slice_get jobs n ≡ Some y → ((m : ℕ) (x : Job) → slice_get jobs m ≡ Some x → n < m → ⊥) → CoveredAt jobs ids n → list_any (same_job y.id) ids ≡ true
   covers_itself ids n y b last h =
       ⊎_elim
-      (λ e. let two : Some h.job ≡ Some y = sym h.here ∙ ap (slice_get (state_of script journal).core.jobs) e ∙ b in let is : h.job ≡ y = cc in subst (λ (z : Job). list_any (same_job z.id) ids ≡ true) is h.among)
+      (λ e. let two : Some h.job ≡ Some y = sym h.here ∙ ap (slice_get jobs) e ∙ b in let is : h.job ≡ y = cc in subst (λ (z : Job). list_any (same_job z.id) ids ≡ true) is h.among)
       (λ e. absurd (last h.at h.job h.here (after_back script journal fits legal h.at n e)))
       h.after

@@ -15,7 +15,6 @@ use Rattle.ttm_base.specs.Pages as pages
 use Rattle.ttm_base.specs.Packets.{packet_touches}
 use Rattle.journal_model.specs.declared.script.Script.{Script}
 use Rattle.journal_model.specs.declared.state.Core.{Core}
-use Rattle.journal_model.specs.declared.state.Buffer.{Buffer}
 use Rattle.journal_model.specs.declared.state.Job.{Job}
 use Rattle.journal_model.specs.State.{buffer_in, live_in, changed, new_buffer, target_spans, has_target}
 use Rattle.journal_model.specs.Places.{pages_of, page_in_vram, page_at, place_of, frames_of, packet_place, name_in_spans, aperture}
@@ -87,9 +86,6 @@ copies_touch a p to from (suc n) start h =
 module _ (script : Script) (c d : Core) (b : BufId) (mem : Mem) (job : JobId) (held : AreHeldOnce script c) (once : AreHeldOnce script d)
     (there : live_in c.buffers b ≡ Some (buffer_in c b)) (sh : Shapely (buffer_in c b)) (out : (buffer_in c b).mem ≡ System → ⊥)
     (maps : (p q : ℕ) → Maps c p q → Maps d p q) (is : d.buffers ≡ changed (moved mem job) c.buffers b) where
-  abbrev x : Buffer
-  x = buffer_in c b
-
   moved_there : live_in d.buffers b ≡ Some (moved mem job (buffer_in c b))
   moved_there = ap (λ xs. live_in xs b) is ∙ changed_here (moved mem job) c.buffers b (buffer_in c b) there
 

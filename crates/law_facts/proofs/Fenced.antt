@@ -26,6 +26,7 @@ use Rattle.laws.proofs.law_state.Lists.{get_within}
 use Rattle.laws.proofs.law_owners.Law.{once_law}
 use Rattle.laws.proofs.law_owners.Weights.{vram_pages, times-held}
 use Rattle.laws.proofs.law_owners.Taken.{free_stands_none}
+use Rattle.laws.proofs.lemma_bytes_model.Actions.{clash}
 use Rattle.laws.proofs.lemma_bytes_view.World.{bare}
 use Rattle.laws.proofs.lemma_bytes_view.Binds.{among_all}
 use Rattle.laws.proofs.lemma_bytes_view.MoreJobs.{among_unfinished}
@@ -43,10 +44,6 @@ use Rattle.law_facts.proofs.Steps.{spare_law, buffer_steps, goes_on}
 use Rattle.law_facts.proofs.Emits as emits
 use Rattle.law_facts.proofs.Emits.{NewPage}
 use Rattle.law_facts.proofs.NewJobs.{new_page}
-
-clash : (a : Bool) → a ≡ true → a ≡ false → ⊥
-clash true e f = cc
-clash false e f = cc
 
 -- a new buffer has no place and no target
 no_place : (n k : ℕ) → page_at (new_buffer n) k ≡ pages.nowhere
@@ -79,16 +76,16 @@ module _ (script : Script) (fits : IsTrue (is_script script)) where
     pub more : IsLegal script (journal ++ e ∷ [])
     more = legal_push script (first_world script) journal e l n
 
-    pub no_later : (at : ℕ) → at ≡ length (state_of script journal).core.jobs → (m : ℕ) (x : Job) → slice_get (state_of script (journal ++ e ∷ [])).core.jobs m ≡ Some x → at < m → ⊥
+    pub no_later : (at : ℕ) → at ≡ length c.jobs → (m : ℕ) (x : Job) → slice_get d.jobs m ≡ Some x → at < m → ⊥
     no_later at is m x a less =
         ⊎_elim
-        (λ r. let w = get_within (state_of script journal).core.jobs m r.0 r.1 in absurd (omega (arith, is, less, w)))
+        (λ r. let w = get_within c.jobs m r.0 r.1 in absurd (omega (arith, is, less, w)))
         (λ r. let w = r.0 in absurd (omega (arith, is, less, w)))
         (old_or_new script fits journal e l n m x a)
 
     -- it touches no target in VRAM
-    pub spares_targets : (y : Job) → slice_get (state_of script (journal ++ e ∷ [])).core.jobs (length (state_of script journal).core.jobs) ≡ Some y → (b : BufId) (q : ℕ) →
-        has_number (pages_of (target_spans Vram (buffer_in (state_of script (journal ++ e ∷ [])).core b))) q ≡ true → touches (state_of script (journal ++ e ∷ [])).core (pages.vram q) y ≡ true → ⊥
+    pub spares_targets : (y : Job) → slice_get d.jobs (length c.jobs) ≡ Some y → (b : BufId) (q : ℕ) →
+        has_number (pages_of (target_spans Vram (buffer_in d b))) q ≡ true → touches d (pages.vram q) y ≡ true → ⊥
     spares_targets y at b q h t = by (new_page script fits journal e l n y at (pages.vram q) t) (buffer_steps script fits journal e l n b)
       where
         -- a page isn't a place and of a target at once
@@ -101,69 +98,69 @@ module _ (script : Script) (fits : IsTrue (is_script script)) where
             never a b k r.0 (once script fits journal l (memory.Vram q) (Live a.0 k) (Target b.0 r.0) (λ z. cc) (ap seen p) (ap (λ o. seen (page_in_vram o)) r.1))
 
         -- nor a place and free
-        unheld : (a : BufId) (k : ℕ) → place_of (state_of script journal).core a k ≡ pages.vram q → is_free_page Vram (state_of script journal).core q ≡ true → ⊥
+        unheld : (a : BufId) (k : ℕ) → place_of c a k ≡ pages.vram q → is_free_page Vram c q ≡ true → ⊥
         unheld a k p f =
-            none_holds script (bare (state_of script journal).core) (once_law script journal fits l) (memory.Vram q) (sym (times-held vram_pages q (state_of script journal).core) ∙ free_stands_none Vram (state_of script journal).core q f) (λ z. cc)
+            none_holds script (bare c) (once_law script journal fits l) (memory.Vram q) (sym (times-held vram_pages q c) ∙ free_stands_none Vram c q f) (λ z. cc)
             (Live a.0 k) (ap seen p)
 
-        by : NewPage (state_of script journal).core (state_of script (journal ++ e ∷ [])).core y (pages.vram q) → BufferStep (state_of script journal).core (buffer_in (state_of script journal).core b) (buffer_in (state_of script (journal ++ e ∷ [])).core b) → ⊥
-        by page (fresh m z) = no_target (buffer_in (state_of script (journal ++ e ∷ [])).core b) m q z h
+        by : NewPage c d y (pages.vram q) → BufferStep c (buffer_in c b) (buffer_in d b) → ⊥
+        by page (fresh m z) = no_target (buffer_in d b) m q z h
         by (emits.arrives a k r same_q target place waits) (grown g) = apart (journal ++ e ∷ []) (legal_push script (first_world script) journal e l n) a b k place h
         by (emits.kept f is none) (grown g) = cc
         by (emits.stands a k place waits) (grown g) = was (g.target q h)
           where
-            was : TargetFrom (state_of script journal).core (buffer_in (state_of script journal).core b) (buffer_in (state_of script (journal ++ e ∷ [])).core b) q → ⊥
+            was : TargetFrom c (buffer_in c b) (buffer_in d b) q → ⊥
             was (same z) = apart journal l a b k place z
             was (free z kernel) = unheld a k place z
 
     -- ---- one entry more
 
-    module _ (old : Fenced (state_of script journal).core) where
-      keeps_target : (m : ℕ) (x y : Job) (b : BufId) (q : ℕ) → slice_get (state_of script journal).core.jobs m ≡ Some x → x.finished ≡ false → slice_get (state_of script (journal ++ e ∷ [])).core.jobs m ≡ Some y →
-          touches (state_of script journal).core (pages.vram q) x ≡ true → has_number (pages_of (target_spans Vram (buffer_in (state_of script (journal ++ e ∷ [])).core b))) q ≡ true →
-          CoveredAt (state_of script (journal ++ e ∷ [])).core.jobs (kernel_jobs (buffer_in (state_of script (journal ++ e ∷ [])).core b)) m
+    module _ (old : Fenced c) where
+      keeps_target : (m : ℕ) (x y : Job) (b : BufId) (q : ℕ) → slice_get c.jobs m ≡ Some x → x.finished ≡ false → slice_get d.jobs m ≡ Some y →
+          touches c (pages.vram q) x ≡ true → has_number (pages_of (target_spans Vram (buffer_in d b))) q ≡ true →
+          CoveredAt d.jobs (kernel_jobs (buffer_in d b)) m
       keeps_target m x y b q a u b' t h = by (buffer_steps script fits journal e l n b)
         where
-          go : CoveredAt (state_of script journal).core.jobs (kernel_jobs (buffer_in (state_of script journal).core b)) m → Grown (state_of script journal).core (buffer_in (state_of script journal).core b) (buffer_in (state_of script (journal ++ e ∷ [])).core b) →
-              CoveredAt (state_of script (journal ++ e ∷ [])).core.jobs (kernel_jobs (buffer_in (state_of script (journal ++ e ∷ [])).core b)) m
+          go : CoveredAt c.jobs (kernel_jobs (buffer_in c b)) m → Grown c (buffer_in c b) (buffer_in d b) →
+              CoveredAt d.jobs (kernel_jobs (buffer_in d b)) m
           go w g =
-              covered_goes (state_of script journal).core.jobs (state_of script (journal ++ e ∷ [])).core.jobs (kernel_jobs (buffer_in (state_of script journal).core b)) (kernel_jobs (buffer_in (state_of script (journal ++ e ∷ [])).core b)) m
-              (one_step script fits journal e l n).goes (kernels_stay (buffer_in (state_of script journal).core b) (buffer_in (state_of script (journal ++ e ∷ [])).core b) g.fences) w
+              covered_goes c.jobs d.jobs (kernel_jobs (buffer_in c b)) (kernel_jobs (buffer_in d b)) m
+              (one_step script fits journal e l n).goes (kernels_stay (buffer_in c b) (buffer_in d b) g.fences) w
 
-          by_mover : is_free_page Vram (state_of script journal).core q ≡ true →
-              ((i : JobId) → list_any (same_job i) (unfinished (state_of script journal).core (option_to_list (state_of script journal).core.move_fence)) ≡ true → list_any (same_job i) (kernel_jobs (buffer_in (state_of script (journal ++ e ∷ [])).core b)) ≡ true) →
-              CoveredAt (state_of script (journal ++ e ∷ [])).core.jobs (kernel_jobs (buffer_in (state_of script (journal ++ e ∷ [])).core b)) m
+          by_mover : is_free_page Vram c q ≡ true →
+              ((i : JobId) → list_any (same_job i) (unfinished c (option_to_list c.move_fence)) ≡ true → list_any (same_job i) (kernel_jobs (buffer_in d b)) ≡ true) →
+              CoveredAt d.jobs (kernel_jobs (buffer_in d b)) m
           by_mover f kernel =
-              let ids : List JobId = option_to_list (state_of script journal).core.move_fence in
-              let w = at_covered script fits journal l ids m x a ((free_fenced script fits journal l).pages x q (has_of x (state_of script journal).core.jobs m a) u f t) in
+              let ids : List JobId = option_to_list c.move_fence in
+              let w = at_covered script fits journal l ids m x a ((free_fenced script fits journal l).pages x q (has_of x c.jobs m a) u f t) in
               let un = unfinished_too script fits journal l w.at m w.job x w.here a w.after u in
-              covered_goes (state_of script journal).core.jobs (state_of script (journal ++ e ∷ [])).core.jobs (unfinished (state_of script journal).core ids) (kernel_jobs (buffer_in (state_of script (journal ++ e ∷ [])).core b)) m
+              covered_goes c.jobs d.jobs (unfinished c ids) (kernel_jobs (buffer_in d b)) m
               (one_step script fits journal e l n).goes kernel
-              (record { at = w.at; job = w.job; here = w.here; among = among_unfinished (state_of script journal).core ids w.at w.job w.here un w.among; after = w.after })
+              (record { at = w.at; job = w.job; here = w.here; among = among_unfinished c ids w.at w.job w.here un w.among; after = w.after })
 
-          was : Grown (state_of script journal).core (buffer_in (state_of script journal).core b) (buffer_in (state_of script (journal ++ e ∷ [])).core b) →
-              TargetFrom (state_of script journal).core (buffer_in (state_of script journal).core b) (buffer_in (state_of script (journal ++ e ∷ [])).core b) q →
-              CoveredAt (state_of script (journal ++ e ∷ [])).core.jobs (kernel_jobs (buffer_in (state_of script (journal ++ e ∷ [])).core b)) m
+          was : Grown c (buffer_in c b) (buffer_in d b) →
+              TargetFrom c (buffer_in c b) (buffer_in d b) q →
+              CoveredAt d.jobs (kernel_jobs (buffer_in d b)) m
           was g (same z) = go (old.targets m x b q a u z t) g
           was g (free z kernel) = by_mover z kernel
 
-          by : BufferStep (state_of script journal).core (buffer_in (state_of script journal).core b) (buffer_in (state_of script (journal ++ e ∷ [])).core b) →
-              CoveredAt (state_of script (journal ++ e ∷ [])).core.jobs (kernel_jobs (buffer_in (state_of script (journal ++ e ∷ [])).core b)) m
-          by (fresh i z) = absurd (no_target (buffer_in (state_of script (journal ++ e ∷ [])).core b) i q z h)
+          by : BufferStep c (buffer_in c b) (buffer_in d b) →
+              CoveredAt d.jobs (kernel_jobs (buffer_in d b)) m
+          by (fresh i z) = absurd (no_target (buffer_in d b) i q z h)
           by (grown g) = was g (g.target q h)
 
       abbrev InPlace : ℕ → Job → BufId → ℕ → Type 0
       InPlace m y b k =
-          (is_job_of (buffer_in (state_of script (journal ++ e ∷ [])).core b) (writes_to (state_of script (journal ++ e ∷ [])).core (place_of (state_of script (journal ++ e ∷ [])).core b k) y) y ≡ true)
-          ⊎ CoveredAt (state_of script (journal ++ e ∷ [])).core.jobs (kernel_jobs (buffer_in (state_of script (journal ++ e ∷ [])).core b)) m
+          (is_job_of (buffer_in d b) (writes_to d (place_of d b k) y) y ≡ true)
+          ⊎ CoveredAt d.jobs (kernel_jobs (buffer_in d b)) m
 
       -- the new job is one of the buffer
-      its_own : (m : ℕ) (y : Job) (b : BufId) (k : ℕ) → slice_get (state_of script (journal ++ e ∷ [])).core.jobs m ≡ Some y → y.finished ≡ false → touches (state_of script (journal ++ e ∷ [])).core (place_of (state_of script (journal ++ e ∷ [])).core b k) y ≡ true → m ≡ length (state_of script journal).core.jobs →
-          is_job_of (buffer_in (state_of script (journal ++ e ∷ [])).core b) (writes_to (state_of script (journal ++ e ∷ [])).core (place_of (state_of script (journal ++ e ∷ [])).core b k) y) y ≡ true
+      its_own : (m : ℕ) (y : Job) (b : BufId) (k : ℕ) → slice_get d.jobs m ≡ Some y → y.finished ≡ false → touches d (place_of d b k) y ≡ true → m ≡ length c.jobs →
+          is_job_of (buffer_in d b) (writes_to d (place_of d b k) y) y ≡ true
       its_own m y b k at u t is =
           let ids : List JobId =
-          (if writes_to (state_of script (journal ++ e ∷ [])).core (place_of (state_of script (journal ++ e ∷ [])).core b k) y then jobs_before_read (buffer_in (state_of script (journal ++ e ∷ [])).core b) else jobs_before_write (buffer_in (state_of script (journal ++ e ∷ [])).core b)) in
-          let w = places_covered script fits (journal ++ e ∷ []) more y b k (has_of y (state_of script (journal ++ e ∷ [])).core.jobs m at) u t in
+          (if writes_to d (place_of d b k) y then jobs_before_read (buffer_in d b) else jobs_before_write (buffer_in d b)) in
+          let w = places_covered script fits (journal ++ e ∷ []) more y b k (has_of y d.jobs m at) u t in
           covers_itself script fits (journal ++ e ∷ []) more ids m y at (no_later m is) (at_covered script fits (journal ++ e ∷ []) more ids m y at w)
 
       -- a job that writes less is one of the buffer still
@@ -173,58 +170,58 @@ module _ (script : Script) (fits : IsTrue (is_script script)) where
       milder x false true i so h = let z : false ≡ true = so refl in cc
       milder x false false i so h = h
 
-      keeps_place : (m : ℕ) (x y : Job) (b : BufId) (k : ℕ) → slice_get (state_of script journal).core.jobs m ≡ Some x → x.finished ≡ false → slice_get (state_of script (journal ++ e ∷ [])).core.jobs m ≡ Some y →
-          GoesOn (state_of script journal).core (state_of script (journal ++ e ∷ [])).core x y → touches (state_of script journal).core (place_of (state_of script (journal ++ e ∷ [])).core b k) x ≡ true → InPlace m y b k
+      keeps_place : (m : ℕ) (x y : Job) (b : BufId) (k : ℕ) → slice_get c.jobs m ≡ Some x → x.finished ≡ false → slice_get d.jobs m ≡ Some y →
+          GoesOn c d x y → touches c (place_of d b k) x ≡ true → InPlace m y b k
       keeps_place m x y b k a u at go t = by (buffer_steps script fits journal e l n b)
         where
-          on : Grown (state_of script journal).core (buffer_in (state_of script journal).core b) (buffer_in (state_of script (journal ++ e ∷ [])).core b) →
-              CoveredAt (state_of script journal).core.jobs (kernel_jobs (buffer_in (state_of script journal).core b)) m → InPlace m y b k
+          on : Grown c (buffer_in c b) (buffer_in d b) →
+              CoveredAt c.jobs (kernel_jobs (buffer_in c b)) m → InPlace m y b k
           on g w =
               inr
-              (covered_goes (state_of script journal).core.jobs (state_of script (journal ++ e ∷ [])).core.jobs (kernel_jobs (buffer_in (state_of script journal).core b)) (kernel_jobs (buffer_in (state_of script (journal ++ e ∷ [])).core b)) m
-              (one_step script fits journal e l n).goes (kernels_stay (buffer_in (state_of script journal).core b) (buffer_in (state_of script (journal ++ e ∷ [])).core b) g.fences) w)
+              (covered_goes c.jobs d.jobs (kernel_jobs (buffer_in c b)) (kernel_jobs (buffer_in d b)) m
+              (one_step script fits journal e l n).goes (kernels_stay (buffer_in c b) (buffer_in d b) g.fences) w)
 
           named_so : y.id ≡ x.id
           named_so = let g = (one_step script fits journal e l n).goes m x a in let two : Some g.job ≡ Some y = sym g.at ∙ at in let is : g.job ≡ y = cc in ap (λ (z : Job). z.id) (sym is) ∙ g.id
 
-          direct : Grown (state_of script journal).core (buffer_in (state_of script journal).core b) (buffer_in (state_of script (journal ++ e ∷ [])).core b) → (p : pages.Page) → p ≡ place_of (state_of script (journal ++ e ∷ [])).core b k →
-              is_job_of (buffer_in (state_of script journal).core b) (writes_to (state_of script journal).core p x) x ≡ true → InPlace m y b k
+          direct : Grown c (buffer_in c b) (buffer_in d b) → (p : pages.Page) → p ≡ place_of d b k →
+              is_job_of (buffer_in c b) (writes_to c p x) x ≡ true → InPlace m y b k
           direct g p is h =
-              let v : Bool = writes_to (state_of script journal).core p x in
-              let w : Bool = writes_to (state_of script (journal ++ e ∷ [])).core (place_of (state_of script (journal ++ e ∷ [])).core b k) y in
-              let still : is_job_of (buffer_in (state_of script (journal ++ e ∷ [])).core b) (writes_to (state_of script journal).core p x) x ≡ true = job_stays (buffer_in (state_of script journal).core b) (buffer_in (state_of script (journal ++ e ∷ [])).core b) g.fences v x h in
-              let so : w ≡ true → v ≡ true = λ z. ap (λ q. writes_to (state_of script journal).core q x) is ∙ written_before (state_of script journal).core (state_of script (journal ++ e ∷ [])).core x y go (place_of (state_of script (journal ++ e ∷ [])).core b k) z in
-              let mild : is_job_of (buffer_in (state_of script (journal ++ e ∷ [])).core b) w x ≡ true = milder (buffer_in (state_of script (journal ++ e ∷ [])).core b) v w x so still in
-              inl (subst (λ i. list_any (same_job i) (if w then jobs_before_read (buffer_in (state_of script (journal ++ e ∷ [])).core b) else jobs_before_write (buffer_in (state_of script (journal ++ e ∷ [])).core b)) ≡ true) (sym named_so) mild)
+              let v : Bool = writes_to c p x in
+              let w : Bool = writes_to d (place_of d b k) y in
+              let still : is_job_of (buffer_in d b) (writes_to c p x) x ≡ true = job_stays (buffer_in c b) (buffer_in d b) g.fences v x h in
+              let so : w ≡ true → v ≡ true = λ z. ap (λ q. writes_to c q x) is ∙ written_before c d x y go (place_of d b k) z in
+              let mild : is_job_of (buffer_in d b) w x ≡ true = milder (buffer_in d b) v w x so still in
+              inl (subst (λ i. list_any (same_job i) (if w then jobs_before_read (buffer_in d b) else jobs_before_write (buffer_in d b)) ≡ true) (sym named_so) mild)
 
-          from : Grown (state_of script journal).core (buffer_in (state_of script journal).core b) (buffer_in (state_of script (journal ++ e ∷ [])).core b) →
-              PageFrom (state_of script journal).core (buffer_in (state_of script journal).core b) (place_of (state_of script (journal ++ e ∷ [])).core b k) → InPlace m y b k
+          from : Grown c (buffer_in c b) (buffer_in d b) →
+              PageFrom c (buffer_in c b) (place_of d b k) → InPlace m y b k
           from g (stays j z) =
-              ⊎_elim (λ h. direct g (place_of (state_of script journal).core b j) z h) (λ h. on g h)
-              (old.places m x b j a u (subst (λ p. touches (state_of script journal).core p x ≡ true) (sym z) t))
-          from g (enters q h z) = on g (old.targets m x b q a u h (subst (λ p. touches (state_of script journal).core p x ≡ true) z t))
-          from g (clear none) = absurd (clash (touches (state_of script journal).core (place_of (state_of script (journal ++ e ∷ [])).core b k) x) t (none x (has_of x (state_of script journal).core.jobs m a) u))
+              ⊎_elim (λ h. direct g (place_of c b j) z h) (λ h. on g h)
+              (old.places m x b j a u (subst (λ p. touches c p x ≡ true) (sym z) t))
+          from g (enters q h z) = on g (old.targets m x b q a u h (subst (λ p. touches c p x ≡ true) z t))
+          from g (clear none) = clash t (none x (has_of x c.jobs m a) u)
 
-          by : BufferStep (state_of script journal).core (buffer_in (state_of script journal).core b) (buffer_in (state_of script (journal ++ e ∷ [])).core b) → InPlace m y b k
+          by : BufferStep c (buffer_in c b) (buffer_in d b) → InPlace m y b k
           by (grown g) = from g (g.page k)
           by (fresh i z) =
-              let p : place_of (state_of script (journal ++ e ∷ [])).core b k ≡ pages.nowhere = ap (λ y. page_at y k) z ∙ no_place i k in
-              absurd (clash (touches (state_of script journal).core pages.nowhere x) (subst (λ p. touches (state_of script journal).core p x ≡ true) p t) ((spare_law script fits journal l).nowhere x (has_of x (state_of script journal).core.jobs m a) u))
+              let p : place_of d b k ≡ pages.nowhere = ap (λ y. page_at y k) z ∙ no_place i k in
+              clash (subst (λ p. touches c p x ≡ true) p t) ((spare_law script fits journal l).nowhere x (has_of x c.jobs m a) u)
 
-      pub fenced_more : Fenced (state_of script (journal ++ e ∷ [])).core
+      pub fenced_more : Fenced d
       fenced_more = record {
         targets = λ m y b q at u h t.
             ⊎_elim
             (λ r.
             let g = goes_on script fits journal e l n m r.0 y r.1 at u in
-            keeps_target m r.0 y b q r.1 g.0 at (touched_before (state_of script journal).core (state_of script (journal ++ e ∷ [])).core r.0 y g.1 (pages.vram q) t) h)
-            (λ r. absurd (spares_targets y (subst (λ i. slice_get (state_of script (journal ++ e ∷ [])).core.jobs i ≡ Some y) r.0 at) b q h t))
+            keeps_target m r.0 y b q r.1 g.0 at (touched_before c d r.0 y g.1 (pages.vram q) t) h)
+            (λ r. absurd (spares_targets y (subst (λ i. slice_get d.jobs i ≡ Some y) r.0 at) b q h t))
             (old_or_new script fits journal e l n m y at);
         places = λ m y b k at u t.
             ⊎_elim
             (λ r.
             let g = goes_on script fits journal e l n m r.0 y r.1 at u in
-            keeps_place m r.0 y b k r.1 g.0 at g.1 (touched_before (state_of script journal).core (state_of script (journal ++ e ∷ [])).core r.0 y g.1 (place_of (state_of script (journal ++ e ∷ [])).core b k) t))
+            keeps_place m r.0 y b k r.1 g.0 at g.1 (touched_before c d r.0 y g.1 (place_of d b k) t))
             (λ r. inl (its_own m y b k at u t r.0))
             (old_or_new script fits journal e l n m y at);
       }

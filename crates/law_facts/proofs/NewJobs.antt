@@ -63,6 +63,10 @@ use Rattle.law_facts.proofs.Arming.{arm_page}
 none_past : {X : Type 0} (xs : List X) (x : X) → slice_get xs (length xs) ≡ Some x → ⊥
 none_past xs x e = let l = get_within xs (length xs) x e in absurd (omega (arith, l))
 
+-- and at its last place the last
+last_is : (jobs : List Job) (new y : Job) → slice_get (jobs ++ new ∷ []) (length jobs) ≡ Some y → y ≡ new
+last_is jobs new y e = let two : Some y ≡ Some new = sym e ∙ get_last jobs new in cc
+
 -- the operations of a command of the script
 submitted : (script : Script) (engine : ℕ) (ops : List Op) → is_command script (command.Submit engine ops) ≡ true → list_all (is_op script) ops ≡ true
 submitted script engine ops h = parts (is_between 1 script.sizes.engines engine) (is_between 1 64 (length ops)) (list_all (is_op script) ops) (nat_le (length (named (command.Submit engine ops))) 16) h
@@ -101,46 +105,31 @@ module _ (script : Script) (rules : Rules script) (s : State) (t : ℕ) (owed_pr
   thread_page k (binds {b} there e t' f) once y at p h = absurd (none_past s.core.jobs y at)
   thread_page k (unbinds {b} there quiet e) once y at p h = absurd (none_past s.core.jobs y at)
   thread_page k (moves_up {b} there e t') once y at p h =
-      let is = by_end _ at in
+      let is = last_is s.core.jobs _ y at in
       up_page script s.core (applied script s (actor.Thread t) k).core b Vram (record { ctx = 0; num = next_job s 0 }) held once there (shapes b (buffer s b) there) (system_isnt Tt (buffer s b).mem e (λ z. cc))
       (λ i q w. maps_keep script s t shapes i q k (moves_up there e t') (λ z. cc) w) refl y (ap (λ (j : Job). j.packets) is) (ap (λ (j : Job). j.waits) is) refl t' p h
-    where
-      by_end : (new : Job) → slice_get (s.core.jobs ++ new ∷ []) (length s.core.jobs) ≡ Some y → y ≡ new
-      by_end new e = let two : Some y ≡ Some new = sym e ∙ get_last s.core.jobs new in cc
   thread_page k (moves_across {b} there e t') once y at p h =
-      let is = by_end _ at in
+      let is = last_is s.core.jobs _ y at in
       up_page script s.core (applied script s (actor.Thread t) k).core b Vram (record { ctx = 0; num = next_job s 0 }) held once there (shapes b (buffer s b) there) (system_isnt Vram (buffer s b).mem e (λ z. cc))
       (λ i q w. maps_keep script s t shapes i q k (moves_across there e t') (λ z. cc) w) refl y (ap (λ (j : Job). j.packets) is) (ap (λ (j : Job). j.waits) is) refl t' p h
-    where
-      by_end : (new : Job) → slice_get (s.core.jobs ++ new ∷ []) (length s.core.jobs) ≡ Some y → y ≡ new
-      by_end new e = let two : Some y ≡ Some new = sym e ∙ get_last s.core.jobs new in cc
   thread_page k (moves_down {b} there e t' f) once y at p h =
-      let is = by_end _ at in
+      let is = last_is s.core.jobs _ y at in
       down_page script s.core (applied script s (actor.Thread t) k).core b Tt (record { ctx = 0; num = next_job s 0 }) held once there (shapes b (buffer s b) there) (system_isnt Vram (buffer s b).mem e (λ z. cc))
       (λ i q w. maps_keep script s t shapes i q k (moves_down there e t' f) (λ z. cc) w) refl y (ap (λ (j : Job). j.packets) is) (ap (λ (j : Job). j.waits) is) refl e t' f (kept_clear b there e) p h
-    where
-      by_end : (new : Job) → slice_get (s.core.jobs ++ new ∷ []) (length s.core.jobs) ≡ Some y → y ≡ new
-      by_end new e = let two : Some y ≡ Some new = sym e ∙ get_last s.core.jobs new in cc
   thread_page k (evicts {b} there e t' f) once y at p h =
-      let is = by_end _ at in
+      let is = last_is s.core.jobs _ y at in
       down_page script s.core (applied script s (actor.Thread t) k).core b Tt (record { ctx = 0; num = next_job s 0 }) held once there (shapes b (buffer s b) there) (system_isnt Vram (buffer s b).mem e (λ z. cc))
       (λ i q w. maps_keep script s t shapes i q k (evicts there e t' f) (λ z. cc) w) refl y (ap (λ (j : Job). j.packets) is) (ap (λ (j : Job). j.waits) is) refl e t' f (kept_clear b there e) p h
-    where
-      by_end : (new : Job) → slice_get (s.core.jobs ++ new ∷ []) (length s.core.jobs) ≡ Some y → y ≡ new
-      by_end new e = let two : Some y ≡ Some new = sym e ∙ get_last s.core.jobs new in cc
   thread_page k (catches {b} {w}) once y at p h = absurd (none_past s.core.jobs y at)
   thread_page k (swaps_out {b} {k = slot} there e quiet f fr) once y at p h = absurd (none_past s.core.jobs y at)
   thread_page k (arms {engine} ops work live ready) once y at p h =
-      let is = by_end _ at in
+      let is = last_is s.core.jobs _ y at in
       arm_page script s.core owed_probes m bytes u ops (submitted script engine ops (at_work_rules script rules s t (command.Submit engine ops) work).command)
       (λ b e i l. ready_pages (command.Submit engine ops) refl b (live b e) (ready b e) i l)
       (applied script s (actor.Thread t) k).core
       (fold_aperture (record { ctx = engine; num = next_job s engine }) (ops_of (command_at_work script s t)) (named_in (command_at_work script s t)) s.core) y
       (ap (λ (j : Job). j.packets) is ∙ ap (λ o. packets_of (λ b. packet_place (buffer_in s.core b)) (ops_of o)) work)
       (ap (λ (j : Job). j.waits) is ∙ ap (λ o. flat_map (jobs_before_use s.core (ops_of o)) (named_in o)) work) p h
-    where
-      by_end : (new : Job) → slice_get (s.core.jobs ++ new ∷ []) (length s.core.jobs) ≡ Some y → y ≡ new
-      by_end new e = let two : Some y ≡ Some new = sym e ∙ get_last s.core.jobs new in cc
   thread_page k (reads b off len work none) once y at p h = absurd (none_past s.core.jobs y at)
   thread_page k (writes b off values work there ready quiet) once y at p h = absurd (none_past s.core.jobs y at)
   thread_page k (results cmd work w nr r) once y at p h = absurd (none_past s.core.jobs y at)

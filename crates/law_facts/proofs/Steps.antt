@@ -35,7 +35,6 @@ use Rattle.journal_model.specs.ApplyVictims.{leaves_tt}
 use Rattle.journal_model.specs.ApplyJobs.{ops_of}
 use Rattle.journal_model.specs.Legal.{World, first_world, world_of, state_of, IsLegalNext, IsLegal}
 use Rattle.law_facts.specs.Facts.{touches, FreePagesAreFenced}
-use Rattle.laws.specs.lemma_bytes_model.Memory.{Slot, touched}
 use Rattle.laws.specs.lemma_bytes_model.View.{Idle}
 use Rattle.laws.specs.lemma_bytes_told.Told.{Told, still, makes, frees, leaves, takes, untakes, populates, swaps_in, depopulates, binds, unbinds, moves_up, moves_across, moves_down, evicts, catches, swaps_out, arms, reads, writes, results}
 use Rattle.laws.proofs.law_state.Rules.{Rules, rules_of}
@@ -45,7 +44,7 @@ use Rattle.laws.proofs.law_sound.Along.{OfWorker, of_worker, packet, done, reap}
 use Rattle.laws.proofs.law_owners.Taken.{choice_is_clear, lowest_is_free}
 use Rattle.laws.proofs.law_owners.Counts.{times, stands, one}
 use Rattle.laws.proofs.law_holders.Positions.{times_at}
-use Rattle.laws.proofs.lemma_bytes_model.Actions.{bool_cases}
+use Rattle.laws.proofs.lemma_bytes_model.Actions.{clash, bool_cases}
 use Rattle.laws.proofs.lemma_bytes_view.Tables.{at_has, frame_listed}
 use Rattle.laws.proofs.lemma_bytes_told.Shapes.{still_core}
 use Rattle.laws.proofs.law_transparent.Law.{world_push}
@@ -55,10 +54,6 @@ use Rattle.law_facts.proofs.Apertures.{one_step, mapped_law}
 use Rattle.law_facts.proofs.Guards.{viewed, touched_at, free_fenced, untouched, guarded}
 use Rattle.law_facts.proofs.Lasting.{GoesOn}
 use Rattle.law_facts.proofs.Growth.{Clear, BufferStep, same_step, set_step, changed_step, either_step, uses_step, respanned_grown, caught_grown, bound_grown, unbound_grown, paged_grown, emptied_grown, up_grown, down_grown, taken_grown}
-
-clash : (a : Bool) → a ≡ true → a ≡ false → ⊥
-clash true e f = cc
-clash false e f = cc
 
 -- ---- what is free
 
@@ -155,7 +150,7 @@ module _ (script : Script) (fits : IsTrue (is_script script)) where
       no_nowhere n i e t = guarded script fits journal l n i pages.nowhere Idle e t refl
 
       no_slot : (n : ℕ) (i : Job) (k : ℕ) → slice_get (state_of script journal).core.jobs n ≡ Some i → touches (state_of script journal).core (pages.slot k) i ≡ true → ⊥
-      no_slot n i k e t = clash (touched ((viewed script fits journal l).view.left n) (Slot k)) (touched_at script fits journal l n i (pages.slot k) e t) ((viewed script fits journal l).good.slots n k)
+      no_slot n i k e t = clash (touched_at script fits journal l n i (pages.slot k) e t) ((viewed script fits journal l).good.slots n k)
 
   pub buffer_steps : (journal : List Entry) (e : Entry) → IsLegal script journal → IsLegalNext script (world_of script journal) e → (b : BufId) → BufferStep (state_of script journal).core (buffer_in (state_of script journal).core b) (buffer_in (state_of script (journal ++ e ∷ [])).core b)
   buffer_steps journal e l n b = subst (λ (z : State). BufferStep (state_of script journal).core (buffer_in (state_of script journal).core b) (buffer_in z.core b)) (sym is) (by e.who step.kind step.step)
