@@ -79,7 +79,7 @@ module _ (script : Script) (s : State) where
   worker_goes who k (done {n}) = go_done _ s.core.jobs
   worker_goes who k (reap {g}) = go_same s.core.jobs
 
-  -- a job behind the entry was there before, or is the last and has run nothing
+  -- a job after the entry was there before, or is the last and has run nothing
   abbrev pub WasThere : ℕ → Job → Type 0
   WasThere i x = ((y : Job) × (slice_get s.core.jobs i ≡ Some y)) ⊎ ((i ≡ length s.core.jobs) × (x.ran ≡ 0))
 
@@ -114,7 +114,7 @@ module _ (script : Script) (s : State) where
   worker_was who k (done {n}) i x at = let r = changed_at (λ j. record j { finished = true }) _ s.core.jobs i x at in inl (r.old, r.at)
   worker_was who k (reap {g}) i x at = inl (x, at)
 
-  -- the mappings that stay, behind an entry of an engine or of the reaper
+  -- the mappings that stay, after an entry of an engine or of the reaper
   worker_maps : (who : Actor) (k : Kind) → OfWorker k → (p q : ℕ) → (has_number (pages_taken s.core k) p ≡ true → ⊥) → Maps s.core p q → Maps (applied script s who k).core p q
   worker_maps who k (packet {n} {k = i} {piece}) p q not_taken m = alike p q s.core (applied script s who (kind.Packet n i piece)).core refl refl m
   worker_maps who k (done {n}) p q not_taken m = alike p q s.core (applied script s who (kind.Done n)).core refl refl m

@@ -1,11 +1,12 @@
--- A worked journal, by computation, in whose states the premises of the laws hold: two buffers of two pages want the two pages of VRAM,
--- and no packet runs.
+-- Worked journals, by computation, in whose states the premises of the laws hold: two buffers of two pages want the two pages of VRAM, or two
+-- jobs use one buffer, and no packet runs.
 use Rattle.std.proofs.Common.{◌≡◌, ℕ, Bool, true, false, List, [], ◌∷◌, refl, Some, map}
 use Rattle.std.specs.Prelude.{not, ◌&&◌}
 use Rattle.std.specs.List.{list_any}
-use Rattle.ttm_base.specs.declared.Mem.TheVariants.{Vram}
+use Rattle.ttm_base.specs.declared.Mem.TheVariants.{System, Vram}
 use Rattle.ttm_base.specs.declared.Actor.TheVariants as actor
 use Rattle.ttm_base.specs.declared.Usage.TheVariants as usage
+use Rattle.ttm_base.specs.declared.Op.TheVariants as op
 use Rattle.ttm_base.specs.Pages.{Page, vram, frame}
 use Rattle.ttm_base.specs.Packets.{packet_names}
 use Rattle.journal_model.specs.declared.script.Script.{Script}
@@ -52,7 +53,7 @@ writing n page = jobs_write (after n) page
 abbrev conflicts : Core → Page → List (List Bool)
 conflicts c page = map (λ i. map (λ j. conflict c page i j) c.jobs) c.jobs
 
--- ---- behind the move of the first buffer into VRAM
+-- ---- after the move of the first buffer into VRAM
 
 -- its job writes the buffer's place
 place_is_touched : touching 10 (place_of (after 10) (buf_id 0) 0) ≡ true ∷ []
@@ -75,7 +76,7 @@ aperture_is_named = refl
 aperture_is_mapped : aperture (after 10) 0 ≡ Some 0
 aperture_is_mapped = refl
 
--- ---- behind its eviction
+-- ---- after its eviction
 
 -- two jobs touch a free page of VRAM, of which one writes it and the other waits for that one
 free_page : is_free_page Vram (after 20) 0 ≡ true
@@ -97,7 +98,7 @@ second_waits = refl
 both_done : map (λ j. j.finished) (run_along evict_script (alone evict_script (run_of evict_script 0) 1 20) (actor.Engine 0 ∷ actor.Engine 0 ∷ actor.Engine 0 ∷ actor.Engine 0 ∷ actor.Engine 0 ∷ actor.Engine 0 ∷ [])).world.state.core.jobs ≡ true ∷ true ∷ []
 both_done = refl
 
--- ---- behind the take of the second buffer
+-- ---- after the take of the second buffer
 
 target_is_taken : target_spans Vram (buffer_in (after 22) (buf_id 1)) ≡ span 0 2
 target_is_taken = refl
@@ -109,7 +110,7 @@ target_is_touched = refl
 target_is_fenced : (buffer_in (after 22) (buf_id 1)).fences ≡ record { job = record { ctx = 0; num = 2 }; usage = usage.Kernel } ∷ []
 target_is_fenced = refl
 
--- ---- behind the move of the second buffer to these pages, where TT has room for all
+-- ---- after the move of the second buffer to these pages, where TT has room for all
 
 abbrev late : Core
 late = after_of (script_with 8) 27
@@ -136,3 +137,33 @@ late_conflicts = refl
 
 late_waits : map (λ j. j.waits) late.jobs ≡ [] ∷ (record { ctx = 0; num = 1 } ∷ []) ∷ (record { ctx = 0; num = 2 } ∷ []) ∷ []
 late_waits = refl
+
+-- ---- after two jobs of one engine, of which the first writes the buffer and the second reads it
+
+abbrev use_script : Script
+use_script =
+    script_of (sizes false 0 0 2 0 1) (buf 1 (whole System) ∷ [])
+    ((command.New (buf_id 0) ∷ command.Submit 1 (op.Fill (buf_id 0) 0 16 122 ∷ []) ∷ command.Submit 1 (op.Probe (buf_id 0) 0 16 ∷ []) ∷ []) ∷ [])
+
+abbrev used : Core
+used = after_of use_script 10
+
+used_is_touched : jobs_touch used (place_of used (buf_id 0) 0) ≡ true ∷ true ∷ []
+used_is_touched = refl
+
+used_is_written : jobs_write used (place_of used (buf_id 0) 0) ≡ true ∷ false ∷ []
+used_is_written = refl
+
+-- both are jobs of the buffer, and neither is a KERNEL one
+used_jobs : map (λ j. is_job_of (buffer_in used (buf_id 0)) (writes_to used (place_of used (buf_id 0) 0) j) j) used.jobs ≡ true ∷ true ∷ []
+used_jobs = refl
+
+used_kernel_jobs : kernel_jobs (buffer_in used (buf_id 0)) ≡ []
+used_kernel_jobs = refl
+
+-- the second doesn't only come after the first in their context, but waits for it
+used_conflicts : conflicts used (frame 0) ≡ (true ∷ true ∷ []) ∷ (true ∷ false ∷ []) ∷ []
+used_conflicts = refl
+
+used_waits : map (λ j. j.waits) used.jobs ≡ [] ∷ (record { ctx = 1; num = 1 } ∷ []) ∷ []
+used_waits = refl
