@@ -20,7 +20,7 @@ use Rattle.journal_model.specs.Scheduled.{run_of, run_along}
 use Rattle.law_facts.specs.Facts.{touches, writes_to, conflict, is_job_of, kernel_jobs}
 use Rattle.journal_model.proofs.Rows.{sizes, buf, buf_id, span, script_of, alone}
 
--- with so many pages of TT
+-- with `tt` pages of TT
 abbrev script_with : ℕ → Script
 script_with tt =
     script_of (sizes false 2 tt 8 0 0) (buf 2 (whole Vram) ∷ buf 2 (whole Vram) ∷ [])
@@ -29,7 +29,7 @@ script_with tt =
 abbrev evict_script : Script
 evict_script = script_with 4
 
--- the state after so many entries
+-- the state after `n` entries
 abbrev after_of : Script → ℕ → Core
 after_of script n = (alone script (run_of script 0) 1 n).world.state.core
 
