@@ -1,5 +1,5 @@
 -- What an unfinished job names of the aperture stays mapped, to one frame.
-use Rattle.std.proofs.Common.{◌≡◌, ℕ, ◌+◌, zero, suc, Bool, true, false, List, [], ◌∷◌, ◌++◌, Some, Ok, IsTrue, take, drop, refl, sym, subst, ◌∙◌, ap, ◌⊎◌, inl, inr, ⊎_elim}
+use Rattle.std.proofs.Common.{◌≡◌, ℕ, ◌+◌, zero, suc, Bool, true, false, List, [], ◌∷◌, ◌++◌, length, Some, Ok, IsTrue, take, drop, refl, sym, subst, ◌∙◌, ap, ◌⊎◌, inl, inr, ⊎_elim}
 use Rattle.std.specs.Prelude.{slice_get, not, nat_eq, ◌&&◌}
 use Rattle.std.specs.List.{list_any}
 use Rattle.std.proofs.lemmas.Bool.{and_parts, or_cases, or_left, or_right, eqb-true}
@@ -79,12 +79,12 @@ module _ (script : Script) (s : State) where
   worker_goes who k (done {n}) = go_done _ s.core.jobs
   worker_goes who k (reap {g}) = go_same s.core.jobs
 
-  -- a job behind the entry was there before, or has run nothing
-  abbrev WasThere : ℕ → Job → Type 0
-  WasThere i x = ((y : Job) × (slice_get s.core.jobs i ≡ Some y)) ⊎ (x.ran ≡ 0)
+  -- a job after the entry was there before, or is the last and has run nothing
+  abbrev pub WasThere : ℕ → Job → Type 0
+  WasThere i x = ((y : Job) × (slice_get s.core.jobs i ≡ Some y)) ⊎ ((i ≡ length s.core.jobs) × (x.ran ≡ 0))
 
   pushed : (y : Job) → y.ran ≡ 0 → (i : ℕ) (x : Job) → slice_get (s.core.jobs ++ y ∷ []) i ≡ Some x → WasThere i x
-  pushed y r i x e = ⊎_elim (λ a. inl (x, a)) (λ a. inr (ap (λ (j : Job). j.ran) a.1 ∙ r)) (get_pushed s.core.jobs y x i e)
+  pushed y r i x e = ⊎_elim (λ a. inl (x, a)) (λ a. inr (a.0, ap (λ (j : Job). j.ran) a.1 ∙ r)) (get_pushed s.core.jobs y x i e)
 
   thread_was : (t : ℕ) (k : Kind) → Told script s t k → (i : ℕ) (x : Job) → slice_get (applied script s (actor.Thread t) k).core.jobs i ≡ Some x → WasThere i x
   thread_was t k (still e) i x at = inl (x, subst (λ (c : Core). slice_get c.jobs i ≡ Some x) (still_core script s t k e) at)
@@ -114,7 +114,7 @@ module _ (script : Script) (s : State) where
   worker_was who k (done {n}) i x at = let r = changed_at (λ j. record j { finished = true }) _ s.core.jobs i x at in inl (r.old, r.at)
   worker_was who k (reap {g}) i x at = inl (x, at)
 
-  -- the mappings that stay, behind an entry of an engine or of the reaper
+  -- the mappings that stay, after an entry of an engine or of the reaper
   worker_maps : (who : Actor) (k : Kind) → OfWorker k → (p q : ℕ) → (has_number (pages_taken s.core k) p ≡ true → ⊥) → Maps s.core p q → Maps (applied script s who k).core p q
   worker_maps who k (packet {n} {k = i} {piece}) p q not_taken m = alike p q s.core (applied script s who (kind.Packet n i piece)).core refl refl m
   worker_maps who k (done {n}) p q not_taken m = alike p q s.core (applied script s who (kind.Done n)).core refl refl m
@@ -187,12 +187,12 @@ clash false e f = cc
 module _ (script : Script) (fits : IsTrue (is_script script)) where
   -- ---- one entry
 
-  record OneStep (journal : List Entry) (e : Entry) : Type 0 where
-    goes : GoOn (state_of script journal).core.jobs (state_of script (journal ++ e ∷ [])).core.jobs
-    maps : (page f : ℕ) (k : ℕ) (x : Job) → slice_get (state_of script journal).core.jobs k ≡ Some x → x.finished ≡ false → list_any (packet_names page) x.packets ≡ true →
+  pub record OneStep (journal : List Entry) (e : Entry) : Type 0 where
+    pub goes : GoOn (state_of script journal).core.jobs (state_of script (journal ++ e ∷ [])).core.jobs
+    pub maps : (page f : ℕ) (k : ℕ) (x : Job) → slice_get (state_of script journal).core.jobs k ≡ Some x → x.finished ≡ false → list_any (packet_names page) x.packets ≡ true →
         aperture (state_of script journal).core page ≡ Some f → aperture (state_of script (journal ++ e ∷ [])).core page ≡ Some f
 
-  one_step : (journal : List Entry) (e : Entry) → IsLegal script journal → IsLegalNext script (world_of script journal) e → OneStep journal e
+  pub one_step : (journal : List Entry) (e : Entry) → IsLegal script journal → IsLegalNext script (world_of script journal) e → OneStep journal e
   one_step journal e l n = record {
     goes = subst (λ (z : State). GoOn (state_of script journal).core.jobs z.core.jobs) (sym is) (goes e.who step.kind step.step);
     maps = λ page f k x at undone named m.
@@ -270,7 +270,7 @@ module _ (script : Script) (fits : IsTrue (is_script script)) where
   -- ---- where a job is emitted
 
   -- each page that an unfinished job names is mapped
-  abbrev AreMapped : State → Type 0
+  abbrev pub AreMapped : State → Type 0
   AreMapped s = (page k : ℕ) (x : Job) → slice_get s.core.jobs k ≡ Some x → x.finished ≡ false → list_any (packet_names page) x.packets ≡ true → (f : ℕ) × (aperture s.core page ≡ Some f)
 
   fresh_mapped : (journal : List Entry) → IsLegal script journal → (page k : ℕ) (x : Job) → slice_get (state_of script journal).core.jobs k ≡ Some x → x.ran ≡ 0 → list_any (packet_names page) x.packets ≡ true → (f : ℕ) × (aperture (state_of script journal).core page ≡ Some f)
@@ -280,7 +280,7 @@ module _ (script : Script) (fits : IsTrue (is_script script)) where
       mapped_packet script (state_of script journal).core page r.1 r.3 (places_law script journal fits l k r.0 x r.1 at here)
 
   -- the job is a new one, or was there before
-  old_or_new : (journal : List Entry) (e : Entry) → IsLegal script journal → IsLegalNext script (world_of script journal) e → (k : ℕ) (x : Job) → slice_get (state_of script (journal ++ e ∷ [])).core.jobs k ≡ Some x → WasThere script (state_of script journal) k x
+  pub old_or_new : (journal : List Entry) (e : Entry) → IsLegal script journal → IsLegalNext script (world_of script journal) e → (k : ℕ) (x : Job) → slice_get (state_of script (journal ++ e ∷ [])).core.jobs k ≡ Some x → WasThere script (state_of script journal) k x
   old_or_new journal e l n k x at = by e.who step.kind step.step (subst (λ (z : State). slice_get z.core.jobs k ≡ Some x) is at)
     where
       step : LegalStep script (world_of script journal) e
@@ -306,7 +306,7 @@ module _ (script : Script) (fits : IsTrue (is_script script)) where
       let m : list_any (packet_names page) r.0.packets ≡ true = subst (λ ps. list_any (packet_names page) ps ≡ true) mid.packets (subst (λ (z : Job). list_any (packet_names page) z.packets ≡ true) (sym is) named) in
       let was = h page k r.0 r.1 u m in
       (was.0, one.maps page was.0 k r.0 r.1 u m was.1))
-      (λ r. fresh_mapped (journal ++ e ∷ []) (legal_push script (first_world script) journal e l n) page k x at r named)
+      (λ r. fresh_mapped (journal ++ e ∷ []) (legal_push script (first_world script) journal e l n) page k x at r.1 named)
       (old_or_new journal e l n k x at)
 
   mapped_along : (journal es : List Entry) → IsLegal script journal → IsLegalFrom script (world_of script journal) es → AreMapped (state_of script journal) → AreMapped (world_along script (world_of script journal) es).state

@@ -1,34 +1,48 @@
--- Places, targets and conflicts, as the view of a state tells them.
+-- Which jobs cover one that touches a place or a target, as the view of a state tells it: KERNEL or WRITE jobs, which the view has as one.
 use Rattle.std.proofs.Common.{◌≡◌, ℕ, Bool, true, false, List, Some, IsTrue, refl, sym, subst, ◌∙◌, ap, ⊎_elim}
-use Rattle.std.specs.Prelude.{slice_get, not, ◌&&◌, if◌then◌else◌}
+use Rattle.std.specs.Prelude.{Contains, slice_get, not, ◌&&◌, option_to_list, if◌then◌else◌}
 use Rattle.std.specs.List.{list_any}
-use Rattle.std.proofs.lemmas.Bool.{and_parts, or_cases}
+use Rattle.std.proofs.lemmas.Bool.{or_cases}
 use Rattle.ttm_base.specs.declared.Mem.TheVariants as mem
 use Rattle.ttm_base.specs.declared.BufId.{BufId}
 use Rattle.ttm_base.specs.Pages as pages
+use Rattle.ttm_base.specs.Pages.{vram}
 use Rattle.journal_model.specs.declared.script.Script.{Script}
 use Rattle.journal_model.specs.declared.entry.Entry.{Entry}
+use Rattle.journal_model.specs.declared.state.Core.{Core}
 use Rattle.journal_model.specs.declared.state.Job.{Job}
 use Rattle.journal_model.specs.ScriptRules.{is_script}
 use Rattle.journal_model.specs.State.{buffer_in, target_spans}
 use Rattle.journal_model.specs.Places.{pages_of, page_in_vram, place_of, aperture}
+use Rattle.journal_model.specs.Holds.{has_number}
 use Rattle.journal_model.specs.Waits.{same_job, changes, jobs_before_read, jobs_before_write}
 use Rattle.journal_model.specs.Spares.{remaining}
-use Rattle.journal_model.specs.After.{ComesAfter, through}
 use Rattle.journal_model.specs.Legal.{state_of, IsLegal}
 use Rattle.journal_model.specs.PlainMemory.{plain_of}
 use Rattle.law_facts.specs.Facts.{touches, writes_to, IsCovered}
 use Rattle.laws.specs.lemma_bytes_model.Memory.{Nowhere, Vram, written}
-use Rattle.laws.specs.lemma_bytes_model.View.{Live, Target, Idle, After, is_fence}
+use Rattle.laws.specs.lemma_bytes_model.View.{Live, Target, Idle, is_fence}
 use Rattle.laws.specs.law_holders.Holding.{seen}
 use Rattle.laws.proofs.law_holders.Owner.{owner_of, owner_is}
 use Rattle.laws.proofs.lemma_bytes_view.World.{bare}
 use Rattle.laws.proofs.lemma_bytes_view.Binds.{among_all}
 use Rattle.laws.proofs.lemma_bytes_view.Tables.{at_has}
-use Rattle.law_facts.specs.Covered.{PlacesAreCovered, TargetsAreCovered, ConflictsAreOrdered, LegalPlacesAreCovered, LegalTargetsAreCovered, LegalConflictsAreOrdered}
 use Rattle.law_facts.proofs.Jobs.{at_of}
 use Rattle.law_facts.proofs.Touches.{written_so}
-use Rattle.law_facts.proofs.Guards.{viewed, once, guarded, touched_at, covered, next_to, covers_so, by_mover}
+use Rattle.law_facts.proofs.Guards.{viewed, once, guarded, covered, by_mover}
+
+-- a job of the buffer covers a job that touches a place of it, as KERNEL or WRITE where that one writes it
+abbrev pub PlacesAreCovered : Core → Type 0
+PlacesAreCovered c =
+    (i : Job) (b : BufId) (k : ℕ) → Contains c.jobs i → i.finished ≡ false → touches c (place_of c b k) i ≡ true →
+    IsCovered c.jobs (if writes_to c (place_of c b k) i then jobs_before_read (buffer_in c b) else jobs_before_write (buffer_in c b)) i
+
+-- a KERNEL or WRITE job of the buffer covers a job that touches a page of its target in VRAM, and so does the move job of VRAM
+abbrev pub TargetsAreCovered : Core → Type 0
+TargetsAreCovered c =
+    (i : Job) (b : BufId) (p : ℕ) → Contains c.jobs i → i.finished ≡ false →
+    has_number (pages_of (target_spans mem.Vram (buffer_in c b))) p ≡ true → touches c (vram p) i ≡ true →
+    IsCovered c.jobs (jobs_before_read (buffer_in c b)) i × IsCovered c.jobs (option_to_list c.move_fence) i
 
 module _ (script : Script) (fits : IsTrue (is_script script)) (journal : List Entry) (legal : IsLegal script journal) where
   written_at : (n : ℕ) (y : Job) (p : pages.Page) → slice_get (state_of script journal).core.jobs n ≡ Some y → writes_to (state_of script journal).core p y ≡ true → written ((viewed script fits journal legal).view.left n) (seen p) ≡ true
@@ -93,32 +107,3 @@ module _ (script : Script) (fits : IsTrue (is_script script)) (journal : List En
         covered script fits journal legal (jobs_before_read (buffer_in (state_of script journal).core b)) g.0.0 a.0 r.job i r.at a.1 f r.among g.0.2,
         by_mover script fits journal legal a.0 i g.1.0 a.1 f g.1.1 g.1.2,
       )
-
-  after_so : (m n : ℕ) (i j : Job) → slice_get (state_of script journal).core.jobs m ≡ Some i → slice_get (state_of script journal).core.jobs n ≡ Some j → After (viewed script fits journal legal).view.fences.prior n m → ComesAfter (state_of script journal).core.jobs j i
-  after_so m n i j a b h =
-      let next = next_to script fits journal legal n h.0 j b h.1 in
-      ⊎_elim
-      (λ e. subst (ComesAfter (state_of script journal).core.jobs j) e next.2)
-      (λ e. through next.2 e)
-      (covers_so script fits journal legal h.0 m next.0 i next.1 a h.2)
-
-  pub conflicts_ordered : ConflictsAreOrdered (state_of script journal).core
-  conflicts_ordered m n i j page l a b h =
-      after_so m n i j a b
-      (⊎_elim
-      (λ e.
-      let w = and_parts (touches (state_of script journal).core page i) (writes_to (state_of script journal).core page j) e in
-      (viewed script fits journal legal).good.writer m n (seen page) l (touched_at script fits journal legal m i page a w.0) (written_at n j page b w.1))
-      (λ e.
-      let w = and_parts (writes_to (state_of script journal).core page i) (touches (state_of script journal).core page j) e in
-      (viewed script fits journal legal).good.reader m n (seen page) l (written_at m i page a w.0) (touched_at script fits journal legal n j page b w.1))
-      (or_cases (touches (state_of script journal).core page i && writes_to (state_of script journal).core page j) (writes_to (state_of script journal).core page i && touches (state_of script journal).core page j) h))
-
-pub places_law : LegalPlacesAreCovered
-places_law script journal fits legal = places_covered script fits journal legal
-
-pub targets_law : LegalTargetsAreCovered
-targets_law script journal fits legal = targets_covered script fits journal legal
-
-pub conflicts_law : LegalConflictsAreOrdered
-conflicts_law script journal fits legal = conflicts_ordered script fits journal legal

@@ -173,7 +173,7 @@ module _ (script : Script) (fits : IsTrue (is_script script)) (journal : List En
           or_false true e = refl
           or_false false e = cc
 
-  untouched : (n : ℕ) (y : Job) (p : pages.Page) → slice_get (state_of script journal).core.jobs n ≡ Some y → (touches (state_of script journal).core p y ≡ true → ⊥) → touches (state_of script journal).core p y ≡ false
+  pub untouched : (n : ℕ) (y : Job) (p : pages.Page) → slice_get (state_of script journal).core.jobs n ≡ Some y → (touches (state_of script journal).core p y ≡ true → ⊥) → touches (state_of script journal).core p y ≡ false
   untouched n y p at none = ⊎_elim (λ t. absurd (none t)) (λ t. t) (bool_cases (touches (state_of script journal).core p y))
 
   kept_at : (b : BufId) (x : Buffer) (p : ℕ) → live_in (state_of script journal).core.buffers b ≡ Some x → x.mem ≡ mem.Vram → has_number (frames_of x) p ≡ true →

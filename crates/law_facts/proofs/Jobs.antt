@@ -1,5 +1,5 @@
 -- Elements of lists by number, and how the jobs of a state go on from entry to entry.
-use Rattle.std.proofs.Common.{◌≡◌, ℕ, ◌+◌, ◌<◌, zero, suc, Bool, true, false, List, [], ◌∷◌, ◌++◌, length, Some, refl, ◌∙◌, ap, arith}
+use Rattle.std.proofs.Common.{◌≡◌, ℕ, ◌+◌, ◌<◌, ◌≤◌, zero, suc, Bool, true, false, List, [], ◌∷◌, ◌++◌, length, Some, refl, ◌∙◌, ap, arith}
 use Rattle.std.specs.Prelude.{Contains, slice_get, slice_index_or, if◌then◌else◌}
 use Rattle.std.specs.List.{list_any}
 use Rattle.ttm_base.specs.declared.JobId.{JobId}
@@ -49,6 +49,7 @@ pub record Later (old : Job) (jobs : List Job) (k : ℕ) : Type 0 where
   pub id : job.id ≡ old.id
   pub waits : job.waits ≡ old.waits
   pub packets : job.packets ≡ old.packets
+  pub ran : old.ran ≤ job.ran
   pub undone : job.finished ≡ false → old.finished ≡ false
 
 -- each job stays in its place
@@ -56,27 +57,27 @@ abbrev pub GoOn : List Job → List Job → Type 0
 GoOn old new = (k : ℕ) (x : Job) → slice_get old k ≡ Some x → Later x new k
 
 pub go_same : (jobs : List Job) → GoOn jobs jobs
-go_same jobs k x e = record { job = x; at = e; id = refl; waits = refl; packets = refl; undone = λ f. f }
+go_same jobs k x e = record { job = x; at = e; id = refl; waits = refl; packets = refl; ran = omega arith; undone = λ f. f }
 
 pub go_more : (jobs : List Job) (y : Job) → GoOn jobs (jobs ++ y ∷ [])
-go_more jobs y k x e = record { job = x; at = get_front jobs (y ∷ []) k x e; id = refl; waits = refl; packets = refl; undone = λ f. f }
+go_more jobs y k x e = record { job = x; at = get_front jobs (y ∷ []) k x e; id = refl; waits = refl; packets = refl; ran = omega arith; undone = λ f. f }
 
 pub go_ran : (id : JobId) (jobs : List Job) → GoOn jobs (changed_job (λ j. record j { ran = j.ran + 1 }) id jobs)
 go_ran id jobs k x e = by (same_job id x.id) (changed_there (λ j. record j { ran = j.ran + 1 }) id jobs k x e)
   where
     by : (q : Bool) → slice_get (changed_job (λ j. record j { ran = j.ran + 1 }) id jobs) k ≡ Some (if q then record x { ran = x.ran + 1 } else x) → Later x (changed_job (λ j. record j { ran = j.ran + 1 }) id jobs) k
-    by true h = record { job = record x { ran = x.ran + 1 }; at = h; id = refl; waits = refl; packets = refl; undone = λ f. f }
-    by false h = record { job = x; at = h; id = refl; waits = refl; packets = refl; undone = λ f. f }
+    by true h = record { job = record x { ran = x.ran + 1 }; at = h; id = refl; waits = refl; packets = refl; ran = omega arith; undone = λ f. f }
+    by false h = record { job = x; at = h; id = refl; waits = refl; packets = refl; ran = omega arith; undone = λ f. f }
 
 pub go_done : (id : JobId) (jobs : List Job) → GoOn jobs (changed_job (λ j. record j { finished = true }) id jobs)
 go_done id jobs k x e = by (same_job id x.id) (changed_there (λ j. record j { finished = true }) id jobs k x e)
   where
     by : (q : Bool) → slice_get (changed_job (λ j. record j { finished = true }) id jobs) k ≡ Some (if q then record x { finished = true } else x) → Later x (changed_job (λ j. record j { finished = true }) id jobs) k
-    by true h = record { job = record x { finished = true }; at = h; id = refl; waits = refl; packets = refl; undone = λ f. cc }
-    by false h = record { job = x; at = h; id = refl; waits = refl; packets = refl; undone = λ f. f }
+    by true h = record { job = record x { finished = true }; at = h; id = refl; waits = refl; packets = refl; ran = omega arith; undone = λ f. cc }
+    by false h = record { job = x; at = h; id = refl; waits = refl; packets = refl; ran = omega arith; undone = λ f. f }
 
 pub go_through : (old mid new : List Job) → GoOn old mid → GoOn mid new → GoOn old new
 go_through old mid new f g k x e =
     let a = f k x e in
     let b = g k a.job a.at in
-    record { job = b.job; at = b.at; id = b.id ∙ a.id; waits = b.waits ∙ a.waits; packets = b.packets ∙ a.packets; undone = λ n. a.undone (b.undone n) }
+    record { job = b.job; at = b.at; id = b.id ∙ a.id; waits = b.waits ∙ a.waits; packets = b.packets ∙ a.packets; ran = (let l = a.ran in let r = b.ran in omega (arith, l, r)); undone = λ n. a.undone (b.undone n) }

@@ -6,5 +6,14 @@ pub mod Touches
 pub mod Reach
 pub mod Guards
 pub mod Covered
+pub mod Lasting
+pub mod Covering
+pub mod Growth
+pub mod Steps
+pub mod Emits
+pub mod Arming
+pub mod NewJobs
+pub mod Fenced
+pub mod Conflicts
 pub mod Marks
 mod Worked

@@ -1,4 +1,4 @@
--- A mapped page of TT stays mapped to its frame, behind each entry that doesn't take it.
+-- A mapped page of TT stays mapped to its frame, after each entry that doesn't take it.
 use Rattle.std.proofs.Common.{◌≡◌, ℕ, zero, suc, Bool, true, false, List, [], ◌∷◌, ◌++◌, length, Option, Some, None, refl, sym, subst, ◌∙◌, ap, inl, inr, ⊎_elim}
 use Rattle.std.specs.Prelude.{slice_get, slice_set, option_map, option_and_then, unwrap_or, filter, fold, not, nat_eq, ◌==◌, if◌then◌else◌}
 use Rattle.std.proofs.lemmas.Bool.{or_cases}
@@ -188,7 +188,7 @@ not_tt m System e f g = let z : System ≡ Tt = sym e ∙ g in cc
 -- ---- each kind
 
 module _ (script : Script) (s : State) (t : ℕ) (shapes : HaveShapes s.core.buffers) (p q : ℕ) where
-  -- the state behind the entry
+  -- the state after the entry
   abbrev behind : Kind → Core
   behind k = (applied script s (actor.Thread t) k).core
 

@@ -1,7 +1,7 @@
--- The facts on which transparency rests, as laws of the state behind each legal journal (dma_fence, dma_resv, the move fence of a
--- manager, delayed destroys). The functions of this crate have them as contracts, by their names here; its page says which are proved in a weaker
--- form. A job touches the pages of its packets that haven't run; it is unfinished until its end is told.
-use Rattle.std.specs.Prelude.{◌≡◌, ℕ, ◌<◌, Bool, true, false, List, Option, Some, Contains, ◌⊎◌, ◌&&◌, ◌||◌, filter, map, take, option_to_list, slice_get, if◌then◌else◌}
+-- The facts on which transparency rests, as laws of the state after each legal journal (dma_fence, dma_resv, the move fence of a
+-- manager, delayed destroys). The functions of this crate have them as contracts, by their names here. A job touches the pages of its packets
+-- that haven't run; it is unfinished until its end is told.
+use Rattle.std.specs.Prelude.{◌≡◌, ℕ, ◌<◌, Bool, true, false, List, Some, Contains, ◌⊎◌, ◌&&◌, ◌||◌, filter, map, take, option_to_list, slice_get, if◌then◌else◌}
 use Rattle.std.specs.List.{list_any}
 use Rattle.ttm_base.specs.declared.Mem.TheVariants.{Vram}
 use Rattle.ttm_base.specs.declared.BufId.{BufId}
@@ -25,7 +25,7 @@ use Rattle.journal_model.specs.Spares.{remaining}
 use Rattle.journal_model.specs.Legal.{state_of}
 use Rattle.journal_model.specs.Laws.{ForLegal}
 
--- a law of the state behind every legal journal
+-- a law of the state after every legal journal
 abbrev pub ForStates : (Core → Type 0) → Type 0
 ForStates law = ForLegal (λ script journal. law (state_of script journal).core)
 
@@ -137,7 +137,7 @@ LegalConflictsWait = ForStates ConflictsWait
 -- ---- the aperture
 
 -- An aperture page that an unfinished job names, by packets that have run or not, is mapped, and was mapped to the same frame in each
--- state that has the job; so in the state behind the entry that emitted it, in which a move into TT has mapped it.
+-- state that has the job; so in the state after the entry that emitted it, in which a move into TT has mapped it.
 abbrev pub MappingsStay : Script → List Entry → Type 0
 MappingsStay script journal =
     (n : ℕ) (i was : Job) (page : ℕ) → Contains (state_of script journal).core.jobs i → i.finished ≡ false → list_any (packet_names page) i.packets ≡ true →

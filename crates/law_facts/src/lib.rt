@@ -2,8 +2,8 @@
 //! that does nothing.
 #![tactic(auto)]
 
-ghost use Rattle.law_facts.specs.Facts.{LegalJobsAreInOrder, LegalGhostsAreFenced, LegalFreePagesAreFenced, LegalMappingsStay};
-ghost use Rattle.law_facts.specs.Covered.{LegalPlacesAreCovered, LegalTargetsAreCovered, LegalConflictsAreOrdered};
+ghost use Rattle.law_facts.specs.Facts.{LegalJobsAreInOrder, LegalPlacesAreFenced, LegalTargetsAreFenced, LegalConflictsWait};
+ghost use Rattle.law_facts.specs.Facts.{LegalGhostsAreFenced, LegalFreePagesAreFenced, LegalMappingsStay};
 ghost use Rattle.journal_model.specs.MarkLaws.{MarksTellNothing, MarksTurnNothing};
 
 /// Where a job comes after another, by its context or by the waits of the state, and is done, the other is done; and a job waits only for
@@ -13,20 +13,20 @@ pub fn jobs_are_in_order()
 {}
 
 /// An unfinished job that touches a place of a live buffer is a job of the buffer, as KERNEL or WRITE where it writes the place; or an
-/// unfinished one of these jobs of the buffer comes after it.
-pub fn places_are_covered()
-    ensures { LegalPlacesAreCovered }
+/// unfinished KERNEL job of the buffer comes after it.
+pub fn places_are_fenced()
+    ensures { LegalPlacesAreFenced }
 {}
 
-/// An unfinished job that touches a page of a target in VRAM is a KERNEL or WRITE job of the buffer, or an unfinished one comes after it;
-/// and it is the move job of VRAM, or that one comes after it and is unfinished too.
-pub fn targets_are_covered()
-    ensures { LegalTargetsAreCovered }
+/// An unfinished job that touches a page of a target in VRAM is a KERNEL job of the buffer, or an unfinished one comes after it; and it is
+/// the move job of VRAM, or that one comes after it and is unfinished too.
+pub fn targets_are_fenced()
+    ensures { LegalTargetsAreFenced }
 {}
 
-/// Of two jobs whose packets that haven't run are in conflict the later comes after the earlier.
-pub fn conflicts_are_ordered()
-    ensures { LegalConflictsAreOrdered }
+/// Of two jobs whose packets that haven't run are in conflict the later waits for the earlier, or for a job that comes after that one.
+pub fn conflicts_wait()
+    ensures { LegalConflictsWait }
 {}
 
 /// An unfinished job that touches a page of VRAM or a frame of a ghost is a job of the ghost, or an unfinished job of the ghost comes after
