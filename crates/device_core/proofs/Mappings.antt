@@ -3,6 +3,7 @@ use Rattle.std.proofs.Common.{◌≡◌, ℕ, suc, ◌<◌, Bool, true, false, c
 use Rattle.std.specs.Prelude.{Result, Ok, Err, option_and_then, option_map}
 use Rattle.ttm_base.specs.declared.Actor.{Actor}
 use Rattle.ttm_base.specs.declared.Need.{Need}
+use Rattle.ttm_base.specs.Pages.{Page}
 use Rattle.journal_model.specs.declared.entry.Entry.{Entry}
 use Rattle.journal_model.specs.Complete.{is_complete}
 use Rattle.journal_model.specs.Legal.{IsLegal, made_of, state_of}
@@ -20,7 +21,8 @@ use Rattle.map_follow.proofs.Law.{entries_followed}
 use Rattle.map_follow.proofs.Standing.{found_passes, through_is}
 use Rattle.room_state.specs.declared.room_turns.Step.{Step}
 use Rattle.room_state.specs.declared.room_turns.Step.TheVariants as step
-use Rattle.device_core.specs.Kept.{Kept, after_step, after_turn, entry_of, step_of, world_behind}
+use Rattle.room_state.specs.room_turns.Turns.{step_of}
+use Rattle.device_core.specs.Kept.{Kept, after_step, after_turn, entry_of, world_behind}
 use Rattle.device_core.specs.Mapped.{IsDevice, NamePlaces}
 
 -- an actor's next entry keeps the journal legal
@@ -73,7 +75,7 @@ module _ (k : Kept) (areas : List Area) (device : IsDevice k areas) where
       n : ℕ
       n = count_answers thread (made_of k.script k.journal)
 
-      entry : Option Mapping → Option _
+      entry : Option Mapping → Option Page
       entry o = option_and_then (λ m. mapped_entry k.script (made_of k.script k.journal) m i) o
 
       is_known : entry (standing k.script thread n b) ≡ Some (page_there place)
