@@ -5,7 +5,6 @@ use Rattle.ttm_base.specs.declared.Actor.{Actor}
 use Rattle.ttm_base.specs.declared.Need.{Need}
 use Rattle.ttm_base.specs.Pages.{Page}
 use Rattle.journal_model.specs.declared.entry.Entry.{Entry}
-use Rattle.journal_model.specs.Complete.{is_complete}
 use Rattle.journal_model.specs.Legal.{IsLegal, made_of, state_of}
 use Rattle.journal_model.specs.Mapped.{Mapping, count_answers, is_through, mapped_entry, mappings}
 use Rattle.journal_model.specs.MarkLaws.{MapsAreRight}
@@ -22,7 +21,7 @@ use Rattle.map_follow.proofs.Standing.{found_passes, through_is}
 use Rattle.room_state.specs.declared.room_turns.Step.{Step}
 use Rattle.room_state.specs.declared.room_turns.Step.TheVariants as step
 use Rattle.room_state.specs.room_turns.Turns.{step_of}
-use Rattle.device_core.specs.Kept.{Kept, after_step, after_turn, entry_of, world_behind}
+use Rattle.device_core.specs.Kept.{Kept, after_step, entry_of, world_behind}
 use Rattle.device_core.specs.Mapped.{IsDevice, NamePlaces}
 
 -- an actor's next entry keeps the journal legal
@@ -89,17 +88,14 @@ module _ (k : Kept) (areas : List Area) (device : IsDevice k areas) where
           subst (λ c. page_there place ≡ place_of (state_of k.script k.journal).core c i) through.same
           (maps_right k.script k.journal device.fits device.legal m i (page_there place) has (sym (ap entry e) ∙ is_known))
 
-  -- so do those that the definitions give a mapping, after each turn
-  pub right_after : (who : Actor) → MapsAreRight (after_turn k who).script (after_turn k who).journal
-  right_after who = by (is_complete k.script k.journal)
+  -- so does each that the definitions give a mapping
+  pub right_now : MapsAreRight k.script k.journal
+  right_now = maps_right k.script k.journal device.fits device.legal
+
+  -- and after a turn of an actor too
+  pub right_after : (who : Actor) → MapsAreRight (after_step k (entry_of k who)).script (after_step k (entry_of k who)).journal
+  right_after who = by (entry_of k who) refl
     where
-      with_step : (r : Result Entry Need) → entry_of k who ≡ r → MapsAreRight (after_step k r).script (after_step k r).journal
-      with_step (Ok e) h = maps_right k.script (k.journal ++ e ∷ []) device.fits (legal_with k who e device.legal h)
-      with_step (Err need) h = maps_right k.script k.journal device.fits device.legal
-
-      after : Bool → Kept
-      after b = elim b [ true ↦ k | false ↦ after_step k (entry_of k who) ]
-
-      by : (b : Bool) → MapsAreRight (after b).script (after b).journal
-      by true = maps_right k.script k.journal device.fits device.legal
-      by false = with_step (entry_of k who) refl
+      by : (r : Result Entry Need) → entry_of k who ≡ r → MapsAreRight (after_step k r).script (after_step k r).journal
+      by (Ok e) h = maps_right k.script (k.journal ++ e ∷ []) device.fits (legal_with k who e device.legal h)
+      by (Err need) h = right_now
