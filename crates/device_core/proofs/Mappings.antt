@@ -1,5 +1,5 @@
 -- Mappings follow a turn of an actor, and their entries name the places that pages have.
-use Rattle.std.proofs.Common.{◌≡◌, ℕ, suc, ◌<◌, Bool, true, false, cond, List, [], ◌∷◌, ◌++◌, Option, Some, None, Contains, find, length, refl, sym, subst, ◌∙◌, ap, arith}
+use Rattle.std.proofs.Common.{◌≡◌, ℕ, suc, Bool, true, false, cond, List, [], ◌∷◌, ◌++◌, Option, Some, None, Contains, find, refl, sym, subst, ◌∙◌, ap, arith}
 use Rattle.std.specs.Prelude.{Result, Ok, Err, option_and_then, option_map}
 use Rattle.ttm_base.specs.declared.Actor.{Actor}
 use Rattle.ttm_base.specs.declared.Need.{Need}
@@ -14,7 +14,7 @@ use Rattle.laws.proofs.law_state.Turns.{next_is_legal}
 use Rattle.law_legal.specs.law_maps.Following.{page_there}
 use Rattle.law_legal.proofs.law_maps.Right.{maps_right}
 use Rattle.cpu_maps.specs.declared.area.Area.{Area}
-use Rattle.map_follow.specs.Follows.{Follows, known, standing}
+use Rattle.map_follow.specs.Follows.{Follows, standing}
 use Rattle.map_follow.specs.Laws.{areas_after}
 use Rattle.map_follow.proofs.Law.{entries_followed}
 use Rattle.map_follow.proofs.Standing.{found_passes, through_is}
@@ -91,11 +91,3 @@ module _ (k : Kept) (areas : List Area) (device : IsDevice k areas) where
   -- so does each that the definitions give a mapping
   pub right_now : MapsAreRight k.script k.journal
   right_now = maps_right k.script k.journal device.fits device.legal
-
-  -- and after a turn of an actor too
-  pub right_after : (who : Actor) → MapsAreRight (after_step k (entry_of k who)).script (after_step k (entry_of k who)).journal
-  right_after who = by (entry_of k who) refl
-    where
-      by : (r : Result Entry Need) → entry_of k who ≡ r → MapsAreRight (after_step k r).script (after_step k r).journal
-      by (Ok e) h = maps_right k.script (k.journal ++ e ∷ []) device.fits (legal_with k who e device.legal h)
-      by (Err need) h = right_now

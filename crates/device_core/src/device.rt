@@ -152,7 +152,7 @@ impl Device {
         ensures err { OnErr result (self.new ≡ self.old) }
         ensures places { MapsAreRight self.new.script self.new.journal }
     {
-        if self.over() {
+        if self.rooms.over() {
             return Ok(Turn::Over);
         }
         match self.turn(who)? {
