@@ -2,11 +2,14 @@ ghost use Rattle.std.specs.Prelude.{◌≡◌, ◌↔◌, [], false, IfOk, OnOk,
 ghost use Rattle.journal_model.specs.ScriptRules.{is_script};
 ghost use Rattle.journal_model.specs.Complete.{is_complete};
 ghost use Rattle.journal_model.specs.Legal.{IsLegal, made_of, state_of};
+ghost use Rattle.journal_model.specs.MarkLaws.{MapsAreRight};
+ghost use Rattle.journal_model.specs.Transparent.{IsTransparent};
 ghost use Rattle.map_follow.specs.Follows.{KnowExactly};
 ghost use Rattle.room_state.specs.room_turns.Turns.{step_of};
 ghost use Rattle.laws.specs.law_sound.Sound.{SomeGoesOn};
 ghost use Rattle.page_accounts.specs.Accounts.{AreAccountsOf};
 ghost use Rattle.device_core.specs.Done.{done_of};
+ghost use Rattle.device_core.specs.Mapped.{NamePlaces};
 ghost use Rattle.device_core.specs.Kept.{entry_of, after_step, turn_of, after_turn, goes_on, order_of, next_actor, after_found};
 
 use crate::follow::follow;
@@ -41,14 +44,13 @@ impl Drop for Device {
 
 impl Model for Device {
     ghost use Rattle.device_core.specs.Kept.{Kept};
-    ghost use Rattle.journal_model.specs.Legal.{made_of};
-    ghost use Rattle.map_follow.specs.Follows.{Follows};
+    ghost use Rattle.device_core.specs.Mapped.{IsDevice};
 
     ghost Value = { Kept };
 
     ghost view = { λ d. d.rooms };
 
-    ghost invariant = { λ d. Follows d.rooms.script (made_of d.rooms.script d.rooms.journal) d.maps };
+    ghost invariant = { λ d. IsDevice d.rooms d.maps };
 }
 
 impl Device {
@@ -73,10 +75,11 @@ impl Device {
         self.rooms.script()
     }
 
-    /// The entries so far, which are legal.
+    /// Lends the entries so far, which are legal and transparent: each read and each probe shows the bytes of a memory in which no buffer ever moves.
     pub fn journal(&self) -> &[Entry]
         ensures journal { result.now ≡ self.now.journal }
         ensures legal { IsLegal self.now.script self.now.journal }
+        ensures transparent { IsTransparent self.now.script self.now.journal }
     {
         self.rooms.journal()
     }
@@ -88,9 +91,11 @@ impl Device {
         &self.rooms
     }
 
-    /// What mappings of buffers by the CPU know: of each page the entry that the journal gives the mapping that stands, and no other.
+    /// Lends what mappings of buffers by the CPU know: of each page the entry that the journal gives the mapping that stands, and no other. Each entry
+    /// names the place that the page has now.
     pub fn maps(&self) -> &CpuMaps
-        ensures { KnowExactly self.now.script (made_of self.now.script self.now.journal) result.now }
+        ensures places { NamePlaces self.now result.now }
+        ensures exact { KnowExactly self.now.script (made_of self.now.script self.now.journal) result.now }
     {
         &self.maps
     }
@@ -108,7 +113,6 @@ impl Device {
         ensures complete { result ≡ is_complete self.now.script self.now.journal }
         ensures goes_on { (result ≡ false) ↔ SomeGoesOn self.now.script (state_of self.now.script self.now.journal) }
     {
-        let _legal = self.rooms.journal();
         self.rooms.over()
     }
 
@@ -116,7 +120,6 @@ impl Device {
     pub(crate) fn reached(&self, ctx: u32) -> u64
         ensures { result ≡ done_of self.now.journal ctx }
     {
-        let _legal = self.rooms.journal();
         let line = self.rooms.line();
         if ctx < line.contexts() {
             line.reached(ctx)
@@ -132,24 +135,24 @@ impl Device {
         ensures err { OnErr result (self.new ≡ self.old) }
     {
         let step = turn(self.alloc, &mut self.rooms, who)?;
-        let _legal = self.rooms.journal();
         if let Step::Made = step {
             follow(&mut self.maps, &self.rooms);
         }
         Ok(step)
     }
 
-    /// A turn of an actor.
+    /// Takes a turn of an actor. After it each entry that a mapping has names the place that its page has then.
     ///
     /// # Errors
     ///
-    /// Want of memory; nothing is changed.
+    /// `NoMemory` where memory is refused; nothing is changed.
     pub fn step(&mut self, who: Actor) -> Result<Turn, NoMemory>
         ensures turn { IfOk result (λ t. t ≡ turn_of self.old who) }
         ensures made { OnOk result (self.new ≡ after_turn self.old who) }
         ensures err { OnErr result (self.new ≡ self.old) }
+        ensures places { MapsAreRight self.new.script self.new.journal }
     {
-        if self.over() {
+        if self.rooms.over() {
             return Ok(Turn::Over);
         }
         match self.turn(who)? {

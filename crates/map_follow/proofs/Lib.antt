@@ -1,4 +1,4 @@
-mod Standing
+pub mod Standing
 mod Areas
 mod Step
 mod Answered

@@ -8,6 +8,6 @@ use Rattle.device_core.proofs.device.Device.over.Goals as goal
 
 pub returns-clause-goes_on : goal.returns-clause-goes_on
 returns-clause-goes_on c =
-    let until = until_the_end c.self.inside.rooms.script c.self.inside.rooms.journal c.journal-legal.ensures.fits c.journal-legal.ensures.legal in
+    let until = until_the_end c.self.inside.rooms.script c.self.inside.rooms.journal c.self.invariant.fits c.self.invariant.legal in
     subst (λ (k : Kept). (c.over.result ≡ false) ↔ SomeGoesOn k.script (state_of k.script k.journal)) c.self.view_is
     (subst (λ (b : Bool). (b ≡ false) ↔ SomeGoesOn c.self.inside.rooms.script (state_of c.self.inside.rooms.script c.self.inside.rooms.journal)) (sym c.over.ensures) until)

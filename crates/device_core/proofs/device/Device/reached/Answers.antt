@@ -9,10 +9,10 @@ returns-then-ctx-contexts c =
     let known : c.args.ctx < length c.line-line.result.now = omega arith in
     subst (λ (k : Kept). c.reached.result ≡ done_of k.journal c.args.ctx) c.self.view_is
     (c.reached.ensures.done
-    ∙ reached_is c.self.inside.rooms.script c.journal-legal.ensures.fits c.args.ctx c.self.inside.rooms.journal c.journal-legal.ensures.legal c.line-line.result.now c.line-line.ensures known)
+    ∙ reached_is c.self.inside.rooms.script c.self.invariant.fits c.args.ctx c.self.inside.rooms.journal c.self.invariant.legal c.line-line.result.now c.line-line.ensures known)
 
 pub returns-else-ctx-contexts : goal.returns-else-ctx-contexts
 returns-else-ctx-contexts c =
     let beyond : length c.line-line.result.now ≤ c.args.ctx = omega arith in
     subst (λ (k : Kept). 0 ≡ done_of k.journal c.args.ctx) c.self.view_is
-    (reached_none c.self.inside.rooms.script c.journal-legal.ensures.fits c.args.ctx c.self.inside.rooms.journal c.journal-legal.ensures.legal c.line-line.result.now c.line-line.ensures beyond)
+    (reached_none c.self.inside.rooms.script c.self.invariant.fits c.args.ctx c.self.inside.rooms.journal c.self.invariant.legal c.line-line.result.now c.line-line.ensures beyond)
