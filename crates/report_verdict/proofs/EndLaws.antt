@@ -33,6 +33,21 @@ split_at (x ∷ es) (suc at) e h =
     let n : suc (at + 1) ≡ suc at + 1 = omega arith in
     ap (λ ys. x ∷ ys) (split_at es at e h) ∙ ap (λ m. x ∷ (take at es ++ e ∷ drop m (x ∷ es))) n
 
+-- ---- what a check tells
+
+-- a journal that isn't bad is legal
+pub legal_unless_bad : (script : Script) (journal : List Entry) (v : Verdict) → ((number : ℕ) (r : Rule) → v ≡ verdict.Bad number r → ⊥) → Judges script journal v → IsLegal script journal
+legal_unless_bad script journal verdict.Valid other h = h.0
+legal_unless_bad script journal verdict.Incomplete other h = h.0
+legal_unless_bad script journal (verdict.Bad number r) other h = absurd (other number r refl)
+
+-- and complete, if it isn't incomplete
+pub complete_unless_incomplete : (script : Script) (journal : List Entry) (v : Verdict) → ((number : ℕ) (r : Rule) → v ≡ verdict.Bad number r → ⊥) → (v ≡ verdict.Incomplete → ⊥) →
+    Judges script journal v → is_complete script journal ≡ true
+complete_unless_incomplete script journal verdict.Valid other whole h = h.1
+complete_unless_incomplete script journal verdict.Incomplete other whole h = absurd (whole refl)
+complete_unless_incomplete script journal (verdict.Bad number r) other whole h = absurd (other number r refl)
+
 module _ (script : Script) (text : Text) where
   -- ---- an entry that isn't legal next
 
@@ -78,17 +93,6 @@ module _ (script : Script) (text : Text) where
   bad_entry rest journal (Some x) read number r bad = bad_before rest journal x.entry x.rule read number r bad
 
   -- ---- a legal journal
-
-  pub legal_unless_bad : (journal : List Entry) (v : Verdict) → ((number : ℕ) (r : Rule) → v ≡ verdict.Bad number r → ⊥) → Judges script journal v → IsLegal script journal
-  legal_unless_bad journal verdict.Valid other h = h.0
-  legal_unless_bad journal verdict.Incomplete other h = h.0
-  legal_unless_bad journal (verdict.Bad number r) other h = absurd (other number r refl)
-
-  pub complete_unless_incomplete : (journal : List Entry) (v : Verdict) → ((number : ℕ) (r : Rule) → v ≡ verdict.Bad number r → ⊥) → (v ≡ verdict.Incomplete → ⊥) → Judges script journal v →
-      is_complete script journal ≡ true
-  complete_unless_incomplete journal verdict.Valid other whole h = h.1
-  complete_unless_incomplete journal verdict.Incomplete other whole h = absurd (whole refl)
-  complete_unless_incomplete journal (verdict.Bad number r) other whole h = absurd (other number r refl)
 
   -- the line at which reading ended
   pub bad_line : (rest : ℕ) (journal : List Entry) (entry : ℕ) (r : Rule) → IsBadFrom script text rest journal entry r → IsLegal script journal → IsRejected script text entry (number_of r)
