@@ -1,10 +1,11 @@
 use Rattle.std.proofs.Common.{◌≡◌, ◌∙◌, ◌^◌, ◌<◌, length, Some, refl, sym, subst, arith}
-use Rattle.std.specs.Prelude.{IfSome, slice_get}
+use Rattle.std.specs.Prelude.{IfSome, slice_get, take}
 use Rattle.std.proofs.lemmas.Option.{slice_get_read}
 use Rattle.laws.proofs.law_state.Rules.{rules_of}
 use Rattle.journal_model.specs.Legal.{World}
 use Rattle.rules_holds.specs.Marked.{AreFrames}
 use Rattle.rules_stores.specs.Kept.{bytes_of}
+use Rattle.plain_device.specs.Held.{IsHeld}
 use Rattle.plain_device.proofs.EnactLaws.{can_store}
 use Rattle.report_check.specs.Judged.{IsJudged}
 use Rattle.report_check.proofs.ReplayLaws.{room, ready, held_next, bad_at, held_first, legal_to}
@@ -66,10 +67,14 @@ loop-at-preserved c =
 
 pub returns-then-is_over : goal.returns-then-is_over
 returns-then-is_over c =
-    let to = legal_to c.args.script.now c.args.journal.now c.loop-at.state c.loop-at.stores c.loop-at.invariant.held in
+    let end : c.loop-at.at ≡ length c.args.journal.now = omega arith in
+    let held = subst (λ n. IsHeld c.args.script.now (take n c.args.journal.now) c.loop-at.state c.loop-at.stores.sizes (bytes_of c.loop-at.stores)) end c.loop-at.invariant.held in
+    let to = legal_to c.args.script.now c.args.journal.now c.loop-at.state c.loop-at.stores held in
     (to.0, sym to.1 ∙ sym c.is_over.ensures ∙ c.if-is_over.true)
 
-pub returns-else-is_over : goal.returns-else-is_over
-returns-else-is_over c =
-    let to = legal_to c.args.script.now c.args.journal.now c.loop-at.state c.loop-at.stores c.loop-at.invariant.held in
+pub returns : goal.returns
+returns c =
+    let end : c.loop-at.at ≡ length c.args.journal.now = omega arith in
+    let held = subst (λ n. IsHeld c.args.script.now (take n c.args.journal.now) c.loop-at.state c.loop-at.stores.sizes (bytes_of c.loop-at.stores)) end c.loop-at.invariant.held in
+    let to = legal_to c.args.script.now c.args.journal.now c.loop-at.state c.loop-at.stores held in
     (to.0, sym to.1 ∙ sym c.is_over.ensures ∙ c.if-is_over.false)

@@ -1,8 +1,10 @@
-use Rattle.std.proofs.Common.{◌≡◌, ◌^◌, ◌<◌, length, Some, Result, refl, subst, arith}
-use Rattle.std.specs.Prelude.{IfOk, slice_get}
+use Rattle.std.proofs.Common.{◌≡◌, ◌^◌, ◌<◌, length, Some, refl, subst, arith}
+use Rattle.std.specs.Prelude.{IfOk, slice_get, take}
 use Rattle.std.proofs.lemmas.Option.{slice_get_read}
 use Rattle.journal_model.specs.declared.state.State.{State}
+use Rattle.journal_model.specs.Legal.{stores_of}
 use Rattle.page_accounts.specs.Accounts.{AreAccountsOf}
+use Rattle.plain_device.specs.Held.{IsHeld}
 use Rattle.report_check.proofs.ReplayLaws.{entry_ready, leads_first, leads_on, leads_to}
 use Rattle.report_check.proofs.tail.accounts_after.Goals as goal
 
@@ -26,5 +28,9 @@ loop-entry-preserved c =
 
 pub returns : goal.returns
 returns c =
-    let to = leads_to c.args.script.now c.args.journal.now c.loop-entry.state c.loop-entry.invariant in
-    subst (λ (s : State). IfOk c.accounts_of.result (AreAccountsOf c.args.script.now s.core)) to c.accounts_of.ensures
+    let script = c.args.script.now in
+    let journal = c.args.journal.now in
+    let end : c.loop-entry.entry-index ≡ length c.args.journal.now = omega arith in
+    let led = subst (λ n. IsHeld script (take n journal) c.loop-entry.state script.sizes (stores_of script (take n journal))) end c.loop-entry.invariant in
+    let to = leads_to script journal c.loop-entry.state led in
+    subst (λ (s : State). IfOk c.accounts_of.result (AreAccountsOf script s.core)) to c.accounts_of.ensures
