@@ -18,11 +18,12 @@ use Rattle.journal_model.specs.Places.{place_of, aperture}
 use Rattle.journal_model.specs.Spares.{remaining}
 use Rattle.journal_model.specs.Waits.{same_job, changes, unfinished, jobs_before_read, jobs_before_write}
 use Rattle.journal_model.specs.Legal.{World, first_world, world_along, world_of, state_of, IsLegalNext, IsLegalFrom, IsLegal}
-use Rattle.law_facts.specs.Facts.{touches, writes_to, conflict, LegalConflictsWait}
+use Rattle.law_facts.specs.Facts.{touches, writes_to, conflict, LegalConflictsWait, LegalReadyJobsMayRun}
 use Rattle.laws.specs.lemma_bytes_model.Memory.{touched}
 use Rattle.laws.specs.law_holders.Holding.{seen}
 use Rattle.laws.proofs.lemma_bytes_model.Actions.{clash, bool_cases, or_first, or_second}
 use Rattle.laws.proofs.lemma_bytes_view.Binds.{among_all}
+use Rattle.laws.proofs.lemma_bytes_view.Jobs.{waited_is_done}
 use Rattle.laws.proofs.lemma_bytes_view.MoreJobs.{among_unfinished}
 use Rattle.laws.proofs.law_transparent.Law.{world_push, legal_push}
 use Rattle.law_facts.proofs.Jobs.{has_of}
@@ -171,3 +172,17 @@ waits_law script journal fits l m n i j page less a b h =
     let t = both_touch (state_of script journal).core i j page h in
     waits_of script fits journal l m n i j a b
     (all_law script fits journal l m n i j page less a b (touches_undone script fits journal l m i page a t.0) (touches_undone script fits journal l n j page b t.1) h)
+
+pub ready_law : LegalReadyJobsMayRun
+ready_law script journal fits l m n i j page less a b u none = ⊎_elim (λ h. clash (ends h) u) (λ h. h) (bool_cases (conflict (state_of script journal).core page i j))
+  where
+    ends : conflict (state_of script journal).core page i j ≡ true → i.finished ≡ true
+    ends h =
+        let t = both_touch (state_of script journal).core i j page h in
+        let w = all_law script fits journal l m n i j page less a b u (touches_undone script fits journal l n j page b t.1) h in
+        let two : Some w.0 ≡ Some j = sym w.1 ∙ b in
+        let is : w.0 ≡ j = cc in
+        let k = w.2 in
+        let among : list_any (same_job k.job.id) j.waits ≡ true = subst (λ (z : Job). list_any (same_job k.job.id) z.waits ≡ true) is k.among in
+        let done : k.job.finished ≡ true = waited_is_done (state_of script journal).core j.waits k.at k.job none k.here among in
+        clash done (unfinished_too script fits journal l k.at m k.job i k.here a k.after u)

@@ -1,7 +1,7 @@
 -- Worked journals, by computation, in whose states the premises of the laws hold: two buffers of two pages want the two pages of VRAM, or two
 -- jobs use one buffer, and no packet runs.
 use Rattle.std.proofs.Common.{◌≡◌, ℕ, Bool, true, false, List, [], ◌∷◌, refl, Some, map}
-use Rattle.std.specs.Prelude.{not, ◌&&◌}
+use Rattle.std.specs.Prelude.{not, is_none, ◌&&◌}
 use Rattle.std.specs.List.{list_any}
 use Rattle.ttm_base.specs.declared.Mem.TheVariants.{System, Vram}
 use Rattle.ttm_base.specs.declared.Actor.TheVariants as actor
@@ -16,6 +16,7 @@ use Rattle.journal_model.specs.State.{buffer_in, target_spans}
 use Rattle.journal_model.specs.Commands.{whole}
 use Rattle.journal_model.specs.Places.{place_of, aperture}
 use Rattle.journal_model.specs.Holds.{is_free_page}
+use Rattle.journal_model.specs.Waits.{waited_for}
 use Rattle.journal_model.specs.Scheduled.{run_of, run_along}
 use Rattle.law_facts.specs.Facts.{touches, writes_to, conflict, is_job_of, kernel_jobs}
 use Rattle.journal_model.proofs.Rows.{sizes, buf, buf_id, span, script_of, alone}
@@ -167,3 +168,25 @@ used_conflicts = refl
 
 used_waits : map (λ j. j.waits) used.jobs ≡ [] ∷ (record { ctx = 1; num = 1 } ∷ []) ∷ []
 used_waits = refl
+
+-- ---- after jobs of two engines on two buffers: neither waits, so the second may run first
+
+abbrev apart_script : Script
+apart_script =
+    script_of (sizes false 0 0 2 0 2) (buf 1 (whole System) ∷ buf 1 (whole System) ∷ [])
+    ((command.New (buf_id 0) ∷ command.New (buf_id 1) ∷ command.Submit 1 (op.Fill (buf_id 0) 0 16 122 ∷ []) ∷ command.Submit 2 (op.Fill (buf_id 1) 0 16 122 ∷ []) ∷ []) ∷ [])
+
+abbrev apart : Core
+apart = after_of apart_script 13
+
+apart_waits : map (λ j. is_none (waited_for apart j.waits)) apart.jobs ≡ true ∷ true ∷ []
+apart_waits = refl
+
+apart_is_touched : jobs_touch apart (frame 0) ≡ true ∷ false ∷ []
+apart_is_touched = refl
+
+apart_too : jobs_touch apart (frame 1) ≡ false ∷ true ∷ []
+apart_too = refl
+
+apart_conflicts : conflicts apart (frame 0) ≡ (true ∷ false ∷ []) ∷ (false ∷ false ∷ []) ∷ []
+apart_conflicts = refl

@@ -1,7 +1,7 @@
 -- The facts on which transparency rests, as laws of the state after each legal journal (dma_fence, dma_resv, the move fence of a
 -- manager, delayed destroys). The functions of this crate have them as contracts, by their names here. A job touches the pages of its packets
 -- that haven't run; it is unfinished until its end is told.
-use Rattle.std.specs.Prelude.{◌≡◌, ℕ, ◌<◌, Bool, true, false, List, Some, Contains, ◌⊎◌, ◌&&◌, ◌||◌, filter, map, take, option_to_list, slice_get, if◌then◌else◌}
+use Rattle.std.specs.Prelude.{◌≡◌, ℕ, ◌<◌, Bool, true, false, List, Some, None, Contains, ◌⊎◌, ◌&&◌, ◌||◌, filter, map, take, option_to_list, slice_get, if◌then◌else◌}
 use Rattle.std.specs.List.{list_any}
 use Rattle.ttm_base.specs.declared.Mem.TheVariants.{Vram}
 use Rattle.ttm_base.specs.declared.BufId.{BufId}
@@ -19,7 +19,7 @@ use Rattle.journal_model.specs.declared.state.Ghost.{Ghost}
 use Rattle.journal_model.specs.State.{live_in, buffer_in, target_spans}
 use Rattle.journal_model.specs.Places.{pages_of, frames_of, place_of, aperture}
 use Rattle.journal_model.specs.Holds.{is_free_page, held_frames, has_number}
-use Rattle.journal_model.specs.Waits.{same_job, jobs_before_read, jobs_before_write}
+use Rattle.journal_model.specs.Waits.{same_job, waited_for, jobs_before_read, jobs_before_write}
 use Rattle.journal_model.specs.After.{ComesAfter}
 use Rattle.journal_model.specs.Spares.{remaining}
 use Rattle.journal_model.specs.Legal.{state_of}
@@ -133,6 +133,15 @@ ConflictsWait c =
 
 abbrev pub LegalConflictsWait : Type 0
 LegalConflictsWait = ForStates ConflictsWait
+
+-- so a job that needs to wait for none any more is in conflict with no unfinished job that was emitted before it
+abbrev pub ReadyJobsMayRun : Core → Type 0
+ReadyJobsMayRun c =
+    (m n : ℕ) (i j : Job) (page : Page) → m < n → slice_get c.jobs m ≡ Some i → slice_get c.jobs n ≡ Some j → i.finished ≡ false → waited_for c j.waits ≡ None →
+    conflict c page i j ≡ false
+
+abbrev pub LegalReadyJobsMayRun : Type 0
+LegalReadyJobsMayRun = ForStates ReadyJobsMayRun
 
 -- ---- the aperture
 

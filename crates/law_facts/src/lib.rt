@@ -2,7 +2,7 @@
 //! that does nothing.
 #![tactic(auto)]
 
-ghost use Rattle.law_facts.specs.Facts.{LegalJobsAreInOrder, LegalPlacesAreFenced, LegalTargetsAreFenced, LegalConflictsWait};
+ghost use Rattle.law_facts.specs.Facts.{LegalJobsAreInOrder, LegalPlacesAreFenced, LegalTargetsAreFenced, LegalConflictsWait, LegalReadyJobsMayRun};
 ghost use Rattle.law_facts.specs.Facts.{LegalGhostsAreFenced, LegalFreePagesAreFenced, LegalMappingsStay};
 ghost use Rattle.journal_model.specs.MarkLaws.{MarksTellNothing, MarksTurnNothing};
 
@@ -27,6 +27,11 @@ pub fn targets_are_fenced()
 /// Of two jobs whose packets that haven't run are in conflict the later waits for the earlier, or for a job that comes after that one.
 pub fn conflicts_wait()
     ensures { LegalConflictsWait }
+{}
+
+/// A job whose waits are all done is in conflict with no unfinished job that was emitted before it, so its packets may run at once.
+pub fn ready_jobs_may_run()
+    ensures { LegalReadyJobsMayRun }
 {}
 
 /// An unfinished job that touches a page of VRAM or a frame of a ghost is a job of the ghost, or an unfinished job of the ghost comes after
