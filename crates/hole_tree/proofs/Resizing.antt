@@ -12,6 +12,8 @@ use Rattle.hole_tree.specs.Shape.{Shape, IsLow}
 use Rattle.hole_tree.specs.Trees.{IsNode, IsSound}
 use Rattle.hole_tree.specs.declared.tree.Node.{Node}
 use Rattle.hole_tree.specs.Sorting.{replaced}
+use Rattle.hole_tree.specs.declared.sort.ByStart.{ByStart}
+use Rattle.hole_tree.proofs.Looking.{of_start}
 use Rattle.hole_tree.proofs.Rises.{past_middle, rising_root, left_past}
 use Rattle.hole_tree.proofs.Sides.{node_count, node_rising, node_rising_left, node_rising_right}
 use Rattle.hole_tree.proofs.SortedByLength.{past_found, find_start, start_sorted}
@@ -109,7 +111,7 @@ pub record IsLeft (s : Shape) (n : Node) (x : Span) : Type 0 where
   pub rising : IsRising n.left.spans
   pub found : find (starts_at x.start) n.left.spans ≡ Some x
 
-pub is_left : {s : Shape} {n : Node} {x : Span} → IsNode s n.left n.hole n.right → x.start < n.hole.start → IsRising s.spans → find (starts_at x.start) s.spans ≡ Some x → IsLeft s n x
+pub is_left : {s : Shape} {n : Node ByStart} {x : Span} → IsNode s n.left n.hole n.right → x.start < n.hole.start → IsRising s.spans → find (starts_at x.start) s.spans ≡ Some x → IsLeft s n x
 is_left {s} {n} {x} node p h e =
     let rising = node_rising node h in
     record {
@@ -128,7 +130,7 @@ pub record IsRight (s : Shape) (n : Node) (x : Span) : Type 0 where
   pub rising : IsRising n.right.spans
   pub found : find (starts_at x.start) n.right.spans ≡ Some x
 
-pub is_right : {s : Shape} {n : Node} {x : Span} → IsNode s n.left n.hole n.right → n.hole.start < x.start → IsRising s.spans → find (starts_at x.start) s.spans ≡ Some x → IsRight s n x
+pub is_right : {s : Shape} {n : Node ByStart} {x : Span} → IsNode s n.left n.hole n.right → n.hole.start < x.start → IsRising s.spans → find (starts_at x.start) s.spans ≡ Some x → IsRight s n x
 is_right {s} {n} {x} node p h e =
     let rising = node_rising node h in
     record {
@@ -178,22 +180,28 @@ low_same : {s t : Shape} → IsLow s → t.height ≡ s.height → length t.span
 low_same {s} {t} l h n = record { fewer = omega (arith, l.fewer); square = rw (h, n) l.square }
 
 -- a node with such a side is sound
-pub sound_left : {n m : Node} → IsSound n → m.left.height ≡ n.left.height → length m.left.spans ≡ length n.left.spans → m.right ≡ n.right → m.lean ≡ n.lean → m.longest_left ≡ longest m.left.spans → m.longest_right ≡ n.longest_right → IsSound m
+pub sound_left : {n m : Node ByStart} → IsSound of_start n → m.left.height ≡ n.left.height → length m.left.spans ≡ length n.left.spans → m.right ≡ n.right → m.lean ≡ n.lean → m.of_left.longest ≡ longest m.left.spans → m.of_right ≡ n.of_right → IsSound of_start m
 sound_left {n} {m} i h c r k a b =
     let right : m.right.height ≡ n.right.height = ap (λ t. t.height) r in
     record {
       lean = rw (k, h, right) i.lean;
-      longest_left = a;
-      longest_right = b ∙ i.longest_right ∙ sym (ap (λ t. longest t.spans) r);
-      sides = record { left = low_same i.sides.left h c; right = rw r i.sides.right };
+      sides = record {
+        left = low_same i.sides.left h c;
+        right = rw r i.sides.right;
+        of_left = ap of_start a;
+        of_right = b ∙ i.sides.of_right ∙ sym (ap (λ t. of_start (longest t.spans)) r);
+      };
     }
 
-pub sound_right : {n m : Node} → IsSound n → m.left ≡ n.left → m.right.height ≡ n.right.height → length m.right.spans ≡ length n.right.spans → m.lean ≡ n.lean → m.longest_left ≡ n.longest_left → m.longest_right ≡ longest m.right.spans → IsSound m
+pub sound_right : {n m : Node ByStart} → IsSound of_start n → m.left ≡ n.left → m.right.height ≡ n.right.height → length m.right.spans ≡ length n.right.spans → m.lean ≡ n.lean → m.of_left ≡ n.of_left → m.of_right.longest ≡ longest m.right.spans → IsSound of_start m
 sound_right {n} {m} i l h c k a b =
     let left : m.left.height ≡ n.left.height = ap (λ t. t.height) l in
     record {
       lean = rw (k, left, h) i.lean;
-      longest_left = a ∙ i.longest_left ∙ sym (ap (λ t. longest t.spans) l);
-      longest_right = b;
-      sides = record { left = rw l i.sides.left; right = low_same i.sides.right h c };
+      sides = record {
+        left = rw l i.sides.left;
+        right = low_same i.sides.right h c;
+        of_left = a ∙ i.sides.of_left ∙ sym (ap (λ t. of_start (longest t.spans)) l);
+        of_right = ap of_start b;
+      };
     }

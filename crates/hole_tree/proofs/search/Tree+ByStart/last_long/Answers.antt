@@ -1,0 +1,33 @@
+use Rattle.std.proofs.Common.{◌∙◌, arith}
+use Rattle.hole_tree.proofs.Looking.{long_above_last, long_here_last, long_below_last, Levels, levels}
+use Rattle.hole_tree.proofs.search.Tree+ByStart.last_long.Goals as goal
+
+pub loop-node-preserved-then-pages-node : goal.loop-node-preserved-then-pages-node
+loop-node-preserved-then-pages-node g c =
+    let s = c.loop-node.tree.now in
+    let n = c.in-Some.node.now in
+    let e = c.in-Some.ensures.shape in
+    let d = c.in-Some.ensures.sound in
+    let high : Levels s n = levels s n e d in
+    record {
+      found = long_above_last c.args.pages s n e d c.requires c.if-pages-node.true ∙ c.loop-node.invariant.found;
+      counts = omega (arith, c.in-Some.ensures.steps);
+      cost = omega (arith, c.in-Some.ensures.steps);
+    }
+
+pub loop-node-preserved : goal.loop-node-preserved
+loop-node-preserved g c =
+    let s = c.loop-node.tree.now in
+    let n = c.in-Some.node.now in
+    let e = c.in-Some.ensures.shape in
+    let d = c.in-Some.ensures.sound in
+    let high : Levels s n = levels s n e d in
+    record {
+      found = long_below_last c.args.pages s n e d c.if-pages-node.false (omega (arith, c.pages.ensures)) ∙ c.loop-node.invariant.found;
+      counts = omega (arith, c.in-Some.ensures.steps);
+      cost = omega (arith, c.in-Some.ensures.steps);
+    }
+
+pub returns-then-pages-clause-found : goal.returns-then-pages-clause-found
+returns-then-pages-clause-found g c =
+    long_here_last c.args.pages c.loop-node.tree.now c.in-Some.node.now c.in-Some.ensures.shape c.in-Some.ensures.sound c.if-pages-node.false (omega (arith, c.pages.ensures)) ∙ c.loop-node.invariant.found
