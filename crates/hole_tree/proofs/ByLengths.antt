@@ -10,7 +10,6 @@ use Rattle.ttm_base.specs.declared.Span.{Span}
 use Rattle.ttm_base.specs.declared.Mode.{Mode}
 use Rattle.ttm_base.specs.Reach.{length_of}
 use Rattle.hole_tree.specs.declared.order.Order.TheVariants as order
-use Rattle.hole_tree.specs.declared.sort.ByLength.{ByLength}
 use Rattle.hole_tree.specs.declared.tree.Node.{Node}
 use Rattle.hole_tree.specs.declared.request.Request.{Request}
 use Rattle.hole_tree.specs.Fitting.{fits, is_long}
@@ -30,27 +29,27 @@ skipped pages test f (y ∷ l) k r s p =
     let q : length_of y ≤ length_of k = not_longer y k e in
     rw (f y (omega arith)) (skipped pages test f l k r s.1 p)
 
-at_sorted : (s : Shape) (n : Node ByLength) → s ≡ shape_of_node n → IsSorted order.ByLength s.spans → IsSorted order.ByLength (n.left.spans ++ n.hole ∷ n.right.spans)
+at_sorted : {S : Type 0} (s : Shape) (n : Node S) → s ≡ shape_of_node n → IsSorted order.ByLength s.spans → IsSorted order.ByLength (n.left.spans ++ n.hole ∷ n.right.spans)
 at_sorted s n e h = let P : Shape → Type 0 = λ t. IsSorted order.ByLength t.spans in subst P e h
 
-pub sorted_below : (s : Shape) (n : Node ByLength) → s ≡ shape_of_node n → IsSorted order.ByLength s.spans → IsSorted order.ByLength n.left.spans
+pub sorted_below : {S : Type 0} (s : Shape) (n : Node S) → s ≡ shape_of_node n → IsSorted order.ByLength s.spans → IsSorted order.ByLength n.left.spans
 sorted_below s n e h = sorted_left order.ByLength n.left.spans (n.hole ∷ n.right.spans) (at_sorted s n e h)
 
-pub sorted_above : (s : Shape) (n : Node ByLength) → s ≡ shape_of_node n → IsSorted order.ByLength s.spans → IsSorted order.ByLength n.right.spans
+pub sorted_above : {S : Type 0} (s : Shape) (n : Node S) → s ≡ shape_of_node n → IsSorted order.ByLength s.spans → IsSorted order.ByLength n.right.spans
 sorted_above s n e h = sorted_right order.ByLength n.left.spans n.hole n.right.spans (at_sorted s n e h)
 
-pub fewer_below : (s : Shape) (n : Node ByLength) → s ≡ shape_of_node n → length n.left.spans < length s.spans
+pub fewer_below : {S : Type 0} (s : Shape) (n : Node S) → s ≡ shape_of_node n → length n.left.spans < length s.spans
 fewer_below s n e = let c : length s.spans ≡ length (n.left.spans ++ n.hole ∷ n.right.spans) = ap (λ t. length t.spans) e in omega (arith, length-append n.left.spans (n.hole ∷ n.right.spans))
 
-pub fewer_above : (s : Shape) (n : Node ByLength) → s ≡ shape_of_node n → length n.right.spans < length s.spans
+pub fewer_above : {S : Type 0} (s : Shape) (n : Node S) → s ≡ shape_of_node n → length n.right.spans < length s.spans
 fewer_above s n e = let c : length s.spans ≡ length (n.left.spans ++ n.hole ∷ n.right.spans) = ap (λ t. length t.spans) e in omega (arith, length-append n.left.spans (n.hole ∷ n.right.spans))
 
 -- ---- the first that is long enough
 
-pub long_past : (pages : ℕ) (s : Shape) (n : Node ByLength) → s ≡ shape_of_node n → IsSorted order.ByLength s.spans → length_of n.hole < pages → find (is_long pages) s.spans ≡ find (is_long pages) n.right.spans
+pub long_past : (pages : ℕ) {S : Type 0} (s : Shape) (n : Node S) → s ≡ shape_of_node n → IsSorted order.ByLength s.spans → length_of n.hole < pages → find (is_long pages) s.spans ≡ find (is_long pages) n.right.spans
 long_past pages s n e h p = ap (λ t. find (is_long pages) t.spans) e ∙ skipped pages (is_long pages) (λ x q. lt-leb _ _ q) n.left.spans n.hole n.right.spans (at_sorted s n e h) p
 
-pub long_up_to : (pages : ℕ) (s : Shape) (n : Node ByLength) → s ≡ shape_of_node n → pages ≤ length_of n.hole → find (is_long pages) s.spans ≡ option_or (find (is_long pages) n.left.spans) (Some n.hole)
+pub long_up_to : (pages : ℕ) {S : Type 0} (s : Shape) (n : Node S) → s ≡ shape_of_node n → pages ≤ length_of n.hole → find (is_long pages) s.spans ≡ option_or (find (is_long pages) n.left.spans) (Some n.hole)
 long_up_to pages s n e p =
     let t : is_long pages n.hole ≡ true = le-leb _ _ p in
     ap (λ t. find (is_long pages) t.spans) e ∙ find-append (is_long pages) n.left.spans (n.hole ∷ n.right.spans) ∙ rw t
@@ -65,7 +64,7 @@ or_none (Some x) = refl
 
 -- ---- the first that fits
 
-pub fit_past : (m : Mode) (q : Request) (s : Shape) (n : Node ByLength) → s ≡ shape_of_node n → IsSorted order.ByLength s.spans → length_of n.hole < q.pages → find (fits m q) s.spans ≡ find (fits m q) n.right.spans
+pub fit_past : (m : Mode) (q : Request) {S : Type 0} (s : Shape) (n : Node S) → s ≡ shape_of_node n → IsSorted order.ByLength s.spans → length_of n.hole < q.pages → find (fits m q) s.spans ≡ find (fits m q) n.right.spans
 fit_past m q s n e h p =
     ap (λ t. find (fits m q) t.spans) e
     ∙ skipped q.pages (fits m q) (λ x k. false_from_ne_true _ (λ f. let z = fit_numbers m q x f in absurd (omega (arith, z.length)))) n.left.spans n.hole n.right.spans (at_sorted s n e h) p
@@ -74,14 +73,14 @@ none_of : (o : Option Span) → is_some o ≡ false → o ≡ None
 none_of None e = refl
 none_of (Some x) e = absurd (both_ways true e refl)
 
-pub entry_below : (test : Span → Bool) (s : Shape) (n : Node ByLength) (o : Option Span) → s ≡ shape_of_node n → o ≡ find test n.left.spans → is_some o ≡ true → o ≡ find test s.spans
+pub entry_below : (test : Span → Bool) {S : Type 0} (s : Shape) (n : Node S) (o : Option Span) → s ≡ shape_of_node n → o ≡ find test n.left.spans → is_some o ≡ true → o ≡ find test s.spans
 entry_below test s n None e f h = absurd (both_ways false refl h)
 entry_below test s n (Some x) e f h = sym (ap (λ t. find test t.spans) e ∙ first_left test n.left.spans n.hole n.right.spans x (sym f))
 
-pub entry_here : (test : Span → Bool) (s : Shape) (n : Node ByLength) (o : Option Span) → s ≡ shape_of_node n → o ≡ find test n.left.spans → is_some o ≡ false → test n.hole ≡ true → Some n.hole ≡ find test s.spans
+pub entry_here : (test : Span → Bool) {S : Type 0} (s : Shape) (n : Node S) (o : Option Span) → s ≡ shape_of_node n → o ≡ find test n.left.spans → is_some o ≡ false → test n.hole ≡ true → Some n.hole ≡ find test s.spans
 entry_here test s n o e f h t = sym (ap (λ u. find test u.spans) e ∙ first_root test n.left.spans n.hole n.right.spans (sym f ∙ none_of o h) t)
 
-pub entry_above : (test : Span → Bool) (s : Shape) (n : Node ByLength) (o : Option Span) → s ≡ shape_of_node n → o ≡ find test n.left.spans → is_some o ≡ false → test n.hole ≡ false → find test n.right.spans ≡ find test s.spans
+pub entry_above : (test : Span → Bool) {S : Type 0} (s : Shape) (n : Node S) (o : Option Span) → s ≡ shape_of_node n → o ≡ find test n.left.spans → is_some o ≡ false → test n.hole ≡ false → find test n.right.spans ≡ find test s.spans
 entry_above test s n o e f h t = sym (ap (λ u. find test u.spans) e ∙ first_right test n.left.spans n.hole n.right.spans (sym f ∙ none_of o h) t)
 
 pub is_some-map : {A B : Type 0} (f : A → B) (o : Option A) → is_some (option_map f o) ≡ is_some o

@@ -12,7 +12,7 @@ ghost use Rattle.hole_tree.specs.Trees.{IsBlankNode};
 
 use crate::hole::Hole;
 use crate::request::Request;
-use crate::sort::{ByLength, ByStart, Sort};
+use crate::sort::{ByLength, ByStart, Longest, Sort};
 use crate::tree::{Node, Taken, Tree};
 use std::alloc::Global;
 use std::marker::{Brand, Model};
@@ -267,7 +267,7 @@ impl Holes {
     pub fn longest_hole(&self) -> u32
         ensures { result ≡ longest self.now.holes }
     {
-        self.by_start.kept().longest
+        self.by_start.kept().longest()
     }
 
     /// The shortest such hole, where a step is a node that is opened.

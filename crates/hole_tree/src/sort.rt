@@ -26,11 +26,17 @@ pub trait Sort: Copy {
         ensures { result ≡ false → (a : ℕ) → self ≡ keeps (max pages a) → self ≡ keeps a };
 }
 
+/// A sort of which a node keeps the longest hole of a side.
+pub trait Longest: Sort {
+    /// How many pages it has, or 0 where there is none.
+    fn longest(self) -> u32
+        ensures { (a : ℕ) → self ≡ Self.keeps a → result ≡ a };
+}
+
 /// Holes by start. A node keeps the longest hole of a side.
 #[derive(Clone, Copy)]
 pub struct ByStart {
-    /// How many pages it has, or 0 where there is none.
-    pub longest: u32,
+    longest: u32,
 }
 
 /// Holes by length, and by start among equals. A node keeps nothing of a side.
@@ -60,6 +66,12 @@ impl Sort for ByStart {
 
     fn may_lose(self, pages: u32) -> bool {
         self.longest == pages
+    }
+}
+
+impl Longest for ByStart {
+    fn longest(self) -> u32 {
+        self.longest
     }
 }
 

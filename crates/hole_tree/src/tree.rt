@@ -15,7 +15,7 @@ ghost use Rattle.hole_tree.specs.declared.lean.Lean.TheVariants.{Left, Right};
 
 use crate::hole::Hole;
 use crate::lean::Lean;
-use crate::sort::{ByStart, Sort};
+use crate::sort::{Longest, Sort};
 use std::marker::Model;
 use std::mem;
 use step_count::Steps;
@@ -320,7 +320,7 @@ impl<S: Sort> Tree<S> {
     }
 }
 
-impl Tree<ByStart> {
+impl<S: Longest> Tree<S> {
     /// Puts another hole in the place of one.
     pub(crate) fn resize(&mut self, from: &Hole, to: &Hole)
         requires rising { IsRising self.old.spans }
@@ -333,28 +333,28 @@ impl Tree<ByStart> {
         };
         if from.start() < node.hole.start() {
             node.left.resize(from, to);
-            node.of_left = node.left.longest_resized(node.of_left.longest, *from, *to);
+            node.of_left = node.left.kept_resized(node.of_left.longest(), *from, *to);
             return;
         }
         if node.hole.start() < from.start() {
             node.right.resize(from, to);
-            node.of_right = node.right.longest_resized(node.of_right.longest, *from, *to);
+            node.of_right = node.right.kept_resized(node.of_right.longest(), *from, *to);
             return;
         }
         node.hole = *to;
     }
 
     /// What is kept of it where its longest hole had `was` pages until a hole was put in the place of another.
-    fn longest_resized(&self, was: u32, from: Hole, to: Hole) -> ByStart
+    fn kept_resized(&self, was: u32, from: Hole, to: Hole) -> S
         requires held { length_of to ≤ longest self.now.spans }
         requires others { max was (length_of to) ≡ max (length_of from) (longest self.now.spans) }
-        ensures { result.longest ≡ longest self.now.spans }
+        ensures { result ≡ S.keeps (longest self.now.spans) }
     {
         let pages = to.pages();
         if pages >= was {
-            return ByStart { longest: pages };
+            return S::of(pages);
         }
-        self.kept_without(ByStart { longest: was }, from.pages())
+        self.kept_without(S::of(was), from.pages())
     }
 }
 

@@ -6,8 +6,8 @@ use Rattle.ttm_base.specs.Reach.{length_of}
 use Rattle.hole_tree.specs.Fitting.{is_long}
 use Rattle.hole_tree.specs.Leans.{shape_of_entry}
 use Rattle.hole_tree.proofs.ByLengths.{sorted_below, sorted_above, long_past, long_up_to, or_some, or_none}
-use Rattle.hole_tree.proofs.lengths.Tree+ByLength.shortest_long.Goals as goal
-use Rattle.hole_tree.proofs.lengths.Tree+ByLength.shortest_long.Goals.{then-pages, else-pages}
+use Rattle.hole_tree.proofs.tree.Tree.shortest_long.Goals as goal
+use Rattle.hole_tree.proofs.tree.Tree.shortest_long.Goals.{then-pages, else-pages}
 
 pub loop-node-init : goal.loop-node-init
 loop-node-init g c =

@@ -3,9 +3,9 @@ use Rattle.ttm_base.specs.declared.Mode.TheVariants.{High}
 use Rattle.hole_tree.specs.Fitting.{fits, find_last}
 use Rattle.hole_tree.specs.Rising.{IsRising}
 use Rattle.hole_tree.proofs.Looking.{rising_above, rising_below, shorter_above, shorter_below, unreached_above_last, unreached_below_last, none_of, last_above, last_here, last_below}
-use Rattle.hole_tree.proofs.search.Tree+ByStart.+highest_of_all.Given.{Over}
-use Rattle.hole_tree.proofs.search.Tree+ByStart.+highest_of_all.Goals as goal
-use Rattle.hole_tree.proofs.search.Tree+ByStart.+highest_of_all.Goals.{After-fits, then-reaches_right+else-is_some, else-reaches_right}
+use Rattle.hole_tree.proofs.tree.Tree.+highest_of_all.Given.{Over}
+use Rattle.hole_tree.proofs.tree.Tree.+highest_of_all.Goals as goal
+use Rattle.hole_tree.proofs.tree.Tree.+highest_of_all.Goals.{After-fits, then-reaches_right+else-is_some, else-reaches_right}
 
 pub highest_of_all-above-requires : goal.highest_of_all-above-requires
 highest_of_all-above-requires g t c κs lives =
@@ -29,7 +29,7 @@ returns-then-is_some-clause-found g t c = last_above _ (fits High c.args.request
 missed : (g : Over) (t : ℕ) (c : After-fits g t) → find_last (fits High c.args.request.now) c.in_ok-node.node.now.right.spans ≡ None
 missed g t c = elim c.if-reaches_right.branch [
   | then-reaches_right+else-is_some w ↦ none_of _ _ _ w.highest_of_all-above.ensures.found (sym w.if-is_some.ensures)
-  | else-reaches_right w ↦ unreached_above_last High c.args.request.now c.args.self.now c.in_ok-node.node.now c.in_ok-node.ensures.shape c.in_ok-node.ensures.sound c.requires.rising (sym w.if-reaches_right.ensures)
+  | else-reaches_right w ↦ unreached_above_last High c.args.request.now c.args.self.now c.in_ok-node.node.now c.in_ok-node.ensures.shape _ (w.longest.ensures _ c.in_ok-node.ensures.sound.sides.of_right) c.requires.rising (sym w.if-reaches_right.ensures)
 ]
 
 pub returns-then-fits-clause-found : goal.returns-then-fits-clause-found
@@ -42,5 +42,5 @@ returns-then-reaches_left-clause-found g t c =
 
 pub returns-clause-found : goal.returns-clause-found
 returns-clause-found g t c =
-    sym (unreached_below_last High c.args.request.now c.args.self.now c.in_ok-node.node.now c.in_ok-node.ensures.shape c.in_ok-node.ensures.sound c.requires.rising (sym c.if-reaches_left.ensures))
+    sym (unreached_below_last High c.args.request.now c.args.self.now c.in_ok-node.node.now c.in_ok-node.ensures.shape _ (c.longest-2.ensures _ c.in_ok-node.ensures.sound.sides.of_left) c.requires.rising (sym c.if-reaches_left.ensures))
     ∙ last_below (fits High c.args.request.now) c.args.self.now c.in_ok-node.node.now c.in_ok-node.ensures.shape (missed g t (goal.at.returns-clause-found g t c).After-fits) (sym c.if-fits.ensures)

@@ -8,10 +8,10 @@ use Rattle.hole_tree.specs.Rising.{IsRising}
 use Rattle.hole_tree.proofs.Beside.{past_right, by_right, past_left, by_left}
 use Rattle.hole_tree.proofs.ByLengths.{or_some}
 use Rattle.hole_tree.proofs.Rises.{rising_left, rising_right}
-use Rattle.hole_tree.proofs.search.Tree+ByStart.beside.Goals as goal
+use Rattle.hole_tree.proofs.tree.Tree.beside.Goals as goal
 
 pub loop-node-preserved-then-end-page : goal.loop-node-preserved-then-end-page
-loop-node-preserved-then-end-page c =
+loop-node-preserved-then-end-page g c =
     let n = c.in-Some.node.now in
     let page = c.args.page in
     let rising : IsRising (n.left.spans ++ n.hole ∷ n.right.spans) = subst IsRising c.in-Some.ensures.spans c.loop-node.invariant.rising in
@@ -26,7 +26,7 @@ loop-node-preserved-then-end-page c =
     }
 
 pub loop-node-preserved : goal.loop-node-preserved
-loop-node-preserved c =
+loop-node-preserved g c =
     let n = c.in-Some.node.now in
     let page = c.args.page in
     let rising : IsRising (n.left.spans ++ n.hole ∷ n.right.spans) = subst IsRising c.in-Some.ensures.spans c.loop-node.invariant.rising in

@@ -4,7 +4,7 @@ use Rattle.ttm_base.specs.declared.Mode.TheVariants.{Low}
 use Rattle.ttm_base.specs.Reach.{length_of}
 use Rattle.hole_tree.specs.Fitting.{fits}
 use Rattle.hole_tree.proofs.ByLengths.{sorted_below, sorted_above, fewer_below, fewer_above, fit_past, entry_below, entry_here, entry_above, is_some-map}
-use Rattle.hole_tree.proofs.lengths.Tree+ByLength.+shortest_of_all.Goals as goal
+use Rattle.hole_tree.proofs.tree.Tree.+shortest_of_all.Goals as goal
 
 pub shortest_of_all-requires : goal.shortest_of_all-requires
 shortest_of_all-requires g t c κs within =

@@ -4,7 +4,7 @@ use Rattle.std.specs.Option.{option_or}
 use Rattle.hole_tree.specs.declared.order.Order.TheVariants as order
 use Rattle.hole_tree.specs.Fitting.{is_long}
 use Rattle.hole_tree.specs.Sorting.{IsSorted}
-use Rattle.hole_tree.proofs.lengths.Tree+ByLength.shortest_long.Given as goal
+use Rattle.hole_tree.proofs.tree.Tree.shortest_long.Given as goal
 
 abbrev pub invariant-loop-node : goal.invariant-loop-node
 invariant-loop-node g l = record {

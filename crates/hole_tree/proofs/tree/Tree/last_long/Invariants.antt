@@ -1,11 +1,10 @@
 use Rattle.std.specs.Prelude.{◌≡◌, ◌+◌, ◌≤◌}
-use Rattle.std.specs.List.{find}
-use Rattle.hole_tree.specs.Fitting.{is_long}
-use Rattle.hole_tree.proofs.search.Tree+ByStart.first_long.Given as goal
+use Rattle.hole_tree.specs.Fitting.{is_long, find_last}
+use Rattle.hole_tree.proofs.tree.Tree.last_long.Given as goal
 
 abbrev pub invariant-loop-node : goal.invariant-loop-node
 invariant-loop-node g l = record {
-  found : find (is_long l.pages) l.tree.spans ≡ find (is_long l.pages) l.self.spans;
+  found : find_last (is_long l.pages) l.tree.spans ≡ find_last (is_long l.pages) l.self.spans;
   counts : l.initial.steps ≤ l.steps;
   cost : l.steps + l.tree.height ≤ l.initial.steps + l.self.height;
 }
