@@ -38,12 +38,6 @@ sorted_below s n e h = sorted_left order.ByLength n.left.spans (n.hole ∷ n.rig
 pub sorted_above : {S : Type 0} (s : Shape) (n : Node S) → s ≡ shape_of_node n → IsSorted order.ByLength s.spans → IsSorted order.ByLength n.right.spans
 sorted_above s n e h = sorted_right order.ByLength n.left.spans n.hole n.right.spans (at_sorted s n e h)
 
-pub fewer_below : {S : Type 0} (s : Shape) (n : Node S) → s ≡ shape_of_node n → length n.left.spans < length s.spans
-fewer_below s n e = let c : length s.spans ≡ length (n.left.spans ++ n.hole ∷ n.right.spans) = ap (λ t. length t.spans) e in omega (arith, length-append n.left.spans (n.hole ∷ n.right.spans))
-
-pub fewer_above : {S : Type 0} (s : Shape) (n : Node S) → s ≡ shape_of_node n → length n.right.spans < length s.spans
-fewer_above s n e = let c : length s.spans ≡ length (n.left.spans ++ n.hole ∷ n.right.spans) = ap (λ t. length t.spans) e in omega (arith, length-append n.left.spans (n.hole ∷ n.right.spans))
-
 -- ---- the first that is long enough
 
 pub long_past : (pages : ℕ) {S : Type 0} (s : Shape) (n : Node S) → s ≡ shape_of_node n → IsSorted order.ByLength s.spans → length_of n.hole < pages → find (is_long pages) s.spans ≡ find (is_long pages) n.right.spans

@@ -3,6 +3,7 @@ use Rattle.std.proofs.Common.{◌≡◌, ℕ, ◌+◌, max, true, false, ◌∷�
 use Rattle.std.specs.List.{find}
 use Rattle.ttm_base.specs.declared.Span.{Span}
 use Rattle.hole_tree.specs.declared.order.Order.{Order}
+use Rattle.hole_tree.specs.Leaning.{Leans}
 use Rattle.hole_tree.specs.Rising.{IsRising}
 use Rattle.hole_tree.specs.Shape.{Shape, IsLow}
 use Rattle.hole_tree.specs.Sorting.{before, ties, IsSorted, placed, untied}
@@ -58,12 +59,15 @@ opened {S} {keeps} {s} {n} {m} e i f =
 
 -- ---- a node that leans as it says is low
 
-pub low_root : {S : Type 0} (keeps : ℕ → S) (n : Node S) → IsSound keeps n → IsLow (shape_of_node n)
-low_root keeps n s = low_node n.left n.right n.hole (height_of n) s.sides.left s.sides.right (differ n.lean n.left.height n.right.height s.lean) refl
+pub low_root : {S : Type 0} (n : Node S) → Leans n.lean n.left.height n.right.height → IsLow n.left → IsLow n.right → IsLow (shape_of_node n)
+low_root n e l r = low_node n.left n.right n.hole (height_of n) l r (differ n.lean n.left.height n.right.height e) refl
+
+pub low_sound : {S : Type 0} (keeps : ℕ → S) (n : Node S) → IsSound keeps n → IsLow (shape_of_node n)
+low_sound keeps n s = low_root n s.lean s.sides.left s.sides.right
 
 pub low_top : {S : Type 0} (keeps : ℕ → S) (t : Top S) → IsTree keeps t → IsLow (shape_of t)
 low_top keeps Empty s = record { fewer = omega arith; square = omega arith }
-low_top keeps (Full n) s = low_root keeps n.value s
+low_top keeps (Full n) s = low_sound keeps n.value s
 
 -- one with another side of the same height
 pub low_left : {S : Type 0} (keeps : ℕ → S) (n : Node S) (l : Shape) (k : Span) (r : Shape) → IsSound keeps n → l.height ≡ n.left.height → IsLow l → r ≡ n.right → IsLow (record { spans = l.spans ++ k ∷ r.spans; height = max l.height r.height + 1 })

@@ -3,13 +3,13 @@ use Rattle.std.proofs.lemmas.Grind.{common_steps}
 use Rattle.hole_tree.specs.declared.tree.Node.{Node}
 use Rattle.hole_tree.specs.Sorting.{before, placed}
 use Rattle.hole_tree.specs.Trees.{shape_of, shape_of_node, IsNode, IsSound, IsTree}
-use Rattle.hole_tree.proofs.Sides.{opened, low_root, low_left, low_right, node_count, node_sorted_left, node_sorted_right, node_placed_left, node_placed_right}
+use Rattle.hole_tree.proofs.Sides.{opened, low_sound, low_left, low_right, node_count, node_sorted_left, node_sorted_right, node_placed_left, node_placed_right}
 use Rattle.hole_tree.proofs.tree.Tree.+insert.Goals as goal
 use Rattle.hole_tree.proofs.tree.Tree.+insert.Goals.{then-is_before+then-insert, then-is_before+else-insert, else-is_before+then-insert-2, else-is_before+else-insert-2}
 
 pub insert-requires : goal.insert-requires
 insert-requires g t c κs within =
-    let n : Node g.S = c.in-Full.node.value in
+    let n : Node g.row.S.Denot = c.in-Full.node.value in
     let m = c.deref_mut-then-is_before.result.now in
     let whole : shape_of_node n ≡ c.args.self.now = subst (λ t. shape_of t ≡ c.args.self.now) c.in-Full.is c.self.view_is in
     let node : IsNode c.args.self.now n.left n.hole n.right = opened whole (subst (IsTree g.S.Sort.keeps) c.in-Full.is c.self.invariant) refl in
@@ -20,7 +20,7 @@ insert-requires g t c κs within =
 
 pub insert-requires-else-is_before : goal.insert-requires-else-is_before
 insert-requires-else-is_before g t c κs within =
-    let n : Node g.S = c.in-Full.node.value in
+    let n : Node g.row.S.Denot = c.in-Full.node.value in
     let m = c.deref_mut-else-is_before-2.result.now in
     let whole : shape_of_node n ≡ c.args.self.now = subst (λ t. shape_of t ≡ c.args.self.now) c.in-Full.is c.self.view_is in
     let node : IsNode c.args.self.now n.left n.hole n.right = opened whole (subst (IsTree g.S.Sort.keeps) c.in-Full.is c.self.invariant) refl in
@@ -31,7 +31,7 @@ insert-requires-else-is_before g t c κs within =
 
 pub returns-after-is_before-clause-spans : goal.returns-after-is_before-clause-spans
 returns-after-is_before-clause-spans g t c =
-    let n : Node g.S = c.in-Full.node.value in
+    let n : Node g.row.S.Denot = c.in-Full.node.value in
     let whole : shape_of_node n ≡ c.args.self.now = subst (λ t. shape_of t ≡ c.args.self.now) c.in-Full.is c.self.view_is in
     let node : IsNode c.args.self.now n.left n.hole n.right = opened whole (subst (IsTree g.S.Sort.keeps) c.in-Full.is c.self.invariant) refl in
     let x = c.args.fresh.value.hole in
@@ -75,7 +75,7 @@ returns-after-is_before-clause-low g t c =
     let n = c.in-Full.node.value in
     let sound : IsSound g.S.Sort.keeps n = subst (IsTree g.S.Sort.keeps) c.in-Full.is c.self.invariant in
     elim c.if-is_before.branch [
-      | then-is_before+then-insert w ↦ rw w.self-inside-is (low_root g.S.Sort.keeps _ w.grown_left.ensures.sound)
+      | then-is_before+then-insert w ↦ rw w.self-inside-is (low_sound g.S.Sort.keeps _ w.grown_left.ensures.sound)
       | then-is_before+else-insert w ↦
           let m = w.deref_mut-then-is_before.result.now in
           let first = w.deref_mut.ensures.value in
@@ -83,7 +83,7 @@ returns-after-is_before-clause-low g t c =
           let same : w.insert.new.self.height ≡ m.left.height = grind (arith, common_steps) in
           let height : w.insert.new.self.height ≡ n.left.height = same ∙ ap (λ m. m.left.height) second ∙ ap (λ m. m.left.height) first in
           rw w.self-inside-is (low_left g.S.Sort.keeps n w.insert.new.self m.hole m.right sound height w.insert.ensures.low (ap (λ m. m.right) second ∙ ap (λ m. m.right) first))
-      | else-is_before+then-insert-2 w ↦ rw w.self-inside-is (low_root g.S.Sort.keeps _ w.grown_right.ensures.sound)
+      | else-is_before+then-insert-2 w ↦ rw w.self-inside-is (low_sound g.S.Sort.keeps _ w.grown_right.ensures.sound)
       | else-is_before+else-insert-2 w ↦
           let m = w.deref_mut-else-is_before-2.result.now in
           let first = w.deref_mut-else-is_before.ensures.value in

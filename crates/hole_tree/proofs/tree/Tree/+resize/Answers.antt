@@ -101,7 +101,7 @@ kept_resized-requires-then-start-2-clause-others g t c =
     let n = c.in-Full.node.value in
     let new : c.resize-then-start-2.new.self.spans ≡ replaced c.args.from.now.start c.args.to.now n.right.spans = c.resize-then-start-2.ensures.spans ∙ ap (λ m. replaced c.args.from.now.start c.args.to.now m.right.spans) c.deref_mut-then-start-2.ensures.value in
     let sound : IsSound g.S.Sort.keeps n = subst (IsTree g.S.Sort.keeps) c.in-Full.is c.self.invariant in
-    let was : c.longest.result ≡ longest n.right.spans = c.longest.ensures _ (ap (λ m. m.of_right) c.deref-then-start-2-3.ensures ∙ ap (λ m. m.of_right) c.deref_mut-then-start-2.ensures.value ∙ sound.sides.of_right) in
+    let was : c.longest-then-start-2.result ≡ longest n.right.spans = c.longest-then-start-2.ensures _ (ap (λ m. m.of_right) c.deref-then-start-2-3.ensures ∙ ap (λ m. m.of_right) c.deref_mut-then-start-2.ensures.value ∙ sound.sides.of_right) in
     let is : c.deref-then-start-2-2.result.now.right.spans ≡ replaced c.args.from.now.start c.args.to.now n.right.spans = ap (λ m. m.right.spans) c.deref-then-start-2-2.ensures ∙ new in
     rw (was, is) (longest_replaced c.args.from.now c.args.to.now n.right.spans on.rising on.found)
 

@@ -3,29 +3,30 @@ use Rattle.ttm_base.specs.declared.Span.{Span}
 use Rattle.ttm_base.specs.declared.Mode.TheVariants.{Low}
 use Rattle.ttm_base.specs.Reach.{length_of}
 use Rattle.hole_tree.specs.Fitting.{fits}
-use Rattle.hole_tree.proofs.ByLengths.{sorted_below, sorted_above, fewer_below, fewer_above, fit_past, entry_below, entry_here, entry_above, is_some-map}
+use Rattle.hole_tree.proofs.Looking.{shorter_below, shorter_above}
+use Rattle.hole_tree.proofs.ByLengths.{sorted_below, sorted_above, fit_past, entry_below, entry_here, entry_above, is_some-map}
 use Rattle.hole_tree.proofs.tree.Tree.+shortest_of_all.Goals as goal
 
 pub shortest_of_all-requires : goal.shortest_of_all-requires
 shortest_of_all-requires g t c κs within =
     let s = c.args.self.now in
     let n = c.in_ok-node.node.now in
-    let fewer : length n.right.spans < length s.spans = fewer_above s n c.in_ok-node.ensures.shape in
-    (first_of (omega arith, search rules), (search rules, (sorted_above s n c.in_ok-node.ensures.shape c.requires.sorted, c.requires.align)))
+    let fewer : length n.right.spans < length s.spans = shorter_above s n c.in_ok-node.ensures.shape in
+    (first_of (omega arith, search rules), (search rules, (search rules, (sorted_above s n c.in_ok-node.ensures.shape c.requires.sorted, c.requires.align))))
 
 pub shortest_of_all-below-requires : goal.shortest_of_all-below-requires
 shortest_of_all-below-requires g t c κs within =
     let s = c.args.self.now in
     let n = c.in_ok-node.node.now in
-    let fewer : length n.left.spans < length s.spans = fewer_below s n c.in_ok-node.ensures.shape in
-    (first_of (omega arith, search rules), (search rules, (sorted_below s n c.in_ok-node.ensures.shape c.requires.sorted, c.requires.align)))
+    let fewer : length n.left.spans < length s.spans = shorter_below s n c.in_ok-node.ensures.shape in
+    (first_of (omega arith, search rules), (search rules, (search rules, (sorted_below s n c.in_ok-node.ensures.shape c.requires.sorted, c.requires.align))))
 
 pub shortest_of_all-requires-2 : goal.shortest_of_all-requires-2
 shortest_of_all-requires-2 g t c κs within =
     let s = c.args.self.now in
     let n = c.in_ok-node.node.now in
-    let fewer : length n.right.spans < length s.spans = fewer_above s n c.in_ok-node.ensures.shape in
-    (first_of (omega arith, search rules), (search rules, (sorted_above s n c.in_ok-node.ensures.shape c.requires.sorted, c.requires.align)))
+    let fewer : length n.right.spans < length s.spans = shorter_above s n c.in_ok-node.ensures.shape in
+    (first_of (omega arith, search rules), (search rules, (search rules, (sorted_above s n c.in_ok-node.ensures.shape c.requires.sorted, c.requires.align))))
 
 pub returns-then-pages-request-clause-found : goal.returns-then-pages-request-clause-found
 returns-then-pages-request-clause-found g t c =

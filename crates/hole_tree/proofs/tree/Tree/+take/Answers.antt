@@ -6,7 +6,7 @@ use Rattle.hole_tree.specs.Shape.{IsLow}
 use Rattle.hole_tree.specs.Sorting.{before, untied}
 use Rattle.hole_tree.specs.Trees.{shape_of, shape_of_node, spans_of, IsNode, IsSound, IsTree}
 use Rattle.hole_tree.proofs.LongestNode.{longest_untied}
-use Rattle.hole_tree.proofs.Sides.{opened, low_root, low_left, low_right, node_count, node_sorted_left, node_sorted_right, node_goes_left, node_goes_right, node_goes_here}
+use Rattle.hole_tree.proofs.Sides.{opened, low_sound, low_left, low_right, node_count, node_sorted_left, node_sorted_right, node_goes_left, node_goes_right, node_goes_here}
 use Rattle.hole_tree.proofs.tree.Tree.+take.Goals as goal
 use Rattle.hole_tree.proofs.tree.Tree.+take.Goals.{then-lower, else-lower, then-lower-2, else-lower-2}
 
@@ -20,7 +20,7 @@ take-found-requires g t c κs within =
     (first_of (omega arith, search rules), (search rules, (node_sorted_left g.S.Sort.order node c.requires.sorted, subst IsSome goes.found c.requires.held)))
 
 pub kept_without-requires : goal.kept_without-requires
-kept_without-requires g t c κs within =
+kept_without-requires g t c =
     let n = c.in-Full.node.value in
     let d = c.deref_mut.result.now in
     let whole : shape_of_node n ≡ c.args.self.now = subst (λ t. shape_of t ≡ c.args.self.now) c.in-Full.is c.self.view_is in
@@ -67,7 +67,7 @@ returns-then-is_before-clause-low g t c =
     let first = c.deref_mut.ensures.value in
     let second = c.deref_mut-then-is_before.ensures.value in
     elim c.if-lower.branch [
-      | then-lower w ↦ rw w.self-inside-is (low_root g.S.Sort.keeps _ w.lost_left-lower.ensures.sound)
+      | then-lower w ↦ rw w.self-inside-is (low_sound g.S.Sort.keeps _ w.lost_left-lower.ensures.sound)
       | else-lower w ↦
           let same : c.take-found.new.self.height ≡ c.deref_mut.result.now.left.height = grind (arith, common_steps) in
           let height : m.left.height ≡ n.left.height = ap (λ m. m.left.height) second ∙ same ∙ ap (λ m. m.left.height) first in
@@ -85,7 +85,7 @@ take-found-requires-then-is_before-2 g t c κs within =
     (first_of (omega arith, search rules), (search rules, (node_sorted_right g.S.Sort.order node c.requires.sorted, subst IsSome goes.found c.requires.held)))
 
 pub kept_without-requires-then-is_before-2 : goal.kept_without-requires-then-is_before-2
-kept_without-requires-then-is_before-2 g t c κs within =
+kept_without-requires-then-is_before-2 g t c =
     let n = c.in-Full.node.value in
     let d = c.deref_mut-then-is_before-2.result.now in
     let whole : shape_of_node n ≡ c.args.self.now = subst (λ t. shape_of t ≡ c.args.self.now) c.in-Full.is c.self.view_is in
@@ -132,7 +132,7 @@ returns-then-is_before-2-clause-low g t c =
     let first = c.deref_mut-then-is_before-2.ensures.value in
     let second = c.deref_mut-then-is_before-2-2.ensures.value in
     elim c.if-lower-2.branch [
-      | then-lower-2 w ↦ rw w.self-inside-is (low_root g.S.Sort.keeps _ w.lost_right-lower.ensures.sound)
+      | then-lower-2 w ↦ rw w.self-inside-is (low_sound g.S.Sort.keeps _ w.lost_right-lower.ensures.sound)
       | else-lower-2 w ↦
           let same : c.take-found-then-is_before-2.new.self.height ≡ c.deref_mut-then-is_before-2.result.now.right.height = grind (arith, common_steps) in
           let height : m.right.height ≡ n.right.height = ap (λ m. m.right.height) second ∙ same ∙ ap (λ m. m.right.height) first in

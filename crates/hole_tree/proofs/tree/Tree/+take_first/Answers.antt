@@ -2,7 +2,7 @@ use Rattle.std.proofs.Common.{◌≡◌, ap, ◌∙◌, subst, arith}
 use Rattle.std.proofs.lemmas.Grind.{common_steps}
 use Rattle.hole_tree.specs.Trees.{IsSound, IsTree}
 use Rattle.hole_tree.specs.Shape.{IsLow}
-use Rattle.hole_tree.proofs.Sides.{low_root, low_left}
+use Rattle.hole_tree.proofs.Sides.{low_sound, low_left}
 use Rattle.hole_tree.proofs.tree.Tree.+take_first.Goals as goal
 use Rattle.hole_tree.proofs.tree.Tree.+take_first.Goals.{then-lower, else-lower}
 
@@ -14,7 +14,7 @@ returns-then-not-is_empty-clause-low g t c =
     let first = c.deref_mut.ensures.value in
     let second = c.deref_mut-then-not-is_empty.ensures.value in
     elim c.if-lower.branch [
-      | then-lower w ↦ rw w.self-inside-is (low_root g.S.Sort.keeps _ w.lost_left-lower.ensures.sound)
+      | then-lower w ↦ rw w.self-inside-is (low_sound g.S.Sort.keeps _ w.lost_left-lower.ensures.sound)
       | else-lower w ↦
           let same : c.take_first-first.new.self.height ≡ c.deref_mut.result.now.left.height = grind (arith, common_steps) in
           let height : m.left.height ≡ n.left.height = ap (λ m. m.left.height) second ∙ same ∙ ap (λ m. m.left.height) first in

@@ -1,4 +1,4 @@
-use Rattle.std.proofs.Common.{◌∷◌, ◌++◌, Bor, option_map, ap, sym, ◌∙◌, subst}
+use Rattle.std.proofs.Common.{◌≡◌, ◌∷◌, ◌++◌, Bor, option_map, length, length-append, ap, sym, ◌∙◌, subst, arith}
 use Rattle.std.specs.List.{find}
 use Rattle.std.specs.Option.{option_or}
 use Rattle.ttm_base.specs.declared.Span.{Span}
@@ -39,3 +39,15 @@ loop-node-preserved g c =
           sym (ap (λ o. option_or o (option_map (λ (h : Bor Span). h.now) c.loop-node.behind)) (ap (find (ends_past page)) c.in-Some.ensures.spans ∙ past_left page n.left.spans n.hole n.right.spans (rw c.end.ensures at c.if-end-page.false)) ∙ or_some _ n.hole _)
           ∙ c.loop-node.invariant.behind;
     }
+
+pub loop-node-smaller-then-end-page : goal.loop-node-smaller-then-end-page
+loop-node-smaller-then-end-page g c =
+    let n = c.in-Some.node.now in
+    let count : length c.loop-node.tree.now.spans ≡ length (n.left.spans ++ n.hole ∷ n.right.spans) = ap length c.in-Some.ensures.spans in
+    omega (arith, length-append n.left.spans (n.hole ∷ n.right.spans))
+
+pub loop-node-smaller : goal.loop-node-smaller
+loop-node-smaller g c =
+    let n = c.in-Some.node.now in
+    let count : length c.loop-node.tree.now.spans ≡ length (n.left.spans ++ n.hole ∷ n.right.spans) = ap length c.in-Some.ensures.spans in
+    omega (arith, length-append n.left.spans (n.hole ∷ n.right.spans))

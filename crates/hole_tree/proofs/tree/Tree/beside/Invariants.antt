@@ -1,4 +1,4 @@
-use Rattle.std.specs.Prelude.{◌≡◌, option_map}
+use Rattle.std.specs.Prelude.{◌≡◌, option_map, length}
 use Rattle.std.specs.List.{find}
 use Rattle.std.specs.Option.{option_or}
 use Rattle.hole_tree.specs.Fitting.{find_last}
@@ -12,3 +12,6 @@ invariant-loop-node g l = record {
   before : option_or (find_last (ends_by l.page) l.tree.spans) (option_map (λ hole. hole.now) l.before) ≡ find_last (ends_by l.page) l.self.spans;
   behind : option_or (find (ends_past l.page) l.tree.spans) (option_map (λ hole. hole.now) l.behind) ≡ find (ends_past l.page) l.self.spans;
 }
+
+abbrev pub decreases-loop-node : goal.decreases-loop-node
+decreases-loop-node g l = length l.tree.spans

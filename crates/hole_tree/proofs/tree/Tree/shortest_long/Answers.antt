@@ -4,7 +4,8 @@ use Rattle.std.specs.List.{find}
 use Rattle.std.specs.Option.{option_or}
 use Rattle.ttm_base.specs.Reach.{length_of}
 use Rattle.hole_tree.specs.Fitting.{is_long}
-use Rattle.hole_tree.specs.Leans.{shape_of_entry}
+use Rattle.hole_tree.specs.Trees.{shape_of_node}
+use Rattle.hole_tree.proofs.Looking.{shorter_below, shorter_above}
 use Rattle.hole_tree.proofs.ByLengths.{sorted_below, sorted_above, long_past, long_up_to, or_some, or_none}
 use Rattle.hole_tree.proofs.tree.Tree.shortest_long.Goals as goal
 use Rattle.hole_tree.proofs.tree.Tree.shortest_long.Goals.{then-pages, else-pages}
@@ -13,7 +14,7 @@ pub loop-node-init : goal.loop-node-init
 loop-node-init g c =
     let s = c.args.self.now in
     let n = c.in_ok-found.found.now in
-    let e : s ≡ shape_of_entry n = c.in_ok-found.ensures.shape in
+    let e : s ≡ shape_of_node n = c.in_ok-found.ensures.shape in
     let levels : s.height ≡ max n.left.height n.right.height + 1 = ap (λ t. t.height) e in
     elim c.if-pages.branch [
       | then-pages w ↦
@@ -69,3 +70,9 @@ loop-node-preserved g c =
       counts = omega (arith, c.in-Some.ensures.steps, c.loop-node.invariant.counts);
       cost = omega (arith, c.in-Some.ensures.steps, c.loop-node.invariant.cost);
     }
+
+pub loop-node-smaller-then-pages-2 : goal.loop-node-smaller-then-pages-2
+loop-node-smaller-then-pages-2 g c = shorter_above _ _ c.in-Some.ensures.shape
+
+pub loop-node-smaller : goal.loop-node-smaller
+loop-node-smaller g c = shorter_below _ _ c.in-Some.ensures.shape

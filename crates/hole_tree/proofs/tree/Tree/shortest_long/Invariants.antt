@@ -1,4 +1,4 @@
-use Rattle.std.specs.Prelude.{◌≡◌, ◌+◌, ◌≤◌, Some, None, if◌then◌else◌}
+use Rattle.std.specs.Prelude.{◌≡◌, ◌+◌, ◌≤◌, Some, None, if◌then◌else◌, length}
 use Rattle.std.specs.List.{find}
 use Rattle.std.specs.Option.{option_or}
 use Rattle.hole_tree.specs.declared.order.Order.TheVariants as order
@@ -13,3 +13,6 @@ invariant-loop-node g l = record {
   counts : l.initial.steps ≤ l.steps;
   cost : l.steps + l.tree.height + 1 ≤ l.initial.steps + l.self.height;
 }
+
+abbrev pub decreases-loop-node : goal.decreases-loop-node
+decreases-loop-node g l = length l.tree.spans
