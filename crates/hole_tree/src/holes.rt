@@ -12,7 +12,7 @@ ghost use Rattle.hole_tree.specs.Trees.{IsBlankNode};
 
 use crate::hole::Hole;
 use crate::request::Request;
-use crate::sort::{ByLength, ByStart, Longest, Sort};
+use crate::sort::{ByLength, ByStart, Longest, Side};
 use crate::tree::{Node, Taken, Tree};
 use std::alloc::Global;
 use std::marker::{Brand, Model};
@@ -55,8 +55,8 @@ impl Drop for Holes {
 struct Nodes {
     by_start: Box<Node<ByStart>>,
     by_length: Box<Node<ByLength>>,
-    ghost blank: { IsBlankNode ⟦<ByStart as Sort>⟧.keeps by_start.value },
-    ghost blank_by_length: { IsBlankNode ⟦<ByLength as Sort>⟧.keeps by_length.value },
+    ghost blank: { IsBlankNode ⟦<ByStart as Side>⟧.keeps by_start.value },
+    ghost blank_by_length: { IsBlankNode ⟦<ByLength as Side>⟧.keeps by_length.value },
 }
 
 impl Model for Holes {

@@ -8,13 +8,13 @@ ghost use Rattle.hole_tree.specs.declared.order.Order.TheVariants as order;
 
 use crate::hole::Hole;
 use crate::request::Request;
-use crate::sort::Sort;
+use crate::sort::Side;
 use crate::tree::Tree;
 use step_count::Steps;
 use step_count::ledger::Ledger;
 use ttm_base::Mode;
 
-impl<S: Sort> Tree<S> {
+impl<S: Side> Tree<S> {
     /// The shortest hole that fits (Best and Low fit alike). Mostly it is the first that is long enough.
     pub(crate) fn shortest<L: Ledger>(&self, request: Request, steps: &mut Steps<L>) -> Option<&Hole>
         requires sorted { IsSorted order.ByLength self.now.spans }

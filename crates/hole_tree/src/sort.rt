@@ -4,16 +4,11 @@ ghost use Rattle.hole_tree.specs.declared.order.Order.{Order};
 
 use crate::order::Order;
 
-/// A sort of tree. Its values are what a node keeps of a side.
-pub trait Sort: Copy {
-    ghost order: { Order };
+/// What a node keeps of a side.
+pub trait Side: Copy {
     ghost keeps: { ℕ → Self };
 
-    /// The order of the holes.
-    fn order() -> Order
-        ensures { result ≡ order };
-
-    /// What a node keeps of a side whose longest hole has `pages` pages.
+    /// What it keeps of a side whose longest hole has `pages` pages.
     fn of(pages: u32) -> Self
         ensures { result ≡ keeps pages };
 
@@ -26,8 +21,17 @@ pub trait Sort: Copy {
         ensures { result ≡ false → (a : ℕ) → self ≡ keeps (max pages a) → self ≡ keeps a };
 }
 
+/// A sort of tree: the order of its holes.
+pub trait Sort: Side {
+    ghost order: { Order };
+
+    /// Names it.
+    fn order() -> Order
+        ensures { result ≡ order };
+}
+
 /// A sort of which a node keeps the longest hole of a side.
-pub trait Longest: Sort {
+pub trait Longest: Side {
     /// How many pages it has, or 0 where there is none.
     fn longest(self) -> u32
         ensures { (a : ℕ) → self ≡ Self.keeps a → result ≡ a };
@@ -43,16 +47,8 @@ pub struct ByStart {
 #[derive(Clone, Copy)]
 pub struct ByLength;
 
-impl Sort for ByStart {
-    ghost use Rattle.hole_tree.specs.declared.order.Order.TheVariants as order;
-
-    ghost order = { order.ByStart };
-
+impl Side for ByStart {
     ghost keeps = { λ n. record { longest = n } };
-
-    fn order() -> Order {
-        Order::ByStart
-    }
 
     fn of(pages: u32) -> ByStart {
         ByStart { longest: pages }
@@ -69,23 +65,26 @@ impl Sort for ByStart {
     }
 }
 
+impl Sort for ByStart {
+    ghost use Rattle.hole_tree.specs.declared.order.Order.TheVariants as order;
+
+    ghost order = { order.ByStart };
+
+    fn order() -> Order {
+        Order::ByStart
+    }
+}
+
 impl Longest for ByStart {
     fn longest(self) -> u32 {
         self.longest
     }
 }
 
-impl Sort for ByLength {
-    ghost use Rattle.hole_tree.specs.declared.order.Order.TheVariants as order;
+impl Side for ByLength {
     ghost use Rattle.hole_tree.specs.declared.sort.ByLength.{ByLength};
 
-    ghost order = { order.ByLength };
-
     ghost keeps = { λ n. record {} };
-
-    fn order() -> Order {
-        Order::ByLength
-    }
 
     fn of(_pages: u32) -> ByLength {
         ByLength
@@ -97,5 +96,15 @@ impl Sort for ByLength {
 
     fn may_lose(self, _pages: u32) -> bool {
         false
+    }
+}
+
+impl Sort for ByLength {
+    ghost use Rattle.hole_tree.specs.declared.order.Order.TheVariants as order;
+
+    ghost order = { order.ByLength };
+
+    fn order() -> Order {
+        Order::ByLength
     }
 }

@@ -15,7 +15,7 @@ ghost use Rattle.hole_tree.specs.declared.lean.Lean.TheVariants.{Left, Right};
 
 use crate::hole::Hole;
 use crate::lean::Lean;
-use crate::sort::{Longest, Sort};
+use crate::sort::{Longest, Side, Sort};
 use std::marker::Model;
 use std::mem;
 use step_count::Steps;
@@ -25,13 +25,13 @@ use ttm_base::Span;
 /// Holes in an order.
 #[cycle(tree)]
 #[derive(Drop)]
-pub struct Tree<S: Sort> {
+pub struct Tree<S: Side> {
     top: Top<S>,
 }
 
 #[cycle(tree)]
 #[derive(Drop)]
-enum Top<S: Sort> {
+enum Top<S: Side> {
     Empty,
     Full(Box<Node<S>>),
 }
@@ -39,7 +39,7 @@ enum Top<S: Sort> {
 /// A hole, the holes on both sides of it, and what is kept of each side.
 #[cycle(tree)]
 #[derive(Drop)]
-pub struct Node<S: Sort> {
+pub struct Node<S: Side> {
     pub left: Tree<S>,
     pub hole: Hole,
     pub right: Tree<S>,
@@ -49,13 +49,13 @@ pub struct Node<S: Sort> {
 }
 
 /// A node that was taken out.
-pub struct Taken<S: Sort> {
+pub struct Taken<S: Side> {
     pub node: Box<Node<S>>,
     /// The tree has lost a level.
     pub lower: bool,
 }
 
-impl<S: Sort> Model for Tree<S> {
+impl<S: Side> Model for Tree<S> {
     ghost use Rattle.std.specs.Prelude.{length};
     ghost use Rattle.hole_tree.specs.Shape.{Shape};
 
@@ -74,7 +74,7 @@ impl<S: Sort> Model for Tree<S> {
     ghost size_decreases = { λ a h. Prim.grind (arith, length-append) };
 }
 
-impl<S: Sort> Tree<S> {
+impl<S: Side> Tree<S> {
     /// No hole.
     pub(crate) fn new() -> Tree<S>
         ensures { result ≡ no_shape }
@@ -161,68 +161,6 @@ impl<S: Sort> Tree<S> {
             unreachable!()
         };
         node
-    }
-
-    /// Puts a node into its place, and says whether the tree has grown by a level.
-    #[tactic(auto, using(crate::proofs::Sides::low_root, crate::proofs::LongestNode::longest_placed))]
-    pub(crate) fn insert(&mut self, fresh: Box<Node<S>>) -> bool
-        requires sorted { IsSorted S.order self.old.spans }
-        requires blank { IsBlankNode S.keeps fresh.value }
-        ensures spans { self.new.spans ≡ placed S.order fresh.value.hole self.old.spans }
-        ensures height { self.new.height ≡ self.old.height + (if result then 1 else 0) }
-        ensures low { IsLow self.new }
-    {
-        match &mut self.top {
-            Top::Empty => {
-                self.top = Top::Full(fresh);
-                true
-            }
-            Top::Full(node) => {
-                if S::order().is_before(fresh.hole, node.hole) {
-                    node.of_left = node.of_left.both(S::of(fresh.hole.pages()));
-                    node.left.insert(fresh) && grown_left(node)
-                } else {
-                    node.of_right = node.of_right.both(S::of(fresh.hole.pages()));
-                    node.right.insert(fresh) && grown_right(node)
-                }
-            }
-        }
-    }
-
-    /// Takes out the node of the hole that ties with the one that is sought.
-    #[tactic(auto, using(crate::proofs::Sides::low_root, crate::proofs::LongestNode::longest_untied))]
-    pub(crate) fn take(&mut self, sought: &Hole) -> Taken<S>
-        requires sorted { IsSorted S.order self.old.spans }
-        requires held { IsSome (find (ties S.order sought.now) self.old.spans) }
-        ensures found { find (ties S.order sought.now) self.old.spans ≡ Some result.node.value.hole }
-        ensures blank { IsBlankNode S.keeps result.node.value }
-        ensures left { self.new.spans ≡ untied S.order sought.now self.old.spans }
-        ensures height { self.old.height ≡ self.new.height + (if result.lower then 1 else 0) }
-        ensures low { IsLow self.new }
-    {
-        let Top::Full(node) = &mut self.top else {
-            unreachable!()
-        };
-        if S::order().is_before(*sought, node.hole) {
-            let Taken { node: found, lower } = node.left.take(sought);
-            node.of_left = node
-                .left
-                .kept_without(node.of_left, found.hole.pages());
-            let lower = lower && lost_left(node);
-            return Taken { node: found, lower };
-        }
-        if S::order().is_before(node.hole, *sought) {
-            let Taken { node: found, lower } = node.right.take(sought);
-            node.of_right = node
-                .right
-                .kept_without(node.of_right, found.hole.pages());
-            let lower = lower && lost_right(node);
-            return Taken { node: found, lower };
-        }
-        let Top::Full(found) = mem::replace(&mut self.top, Top::Empty) else {
-            unreachable!()
-        };
-        self.close_over(found)
     }
 
     /// Puts both sides of a root that was taken off in its place, without it.
@@ -320,6 +258,70 @@ impl<S: Sort> Tree<S> {
     }
 }
 
+impl<S: Sort> Tree<S> {
+    /// Puts a node into its place, and says whether the tree has grown by a level.
+    #[tactic(auto, using(crate::proofs::Sides::low_root, crate::proofs::LongestNode::longest_placed))]
+    pub(crate) fn insert(&mut self, fresh: Box<Node<S>>) -> bool
+        requires sorted { IsSorted S.order self.old.spans }
+        requires blank { IsBlankNode S.keeps fresh.value }
+        ensures spans { self.new.spans ≡ placed S.order fresh.value.hole self.old.spans }
+        ensures height { self.new.height ≡ self.old.height + (if result then 1 else 0) }
+        ensures low { IsLow self.new }
+    {
+        match &mut self.top {
+            Top::Empty => {
+                self.top = Top::Full(fresh);
+                true
+            }
+            Top::Full(node) => {
+                if S::order().is_before(fresh.hole, node.hole) {
+                    node.of_left = node.of_left.both(S::of(fresh.hole.pages()));
+                    node.left.insert(fresh) && grown_left(node)
+                } else {
+                    node.of_right = node.of_right.both(S::of(fresh.hole.pages()));
+                    node.right.insert(fresh) && grown_right(node)
+                }
+            }
+        }
+    }
+
+    /// Takes out the node of the hole that ties with the one that is sought.
+    #[tactic(auto, using(crate::proofs::Sides::low_root, crate::proofs::LongestNode::longest_untied))]
+    pub(crate) fn take(&mut self, sought: &Hole) -> Taken<S>
+        requires sorted { IsSorted S.order self.old.spans }
+        requires held { IsSome (find (ties S.order sought.now) self.old.spans) }
+        ensures found { find (ties S.order sought.now) self.old.spans ≡ Some result.node.value.hole }
+        ensures blank { IsBlankNode S.keeps result.node.value }
+        ensures left { self.new.spans ≡ untied S.order sought.now self.old.spans }
+        ensures height { self.old.height ≡ self.new.height + (if result.lower then 1 else 0) }
+        ensures low { IsLow self.new }
+    {
+        let Top::Full(node) = &mut self.top else {
+            unreachable!()
+        };
+        if S::order().is_before(*sought, node.hole) {
+            let Taken { node: found, lower } = node.left.take(sought);
+            node.of_left = node
+                .left
+                .kept_without(node.of_left, found.hole.pages());
+            let lower = lower && lost_left(node);
+            return Taken { node: found, lower };
+        }
+        if S::order().is_before(node.hole, *sought) {
+            let Taken { node: found, lower } = node.right.take(sought);
+            node.of_right = node
+                .right
+                .kept_without(node.of_right, found.hole.pages());
+            let lower = lower && lost_right(node);
+            return Taken { node: found, lower };
+        }
+        let Top::Full(found) = mem::replace(&mut self.top, Top::Empty) else {
+            unreachable!()
+        };
+        self.close_over(found)
+    }
+}
+
 impl<S: Longest> Tree<S> {
     /// Puts another hole in the place of one.
     pub(crate) fn resize(&mut self, from: &Hole, to: &Hole)
@@ -358,7 +360,7 @@ impl<S: Longest> Tree<S> {
     }
 }
 
-impl<S: Sort> Node<S> {
+impl<S: Side> Node<S> {
     /// A node for a hole to come.
     pub(crate) fn blank() -> Node<S>
         ensures { IsBlankNode S.keeps result }
@@ -398,7 +400,7 @@ impl<S: Sort> Node<S> {
 }
 
 /// Mends a node whose left side has grown by a level, and says whether the node has grown too.
-fn grown_left<S: Sort>(node: &mut Box<Node<S>>) -> bool
+fn grown_left<S: Side>(node: &mut Box<Node<S>>) -> bool
     requires grown { Leans node.old.value.lean node.old.value.left.height (node.old.value.right.height + 1) }
     requires sides { HasSides S.keeps node.old.value }
     ensures spans { spans_of node.new.value ≡ spans_of node.old.value }
@@ -419,7 +421,7 @@ fn grown_left<S: Sort>(node: &mut Box<Node<S>>) -> bool
 }
 
 /// The same, where the right side has grown.
-fn grown_right<S: Sort>(node: &mut Box<Node<S>>) -> bool
+fn grown_right<S: Side>(node: &mut Box<Node<S>>) -> bool
     requires grown { Leans node.old.value.lean (node.old.value.left.height + 1) node.old.value.right.height }
     requires sides { HasSides S.keeps node.old.value }
     ensures spans { spans_of node.new.value ≡ spans_of node.old.value }
@@ -440,7 +442,7 @@ fn grown_right<S: Sort>(node: &mut Box<Node<S>>) -> bool
 }
 
 /// Mends a node whose left side has lost a level, and says whether the node has lost one too.
-fn lost_left<S: Sort>(node: &mut Box<Node<S>>) -> bool
+fn lost_left<S: Side>(node: &mut Box<Node<S>>) -> bool
     requires lost { Leans node.old.value.lean (node.old.value.left.height + 1) node.old.value.right.height }
     requires sides { HasSides S.keeps node.old.value }
     ensures spans { spans_of node.new.value ≡ spans_of node.old.value }
@@ -461,7 +463,7 @@ fn lost_left<S: Sort>(node: &mut Box<Node<S>>) -> bool
 }
 
 /// The same, where the right side has lost one.
-fn lost_right<S: Sort>(node: &mut Box<Node<S>>) -> bool
+fn lost_right<S: Side>(node: &mut Box<Node<S>>) -> bool
     requires lost { Leans node.old.value.lean node.old.value.left.height (node.old.value.right.height + 1) }
     requires sides { HasSides S.keeps node.old.value }
     ensures spans { spans_of node.new.value ≡ spans_of node.old.value }
@@ -482,7 +484,7 @@ fn lost_right<S: Sort>(node: &mut Box<Node<S>>) -> bool
 }
 
 /// Balances a node whose left side is two levels higher, and says whether it has a level less then.
-fn turn_right<S: Sort>(node: &mut Box<Node<S>>) -> bool
+fn turn_right<S: Side>(node: &mut Box<Node<S>>) -> bool
     requires lean { node.old.value.lean ≡ Left }
     requires higher { node.old.value.left.height ≡ node.old.value.right.height + 2 }
     requires sides { HasSides S.keeps node.old.value }
@@ -515,7 +517,7 @@ fn turn_right<S: Sort>(node: &mut Box<Node<S>>) -> bool
 }
 
 /// The same, where the inner side of the higher one, which was taken off, is higher.
-fn turn_twice_right<S: Sort>(node: &mut Box<Node<S>>, mut low: Box<Node<S>>)
+fn turn_twice_right<S: Side>(node: &mut Box<Node<S>>, mut low: Box<Node<S>>)
     requires off { node.old.value.left ≡ no_shape }
     requires sound { IsSound S.keeps low.value }
     requires lean { low.value.lean ≡ Right }
@@ -541,7 +543,7 @@ fn turn_twice_right<S: Sort>(node: &mut Box<Node<S>>, mut low: Box<Node<S>>)
 }
 
 /// The same, where the right side is two levels higher.
-fn turn_left<S: Sort>(node: &mut Box<Node<S>>) -> bool
+fn turn_left<S: Side>(node: &mut Box<Node<S>>) -> bool
     requires lean { node.old.value.lean ≡ Right }
     requires higher { node.old.value.right.height ≡ node.old.value.left.height + 2 }
     requires sides { HasSides S.keeps node.old.value }
@@ -574,7 +576,7 @@ fn turn_left<S: Sort>(node: &mut Box<Node<S>>) -> bool
 }
 
 /// The same, where the inner side of the higher one, which was taken off, is higher.
-fn turn_twice_left<S: Sort>(node: &mut Box<Node<S>>, mut high: Box<Node<S>>)
+fn turn_twice_left<S: Side>(node: &mut Box<Node<S>>, mut high: Box<Node<S>>)
     requires off { node.old.value.right ≡ no_shape }
     requires sound { IsSound S.keeps high.value }
     requires lean { high.value.lean ≡ Left }

@@ -12,7 +12,7 @@ insert-requires g t c κs within =
     let n : Node g.row.S.Denot = c.in-Full.node.value in
     let m = c.deref_mut-then-is_before.result.now in
     let whole : shape_of_node n ≡ c.args.self.now = subst (λ t. shape_of t ≡ c.args.self.now) c.in-Full.is c.self.view_is in
-    let node : IsNode c.args.self.now n.left n.hole n.right = opened whole (subst (IsTree g.S.Sort.keeps) c.in-Full.is c.self.invariant) refl in
+    let node : IsNode c.args.self.now n.left n.hole n.right = opened whole (subst (IsTree g.S.Side.keeps) c.in-Full.is c.self.invariant) refl in
     let same : m.left ≡ n.left = ap (λ m. m.left) c.deref_mut-then-is_before.ensures.value ∙ ap (λ m. m.left) c.deref_mut.ensures.value in
     let count : length c.args.self.now.spans ≡ length n.left.spans + length n.right.spans + 1 = node_count node in
     let side : length m.left.spans ≡ length n.left.spans = ap (λ t. length t.spans) same in
@@ -23,7 +23,7 @@ insert-requires-else-is_before g t c κs within =
     let n : Node g.row.S.Denot = c.in-Full.node.value in
     let m = c.deref_mut-else-is_before-2.result.now in
     let whole : shape_of_node n ≡ c.args.self.now = subst (λ t. shape_of t ≡ c.args.self.now) c.in-Full.is c.self.view_is in
-    let node : IsNode c.args.self.now n.left n.hole n.right = opened whole (subst (IsTree g.S.Sort.keeps) c.in-Full.is c.self.invariant) refl in
+    let node : IsNode c.args.self.now n.left n.hole n.right = opened whole (subst (IsTree g.S.Side.keeps) c.in-Full.is c.self.invariant) refl in
     let same : m.right ≡ n.right = ap (λ m. m.right) c.deref_mut-else-is_before-2.ensures.value ∙ ap (λ m. m.right) c.deref_mut-else-is_before.ensures.value in
     let count : length c.args.self.now.spans ≡ length n.left.spans + length n.right.spans + 1 = node_count node in
     let side : length m.right.spans ≡ length n.right.spans = ap (λ t. length t.spans) same in
@@ -33,7 +33,7 @@ pub returns-after-is_before-clause-spans : goal.returns-after-is_before-clause-s
 returns-after-is_before-clause-spans g t c =
     let n : Node g.row.S.Denot = c.in-Full.node.value in
     let whole : shape_of_node n ≡ c.args.self.now = subst (λ t. shape_of t ≡ c.args.self.now) c.in-Full.is c.self.view_is in
-    let node : IsNode c.args.self.now n.left n.hole n.right = opened whole (subst (IsTree g.S.Sort.keeps) c.in-Full.is c.self.invariant) refl in
+    let node : IsNode c.args.self.now n.left n.hole n.right = opened whole (subst (IsTree g.S.Side.keeps) c.in-Full.is c.self.invariant) refl in
     let x = c.args.fresh.value.hole in
     elim c.if-is_before.branch [
       | then-is_before+then-insert w ↦
@@ -73,22 +73,22 @@ returns-after-is_before-clause-spans g t c =
 pub returns-after-is_before-clause-low : goal.returns-after-is_before-clause-low
 returns-after-is_before-clause-low g t c =
     let n = c.in-Full.node.value in
-    let sound : IsSound g.S.Sort.keeps n = subst (IsTree g.S.Sort.keeps) c.in-Full.is c.self.invariant in
+    let sound : IsSound g.S.Side.keeps n = subst (IsTree g.S.Side.keeps) c.in-Full.is c.self.invariant in
     elim c.if-is_before.branch [
-      | then-is_before+then-insert w ↦ rw w.self-inside-is (low_sound g.S.Sort.keeps _ w.grown_left.ensures.sound)
+      | then-is_before+then-insert w ↦ rw w.self-inside-is (low_sound g.S.Side.keeps _ w.grown_left.ensures.sound)
       | then-is_before+else-insert w ↦
           let m = w.deref_mut-then-is_before.result.now in
           let first = w.deref_mut.ensures.value in
           let second = w.deref_mut-then-is_before.ensures.value in
           let same : w.insert.new.self.height ≡ m.left.height = grind (arith, common_steps) in
           let height : w.insert.new.self.height ≡ n.left.height = same ∙ ap (λ m. m.left.height) second ∙ ap (λ m. m.left.height) first in
-          rw w.self-inside-is (low_left g.S.Sort.keeps n w.insert.new.self m.hole m.right sound height w.insert.ensures.low (ap (λ m. m.right) second ∙ ap (λ m. m.right) first))
-      | else-is_before+then-insert-2 w ↦ rw w.self-inside-is (low_sound g.S.Sort.keeps _ w.grown_right.ensures.sound)
+          rw w.self-inside-is (low_left g.S.Side.keeps n w.insert.new.self m.hole m.right sound height w.insert.ensures.low (ap (λ m. m.right) second ∙ ap (λ m. m.right) first))
+      | else-is_before+then-insert-2 w ↦ rw w.self-inside-is (low_sound g.S.Side.keeps _ w.grown_right.ensures.sound)
       | else-is_before+else-insert-2 w ↦
           let m = w.deref_mut-else-is_before-2.result.now in
           let first = w.deref_mut-else-is_before.ensures.value in
           let second = w.deref_mut-else-is_before-2.ensures.value in
           let same : w.insert-else-is_before.new.self.height ≡ m.right.height = grind (arith, common_steps) in
           let height : w.insert-else-is_before.new.self.height ≡ n.right.height = same ∙ ap (λ m. m.right.height) second ∙ ap (λ m. m.right.height) first in
-          rw w.self-inside-is (low_right g.S.Sort.keeps n m.left m.hole w.insert-else-is_before.new.self sound height w.insert-else-is_before.ensures.low (ap (λ m. m.left) second ∙ ap (λ m. m.left) first))
+          rw w.self-inside-is (low_right g.S.Side.keeps n m.left m.hole w.insert-else-is_before.new.self sound height w.insert-else-is_before.ensures.low (ap (λ m. m.left) second ∙ ap (λ m. m.left) first))
     ]

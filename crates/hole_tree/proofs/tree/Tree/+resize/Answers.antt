@@ -13,14 +13,14 @@ left g t c =
     let n = c.in-Full.node.value in
     let hole : c.deref.result.now.hole.start ≡ n.hole.start = ap (λ m. m.hole.start) c.deref.ensures in
     let beside : c.args.from.now.start < n.hole.start = omega (arith, c.start.ensures, c.start-2.ensures) in
-    is_left (opened (subst (λ t. shape_of t ≡ c.args.self.now) c.in-Full.is c.self.view_is) (subst (IsTree g.S.Sort.keeps) c.in-Full.is c.self.invariant) refl) beside c.requires.rising c.requires.held
+    is_left (opened (subst (λ t. shape_of t ≡ c.args.self.now) c.in-Full.is c.self.view_is) (subst (IsTree g.S.Side.keeps) c.in-Full.is c.self.invariant) refl) beside c.requires.rising c.requires.held
 
 right : (g : Over) (t : ℕ) (c : Then-start-2 g t) → IsRight c.args.self.now c.in-Full.node.value c.args.from.now
 right g t c =
     let n = c.in-Full.node.value in
     let hole : c.deref-2.result.now.hole.start ≡ n.hole.start = ap (λ m. m.hole.start) c.deref-2.ensures in
     let beside : n.hole.start < c.args.from.now.start = omega (arith, c.start-3.ensures, c.start-4.ensures) in
-    is_right (opened (subst (λ t. shape_of t ≡ c.args.self.now) c.in-Full.is c.self.view_is) (subst (IsTree g.S.Sort.keeps) c.in-Full.is c.self.invariant) refl) beside c.requires.rising c.requires.held
+    is_right (opened (subst (λ t. shape_of t ≡ c.args.self.now) c.in-Full.is c.self.view_is) (subst (IsTree g.S.Side.keeps) c.in-Full.is c.self.invariant) refl) beside c.requires.rising c.requires.held
 
 pub resize-requires : goal.resize-requires
 resize-requires g t c κs within =
@@ -41,7 +41,7 @@ kept_resized-requires-clause-others g t c =
     let on : IsLeft c.args.self.now c.in-Full.node.value c.args.from.now = left g t (goal.at.kept_resized-requires-clause-others g t c).Then-start in
     let n = c.in-Full.node.value in
     let new : c.resize.new.self.spans ≡ replaced c.args.from.now.start c.args.to.now n.left.spans = c.resize.ensures.spans ∙ ap (λ m. replaced c.args.from.now.start c.args.to.now m.left.spans) c.deref_mut.ensures.value in
-    let sound : IsSound g.S.Sort.keeps n = subst (IsTree g.S.Sort.keeps) c.in-Full.is c.self.invariant in
+    let sound : IsSound g.S.Side.keeps n = subst (IsTree g.S.Side.keeps) c.in-Full.is c.self.invariant in
     let was : c.longest.result ≡ longest n.left.spans = c.longest.ensures _ (ap (λ m. m.of_left) c.deref-then-start-2.ensures ∙ ap (λ m. m.of_left) c.deref_mut.ensures.value ∙ sound.sides.of_left) in
     let is : c.deref-then-start.result.now.left.spans ≡ replaced c.args.from.now.start c.args.to.now n.left.spans = ap (λ m. m.left.spans) c.deref-then-start.ensures ∙ new in
     rw (was, is) (longest_replaced c.args.from.now c.args.to.now n.left.spans on.rising on.found)
@@ -49,14 +49,14 @@ kept_resized-requires-clause-others g t c =
 pub invariant_of-self : goal.invariant_of-self
 invariant_of-self g t c =
     let n = c.in-Full.node.value in
-    let sound : IsSound g.S.Sort.keeps n = subst (IsTree g.S.Sort.keeps) c.in-Full.is c.self.invariant in
+    let sound : IsSound g.S.Side.keeps n = subst (IsTree g.S.Side.keeps) c.in-Full.is c.self.invariant in
     let first = c.deref_mut.ensures.value in
     let second = c.deref_mut-then-start.ensures.value in
     let m = c.deref_mut-then-start.result.now in
     let new : c.resize.new.self.spans ≡ replaced c.args.from.now.start c.args.to.now n.left.spans = c.resize.ensures.spans ∙ ap (λ m. replaced c.args.from.now.start c.args.to.now m.left.spans) c.deref_mut.ensures.value in
     let height : m.left.height ≡ n.left.height = ap (λ m. m.left.height) second ∙ c.resize.ensures.height ∙ ap (λ m. m.left.height) first in
     let count : length m.left.spans ≡ length n.left.spans = ap (λ m. length m.left.spans) second ∙ ap length new ∙ length-replaced c.args.from.now.start c.args.to.now n.left.spans in
-    let longest_here : c.kept_resized.result ≡ g.S.Sort.keeps (longest m.left.spans) = c.kept_resized.ensures ∙ ap (λ m. g.S.Sort.keeps (longest m.left.spans)) c.deref-then-start.ensures ∙ sym (ap (λ m. g.S.Sort.keeps (longest m.left.spans)) second) in
+    let longest_here : c.kept_resized.result ≡ g.S.Side.keeps (longest m.left.spans) = c.kept_resized.ensures ∙ ap (λ m. g.S.Side.keeps (longest m.left.spans)) c.deref-then-start.ensures ∙ sym (ap (λ m. g.S.Side.keeps (longest m.left.spans)) second) in
     let longest_there : m.of_right ≡ n.of_right = ap (λ m. m.of_right) second ∙ ap (λ m. m.of_right) first in
     let there : m.right ≡ n.right = ap (λ m. m.right) second ∙ ap (λ m. m.right) first in
     let leans : m.lean ≡ n.lean = ap (λ m. m.lean) second ∙ ap (λ m. m.lean) first in
@@ -100,7 +100,7 @@ kept_resized-requires-then-start-2-clause-others g t c =
     let on : IsRight c.args.self.now c.in-Full.node.value c.args.from.now = right g t (goal.at.kept_resized-requires-then-start-2-clause-others g t c).Then-start-2 in
     let n = c.in-Full.node.value in
     let new : c.resize-then-start-2.new.self.spans ≡ replaced c.args.from.now.start c.args.to.now n.right.spans = c.resize-then-start-2.ensures.spans ∙ ap (λ m. replaced c.args.from.now.start c.args.to.now m.right.spans) c.deref_mut-then-start-2.ensures.value in
-    let sound : IsSound g.S.Sort.keeps n = subst (IsTree g.S.Sort.keeps) c.in-Full.is c.self.invariant in
+    let sound : IsSound g.S.Side.keeps n = subst (IsTree g.S.Side.keeps) c.in-Full.is c.self.invariant in
     let was : c.longest-then-start-2.result ≡ longest n.right.spans = c.longest-then-start-2.ensures _ (ap (λ m. m.of_right) c.deref-then-start-2-3.ensures ∙ ap (λ m. m.of_right) c.deref_mut-then-start-2.ensures.value ∙ sound.sides.of_right) in
     let is : c.deref-then-start-2-2.result.now.right.spans ≡ replaced c.args.from.now.start c.args.to.now n.right.spans = ap (λ m. m.right.spans) c.deref-then-start-2-2.ensures ∙ new in
     rw (was, is) (longest_replaced c.args.from.now c.args.to.now n.right.spans on.rising on.found)
@@ -108,14 +108,14 @@ kept_resized-requires-then-start-2-clause-others g t c =
 pub invariant_of-self-then-start-2 : goal.invariant_of-self-then-start-2
 invariant_of-self-then-start-2 g t c =
     let n = c.in-Full.node.value in
-    let sound : IsSound g.S.Sort.keeps n = subst (IsTree g.S.Sort.keeps) c.in-Full.is c.self.invariant in
+    let sound : IsSound g.S.Side.keeps n = subst (IsTree g.S.Side.keeps) c.in-Full.is c.self.invariant in
     let first = c.deref_mut-then-start-2.ensures.value in
     let second = c.deref_mut-then-start-2-2.ensures.value in
     let m = c.deref_mut-then-start-2-2.result.now in
     let new : c.resize-then-start-2.new.self.spans ≡ replaced c.args.from.now.start c.args.to.now n.right.spans = c.resize-then-start-2.ensures.spans ∙ ap (λ m. replaced c.args.from.now.start c.args.to.now m.right.spans) c.deref_mut-then-start-2.ensures.value in
     let height : m.right.height ≡ n.right.height = ap (λ m. m.right.height) second ∙ c.resize-then-start-2.ensures.height ∙ ap (λ m. m.right.height) first in
     let count : length m.right.spans ≡ length n.right.spans = ap (λ m. length m.right.spans) second ∙ ap length new ∙ length-replaced c.args.from.now.start c.args.to.now n.right.spans in
-    let longest_here : c.kept_resized-then-start-2.result ≡ g.S.Sort.keeps (longest m.right.spans) = c.kept_resized-then-start-2.ensures ∙ ap (λ m. g.S.Sort.keeps (longest m.right.spans)) c.deref-then-start-2-2.ensures ∙ sym (ap (λ m. g.S.Sort.keeps (longest m.right.spans)) second) in
+    let longest_here : c.kept_resized-then-start-2.result ≡ g.S.Side.keeps (longest m.right.spans) = c.kept_resized-then-start-2.ensures ∙ ap (λ m. g.S.Side.keeps (longest m.right.spans)) c.deref-then-start-2-2.ensures ∙ sym (ap (λ m. g.S.Side.keeps (longest m.right.spans)) second) in
     let longest_there : m.of_left ≡ n.of_left = ap (λ m. m.of_left) second ∙ ap (λ m. m.of_left) first in
     let there : m.left ≡ n.left = ap (λ m. m.left) second ∙ ap (λ m. m.left) first in
     let leans : m.lean ≡ n.lean = ap (λ m. m.lean) second ∙ ap (λ m. m.lean) first in
@@ -143,7 +143,7 @@ returns-then-start-2-clause-height g t c =
 pub returns-clause-spans : goal.returns-clause-spans
 returns-clause-spans g t c =
     let n = c.in-Full.node.value in
-    let node : IsNode c.args.self.now n.left n.hole n.right = opened (subst (λ t. shape_of t ≡ c.args.self.now) c.in-Full.is c.self.view_is) (subst (IsTree g.S.Sort.keeps) c.in-Full.is c.self.invariant) refl in
+    let node : IsNode c.args.self.now n.left n.hole n.right = opened (subst (λ t. shape_of t ≡ c.args.self.now) c.in-Full.is c.self.view_is) (subst (IsTree g.S.Side.keeps) c.in-Full.is c.self.invariant) refl in
     let first : c.deref.result.now.hole.start ≡ n.hole.start = ap (λ m. m.hole.start) c.deref.ensures in
     let second : c.deref-2.result.now.hole.start ≡ n.hole.start = ap (λ m. m.hole.start) c.deref-2.ensures in
     let begins : n.hole.start ≡ c.args.from.now.start = omega (arith, c.start.ensures, c.start-2.ensures, c.start-3.ensures, c.start-4.ensures) in

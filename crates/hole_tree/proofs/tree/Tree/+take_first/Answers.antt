@@ -10,14 +10,14 @@ pub returns-then-not-is_empty-clause-low : goal.returns-then-not-is_empty-clause
 returns-then-not-is_empty-clause-low g t c =
     let n = c.in-Full.node.value in
     let m = c.deref_mut-then-not-is_empty.result.now in
-    let sound : IsSound g.S.Sort.keeps n = subst (IsTree g.S.Sort.keeps) c.in-Full.is c.self.invariant in
+    let sound : IsSound g.S.Side.keeps n = subst (IsTree g.S.Side.keeps) c.in-Full.is c.self.invariant in
     let first = c.deref_mut.ensures.value in
     let second = c.deref_mut-then-not-is_empty.ensures.value in
     elim c.if-lower.branch [
-      | then-lower w ↦ rw w.self-inside-is (low_sound g.S.Sort.keeps _ w.lost_left-lower.ensures.sound)
+      | then-lower w ↦ rw w.self-inside-is (low_sound g.S.Side.keeps _ w.lost_left-lower.ensures.sound)
       | else-lower w ↦
           let same : c.take_first-first.new.self.height ≡ c.deref_mut.result.now.left.height = grind (arith, common_steps) in
           let height : m.left.height ≡ n.left.height = ap (λ m. m.left.height) second ∙ same ∙ ap (λ m. m.left.height) first in
           let low : IsLow m.left = rw second c.take_first-first.ensures.low in
-          rw w.self-inside-is (low_left g.S.Sort.keeps n m.left m.hole m.right sound height low (ap (λ m. m.right) second ∙ ap (λ m. m.right) first))
+          rw w.self-inside-is (low_left g.S.Side.keeps n m.left m.hole m.right sound height low (ap (λ m. m.right) second ∙ ap (λ m. m.right) first))
     ]

@@ -36,7 +36,7 @@ returns-then-pages-clause-found g c =
     long_here c.args.pages c.loop-node.tree.now c.in-Some.node.now c.in-Some.ensures.shape _ (c.longest.ensures _ c.in-Some.ensures.sound.sides.of_left) c.if-pages-longest.false (omega (arith, c.pages.ensures)) ∙ c.loop-node.invariant.found
 
 pub loop-node-smaller-then-pages-longest : goal.loop-node-smaller-then-pages-longest
-loop-node-smaller-then-pages-longest g c = shorter_below _ _ c.in-Some.ensures.shape
+loop-node-smaller-then-pages-longest g c = shorter_below c.loop-node.tree.now c.in-Some.node.now c.in-Some.ensures.shape
 
 pub loop-node-smaller : goal.loop-node-smaller
-loop-node-smaller g c = shorter_above _ _ c.in-Some.ensures.shape
+loop-node-smaller g c = shorter_above c.loop-node.tree.now c.in-Some.node.now c.in-Some.ensures.shape

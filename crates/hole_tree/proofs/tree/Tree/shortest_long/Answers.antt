@@ -72,7 +72,7 @@ loop-node-preserved g c =
     }
 
 pub loop-node-smaller-then-pages-2 : goal.loop-node-smaller-then-pages-2
-loop-node-smaller-then-pages-2 g c = shorter_above _ _ c.in-Some.ensures.shape
+loop-node-smaller-then-pages-2 g c = shorter_above c.loop-node.tree.now c.in-Some.node.now c.in-Some.ensures.shape
 
 pub loop-node-smaller : goal.loop-node-smaller
-loop-node-smaller g c = shorter_below _ _ c.in-Some.ensures.shape
+loop-node-smaller g c = shorter_below c.loop-node.tree.now c.in-Some.node.now c.in-Some.ensures.shape
