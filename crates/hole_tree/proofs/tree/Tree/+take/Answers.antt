@@ -95,7 +95,7 @@ kept_without-requires-then-is_before-2 g t c =
     let rest = untied g.S.Sort.order c.args.sought.now d.right.spans in
     let was : c.deref-then-is_before-2-3.result.now.of_right ≡ g.S.Side.keeps (longest d.right.spans) = ap (λ m. m.of_right) c.deref-then-is_before-2-3.ensures ∙ sound.sides.of_right in
     let went : longest d.right.spans ≡ max (length_of hole) (longest rest) = longest_untied g.S.Sort.order c.args.sought.now hole d.right.spans (node_sorted_right g.S.Sort.order node c.requires.sorted) c.take-found-then-is_before-2.ensures.found in
-    let left : longest c.deref-then-is_before-2-2.result.now.right.spans ≡ longest rest = ap (λ m. longest m.right.spans) c.deref-then-is_before-2-2.ensures ∙ ap longest c.take-found-then-is_before-2.ensures.right in
+    let left : longest c.deref-then-is_before-2-2.result.now.right.spans ≡ longest rest = ap (λ m. longest m.right.spans) c.deref-then-is_before-2-2.ensures ∙ ap longest c.take-found-then-is_before-2.ensures.left in
     let pages : c.pages-then-is_before-2.result ≡ length_of hole = c.pages-then-is_before-2.ensures ∙ ap (λ m. length_of m.hole) c.deref-then-is_before-2-4.ensures in
     was ∙ ap g.S.Side.keeps (omega arith)
 
