@@ -4,7 +4,10 @@ use Rattle.std.proofs.Math.Nat.{mul-add, add-mul, pow-suc, mul-le-mul_left, mul_
 use Rattle.std.proofs.lemmas.Bool.{cases_lt}
 use Rattle.ttm_base.specs.declared.Span.{Span}
 use Rattle.hole_tree.specs.Shape.{Shape, IsLow}
+use Rattle.hole_tree.specs.Leaning.{Leans}
 use Rattle.hole_tree.specs.Trees.{DifferBy}
+use Rattle.hole_tree.specs.declared.lean.Lean.{Lean}
+use Rattle.hole_tree.specs.declared.lean.Lean.TheVariants.{Left, Even, Right}
 
 expand : (a b : ℕ) → (a + b) * (a + b) ≡ a * a + (a * b + (a * b + b * b))
 expand a b =
@@ -67,3 +70,8 @@ low_node l r k h p q d e =
       fewer = omega (arith, p.fewer, q.fewer, d.left, d.right);
       square = rw m (squares (length l.spans + 1) (length r.spans + 1) l.height r.height h p.square q.square d e);
     }
+
+pub differ : (d : Lean) (l r : ℕ) → Leans d l r → DifferBy 1 l r
+differ Left l r h = record { left = omega arith; right = omega arith }
+differ Even l r h = record { left = omega arith; right = omega arith }
+differ Right l r h = record { left = omega arith; right = omega arith }

@@ -6,7 +6,6 @@ pub mod Counting
 pub mod Found
 pub mod Heights
 pub mod LongestNode
-pub mod Leaned
 pub mod Looking
 pub mod Resizing
 pub mod Rises

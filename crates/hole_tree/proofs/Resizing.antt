@@ -102,15 +102,15 @@ longest_replaced from to (y ∷ ys) h e = elim (cases_Bool (starts_at from.start
 -- ---- a node that has the hole on a side
 
 -- on the left one
-pub record IsLeft (s : Shape) (n : Node) (x : Span) : Type 0 where
+pub record IsLeft {S : Type 0} (s : Shape) (n : Node S) (x : Span) : Type 0 where
   pub spans : (to : Span) → replaced x.start to s.spans ≡ replaced x.start to n.left.spans ++ n.hole ∷ n.right.spans
   pub height : s.height ≡ max n.left.height n.right.height + 1
   pub fewer : length n.left.spans < length s.spans
   pub rising : IsRising n.left.spans
   pub found : find (starts_at x.start) n.left.spans ≡ Some x
 
-pub is_left : {s : Shape} {n : Node} {x : Span} → IsNode s n.left n.hole n.right → x.start < n.hole.start → IsRising s.spans → find (starts_at x.start) s.spans ≡ Some x → IsLeft s n x
-is_left {s} {n} {x} node p h e =
+pub is_left : {S : Type 0} {s : Shape} {n : Node S} {x : Span} → IsNode s n.left n.hole n.right → x.start < n.hole.start → IsRising s.spans → find (starts_at x.start) s.spans ≡ Some x → IsLeft s n x
+is_left {S} {s} {n} {x} node p h e =
     let rising = node_rising node h in
     record {
       spans = λ to. ap (λ ys. replaced x.start to ys) node.spans ∙ replaced_left x.start to n.left.spans n.hole n.right.spans p rising;
@@ -121,15 +121,15 @@ is_left {s} {n} {x} node p h e =
     }
 
 -- on the right one
-pub record IsRight (s : Shape) (n : Node) (x : Span) : Type 0 where
+pub record IsRight {S : Type 0} (s : Shape) (n : Node S) (x : Span) : Type 0 where
   pub spans : (to : Span) → replaced x.start to s.spans ≡ n.left.spans ++ n.hole ∷ replaced x.start to n.right.spans
   pub height : s.height ≡ max n.left.height n.right.height + 1
   pub fewer : length n.right.spans < length s.spans
   pub rising : IsRising n.right.spans
   pub found : find (starts_at x.start) n.right.spans ≡ Some x
 
-pub is_right : {s : Shape} {n : Node} {x : Span} → IsNode s n.left n.hole n.right → n.hole.start < x.start → IsRising s.spans → find (starts_at x.start) s.spans ≡ Some x → IsRight s n x
-is_right {s} {n} {x} node p h e =
+pub is_right : {S : Type 0} {s : Shape} {n : Node S} {x : Span} → IsNode s n.left n.hole n.right → n.hole.start < x.start → IsRising s.spans → find (starts_at x.start) s.spans ≡ Some x → IsRight s n x
+is_right {S} {s} {n} {x} node p h e =
     let rising = node_rising node h in
     record {
       spans = λ to. ap (λ ys. replaced x.start to ys) node.spans ∙ replaced_right x.start to n.left.spans n.hole n.right.spans p rising;
@@ -178,22 +178,28 @@ low_same : {s t : Shape} → IsLow s → t.height ≡ s.height → length t.span
 low_same {s} {t} l h n = record { fewer = omega (arith, l.fewer); square = rw (h, n) l.square }
 
 -- a node with such a side is sound
-pub sound_left : {n m : Node} → IsSound n → m.left.height ≡ n.left.height → length m.left.spans ≡ length n.left.spans → m.right ≡ n.right → m.lean ≡ n.lean → m.longest_left ≡ longest m.left.spans → m.longest_right ≡ n.longest_right → IsSound m
-sound_left {n} {m} i h c r k a b =
+pub sound_left : {S : Type 0} {keeps : ℕ → S} {n m : Node S} → IsSound keeps n → m.left.height ≡ n.left.height → length m.left.spans ≡ length n.left.spans → m.right ≡ n.right → m.lean ≡ n.lean → m.of_left ≡ keeps (longest m.left.spans) → m.of_right ≡ n.of_right → IsSound keeps m
+sound_left {S} {keeps} {n} {m} i h c r k a b =
     let right : m.right.height ≡ n.right.height = ap (λ t. t.height) r in
     record {
       lean = rw (k, h, right) i.lean;
-      longest_left = a;
-      longest_right = b ∙ i.longest_right ∙ sym (ap (λ t. longest t.spans) r);
-      sides = record { left = low_same i.sides.left h c; right = rw r i.sides.right };
+      sides = record {
+        left = low_same i.sides.left h c;
+        right = rw r i.sides.right;
+        of_left = a;
+        of_right = b ∙ i.sides.of_right ∙ sym (ap (λ t. keeps (longest t.spans)) r);
+      };
     }
 
-pub sound_right : {n m : Node} → IsSound n → m.left ≡ n.left → m.right.height ≡ n.right.height → length m.right.spans ≡ length n.right.spans → m.lean ≡ n.lean → m.longest_left ≡ n.longest_left → m.longest_right ≡ longest m.right.spans → IsSound m
-sound_right {n} {m} i l h c k a b =
+pub sound_right : {S : Type 0} {keeps : ℕ → S} {n m : Node S} → IsSound keeps n → m.left ≡ n.left → m.right.height ≡ n.right.height → length m.right.spans ≡ length n.right.spans → m.lean ≡ n.lean → m.of_left ≡ n.of_left → m.of_right ≡ keeps (longest m.right.spans) → IsSound keeps m
+sound_right {S} {keeps} {n} {m} i l h c k a b =
     let left : m.left.height ≡ n.left.height = ap (λ t. t.height) l in
     record {
       lean = rw (k, left, h) i.lean;
-      longest_left = a ∙ i.longest_left ∙ sym (ap (λ t. longest t.spans) l);
-      longest_right = b;
-      sides = record { left = rw l i.sides.left; right = low_same i.sides.right h c };
+      sides = record {
+        left = rw l i.sides.left;
+        right = low_same i.sides.right h c;
+        of_left = a ∙ i.sides.of_left ∙ sym (ap (λ t. keeps (longest t.spans)) l);
+        of_right = b;
+      };
     }

@@ -1,8 +1,9 @@
 -- What holds of the sides of a node that was taken apart.
-use Rattle.std.proofs.Common.{◌≡◌, ◌+◌, max, true, false, ◌∷◌, ◌++◌, Some, length, refl, sym, ap, ◌∙◌, subst, arith, length-append}
+use Rattle.std.proofs.Common.{◌≡◌, ℕ, ◌+◌, max, true, false, ◌∷◌, ◌++◌, Some, length, refl, sym, ap, ◌∙◌, subst, arith, length-append}
 use Rattle.std.specs.List.{find}
 use Rattle.ttm_base.specs.declared.Span.{Span}
 use Rattle.hole_tree.specs.declared.order.Order.{Order}
+use Rattle.hole_tree.specs.Leaning.{Leans}
 use Rattle.hole_tree.specs.Rising.{IsRising}
 use Rattle.hole_tree.specs.Shape.{Shape, IsLow}
 use Rattle.hole_tree.specs.Sorting.{before, ties, IsSorted, placed, untied}
@@ -10,8 +11,7 @@ use Rattle.hole_tree.specs.Trees.{height_of, shape_of, shape_of_node, IsNode, Is
 use Rattle.hole_tree.specs.declared.tree.Node.{Node}
 use Rattle.hole_tree.specs.declared.tree.Top.{Top}
 use Rattle.hole_tree.specs.declared.tree.Top.TheVariants.{Empty, Full}
-use Rattle.hole_tree.proofs.Heights.{low_node}
-use Rattle.hole_tree.proofs.Leaned.{differ}
+use Rattle.hole_tree.proofs.Heights.{low_node, differ}
 use Rattle.hole_tree.proofs.Rises.{rising_left, rising_right}
 use Rattle.hole_tree.proofs.Sorts.{sorted_left, sorted_right, placed_left, placed_right, Goes, goes_left, goes_right, goes_here}
 
@@ -49,8 +49,8 @@ node_goes_here {s} {l} {k} {r} o x n h p q =
     record { found = ap (λ w. find (ties o x) w) n.spans ∙ g.found; left = ap (λ w. untied o x w) n.spans ∙ g.left }
 
 -- a node that was opened
-pub opened : {s : Shape} {n m : Node} → shape_of_node n ≡ s → IsSound n → m ≡ n → IsNode s m.left m.hole m.right
-opened {s} {n} {m} e i f =
+pub opened : {S : Type 0} {keeps : ℕ → S} {s : Shape} {n m : Node S} → shape_of_node n ≡ s → IsSound keeps n → m ≡ n → IsNode s m.left m.hole m.right
+opened {S} {keeps} {s} {n} {m} e i f =
     rw f (record {
       spans = sym (ap (λ t. t.spans) e);
       height = sym (ap (λ t. t.height) e);
@@ -59,21 +59,24 @@ opened {s} {n} {m} e i f =
 
 -- ---- a node that leans as it says is low
 
-pub low_root : (n : Node) → IsSound n → IsLow (shape_of_node n)
-low_root n s = low_node n.left n.right n.hole (height_of n) s.sides.left s.sides.right (differ n.lean n.left.height n.right.height s.lean) refl
+pub low_root : {S : Type 0} (n : Node S) → Leans n.lean n.left.height n.right.height → IsLow n.left → IsLow n.right → IsLow (shape_of_node n)
+low_root n e l r = low_node n.left n.right n.hole (height_of n) l r (differ n.lean n.left.height n.right.height e) refl
 
-pub low_top : (t : Top) → IsTree t → IsLow (shape_of t)
-low_top Empty s = record { fewer = omega arith; square = omega arith }
-low_top (Full n) s = low_root n.value s
+pub low_sound : {S : Type 0} (keeps : ℕ → S) (n : Node S) → IsSound keeps n → IsLow (shape_of_node n)
+low_sound keeps n s = low_root n s.lean s.sides.left s.sides.right
+
+pub low_top : {S : Type 0} (keeps : ℕ → S) (t : Top S) → IsTree keeps t → IsLow (shape_of t)
+low_top keeps Empty s = record { fewer = omega arith; square = omega arith }
+low_top keeps (Full n) s = low_sound keeps n.value s
 
 -- one with another side of the same height
-pub low_left : (n : Node) (l : Shape) (k : Span) (r : Shape) → IsSound n → l.height ≡ n.left.height → IsLow l → r ≡ n.right → IsLow (record { spans = l.spans ++ k ∷ r.spans; height = max l.height r.height + 1 })
-low_left n l k r s e p f =
+pub low_left : {S : Type 0} (keeps : ℕ → S) (n : Node S) (l : Shape) (k : Span) (r : Shape) → IsSound keeps n → l.height ≡ n.left.height → IsLow l → r ≡ n.right → IsLow (record { spans = l.spans ++ k ∷ r.spans; height = max l.height r.height + 1 })
+low_left keeps n l k r s e p f =
     let right : r.height ≡ n.right.height = ap (λ t. t.height) f in
     low_node l r k (max l.height r.height + 1) p (rw f s.sides.right) (differ n.lean l.height r.height (rw (e, right) s.lean)) refl
 
-pub low_right : (n : Node) (l : Shape) (k : Span) (r : Shape) → IsSound n → r.height ≡ n.right.height → IsLow r → l ≡ n.left → IsLow (record { spans = l.spans ++ k ∷ r.spans; height = max l.height r.height + 1 })
-low_right n l k r s e p f =
+pub low_right : {S : Type 0} (keeps : ℕ → S) (n : Node S) (l : Shape) (k : Span) (r : Shape) → IsSound keeps n → r.height ≡ n.right.height → IsLow r → l ≡ n.left → IsLow (record { spans = l.spans ++ k ∷ r.spans; height = max l.height r.height + 1 })
+low_right keeps n l k r s e p f =
     let left : l.height ≡ n.left.height = ap (λ t. t.height) f in
     low_node l r k (max l.height r.height + 1) (rw f s.sides.left) p (differ n.lean l.height r.height (rw (left, e) s.lean)) refl
 

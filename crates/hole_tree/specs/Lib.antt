@@ -3,7 +3,6 @@ pub mod Fitting
 pub mod HoleSet
 pub mod Kept
 pub mod Leaning
-pub mod Leans
 pub mod Longest
 pub mod Rising
 pub mod Shape

@@ -5,16 +5,15 @@ ghost use Rattle.std.specs.Vec.{vec_len, vec_capacity};
 ghost use Rattle.ttm_base.specs.Holes.{has_page};
 ghost use Rattle.ttm_base.specs.declared.Mode.TheVariants.{Best, Low, High};
 ghost use Rattle.hole_tree.specs.Choosing.{chosen_hole};
-ghost use Rattle.hole_tree.specs.Leans.{IsBlank};
 ghost use Rattle.hole_tree.specs.HoleSet.{is_apart, is_disjoint, starts_at, ends_at, with_hole, without};
 ghost use Rattle.hole_tree.specs.Longest.{longest};
 ghost use Rattle.hole_tree.specs.Rising.{EndsBy};
 ghost use Rattle.hole_tree.specs.Trees.{IsBlankNode};
 
 use crate::hole::Hole;
-use crate::lengths::{self, Entry, Lengths};
 use crate::request::Request;
-use crate::tree::{self, Node, Tree};
+use crate::sort::{ByLength, ByStart, Longest, Side};
+use crate::tree::{Node, Taken, Tree};
 use std::alloc::Global;
 use std::marker::{Brand, Model};
 use step_count::Steps;
@@ -24,8 +23,8 @@ use ttm_base::{Mode, NoMemory, Span};
 /// Holes of which no two overlap or touch, in two balanced trees: by start, and by length. The nodes of holes to come
 /// are kept beside them.
 pub struct Holes {
-    by_start: Tree,
-    by_length: Lengths,
+    by_start: Tree<ByStart>,
+    by_length: Tree<ByLength>,
     count: usize,
     spare: Vec<Nodes>,
 }
@@ -54,10 +53,10 @@ impl Drop for Holes {
 /// The nodes of a hole in both trees.
 #[derive(Drop)]
 struct Nodes {
-    by_start: Box<Node>,
-    by_length: Box<Entry>,
-    ghost blank: { IsBlankNode by_start.value },
-    ghost blank_entry: { IsBlank by_length.value },
+    by_start: Box<Node<ByStart>>,
+    by_length: Box<Node<ByLength>>,
+    ghost blank: { IsBlankNode ⟦<ByStart as Side>⟧.keeps by_start.value },
+    ghost blank_by_length: { IsBlankNode ⟦<ByLength as Side>⟧.keeps by_length.value },
 }
 
 impl Model for Holes {
@@ -81,7 +80,7 @@ impl Holes {
     {
         Holes {
             by_start: Tree::new(),
-            by_length: Lengths::new(),
+            by_length: Tree::new(),
             count: 0,
             spare: Vec::new(alloc),
         }
@@ -148,14 +147,14 @@ impl Holes {
         ensures spare { self.new.spare ≡ self.old.spare + 1 }
     {
         let begins = Hole::of(Span { start, end: start });
-        let tree::Taken {
+        let Taken {
             node: by_start,
             lower: _,
         } = self.by_start.take(&begins);
         let hole = by_start.hole;
         let taken = self.by_length.take(&hole);
-        let lengths::Taken {
-            entry: by_length,
+        let Taken {
+            node: by_length,
             lower: _,
         } = taken;
         self.count -= 1;
@@ -182,9 +181,8 @@ impl Holes {
         let (from, to) = (Hole::of(from), Hole::of(to));
         self.by_start.resize(&from, &to);
         let taken = self.by_length.take(&from);
-        let lengths::Taken {
-            entry: mut node,
-            lower: _,
+        let Taken {
+            mut node, lower: _,
         } = taken;
         node.hole = to;
         self.by_length.insert(node);
@@ -269,7 +267,7 @@ impl Holes {
     pub fn longest_hole(&self) -> u32
         ensures { result ≡ longest self.now.holes }
     {
-        self.by_start.longest()
+        self.by_start.kept().longest()
     }
 
     /// The shortest such hole, where a step is a node that is opened.
@@ -294,7 +292,7 @@ impl Holes {
             first,
             last,
         };
-        self.by_length.first(request, steps).map(|hole| hole.span())
+        self.by_length.shortest(request, steps).map(|hole| hole.span())
     }
 
     /// The lowest such hole, where a step is a node that is opened.
@@ -361,7 +359,7 @@ impl Holes {
         match mode {
             Mode::Best => self
                 .by_length
-                .first(request, &mut steps)
+                .shortest(request, &mut steps)
                 .map(|hole| hole.span()),
             Mode::Low => self
                 .by_start
@@ -386,7 +384,7 @@ fn fill(spare: &mut Vec<Nodes>, n: usize) -> Result<(), NoMemory>
     let alloc = *spare.allocator();
     for _i in spare.len()..n {
         let by_start = Box::new(alloc, Node::blank())?;
-        let by_length = Box::new(alloc, Entry::blank())?;
+        let by_length = Box::new(alloc, Node::blank())?;
         spare.push(Nodes {
             by_start,
             by_length,

@@ -8,6 +8,7 @@ mod lengths;
 mod order;
 mod request;
 mod search;
+mod sort;
 mod tree;
 
 pub use holes::{Holes, Neighbours};

@@ -9,12 +9,13 @@ ghost use Rattle.hole_tree.specs.Rising.{IsRising};
 
 use crate::hole::Hole;
 use crate::request::Request;
+use crate::sort::Longest;
 use crate::tree::Tree;
 use step_count::Steps;
 use step_count::ledger::Ledger;
 use ttm_base::Mode;
 
-impl Tree {
+impl<S: Longest> Tree<S> {
     /// The lowest hole that fits. Mostly it is the first that is long enough.
     pub(crate) fn first<L: Ledger>(&self, request: Request, steps: &mut Steps<L>) -> Option<&Hole>
         requires rising { IsRising self.now.spans }
@@ -84,7 +85,7 @@ impl Tree {
     {
         let mut tree = self;
         while let Some(node) = tree.open(steps) {
-            if pages <= node.longest_left {
+            if pages <= node.of_left.longest() {
                 tree = &node.left;
             } else if pages <= node.hole.pages() {
                 return Some(&node.hole);
@@ -104,7 +105,7 @@ impl Tree {
     {
         let mut tree = self;
         while let Some(node) = tree.open(steps) {
-            if pages <= node.longest_right {
+            if pages <= node.of_right.longest() {
                 tree = &node.right;
             } else if pages <= node.hole.pages() {
                 return Some(&node.hole);
@@ -123,7 +124,7 @@ impl Tree {
         ensures counts { steps.old ≤ steps.new }
     {
         let node = self.open(steps)?;
-        if request.reaches_left(node.longest_left, node.hole) {
+        if request.reaches_left(node.of_left.longest(), node.hole) {
             let below = node.left.first_of_all(request, steps);
             if below.is_some() {
                 return below;
@@ -132,7 +133,7 @@ impl Tree {
         if request.fits(Mode::Low, node.hole) {
             return Some(&node.hole);
         }
-        if request.reaches_right(node.longest_right, node.hole) {
+        if request.reaches_right(node.of_right.longest(), node.hole) {
             return node.right.first_of_all(request, steps);
         }
         None
@@ -146,7 +147,7 @@ impl Tree {
         ensures counts { steps.old ≤ steps.new }
     {
         let node = self.open(steps)?;
-        if request.reaches_right(node.longest_right, node.hole) {
+        if request.reaches_right(node.of_right.longest(), node.hole) {
             let above = node.right.highest_of_all(request, steps);
             if above.is_some() {
                 return above;
@@ -155,7 +156,7 @@ impl Tree {
         if request.fits(Mode::High, node.hole) {
             return Some(&node.hole);
         }
-        if request.reaches_left(node.longest_left, node.hole) {
+        if request.reaches_left(node.of_left.longest(), node.hole) {
             return node.left.highest_of_all(request, steps);
         }
         None

@@ -10,15 +10,15 @@ use Rattle.hole_tree.proofs.Found.{mapped}
 use Rattle.hole_tree.proofs.SortedByLength.{first_by_length, length_sorted}
 use Rattle.hole_tree.proofs.holes.Holes.choose.Goals as goal
 
-pub first-requires-clause-sorted : goal.first-requires-clause-sorted
-first-requires-clause-sorted g c = subst (IsSorted ByLength) (sym c.self.invariant.lengths) (length_sorted c.self.inside.by_start.spans c.self.invariant.rising)
+pub shortest-requires-clause-sorted : goal.shortest-requires-clause-sorted
+shortest-requires-clause-sorted g c = subst (IsSorted ByLength) (sym c.self.invariant.lengths) (length_sorted c.self.inside.by_start.spans c.self.invariant.rising)
 
 pub returns-in-Best : goal.returns-in-Best
 returns-in-Best g c =
     let q = c.args.request in
     rw c.in-Best.is (
-    mapped c.first.result c.map.result (λ x y m. search rules) c.map.ensures.cases
-    ∙ c.first.ensures.found
+    mapped c.shortest.result c.map.result (λ x y m. search rules) c.map.ensures.cases
+    ∙ c.shortest.ensures.found
     ∙ ap (λ ys. find (fits Low q) ys) c.self.invariant.lengths
     ∙ first_by_length (fits Low q) c.self.inside.by_start.spans c.self.invariant.rising
     ∙ sym (chosen_best q c.self.inside.by_start.spans)
@@ -28,7 +28,7 @@ returns-in-Best g c =
 pub returns-in-Low : goal.returns-in-Low
 returns-in-Low g c =
     let q = c.args.request in
-    rw c.in-Low.is (mapped c.first-in-Low.result c.map-in-Low.result (λ x y m. search rules) c.map-in-Low.ensures.cases ∙ c.first-in-Low.ensures.found ∙ sym (chosen_low q c.self.inside.by_start.spans) ∙ ap (λ h. chosen_hole Low h.holes q.pages q.align q.first q.last) c.self.view_is)
+    rw c.in-Low.is (mapped c.first.result c.map-in-Low.result (λ x y m. search rules) c.map-in-Low.ensures.cases ∙ c.first.ensures.found ∙ sym (chosen_low q c.self.inside.by_start.spans) ∙ ap (λ h. chosen_hole Low h.holes q.pages q.align q.first q.last) c.self.view_is)
 
 pub returns : goal.returns
 returns g c =

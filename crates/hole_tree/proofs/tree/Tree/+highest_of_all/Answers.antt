@@ -13,7 +13,7 @@ highest_of_all-above-requires g t c κs lives =
     let n = c.in_ok-node.node.now in
     let rising : IsRising n.right.spans = rising_above s n c.in_ok-node.ensures.shape c.requires.rising in
     let fewer : length n.right.spans < length s.spans = shorter_above s n c.in_ok-node.ensures.shape in
-    (first_of (omega arith, search rules), (search rules, (rising, c.requires.align)))
+    (first_of (omega arith, search rules), (search rules, (search rules, (rising, c.requires.align))))
 
 pub highest_of_all-requires : goal.highest_of_all-requires
 highest_of_all-requires g t c κs lives =
@@ -21,7 +21,7 @@ highest_of_all-requires g t c κs lives =
     let n = c.in_ok-node.node.now in
     let rising : IsRising n.left.spans = rising_below s n c.in_ok-node.ensures.shape c.requires.rising in
     let fewer : length n.left.spans < length s.spans = shorter_below s n c.in_ok-node.ensures.shape in
-    (first_of (omega arith, search rules), (search rules, (rising, c.requires.align)))
+    (first_of (omega arith, search rules), (search rules, (search rules, (rising, c.requires.align))))
 
 pub returns-then-is_some-clause-found : goal.returns-then-is_some-clause-found
 returns-then-is_some-clause-found g t c = last_above _ (fits High c.args.request.now) c.args.self.now c.in_ok-node.node.now c.highest_of_all-above.result c.in_ok-node.ensures.shape c.highest_of_all-above.ensures.found (sym c.if-is_some.ensures)
@@ -29,7 +29,7 @@ returns-then-is_some-clause-found g t c = last_above _ (fits High c.args.request
 missed : (g : Over) (t : ℕ) (c : After-fits g t) → find_last (fits High c.args.request.now) c.in_ok-node.node.now.right.spans ≡ None
 missed g t c = elim c.if-reaches_right.branch [
   | then-reaches_right+else-is_some w ↦ none_of _ _ _ w.highest_of_all-above.ensures.found (sym w.if-is_some.ensures)
-  | else-reaches_right w ↦ unreached_above_last High c.args.request.now c.args.self.now c.in_ok-node.node.now c.in_ok-node.ensures.shape c.in_ok-node.ensures.sound c.requires.rising (sym w.if-reaches_right.ensures)
+  | else-reaches_right w ↦ unreached_above_last High c.args.request.now c.args.self.now c.in_ok-node.node.now c.in_ok-node.ensures.shape _ (c.longest.ensures _ c.in_ok-node.ensures.sound.sides.of_right) c.requires.rising (sym w.if-reaches_right.ensures)
 ]
 
 pub returns-then-fits-clause-found : goal.returns-then-fits-clause-found
@@ -42,5 +42,5 @@ returns-then-reaches_left-clause-found g t c =
 
 pub returns-clause-found : goal.returns-clause-found
 returns-clause-found g t c =
-    sym (unreached_below_last High c.args.request.now c.args.self.now c.in_ok-node.node.now c.in_ok-node.ensures.shape c.in_ok-node.ensures.sound c.requires.rising (sym c.if-reaches_left.ensures))
+    sym (unreached_below_last High c.args.request.now c.args.self.now c.in_ok-node.node.now c.in_ok-node.ensures.shape _ (c.longest-2.ensures _ c.in_ok-node.ensures.sound.sides.of_left) c.requires.rising (sym c.if-reaches_left.ensures))
     ∙ last_below (fits High c.args.request.now) c.args.self.now c.in_ok-node.node.now c.in_ok-node.ensures.shape (missed g t (goal.at.returns-clause-found g t c).After-fits) (sym c.if-fits.ensures)

@@ -4,75 +4,76 @@ use Rattle.hole_tree.specs.Sorting.{replaced}
 use Rattle.hole_tree.specs.Trees.{shape_of, spans_of, IsNode, IsSound, IsTree}
 use Rattle.hole_tree.proofs.Resizing.{IsLeft, IsRight, is_left, is_right, length-replaced, replaced_here, longest_reaches, longest_replaced, sound_left, sound_right}
 use Rattle.hole_tree.proofs.Sides.{opened, node_rising}
+use Rattle.hole_tree.proofs.tree.Tree.+resize.Given.{Over}
 use Rattle.hole_tree.proofs.tree.Tree.+resize.Goals as goal
 use Rattle.hole_tree.proofs.tree.Tree.+resize.Goals.{Then-start, Then-start-2}
 
-left : (t : ℕ) (c : Then-start t) → IsLeft c.args.self.now c.in-Full.node.value c.args.from.now
-left t c =
+left : (g : Over) (t : ℕ) (c : Then-start g t) → IsLeft c.args.self.now c.in-Full.node.value c.args.from.now
+left g t c =
     let n = c.in-Full.node.value in
     let hole : c.deref.result.now.hole.start ≡ n.hole.start = ap (λ m. m.hole.start) c.deref.ensures in
     let beside : c.args.from.now.start < n.hole.start = omega (arith, c.start.ensures, c.start-2.ensures) in
-    is_left (opened (subst (λ t. shape_of t ≡ c.args.self.now) c.in-Full.is c.self.view_is) (subst IsTree c.in-Full.is c.self.invariant) refl) beside c.requires.rising c.requires.held
+    is_left (opened (subst (λ t. shape_of t ≡ c.args.self.now) c.in-Full.is c.self.view_is) (subst (IsTree g.S.Side.keeps) c.in-Full.is c.self.invariant) refl) beside c.requires.rising c.requires.held
 
-right : (t : ℕ) (c : Then-start-2 t) → IsRight c.args.self.now c.in-Full.node.value c.args.from.now
-right t c =
+right : (g : Over) (t : ℕ) (c : Then-start-2 g t) → IsRight c.args.self.now c.in-Full.node.value c.args.from.now
+right g t c =
     let n = c.in-Full.node.value in
     let hole : c.deref-2.result.now.hole.start ≡ n.hole.start = ap (λ m. m.hole.start) c.deref-2.ensures in
     let beside : n.hole.start < c.args.from.now.start = omega (arith, c.start-3.ensures, c.start-4.ensures) in
-    is_right (opened (subst (λ t. shape_of t ≡ c.args.self.now) c.in-Full.is c.self.view_is) (subst IsTree c.in-Full.is c.self.invariant) refl) beside c.requires.rising c.requires.held
+    is_right (opened (subst (λ t. shape_of t ≡ c.args.self.now) c.in-Full.is c.self.view_is) (subst (IsTree g.S.Side.keeps) c.in-Full.is c.self.invariant) refl) beside c.requires.rising c.requires.held
 
 pub resize-requires : goal.resize-requires
-resize-requires t c =
-    let on : IsLeft c.args.self.now c.in-Full.node.value c.args.from.now = left t (goal.at.resize-requires t c).Then-start in
+resize-requires g t c κs within =
+    let on : IsLeft c.args.self.now c.in-Full.node.value c.args.from.now = left g t (goal.at.resize-requires g t c).Then-start in
     let side : c.deref_mut.result.now.left ≡ c.in-Full.node.value.left = ap (λ m. m.left) c.deref_mut.ensures.value in
     let fewer : length c.deref_mut.result.now.left.spans < length c.args.self.now.spans = rw side on.fewer in
-    (first_of (omega arith, search rules), (rw side on.rising, rw side on.found))
+    (first_of (omega arith, search rules), (search rules, (rw side on.rising, rw side on.found)))
 
-pub longest_resized-requires-clause-held : goal.longest_resized-requires-clause-held
-longest_resized-requires-clause-held t c =
-    let on : IsLeft c.args.self.now c.in-Full.node.value c.args.from.now = left t (goal.at.longest_resized-requires-clause-held t c).Then-start in
+pub kept_resized-requires-clause-held : goal.kept_resized-requires-clause-held
+kept_resized-requires-clause-held g t c =
+    let on : IsLeft c.args.self.now c.in-Full.node.value c.args.from.now = left g t (goal.at.kept_resized-requires-clause-held g t c).Then-start in
     let n = c.in-Full.node.value in
     let new : c.resize.new.self.spans ≡ replaced c.args.from.now.start c.args.to.now n.left.spans = c.resize.ensures.spans ∙ ap (λ m. replaced c.args.from.now.start c.args.to.now m.left.spans) c.deref_mut.ensures.value in
     rw (ap (λ m. m.left.spans) c.deref-then-start.ensures ∙ new) (longest_reaches c.args.from.now.start c.args.from.now c.args.to.now n.left.spans on.found)
 
-pub longest_resized-requires-clause-others : goal.longest_resized-requires-clause-others
-longest_resized-requires-clause-others t c =
-    let on : IsLeft c.args.self.now c.in-Full.node.value c.args.from.now = left t (goal.at.longest_resized-requires-clause-others t c).Then-start in
+pub kept_resized-requires-clause-others : goal.kept_resized-requires-clause-others
+kept_resized-requires-clause-others g t c =
+    let on : IsLeft c.args.self.now c.in-Full.node.value c.args.from.now = left g t (goal.at.kept_resized-requires-clause-others g t c).Then-start in
     let n = c.in-Full.node.value in
     let new : c.resize.new.self.spans ≡ replaced c.args.from.now.start c.args.to.now n.left.spans = c.resize.ensures.spans ∙ ap (λ m. replaced c.args.from.now.start c.args.to.now m.left.spans) c.deref_mut.ensures.value in
-    let sound : IsSound n = subst IsTree c.in-Full.is c.self.invariant in
-    let was : c.deref-then-start-2.result.now.longest_left ≡ longest n.left.spans = ap (λ m. m.longest_left) c.deref-then-start-2.ensures ∙ ap (λ m. m.longest_left) c.deref_mut.ensures.value ∙ sound.longest_left in
+    let sound : IsSound g.S.Side.keeps n = subst (IsTree g.S.Side.keeps) c.in-Full.is c.self.invariant in
+    let was : c.longest.result ≡ longest n.left.spans = c.longest.ensures _ (ap (λ m. m.of_left) c.deref-then-start-2.ensures ∙ ap (λ m. m.of_left) c.deref_mut.ensures.value ∙ sound.sides.of_left) in
     let is : c.deref-then-start.result.now.left.spans ≡ replaced c.args.from.now.start c.args.to.now n.left.spans = ap (λ m. m.left.spans) c.deref-then-start.ensures ∙ new in
     rw (was, is) (longest_replaced c.args.from.now c.args.to.now n.left.spans on.rising on.found)
 
 pub invariant_of-self : goal.invariant_of-self
-invariant_of-self t c =
+invariant_of-self g t c =
     let n = c.in-Full.node.value in
-    let sound : IsSound n = subst IsTree c.in-Full.is c.self.invariant in
+    let sound : IsSound g.S.Side.keeps n = subst (IsTree g.S.Side.keeps) c.in-Full.is c.self.invariant in
     let first = c.deref_mut.ensures.value in
     let second = c.deref_mut-then-start.ensures.value in
     let m = c.deref_mut-then-start.result.now in
     let new : c.resize.new.self.spans ≡ replaced c.args.from.now.start c.args.to.now n.left.spans = c.resize.ensures.spans ∙ ap (λ m. replaced c.args.from.now.start c.args.to.now m.left.spans) c.deref_mut.ensures.value in
     let height : m.left.height ≡ n.left.height = ap (λ m. m.left.height) second ∙ c.resize.ensures.height ∙ ap (λ m. m.left.height) first in
     let count : length m.left.spans ≡ length n.left.spans = ap (λ m. length m.left.spans) second ∙ ap length new ∙ length-replaced c.args.from.now.start c.args.to.now n.left.spans in
-    let longest_here : c.longest_resized.result ≡ longest m.left.spans = c.longest_resized.ensures ∙ ap (λ m. longest m.left.spans) c.deref-then-start.ensures ∙ sym (ap (λ m. longest m.left.spans) second) in
-    let longest_there : m.longest_right ≡ n.longest_right = ap (λ m. m.longest_right) second ∙ ap (λ m. m.longest_right) first in
+    let longest_here : c.kept_resized.result ≡ g.S.Side.keeps (longest m.left.spans) = c.kept_resized.ensures ∙ ap (λ m. g.S.Side.keeps (longest m.left.spans)) c.deref-then-start.ensures ∙ sym (ap (λ m. g.S.Side.keeps (longest m.left.spans)) second) in
+    let longest_there : m.of_right ≡ n.of_right = ap (λ m. m.of_right) second ∙ ap (λ m. m.of_right) first in
     let there : m.right ≡ n.right = ap (λ m. m.right) second ∙ ap (λ m. m.right) first in
     let leans : m.lean ≡ n.lean = ap (λ m. m.lean) second ∙ ap (λ m. m.lean) first in
     sound_left sound height count there leans longest_here longest_there
 
 pub returns-then-start-clause-spans : goal.returns-then-start-clause-spans
-returns-then-start-clause-spans t c =
-    let on : IsLeft c.args.self.now c.in-Full.node.value c.args.from.now = left t (goal.at.returns-then-start-clause-spans t c).Then-start in
+returns-then-start-clause-spans g t c =
+    let on : IsLeft c.args.self.now c.in-Full.node.value c.args.from.now = left g t (goal.at.returns-then-start-clause-spans g t c).Then-start in
     ap (λ m. spans_of m) c.deref_mut-then-start.ensures.value
     ∙ ap (λ w. w ++ c.deref_mut.result.now.hole ∷ c.deref_mut.result.now.right.spans) c.resize.ensures.spans
     ∙ ap (λ m. replaced c.args.from.now.start c.args.to.now m.left.spans ++ m.hole ∷ m.right.spans) c.deref_mut.ensures.value
     ∙ sym (on.spans c.args.to.now)
 
 pub returns-then-start-clause-height : goal.returns-then-start-clause-height
-returns-then-start-clause-height t c =
+returns-then-start-clause-height g t c =
     let n = c.in-Full.node.value in
-    let on : IsLeft c.args.self.now c.in-Full.node.value c.args.from.now = left t (goal.at.returns-then-start-clause-height t c).Then-start in
+    let on : IsLeft c.args.self.now c.in-Full.node.value c.args.from.now = left g t (goal.at.returns-then-start-clause-height g t c).Then-start in
     let first = c.deref_mut.ensures.value in
     let second = c.deref_mut-then-start.ensures.value in
     let m = c.deref_mut-then-start.result.now in
@@ -81,57 +82,57 @@ returns-then-start-clause-height t c =
     omega (arith, on.height)
 
 pub resize-requires-then-start-2 : goal.resize-requires-then-start-2
-resize-requires-then-start-2 t c =
-    let on : IsRight c.args.self.now c.in-Full.node.value c.args.from.now = right t (goal.at.resize-requires-then-start-2 t c).Then-start-2 in
+resize-requires-then-start-2 g t c κs within =
+    let on : IsRight c.args.self.now c.in-Full.node.value c.args.from.now = right g t (goal.at.resize-requires-then-start-2 g t c).Then-start-2 in
     let side : c.deref_mut-then-start-2.result.now.right ≡ c.in-Full.node.value.right = ap (λ m. m.right) c.deref_mut-then-start-2.ensures.value in
     let fewer : length c.deref_mut-then-start-2.result.now.right.spans < length c.args.self.now.spans = rw side on.fewer in
-    (first_of (omega arith, search rules), (rw side on.rising, rw side on.found))
+    (first_of (omega arith, search rules), (search rules, (rw side on.rising, rw side on.found)))
 
-pub longest_resized-requires-then-start-2-clause-held : goal.longest_resized-requires-then-start-2-clause-held
-longest_resized-requires-then-start-2-clause-held t c =
-    let on : IsRight c.args.self.now c.in-Full.node.value c.args.from.now = right t (goal.at.longest_resized-requires-then-start-2-clause-held t c).Then-start-2 in
+pub kept_resized-requires-then-start-2-clause-held : goal.kept_resized-requires-then-start-2-clause-held
+kept_resized-requires-then-start-2-clause-held g t c =
+    let on : IsRight c.args.self.now c.in-Full.node.value c.args.from.now = right g t (goal.at.kept_resized-requires-then-start-2-clause-held g t c).Then-start-2 in
     let n = c.in-Full.node.value in
     let new : c.resize-then-start-2.new.self.spans ≡ replaced c.args.from.now.start c.args.to.now n.right.spans = c.resize-then-start-2.ensures.spans ∙ ap (λ m. replaced c.args.from.now.start c.args.to.now m.right.spans) c.deref_mut-then-start-2.ensures.value in
     rw (ap (λ m. m.right.spans) c.deref-then-start-2-2.ensures ∙ new) (longest_reaches c.args.from.now.start c.args.from.now c.args.to.now n.right.spans on.found)
 
-pub longest_resized-requires-then-start-2-clause-others : goal.longest_resized-requires-then-start-2-clause-others
-longest_resized-requires-then-start-2-clause-others t c =
-    let on : IsRight c.args.self.now c.in-Full.node.value c.args.from.now = right t (goal.at.longest_resized-requires-then-start-2-clause-others t c).Then-start-2 in
+pub kept_resized-requires-then-start-2-clause-others : goal.kept_resized-requires-then-start-2-clause-others
+kept_resized-requires-then-start-2-clause-others g t c =
+    let on : IsRight c.args.self.now c.in-Full.node.value c.args.from.now = right g t (goal.at.kept_resized-requires-then-start-2-clause-others g t c).Then-start-2 in
     let n = c.in-Full.node.value in
     let new : c.resize-then-start-2.new.self.spans ≡ replaced c.args.from.now.start c.args.to.now n.right.spans = c.resize-then-start-2.ensures.spans ∙ ap (λ m. replaced c.args.from.now.start c.args.to.now m.right.spans) c.deref_mut-then-start-2.ensures.value in
-    let sound : IsSound n = subst IsTree c.in-Full.is c.self.invariant in
-    let was : c.deref-then-start-2-3.result.now.longest_right ≡ longest n.right.spans = ap (λ m. m.longest_right) c.deref-then-start-2-3.ensures ∙ ap (λ m. m.longest_right) c.deref_mut-then-start-2.ensures.value ∙ sound.longest_right in
+    let sound : IsSound g.S.Side.keeps n = subst (IsTree g.S.Side.keeps) c.in-Full.is c.self.invariant in
+    let was : c.longest-then-start-2.result ≡ longest n.right.spans = c.longest-then-start-2.ensures _ (ap (λ m. m.of_right) c.deref-then-start-2-3.ensures ∙ ap (λ m. m.of_right) c.deref_mut-then-start-2.ensures.value ∙ sound.sides.of_right) in
     let is : c.deref-then-start-2-2.result.now.right.spans ≡ replaced c.args.from.now.start c.args.to.now n.right.spans = ap (λ m. m.right.spans) c.deref-then-start-2-2.ensures ∙ new in
     rw (was, is) (longest_replaced c.args.from.now c.args.to.now n.right.spans on.rising on.found)
 
 pub invariant_of-self-then-start-2 : goal.invariant_of-self-then-start-2
-invariant_of-self-then-start-2 t c =
+invariant_of-self-then-start-2 g t c =
     let n = c.in-Full.node.value in
-    let sound : IsSound n = subst IsTree c.in-Full.is c.self.invariant in
+    let sound : IsSound g.S.Side.keeps n = subst (IsTree g.S.Side.keeps) c.in-Full.is c.self.invariant in
     let first = c.deref_mut-then-start-2.ensures.value in
     let second = c.deref_mut-then-start-2-2.ensures.value in
     let m = c.deref_mut-then-start-2-2.result.now in
     let new : c.resize-then-start-2.new.self.spans ≡ replaced c.args.from.now.start c.args.to.now n.right.spans = c.resize-then-start-2.ensures.spans ∙ ap (λ m. replaced c.args.from.now.start c.args.to.now m.right.spans) c.deref_mut-then-start-2.ensures.value in
     let height : m.right.height ≡ n.right.height = ap (λ m. m.right.height) second ∙ c.resize-then-start-2.ensures.height ∙ ap (λ m. m.right.height) first in
     let count : length m.right.spans ≡ length n.right.spans = ap (λ m. length m.right.spans) second ∙ ap length new ∙ length-replaced c.args.from.now.start c.args.to.now n.right.spans in
-    let longest_here : c.longest_resized-then-start-2.result ≡ longest m.right.spans = c.longest_resized-then-start-2.ensures ∙ ap (λ m. longest m.right.spans) c.deref-then-start-2-2.ensures ∙ sym (ap (λ m. longest m.right.spans) second) in
-    let longest_there : m.longest_left ≡ n.longest_left = ap (λ m. m.longest_left) second ∙ ap (λ m. m.longest_left) first in
+    let longest_here : c.kept_resized-then-start-2.result ≡ g.S.Side.keeps (longest m.right.spans) = c.kept_resized-then-start-2.ensures ∙ ap (λ m. g.S.Side.keeps (longest m.right.spans)) c.deref-then-start-2-2.ensures ∙ sym (ap (λ m. g.S.Side.keeps (longest m.right.spans)) second) in
+    let longest_there : m.of_left ≡ n.of_left = ap (λ m. m.of_left) second ∙ ap (λ m. m.of_left) first in
     let there : m.left ≡ n.left = ap (λ m. m.left) second ∙ ap (λ m. m.left) first in
     let leans : m.lean ≡ n.lean = ap (λ m. m.lean) second ∙ ap (λ m. m.lean) first in
     sound_right sound there height count leans longest_there longest_here
 
 pub returns-then-start-2-clause-spans : goal.returns-then-start-2-clause-spans
-returns-then-start-2-clause-spans t c =
-    let on : IsRight c.args.self.now c.in-Full.node.value c.args.from.now = right t (goal.at.returns-then-start-2-clause-spans t c).Then-start-2 in
+returns-then-start-2-clause-spans g t c =
+    let on : IsRight c.args.self.now c.in-Full.node.value c.args.from.now = right g t (goal.at.returns-then-start-2-clause-spans g t c).Then-start-2 in
     ap (λ m. spans_of m) c.deref_mut-then-start-2-2.ensures.value
     ∙ ap (λ w. c.deref_mut-then-start-2.result.now.left.spans ++ c.deref_mut-then-start-2.result.now.hole ∷ w) c.resize-then-start-2.ensures.spans
     ∙ ap (λ m. m.left.spans ++ m.hole ∷ replaced c.args.from.now.start c.args.to.now m.right.spans) c.deref_mut-then-start-2.ensures.value
     ∙ sym (on.spans c.args.to.now)
 
 pub returns-then-start-2-clause-height : goal.returns-then-start-2-clause-height
-returns-then-start-2-clause-height t c =
+returns-then-start-2-clause-height g t c =
     let n = c.in-Full.node.value in
-    let on : IsRight c.args.self.now c.in-Full.node.value c.args.from.now = right t (goal.at.returns-then-start-2-clause-height t c).Then-start-2 in
+    let on : IsRight c.args.self.now c.in-Full.node.value c.args.from.now = right g t (goal.at.returns-then-start-2-clause-height g t c).Then-start-2 in
     let first = c.deref_mut-then-start-2.ensures.value in
     let second = c.deref_mut-then-start-2-2.ensures.value in
     let m = c.deref_mut-then-start-2-2.result.now in
@@ -140,9 +141,9 @@ returns-then-start-2-clause-height t c =
     omega (arith, on.height)
 
 pub returns-clause-spans : goal.returns-clause-spans
-returns-clause-spans t c =
+returns-clause-spans g t c =
     let n = c.in-Full.node.value in
-    let node : IsNode c.args.self.now n.left n.hole n.right = opened (subst (λ t. shape_of t ≡ c.args.self.now) c.in-Full.is c.self.view_is) (subst IsTree c.in-Full.is c.self.invariant) refl in
+    let node : IsNode c.args.self.now n.left n.hole n.right = opened (subst (λ t. shape_of t ≡ c.args.self.now) c.in-Full.is c.self.view_is) (subst (IsTree g.S.Side.keeps) c.in-Full.is c.self.invariant) refl in
     let first : c.deref.result.now.hole.start ≡ n.hole.start = ap (λ m. m.hole.start) c.deref.ensures in
     let second : c.deref-2.result.now.hole.start ≡ n.hole.start = ap (λ m. m.hole.start) c.deref-2.ensures in
     let begins : n.hole.start ≡ c.args.from.now.start = omega (arith, c.start.ensures, c.start-2.ensures, c.start-3.ensures, c.start-4.ensures) in

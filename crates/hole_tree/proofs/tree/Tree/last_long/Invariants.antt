@@ -1,4 +1,4 @@
-use Rattle.std.specs.Prelude.{◌≡◌, ◌+◌, ◌≤◌}
+use Rattle.std.specs.Prelude.{◌≡◌, ◌+◌, ◌≤◌, length}
 use Rattle.hole_tree.specs.Fitting.{is_long, find_last}
 use Rattle.hole_tree.proofs.tree.Tree.last_long.Given as goal
 
@@ -8,3 +8,6 @@ invariant-loop-node g l = record {
   counts : l.initial.steps ≤ l.steps;
   cost : l.steps + l.tree.height ≤ l.initial.steps + l.self.height;
 }
+
+abbrev pub decreases-loop-node : goal.decreases-loop-node
+decreases-loop-node g l = length l.tree.spans

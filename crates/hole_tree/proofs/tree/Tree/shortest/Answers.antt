@@ -2,7 +2,7 @@ use Rattle.std.proofs.Common.{◌<◌, sym, arith}
 use Rattle.std.proofs.lemmas.Bool.{both_ways, le-ltb}
 use Rattle.ttm_base.specs.declared.Mode.TheVariants.{Low}
 use Rattle.hole_tree.proofs.Searching.{zero_first, short_first, long_first, wide_long}
-use Rattle.hole_tree.proofs.lengths.Lengths.first.Goals as goal
+use Rattle.hole_tree.proofs.tree.Tree.shortest.Goals as goal
 
 pub returns-then-request-eq0-clause-found : goal.returns-then-request-eq0-clause-found
 returns-then-request-eq0-clause-found g c = sym (zero_first Low c.args.request c.args.self.now.spans (le-ltb 0 c.args.request.pages (omega (arith, c.if-request-eq0.true))))
