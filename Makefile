@@ -24,20 +24,20 @@ test:
 	./ttm test
 
 install:
-	tools/install.sh "$(DESTDIR)$(PREFIX)"
-	[ ! -e libpearoar_mm.a ] || tools/install_c_library.sh "$(PREFIX)" "$(DESTDIR)"
+	tools/build/install.sh "$(DESTDIR)$(PREFIX)"
+	[ ! -e libpearoar_mm.a ] || tools/build/install_c_library.sh "$(PREFIX)" "$(DESTDIR)"
 
 C_CRATES = ttm_base step_count bit_set sparse_table hole_tree range_manager block_tree buddy_manager manager_walk mm_c
 C_SOURCES = $(wildcard $(C_CRATES:%=crates/%/src/*.rt))
 
 libpearoar_mm.a: $(C_SOURCES)
-	tools/build_c_library.sh $@
+	tools/build/build_c_library.sh $@
 
 prove-c:
-	tools/build_c_library.sh --proved libpearoar_mm.a
+	tools/build/build_c_library.sh --proved libpearoar_mm.a
 
 install-c: libpearoar_mm.a
-	tools/install_c_library.sh "$(PREFIX)" "$(DESTDIR)"
+	tools/build/install_c_library.sh "$(PREFIX)" "$(DESTDIR)"
 
 clean:
 	rm -rf crates/ttm/out/unproved libpearoar_mm.a

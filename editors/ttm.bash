@@ -1,4 +1,4 @@
-# Completion of ./ttm for bash: source this file. Made by tools/editors.py of tools/launcher/commands.txt.
+# Completion of ./ttm for bash: source this file. Made by tools/gate/editors.py of tools/launcher/commands.txt.
 _ttm() {
   local word=${COMP_WORDS[COMP_CWORD]}
   local words=

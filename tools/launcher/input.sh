@@ -38,7 +38,7 @@ has_viewers() {
   [ -e "$top/tools/view" ] && command -v python3 >/dev/null
 }
 
-# Copies a script without its comments, as the viewers' `plain` does (tools/check_examples.sh compares the two): lines that begin with # go, and
+# Copies a script without its comments, as the viewers' `plain` does (tools/gate/check_examples.sh compares the two): lines that begin with # go, and
 # what stands at a line's end from a blank and # on.
 without_comments() {
   LC_ALL=C sed '/^ *#/d; s/ \{1,\}#.*//'

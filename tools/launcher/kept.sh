@@ -181,7 +181,7 @@ make_unproved() {
 build_unproved() {
   local begun=$SECONDS
   echo "ttm: building the unproved program, once; it takes a minute or more" >&2
-  run_build "$top/tools/build_unproved.sh" "$1/ttm" >"$2" 2>&1
+  run_build "$top/tools/build/build_unproved.sh" "$1/ttm" >"$2" 2>&1
   while kill -0 "$child" 2>/dev/null; do
     sleep 0.2
     tell_time $((SECONDS - begun))
@@ -213,7 +213,7 @@ make_proved() {
   if ! is_fresh "$proved"; then
     rm -f "$proved.made" "$proved.seen"
     sum=$(sum_of_sources)
-    run_build "$top/tools/build_progress.py" ttm "$folder/build.log"
+    run_build "$top/tools/build/build_progress.py" ttm "$folder/build.log"
     end_build || stop_unbuilt "$folder/build.log"
     mark "$proved" "$sum"
   fi

@@ -1,6 +1,6 @@
 /*
  * What pearoar_mm.h has beside the library's calls, in C: of two calls one, the states as text, and the test of handles. None of it is
- * proved; tools/check_c_library.sh runs it. Include pearoar_mm.h.
+ * proved; tools/gate/check_c_library.sh runs it. Include pearoar_mm.h.
  */
 #ifndef PEAROAR_MM_INLINE_H
 #define PEAROAR_MM_INLINE_H

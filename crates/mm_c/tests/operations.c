@@ -1,5 +1,5 @@
 /*
- * Does a list of operations on a manager and prints the answer to each, a line an operation. tools/kernel_cases.py writes the lists, with
+ * Does a list of operations on a manager and prints the answer to each, a line an operation. tools/gate/kernel_cases.py writes the lists, with
  * the answers that they must have.
  *
  * The first line is `mm PAGES` or `buddy PAGES`. Then come, for an ID below 65,536:

@@ -1,4 +1,4 @@
-" Vim syntax file for scripts of ttm. Made by tools/editors.py of editors/words.txt.
+" Vim syntax file for scripts of ttm. Made by tools/gate/editors.py of editors/words.txt.
 if exists("b:current_syntax")
   finish
 endif

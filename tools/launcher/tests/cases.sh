@@ -1,4 +1,4 @@
-# What tools/check_launcher.sh tries, which sources this file.
+# What tools/gate/check_launcher.sh tries, which sources this file.
 
 # Words that are answered without a program and without rt.
 check_words() {
@@ -243,7 +243,7 @@ check_read_only() {
 
 check_installed() {
   local place=$room/place/usr/local install=(make -s -C "$room/copy" install "DESTDIR=$room/place")
-  command -v make >/dev/null || install=("$room/copy/tools/install.sh" "$place")
+  command -v make >/dev/null || install=("$room/copy/tools/build/install.sh" "$place")
   PATH=$whole "${install[@]}" >"$room/said" 2>&1 </dev/null || fault "make install: $(cat "$room/said")"
   for file in share/man/man1/ttm.1 share/bash-completion/completions/ttm share/vim/vimfiles/syntax/ttm.vim; do
     [ -f "$place/$file" ] || fault "make install: no file $file"

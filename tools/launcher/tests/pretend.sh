@@ -1,5 +1,5 @@
 # A copy of the launcher with a small repository around it, a kit that only pretends, and a viewer that only says what it is asked. Sourced by
-# tools/check_launcher.sh, which sets `top` and `room`.
+# tools/gate/check_launcher.sh, which sets `top` and `room`.
 #
 # The program that the kit makes writes what made it, its words and its input, and ends with the status that a line `status N` of the input names; a
 # line `wait` has it write its number of a process to $room/waits, and wait.
@@ -7,9 +7,10 @@
 # fault), or none.
 
 pretend_repository() {
-  mkdir -p "$room/copy/tools/view" "$room/copy/editors" "$room/bin" "$room/kit/bin" "$room/kit/toolchain/bin" "$room/tools"
+  mkdir -p "$room/copy/tools/view" "$room/copy/tools/build" "$room/copy/editors" "$room/bin" "$room/kit/bin" "$room/kit/toolchain/bin" "$room/tools"
   cp "$top/ttm" "$top/Makefile" "$top/ttm.1" "$top/CHANGELOG.md" "$top/README.md" "$room/copy/"
-  cp -r "$top/tools/launcher" "$top/tools/build_unproved.sh" "$top/tools/build_progress.py" "$top/tools/install.sh" "$room/copy/tools/"
+  cp -r "$top/tools/launcher" "$room/copy/tools/"
+  cp "$top/tools/build/build_unproved.sh" "$top/tools/build/build_progress.py" "$top/tools/build/install.sh" "$room/copy/tools/build/"
   cp -r "$top/editors/ttm.bash" "$top/editors/vim" "$room/copy/editors/"
   cp -r "$top/examples" "$top/docs" "$room/copy/"
   printf 'base:\nbeside:\nttm: base\n' >"$room/copy/crates.txt"

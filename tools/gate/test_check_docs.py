@@ -1,0 +1,223 @@
+#!/usr/bin/env python3
+"""Tests check_docs.py with planted faults: phrases, lists of files, what is made from the sources, numbers, the kernel's names, tools, links.
+
+usage: tools/gate/test_check_docs.py
+"""
+import pathlib
+import tempfile
+import unittest
+
+import check_docs
+import docs_english
+from docs_counts import Count, faults_of_counts, number_of
+from docs_english import PHRASES, faults_of_text, words_of_text
+from docs_kernel import faults_of_kernel, lines_of, names_of
+from docs_lists import TABLES, faults_of_lists, files_of, rows_of, variants, words_of
+from docs_made import fault_of_line, fault_of_sized, faults_of_blocks, first_sentence, made_text
+
+PLANTED = (
+    "The state behind each entry.", "After so\nmany turns it ends.", "Want of memory ends it.", "Who evicts wants the pages.",
+    "A gate shows that who waits is woken.", "A proof stands on laws.", "No frame is to be had.", "The crate of its like.", "The elder thread waits.",
+    "This is the dearest change.", "Run it by hand.", "It is proved anew.", "The end of it.", "No two names are one.",
+    "The same, where no marks are kept.",
+)
+PLAIN = (
+    "The state after each entry.", "Who holds what?", "**Who holds what.** A page of TT is held.", "`behind` is a name.", "It is one of two.",
+    "It fails because of it.", "[page](docs/behind.md)", "```\nbehind\n```", "    behind in a listing", "Dearborn is a town.",
+)
+
+
+class English(unittest.TestCase):
+    def test_a_planted_sentence_of_each_phrase_is_found(self) -> None:
+        for text in PLANTED:
+            with self.subTest(text):
+                self.assertEqual([line for line, _ in faults_of_text(text)], [1])
+
+    def test_each_phrase_has_a_planted_sentence(self) -> None:
+        for phrase in PHRASES:
+            with self.subTest(phrase.pattern):
+                self.assertTrue(any(phrase.regex().search(text) for text in PLANTED))
+
+    def test_plain_sentences_names_and_listings_pass(self) -> None:
+        for text in PLAIN:
+            with self.subTest(text):
+                self.assertEqual(list(faults_of_text(text)), [])
+
+    def test_a_fault_has_its_line(self) -> None:
+        self.assertEqual([line for line, _ in faults_of_text("One.\n\nTwo, anew.\n")], [3])
+
+    def test_exceptions_are_left_alone(self) -> None:
+        kept = docs_english.EXCEPTIONS
+        docs_english.EXCEPTIONS = ("the man behind the curtain",)
+        try:
+            self.assertEqual(list(faults_of_text("It is the man behind the curtain.")), [])
+            self.assertEqual(len(list(faults_of_text("It is the man behind it."))), 1)
+        finally:
+            docs_english.EXCEPTIONS = kept
+
+
+class Tree(unittest.TestCase):
+    """A test in a folder of its own, which stands for the repository."""
+
+    def setUp(self) -> None:
+        self.folder = tempfile.TemporaryDirectory()
+        self.top = pathlib.Path(self.folder.name)
+
+    def tearDown(self) -> None:
+        self.folder.cleanup()
+
+    def write(self, name: str, text: str) -> pathlib.Path:
+        path = self.top / name
+        path.parent.mkdir(parents=True, exist_ok=True)
+        path.write_text(text)
+        return path
+
+
+class Lists(Tree):
+    def setUp(self) -> None:
+        super().setUp()
+        for table in TABLES:
+            self.write(table.source, f"pub enum {table.enum} {{\n    /// One.\n    One,\n    Two {{ b: u32 }},\n}}\n")
+        self.write("crates/a/src/all.rt", "match k { One => 1, Two => 2 }")
+        self.write("crates/a/src/some.rt", "match k { One => 1, _ => 2 } // and Two")
+
+    def document(self, drop: str = "", add: str = "") -> pathlib.Path:
+        lines = []
+        for table in TABLES:
+            rows = [row for row in rows_of(files_of(self.top, table)) if row != drop]
+            lines += [f"| crate | {table.head} |", "|---|---|", *rows, *([add] if add else []), ""]
+        return self.write("docs/CHANGING.md", "\n".join(lines))
+
+    def test_variants_and_words(self) -> None:
+        self.assertEqual(variants("pub enum K {\n    One,\n    Two(u32),\n}\n", "K"), {"One", "Two"})
+        self.assertEqual(words_of("One -- Two\nThree // Four"), {"One", "Three"})
+
+    def test_only_full_files_are_listed(self) -> None:
+        self.assertEqual(files_of(self.top, TABLES[0])["a"], ["src/all.rt"])
+
+    def test_a_right_document_has_no_fault(self) -> None:
+        self.assertEqual(list(faults_of_lists(self.top, self.document())), [])
+
+    def test_a_missing_and_a_needless_row(self) -> None:
+        self.assertEqual(len(list(faults_of_lists(self.top, self.document(drop="| `a` | `src/all.rt` |")))), len(TABLES))
+        self.assertEqual(len(list(faults_of_lists(self.top, self.document(add="| `b` | `src/gone.rt` |")))), len(TABLES))
+
+    def test_a_document_without_tables(self) -> None:
+        self.assertEqual(len(list(faults_of_lists(self.top, self.write("docs/CHANGING.md", "")))), len(TABLES))
+
+    def test_a_list_is_written(self) -> None:
+        document = self.document(drop="| `a` | `src/all.rt` |", add="| `b` | `src/gone.rt` |")
+        document.write_text(made_text(self.top, document, lambda name: None))
+        self.assertEqual(list(faults_of_lists(self.top, document)), [])
+
+
+class Made(Tree):
+    def setUp(self) -> None:
+        super().setUp()
+        self.write("crates.txt", "# Small ones.\na: b\n# Others.\nb may_wait=1: c\n")
+        self.write("crates/a/README.md", "# `a`\n\nCounts pages\n(ttm_pool). More.\n\n<!-- made: modules -->\n<!-- end -->\n")
+        self.write("crates/b/README.md", "# `b`\n\nWalks [names](../../docs/N.md).\n")
+        self.write("crates/a/src/one.rt", "//! The first of `crate::two`.\n//! More.\nuse x;\n\nfn one() {}\n// no line\nfn two() {}\n")
+        self.write("crates/a/src/lib.rt", "pub mod one;\n")
+        self.write("crates/a/specs/S.antt", "-- What is said. More.\nuse x\nn : N\n")
+
+    def made(self, text: str) -> pathlib.Path:
+        document = self.write("docs/D.md", text)
+        document.write_text(made_text(self.top, document, self.find))
+        return document
+
+    def find(self, name: str):
+        return (self.top / "crates/a/src/one.rt", 5) if name == "one" else None
+
+    def test_rows_of_files_and_their_sum(self) -> None:
+        rows = "| `crates/a/src/one.rt` | 9 | wrong |\n| `crates/a/specs/S.antt` | 9 | |\n| sum | 9 | |\n"
+        self.assertEqual(self.made(rows).read_text(), "| `crates/a/src/one.rt` | 2 | The first of `two` |\n"
+                         "| `crates/a/specs/S.antt` | 1 | What is said |\n| sum | 3 | |\n")
+
+    def test_a_row_that_says_something_else(self) -> None:
+        self.assertIn("What is said", fault_of_sized(self.top, "| `crates/a/specs/S.antt` | 1 | What is sung |") or "")
+        self.assertIsNone(fault_of_sized(self.top, "| `crates/a/specs/S.antt` | 1 | What is said |"))
+
+    def test_a_table_of_crates(self) -> None:
+        text = self.made("<!-- made: crates -->\n<!-- end -->\n").read_text()
+        self.assertIn("**Small ones.**", text)
+        self.assertIn("| [`a`](../crates/a/README.md) | Counts pages (ttm_pool) |", text)
+        self.assertIn("| [`b`](../crates/b/README.md) | Walks [names](N.md) |", text)
+
+    def test_a_table_of_modules(self) -> None:
+        page = self.top / "crates/a/README.md"
+        self.assertEqual([line for line, _ in faults_of_blocks(self.top, page)], [8])
+        page.write_text(made_text(self.top, page, self.find))
+        self.assertEqual(list(faults_of_blocks(self.top, page)), [])
+        self.assertIn("| [`one`](src/one.rt) | The first of `two` |", page.read_text())
+        page.write_text(page.read_text().replace("The first", "The last"))
+        self.assertEqual(len(list(faults_of_blocks(self.top, page))), 1)
+
+    def test_a_block_without_an_end_or_a_name(self) -> None:
+        self.assertEqual(len(list(faults_of_blocks(self.top, self.write("docs/D.md", "<!-- made: crates -->\n")))), 1)
+        self.assertEqual(len(list(faults_of_blocks(self.top, self.write("docs/D.md", "<!-- made: nothing -->\n<!-- end -->\n")))), 1)
+
+    def test_links_to_lines(self) -> None:
+        document = self.made("[`one`](gone.rt#L99) and [`other`](x.rt#L1)")
+        self.assertEqual(document.read_text(), "[`one`](../crates/a/src/one.rt#L5) and [`other`](x.rt#L1)")
+        self.assertIsNone(fault_of_line(document, "one", "../crates/a/src/one.rt", 9, self.find))
+        self.assertIn("line 5", fault_of_line(document, "one", "../crates/a/src/one.rt", 99, self.find) or "")
+        self.assertIn("line 5", fault_of_line(document, "one", "../crates/a/src/lib.rt", 5, self.find) or "")
+        self.assertIn("nowhere", fault_of_line(document, "other", "x.rt", 1, self.find) or "")
+
+    def test_first_sentences(self) -> None:
+        self.assertEqual(first_sentence("Lists (a, b).\nThen"), "Lists (a, b)")
+        self.assertEqual(first_sentence("Of 6.1, `..` too: what"), "Of 6.1, `..` too: what")
+
+    def test_words(self) -> None:
+        text = "Two words `code` [here](a.md) 12\n\n```\ncode\n```\n<!-- made: x -->\nno\n<!-- end -->\n| `crates/a/src/b.rt` | 1 | no |\n"
+        self.assertEqual(words_of_text(text), 3)
+
+
+class Counts(Tree):
+    def test_numbers(self) -> None:
+        self.assertEqual([number_of(word) for word in ("seven", "Twelve", "26", "many")], [7, 12, 26, -1])
+
+    def test_a_wrong_number_and_one_that_is_gone(self) -> None:
+        self.write("D.md", "One.\nIt has nine\nlives.\n")
+        for pattern, count, faults in ((r"has (\w+) lives", 9, 0), (r"has (\w+) lives", 8, 1), (r"has (\w+) tails", 9, 1)):
+            with self.subTest(pattern=pattern, count=count):
+                self.assertEqual(len(list(faults_of_counts(self.top, (Count("D.md", pattern, lambda top: count),)))), faults)
+
+
+class Kernel(Tree):
+    def test_names(self) -> None:
+        text = "`ttm_bo_pin()` and ttm_pool, not ttm_bo.c or ttm_base::X or [x](ttm_y.md) or man-ttm_z\n```\nttm_code\n```\n"
+        self.assertEqual([name for _, name in names_of(text)], ["ttm_bo_pin", "ttm_pool"])
+
+    def test_a_name_of_no_kernel_is_found(self) -> None:
+        self.assertEqual(list(faults_of_kernel("D.md", "`ttm_bo_pin()`, ttm_top", {"ttm_bo_pin"}, {"ttm_top"})), [])
+        self.assertEqual(len(list(faults_of_kernel("D.md", "one\n`ttm_bo_pipeline_move()`", {"ttm_bo_pin"}, set()))), 1)
+
+    def test_where_a_name_stands(self) -> None:
+        self.write("drivers/gpu/drm/ttm/ttm_bo.c", "\tttm_bo_pin(bo);\nvoid ttm_bo_pin(struct x *bo)\n{\n}\n")
+        self.assertEqual(lines_of(self.top, {"ttm_bo_pin", "ttm_gone"}), {"ttm_bo_pin": "drivers/gpu/drm/ttm/ttm_bo.c:2"})
+
+
+class Tools(Tree):
+    def test_each_tool_has_one_line(self) -> None:
+        self.write("tools/a.py", "")
+        self.write("tools/b/c.py", "")
+        self.write("tools/README.md", "| [`a.py`](a.py), [`b`](b/README.md) | what |\n")
+        self.assertEqual(list(check_docs.faults_of_tools(self.top)), [])
+        self.write("tools/d.py", "")
+        self.write("tools/README.md", "| [`a.py`](a.py) | what |\n| [`a.py`](a.py) | what |\n| [`b`](b) | |\n| [`gone.py`](x) | |\n")
+        self.assertEqual(len(list(check_docs.faults_of_tools(self.top))), 3)
+
+
+class Links(Tree):
+    def test_files_and_headings(self) -> None:
+        document = self.write("docs/D.md", "# Its head\n")
+        self.write("docs/E.md", "## What (it) is\n")
+        for target, right in (("E.md", True), ("E.md#what-it-is", True), ("#its-head", True), ("F.md", False), ("E.md#else", False)):
+            with self.subTest(target):
+                self.assertEqual(check_docs.fault_of_link(document, target) is None, right)
+
+
+if __name__ == "__main__":
+    unittest.main()
