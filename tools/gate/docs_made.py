@@ -5,6 +5,7 @@ A block that is made stands between `<!-- made: WHAT -->` and `<!-- end -->`:
 
   crates     in docs/ARCHITECTURE.md: the crates in the groups of crates.txt, each with the first sentence of its page
   modules    on a crate's page: its modules, each with the first sentence of its head (`//!`)
+  edits      in docs/CLAIMS.md: the edits that must fail, by the function that they turn (docs_edits.py)
 """
 from __future__ import annotations
 
@@ -13,6 +14,7 @@ import pathlib
 import re
 from typing import Callable, Dict, Iterator, List, Optional, Tuple
 
+from docs_edits import table_of_edits
 from docs_lists import TABLES, files_of, rows_of
 
 WORD = r"[A-Za-z_][A-Za-z0-9_]*"
@@ -136,7 +138,9 @@ def table_of_modules(top: pathlib.Path, document: pathlib.Path) -> List[str]:
     return ["", "| module | what it has |", "|---|---|", *rows, ""]
 
 
-BLOCKS: Dict[str, Callable[[pathlib.Path, pathlib.Path], List[str]]] = {"crates": table_of_crates, "modules": table_of_modules}
+BLOCKS: Dict[str, Callable[[pathlib.Path, pathlib.Path], List[str]]] = {
+    "crates": table_of_crates, "modules": table_of_modules, "edits": lambda top, document: table_of_edits(top, groups(top)),
+}  # fmt: skip
 
 
 def block_text(top: pathlib.Path, document: pathlib.Path, text: str) -> str:

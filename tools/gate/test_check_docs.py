@@ -10,6 +10,7 @@ import unittest
 import check_docs
 import docs_english
 from docs_counts import Count, faults_of_counts, number_of
+from docs_edits import Edit, edits_of, function_at, rows_of_edits
 from docs_english import PHRASES, faults_of_text, words_of_text
 from docs_kernel import faults_of_kernel, lines_of, names_of
 from docs_lists import TABLES, faults_of_lists, files_of, rows_of, variants, words_of
@@ -217,6 +218,28 @@ class Links(Tree):
         for target, right in (("E.md", True), ("E.md#what-it-is", True), ("#its-head", True), ("F.md", False), ("E.md#else", False)):
             with self.subTest(target):
                 self.assertEqual(check_docs.fault_of_link(document, target) is None, right)
+
+
+
+class Edits(unittest.TestCase):
+    SOURCE = "fn free(n: u32) -> u32 {\n    n\n}\n\nimpl<T: Copy> Drop for Pool<T> {\n    /// Gives.\n    pub fn give(&mut self) {\n        self.free += 1;\n    }\n}\n"
+
+    def test_a_method_has_its_type(self):
+        self.assertEqual(function_at(self.SOURCE, "self.free += 1;"), "Pool::give")
+
+    def test_a_function_has_none(self):
+        self.assertEqual(function_at(self.SOURCE, "    n\n"), "free")
+
+    def test_rows_are_by_function(self):
+        with tempfile.TemporaryDirectory() as folder:
+            crate = pathlib.Path(folder, "crates/pool")
+            (crate / "src").mkdir(parents=True)
+            (crate / "must-fail").mkdir()
+            (crate / "src/lib.rt").write_text(self.SOURCE)
+            for name in ("gives_two", "gives_none"):
+                (crate / f"must-fail/{name}.edit").write_text("file: src/lib.rt\nold: self.free += 1;\nnew: self.free += 2;\n")
+            self.assertEqual(next(edits_of(crate)), Edit("gives_none", "src/lib.rt", "self.free += 1;"))
+            self.assertEqual(list(rows_of_edits(pathlib.Path(folder), ["pool"])), [("pool", "Pool::give", ["gives_none", "gives_two"])])
 
 
 if __name__ == "__main__":
