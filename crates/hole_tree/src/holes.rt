@@ -181,9 +181,7 @@ impl Holes {
         let (from, to) = (Hole::of(from), Hole::of(to));
         self.by_start.resize(&from, &to);
         let taken = self.by_length.take(&from);
-        let Taken {
-            mut node, lower: _,
-        } = taken;
+        let Taken { mut node, lower: _ } = taken;
         node.hole = to;
         self.by_length.insert(node);
     }
@@ -292,7 +290,9 @@ impl Holes {
             first,
             last,
         };
-        self.by_length.shortest(request, steps).map(|hole| hole.span())
+        self.by_length
+            .shortest(request, steps)
+            .map(|hole| hole.span())
     }
 
     /// The lowest such hole, where a step is a node that is opened.

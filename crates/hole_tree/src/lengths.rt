@@ -16,7 +16,11 @@ use ttm_base::Mode;
 
 impl<S: Side> Tree<S> {
     /// The shortest hole that fits (Best and Low fit alike). Mostly it is the first that is long enough.
-    pub(crate) fn shortest<L: Ledger>(&self, request: Request, steps: &mut Steps<L>) -> Option<&Hole>
+    pub(crate) fn shortest<L: Ledger>(
+        &self,
+        request: Request,
+        steps: &mut Steps<L>,
+    ) -> Option<&Hole>
         requires sorted { IsSorted order.ByLength self.now.spans }
         requires align { 1 ≤ request.align }
         ensures found { option_map (λ hole. hole.now) result ≡ find (fits Low request) self.now.spans }

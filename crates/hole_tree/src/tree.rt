@@ -127,11 +127,7 @@ impl<S: Side> Tree<S> {
         requires { was ≡ S.keeps (max gone (longest self.now.spans)) }
         ensures { result ≡ S.keeps (longest self.now.spans) }
     {
-        if was.may_lose(gone) {
-            self.kept()
-        } else {
-            was
-        }
+        if was.may_lose(gone) { self.kept() } else { was }
     }
 
     /// The node at the root. Searches for a request open nodes here alone: this is the step that is counted.
@@ -192,9 +188,7 @@ impl<S: Side> Tree<S> {
         mem::swap(&mut first.right, &mut node.right);
         first.lean = node.lean;
         first.of_left = node.of_left;
-        first.of_right = first
-            .right
-            .kept_without(node.of_right, first.hole.pages());
+        first.of_right = first.right.kept_without(node.of_right, first.hole.pages());
         node.clear();
         let lower = lower && lost_right(&mut first);
         *self = Tree::of(first);
@@ -215,9 +209,7 @@ impl<S: Side> Tree<S> {
         };
         if !node.left.is_empty() {
             let Taken { node: first, lower } = node.left.take_first();
-            node.of_left = node
-                .left
-                .kept_without(node.of_left, first.hole.pages());
+            node.of_left = node.left.kept_without(node.of_left, first.hole.pages());
             let lower = lower && lost_left(node);
             return Taken { node: first, lower };
         }
@@ -301,17 +293,13 @@ impl<S: Sort> Tree<S> {
         };
         if S::order().is_before(*sought, node.hole) {
             let Taken { node: found, lower } = node.left.take(sought);
-            node.of_left = node
-                .left
-                .kept_without(node.of_left, found.hole.pages());
+            node.of_left = node.left.kept_without(node.of_left, found.hole.pages());
             let lower = lower && lost_left(node);
             return Taken { node: found, lower };
         }
         if S::order().is_before(node.hole, *sought) {
             let Taken { node: found, lower } = node.right.take(sought);
-            node.of_right = node
-                .right
-                .kept_without(node.of_right, found.hole.pages());
+            node.of_right = node.right.kept_without(node.of_right, found.hole.pages());
             let lower = lower && lost_right(node);
             return Taken { node: found, lower };
         }

@@ -44,7 +44,7 @@ returns-in-None c =
       within = inv.within;
       read = (
         entry_missing script c.args.text.now c.behind-after.result.now line c.args.head.count c.loop-n.rest entries c.behind-after.ensures c.first_line_of-line.ensures less inv.read
-        (λ e k. none e (subst (λ m. IsEntryText script (m + 1) line e) few k)),
+            (λ e k. none e (subst (λ m. IsEntryText script (m + 1) line e) few k)),
         ap (λ m. m + 1) (sym few),
       );
     }
