@@ -1,7 +1,7 @@
 use Rattle.std.proofs.Common.{rules, sym, subst}
 use mathlib.Core.List.{IsPrefix}
 use Rattle.turn_lock.proofs.Onward.{onward_fenced, onward_trans, onward_turn}
-use Rattle.test_threads.proofs.workers.turn_of.Goals as goal
+use Rattle.test_device.proofs.threaded.workers.turn_of.Goals as goal
 
 pub returns : goal.returns
 returns g c = let took = c.take-held.ensures in let gave = c.give.ensures in onward_trans c.args.pass.now c.give.new.pass c.raise_fence.new.pass

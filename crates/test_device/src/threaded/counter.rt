@@ -69,7 +69,7 @@ impl Logged for Counter {
 
     type Root = u64;
 
-    ghost use Rattle.test_threads.specs.Counting.{done_of, done_of_grows};
+    ghost use Rattle.test_device.specs.Counting.{done_of, done_of_grows};
 
     ghost list = { λ s. s.journal.items };
 
@@ -93,7 +93,7 @@ impl Logged for Counter {
 }
 
 impl Stepper for Counter {
-    ghost use Rattle.test_threads.specs.Counting.{is_over_at};
+    ghost use Rattle.test_device.specs.Counting.{is_over_at};
 
     ghost is_over = { is_over_at };
 
