@@ -105,27 +105,18 @@ fn count_of(runs: &[FenceRun]) -> u64 {
     count
 }
 
-/// The first buffer stands in a memory type, and has so many fences.
-fn stands(state: &State, mem: Mem, fences: u64) -> bool {
-    match state.core.buffers.items().first() {
-        Some(Some(buffer)) => buffer.mem == mem && count_of(buffer.fences.runs()) == fences,
+/// The first buffer stands in VRAM and has two fences, the first ghost holds the frames 2 and 0, and the first job has two packets: it
+/// fills up to a page border, and from there on.
+fn has_moved(state: &State) -> bool {
+    let core = &state.core;
+    match (core.buffers.items(), core.ghosts.items(), core.jobs.items()) {
+        ([Some(buffer), ..], [left, ..], [job, ..]) => {
+            buffer.mem == Mem::Vram
+                && count_of(buffer.fences.runs()) == 2
+                && left.frames.items() == [2, 0].as_slice()
+                && job.packets.len() == 2
+        }
         _ => false,
-    }
-}
-
-/// The first ghost holds these frames.
-fn keeps(state: &State, frames: &[u32]) -> bool {
-    match state.core.ghosts.items().first() {
-        Some(left) => left.frames.items() == frames,
-        None => false,
-    }
-}
-
-/// The first job has so many packets.
-fn emits(state: &State, packets: usize) -> bool {
-    match state.core.jobs.items().first() {
-        Some(job) => job.packets.len() == packets,
-        None => false,
     }
 }
 
@@ -144,10 +135,7 @@ fn buffer_moves_and_leaves_a_ghost(rt: HostRuntime) {
     let names = names_of_script(alloc, &script).expect(&rt, "names");
     let mut state = first_state(alloc, &script).expect(&rt, "a state");
     are_made(&rt, alloc, &script, &names, &mut state, MOVED);
-    assert!(rt; stands(&state, Mem::Vram, 2));
-    assert!(rt; keeps(&state, &[2, 0]));
-    // The job fills up to a page border, and from there on.
-    assert!(rt; emits(&state, 2));
+    assert!(rt; has_moved(&state));
     are_made(&rt, alloc, &script, &names, &mut state, ENDED);
     assert!(rt; is_over(&state, 2));
     drop(state);

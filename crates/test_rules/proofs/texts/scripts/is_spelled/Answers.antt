@@ -9,7 +9,7 @@ use Rattle.journal_model.specs.CommandRules.{command_len, is_between, is_command
 use Rattle.journal_model.specs.MarkRules.{empty_thread_mappings, are_in_order, is_in_thread, has_few_lines, marks_fit, have_marks}
 use Rattle.journal_model.specs.ScriptRules.{has_distinct_names, has_sizes, is_decl, is_script, is_turn_line}
 use Rattle.script_spelling.specs.Cursors.{ArePlaced}
-use Rattle.test_rules.proofs.words.marks.is_told.Goals as goal
+use Rattle.test_rules.proofs.texts.scripts.is_spelled.Goals as goal
 
 second_and_third : (a b c d e : Bool) → ((((a && b) && c) && d) && e) ≡ true → (b ≡ true) × (c ≡ true)
 second_and_third a b c d e h =
