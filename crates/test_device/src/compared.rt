@@ -6,7 +6,6 @@ ghost use Rattle.test_device.specs.Steps.{AreInStep};
 
 mod accounts;
 mod bytes;
-mod copies;
 mod difference;
 mod pair;
 mod parts;

@@ -71,7 +71,11 @@ fn is_known(before: &Option<Outcome>, outcome: &Outcome) -> bool {
 }
 
 /// Runs a case with each number of bytes a read or a write. Prints the first outcome, and any that isn't as the one before.
-pub fn run(rt: &(impl Threads + Wait + Sync + Print), alloc: Global, case: &Case) -> io::Result<()> {
+pub fn run(
+    rt: &(impl Threads + Wait + Sync + Print),
+    alloc: Global,
+    case: &Case,
+) -> io::Result<()> {
     let mut before = None;
     for chunk in &case.chunks {
         let watch = Watch::new(case.watched.unwrap_or(Hold::Nobody));

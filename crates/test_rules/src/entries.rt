@@ -8,7 +8,6 @@ use journal_model::{FenceRun, Script, State};
 use rules_apply::{apply, first_state, is_ready};
 use script_words::names::Names;
 use std::alloc::Global;
-use std::process::Abort;
 use ttm_base::Mem;
 
 /// Two buffers of two pages, mates of priority 1, and a thread that fills the first over a page border, by a job.
@@ -59,7 +58,7 @@ const ENDED: &[(u64, &str)] = &[
     (25, "25 t1 refused NoBuffer\n"),
 ];
 
-/// The entry of a line, which has a number, is ready and is made.
+/// Tells whether the entry of a line, which has a number, is ready and is made.
 fn is_made(
     alloc: Global,
     script: &Script,
@@ -79,24 +78,26 @@ fn is_made(
     }
 }
 
-/// Each entry is ready where it comes, and is made.
+/// Tells whether each entry is ready where it comes, and is made.
 fn are_made(
-    rt: &impl Abort,
     alloc: Global,
     script: &Script,
     names: &Names,
     state: &mut State,
     rows: &[(u64, &str)],
-)
+) -> bool
     requires script { is_script script.now ≡ true }
     requires declared { names.now ≡ names_of script.now.buffers }
 {
     for (n, line) in rows {
-        assert!(rt; is_made(alloc, script, names, state, *n, line), "{line}");
+        if !is_made(alloc, script, names, state, *n, line) {
+            return false;
+        }
     }
+    true
 }
 
-/// How many fences stand in these runs.
+/// Counts the fences that stand in these runs.
 fn count_of(runs: &[FenceRun]) -> u64 {
     let mut count: u64 = 0;
     for run in runs {
@@ -105,7 +106,7 @@ fn count_of(runs: &[FenceRun]) -> u64 {
     count
 }
 
-/// The first buffer stands in VRAM and has two fences, the first ghost holds the frames 2 and 0, and the first job has two packets: it
+/// Tells whether the first buffer stands in VRAM and has two fences, the first ghost holds the frames 2 and 0, and the first job has two packets: it
 /// fills up to a page border, and from there on.
 fn has_moved(state: &State) -> bool {
     let core = &state.core;
@@ -120,7 +121,7 @@ fn has_moved(state: &State) -> bool {
     }
 }
 
-/// There is no ghost, and the thread has answered so many commands.
+/// Tells whether there is no ghost, and the thread has answered `count` commands.
 fn is_over(state: &State, count: u32) -> bool {
     match state.courses.items().first() {
         Some(course) => course.answered == count && state.core.ghosts.len() == 0,
@@ -134,11 +135,10 @@ fn buffer_moves_and_leaves_a_ghost(rt: HostRuntime) {
     let script = script_of(&rt, alloc, SCRIPT);
     let names = names_of_script(alloc, &script).expect(&rt, "names");
     let mut state = first_state(alloc, &script).expect(&rt, "a state");
-    are_made(&rt, alloc, &script, &names, &mut state, MOVED);
-    assert!(rt; has_moved(&state));
-    are_made(&rt, alloc, &script, &names, &mut state, ENDED);
-    assert!(rt; is_over(&state, 2));
+    let is_moved = are_made(alloc, &script, &names, &mut state, MOVED) && has_moved(&state);
+    let is_ended = are_made(alloc, &script, &names, &mut state, ENDED) && is_over(&state, 2);
     drop(state);
     drop(names);
     drop(script);
+    assert!(rt; is_moved && is_ended);
 }

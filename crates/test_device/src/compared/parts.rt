@@ -38,7 +38,11 @@ fn compare_piece(
     let place = StorePage::of(&replay.plain.state().core, b, page);
     let mut wanted = [0; PIECE as usize];
     replay.plain.stores().read(place, off, &mut wanted);
-    agree_on(seen.bytes() == wanted.as_slice(), "other bytes on a page of buffer", u64::from(b.0))
+    agree_on(
+        seen.bytes() == wanted.as_slice(),
+        "other bytes on a page of buffer",
+        u64::from(b.0),
+    )
 }
 
 /// Compares the bytes of each page of a live buffer.
@@ -117,7 +121,11 @@ fn compare_aperture(replay: &Replay) -> Result<(), Stop> {
     let aperture = replay.rooms.aperture();
     for page in 0..replay.rooms.script().sizes.tt {
         let wanted = frame_at(replay.plain.state(), page);
-        agree_on(aperture.get(page) == wanted, "another frame at page of TT", u64::from(page))?;
+        agree_on(
+            aperture.get(page) == wanted,
+            "another frame at page of TT",
+            u64::from(page),
+        )?;
     }
     Ok(())
 }
@@ -225,7 +233,11 @@ fn compare_answered(replay: &Replay) -> Result<(), Stop> {
     let kept = replay.rooms.parts().courses.items();
     for (i, course) in replay.plain.state().courses.items().iter().enumerate() {
         let answered = kept.get(i).map(|found| found.answered);
-        agree_on(answered == Some(course.answered), "another place of thread from 0", i as u64)?;
+        agree_on(
+            answered == Some(course.answered),
+            "another place of thread from 0",
+            i as u64,
+        )?;
     }
     Ok(())
 }
@@ -235,7 +247,10 @@ fn compare_free(replay: &Replay, alloc: Global) -> Result<(), Stop> {
     let script = replay.plain.script();
     let core = &replay.plain.state().core;
     let frame = free_frame(alloc, script, core)?;
-    agree(replay.rooms.free_frame() == frame, "another lowest free frame")?;
+    agree(
+        replay.rooms.free_frame() == frame,
+        "another lowest free frame",
+    )?;
     let slot = free_slot(alloc, script, core)?;
     agree(replay.rooms.free_slot() == slot, "another lowest free slot")
 }
@@ -246,7 +261,10 @@ fn compare_accounts(replay: &Replay, alloc: Global) -> Result<(), Stop> {
     let wanted = accounts_of(alloc, script, replay.plain.state())?;
     let found = accounts_in(&replay.rooms);
     agree(are_same_accounts(&found, &wanted), "other accounts")?;
-    agree(are_kept(replay.rooms.parts(), &wanted), "other accounts that are kept")
+    agree(
+        are_kept(replay.rooms.parts(), &wanted),
+        "other accounts that are kept",
+    )
 }
 
 /// Goes on only if the parts tell what the plain device does.

@@ -45,7 +45,11 @@ fn print_results(rt: &impl Print, alloc: Global, outcome: &Outcome) -> io::Resul
 }
 
 /// Prints what a run on threads came to, and what is said of its report after its script.
-fn print_run(rt: &(impl Threads + Wait + Sync + Print), alloc: Global, mut case: Case) -> io::Result<()> {
+fn print_run(
+    rt: &(impl Threads + Wait + Sync + Print),
+    alloc: Global,
+    mut case: Case,
+) -> io::Result<()> {
     let watch = Watch::new(case.watched.unwrap_or(Hold::Nobody));
     let outcome = outcome_of(rt, alloc, &case, CHUNK, &watch)?;
     watch.print(rt, &case)?;
@@ -58,7 +62,12 @@ fn print_run(rt: &(impl Threads + Wait + Sync + Print), alloc: Global, mut case:
 }
 
 /// Draws a script from a number, and prints the digest of its text. If the case has words, runs it on threads, and has its report checked.
-pub fn run(rt: &(impl Threads + Wait + Sync + Print), alloc: Global, mut case: Case, number: u64) -> io::Result<()> {
+pub fn run(
+    rt: &(impl Threads + Wait + Sync + Print),
+    alloc: Global,
+    mut case: Case,
+    number: u64,
+) -> io::Result<()> {
     case.text = generated(alloc, number).map_err(no_memory)?;
     let digest = hex::encode(alloc, Sha256::digest(case.text.as_slice()))?;
     let name = case.name.as_str();

@@ -81,7 +81,10 @@ impl Watch {
     /// Holds a worker before this turn.
     fn hold(&self, worker: u32, turn: u64) {
         match (self.hold, worker, turn) {
-            (Hold::UntilTheyMeet, 1, 1) | (Hold::InBatchOfFirst, 1, 2) => self.meet(&self.first, &self.second),
+            (Hold::UntilTheyMeet, 1, 1) | (Hold::InBatchOfFirst, 1, 2) => self.meet(
+                &self.first,
+                &self.second,
+            ),
             (Hold::UntilTheyMeet, 2, 1) => self.meet(&self.second, &self.first),
             (Hold::UntilSeventhOf(ahead), _, 7) if worker == ahead => self.first.raise(),
             (Hold::UntilSeventhOf(ahead), _, 1) if worker != ahead => self.first.wait(),
@@ -96,13 +99,16 @@ impl Watch {
         match self.hold {
             Hold::Nobody => true,
             Hold::UntilSeventhOf(_) => self.first.is_met(),
-            Hold::UntilTheyMeet | Hold::InBatchOfFirst => self.first.is_met() && self.second.is_met(),
+            Hold::UntilTheyMeet | Hold::InBatchOfFirst => self.first.is_met()
+                && self.second.is_met(),
         }
     }
 
     /// Tells whether there were as many turns and something was written, and no turn after that.
     fn came_last(&self, least: u64) -> bool {
-        self.turns.load(SeqCst) >= least && self.writes.load(SeqCst) > 0 && !self.is_late.load(SeqCst)
+        self.turns.load(SeqCst) >= least
+            && self.writes.load(SeqCst) > 0
+            && !self.is_late.load(SeqCst)
     }
 
     /// Prints what was seen, if the case asks for it.

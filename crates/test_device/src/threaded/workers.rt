@@ -55,7 +55,9 @@ fn print_fences(rt: &(impl Wait + Print), alloc: Global) -> io::Result<()> {
     turns.join(&mut pass, other);
     let counter = turns.close(rt, pass);
     let entries = counter.count();
-    println!(rt; "raised to 1, 2, 3, 4: {first}, {second}, {third}, {fourth}, seen by another pass to 3: {others}, {entries} entries")
+    println!(rt;
+        "raised to 1, 2, 3, 4: {first}, {second}, {third}, {fourth}, seen by another pass to 3: {others}, {entries} entries"
+    )
 }
 
 /// Prints what one worker makes of both actors' turns. It raises the fence word of the engine after each job.
@@ -68,7 +70,9 @@ fn print_one_worker(rt: &(impl Wait + Print), alloc: Global) -> io::Result<()> {
     let eleventh = turns.peek_fence(&mut pass, 0, 11);
     let counter = turns.close(rt, pass);
     let (entries, jobs) = (counter.count(), counter.done(0));
-    println!(rt; "{contexts} context, over: {is_over}, raised to 10: {tenth}, to 11: {eleventh}, {entries} entries, {jobs} jobs")
+    println!(rt;
+        "{contexts} context, over: {is_over}, raised to 10: {tenth}, to 11: {eleventh}, {entries} entries, {jobs} jobs"
+    )
 }
 
 /// Runs a turn lock without threads, and prints what is seen of its fence words.
@@ -80,7 +84,12 @@ pub fn run_alone(rt: &(impl Wait + Print), alloc: Global, case: &Case) -> io::Re
 }
 
 /// Runs workers on a value that counts, and prints how they ended.
-pub fn run(rt: &(impl Threads + Wait + Sync + Print), alloc: Global, case: &Case, pace: Pace) -> io::Result<()> {
+pub fn run(
+    rt: &(impl Threads + Wait + Sync + Print),
+    alloc: Global,
+    case: &Case,
+    pace: Pace,
+) -> io::Result<()> {
     let name = case.name.as_str();
     let (turns, pass) = Turns::new(alloc, counter_of(alloc, pace), 1).map_err(no_memory)?;
     let watch = Watch::new(case.watched.unwrap_or(Hold::Nobody));

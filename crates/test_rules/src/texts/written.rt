@@ -94,7 +94,12 @@ const ACCOUNTS: Accounts = Accounts {
 };
 
 /// Writes the entries, the results and the accounts.
-fn write(alloc: Global, script: &Script, journal: &[Entry], sink: &mut MemSink) -> Result<(), WriteFault> {
+fn write(
+    alloc: Global,
+    script: &Script,
+    journal: &[Entry],
+    sink: &mut MemSink,
+) -> Result<(), WriteFault> {
     let mut line = Line::new(alloc);
     write_journal(&mut line, script, journal, sink)?;
     write_outcome(&mut line, script, journal, &ACCOUNTS, sink)
