@@ -1,7 +1,6 @@
 -- The entry that the rules give is the device's next.
-use Rattle.std.proofs.Common.{◌≡◌, ◌∙◌, List, Ok, Err, ap}
+use Rattle.std.proofs.Common.{◌≡◌, ◌∙◌, Ok, ap}
 use Rattle.ttm_base.specs.declared.Actor.{Actor}
-use Rattle.ttm_base.specs.declared.Need.{Need}
 use Rattle.journal_model.specs.declared.script.Script.{Script}
 use Rattle.journal_model.specs.declared.entry.Kind.{Kind}
 use Rattle.journal_model.specs.declared.state.State.{State}
@@ -23,7 +22,3 @@ module _ (d : Kept) (who : Actor) (script : Script) (state : State) (bytes : Sto
   -- with what it shows
   pub entry_shown : (k shown : Kind) → Ok k ≡ next script state who → shown ≡ showing script bytes state who k → Ok (record { who = who; kind = shown }) ≡ entry_of d who
   entry_shown k shown n s = ap (λ (f : Kind). Ok (record { who = who; kind = f })) s ∙ ap (shown_step script found who) n ∙ step_is
-
-  -- or the need
-  pub entry_needs : (need : Need) → Err need ≡ next script state who → Err need ≡ entry_of d who
-  entry_needs need n = ap (shown_step script found who) n ∙ step_is
