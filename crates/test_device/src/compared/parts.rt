@@ -190,11 +190,10 @@ fn compare_jobs_of(replay: &Replay, ctx: u32) -> Result<(), Stop>
 {
     let state = replay.plain.state();
     let rooms = &replay.rooms;
-    let last = state
-        .last_jobs
-        .items()
-        .get(ctx as usize)
-        .map_or(0, |last| *last);
+    let last = match state.last_jobs.items().get(ctx as usize) {
+        Some(last) => *last,
+        None => 0,
+    };
     let same = last.checked_add(1) == Some(rooms.next_job(ctx))
         && head_of(state, ctx) == rooms.head(ctx);
     agree_on(same, "other jobs of context", u64::from(ctx))
@@ -213,7 +212,10 @@ fn compare_numbers(replay: &Replay) -> Result<(), Stop> {
     let rooms = &replay.rooms;
     let same = state.last_stamp.checked_add(1) == Some(rooms.next_stamp().0);
     agree(same, "another stamp")?;
-    let first = state.core.ghosts.items().first().map(|left| left.num);
+    let first = match state.core.ghosts.items().first() {
+        Some(left) => Some(left.num),
+        None => None,
+    };
     let same = state.last_ghost.checked_add(1) == Some(rooms.next_ghost())
         && first == rooms.first_ghost();
     agree(same, "other ghosts")
@@ -232,12 +234,11 @@ fn compare_entries(replay: &Replay) -> Result<(), Stop> {
 fn compare_answered(replay: &Replay) -> Result<(), Stop> {
     let kept = replay.rooms.parts().courses.items();
     for (i, course) in replay.plain.state().courses.items().iter().enumerate() {
-        let answered = kept.get(i).map(|found| found.answered);
-        agree_on(
-            answered == Some(course.answered),
-            "another place of thread from 0",
-            i as u64,
-        )?;
+        let same = match kept.get(i) {
+            Some(found) => found.answered == course.answered,
+            None => false,
+        };
+        agree_on(same, "another place of thread from 0", i as u64)?;
     }
     Ok(())
 }
