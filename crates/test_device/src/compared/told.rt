@@ -81,16 +81,31 @@ pub fn print_mapping(rt: &impl Print, case: &Case, device: &Device) -> Result<()
     Ok(())
 }
 
+fn print_frame(rt: &impl Print, frame: Option<u32>) -> io::Result<()> {
+    match frame {
+        Some(frame) => print!(rt; " {frame}"),
+        None => print!(rt; " -"),
+    }
+}
+
 /// Prints the frame that each page of TT stands for.
 fn print_aperture(rt: &impl Print, rooms: &Rooms) -> io::Result<()> {
     print!(rt; "aperture")?;
     for page in 0..rooms.script().sizes.tt {
-        match rooms.parts().stores.aper.get(page) {
-            Some(frame) => print!(rt; " {frame}")?,
-            None => print!(rt; " -")?,
-        }
+        print_frame(rt, rooms.parts().stores.aper.get(page))?;
     }
     println!(rt; "")
+}
+
+/// Prints the report if turns are told, else its accounts.
+fn print_text(rt: &impl Print, case: &Case, text: &str) -> io::Result<()> {
+    if case.tells_turns {
+        return println!(rt; "{text}end");
+    }
+    match text.split_once("\naccounts\n") {
+        Some((_, accounts)) => print!(rt; "accounts\n{accounts}"),
+        None => println!(rt; "no accounts"),
+    }
 }
 
 /// Prints what the parts have: the aperture, if the case asks for it; the report, if turns are told, or its accounts.
@@ -99,12 +114,9 @@ pub fn print_parts(rt: &impl Print, case: &Case, pair: &Pair) -> io::Result<()> 
         print_aperture(rt, &pair.replay.rooms)?;
     }
     let report = pair.report_on_parts().map_err(no_memory)?;
-    let text = str::from_utf8(report.bytes()).unwrap_or("no text");
-    if case.tells_turns {
-        return println!(rt; "{text}end");
-    }
-    match text.split_once("\naccounts\n") {
-        Some((_, accounts)) => print!(rt; "accounts\n{accounts}"),
-        None => println!(rt; "no accounts"),
-    }
+    print_text(
+        rt,
+        case,
+        str::from_utf8(report.bytes()).unwrap_or("no text"),
+    )
 }
