@@ -18,16 +18,19 @@ fn print_actor(rt: &impl Print, who: Actor) -> io::Result<()> {
 }
 
 fn print_need(rt: &impl Print, need: Need) -> io::Result<()> {
-    match need {
-        Need::Fence(JobId { ctx, num }) => println!(rt; "blocked by job {num} of {ctx}"),
-        Need::Holder(stamp) => {
-            let stamp = stamp.0;
-            println!(rt; "blocked by ticket {stamp}")
+    let (words, number) = match need {
+        Need::Fence(JobId { ctx, num }) => {
+            return println!(rt; "blocked by job {num} of {ctx}");
         }
-        Need::Ghost(num) => println!(rt; "blocked by ghost {num}"),
-        Need::NoCommand => println!(rt; "without a command"),
-        Need::NoJob => println!(rt; "without a job"),
-        Need::NoGhost => println!(rt; "without a ghost"),
+        Need::Holder(stamp) => ("blocked by ticket", Some(stamp.0)),
+        Need::Ghost(num) => ("blocked by ghost", Some(num)),
+        Need::NoCommand => ("without a command", None),
+        Need::NoJob => ("without a job", None),
+        Need::NoGhost => ("without a ghost", None),
+    };
+    match number {
+        Some(number) => println!(rt; "{words} {number}"),
+        None => println!(rt; "{words}"),
     }
 }
 
