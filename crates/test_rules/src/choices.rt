@@ -51,7 +51,7 @@ fn has_choice(alloc: Global, script: &Script, core: &Core, case: &Case) -> bool 
 /// Counts the cases of a script up to the first whose answer isn't the one that is wanted.
 fn answered(rt: &impl Abort, alloc: Global, script: &str, cases: &[Case]) -> usize {
     let script = script_of(rt, alloc, script);
-    let mut count = 0;
+    let mut count = 0usize;
     for case in cases {
         let core = core_with(rt, alloc, case.held);
         let is_wanted = has_choice(alloc, &script, &core, case);
@@ -59,7 +59,7 @@ fn answered(rt: &impl Abort, alloc: Global, script: &str, cases: &[Case]) -> usi
         if !is_wanted {
             break;
         }
-        count += 1;
+        count = count.saturating_add(1);
     }
     drop(script);
     count
