@@ -47,12 +47,6 @@ impl Counter {
         self.sum = sum;
     }
 
-    pub fn journal(&self) -> &[u64]
-        ensures { result.now ≡ self.now.journal.items }
-    {
-        self.journal.as_slice()
-    }
-
     fn add(&mut self, entry: u64) -> Result<Turn, NoMemory>
         ensures limit { self.new.limit ≡ self.old.limit }
         ensures added { MatchResult result (λ t. (t ≡ Made (length self.new.journal.items)) × (self.new.journal.items ≡ self.old.journal.items ++ entry ∷ [])) (λ _. self.new.journal.items ≡ self.old.journal.items) }
