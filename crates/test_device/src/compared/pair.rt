@@ -2,14 +2,14 @@ ghost use Rattle.std.specs.Prelude.{OnOk, IfOk, IfSome};
 ghost use Rattle.test_device.specs.Steps.{AreInStep};
 
 use super::bytes::compare_bytes;
-use super::difference::{Difference, Stop, agree};
+use super::difference::{Difference, Stop, agree, agree_on};
 use super::parts::compare_parts;
 use super::replay::Replay;
 use super::report::{line_that_differs, report_of};
-use crate::common::device_for;
 use device_core::Device;
 use io_edge::MemSink;
 use plain_accounts::accounts_of;
+use script_text::{ScriptFault, read_script};
 use std::alloc::Global;
 use test_cases::When;
 use ttm_base::{Actor, Logged, NoMemory, Turn};
@@ -57,6 +57,19 @@ impl Asked {
     }
 }
 
+/// The device on its parts for a text; none, where that is no script.
+///
+/// # Errors
+///
+/// `NoMemory` if memory runs out.
+fn device_for(alloc: Global, text: &[u8]) -> Result<Option<Device>, NoMemory> {
+    match read_script(alloc, text) {
+        Ok(script) => Ok(Some(Device::new(alloc, script)?)),
+        Err(ScriptFault::NoMemory) => Err(NoMemory),
+        Err(ScriptFault::Bad { .. }) => Ok(None),
+    }
+}
+
 impl Pair {
     /// All of a text; none, where that is no script.
     ///
@@ -85,10 +98,8 @@ impl Pair {
     fn compare_done(&self) -> Result<(), Stop> {
         let device = &self.asked.device;
         for ctx in 0..=device.script().sizes.engines {
-            agree(
-                device.done(ctx) == self.replay.plain.done(ctx),
-                Difference::Done(ctx),
-            )?;
+            let same = device.done(ctx) == self.replay.plain.done(ctx);
+            agree_on(same, "another last job of context", u64::from(ctx))?;
         }
         Ok(())
     }
@@ -97,11 +108,9 @@ impl Pair {
     fn compare_turn(&self) -> Result<(), Stop> {
         let device = &self.asked.device;
         let plain = &self.replay.plain;
-        agree(
-            device.journal().len() == plain.journal().len(),
-            Difference::Length,
-        )?;
-        agree(device.over() == plain.over(), Difference::Over)?;
+        let same = device.journal().len() == plain.journal().len();
+        agree(same, "another number of entries")?;
+        agree(device.over() == plain.over(), "another end")?;
         self.compare_done()
     }
 
@@ -125,18 +134,19 @@ impl Pair {
     /// # Errors
     ///
     /// A difference, or want of memory.
-    pub fn step(&mut self, who: Actor) -> Result<(), Stop>
+    pub fn step(&mut self, who: Actor) -> Result<Turn, Stop>
         requires { AreInStep self.old.replay.plain self.old.replay.rooms }
         ensures { OnOk result (AreInStep self.new.replay.plain self.new.replay.rooms) }
     {
         self.turns = self.turns.saturating_add(1);
         let turn = self.replay.step(who)?;
         let here = self.asked.step(who)?;
-        agree(here == turn, Difference::Answer)?;
+        agree(here == turn, "another answer")?;
         match turn {
-            Turn::Made(_) => self.compare_entry(),
-            Turn::Blocked(_) | Turn::Over => self.compare_turn(),
+            Turn::Made(_) => self.compare_entry()?,
+            Turn::Blocked(_) | Turn::Over => self.compare_turn()?,
         }
+        Ok(turn)
     }
 
     /// A turn in the simulator's order on both devices: whose it was, if somebody has an entry.
@@ -150,7 +160,7 @@ impl Pair {
     {
         let who = self.replay.step_next()?;
         let here = self.asked.step_next()?;
-        agree(here == who, Difference::Next)?;
+        agree(here == who, "another actor")?;
         if who.is_some() {
             self.turns = self.turns.saturating_add(1);
         }
@@ -166,7 +176,7 @@ impl Pair {
     }
 
     /// The report of the device on its parts.
-    fn report_on_parts(&self) -> Result<MemSink, NoMemory> {
+    pub fn report_on_parts(&self) -> Result<MemSink, NoMemory> {
         let device = &self.asked.device;
         let accounts = device.accounts();
         report_of(self.alloc, device.script(), device.journal(), &accounts)
@@ -177,7 +187,10 @@ impl Pair {
         let wanted = self.report_by_definitions()?;
         let here = self.report_on_parts()?;
         match line_that_differs(here.bytes(), wanted.bytes()) {
-            Some(line) => Err(Stop::Differs(Difference::Line(line))),
+            Some(line) => Err(Stop::Differs(Difference {
+                what: "another report from line",
+                number: Some(line),
+            })),
             None => Ok(()),
         }
     }
