@@ -9,6 +9,7 @@ use super::report::{line_that_differs, report_of};
 use crate::common::device_for;
 use device_core::Device;
 use io_edge::MemSink;
+use journal_model::{Entry, Kind};
 use plain_accounts::accounts_of;
 use std::alloc::Global;
 use test_cases::When;
@@ -31,6 +32,19 @@ pub struct Pair {
     pub replay: Replay,
     /// How many turns were taken on both.
     pub turns: u64,
+}
+
+/// The greatest number of a job of the context `ctx` that an entry of a journal ends, or 0.
+fn last_done(journal: &[Entry], ctx: u32) -> u64 {
+    let mut most = 0;
+    for entry in journal {
+        if let (Actor::Engine(engine), Kind::Done { num }) = (entry.who, &entry.kind) {
+            if engine == ctx && most < *num {
+                most = *num;
+            }
+        }
+    }
+    most
 }
 
 impl Asked {
@@ -84,9 +98,10 @@ impl Pair {
     /// The last job of each context that is done.
     fn compare_done(&self) -> Result<(), Stop> {
         let device = &self.asked.device;
+        let journal = self.replay.plain.journal();
         for ctx in 0..=device.script().sizes.engines {
             agree(
-                device.done(ctx) == self.replay.plain.done(ctx),
+                device.done(ctx) == last_done(journal, ctx),
                 Difference::Done(ctx),
             )?;
         }
