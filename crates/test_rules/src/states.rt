@@ -1,11 +1,9 @@
 use crate::making::{buffer_of, core_of, job_of, list, one, script_of, state_of};
 use journal_model::{Buffer, Command, Core, Course, Ghost, JobIds, Jobs, Script, State};
-use rules_holds::{
-    free_frame, free_slot, held_slots, held_spans, jobs_before_use, packets_of, unfinished,
-};
+use rules_holds::{free_frame, free_slot, held_spans, jobs_before_use, packets_of};
 use rules_state::{
-    asked_places, first_mentions, frames_of, in_order, named, new_course, pages_of,
-    place_search_at_work, slots_of, without_buffer,
+    asked_places, first_mentions, frames_of, in_order, named, new_course, place_search_at_work,
+    without_buffer,
 };
 use std::alloc::Global;
 use std::process::Abort;
@@ -98,11 +96,8 @@ fn buffers_and_places_of_commands(rt: HostRuntime) {
 #[test]
 fn pages_of_a_buffer(rt: HostRuntime) {
     let alloc = rt.alloc();
-    let spans = [Span { start: 0, end: 2 }, Span { start: 5, end: 6 }];
-    are(&rt, pages_of(alloc, &spans), &[0, 1, 5]);
     let buffer = read_buffer(&rt, alloc);
     are(&rt, frames_of(alloc, &buffer), &[0]);
-    are(&rt, slots_of(alloc, &buffer), &[0]);
     drop(buffer);
 }
 
@@ -135,7 +130,6 @@ fn what_is_held_and_what_is_free(rt: HostRuntime) {
         held_spans(alloc, Mem::Tt, &core),
         &[Span { start: 2, end: 4 }],
     );
-    are(&rt, held_slots(alloc, &core), &[0]);
     let script = script_of(&rt, alloc, SCRIPT);
     let frame = free_frame(alloc, &script, &core).expect(&rt, "a look");
     let slot = free_slot(alloc, &script, &core).expect(&rt, "a look");
@@ -158,7 +152,6 @@ fn packets_and_jobs_to_wait_for(rt: HostRuntime) {
     let alloc = rt.alloc();
     let core = read_core(&rt, alloc);
     are(&rt, packets_of(alloc, &core, &[PROBE]), PIECES);
-    are_jobs(&rt, unfinished(alloc, &core, &[JOB]), &[JOB]);
     are_jobs(&rt, jobs_before_use(alloc, &core, &[FILL], A), &[JOB]);
     drop(core);
 }
