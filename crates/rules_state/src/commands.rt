@@ -38,9 +38,7 @@ pub fn asked_places(
     ensures { IfOk result (λ places. places ≡ words.asked_places script.now command.now b) }
 {
     match command {
-        Command::Move { mem, .. } => {
-            FlaggedPlaces::from_slice(alloc, &[unflagged(whole(*mem))])
-        }
+        Command::Move { mem, .. } => { FlaggedPlaces::from_slice(alloc, &[unflagged(whole(*mem))]) }
         Command::SwapOut { .. } => {
             FlaggedPlaces::from_slice(alloc, &[unflagged(whole(Mem::System))])
         }
