@@ -1,11 +1,9 @@
 use crate::making::{buffer_of, core_of, job_of, list, one, script_of, state_of};
 use journal_model::{Buffer, Command, Core, Course, Ghost, JobIds, Jobs, Script, State};
-use rules_holds::{
-    free_frame, free_slot, held_slots, held_spans, jobs_before_use, packets_of, unfinished,
-};
+use rules_holds::{free_frame, free_slot, held_spans, jobs_before_use, packets_of};
 use rules_state::{
-    asked_places, first_mentions, frames_of, in_order, named, new_course, pages_of,
-    place_search_at_work, slots_of, without_buffer,
+    asked_places, first_mentions, frames_of, in_order, named, new_course, place_search_at_work,
+    without_buffer,
 };
 use std::alloc::Global;
 use std::process::Abort;
@@ -94,18 +92,14 @@ fn is_one_place(alloc: Global, script: &Script) -> bool {
     }
 }
 
-/// Pages of two runs.
-const RUNS: [Span; 2] = [Span { start: 0, end: 2 }, Span { start: 5, end: 6 }];
-
 #[test]
 fn buffers_pages_and_places_of_commands(rt: HostRuntime) {
     let alloc = rt.alloc();
     let are_named = are(without_buffer(alloc, &[A, B, A], A), &[B])
         && are(first_mentions(alloc, &[B, A, B]), &[B, A])
-        && are(named(alloc, &Command::Pin { b: B }), &[B])
-        && are(pages_of(alloc, &RUNS), &[0, 1, 5]);
+        && are(named(alloc, &Command::Pin { b: B }), &[B]);
     let buffer = read_buffer(&rt, alloc);
-    let are_held = are(frames_of(alloc, &buffer), &[0]) && are(slots_of(alloc, &buffer), &[0]);
+    let are_held = are(frames_of(alloc, &buffer), &[0]);
     drop(buffer);
     let script = script_of(&rt, alloc, SCRIPT);
     let is_asked = is_one_place(alloc, &script);
@@ -155,10 +149,8 @@ fn what_is_held_and_free_and_waited_for(rt: HostRuntime) {
     let is_held = are(
         held_spans(alloc, Mem::Tt, &core),
         &[Span { start: 2, end: 4 }],
-    ) && are(held_slots(alloc, &core), &[0])
-        && is_free(alloc, &script, &core);
+    ) && is_free(alloc, &script, &core);
     let is_waited_for = are(packets_of(alloc, &core, &[PROBE]), PIECES)
-        && is_job(unfinished(alloc, &core, &[JOB]))
         && is_job(jobs_before_use(alloc, &core, &[FILL], A));
     drop(script);
     drop(core);

@@ -8,6 +8,7 @@ use super::replay::Replay;
 use super::report::{line_that_differs, report_of};
 use device_core::Device;
 use io_edge::MemSink;
+use journal_model::{Entry, Kind};
 use plain_accounts::accounts_of;
 use script_text::{ScriptFault, read_script};
 use std::alloc::Global;
@@ -31,6 +32,19 @@ pub struct Pair {
     pub replay: Replay,
     /// How many turns were taken on both.
     pub turns: u64,
+}
+
+/// The greatest number of a job of the context `ctx` that an entry of a journal ends, or 0.
+fn last_done(journal: &[Entry], ctx: u32) -> u64 {
+    let mut most = 0;
+    for entry in journal {
+        if let (Actor::Engine(engine), Kind::Done { num }) = (entry.who, &entry.kind) {
+            if engine == ctx && most < *num {
+                most = *num;
+            }
+        }
+    }
+    most
 }
 
 impl Asked {
@@ -97,8 +111,9 @@ impl Pair {
     /// The last job of each context that is done.
     fn compare_done(&self) -> Result<(), Stop> {
         let device = &self.asked.device;
+        let journal = self.replay.plain.journal();
         for ctx in 0..=device.script().sizes.engines {
-            let same = device.done(ctx) == self.replay.plain.done(ctx);
+            let same = device.done(ctx) == last_done(journal, ctx);
             agree_on(same, "another last job of context", u64::from(ctx))?;
         }
         Ok(())
