@@ -10,8 +10,9 @@ use Rattle.journal_model.specs.ReportText.{report_head}
 use Rattle.journal_model.specs.Verdict.{AreEntryTexts, HasHead, IsEntryText}
 use Rattle.entry_reader.specs.declared.report.Head.{Head}
 use Rattle.entry_reader.specs.declared.report.Parsed.{Parsed}
-use Rattle.entry_reader.specs.declared.report.ReportFault.{ReportFault}
-use Rattle.entry_reader.specs.declared.report.ReportFault.TheVariants as fault
+use Rattle.entry_reader.specs.declared.report.ReportBad.{ReportBad}
+use Rattle.entry_reader.specs.declared.rule.Rule.{Rule}
+use Rattle.entry_reader.specs.declared.rule.Rule.TheVariants as rule
 
 -- ---- the first two lines
 
@@ -58,11 +59,25 @@ pub record IsCut (script : Script) (text : Text) (rest : ℕ) (entries : List En
   pub counted : length entries < count
   pub no_entry : (first : Text) (behind : List Text) (e : Entry) → lines_of (drop rest text) ≡ first ∷ behind → IsEntryText script (length entries + 1) first e → ⊥
 
--- what was found
-abbrev pub IsReadTo : Script → Text → ℕ → List Entry → Option ReportFault → Type 0
-IsReadTo script text rest entries None = IsWhole script text rest entries
-IsReadTo script text rest entries (Some fault.Head) = HasNoHead script text
-IsReadTo script text rest entries (Some fault.Entry) = IsCut script text rest entries
+-- the first two lines aren't those of a report, so nothing is read
+pub record IsUnread (script : Script) (text : Text) (rest : ℕ) (entries : List Entry) (entry : ℕ) : Type 0 where
+  pub no_head : HasNoHead script text
+  pub none : entries ≡ []
+  pub first : rest ≡ 0
+  pub named : entry ≡ 0
 
-abbrev pub IsParsed : Script → Text → Parsed → Type 0
-IsParsed script text p = IsReadTo script text p.rest p.entries p.fault
+-- this entry is the first that isn't read, by this rule
+abbrev pub IsBadFrom : Script → Text → ℕ → List Entry → ℕ → Rule → Type 0
+IsBadFrom script text rest entries entry rule.Head = IsUnread script text rest entries entry
+IsBadFrom script text rest entries entry rule.Line = IsCut script text rest entries × (entry ≡ length entries + 1)
+IsBadFrom script text rest entries entry _ = ⊥
+
+-- all entries are read, or they are bad from one on
+abbrev pub IsReadTo : Script → Text → ℕ → List Entry → Option ReportBad → Type 0
+IsReadTo script text rest entries None = IsWhole script text rest entries
+IsReadTo script text rest entries (Some bad) = IsBadFrom script text rest entries bad.entry bad.rule
+
+-- what was found
+pub record IsParsed (script : Script) (text : Text) (p : Parsed) : Type 0 where
+  pub within : p.rest ≤ length text
+  pub read : IsReadTo script text p.rest p.entries p.bad

@@ -6,6 +6,8 @@ mod kinds;
 mod numbers;
 mod parts;
 pub mod report;
+mod rule;
 
 pub use entry::{names_of_script, read_entry};
-pub use report::{Entries, Parsed, ReportFault, read_report};
+pub use report::{Entries, Parsed, ReportBad, read_report};
+pub use rule::Rule;

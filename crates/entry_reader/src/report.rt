@@ -9,6 +9,7 @@ ghost use Rattle.entry_reader.specs.Parsing.{IsHead, IsHeadRead, IsParsed};
 
 use crate::entry::{does_end, front_of, is_the_number, names_of_script, read_entry};
 use crate::numbers::number;
+use crate::rule::Rule;
 use journal_model::{Bytes, Entry, Script};
 use script_words::cut::{cut, len_of_line};
 use script_words::names::Names;
@@ -18,13 +19,12 @@ use ttm_base::{ItemList, NoMemory};
 
 pub type Entries = ItemList<Entry>;
 
-/// Where a report stops being one.
+/// Tells where a report is bad: the first entry that isn't read, counted from 1, and the rule that it breaks, `Rule::Head` or
+/// `Rule::Line`. Entry 0 stands for the first two lines.
 #[derive(Clone, Copy, Debug, PartialEq, Eq)]
-pub enum ReportFault {
-    /// The first two lines aren't `report V`, with the script's version, and `journal M`, with a number of 64 bits.
-    Head,
-    /// The line behind the entries isn't there, or isn't the text of the next entry.
-    Entry,
+pub struct ReportBad {
+    pub entry: u64,
+    pub rule: Rule,
 }
 
 /// What the first two lines tell.
@@ -38,12 +38,12 @@ pub struct Head {
 
 /// A report as far as it can be read.
 pub struct Parsed {
-    /// The entries up to the first line that isn't one.
+    /// The entries up to the first line that isn't one; none where the first two lines are bad.
     pub entries: Entries,
-    /// The place of the first byte behind them.
+    /// The place of the first byte after them, at most the length of the text; 0 where the first two lines are bad.
     pub rest: usize,
     /// Why reading ended before all entries that the report counts.
-    pub fault: Option<ReportFault>,
+    pub bad: Option<ReportBad>,
 }
 
 /// By hand, so that no crate above proves how each part goes.
@@ -52,7 +52,7 @@ impl Drop for Parsed {
         let Self {
             entries: _,
             rest: _,
-            fault: _,
+            bad: _,
         } = self;
     }
 }
@@ -156,23 +156,24 @@ fn read_entries(
                 rest += line.len();
             }
             None => {
-                return Ok(Parsed {
-                    entries,
-                    rest,
-                    fault: Some(ReportFault::Entry),
+                let bad = Some(ReportBad {
+                    entry: n + 1,
+                    rule: Rule::Line,
                 });
+                return Ok(Parsed { entries, rest, bad });
             }
         }
     }
     Ok(Parsed {
         entries,
         rest,
-        fault: None,
+        bad: None,
     })
 }
 
-/// Reads a report of the script: its entries up to the first line that isn't one, and why there are no more. The report may count
-/// more entries than it has lines, up to 2^64 - 1.
+/// Reads the report `text` of `script`: its entries up to the first line that isn't one, the place of the first byte after them, and
+/// why there are no more. Where the first two lines aren't those of a report, no entry is read and the place is 0. The report may
+/// count more entries than it has lines, up to 2^64 - 1.
 pub fn read_report(alloc: Global, script: &Script, text: &[u8]) -> Result<Parsed, NoMemory>
     requires { is_script script.now ≡ true }
     ensures { IfOk result (λ parsed. IsParsed script.now text.now parsed) }
@@ -183,7 +184,10 @@ pub fn read_report(alloc: Global, script: &Script, text: &[u8]) -> Result<Parsed
         None => Ok(Parsed {
             entries: Entries::new(alloc),
             rest: 0,
-            fault: Some(ReportFault::Head),
+            bad: Some(ReportBad {
+                entry: 0,
+                rule: Rule::Head,
+            }),
         }),
     }
 }

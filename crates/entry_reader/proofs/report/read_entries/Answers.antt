@@ -40,12 +40,21 @@ returns-in-None c =
     let none = subst (λ (o : Option Entry). IsRead script (c.loop-n.n + 1) line o) c.in-None.is c.in_ok-entry.ensures in
     let few = inv.few in
     let less : length entries < c.args.head.count = omega (arith, few) in
-    entry_missing script c.args.text.now c.behind-after.result.now line c.args.head.count c.loop-n.rest entries c.behind-after.ensures c.first_line_of-line.ensures less inv.read
-    (λ e k. none e (subst (λ m. IsEntryText script (m + 1) line e) few k))
+    record {
+      within = inv.within;
+      read = (
+        entry_missing script c.args.text.now c.behind-after.result.now line c.args.head.count c.loop-n.rest entries c.behind-after.ensures c.first_line_of-line.ensures less inv.read
+        (λ e k. none e (subst (λ m. IsEntryText script (m + 1) line e) few k)),
+        ap (λ m. m + 1) (sym few),
+      );
+    }
 
 pub returns : goal.returns
 returns c =
     let inv = c.loop-n.invariant in
     let few = inv.few in
     let all : length c.loop-n.entries ≡ c.args.head.count = omega (arith, few) in
-    whole_here c.args.script.now c.args.text.now c.args.head.count c.loop-n.rest c.loop-n.entries all inv.read
+    record {
+      within = inv.within;
+      read = whole_here c.args.script.now c.args.text.now c.args.head.count c.loop-n.rest c.loop-n.entries all inv.read;
+    }

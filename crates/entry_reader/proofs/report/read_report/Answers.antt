@@ -1,4 +1,4 @@
-use Rattle.std.proofs.Common.{Option, subst}
+use Rattle.std.proofs.Common.{Option, refl, subst, arith}
 use Rattle.entry_reader.specs.declared.report.Head.{Head}
 use Rattle.entry_reader.specs.Parsing.{IsHeadRead}
 use Rattle.entry_reader.proofs.report.read_report.Goals as goal
@@ -7,4 +7,12 @@ pub read_entries-requires-clause-head : goal.read_entries-requires-clause-head
 read_entries-requires-clause-head c = subst (λ (o : Option Head). IsHeadRead c.args.script.now c.args.text.now o) c.in-Some.is c.in_ok-head.ensures
 
 pub returns : goal.returns
-returns c = subst (λ (o : Option Head). IsHeadRead c.args.script.now c.args.text.now o) c.in-None.is c.in_ok-head.ensures
+returns c = record {
+  within = omega arith;
+  read = record {
+    no_head = subst (λ (o : Option Head). IsHeadRead c.args.script.now c.args.text.now o) c.in-None.is c.in_ok-head.ensures;
+    none = c.new.ensures;
+    first = refl;
+    named = refl;
+  };
+}
