@@ -17,7 +17,7 @@ use Rattle.journal_model.specs.Next.{next}
 use Rattle.journal_model.specs.Apply.{apply}
 use Rattle.journal_model.specs.Stores.{Stores, zeros, within, stores_after, showing}
 use Rattle.journal_model.specs.Complete.{is_over, is_complete}
-use Rattle.journal_model.specs.Legal.{World, first_state, first_world, IsLegal, IsLegalFrom, IsLegalNext, state_of, world_of, world_after, world_along, shown_step}
+use Rattle.journal_model.specs.Legal.{World, first_state, first_world, IsLegal, IsLegalFrom, IsLegalNext, state_of, stores_of, world_of, world_after, world_along, shown_step}
 use Rattle.journal_model.specs.Verdict.{unshown, unshown_step, IsStep}
 use Rattle.laws.proofs.law_state.Shown.{legal_step}
 use Rattle.laws.proofs.law_state.Counted.{over_law}
@@ -28,9 +28,9 @@ use Rattle.plain_device.specs.Kept.{entry_of}
 use Rattle.plain_device.specs.Held.{IsHeld}
 use Rattle.plain_device.proofs.ReadyLaws.{has_room}
 use Rattle.plain_device.proofs.DeviceLaws.{known, entry_is, can_apply, held_after, same_within}
-use Rattle.report_check.specs.declared.judge.Fault.{Fault}
-use Rattle.report_check.specs.declared.judge.Fault.TheVariants as fault
-use Rattle.report_check.specs.Judged.{Differs, IsFault, IsJudged, IsBadAt, IsLegalTo}
+use Rattle.entry_reader.specs.declared.rule.Rule.{Rule}
+use Rattle.entry_reader.specs.declared.rule.Rule.TheVariants as rule
+use Rattle.report_check.specs.Judged.{Breaks, Differs, IsJudged, IsBadAt}
 
 -- ---- one entry
 
@@ -47,10 +47,14 @@ legal_is_step script w e h =
     let told : unshown e.kind ≡ unshown l.kind = ap (λ (f : Entry). unshown f.kind) l.entry ∙ unshown_showing script w.stores w.state e.who l.kind in
     ap unshown_step l.step ∙ ap (λ (k : Kind). Ok k) (sym told)
 
--- so with any fault it isn't legal next
-fault_is_not_legal : (script : Script) (w : World) (e : Entry) (f : Fault) → IsFault script w e f → IsLegalNext script w e → ⊥
-fault_is_not_legal script w e fault.NoStep h legal = h (legal_is_step script w e legal)
-fault_is_not_legal script w e fault.NotShown h legal = h.1 legal
+-- so one that breaks a rule isn't legal next
+broken_is_not_legal : (script : Script) (w : World) (e : Entry) (r : Rule) → Breaks script w e r → IsLegalNext script w e → ⊥
+broken_is_not_legal script w e rule.Step h legal = h (legal_is_step script w e legal)
+broken_is_not_legal script w e rule.Shown h legal = h.1 legal
+broken_is_not_legal script w e rule.Head h legal = h
+broken_is_not_legal script w e rule.Line h legal = h
+broken_is_not_legal script w e rule.Complete h legal = h
+broken_is_not_legal script w e rule.End h legal = h
 
 module _ (script : Script) (s : State) (bytes : PageBytes) (e : Entry) where
   -- the state and the bytes
@@ -62,19 +66,23 @@ module _ (script : Script) (s : State) (bytes : PageBytes) (e : Entry) where
   no_step need n h = let bad : unshown_step (Err need) ≡ Ok (unshown e.kind) = sym (ap unshown_step n) ∙ h in cc
 
   -- the entry is judged by how it differs from the actor's
-  pub judged : (k made : Kind) (f : Option Fault) → next script s e.who ≡ Ok k → made ≡ showing script bytes s e.who k → Differs made e.kind f → IsJudged script here e f
+  pub judged : (k made : Kind) (r : Option Rule) → next script s e.who ≡ Ok k → made ≡ showing script bytes s e.who k → Differs made e.kind r → IsJudged script here e r
   judged k made None n m d = ap (shown_step script here e.who) n ∙ ap (λ (x : Kind). Ok (record { who = e.who; kind = x })) (sym m ∙ d)
-  judged k made (Some fault.NotShown) n m d = (
+  judged k made (Some rule.Shown) n m d = (
     ap unshown_step n ∙ ap (λ (x : Kind). Ok x) (sym (unshown_showing script bytes s e.who k) ∙ ap unshown (sym m) ∙ d.0),
     λ legal.
         let both : shown_step script here e.who (Ok k) ≡ Ok e = sym (ap (shown_step script here e.who) n) ∙ legal in
         let it : (record { who = e.who; kind = showing script bytes s e.who k }) ≡ e = cc in
         d.1 (m ∙ ap (λ (x : Entry). x.kind) it),
   )
-  judged k made (Some fault.NoStep) n m d = λ step.
+  judged k made (Some rule.Step) n m d = λ step.
       let both : unshown_step (Ok k) ≡ Ok (unshown e.kind) = sym (ap unshown_step n) ∙ step in
       let it : unshown k ≡ unshown e.kind = cc in
       d (ap unshown m ∙ unshown_showing script bytes s e.who k ∙ it)
+  judged k made (Some rule.Head) n m d = absurd d
+  judged k made (Some rule.Line) n m d = absurd d
+  judged k made (Some rule.Complete) n m d = absurd d
+  judged k made (Some rule.End) n m d = absurd d
 
 -- ---- the entries so far
 
@@ -128,17 +136,17 @@ module _ (script : Script) (journal : List Entry) (at : ℕ) (state : State) (st
       (subst (λ m. IsHeld script (take at journal ++ e ∷ []) (apply script state e) stores.sizes m) (sym bytes_is) after)))
 
   -- the first that isn't legal next
-  pub bad_at : IsHeldSoFar → (e : Entry) (number : ℕ) (f : Fault) → slice_get journal at ≡ Some e → number ≡ at + 1 → IsFault script world e f → IsBadAt script journal number f
-  bad_at h e number f there counted wrong =
-      let wrong_here : IsFault script (world_of script (take at journal)) e f = subst (λ w. IsFault script w e f) (world_is h) wrong in
+  pub bad_at : IsHeldSoFar → (e : Entry) (number : ℕ) (r : Rule) → slice_get journal at ≡ Some e → number ≡ at + 1 → Breaks script world e r → IsBadAt script journal number r
+  bad_at h e number r there counted wrong =
+      let here : Breaks script (world_of script (take at journal)) e r = subst (λ w. Breaks script w e r) (world_is h) wrong in
       record {
         at = at;
         entry = e;
         counted = counted;
         there = there;
         before = h.legal;
-        fault = wrong_here;
-        not_legal = λ legal. fault_is_not_legal script (world_of script (take at journal)) e f wrong_here (legal_at script (first_world script) journal at e there legal);
+        breaks = here;
+        not_legal = λ legal. broken_is_not_legal script (world_of script (take at journal)) e r here (legal_at script (first_world script) journal at e there legal);
       }
 
 -- ---- all of them
@@ -156,12 +164,46 @@ held_first script journal state stores fits s z b =
       no_more = λ page o h. ap (λ (f : PageBytes). f page o) b;
     }
 
--- behind the last
-pub legal_to : (script : Script) (journal : List Entry) (state : State) (stores : KeptBytes) → IsHeld script (take (length journal) journal) state stores.sizes (bytes_of stores) → IsLegalTo script journal state
+-- behind the last: the journal is legal, and complete where the state is over
+pub legal_to : (script : Script) (journal : List Entry) (state : State) (stores : KeptBytes) → IsHeld script (take (length journal) journal) state stores.sizes (bytes_of stores) →
+    IsLegal script journal × (is_over script state ≡ is_complete script journal)
 legal_to script journal state stores h =
     let all = take-length journal in
-    record { legal = subst (IsLegal script) all h.legal; state = h.state_is ∙ ap (state_of script) all }
+    let legal = subst (IsLegal script) all h.legal in
+    (legal, ap (is_over script) (h.state_is ∙ ap (state_of script) all) ∙ over_law script journal legal)
 
--- a legal journal is complete where its state is over
-pub complete_at : (script : Script) (journal : List Entry) (state : State) → IsLegalTo script journal state → is_over script state ≡ is_complete script journal
-complete_at script journal state h = ap (is_over script) h.state ∙ over_law script journal h.legal
+-- ---- the states of a legal journal, without its bytes
+
+module _ (script : Script) (journal : List Entry) (at : ℕ) (state : State) where
+  abbrev bytes : PageBytes
+  bytes = stores_of script (take at journal)
+
+  -- the state is that of the entries so far
+  abbrev pub LeadsSoFar : Type 0
+  LeadsSoFar = IsHeld script (take at journal) state script.sizes bytes
+
+  pub entry_ready : LeadsSoFar → IsLegal script journal → at < length journal → length journal < 2 ^ 64 → (e : Entry) → slice_get journal at ≡ Some e → IsReady script state e
+  entry_ready h legal less most e there =
+      can_apply script (take at journal) state script.sizes bytes h (short_take journal at less most) e.who e (legal_at script (first_world script) journal at e there legal)
+
+  -- that behind the next entry
+  pub leads_on : LeadsSoFar → IsLegal script journal → (e : Entry) (s : State) → slice_get journal at ≡ Some e → s ≡ apply script state e →
+      IsHeld script (take (at + 1) journal) s script.sizes (stores_of script (take (at + 1) journal))
+  leads_on h legal e s there to =
+      let longer = take at journal ++ e ∷ [] in
+      let after = held_after script (take at journal) state script.sizes bytes h e.who e (legal_at script (first_world script) journal at e there legal) in
+      let kept : IsHeld script longer (apply script state e) script.sizes (stores_of script longer) =
+      subst (λ (b : PageBytes). IsHeld script longer (apply script state e) script.sizes b) after.bytes_are after in
+      subst (λ j. IsHeld script j s script.sizes (stores_of script j)) (sym (more journal at e there))
+      (subst (λ t. IsHeld script longer t script.sizes (stores_of script longer)) (sym to) kept)
+
+-- before the first
+pub leads_first : (script : Script) (journal : List Entry) (state : State) → IsTrue (is_script script) → state ≡ first_state script →
+    IsHeld script (take 0 journal) state script.sizes (stores_of script (take 0 journal))
+leads_first script journal state fits s =
+    record { fits = fits; legal = tt; state_is = s; sizes_are = refl; bytes_are = refl; no_more = λ page o h. refl }
+
+-- behind the last
+pub leads_to : (script : Script) (journal : List Entry) (state : State) → IsHeld script (take (length journal) journal) state script.sizes (stores_of script (take (length journal) journal)) →
+    state ≡ state_of script journal
+leads_to script journal state h = h.state_is ∙ ap (state_of script) (take-length journal)

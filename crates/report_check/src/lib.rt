@@ -7,6 +7,6 @@ mod parts;
 mod same;
 mod tail;
 
-pub use judge::{Fault, Outcome, Verdict, check, replay};
+pub use judge::{Verdict, check};
 pub use same::{same_kind, same_step};
 pub use tail::tail_is;

@@ -4,8 +4,9 @@ ghost use Rattle.std.specs.Prelude.{◌≡◌, ◌↔◌, ◌++◌, ◌∷◌, �
 ghost use Rattle.std.specs.Io.KnownBytes.{append_known};
 ghost use Rattle.io_edge.specs.Faults.{faults_after};
 ghost use Rattle.io_edge.specs.Written.{Writes};
-ghost use Rattle.journal_model.specs.Legal.{state_of};
+ghost use Rattle.journal_model.specs.Legal.{IsLegal, state_of};
 ghost use Rattle.journal_model.specs.ReportText.{report};
+ghost use Rattle.journal_model.specs.ScriptRules.{is_script};
 ghost use Rattle.journal_model.specs.Words.{line as line_of};
 ghost use Rattle.report_mappings.specs.Faults.{IsLegalIfMapped};
 ghost use Rattle.report_mappings.specs.Requests.{are_in_spaces};
@@ -14,16 +15,17 @@ ghost use Rattle.report_text.specs.Parts.{journal_part, mappings_part, outcome_p
 
 use crate::parts::same_bytes;
 use io_edge::{Failed, Sink, write_all};
-use journal_model::{Entry, Script, State};
+use journal_model::{Entry, Script};
 use page_accounts::Accounts;
 use plain_accounts::accounts_of;
 use report_text::WriteFault;
 use report_text::report::{write_mappings, write_outcome};
+use rules_apply::{apply, first_state};
 use std::alloc::Global;
 use text_line::Line;
 use ttm_base::NoMemory;
 
-/// A text as a sink. It refuses only for want of memory.
+/// Keeps a text as a sink. It refuses only where memory runs out.
 #[derive(Drop)]
 struct TextSink {
     bytes: Vec<u8>,
@@ -70,44 +72,56 @@ fn write_tail<K: Sink>(
     Ok(())
 }
 
-/// What follows the entries in the report of a journal.
+/// Counts what the state after a legal journal holds, by making its entries.
+fn accounts_after(alloc: Global, script: &Script, journal: &[Entry]) -> Result<Accounts, NoMemory>
+    requires fits { IsTrue (is_script script.now) }
+    requires legal { IsLegal script.now journal.now }
+    ensures { IfOk result (AreAccountsOf script.now (state_of script.now journal.now).core) }
+{
+    let mut state = first_state(alloc, script)?;
+    for entry in journal {
+        apply(&mut state, alloc, script, entry)?;
+    }
+    accounts_of(alloc, script, &state)
+}
+
+/// Makes what follows the entries in the report of a journal.
 fn tail_of(
     alloc: Global,
     script: &Script,
     journal: &[Entry],
-    state: &State,
+    accounts: &Accounts,
 ) -> Result<Vec<u8>, NoMemory>
     requires requests { IsTrue (are_in_spaces script.now) }
     requires legal { IsLegalIfMapped script.now journal.now }
-    requires state { state.now ≡ state_of script.now journal.now }
+    requires accounts { AreAccountsOf script.now (state_of script.now journal.now).core accounts.now }
     ensures { IfOk result (λ tail. journal_part script.now journal.now ++ tail.items ≡ report script.now journal.now) }
 {
-    let accounts = accounts_of(alloc, script, state)?;
     let bytes = Vec::new(alloc);
     let mut sink = TextSink { bytes, faults: 0 };
-    match write_tail(alloc, script, journal, &accounts, &mut sink) {
+    match write_tail(alloc, script, journal, accounts, &mut sink) {
         Ok(()) => Ok(sink.bytes),
         Err(_) => Err(NoMemory),
     }
 }
 
-/// Whether these bytes are what follows the entries in the report of a journal, which leads to this state.
+/// Answers whether `tail` is what follows the entries in the report of a legal `journal` of `script`. The entries are made again, without
+/// the rules that a check of them asks; the report's end is made in memory of its length.
 ///
 /// # Errors
 ///
-/// Want of memory.
+/// Fails only where memory runs out.
 pub fn tail_is(
     alloc: Global,
     script: &Script,
     journal: &[Entry],
-    state: &State,
     tail: &[u8],
 ) -> Result<bool, NoMemory>
-    requires requests { IsTrue (are_in_spaces script.now) }
-    requires legal { IsLegalIfMapped script.now journal.now }
-    requires state { state.now ≡ state_of script.now journal.now }
+    requires fits { IsTrue (is_script script.now) }
+    requires legal { IsLegal script.now journal.now }
     ensures { IfOk result (λ is. IsTrue is ↔ (journal_part script.now journal.now ++ tail.now ≡ report script.now journal.now)) }
 {
-    let right = tail_of(alloc, script, journal, state)?;
+    let accounts = accounts_after(alloc, script, journal)?;
+    let right = tail_of(alloc, script, journal, &accounts)?;
     Ok(same_bytes(right.as_slice(), tail))
 }

@@ -1,14 +1,80 @@
-use Rattle.std.proofs.Common.{◌∙◌, sym, subst}
-use Rattle.report_check.specs.Judged.{IsLegalTo, Leads}
-use Rattle.report_check.proofs.ReplayLaws.{complete_at}
+use Rattle.std.proofs.Common.{◌≡◌, ◌∙◌, ◌^◌, ◌<◌, length, Some, refl, sym, subst, arith}
+use Rattle.std.specs.Prelude.{IfSome, slice_get, take}
+use Rattle.std.proofs.lemmas.Option.{slice_get_read}
+use Rattle.laws.proofs.law_state.Rules.{rules_of}
+use Rattle.journal_model.specs.Legal.{World}
+use Rattle.rules_holds.specs.Marked.{AreFrames}
+use Rattle.rules_stores.specs.Kept.{bytes_of}
+use Rattle.plain_device.specs.Held.{IsHeld}
+use Rattle.plain_device.proofs.EnactLaws.{can_store}
+use Rattle.report_check.specs.Judged.{IsJudged}
+use Rattle.report_check.proofs.ReplayLaws.{room, ready, held_next, bad_at, held_first, legal_to}
 use Rattle.report_check.proofs.judge.check.Goals as goal
+
+pub loop-at-init : goal.loop-at-init
+loop-at-init c = record {
+  held = held_first c.args.script.now c.args.journal.now c.in_ok-state.state c.in_ok-stores.stores c.requires c.in_ok-state.ensures c.in_ok-stores.ensures.sizes c.in_ok-stores.ensures.bytes;
+  kept = tt;
+}
+
+pub marks_for-requires : goal.marks_for-requires
+marks_for-requires c = c.loop-at.invariant.kept
+
+pub broken_rule-requires-clause-room : goal.broken_rule-requires-clause-room
+broken_rule-requires-clause-room c =
+    let less : c.loop-at.at < length c.args.journal.now = omega arith in
+    let most : length c.args.journal.now < 2 ^ 64 = omega arith in
+    room c.args.script.now c.args.journal.now c.loop-at.at c.loop-at.state c.loop-at.stores c.loop-at.invariant.held less most
+
+pub broken_rule-requires-clause-frames : goal.broken_rule-requires-clause-frames
+broken_rule-requires-clause-frames c = subst (λ o. IfSome o (AreFrames c.args.script.now c.loop-at.state.core)) (sym c.as_ref.ensures.value) c.in_ok-frames.ensures
+
+pub returns-in-Some : goal.returns-in-Some
+returns-in-Some c =
+    let less : c.loop-at.at < length c.args.journal.now = omega arith in
+    let e = c.index-journal-at.result in
+    let w : World = record { state = c.loop-at.state; stores = bytes_of c.loop-at.stores } in
+    let there : slice_get c.args.journal.now c.loop-at.at ≡ Some e = slice_get_read c.args.journal.now (length c.args.journal.now) c.loop-at.at e refl less c.index-journal-at.is in
+    bad_at c.args.script.now c.args.journal.now c.loop-at.at c.loop-at.state c.loop-at.stores c.loop-at.invariant.held e _ c.in-Some.rule there refl
+    (subst (IsJudged c.args.script.now w e) c.in-Some.is c.in_ok-rule.ensures)
+
+pub enact-requires-clause-ready : goal.enact-requires-clause-ready
+enact-requires-clause-ready c =
+    let less : c.loop-at.at < length c.args.journal.now = omega arith in
+    let most : length c.args.journal.now < 2 ^ 64 = omega arith in
+    let e = c.index-journal-at.result in
+    let w : World = record { state = c.loop-at.state; stores = bytes_of c.loop-at.stores } in
+    ready c.args.script.now c.args.journal.now c.loop-at.at c.loop-at.state c.loop-at.stores c.loop-at.invariant.held less most e
+    (subst (IsJudged c.args.script.now w e) c.in_default.is c.in_ok-rule.ensures)
+
+pub enact-requires-clause-short : goal.enact-requires-clause-short
+enact-requires-clause-short c = can_store c.args.script.now (rules_of c.args.script.now c.requires) c.loop-at.state c.index-journal-at.result.who c.index-journal-at.result.kind
+
+pub loop-at-preserved : goal.loop-at-preserved
+loop-at-preserved c =
+    let less : c.loop-at.at < length c.args.journal.now = omega arith in
+    let e = c.index-journal-at.result in
+    let w : World = record { state = c.loop-at.state; stores = bytes_of c.loop-at.stores } in
+    let there : slice_get c.args.journal.now c.loop-at.at ≡ Some e = slice_get_read c.args.journal.now (length c.args.journal.now) c.loop-at.at e refl less c.index-journal-at.is in
+    record {
+      held =
+          held_next c.args.script.now c.args.journal.now c.loop-at.at c.loop-at.state c.loop-at.stores c.loop-at.invariant.held e c.enact.new.state c.enact.new.stores there
+          (subst (IsJudged c.args.script.now w e) c.in_default.is c.in_ok-rule.ensures) c.in_ok-enact.ensures.state c.in_ok-enact.ensures.bytes;
+      kept =
+          subst (λ s. IfSome c.marks_after-kept.result (AreFrames c.args.script.now s.core)) (sym c.in_ok-enact.ensures.state)
+          (c.marks_after-kept.ensures c.args.script.now c.in_ok-frames.ensures);
+    }
 
 pub returns-then-is_over : goal.returns-then-is_over
 returns-then-is_over c =
-    let to : IsLegalTo c.args.script.now c.args.journal.now c.in-Legal.state = subst (Leads c.args.script.now c.args.journal.now) c.in-Legal.is c.in_ok-state.ensures in
-    (to.legal, sym (complete_at c.args.script.now c.args.journal.now c.in-Legal.state to) ∙ sym c.is_over.ensures ∙ c.if-is_over.true)
+    let end : c.loop-at.at ≡ length c.args.journal.now = omega arith in
+    let held = subst (λ n. IsHeld c.args.script.now (take n c.args.journal.now) c.loop-at.state c.loop-at.stores.sizes (bytes_of c.loop-at.stores)) end c.loop-at.invariant.held in
+    let to = legal_to c.args.script.now c.args.journal.now c.loop-at.state c.loop-at.stores held in
+    (to.0, sym to.1 ∙ sym c.is_over.ensures ∙ c.if-is_over.true)
 
-pub returns-in-Legal : goal.returns-in-Legal
-returns-in-Legal c =
-    let to : IsLegalTo c.args.script.now c.args.journal.now c.in-Legal.state = subst (Leads c.args.script.now c.args.journal.now) c.in-Legal.is c.in_ok-state.ensures in
-    (to.legal, sym (complete_at c.args.script.now c.args.journal.now c.in-Legal.state to) ∙ sym c.is_over.ensures ∙ c.if-is_over.false)
+pub returns : goal.returns
+returns c =
+    let end : c.loop-at.at ≡ length c.args.journal.now = omega arith in
+    let held = subst (λ n. IsHeld c.args.script.now (take n c.args.journal.now) c.loop-at.state c.loop-at.stores.sizes (bytes_of c.loop-at.stores)) end c.loop-at.invariant.held in
+    let to = legal_to c.args.script.now c.args.journal.now c.loop-at.state c.loop-at.stores held in
+    (to.0, sym to.1 ∙ sym c.is_over.ensures ∙ c.if-is_over.false)

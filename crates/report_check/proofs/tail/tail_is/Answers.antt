@@ -2,8 +2,15 @@ use Rattle.std.proofs.Common.{◌++◌, ◌∙◌, ap}
 use Rattle.journal_model.specs.Words.{Text}
 use Rattle.journal_model.specs.ReportText.{report}
 use Rattle.report_text.specs.Parts.{journal_part}
+use Rattle.report_mappings.proofs.Fits.{fits_spaces}
 use Rattle.report_check.proofs.TailLaws.{same_tail}
 use Rattle.report_check.proofs.tail.tail_is.Goals as goal
+
+pub tail_of-requires-clause-requests : goal.tail_of-requires-clause-requests
+tail_of-requires-clause-requests c = fits_spaces c.args.script.now c.requires.fits
+
+pub tail_of-requires-clause-legal : goal.tail_of-requires-clause-legal
+tail_of-requires-clause-legal c = λ _. c.requires.legal
 
 pub returns : goal.returns
 returns c =

@@ -3,5 +3,5 @@ use Rattle.report_check.proofs.tail.tail_of.Goals as goal
 
 pub returns-in-Ok : goal.returns-in-Ok
 returns-in-Ok c =
-    written_tail c.args.script.now c.args.journal.now c.args.state.now c.in_ok-accounts.accounts c.new-bytes.result.items _
-    c.requires.state c.in_ok-accounts.ensures c.new-bytes.ensures.items c.in-Ok.ensures
+    written_tail c.args.script.now c.args.journal.now c.args.accounts.now c.new-bytes.result.items _
+    c.requires.accounts c.new-bytes.ensures.items c.in-Ok.ensures

@@ -2,7 +2,7 @@ use Rattle.std.specs.Prelude.{IfSome, take}
 use Rattle.rules_holds.specs.Marked.{AreFrames}
 use Rattle.rules_stores.specs.Kept.{bytes_of}
 use Rattle.plain_device.specs.Held.{IsHeld}
-use Rattle.report_check.proofs.judge.replay.Given as goal
+use Rattle.report_check.proofs.judge.check.Given as goal
 
 -- state and bytes are those of the entries so far, which are legal; marks that are kept are the state's
 abbrev pub invariant-loop-at : goal.invariant-loop-at
