@@ -10,6 +10,7 @@ use Rattle.journal_model.specs.ScriptRules.{IsScript}
 use Rattle.law_legal.proofs.law_script.Story.{fault_where_no_script, one_value}
 use Rattle.law_legal.proofs.law_verdict.Law.{accepted_is_not_rejected, cut_reports_are_accepted, rejected_once}
 use Rattle.law_legal.proofs.law_verdict.ScriptLines.{scripts_are_cut_off}
+use Rattle.entry_reader.specs.Rules.{number_of}
 use Rattle.program_edges.specs.declared.status.Status.{Status}
 use Rattle.program_edges.specs.declared.status.Status.TheVariants as status
 use Rattle.program_edges.specs.Edges.{Edge, IsWritten, WasReadWhole}
@@ -68,7 +69,7 @@ module _ (source sink : Edge) (bytes : Text) (left : source.before ≡ Some byte
       valid refl (subst (λ (b : Text). length b ≤ check_limit) same h.few) (subst (λ (b : Text). FindsIn b finding.Accepted) same h.finds)
   by_finding (finding.Rejected entry rule) (inl h) written v =
       let same = all_read h.bytes h.read in
-      invalid refl (subst (λ (b : Text). length b ≤ check_limit) same h.few) entry rule
+      invalid refl (subst (λ (b : Text). length b ≤ check_limit) same h.few) entry (number_of rule)
       (subst (λ (b : Text). FindsIn b (finding.Rejected entry rule)) same h.finds) written
   by_finding (finding.Rejected entry rule) (inr h) written v =
       let most = long_front bytes h.read.front source.after (sym h.read.taken ∙ left) in

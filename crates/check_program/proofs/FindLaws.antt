@@ -4,6 +4,7 @@ use Rattle.journal_model.specs.declared.script.Script.{Script}
 use Rattle.journal_model.specs.Words.{Text}
 use Rattle.journal_model.specs.Verdict.{IsAccepted, IsRejected, check_limit, report_part, script_part}
 use Rattle.journal_model.specs.ScriptRules.{IsScript}
+use Rattle.entry_reader.specs.Rules.{number_of}
 use Rattle.program_edges.specs.Edges.{Edge, WasReadWhole}
 use Rattle.check_program.specs.declared.finding.Finding.{Finding}
 use Rattle.check_program.specs.declared.finding.Finding.TheVariants as finding
@@ -17,7 +18,7 @@ found bytes front behind script a b spelled (finding.BadScript n rule) h = absur
 found bytes front behind script a b spelled finding.Accepted h =
     record { script = script; spelled = subst (λ (t : Text). IsScript t script) a spelled; accepted = subst (λ (t : Text). IsAccepted script t) b h }
 found bytes front behind script a b spelled (finding.Rejected entry rule) h =
-    record { script = script; spelled = subst (λ (t : Text). IsScript t script) a spelled; rejected = subst (λ (t : Text). IsRejected script t entry rule) b h }
+    record { script = script; spelled = subst (λ (t : Text). IsScript t script) a spelled; rejected = subst (λ (t : Text). IsRejected script t entry (number_of rule)) b h }
 
 -- and that of the source, where the bytes are all that it had
 pub found_whole : (source : Edge) (bytes : Text) → WasReadWhole source bytes → length bytes ≤ check_limit → (f : Finding) → FindsIn bytes f → Finds source f

@@ -5,6 +5,9 @@ use Rattle.journal_model.specs.Words.{Text, line}
 use Rattle.journal_model.specs.FirstFault.{first_fault}
 use Rattle.journal_model.specs.Verdict.{IsAccepted, IsRejected, check_limit, report_part, script_part}
 use Rattle.journal_model.specs.ScriptRules.{IsScript}
+use Rattle.entry_reader.specs.declared.rule.Rule.{Rule}
+use Rattle.entry_reader.specs.declared.rule.Rule.TheVariants as rules
+use Rattle.entry_reader.specs.Rules.{number_of}
 use Rattle.program_edges.specs.declared.status.Status.{Status}
 use Rattle.program_edges.specs.declared.status.Status.TheVariants as status
 use Rattle.program_edges.specs.Edges.{Edge, WasCutOff, WasReadTo, WasReadWhole}
@@ -31,14 +34,14 @@ abbrev pub FindsReport : Script → Text → Finding → Type 0
 FindsReport script text finding.ReadFault = ⊥
 FindsReport script text (finding.BadScript n rule) = ⊥
 FindsReport script text finding.Accepted = IsAccepted script text
-FindsReport script text (finding.Rejected entry rule) = IsRejected script text entry rule
+FindsReport script text (finding.Rejected entry rule) = IsRejected script text entry (number_of rule)
 
 -- what was found in the bytes; what should be the script may have a fault
 abbrev pub FindsIn : Text → Finding → Type 0
 FindsIn bytes finding.ReadFault = ⊥
 FindsIn bytes (finding.BadScript n rule) = first_fault (script_part bytes) ≡ Some (n, rule)
 FindsIn bytes finding.Accepted = AreAccepted bytes
-FindsIn bytes (finding.Rejected entry rule) = AreRejected bytes entry rule
+FindsIn bytes (finding.Rejected entry rule) = AreRejected bytes entry (number_of rule)
 
 -- ---- what a source comes to
 
@@ -49,11 +52,11 @@ pub record WasFound (source : Edge) (f : Finding) : Type 0 where
   pub few : length bytes ≤ check_limit
   pub finds : FindsIn bytes f
 
--- more bytes were read than are looked at, which is rule 1
-pub record WasTooLong (source : Edge) (entry rule : ℕ) : Type 0 where
+-- more bytes were read than are looked at, which breaks the rule of the first two lines
+pub record WasTooLong (source : Edge) (entry : ℕ) (r : Rule) : Type 0 where
   pub read : WasReadTo source (check_limit + 1)
   pub entry_is : entry ≡ 0
-  pub rule_is : rule ≡ 1
+  pub rule_is : r ≡ rules.Head
 
 -- what was found
 abbrev pub Finds : Edge → Finding → Type 0
@@ -73,7 +76,7 @@ abbrev pub text_of : Finding → Text
 text_of finding.ReadFault = line (codes "read fault" ∷ [])
 text_of (finding.BadScript n rule) = bad_script_text n rule
 text_of finding.Accepted = line (codes "valid" ∷ [])
-text_of (finding.Rejected entry rule) = rejected_text entry rule
+text_of (finding.Rejected entry rule) = rejected_text entry (number_of rule)
 
 -- the status, if the text is written
 abbrev pub status_of : Finding → Status

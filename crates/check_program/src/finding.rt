@@ -9,6 +9,7 @@ use crate::split::len_of_script;
 use io_edge::{ReadFault, Source, read_all};
 use journal_model::Script;
 use program_edges::Status;
+use report_text::Rule;
 use report_verdict::{Ending, judge};
 use script_text::{ScriptFault, read_script};
 use std::alloc::Global;
@@ -24,8 +25,8 @@ pub enum Finding {
     BadScript { line: u32, rule: u32 },
     /// The report is that of a legal, complete journal of the script.
     Accepted,
-    /// It isn't: the first entry that isn't as it should be, and the least rule that it breaks.
-    Rejected { entry: u64, rule: u32 },
+    /// It isn't: the first entry that isn't as it should be, and the first rule that it breaks.
+    Rejected { entry: u64, rule: Rule },
 }
 
 impl Finding {
@@ -76,7 +77,10 @@ pub fn read_finding<S: Source>(alloc: Global, source: &mut S) -> Result<Finding,
 {
     match read_all(alloc, source, MAX_CHECK_BYTES) {
         Ok(bytes) => finding_in(alloc, bytes.as_slice()),
-        Err(ReadFault::TooLong) => Ok(Finding::Rejected { entry: 0, rule: 1 }),
+        Err(ReadFault::TooLong) => Ok(Finding::Rejected {
+            entry: 0,
+            rule: Rule::Head,
+        }),
         Err(ReadFault::Failed) => Ok(Finding::ReadFault),
         Err(ReadFault::NoMemory) => Err(NoMemory),
     }

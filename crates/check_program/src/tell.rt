@@ -44,6 +44,6 @@ pub fn write_finding<K: Sink>(
         Finding::ReadFault => write_text(b"read fault\n", sink),
         Finding::BadScript { line, rule } => write_bad_script(alloc, line, rule, sink),
         Finding::Accepted => write_text(b"valid\n", sink),
-        Finding::Rejected { entry, rule } => write_rejected(alloc, entry, rule, sink),
+        Finding::Rejected { entry, rule } => write_rejected(alloc, entry, rule.number(), sink),
     }
 }
