@@ -1,8 +1,8 @@
 ghost use Rattle.std.specs.Prelude.{◌≡◌, true};
 ghost use Rattle.journal_model.specs.ScriptRules.{is_script};
 
-use entry_reader::{ReportFault, read_report};
 use journal_model::Script;
+use report_text::{Rule, read_report};
 use script_text::read_script;
 use std::alloc::Global;
 use std::process::Abort;
@@ -19,8 +19,8 @@ new a
 end
 ";
 
-/// Reports, how many entries are read, the place behind them, and why there are no more.
-const REPORTS: &[(&str, usize, usize, Option<ReportFault>)] = &[
+/// Reports, how many entries are read, the place behind them, and the entry from which on there are no more, with the rule that it breaks.
+const REPORTS: &[(&str, usize, usize, Option<(u64, Rule)>)] = &[
     (
         "report 1\njournal 2\n1 t1 new a\n2 t1 result ok\nresults\n",
         2,
@@ -39,37 +39,37 @@ const REPORTS: &[(&str, usize, usize, Option<ReportFault>)] = &[
         "report 1\njournal 3\n1 t1 new a\n2 t1 result ok\nresults\n",
         2,
         45,
-        Some(ReportFault::Entry),
+        Some((3, Rule::Line)),
     ),
     (
         "report 1\njournal 18446744073709551615\n1 t1 new a\n",
         1,
         49,
-        Some(ReportFault::Entry),
+        Some((2, Rule::Line)),
     ),
     (
         "report 1\njournal 2\n1 t1 new a\n1 t1 result ok\n",
         1,
         30,
-        Some(ReportFault::Entry),
+        Some((2, Rule::Line)),
     ),
     (
         "report 1\njournal 2\n1 t1 new a\n2 t1 result ok",
         1,
         30,
-        Some(ReportFault::Entry),
+        Some((2, Rule::Line)),
     ),
-    ("", 0, 0, Some(ReportFault::Head)),
-    ("report 1\n", 0, 0, Some(ReportFault::Head)),
-    ("report 2\njournal 0\n", 0, 0, Some(ReportFault::Head)),
+    ("", 0, 0, Some((0, Rule::Head))),
+    ("report 1\n", 0, 0, Some((0, Rule::Head))),
+    ("report 2\njournal 0\n", 0, 0, Some((0, Rule::Head))),
     (
         "report 1\njournal 18446744073709551616\n",
         0,
         0,
-        Some(ReportFault::Head),
+        Some((0, Rule::Head)),
     ),
-    ("report 1\njournal 00\n", 0, 0, Some(ReportFault::Head)),
-    ("report 1\njournal 0", 0, 0, Some(ReportFault::Head)),
+    ("report 1\njournal 00\n", 0, 0, Some((0, Rule::Head))),
+    ("report 1\njournal 0", 0, 0, Some((0, Rule::Head))),
 ];
 
 /// The report is read up to where it is told.
@@ -80,21 +80,22 @@ fn reads(
     text: &str,
     entries: usize,
     rest: usize,
-    fault: Option<ReportFault>,
+    bad: Option<(u64, Rule)>,
 ) -> bool
     requires { is_script script.now ≡ true }
 {
     let parsed = read_report(alloc, script, text.as_bytes()).expect(rt, "memory");
-    parsed.entries.len() == entries && parsed.rest == rest && parsed.fault == fault
+    let found = parsed.bad.map(|bad| (bad.entry, bad.rule));
+    parsed.entries.len() == entries && parsed.rest == rest && found == bad
 }
 
 #[test]
 fn reports_up_to_a_fault(rt: HostRuntime) {
     let alloc = rt.alloc();
     let script = read_script(alloc, SCRIPT.as_bytes()).expect(&rt, "a script");
-    for (text, entries, rest, fault) in REPORTS {
+    for (text, entries, rest, bad) in REPORTS {
         assert!(rt;
-            reads(&rt, alloc, &script, text, *entries, *rest, *fault),
+            reads(&rt, alloc, &script, text, *entries, *rest, *bad),
             "{text}"
         );
     }
