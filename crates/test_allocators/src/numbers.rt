@@ -1,5 +1,6 @@
 ghost use Rattle.std.specs.Prelude.{◌≡◌, slice_set, true};
 
+use crate::wanted::ensure;
 use free_map::FreeMap;
 use page_pool::PagePool;
 use std::process::Abort;
@@ -8,13 +9,13 @@ use std::process::Abort;
 fn takes(rt: &impl Abort, map: &mut FreeMap, number: u32)
     ensures { map.new ≡ slice_set map.old number true }
 {
-    assert!(rt; map.take() == Some(number));
+    ensure(rt, map.take() == Some(number));
 }
 
 /// So many numbers are free, and this is the lowest of them.
 fn assert_free(rt: &impl Abort, map: &FreeMap, count: u32, lowest: Option<u32>) {
-    assert!(rt; map.free() == count);
-    assert!(rt; map.first() == lowest);
+    ensure(rt, map.free() == count);
+    ensure(rt, map.first() == lowest);
 }
 
 #[test]
@@ -25,7 +26,7 @@ fn lowest_free_of_three(rt: HostRuntime) {
     takes(&rt, &mut map, 1);
     assert_free(&rt, &map, 1, Some(2));
     takes(&rt, &mut map, 2);
-    assert!(rt; map.take() == None);
+    ensure(&rt, map.take() == None);
     assert_free(&rt, &map, 0, None);
     map.give(1);
     assert_free(&rt, &map, 1, Some(1));
@@ -37,13 +38,13 @@ fn lowest_free_of_three(rt: HostRuntime) {
 fn takes_frame(rt: &impl Abort, pool: &mut PagePool, frame: u32)
     ensures { pool.new ≡ slice_set pool.old frame true }
 {
-    assert!(rt; pool.take() == Some(frame));
+    ensure(rt, pool.take() == Some(frame));
 }
 
 /// So many frames are free, and this is the lowest of them.
 fn assert_free_frames(rt: &impl Abort, pool: &PagePool, count: u32, lowest: Option<u32>) {
-    assert!(rt; pool.free() == count);
-    assert!(rt; pool.first() == lowest);
+    ensure(rt, pool.free() == count);
+    ensure(rt, pool.first() == lowest);
 }
 
 #[test]
@@ -54,7 +55,7 @@ fn pool_of_three_frames(rt: HostRuntime) {
     takes_frame(&rt, &mut pool, 1);
     assert_free_frames(&rt, &pool, 1, Some(2));
     takes_frame(&rt, &mut pool, 2);
-    assert!(rt; pool.take() == None);
+    ensure(&rt, pool.take() == None);
     assert_free_frames(&rt, &pool, 0, None);
     pool.give(1);
     assert_free_frames(&rt, &pool, 1, Some(1));

@@ -1,9 +1,10 @@
+use crate::wanted::{are_lengths, ensure, is_span};
 use range_manager::{InsertFault, RangeManager};
 use std::alloc::Global;
 use std::process::Abort;
 use ttm_base::{Mode, Span};
 
-const FIVE: [Span; 5] = [
+const FIVE: &[Span] = &[
     Span { start: 0, end: 4 },
     Span { start: 4, end: 6 },
     Span { start: 6, end: 10 },
@@ -30,16 +31,20 @@ fn sixteen_pages(rt: &impl Abort, alloc: Global) -> RangeManager {
 /// Holds spans of free pages.
 fn hold(rt: &impl Abort, manager: &mut RangeManager, spans: &[Span]) {
     for span in spans {
-        assert!(rt; manager.reserve(*span).is_ok());
+        ensure(rt, manager.reserve(*span).is_ok());
     }
+}
+
+/// Lets a span go, which is held.
+fn let_one_go(rt: &impl Abort, manager: &mut RangeManager, start: u32) {
+    ensure(rt, manager.held_from(start).is_some());
+    manager.remove(start);
 }
 
 /// Lets spans go, of which each is held.
 fn let_go(rt: &impl Abort, manager: &mut RangeManager, starts: &[u32]) {
     for start in starts {
-        let held = manager.held_from(*start).is_some();
-        assert!(rt; held);
-        manager.remove(*start);
+        let_one_go(rt, manager, *start);
     }
 }
 
@@ -49,15 +54,24 @@ fn answer(rt: &impl Abort, manager: &mut RangeManager, case: &Case) {
     let align = case.align.max(1);
     let choice = manager.choice(case.pages, align, first, last, case.mode);
     let got = manager.insert(case.pages, align, first, last, case.mode);
-    assert!(rt; got == case.want);
-    assert!(rt; choice == got.ok());
+    ensure(rt, got == case.want);
+    is_span(rt, choice, got.ok());
+}
+
+/// A manager of 16 pages answers the request.
+fn answers(rt: &impl Abort, alloc: Global, case: &Case) {
+    let mut manager = sixteen_pages(rt, alloc);
+    hold(rt, &mut manager, case.held);
+    let_go(rt, &mut manager, case.gone);
+    answer(rt, &mut manager, case);
+    drop(manager);
 }
 
 /// Requests, and their answers.
-const CASES: [Case; 13] = [
+const CASES: &[Case] = &[
     // in each mode
     Case {
-        held: &FIVE,
+        held: FIVE,
         gone: &[4, 10],
         pages: 1,
         align: 1,
@@ -135,7 +149,7 @@ const CASES: [Case; 13] = [
     },
     // holes that touch are joined
     Case {
-        held: &FIVE,
+        held: FIVE,
         gone: &[4],
         pages: 2,
         align: 1,
@@ -144,7 +158,7 @@ const CASES: [Case; 13] = [
         want: Ok(Span { start: 4, end: 6 }),
     },
     Case {
-        held: &FIVE,
+        held: FIVE,
         gone: &[4, 10],
         pages: 3,
         align: 1,
@@ -153,7 +167,7 @@ const CASES: [Case; 13] = [
         want: Err(InsertFault::NoHole),
     },
     Case {
-        held: &FIVE,
+        held: FIVE,
         gone: &[4, 6],
         pages: 6,
         align: 1,
@@ -162,7 +176,7 @@ const CASES: [Case; 13] = [
         want: Ok(Span { start: 4, end: 10 }),
     },
     Case {
-        held: &FIVE,
+        held: FIVE,
         gone: &[6, 4],
         pages: 6,
         align: 1,
@@ -171,7 +185,7 @@ const CASES: [Case; 13] = [
         want: Ok(Span { start: 4, end: 10 }),
     },
     Case {
-        held: &FIVE,
+        held: FIVE,
         gone: &[0, 6, 4],
         pages: 10,
         align: 1,
@@ -183,37 +197,33 @@ const CASES: [Case; 13] = [
 
 #[test]
 fn range_manager_answers(rt: HostRuntime) {
-    for case in &CASES {
-        let mut manager = sixteen_pages(&rt, rt.alloc());
-        hold(&rt, &mut manager, case.held);
-        let_go(&rt, &mut manager, case.gone);
-        answer(&rt, &mut manager, case);
-        drop(manager);
+    for case in CASES {
+        answers(&rt, rt.alloc(), case);
     }
 }
 
 /// A request for pages anywhere gets a span.
 fn gets(rt: &impl Abort, manager: &mut RangeManager, pages: u32, mode: Mode, want: Span) {
-    assert!(rt; manager.insert(pages, 1, 0, 16, mode) == Ok(want));
+    is_span(rt, manager.insert(pages, 1, 0, 16, mode).ok(), Some(want));
+}
+
+/// Requests for as many pages as the spans have get the spans.
+fn fill(rt: &impl Abort, manager: &mut RangeManager, spans: &[Span]) {
+    for span in spans {
+        let pages = span.end.saturating_sub(span.start);
+        gets(rt, manager, pages, Mode::Best, *span);
+    }
 }
 
 #[test]
 fn best_and_high_fit(rt: HostRuntime) {
     let mut manager = sixteen_pages(&rt, rt.alloc());
-    for span in &FIVE {
-        let pages = span.end.saturating_sub(span.start);
-        gets(&rt, &mut manager, pages, Mode::Best, *span);
-    }
-    assert!(rt; manager.lengths() == (0, 16));
+    fill(&rt, &mut manager, FIVE);
+    are_lengths(&rt, manager.lengths(), 0, 16);
     let_go(&rt, &mut manager, &[4, 10]);
-    assert!(rt; manager.lengths() == (3, 13));
-    gets(
-        &rt,
-        &mut manager,
-        1,
-        Mode::Best,
-        Span { start: 10, end: 11 },
-    );
+    are_lengths(&rt, manager.lengths(), 3, 13);
+    let last = Span { start: 10, end: 11 };
+    gets(&rt, &mut manager, 1, Mode::Best, last);
     gets(&rt, &mut manager, 1, Mode::High, Span { start: 5, end: 6 });
     drop(manager);
 }
@@ -223,7 +233,7 @@ fn reserve_twice(rt: HostRuntime) {
     let mut manager = sixteen_pages(&rt, rt.alloc());
     let span = Span { start: 4, end: 8 };
     hold(&rt, &mut manager, &[span]);
-    assert!(rt; manager.reserve(span) == Err(InsertFault::NoHole));
+    ensure(&rt, manager.reserve(span) == Err(InsertFault::NoHole));
     drop(manager);
 }
 
@@ -231,10 +241,10 @@ fn reserve_twice(rt: HostRuntime) {
 fn chosen_span_is_reserved(rt: HostRuntime) {
     let mut manager = sixteen_pages(&rt, rt.alloc());
     let first = Span { start: 0, end: 4 };
-    assert!(rt; manager.choice(4, 1, 0, 16, Mode::Low) == Some(first));
-    assert!(rt; manager.lengths() == (16, 0));
+    is_span(&rt, manager.choice(4, 1, 0, 16, Mode::Low), Some(first));
+    are_lengths(&rt, manager.lengths(), 16, 0);
     hold(&rt, &mut manager, &[first]);
     gets(&rt, &mut manager, 4, Mode::Low, Span { start: 4, end: 8 });
-    assert!(rt; manager.choice(4, 1, 0, 8, Mode::Low) == None);
+    is_span(&rt, manager.choice(4, 1, 0, 8, Mode::Low), None);
     drop(manager);
 }

@@ -1,3 +1,4 @@
+use crate::wanted::{are_spans, ensure};
 use resource_core::{BuddyRoom, Lengths, Manager, PagesKind, RangeRoom, TakeFault, VramRoom};
 use std::alloc::Global;
 use std::process::Abort;
@@ -64,7 +65,7 @@ fn taken<M: Manager>(
     pages: u32,
     place: &Place,
 ) -> Spans {
-    assert!(rt; !room.holds(owner));
+    ensure(rt, !room.holds(owner));
     let answer = room.take(alloc, owner, pages.max(1), 1, place);
     answered(rt, alloc, answer)
 }
@@ -90,7 +91,7 @@ fn held<M: Manager>(
     pages: u32,
     place: &Place,
 ) -> Spans {
-    assert!(rt; !room.holds(owner));
+    ensure(rt, !room.holds(owner));
     match room.choose(alloc, pages.max(1), 1, place) {
         Ok(spans) => {
             room.hold(owner, &spans).expect(rt, "a holding");
@@ -100,32 +101,33 @@ fn held<M: Manager>(
     }
 }
 
-/// The owner keeps these spans.
-fn keeps<M: Manager>(room: &M, owner: Owner, want: &[Span]) -> bool {
+/// The owner keeps these spans: none where it holds nothing.
+fn keeps<M: Manager>(rt: &impl Abort, room: &M, owner: Owner, want: &[Span]) {
     match room.spans_of(owner) {
-        Some(spans) => spans.items() == want,
-        None => want.is_empty(),
+        Some(spans) => are_spans(rt, spans.items(), want),
+        None => ensure(rt, want.is_empty()),
     }
 }
 
 /// The owner got the spans that it was to get, and keeps them.
 fn got<M: Manager>(rt: &impl Abort, room: &M, owner: Owner, spans: Spans, want: &[Span]) {
-    assert!(rt; spans.items() == want);
+    are_spans(rt, spans.items(), want);
     drop(spans);
-    assert!(rt; keeps(room, owner, want));
+    keeps(rt, room, owner, want);
 }
 
 /// The owner's pages become those of another.
 fn pass<M: Manager>(rt: &impl Abort, room: &mut M, from: Owner, to: Owner) {
-    assert!(rt; room.holds(from) && !room.holds(to));
+    ensure(rt, room.holds(from));
+    ensure(rt, !room.holds(to));
     room.pass(from, to);
 }
 
 /// The owner gives its pages back.
 fn give<M: Manager>(rt: &impl Abort, room: &mut M, owner: Owner) {
-    assert!(rt; room.holds(owner));
+    ensure(rt, room.holds(owner));
     room.give(owner);
-    assert!(rt; !room.holds(owner));
+    ensure(rt, !room.holds(owner));
 }
 
 /// The step gets what it is to get.
@@ -137,7 +139,7 @@ fn run<M: Manager>(rt: &impl Abort, alloc: Global, room: &mut M, step: &Step) {
         }
         Step::Choose(pages, place, want) => {
             let spans = chosen(rt, alloc, room, *pages, place);
-            assert!(rt; spans.items() == *want);
+            are_spans(rt, spans.items(), want);
             drop(spans);
         }
         Step::Hold(owner, pages, place, want) => {
@@ -149,7 +151,7 @@ fn run<M: Manager>(rt: &impl Abort, alloc: Global, room: &mut M, step: &Step) {
     }
 }
 
-/// Each step gets what it is to get, and behind the last one so many pages are free or held.
+/// Each step gets what it is to get, and after the last one so many pages are free or held.
 fn ends_with<M: Manager + Drop>(
     rt: &impl Abort,
     alloc: Global,
@@ -160,12 +162,12 @@ fn ends_with<M: Manager + Drop>(
     for step in steps {
         run(rt, alloc, &mut room, step);
     }
-    assert!(rt; room.lengths() == want);
+    ensure(rt, room.lengths() == want);
     drop(room);
 }
 
 /// Calls on 12 pages of blocks.
-const BLOCKS: [Step; 12] = [
+const BLOCKS: &[Step] = &[
     Step::Choose(
         3,
         PLAIN,
@@ -204,25 +206,22 @@ const BLOCKS: [Step; 12] = [
     ),
 ];
 
+/// The pages after them.
+const BLOCKS_HELD: Lengths = Lengths {
+    free: 1,
+    live: 8,
+    targets: 3,
+    ghosts: 0,
+};
+
 #[test]
 fn buddy_room_answers(rt: HostRuntime) {
-    let want = Lengths {
-        free: 1,
-        live: 8,
-        targets: 3,
-        ghosts: 0,
-    };
-    ends_with(
-        &rt,
-        rt.alloc(),
-        BuddyRoom::new(rt.alloc(), 12).expect(&rt, "a room"),
-        &BLOCKS,
-        want,
-    );
+    let room = BuddyRoom::new(rt.alloc(), 12).expect(&rt, "a room");
+    ends_with(&rt, rt.alloc(), room, BLOCKS, BLOCKS_HELD);
 }
 
 /// Calls on 16 pages of ranges.
-const RANGES: [Step; 14] = [
+const RANGES: &[Step] = &[
     Step::Take(
         Owner::Live(BufId(0)),
         4,
@@ -274,25 +273,22 @@ const RANGES: [Step; 14] = [
     ),
 ];
 
+/// The pages after them.
+const RANGES_HELD: Lengths = Lengths {
+    free: 1,
+    live: 15,
+    targets: 0,
+    ghosts: 0,
+};
+
 #[test]
 fn range_room_answers(rt: HostRuntime) {
-    let want = Lengths {
-        free: 1,
-        live: 15,
-        targets: 0,
-        ghosts: 0,
-    };
-    ends_with(
-        &rt,
-        rt.alloc(),
-        RangeRoom::new(rt.alloc(), 16).expect(&rt, "a room"),
-        &RANGES,
-        want,
-    );
+    let room = RangeRoom::new(rt.alloc(), 16).expect(&rt, "a room");
+    ends_with(&rt, rt.alloc(), room, RANGES, RANGES_HELD);
 }
 
 /// Calls on 12 pages of VRAM in ranges.
-const VRAM_RANGES: [Step; 4] = [
+const VRAM_RANGES: &[Step] = &[
     Step::Take(
         Owner::Live(BufId(0)),
         3,
@@ -310,7 +306,7 @@ const VRAM_RANGES: [Step; 4] = [
 ];
 
 /// Calls on 12 pages of VRAM in blocks.
-const VRAM_BLOCKS: [Step; 3] = [
+const VRAM_BLOCKS: &[Step] = &[
     Step::Take(
         Owner::Live(BufId(0)),
         3,
@@ -343,7 +339,7 @@ const VRAM_BLOCKS_HELD: Lengths = Lengths {
 /// Twelve pages of VRAM of this kind.
 fn vram_room(rt: &impl Abort, alloc: Global, kind: PagesKind) -> VramRoom {
     let room = VramRoom::new(alloc, 12, kind).expect(rt, "a room");
-    assert!(rt; room.kind() == kind);
+    ensure(rt, room.kind() == kind);
     room
 }
 
@@ -351,9 +347,9 @@ fn vram_room(rt: &impl Abort, alloc: Global, kind: PagesKind) -> VramRoom {
 fn vram_room_answers(rt: HostRuntime) {
     let alloc = rt.alloc();
     let room = vram_room(&rt, alloc, PagesKind::Ranges);
-    ends_with(&rt, alloc, room, &VRAM_RANGES, VRAM_RANGES_HELD);
+    ends_with(&rt, alloc, room, VRAM_RANGES, VRAM_RANGES_HELD);
     let room = vram_room(&rt, alloc, PagesKind::Blocks);
-    ends_with(&rt, alloc, room, &VRAM_BLOCKS, VRAM_BLOCKS_HELD);
+    ends_with(&rt, alloc, room, VRAM_BLOCKS, VRAM_BLOCKS_HELD);
 }
 
 const FENCE: JobId = JobId { ctx: 0, num: 1 };
@@ -363,9 +359,9 @@ const LAST_FENCE: JobId = JobId { ctx: 0, num: 2 };
 #[test]
 fn move_fence_is_the_last(rt: HostRuntime) {
     let mut room = BuddyRoom::new(rt.alloc(), 12).expect(&rt, "a room");
-    assert!(rt; room.move_fence().is_none());
+    ensure(&rt, room.move_fence().is_none());
     room.set_move_fence(FENCE);
     room.set_move_fence(LAST_FENCE);
-    assert!(rt; room.move_fence() == Some(LAST_FENCE));
+    ensure(&rt, room.move_fence() == Some(LAST_FENCE));
     drop(room);
 }

@@ -1,9 +1,7 @@
-use buddy_manager::{AllocFault, BuddyFlags, BuddyManager};
-use std::alloc::Global;
-use std::process::Abort;
-use ttm_base::Spans;
+//! Tables of requests to buddy managers, small and large, with the blocks that each is to get.
+use buddy_manager::BuddyFlags;
 
-const PLAIN: BuddyFlags = BuddyFlags {
+pub const PLAIN: BuddyFlags = BuddyFlags {
     topdown: false,
     contig: false,
 };
@@ -13,7 +11,7 @@ const TOPDOWN: BuddyFlags = BuddyFlags {
     contig: false,
 };
 
-const CONTIG: BuddyFlags = BuddyFlags {
+pub const CONTIG: BuddyFlags = BuddyFlags {
     topdown: false,
     contig: true,
 };
@@ -24,106 +22,109 @@ const BOTH: BuddyFlags = BuddyFlags {
 };
 
 /// How blocks are taken, in which range, and the blocks that are wanted: each from a start up to an end.
-type Row = (BuddyFlags, (u32, u32), &'static [(u32, u32)]);
+pub type Row = (BuddyFlags, (u32, u32), &'static [(u32, u32)]);
 
 /// Requests for so many pages, each to a manager of this size of which only these pages are held.
-struct Table {
-    size: u32,
-    held: &'static [u32],
-    pages: u32,
-    rows: &'static [Row],
+pub struct Table {
+    pub size: u32,
+    pub held: &'static [u32],
+    pub pages: u32,
+    pub rows: &'static [Row],
 }
 
-/// The blocks of an answer, none where there are none.
-fn blocks_of(rt: &impl Abort, answer: Result<(), AllocFault>, blocks: Spans) -> Spans {
-    assert!(rt; answer.err() != Some(AllocFault::NoMemory));
-    blocks
-}
+/// Those of 12 pages, which are a block of 8 and one of 4, and those of large sizes.
+pub const TABLES: &[Table] = &[
+    SPLIT,
+    TRIMMED,
+    FROM_THE_TOP,
+    NOT_SIDE_BY_SIDE,
+    RANGE_OF_SEVEN,
+    RANGE_FROM_FIVE,
+    RANGE_FROM_ONE,
+    RANGE_PAST_THE_END,
+    TOO_SHORT_A_RANGE,
+    SIXTEEN_ROOTS,
+    ONE_ROOT,
+    HALF_OF_A_ROOT,
+    A_ROOT_AND_A_PAGE,
+    ONE_PAGE,
+    TWO_ROOTS,
+    ROOT_WITH_A_HELD_PAGE,
+    FREE_ROOT,
+    LARGE_ROOT,
+];
 
-/// The blocks that a request gets.
-fn got(
-    rt: &impl Abort,
-    alloc: Global,
-    manager: &mut BuddyManager,
-    pages: u32,
-    flags: BuddyFlags,
-    range: (u32, u32),
-) -> Spans {
-    let mut out = Spans::new(alloc);
-    let answer = manager.alloc(pages.max(1), range.0, range.1, flags, &mut out);
-    blocks_of(rt, answer, out)
-}
+/// 3 of 12 pages.
+const SPLIT: Table = Table {
+    size: 12,
+    held: &[],
+    pages: 3,
+    rows: &[(PLAIN, (0, 12), &[(8, 10), (10, 11)])],
+};
 
-/// So many pages are free, and so many are used.
-fn assert_lengths(rt: &impl Abort, manager: &BuddyManager, lengths: (u32, u32)) {
-    assert!(rt; manager.lengths() == lengths);
-}
+/// 3 of 12 pages, side by side.
+const TRIMMED: Table = Table {
+    size: 12,
+    held: &[],
+    pages: 3,
+    rows: &[(CONTIG, (0, 12), &[(8, 11)])],
+};
 
-/// The blocks that a request would get. Each is held once, and given back.
-fn chosen(
-    rt: &impl Abort,
-    alloc: Global,
-    manager: &mut BuddyManager,
-    pages: u32,
-    flags: BuddyFlags,
-    range: (u32, u32),
-) -> Spans {
-    let mut out = Spans::new(alloc);
-    let (free, used) = manager.lengths();
-    let answer = manager.choice(pages.max(1), range.0, range.1, flags, &mut out);
-    if let Ok(()) = answer {
-        assert_lengths(rt, manager, (free, used));
-        manager.hold(&out).expect(rt, "the ends of blocks");
-        assert_lengths(
-            rt,
-            manager,
-            (free.saturating_sub(pages), used.saturating_add(pages)),
-        );
-        let held = manager.are_held(&out);
-        assert!(rt; held);
-        manager.release(&out);
-    }
-    assert_lengths(rt, manager, (free, used));
-    blocks_of(rt, answer, out)
-}
+/// The last of 12 pages.
+const FROM_THE_TOP: Table = Table {
+    size: 12,
+    held: &[],
+    pages: 1,
+    rows: &[(TOPDOWN, (0, 12), &[(11, 12)])],
+};
 
-/// The blocks are these.
-fn assert_blocks(rt: &impl Abort, blocks: &Spans, want: &[(u32, u32)]) {
-    assert!(rt; blocks.len() == want.len());
-    for (block, (start, end)) in blocks.items().iter().zip(want) {
-        assert!(rt; block.start == *start && block.end == *end);
-    }
-}
+/// More of 12 pages than stand in one block, side by side.
+const NOT_SIDE_BY_SIDE: Table = Table {
+    size: 12,
+    held: &[],
+    pages: 9,
+    rows: &[(CONTIG, (0, 12), &[])],
+};
 
-/// The request gets the blocks that are wanted, which are those of the choice before it, and gives them back.
-fn answer(rt: &impl Abort, alloc: Global, manager: &mut BuddyManager, pages: u32, row: &Row) {
-    let (flags, range, want) = *row;
-    let choice = chosen(rt, alloc, manager, pages, flags, range);
-    let blocks = got(rt, alloc, manager, pages, flags, range);
-    assert!(rt; choice.items() == blocks.items());
-    assert_blocks(rt, &blocks, want);
-    if manager.are_held(&blocks) {
-        manager.release(&blocks);
-    }
-}
+/// 2 pages of a range that ends within a block.
+const RANGE_OF_SEVEN: Table = Table {
+    size: 12,
+    held: &[],
+    pages: 2,
+    rows: &[(TOPDOWN, (0, 7), &[(4, 6)])],
+};
 
-/// Each request is answered as is wanted.
-fn answers(rt: &impl Abort, alloc: Global, table: &Table) {
-    let mut manager = BuddyManager::new(alloc, table.size).expect(rt, "a manager");
-    for page in table.held {
-        let only = (*page, page.saturating_add(1));
-        got(rt, alloc, &mut manager, 1, PLAIN, only);
-    }
-    for row in table.rows {
-        answer(rt, alloc, &mut manager, table.pages, row);
-    }
-    drop(manager);
-}
+/// A page of a range that begins within a block.
+const RANGE_FROM_FIVE: Table = Table {
+    size: 12,
+    held: &[],
+    pages: 1,
+    rows: &[(PLAIN, (5, 12), &[(8, 9)])],
+};
 
-#[test]
-fn too_many_pages_are_refused(rt: HostRuntime) {
-    assert!(rt; BuddyManager::new(rt.alloc(), 1 << 31).is_err());
-}
+/// 8 pages of a range that begins within a block.
+const RANGE_FROM_ONE: Table = Table {
+    size: 12,
+    held: &[],
+    pages: 8,
+    rows: &[(PLAIN, (1, 12), &[(8, 12), (4, 8)])],
+};
+
+/// All 12 pages, of a range that ends past them.
+const RANGE_PAST_THE_END: Table = Table {
+    size: 12,
+    held: &[],
+    pages: 12,
+    rows: &[(PLAIN, (0, 99), &[(0, 8), (8, 12)])],
+};
+
+/// More pages than a range has.
+const TOO_SHORT_A_RANGE: Table = Table {
+    size: 12,
+    held: &[],
+    pages: 2,
+    rows: &[(TOPDOWN, (11, 99), &[])],
+};
 
 /// 24,576 of 65,535 pages, sixteen roots.
 const SIXTEEN_ROOTS: Table = Table {
@@ -142,11 +143,6 @@ const SIXTEEN_ROOTS: Table = Table {
     ],
 };
 
-#[test]
-fn sixteen_roots(rt: HostRuntime) {
-    answers(&rt, rt.alloc(), &SIXTEEN_ROOTS);
-}
-
 /// All 65,536 pages; the range of each second row lacks the last.
 const ONE_ROOT: Table = Table {
     size: 65_536,
@@ -163,11 +159,6 @@ const ONE_ROOT: Table = Table {
         (BOTH, (0, 65_535), &[]),
     ],
 };
-
-#[test]
-fn one_root(rt: HostRuntime) {
-    answers(&rt, rt.alloc(), &ONE_ROOT);
-}
 
 /// Half of 65,536 pages, of which one is held.
 const HALF_OF_A_ROOT: Table = Table {
@@ -186,11 +177,6 @@ const HALF_OF_A_ROOT: Table = Table {
     ],
 };
 
-#[test]
-fn half_of_a_root(rt: HostRuntime) {
-    answers(&rt, rt.alloc(), &HALF_OF_A_ROOT);
-}
-
 /// All 65,537 pages, a root and a page.
 const A_ROOT_AND_A_PAGE: Table = Table {
     size: 65_537,
@@ -208,11 +194,6 @@ const A_ROOT_AND_A_PAGE: Table = Table {
     ],
 };
 
-#[test]
-fn a_root_and_a_page(rt: HostRuntime) {
-    answers(&rt, rt.alloc(), &A_ROOT_AND_A_PAGE);
-}
-
 /// One of 65,537 pages, a root and a page.
 const ONE_PAGE: Table = Table {
     size: 65_537,
@@ -229,11 +210,6 @@ const ONE_PAGE: Table = Table {
         (BOTH, (5, 65_536), &[(65_535, 65_536)]),
     ],
 };
-
-#[test]
-fn one_page(rt: HostRuntime) {
-    answers(&rt, rt.alloc(), &ONE_PAGE);
-}
 
 /// 36,864 of 98,304 pages, two roots.
 const TWO_ROOTS: Table = Table {
@@ -259,11 +235,6 @@ const TWO_ROOTS: Table = Table {
         (BOTH, (16_384, 98_304), &[]),
     ],
 };
-
-#[test]
-fn two_roots(rt: HostRuntime) {
-    answers(&rt, rt.alloc(), &TWO_ROOTS);
-}
 
 /// 70,000 of 131,072 pages, of which one in the last part is held.
 const ROOT_WITH_A_HELD_PAGE: Table = Table {
@@ -328,11 +299,6 @@ const ROOT_WITH_A_HELD_PAGE: Table = Table {
     ],
 };
 
-#[test]
-fn root_with_a_held_page(rt: HostRuntime) {
-    answers(&rt, rt.alloc(), &ROOT_WITH_A_HELD_PAGE);
-}
-
 /// 70,000 of 131,072 pages.
 const FREE_ROOT: Table = Table {
     size: 131_072,
@@ -393,11 +359,6 @@ const FREE_ROOT: Table = Table {
         (BOTH, (1, 131_072), &[]),
     ],
 };
-
-#[test]
-fn free_root(rt: HostRuntime) {
-    answers(&rt, rt.alloc(), &FREE_ROOT);
-}
 
 /// 1,500,000 of 8,388,608 pages, of which two are held.
 const LARGE_ROOT: Table = Table {
@@ -475,8 +436,3 @@ const LARGE_ROOT: Table = Table {
         (BOTH, (1, 7_000_000), &[(2_097_152, 3_597_152)]),
     ],
 };
-
-#[test]
-fn large_root(rt: HostRuntime) {
-    answers(&rt, rt.alloc(), &LARGE_ROOT);
-}

@@ -1,0 +1,35 @@
+//! Comparisons with what is wanted, each in one place: a call costs the check a tenth of a comparison that is written out.
+ghost use Rattle.std.specs.Prelude.{◌≡◌, true};
+
+use std::process::Abort;
+use ttm_base::Span;
+
+/// The condition holds.
+pub fn ensure(rt: &impl Abort, holds: bool)
+    ensures { holds ≡ true }
+{
+    if !holds {
+        rt.panic("a condition doesn't hold")
+    }
+}
+
+/// There is this span, or none.
+pub fn is_span(rt: &impl Abort, got: Option<Span>, want: Option<Span>) {
+    if got != want {
+        rt.panic("it is another span")
+    }
+}
+
+/// The spans are these.
+pub fn are_spans(rt: &impl Abort, got: &[Span], want: &[Span]) {
+    if got != want {
+        rt.panic("they are other spans")
+    }
+}
+
+/// So many pages are free, and so many are used.
+pub fn are_lengths(rt: &impl Abort, got: (u32, u32), free: u32, used: u32) {
+    if got.0 != free || got.1 != used {
+        rt.panic("other numbers of pages are free and used")
+    }
+}
