@@ -1,3 +1,4 @@
+use crate::wanted::{are_bytes, ensure};
 use io_edge::{
     Failed, MemSink, MemSource, ReadFault, Sink, Source, StdSink, StdSource, read_all, write_all,
 };
@@ -36,66 +37,81 @@ fn faults<S: Source>(alloc: Global, source: &mut S, limit: u32, want: ReadFault)
     }
 }
 
+/// The source can't be read whole if this read fails.
+fn fails_at(rt: &impl Abort, alloc: Global, number: u64) {
+    let mut source = source(rt, alloc, 4, &[number]);
+    ensure(rt, faults(alloc, &mut source, 10, ReadFault::Failed));
+}
+
 /// Ten bytes, four at a time, take three reads, and a fourth finds the end.
 #[test]
 fn reads_fail_where_listed(rt: HostRuntime) {
     let alloc = rt.alloc();
     for k in 1..=4 {
-        let mut source = source(&rt, alloc, 4, &[k]);
-        assert!(rt;
-            faults(alloc, &mut source, 10, ReadFault::Failed),
-            "at read {k}"
-        );
+        fails_at(&rt, alloc, k);
     }
     let mut source = source(&rt, alloc, 4, &[5]);
-    assert!(rt; gives(alloc, &mut source, 10, TEXT));
+    ensure(&rt, gives(alloc, &mut source, 10, TEXT));
 }
 
 /// How many bytes a read or a write moves at most.
 const CHUNKS: &[usize] = &[1, 3, 10, 5000];
 
+/// A source that moves so many bytes at a time gives the text, and then nothing.
+fn reads_whole(rt: &impl Abort, alloc: Global, chunk: usize) {
+    let mut source = source(rt, alloc, chunk, &[]);
+    ensure(rt, gives(alloc, &mut source, 5000, TEXT));
+    ensure(rt, matches!(source.read(&mut [0]), Ok(0)));
+}
+
 #[test]
 fn quiet_source_never_faults(rt: HostRuntime) {
-    let alloc = rt.alloc();
     for chunk in CHUNKS {
-        let mut source = source(&rt, alloc, *chunk, &[]);
-        assert!(rt; gives(alloc, &mut source, 5000, TEXT));
-        assert!(rt; matches!(source.read(&mut [0]), Ok(0)));
+        reads_whole(&rt, rt.alloc(), *chunk);
     }
+}
+
+/// A sink that moves so many bytes at a time takes the text twice.
+fn writes_whole(rt: &impl Abort, alloc: Global, chunk: usize) {
+    let mut sink = sink(rt, alloc, 2 * TEXT.len(), chunk, &[]);
+    ensure(rt, write_all(&mut sink, TEXT).is_ok());
+    ensure(rt, write_all(&mut sink, TEXT).is_ok());
+    are_bytes(rt, sink.bytes(), b"ttm 1\nend\nttm 1\nend\n");
 }
 
 #[test]
 fn quiet_sink_never_faults(rt: HostRuntime) {
     for chunk in CHUNKS {
-        let mut sink = sink(&rt, rt.alloc(), 2 * TEXT.len(), *chunk, &[]);
-        assert!(rt; write_all(&mut sink, TEXT).is_ok());
-        assert!(rt; write_all(&mut sink, TEXT).is_ok());
-        assert!(rt; sink.bytes() == b"ttm 1\nend\nttm 1\nend\n".as_slice());
+        writes_whole(&rt, rt.alloc(), *chunk);
     }
 }
 
 /// Limits, and the bytes that are left behind a text that is longer.
 const TOO_LOW: &[(u32, &[u8])] = &[(9, b""), (0, b"tm 1\nend\n")];
 
+/// The text is longer than the limit, and these bytes are left.
+fn is_too_long(rt: &impl Abort, alloc: Global, limit: u32, left: &[u8]) {
+    let mut source = source(rt, alloc, 1, &[]);
+    ensure(rt, faults(alloc, &mut source, limit, ReadFault::TooLong));
+    ensure(rt, gives(alloc, &mut source, 10, left));
+}
+
 #[test]
 fn one_byte_more_than_the_limit(rt: HostRuntime) {
     let alloc = rt.alloc();
     for (limit, left) in TOO_LOW {
-        let mut source = source(&rt, alloc, 1, &[]);
-        assert!(rt;
-            faults(alloc, &mut source, *limit, ReadFault::TooLong),
-            "limit {limit}"
-        );
-        assert!(rt; gives(alloc, &mut source, 10, left));
+        is_too_long(&rt, alloc, *limit, left);
     }
     let mut source = source(&rt, alloc, 1, &[]);
-    assert!(rt; gives(alloc, &mut source, 10, TEXT));
-    assert!(rt; gives(alloc, &mut source, 10, b""));
+    ensure(&rt, gives(alloc, &mut source, 10, TEXT));
+    ensure(&rt, gives(alloc, &mut source, 10, b""));
 }
 
 /// The room of a sink, how many bytes a write moves, the write that fails, and what goes out before: at a listed call, or for
 /// want of room.
-const FAILING: &[(usize, usize, u64, &[u8])] = &[
+type Failing = (usize, usize, u64, &'static [u8]);
+
+const FAILING: &[Failing] = &[
     (10, 1, 1, b""),
     (10, 1, 4, b"ttm"),
     (10, 4, 3, b"ttm 1\nen"),
@@ -103,12 +119,18 @@ const FAILING: &[(usize, usize, u64, &[u8])] = &[
     (0, 4, 9, b""),
 ];
 
+/// The text can't be written whole, and these bytes go out before.
+fn breaks_off(rt: &impl Abort, alloc: Global, row: &Failing) {
+    let (room, chunk, fail, want) = *row;
+    let mut sink = sink(rt, alloc, room, chunk, &[fail]);
+    ensure(rt, write_all(&mut sink, TEXT).is_err());
+    are_bytes(rt, sink.bytes(), want);
+}
+
 #[test]
 fn writes_fail_where_listed(rt: HostRuntime) {
-    for (room, chunk, fail, want) in FAILING {
-        let mut sink = sink(&rt, rt.alloc(), *room, *chunk, &[*fail]);
-        assert!(rt; write_all(&mut sink, TEXT).is_err());
-        assert!(rt; sink.bytes() == *want);
+    for row in FAILING {
+        breaks_off(&rt, rt.alloc(), row);
     }
 }
 
@@ -161,26 +183,35 @@ fn faults_of_a_reader(rt: HostRuntime) {
         good: 3,
         full: false,
     });
-    assert!(rt; faults(rt.alloc(), &mut input, 9, ReadFault::Failed));
-    assert!(rt; gives(rt.alloc(), &mut StdSource::new(TEXT), 10, TEXT));
+    ensure(&rt, faults(rt.alloc(), &mut input, 9, ReadFault::Failed));
+    let mut text = StdSource::new(TEXT);
+    ensure(&rt, gives(rt.alloc(), &mut text, 10, TEXT));
 }
 
 /// How many calls go well, whether nothing is taken, and what comes of a write. Each piece is written and flushed: two calls.
-const WRITES: &[(u32, bool, Result<usize, Failed>)] = &[
+type Written = (u32, bool, Result<usize, Failed>);
+
+const WRITES: &[Written] = &[
     (2, false, Ok(4)),
     (1, false, Err(Failed)),
     (0, false, Err(Failed)),
     (2, true, Err(Failed)),
 ];
 
+/// A write of four bytes ends as is wanted.
+fn assert_write(rt: &impl Abort, row: &Written) {
+    let (good, full, want) = *row;
+    let mut output = StdSink::new(Flaky {
+        calls: 0,
+        good,
+        full,
+    });
+    ensure(rt, output.write(b"text") == want);
+}
+
 #[test]
 fn faults_of_a_writer(rt: HostRuntime) {
-    for (good, full, want) in WRITES {
-        let mut output = StdSink::new(Flaky {
-            calls: 0,
-            good: *good,
-            full: *full,
-        });
-        assert!(rt; output.write(b"text") == *want);
+    for row in WRITES {
+        assert_write(&rt, row);
     }
 }

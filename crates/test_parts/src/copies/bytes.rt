@@ -1,5 +1,6 @@
 ghost use Rattle.std.specs.Prelude.{◌+◌, ◌≤◌, length};
 
+use crate::wanted::{are_bytes, ensure};
 use byte_store::ByteStore;
 use std::process::Abort;
 
@@ -8,7 +9,7 @@ pub fn assert_bytes(rt: &impl Abort, store: &ByteStore, at: u64, want: &[u8])
     requires page { length want.now ≤ 4096 }
     requires inside { at + length want.now ≤ length store.now }
 {
-    assert!(rt; store.part(at, want.len() as u64) == want);
+    are_bytes(rt, store.part(at, want.len() as u64), want);
 }
 
 #[test]
@@ -20,7 +21,7 @@ fn bytes_on_two_pages(rt: HostRuntime) {
     assert_bytes(&rt, &store, 4092, &[0, 7, 7, 9, 7, 7, 0]);
     store.copy_page_part(4094, &[1, 2, 3]);
     assert_bytes(&rt, &store, 4092, &[0, 7, 1, 2, 3, 7, 0]);
-    assert!(rt; store.get(4096) == 3);
+    ensure(&rt, store.get(4096) == 3);
     store.zero_page(1);
     assert_bytes(&rt, &store, 4092, &[0, 7, 1, 2, 0, 0, 0]);
     store.zero_page(0);
@@ -42,39 +43,20 @@ fn copies_and_exclusive_or_within(rt: HostRuntime) {
     assert_bytes(&rt, &store, 0, &[0xfd, 0, 2, 1, 7, 0, 0]);
 }
 
-/// A byte far from others stands between zeros, and pages behind it are zeros.
+/// A byte far from others stands between zeros, and pages behind it are zeros. Bytes are copied to pages that nobody has written, and zeros from
+/// them; in an exclusive or their bytes are zeros.
 #[test]
-fn byte_far_from_others(rt: HostRuntime) {
+fn pages_far_from_others(rt: HostRuntime) {
     let mut store = ByteStore::new(rt.alloc(), 40).expect(&rt, "pages");
     assert_bytes(&rt, &store, 4096 * 39, &[0; 16]);
     store.zero_page(39);
     store.put(4096 * 20 + 5, 7);
     assert_bytes(&rt, &store, 4096 * 20 + 4, &[0, 7, 0]);
     assert_bytes(&rt, &store, 4096 * 36 + 4, &[0; 16]);
-}
-
-/// Bytes are copied to pages that nobody has written.
-#[test]
-fn copies_to_far_pages(rt: HostRuntime) {
-    let mut store = ByteStore::new(rt.alloc(), 40).expect(&rt, "pages");
-    store.put(4096 * 20 + 5, 7);
     store.copy_within(4096 * 38, 4096 * 20 + 4, 3);
     assert_bytes(&rt, &store, 4096 * 38, &[0, 7, 0]);
-}
-
-/// Zeros are copied from pages that nobody has written.
-#[test]
-fn copies_from_far_pages(rt: HostRuntime) {
-    let mut store = ByteStore::new(rt.alloc(), 40).expect(&rt, "pages");
-    store.put(4096 * 20 + 5, 7);
+    store.xor_page_part(4096 * 37 + 1, &[7]);
+    assert_bytes(&rt, &store, 4096 * 37, &[0, 7, 0]);
     store.copy_within(4096 * 20, 4096 * 39, 8);
     assert_bytes(&rt, &store, 4096 * 20 + 4, &[0, 0, 0]);
-}
-
-/// A byte of a page that nobody has written is a zero in an exclusive or.
-#[test]
-fn exclusive_or_of_far_pages(rt: HostRuntime) {
-    let mut store = ByteStore::new(rt.alloc(), 40).expect(&rt, "pages");
-    store.xor_page_part(4096 * 38 + 1, &[7]);
-    assert_bytes(&rt, &store, 4096 * 38, &[0, 7, 0]);
 }

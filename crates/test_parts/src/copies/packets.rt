@@ -1,6 +1,7 @@
 ghost use Rattle.std.specs.Prelude.{◌≡◌, ◌+◌, ◌*◌, ◌≤◌, length};
 
 use crate::copies::stores::stores;
+use crate::wanted::{are_bytes, are_packets};
 use copy_packet::{PagePlaces, PlaceMap, PlaceRow, ProbeBytes, Stores, cut, run, show};
 use std::alloc::Global;
 use std::process::Abort;
@@ -27,7 +28,7 @@ fn assert_cut(
         places.push(row(rt, alloc, *b, pages)).expect(rt, "a row");
     }
     let packets = cut(alloc, ops, &places).expect(rt, "packets");
-    assert!(rt; packets.as_slice() == want);
+    are_packets(rt, packets.as_slice(), want);
 }
 
 /// Bytes of frames from a place on.
@@ -35,12 +36,12 @@ fn assert_frames(rt: &impl Abort, stores: &Stores, at: u64, want: &[u8])
     requires page { length want.now ≤ 4096 }
     requires inside { at + length want.now ≤ length stores.now.frames }
 {
-    assert!(rt; stores.frames.part(at, want.len() as u64) == want);
+    are_bytes(rt, stores.frames.part(at, want.len() as u64), want);
 }
 
 /// What was shown.
 fn assert_shown(rt: &impl Abort, out: &ProbeBytes, want: &[u8]) {
-    assert!(rt; out.bytes() == want);
+    are_bytes(rt, out.bytes(), want);
 }
 
 /// A page of VRAM, eight frames, and an aperture of four pages.
@@ -68,7 +69,7 @@ fn packet_follows_the_aperture(rt: HostRuntime) {
     run(&packet, &mut stores, &mut out);
     assert_frames(&rt, &stores, 4096 * 5, &[0, 0]);
     assert_frames(&rt, &stores, 4096 * 6, &[170, 0]);
-    assert!(rt; stores.vram.part(0, 2) == [0, 0].as_slice());
+    are_bytes(&rt, stores.vram.part(0, 2), &[0, 0]);
     assert_shown(&rt, &out, &[]);
     drop(stores);
 }
@@ -124,12 +125,6 @@ const PROBE: Packet = Packet::Probe {
     len: 4,
 };
 
-/// Three operations on a buffer at frame 0 and one at frame 1 are three packets.
-#[test]
-fn three_ops_are_three_packets(rt: HostRuntime) {
-    assert_cut(&rt, rt.alloc(), &BUFFERS, &OPS, &[COPY, FILL, PROBE]);
-}
-
 /// What the packets leave and show.
 #[test]
 fn job_of_three_ops(rt: HostRuntime) {
@@ -172,9 +167,10 @@ const PIECES: [Packet; 2] = [
     },
 ];
 
-/// An operation is cut where it comes to another page.
+/// Three operations on a buffer at frame 0 and one at frame 1 are three packets, and an operation is cut where it comes to another page.
 #[test]
-fn fill_is_cut_at_the_border(rt: HostRuntime) {
+fn operations_are_cut(rt: HostRuntime) {
+    assert_cut(&rt, rt.alloc(), &BUFFERS, &OPS, &[COPY, FILL, PROBE]);
     assert_cut(&rt, rt.alloc(), &BEHIND, &[OVER_THE_BORDER], &PIECES);
 }
 

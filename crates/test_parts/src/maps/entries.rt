@@ -1,4 +1,5 @@
 use crate::maps::scripts::{A, B, MapLine, maps_of};
+use crate::wanted::ensure;
 use cpu_maps::CpuMaps;
 use std::process::Abort;
 use ttm_base::{BufId, PagePlace};
@@ -28,9 +29,15 @@ const FIRST_FRAME: Pages = [Some(PagePlace::Frame(0)), None];
 
 const LAST_FRAME: Pages = [None, Some(PagePlace::Frame(1))];
 
-/// The entries of a thread's mapping.
-fn entries(maps: &CpuMaps, thread: u32, b: BufId) -> Pages {
-    [maps.entry(thread, b, 0), maps.entry(thread, b, 1)]
+/// The page's entry in a thread's mapping is the one that is wanted.
+fn assert_entry(rt: &impl Abort, entry: Option<PagePlace>, want: Option<PagePlace>) {
+    ensure(rt, entry == want);
+}
+
+/// The entries of a thread's mapping are these.
+fn assert_entries(rt: &impl Abort, maps: &CpuMaps, thread: u32, b: BufId, want: &Pages) {
+    assert_entry(rt, maps.entry(thread, b, 0), want[0]);
+    assert_entry(rt, maps.entry(thread, b, 1), want[1]);
 }
 
 /// Which of a buffer's two pages fault.
@@ -63,7 +70,7 @@ fn take_event(maps: &mut CpuMaps, event: Event) -> Faults {
 
 /// A buffer is written and read in SYSTEM, read in VRAM, to which it comes through TT, and evicted and read: each access with the pages that
 /// fault, and the entries behind it.
-const ONE_BUFFER: [(Event, Faults, Pages); 7] = [
+const ONE_BUFFER: &[(Event, Faults, Pages)] = &[
     (Event::Access(1, A, FRAMES), BOTH, FRAMES),
     (Event::Access(1, A, FIRST_FRAME), NEITHER, FRAMES),
     (Event::BufferLeaves(A), NEITHER, NONE),
@@ -73,17 +80,22 @@ const ONE_BUFFER: [(Event, Faults, Pages); 7] = [
     (Event::Access(1, A, FIRST_FRAME), FIRST, FIRST_FRAME),
 ];
 
+/// The event faults on these pages, and leaves these entries.
+fn assert_faults(rt: &impl Abort, maps: &mut CpuMaps, event: Event, faults: Faults, want: &Pages) {
+    ensure(rt, take_event(maps, event) == faults);
+    assert_entries(rt, maps, 1, A, want);
+}
+
 #[test]
 fn accesses_fault_once(rt: HostRuntime) {
     let mut maps = maps_of(&rt, rt.alloc(), &[MapLine::Map(1, A)]);
     for (event, faults, want) in ONE_BUFFER {
-        assert!(rt; take_event(&mut maps, event) == faults);
-        assert!(rt; entries(&maps, 1, A) == want);
+        assert_faults(&rt, &mut maps, *event, *faults, want);
     }
 }
 
 /// Two threads map a buffer, and the first another one, too: the entries of the three mappings behind each event.
-const TWO_BUFFERS: [(Event, [Pages; 3]); 11] = [
+const TWO_BUFFERS: &[(Event, [Pages; 3])] = &[
     (Event::Access(1, A, FRAMES), [FRAMES, NONE, NONE]),
     (Event::Access(2, A, FRAMES), [FRAMES, FRAMES, NONE]),
     (Event::Access(1, B, VRAM), [FRAMES, FRAMES, VRAM]),
@@ -97,17 +109,19 @@ const TWO_BUFFERS: [(Event, [Pages; 3]); 11] = [
     (Event::BufferLeaves(B), [NONE, NONE, NONE]),
 ];
 
+/// The event leaves these entries.
+fn assert_left(rt: &impl Abort, maps: &mut CpuMaps, event: Event, want: &[Pages; 3]) {
+    take_event(maps, event);
+    assert_entries(rt, maps, 1, A, &want[0]);
+    assert_entries(rt, maps, 2, A, &want[1]);
+    assert_entries(rt, maps, 1, B, &want[2]);
+}
+
 #[test]
 fn all_mappings_of_a_buffer_lose_a_page(rt: HostRuntime) {
     let lines = [MapLine::Map(1, A), MapLine::Map(1, B), MapLine::Map(2, A)];
     let mut maps = maps_of(&rt, rt.alloc(), &lines);
     for (event, want) in TWO_BUFFERS {
-        take_event(&mut maps, event);
-        let left = [
-            entries(&maps, 1, A),
-            entries(&maps, 2, A),
-            entries(&maps, 1, B),
-        ];
-        assert!(rt; left == want);
+        assert_left(&rt, &mut maps, *event, want);
     }
 }

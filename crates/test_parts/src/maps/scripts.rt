@@ -1,4 +1,5 @@
-use cpu_maps::CpuMaps;
+use crate::wanted::ensure;
+use cpu_maps::{Area, CpuMaps};
 use journal_model::{
     CommandLists, Decl, Decls, Mark, MarkKind, Marks, Name, Script, Sizes, TurnLines,
 };
@@ -53,33 +54,50 @@ fn mark_of(line: MapLine) -> Mark {
     }
 }
 
-/// The mappings of a script with two buffers and these lines.
-pub fn maps_of(rt: &impl Abort, alloc: Global, lines: &[MapLine]) -> CpuMaps {
+/// Two buffers of two pages.
+fn two_buffers(rt: &impl Abort, alloc: Global) -> Decls {
     let mut buffers = Decls::new(alloc);
     buffers.push(two_pages(alloc)).expect(rt, "a buffer");
     buffers.push(two_pages(alloc)).expect(rt, "a buffer");
+    buffers
+}
+
+/// The marks of lines.
+fn marks_of(rt: &impl Abort, alloc: Global, lines: &[MapLine]) -> Marks {
     let mut marks = Marks::new(alloc);
     for line in lines {
         marks.push(mark_of(*line)).expect(rt, "a line");
     }
+    marks
+}
+
+/// The mappings of a script with two buffers and these lines.
+pub fn maps_of(rt: &impl Abort, alloc: Global, lines: &[MapLine]) -> CpuMaps {
     let script = Script {
         version: 2,
         sizes: SIZES,
-        buffers,
+        buffers: two_buffers(rt, alloc),
         threads: CommandLists::new(alloc),
         turns: TurnLines::new(alloc),
-        marks,
+        marks: marks_of(rt, alloc, lines),
     };
     CpuMaps::new(alloc, &script).expect(rt, "mappings")
+}
+
+/// The mapping is of this thread and buffer, with two pages.
+fn assert_area(rt: &impl Abort, area: &Area, want: &(u32, BufId)) {
+    let (thread, b) = *want;
+    ensure(rt, area.thread == thread);
+    ensure(rt, area.b == b);
+    ensure(rt, area.entries.items() == [None, None].as_slice());
 }
 
 /// The mappings are of these threads and buffers, with two pages each.
 fn assert_areas(rt: &impl Abort, maps: &CpuMaps, want: &[(u32, BufId)]) {
     let areas = maps.areas();
-    assert!(rt; areas.len() == want.len());
-    for (area, (thread, b)) in areas.iter().zip(want.iter()) {
-        assert!(rt; area.thread == *thread && area.b == *b);
-        assert!(rt; area.entries.items() == [None, None].as_slice());
+    ensure(rt, areas.len() == want.len());
+    for (area, owner) in areas.iter().zip(want.iter()) {
+        assert_area(rt, area, owner);
     }
 }
 

@@ -4,7 +4,8 @@ ghost use Rattle.gpu_spaces.specs.Inside.{is_inside};
 
 use crate::spaces::requests::Request::{self, Map, Unmap};
 use crate::spaces::requests::{A, B, C, answer};
-use gpu_spaces::Space;
+use crate::wanted::{are_ops, ensure};
+use gpu_spaces::{Piece, Space};
 use journal_model::VOp;
 use std::alloc::Global;
 use std::process::Abort;
@@ -24,8 +25,8 @@ fn assert_job(rt: &impl Abort, alloc: Global, space: &Space, ops: &[VOp], want: 
     requires { list_all is_inside ops.now ≡ true }
 {
     match space.job(alloc, ops).expect(rt, "memory") {
-        Some(job) => assert!(rt; job.items() == want),
-        None => assert!(rt; false),
+        Some(job) => are_ops(rt, job.items(), want),
+        None => ensure(rt, false),
     }
 }
 
@@ -33,7 +34,24 @@ fn assert_job(rt: &impl Abort, alloc: Global, space: &Space, ops: &[VOp], want: 
 fn assert_no_job(rt: &impl Abort, alloc: Global, space: &Space, ops: &[VOp])
     requires { list_all is_inside ops.now ≡ true }
 {
-    assert!(rt; space.job(alloc, ops).expect(rt, "memory").is_none());
+    let job = space.job(alloc, ops).expect(rt, "memory");
+    ensure(rt, job.is_none());
+}
+
+/// The part is this one.
+fn is_piece(rt: &impl Abort, piece: &Piece, want: &(BufId, u32, u32)) {
+    let (b, off, len) = *want;
+    ensure(rt, piece.b == b);
+    ensure(rt, piece.off == off);
+    ensure(rt, piece.len == len);
+}
+
+/// The parts are these.
+fn are_pieces(rt: &impl Abort, pieces: &[Piece], want: &[(BufId, u32, u32)]) {
+    ensure(rt, pieces.len() == want.len());
+    for (piece, told) in pieces.iter().zip(want.iter()) {
+        is_piece(rt, piece, told);
+    }
 }
 
 /// The range has these parts.
@@ -47,13 +65,9 @@ fn assert_pieces(
 )
     requires { addr + len ≤ 4294967296 }
 {
-    let Some(pieces) = space.pieces(alloc, addr, len).expect(rt, "memory") else {
-        return assert!(rt; false);
-    };
-    let pieces = pieces.items();
-    assert!(rt; pieces.len() == want.len());
-    for (piece, (b, off, len)) in pieces.iter().zip(want.iter()) {
-        assert!(rt; piece.b == *b && piece.off == *off && piece.len == *len);
+    match space.pieces(alloc, addr, len).expect(rt, "memory") {
+        Some(pieces) => are_pieces(rt, pieces.items(), want),
+        None => ensure(rt, false),
     }
 }
 
@@ -61,12 +75,8 @@ fn assert_pieces(
 fn assert_no_pieces(rt: &impl Abort, alloc: Global, space: &Space, addr: u64, len: u32)
     requires { addr + len ≤ 4294967296 }
 {
-    assert!(rt;
-        space
-            .pieces(alloc, addr, len)
-            .expect(rt, "memory")
-            .is_none()
-    );
+    let pieces = space.pieces(alloc, addr, len).expect(rt, "memory");
+    ensure(rt, pieces.is_none());
 }
 
 const TWO: [Request; 2] = [Map(16, 4, A, 0), Map(17, 2, B, 0)];

@@ -1,5 +1,8 @@
+ghost use Rattle.std.specs.Prelude.{◌+◌, ◌≤◌};
+
 use Request::{Map, Unmap};
 use Told::{Gone, Kept, Made};
+use crate::wanted::ensure;
 use gpu_spaces::Space;
 use journal_model::{VStep, VSteps};
 use std::alloc::Global;
@@ -28,16 +31,28 @@ enum Told {
     Made(u32, u32, BufId, u32),
 }
 
+/// The pages are a request's: some, no more than a buffer has, in the space.
+fn assert_inside(rt: &impl Abort, va: u32, n: u32)
+    ensures some { 1 ≤ n }
+    ensures most { n ≤ 4096 }
+    ensures inside { va + n ≤ SPACE_PAGES }
+{
+    ensure(rt, n >= 1);
+    ensure(rt, n <= 4096);
+    ensure(rt, va <= SPACE_PAGES - n);
+}
+
 /// Does a request, and gives its steps.
 pub fn answer(rt: &impl Abort, alloc: Global, space: &mut Space, request: Request) -> VSteps {
     let mut steps = VSteps::new(alloc);
     match request {
         Map(va, n, b, off) => {
-            assert!(rt; n >= 1 && n <= 4096 && va <= SPACE_PAGES - n && off <= 4096 - n);
+            assert_inside(rt, va, n);
+            ensure(rt, off <= 4096 - n);
             space.map(va, n, b, off, &mut steps).expect(rt, "memory");
         }
         Unmap(va, n) => {
-            assert!(rt; n >= 1 && n <= 4096 && va <= SPACE_PAGES - n);
+            assert_inside(rt, va, n);
             space.unmap(va, n, &mut steps).expect(rt, "memory");
         }
     }
@@ -80,10 +95,21 @@ fn is_told(step: VStep, want: Told) -> bool {
 /// The steps are these.
 fn assert_told(rt: &impl Abort, steps: &VSteps, want: &[Told]) {
     let steps = steps.items();
-    assert!(rt; steps.len() == want.len());
+    ensure(rt, steps.len() == want.len());
     for (step, told) in steps.iter().zip(want.iter()) {
-        assert!(rt; is_told(*step, *told));
+        ensure(rt, is_told(*step, *told));
     }
+}
+
+/// The request has these steps.
+fn assert_answer(rt: &impl Abort, alloc: Global, space: &mut Space, row: &(Request, &[Told])) {
+    let steps = answer(rt, alloc, space, row.0);
+    assert_told(rt, &steps, row.1);
+}
+
+/// The page is mapped to a page of a buffer, or to none.
+fn assert_page(rt: &impl Abort, space: &Space, row: &(u32, Option<(BufId, u32)>)) {
+    ensure(rt, space.at(row.0) == row.1);
 }
 
 /// Requests of a new space, each with its steps, and what then stands at pages.
@@ -94,12 +120,11 @@ fn assert_rows(
     pages: &[(u32, Option<(BufId, u32)>)],
 ) {
     let mut space = Space::new(alloc);
-    for (request, want) in rows {
-        let steps = answer(rt, alloc, &mut space, *request);
-        assert_told(rt, &steps, want);
+    for row in rows {
+        assert_answer(rt, alloc, &mut space, row);
     }
-    for (page, want) in pages {
-        assert!(rt; space.at(*page) == *want);
+    for page in pages {
+        assert_page(rt, &space, page);
     }
 }
 
