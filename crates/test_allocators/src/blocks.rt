@@ -36,29 +36,6 @@ fn are_used(rt: &impl Abort, manager: &BuddyManager, before: (u32, u32), pages: 
     are_lengths(rt, manager.lengths(), free, used);
 }
 
-/// The blocks that a request would get. Each is held once, and given back.
-fn chosen(
-    rt: &impl Abort,
-    alloc: Global,
-    manager: &mut BuddyManager,
-    pages: u32,
-    range: (u32, u32),
-    flags: BuddyFlags,
-) -> Spans {
-    let mut out = Spans::new(alloc);
-    let before = manager.lengths();
-    let answer = manager.choice(pages.max(1), range.0, range.1, flags, &mut out);
-    are_used(rt, manager, before, 0);
-    if let Ok(()) = answer {
-        manager.hold(&out).expect(rt, "the ends of blocks");
-        are_used(rt, manager, before, pages);
-        ensure(rt, manager.are_held(&out));
-        manager.release(&out);
-    }
-    are_used(rt, manager, before, 0);
-    blocks_of(rt, answer, out)
-}
-
 /// The block has these ends.
 fn assert_ends(rt: &impl Abort, block: &Span, ends: &(u32, u32)) {
     let (start, end) = *ends;
@@ -73,19 +50,58 @@ fn assert_blocks(rt: &impl Abort, blocks: &[Span], want: &[(u32, u32)]) {
     }
 }
 
-/// The request gets the blocks that are wanted, which are those of the choice before it, and gives them back.
-fn answer(rt: &impl Abort, alloc: Global, manager: &mut BuddyManager, pages: u32, row: &Row) {
-    let (flags, range, want) = *row;
+/// The request would get the blocks. Each is held once, and given back.
+fn choose(
+    rt: &impl Abort,
+    alloc: Global,
+    manager: &mut BuddyManager,
+    pages: u32,
+    range: (u32, u32),
+    flags: BuddyFlags,
+    want: &[(u32, u32)],
+) {
+    let mut out = Spans::new(alloc);
+    let before = manager.lengths();
+    let answer = manager.choice(pages.max(1), range.0, range.1, flags, &mut out);
+    are_used(rt, manager, before, 0);
+    if let Ok(()) = answer {
+        manager.hold(&out).expect(rt, "the ends of blocks");
+        are_used(rt, manager, before, pages);
+        ensure(rt, manager.are_held(&out));
+        manager.release(&out);
+    }
+    are_used(rt, manager, before, 0);
+    let blocks = blocks_of(rt, answer, out);
+    assert_blocks(rt, blocks.items(), want);
+    drop(blocks);
+}
+
+/// The request gets the blocks, and gives them back.
+fn take(
+    rt: &impl Abort,
+    alloc: Global,
+    manager: &mut BuddyManager,
+    pages: u32,
+    range: (u32, u32),
+    flags: BuddyFlags,
+    want: &[(u32, u32)],
+) {
     let taken = if want.is_empty() { 0 } else { pages };
     let before = manager.lengths();
-    let choice = chosen(rt, alloc, manager, pages, range, flags);
     let blocks = got(rt, alloc, manager, pages, range, flags);
     are_used(rt, manager, before, taken);
-    are_spans(rt, choice.items(), blocks.items());
     assert_blocks(rt, blocks.items(), want);
     if manager.are_held(&blocks) {
         manager.release(&blocks);
     }
+    drop(blocks);
+}
+
+/// The request would get the blocks that are wanted, and gets them.
+fn answer(rt: &impl Abort, alloc: Global, manager: &mut BuddyManager, pages: u32, row: &Row) {
+    let (flags, range, want) = *row;
+    choose(rt, alloc, manager, pages, range, flags, want);
+    take(rt, alloc, manager, pages, range, flags, want);
 }
 
 /// Holds the page.
@@ -149,26 +165,28 @@ const TRIMMED: Span = Span { start: 10, end: 12 };
 
 #[test]
 fn trimmed_pages_are_free(rt: HostRuntime) {
+    let rt = &rt;
     let alloc = rt.alloc();
-    let mut manager = twelve_pages(&rt, alloc);
-    gets(&rt, alloc, &mut manager, 4, PLAIN, LAST_FOUR);
-    ensure(&rt, manager.is_held(LAST_FOUR));
+    let mut manager = twelve_pages(rt, alloc);
+    gets(rt, alloc, &mut manager, 4, PLAIN, LAST_FOUR);
+    ensure(rt, manager.is_held(LAST_FOUR));
     manager.trim(LAST_FOUR, 1);
-    gets(&rt, alloc, &mut manager, 2, PLAIN, TRIMMED);
+    gets(rt, alloc, &mut manager, 2, PLAIN, TRIMMED);
     drop(manager);
 }
 
 /// The blocks that were split for three pages are whole again.
 #[test]
 fn buddy_splits_and_merges(rt: HostRuntime) {
+    let rt = &rt;
     let alloc = rt.alloc();
-    let mut manager = twelve_pages(&rt, alloc);
-    let three = got(&rt, alloc, &mut manager, 3, (0, 12), PLAIN);
-    ensure(&rt, manager.are_held(&three));
+    let mut manager = twelve_pages(rt, alloc);
+    let three = got(rt, alloc, &mut manager, 3, (0, 12), PLAIN);
+    ensure(rt, manager.are_held(&three));
     manager.release(&three);
     drop(three);
-    gets(&rt, alloc, &mut manager, 4, CONTIG, LAST_FOUR);
-    gets(&rt, alloc, &mut manager, 8, CONTIG, FIRST_EIGHT);
+    gets(rt, alloc, &mut manager, 4, CONTIG, LAST_FOUR);
+    gets(rt, alloc, &mut manager, 8, CONTIG, FIRST_EIGHT);
     drop(manager);
 }
 
@@ -199,14 +217,15 @@ fn get_beside(rt: &impl Abort, alloc: Global, manager: &mut BuddyManager) {
 
 #[test]
 fn named_pages_are_held(rt: HostRuntime) {
+    let rt = &rt;
     let alloc = rt.alloc();
-    let mut manager = twelve_pages(&rt, alloc);
-    let spans = named(&rt, alloc, Span { start: 5, end: 7 });
-    manager.hold(&spans).expect(&rt, "the ends of blocks");
-    are_lengths(&rt, manager.lengths(), 10, 2);
-    get_beside(&rt, alloc, &mut manager);
-    gives_back_once(&rt, &mut manager, &spans);
+    let mut manager = twelve_pages(rt, alloc);
+    let spans = named(rt, alloc, Span { start: 5, end: 7 });
+    manager.hold(&spans).expect(rt, "the ends of blocks");
+    are_lengths(rt, manager.lengths(), 10, 2);
+    get_beside(rt, alloc, &mut manager);
+    gives_back_once(rt, &mut manager, &spans);
     drop(spans);
-    are_lengths(&rt, manager.lengths(), 2, 10);
+    are_lengths(rt, manager.lengths(), 2, 10);
     drop(manager);
 }

@@ -95,12 +95,13 @@ const ONE_HOLE: &[Row] = &[
 
 #[test]
 fn taken_hole_leaves_its_nodes(rt: HostRuntime) {
-    let mut holes = no_holes(&rt, rt.alloc(), 1);
+    let rt = &rt;
+    let mut holes = no_holes(rt, rt.alloc(), 1);
     holes.add(LONG);
-    is_span(&rt, Some(holes.remove(4)), Some(LONG));
-    assert_hole(&rt, &holes, NO_HOLE);
+    is_span(rt, Some(holes.remove(4)), Some(LONG));
+    assert_hole(rt, &holes, NO_HOLE);
     holes.add(SHORT);
-    assert_holes(&rt, &holes, ONE_HOLE);
+    assert_holes(rt, &holes, ONE_HOLE);
     drop(holes);
 }
 
@@ -121,17 +122,18 @@ const NARROWED: &[Row] = &[
 
 #[test]
 fn ends_of_a_hole_move(rt: HostRuntime) {
-    let mut holes = no_holes(&rt, rt.alloc(), 3);
+    let rt = &rt;
+    let mut holes = no_holes(rt, rt.alloc(), 3);
     holes.add(LONG);
     holes.add(SHORT);
     holes.add(HIGH);
     holes.resize(SHORT, WIDE);
-    assert_holes(&rt, &holes, WIDENED);
-    is_span(&rt, holes.around(29), Some(WIDE));
-    is_span(&rt, holes.around(30), None);
+    assert_holes(rt, &holes, WIDENED);
+    is_span(rt, holes.around(29), Some(WIDE));
+    is_span(rt, holes.around(30), None);
     holes.resize(WIDE, LAST);
-    is_span(&rt, holes.around(28), None);
-    assert_holes(&rt, &holes, NARROWED);
+    is_span(rt, holes.around(28), None);
+    assert_holes(rt, &holes, NARROWED);
     drop(holes);
 }
 
@@ -147,15 +149,16 @@ const RISEN: &[Row] = &[
 
 #[test]
 fn rising_holes_are_balanced(rt: HostRuntime) {
-    let mut holes = no_holes(&rt, rt.alloc(), 5);
+    let rt = &rt;
+    let mut holes = no_holes(rt, rt.alloc(), 5);
     holes.add(LONG);
     holes.add(SHORT);
     holes.add(HIGH);
     holes.add(FOURTH);
     holes.add(FIFTH);
-    is_span(&rt, Some(holes.remove(20)), Some(SHORT));
-    is_span(&rt, Some(holes.remove(4)), Some(LONG));
-    is_span(&rt, holes.around(41), Some(HIGH));
-    assert_holes(&rt, &holes, RISEN);
+    is_span(rt, Some(holes.remove(20)), Some(SHORT));
+    is_span(rt, Some(holes.remove(4)), Some(LONG));
+    is_span(rt, holes.around(41), Some(HIGH));
+    assert_holes(rt, &holes, RISEN);
     drop(holes);
 }

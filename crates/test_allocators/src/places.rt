@@ -159,13 +159,14 @@ fn is_in(rt: &impl Abort, place: &Place, mem: Mem) {
 
 #[test]
 fn places_by_their_flags(rt: HostRuntime) {
-    let placement = placement(&rt, rt.alloc(), &FLAGGED);
-    ensure(&rt, first_count(&placement) == 2);
-    is_in(&rt, first_at(&placement, 0), Mem::Vram);
-    is_in(&rt, first_at(&placement, 1), Mem::System);
-    ensure(&rt, forced_count(&placement) == 2);
-    is_in(&rt, forced_at(&placement, 0), Mem::Tt);
-    is_in(&rt, forced_at(&placement, 1), Mem::System);
+    let rt = &rt;
+    let placement = placement(rt, rt.alloc(), &FLAGGED);
+    ensure(rt, first_count(&placement) == 2);
+    is_in(rt, first_at(&placement, 0), Mem::Vram);
+    is_in(rt, first_at(&placement, 1), Mem::System);
+    ensure(rt, forced_count(&placement) == 2);
+    is_in(rt, forced_at(&placement, 0), Mem::Tt);
+    is_in(rt, forced_at(&placement, 1), Mem::System);
     drop(placement);
 }
 

@@ -217,14 +217,15 @@ fn fill(rt: &impl Abort, manager: &mut RangeManager, spans: &[Span]) {
 
 #[test]
 fn best_and_high_fit(rt: HostRuntime) {
-    let mut manager = sixteen_pages(&rt, rt.alloc());
-    fill(&rt, &mut manager, FIVE);
-    are_lengths(&rt, manager.lengths(), 0, 16);
-    let_go(&rt, &mut manager, &[4, 10]);
-    are_lengths(&rt, manager.lengths(), 3, 13);
+    let rt = &rt;
+    let mut manager = sixteen_pages(rt, rt.alloc());
+    fill(rt, &mut manager, FIVE);
+    are_lengths(rt, manager.lengths(), 0, 16);
+    let_go(rt, &mut manager, &[4, 10]);
+    are_lengths(rt, manager.lengths(), 3, 13);
     let last = Span { start: 10, end: 11 };
-    gets(&rt, &mut manager, 1, Mode::Best, last);
-    gets(&rt, &mut manager, 1, Mode::High, Span { start: 5, end: 6 });
+    gets(rt, &mut manager, 1, Mode::Best, last);
+    gets(rt, &mut manager, 1, Mode::High, Span { start: 5, end: 6 });
     drop(manager);
 }
 
@@ -239,12 +240,13 @@ fn reserve_twice(rt: HostRuntime) {
 
 #[test]
 fn chosen_span_is_reserved(rt: HostRuntime) {
-    let mut manager = sixteen_pages(&rt, rt.alloc());
+    let rt = &rt;
+    let mut manager = sixteen_pages(rt, rt.alloc());
     let first = Span { start: 0, end: 4 };
-    is_span(&rt, manager.choice(4, 1, 0, 16, Mode::Low), Some(first));
-    are_lengths(&rt, manager.lengths(), 16, 0);
-    hold(&rt, &mut manager, &[first]);
-    gets(&rt, &mut manager, 4, Mode::Low, Span { start: 4, end: 8 });
-    is_span(&rt, manager.choice(4, 1, 0, 8, Mode::Low), None);
+    is_span(rt, manager.choice(4, 1, 0, 16, Mode::Low), Some(first));
+    are_lengths(rt, manager.lengths(), 16, 0);
+    hold(rt, &mut manager, &[first]);
+    gets(rt, &mut manager, 4, Mode::Low, Span { start: 4, end: 8 });
+    is_span(rt, manager.choice(4, 1, 0, 8, Mode::Low), None);
     drop(manager);
 }

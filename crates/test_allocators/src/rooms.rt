@@ -51,53 +51,10 @@ enum Step {
 fn answered(rt: &impl Abort, alloc: Global, answer: Result<Spans, TakeFault>) -> Spans {
     match answer {
         Ok(spans) => spans,
-        Err(TakeFault::NoRoom) => Spans::new(alloc),
-        Err(TakeFault::NoMemory) => panic!(rt; "no memory"),
-    }
-}
-
-/// The spans that an owner gets.
-fn taken<M: Manager>(
-    rt: &impl Abort,
-    alloc: Global,
-    room: &mut M,
-    owner: Owner,
-    pages: u32,
-    place: &Place,
-) -> Spans {
-    ensure(rt, !room.holds(owner));
-    let answer = room.take(alloc, owner, pages.max(1), 1, place);
-    answered(rt, alloc, answer)
-}
-
-/// The spans that a request would get.
-fn chosen<M: Manager>(
-    rt: &impl Abort,
-    alloc: Global,
-    room: &mut M,
-    pages: u32,
-    place: &Place,
-) -> Spans {
-    let answer = room.choose(alloc, pages.max(1), 1, place);
-    answered(rt, alloc, answer)
-}
-
-/// The spans that an owner is given to hold.
-fn held<M: Manager>(
-    rt: &impl Abort,
-    alloc: Global,
-    room: &mut M,
-    owner: Owner,
-    pages: u32,
-    place: &Place,
-) -> Spans {
-    ensure(rt, !room.holds(owner));
-    match room.choose(alloc, pages.max(1), 1, place) {
-        Ok(spans) => {
-            room.hold(owner, &spans).expect(rt, "a holding");
-            spans
+        Err(fault) => {
+            ensure(rt, fault == TakeFault::NoRoom);
+            Spans::new(alloc)
         }
-        Err(fault) => answered(rt, alloc, Err(fault)),
     }
 }
 
@@ -109,9 +66,54 @@ fn keeps<M: Manager>(rt: &impl Abort, room: &M, owner: Owner, want: &[Span]) {
     }
 }
 
-/// The owner got the spans that it was to get, and keeps them.
-fn got<M: Manager>(rt: &impl Abort, room: &M, owner: Owner, spans: Spans, want: &[Span]) {
+/// The owner gets the spans, and keeps them.
+fn take<M: Manager>(
+    rt: &impl Abort,
+    alloc: Global,
+    room: &mut M,
+    owner: Owner,
+    pages: u32,
+    place: &Place,
+    want: &[Span],
+) {
+    ensure(rt, !room.holds(owner));
+    let answer = room.take(alloc, owner, pages.max(1), 1, place);
+    let spans = answered(rt, alloc, answer);
     are_spans(rt, spans.items(), want);
+    drop(spans);
+    keeps(rt, room, owner, want);
+}
+
+/// The request would get the spans.
+fn choose<M: Manager>(
+    rt: &impl Abort,
+    alloc: Global,
+    room: &mut M,
+    pages: u32,
+    place: &Place,
+    want: &[Span],
+) {
+    let answer = room.choose(alloc, pages.max(1), 1, place);
+    let spans = answered(rt, alloc, answer);
+    are_spans(rt, spans.items(), want);
+    drop(spans);
+}
+
+/// The request would get the spans, which the owner is given to hold, and keeps.
+fn hold<M: Manager>(
+    rt: &impl Abort,
+    alloc: Global,
+    room: &mut M,
+    owner: Owner,
+    pages: u32,
+    place: &Place,
+    want: &[Span],
+) {
+    ensure(rt, !room.holds(owner));
+    let answer = room.choose(alloc, pages.max(1), 1, place);
+    let spans = answer.expect(rt, "spans");
+    are_spans(rt, spans.items(), want);
+    room.hold(owner, &spans).expect(rt, "a holding");
     drop(spans);
     keeps(rt, room, owner, want);
 }
@@ -134,17 +136,11 @@ fn give<M: Manager>(rt: &impl Abort, room: &mut M, owner: Owner) {
 fn run<M: Manager>(rt: &impl Abort, alloc: Global, room: &mut M, step: &Step) {
     match step {
         Step::Take(owner, pages, place, want) => {
-            let spans = taken(rt, alloc, room, *owner, *pages, place);
-            got(rt, room, *owner, spans, want);
+            take(rt, alloc, room, *owner, *pages, place, want);
         }
-        Step::Choose(pages, place, want) => {
-            let spans = chosen(rt, alloc, room, *pages, place);
-            are_spans(rt, spans.items(), want);
-            drop(spans);
-        }
+        Step::Choose(pages, place, want) => choose(rt, alloc, room, *pages, place, want),
         Step::Hold(owner, pages, place, want) => {
-            let spans = held(rt, alloc, room, *owner, *pages, place);
-            got(rt, room, *owner, spans, want);
+            hold(rt, alloc, room, *owner, *pages, place, want);
         }
         Step::Pass(from, to) => pass(rt, room, *from, *to),
         Step::Give(owner) => give(rt, room, *owner),
@@ -345,11 +341,12 @@ fn vram_room(rt: &impl Abort, alloc: Global, kind: PagesKind) -> VramRoom {
 
 #[test]
 fn vram_room_answers(rt: HostRuntime) {
+    let rt = &rt;
     let alloc = rt.alloc();
-    let room = vram_room(&rt, alloc, PagesKind::Ranges);
-    ends_with(&rt, alloc, room, VRAM_RANGES, VRAM_RANGES_HELD);
-    let room = vram_room(&rt, alloc, PagesKind::Blocks);
-    ends_with(&rt, alloc, room, VRAM_BLOCKS, VRAM_BLOCKS_HELD);
+    let room = vram_room(rt, alloc, PagesKind::Ranges);
+    ends_with(rt, alloc, room, VRAM_RANGES, VRAM_RANGES_HELD);
+    let room = vram_room(rt, alloc, PagesKind::Blocks);
+    ends_with(rt, alloc, room, VRAM_BLOCKS, VRAM_BLOCKS_HELD);
 }
 
 const FENCE: JobId = JobId { ctx: 0, num: 1 };

@@ -30,12 +30,13 @@ fn assert_numbers(rt: &impl Abort, table: &SparseTable, numbers: &[(usize, u32)]
 
 #[test]
 fn numbers_by_place(rt: HostRuntime) {
-    let mut table = SparseTable::new(rt.alloc(), 5000).expect(&rt, "a table");
-    set_all(&rt, &mut table, SET);
-    assert_numbers(&rt, &table, SET);
-    assert_numbers(&rt, &table, UNSET);
-    ensure(&rt, table.get(1024) == 9);
+    let rt = &rt;
+    let mut table = SparseTable::new(rt.alloc(), 5000).expect(rt, "a table");
+    set_all(rt, &mut table, SET);
+    assert_numbers(rt, &table, SET);
+    assert_numbers(rt, &table, UNSET);
+    ensure(rt, table.get(1024) == 9);
     table.replace(1024, 0);
-    assert_numbers(&rt, &table, &[(1024, 0), (1023, 8)]);
+    assert_numbers(rt, &table, &[(1024, 0), (1023, 8)]);
     drop(table);
 }
