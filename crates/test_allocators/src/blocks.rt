@@ -3,7 +3,7 @@ ghost use Rattle.std.specs.Prelude.{◌≡◌, [], ◌∷◌};
 mod tables;
 
 use crate::blocks::tables::{CONTIG, PLAIN, Row, TABLES, Table};
-use crate::wanted::{are_lengths, are_spans, ensure, is_span};
+use crate::wanted::{are_lengths, are_spans, ensure};
 use buddy_manager::{AllocFault, BuddyFlags, BuddyManager};
 use std::alloc::Global;
 use std::process::Abort;
@@ -36,20 +36,6 @@ fn are_used(rt: &impl Abort, manager: &BuddyManager, before: (u32, u32), pages: 
     are_lengths(rt, manager.lengths(), free, used);
 }
 
-/// The block has these ends.
-fn assert_ends(rt: &impl Abort, block: &Span, ends: &(u32, u32)) {
-    let (start, end) = *ends;
-    is_span(rt, Some(*block), Some(Span { start, end }));
-}
-
-/// The blocks are these.
-fn assert_blocks(rt: &impl Abort, blocks: &[Span], want: &[(u32, u32)]) {
-    ensure(rt, blocks.len() == want.len());
-    for (block, ends) in blocks.iter().zip(want) {
-        assert_ends(rt, block, ends);
-    }
-}
-
 /// The request would get the blocks. Each is held once, and given back.
 fn choose(
     rt: &impl Abort,
@@ -58,7 +44,7 @@ fn choose(
     pages: u32,
     range: (u32, u32),
     flags: BuddyFlags,
-    want: &[(u32, u32)],
+    want: &[Span],
 ) {
     let mut out = Spans::new(alloc);
     let before = manager.lengths();
@@ -72,7 +58,7 @@ fn choose(
     }
     are_used(rt, manager, before, 0);
     let blocks = blocks_of(rt, answer, out);
-    assert_blocks(rt, blocks.items(), want);
+    are_spans(rt, blocks.items(), want);
     drop(blocks);
 }
 
@@ -84,13 +70,13 @@ fn take(
     pages: u32,
     range: (u32, u32),
     flags: BuddyFlags,
-    want: &[(u32, u32)],
+    want: &[Span],
 ) {
     let taken = if want.is_empty() { 0 } else { pages };
     let before = manager.lengths();
     let blocks = got(rt, alloc, manager, pages, range, flags);
     are_used(rt, manager, before, taken);
-    assert_blocks(rt, blocks.items(), want);
+    are_spans(rt, blocks.items(), want);
     if manager.are_held(&blocks) {
         manager.release(&blocks);
     }
@@ -122,16 +108,15 @@ fn answers(rt: &impl Abort, alloc: Global, table: &Table) {
     drop(manager);
 }
 
+/// Each table is answered as is wanted, and a manager of too many pages isn't made.
 #[test]
 fn buddy_manager_answers(rt: HostRuntime) {
+    let alloc = rt.alloc();
+    let rt = &rt;
     for table in TABLES {
-        answers(&rt, rt.alloc(), table);
+        answers(rt, alloc, table);
     }
-}
-
-#[test]
-fn too_many_pages_are_refused(rt: HostRuntime) {
-    ensure(&rt, BuddyManager::new(rt.alloc(), 1 << 31).is_err());
+    ensure(rt, BuddyManager::new(alloc, 1 << 31).is_err());
 }
 
 /// Twelve free pages, which are a block of 8 and one of 4.

@@ -17,7 +17,9 @@ const WHOLE: Place = Place {
 };
 
 /// A place's first and last page, how many pages there are, and which of them it reaches.
-const REACHES: &[(u32, u32, u32, (u32, u32))] = &[
+type Reach = (u32, u32, u32, (u32, u32));
+
+const REACHES: &[Reach] = &[
     (0, 2, 8, (0, 2)),
     (3, 0, 8, (3, 8)),
     (3, 9, 8, (3, 8)),
@@ -25,20 +27,21 @@ const REACHES: &[(u32, u32, u32, (u32, u32))] = &[
     (9, 0, 8, (8, 8)),
 ];
 
-/// The pages that a place with these ends reaches are these.
-fn reaches(rt: &impl Abort, first: u32, last: u32, size: u32, want: (u32, u32)) {
+/// The place reaches the pages.
+fn reaches(rt: &impl Abort, row: &Reach) {
+    let (first, last, size, reached) = *row;
     let place = Place {
         first,
         last,
         ..WHOLE
     };
-    ensure(rt, reach(&place, size) == want);
+    ensure(rt, reach(&place, size) == reached);
 }
 
 #[test]
 fn reach_of_a_place(rt: HostRuntime) {
-    for (first, last, size, reached) in REACHES {
-        reaches(&rt, *first, *last, *size, *reached);
+    for row in REACHES {
+        reaches(&rt, row);
     }
 }
 

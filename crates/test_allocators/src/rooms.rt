@@ -2,7 +2,7 @@ use crate::wanted::{are_spans, ensure};
 use resource_core::{BuddyRoom, Lengths, Manager, PagesKind, RangeRoom, TakeFault, VramRoom};
 use std::alloc::Global;
 use std::process::Abort;
-use ttm_base::{BufId, JobId, Mem, Owner, Place, Span, Spans};
+use ttm_base::{BufId, JobId, Mem, NoMemory, Owner, Place, Span, Spans};
 
 const PLAIN: Place = Place {
     mem: Mem::Vram,
@@ -151,10 +151,11 @@ fn run<M: Manager>(rt: &impl Abort, alloc: Global, room: &mut M, step: &Step) {
 fn ends_with<M: Manager + Drop>(
     rt: &impl Abort,
     alloc: Global,
-    mut room: M,
+    room: Result<M, NoMemory>,
     steps: &[Step],
     want: Lengths,
 ) {
+    let mut room = room.expect(rt, "a room");
     for step in steps {
         run(rt, alloc, &mut room, step);
     }
@@ -212,7 +213,7 @@ const BLOCKS_HELD: Lengths = Lengths {
 
 #[test]
 fn buddy_room_answers(rt: HostRuntime) {
-    let room = BuddyRoom::new(rt.alloc(), 12).expect(&rt, "a room");
+    let room = BuddyRoom::new(rt.alloc(), 12);
     ends_with(&rt, rt.alloc(), room, BLOCKS, BLOCKS_HELD);
 }
 
@@ -279,7 +280,7 @@ const RANGES_HELD: Lengths = Lengths {
 
 #[test]
 fn range_room_answers(rt: HostRuntime) {
-    let room = RangeRoom::new(rt.alloc(), 16).expect(&rt, "a room");
+    let room = RangeRoom::new(rt.alloc(), 16);
     ends_with(&rt, rt.alloc(), room, RANGES, RANGES_HELD);
 }
 
@@ -332,21 +333,19 @@ const VRAM_BLOCKS_HELD: Lengths = Lengths {
     ghosts: 0,
 };
 
-/// Twelve pages of VRAM of this kind.
-fn vram_room(rt: &impl Abort, alloc: Global, kind: PagesKind) -> VramRoom {
+/// Twelve pages of VRAM of this kind, whose steps get what they are to get.
+fn vram_ends_with(rt: &impl Abort, alloc: Global, kind: PagesKind, steps: &[Step], want: Lengths) {
     let room = VramRoom::new(alloc, 12, kind).expect(rt, "a room");
     ensure(rt, room.kind() == kind);
-    room
+    ends_with(rt, alloc, Ok(room), steps, want);
 }
 
 #[test]
 fn vram_room_answers(rt: HostRuntime) {
-    let rt = &rt;
     let alloc = rt.alloc();
-    let room = vram_room(rt, alloc, PagesKind::Ranges);
-    ends_with(rt, alloc, room, VRAM_RANGES, VRAM_RANGES_HELD);
-    let room = vram_room(rt, alloc, PagesKind::Blocks);
-    ends_with(rt, alloc, room, VRAM_BLOCKS, VRAM_BLOCKS_HELD);
+    let rt = &rt;
+    vram_ends_with(rt, alloc, PagesKind::Ranges, VRAM_RANGES, VRAM_RANGES_HELD);
+    vram_ends_with(rt, alloc, PagesKind::Blocks, VRAM_BLOCKS, VRAM_BLOCKS_HELD);
 }
 
 const FENCE: JobId = JobId { ctx: 0, num: 1 };

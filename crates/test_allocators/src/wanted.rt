@@ -15,21 +15,15 @@ pub fn ensure(rt: &impl Abort, holds: bool)
 
 /// There is this span, or none.
 pub fn is_span(rt: &impl Abort, got: Option<Span>, want: Option<Span>) {
-    if got != want {
-        rt.panic("it is another span")
-    }
+    ensure(rt, got == want);
 }
 
 /// The spans are these.
 pub fn are_spans(rt: &impl Abort, got: &[Span], want: &[Span]) {
-    if got != want {
-        rt.panic("they are other spans")
-    }
+    ensure(rt, got == want);
 }
 
 /// So many pages are free, and so many are used.
 pub fn are_lengths(rt: &impl Abort, got: (u32, u32), free: u32, used: u32) {
-    if got.0 != free || got.1 != used {
-        rt.panic("other numbers of pages are free and used")
-    }
+    ensure(rt, got == (free, used));
 }

@@ -22,25 +22,25 @@ fn sink(rt: &impl Abort, alloc: Global, room: usize, chunk: usize, fails: &[u64]
 }
 
 /// The source has these bytes left, and no more than the limit.
-fn gives<S: Source>(alloc: Global, source: &mut S, limit: u32, want: &[u8]) -> bool {
+fn gives<S: Source>(rt: &impl Abort, alloc: Global, source: &mut S, limit: u32, want: &[u8]) {
     match read_all(alloc, source, limit as usize) {
-        Ok(bytes) => bytes.as_slice() == want,
-        Err(_) => false,
+        Ok(bytes) => are_bytes(rt, bytes.as_slice(), want),
+        Err(_) => ensure(rt, false),
     }
 }
 
 /// The source can't be read whole.
-fn faults<S: Source>(alloc: Global, source: &mut S, limit: u32, want: ReadFault) -> bool {
+fn faults<S: Source>(rt: &impl Abort, alloc: Global, source: &mut S, limit: u32, want: ReadFault) {
     match read_all(alloc, source, limit as usize) {
-        Ok(_) => false,
-        Err(fault) => fault == want,
+        Ok(_) => ensure(rt, false),
+        Err(fault) => ensure(rt, fault == want),
     }
 }
 
 /// The source can't be read whole if this read fails.
 fn fails_at(rt: &impl Abort, alloc: Global, number: u64) {
     let mut source = source(rt, alloc, 4, &[number]);
-    ensure(rt, faults(alloc, &mut source, 10, ReadFault::Failed));
+    faults(rt, alloc, &mut source, 10, ReadFault::Failed);
 }
 
 /// Ten bytes, four at a time, take three reads, and a fourth finds the end.
@@ -51,7 +51,7 @@ fn reads_fail_where_listed(rt: HostRuntime) {
         fails_at(&rt, alloc, k);
     }
     let mut source = source(&rt, alloc, 4, &[5]);
-    ensure(&rt, gives(alloc, &mut source, 10, TEXT));
+    gives(&rt, alloc, &mut source, 10, TEXT);
 }
 
 /// How many bytes a read or a write moves at most.
@@ -60,7 +60,7 @@ const CHUNKS: &[usize] = &[1, 3, 10, 5000];
 /// A source that moves so many bytes at a time gives the text, and then nothing.
 fn reads_whole(rt: &impl Abort, alloc: Global, chunk: usize) {
     let mut source = source(rt, alloc, chunk, &[]);
-    ensure(rt, gives(alloc, &mut source, 5000, TEXT));
+    gives(rt, alloc, &mut source, 5000, TEXT);
     ensure(rt, matches!(source.read(&mut [0]), Ok(0)));
 }
 
@@ -92,19 +92,20 @@ const TOO_LOW: &[(u32, &[u8])] = &[(9, b""), (0, b"tm 1\nend\n")];
 /// The text is longer than the limit, and these bytes are left.
 fn is_too_long(rt: &impl Abort, alloc: Global, limit: u32, left: &[u8]) {
     let mut source = source(rt, alloc, 1, &[]);
-    ensure(rt, faults(alloc, &mut source, limit, ReadFault::TooLong));
-    ensure(rt, gives(alloc, &mut source, 10, left));
+    faults(rt, alloc, &mut source, limit, ReadFault::TooLong);
+    gives(rt, alloc, &mut source, 10, left);
 }
 
 #[test]
 fn one_byte_more_than_the_limit(rt: HostRuntime) {
+    let rt = &rt;
     let alloc = rt.alloc();
     for (limit, left) in TOO_LOW {
-        is_too_long(&rt, alloc, *limit, left);
+        is_too_long(rt, alloc, *limit, left);
     }
-    let mut source = source(&rt, alloc, 1, &[]);
-    ensure(&rt, gives(alloc, &mut source, 10, TEXT));
-    ensure(&rt, gives(alloc, &mut source, 10, b""));
+    let mut source = source(rt, alloc, 1, &[]);
+    gives(rt, alloc, &mut source, 10, TEXT);
+    gives(rt, alloc, &mut source, 10, b"");
 }
 
 /// The room of a sink, how many bytes a write moves, the write that fails, and what goes out before: at a listed call, or for
@@ -183,9 +184,9 @@ fn faults_of_a_reader(rt: HostRuntime) {
         good: 3,
         full: false,
     });
-    ensure(&rt, faults(rt.alloc(), &mut input, 9, ReadFault::Failed));
+    faults(&rt, rt.alloc(), &mut input, 9, ReadFault::Failed);
     let mut text = StdSource::new(TEXT);
-    ensure(&rt, gives(rt.alloc(), &mut text, 10, TEXT));
+    gives(&rt, rt.alloc(), &mut text, 10, TEXT);
 }
 
 /// How many calls go well, whether nothing is taken, and what comes of a write. Each piece is written and flushed: two calls.

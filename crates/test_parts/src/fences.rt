@@ -120,16 +120,17 @@ fn copied(rt: &impl Abort, alloc: Global, set: &FenceSet) -> FenceSet {
 
 #[test]
 fn usages_and_what_they_wait_for(rt: HostRuntime) {
-    let mut line = two_contexts(&rt, rt.alloc());
-    let empty = FenceSet::new(rt.alloc(), 2).expect(&rt, "contexts");
-    assert_need(&rt, &empty, &line, NONE);
-    let mut set = two_fences(&rt, rt.alloc());
-    assert_need(&rt, &set, &line, WRITTEN);
-    let other = copied(&rt, rt.alloc(), &set);
-    assert_need(&rt, &other, &line, READ_BEHIND_KERNEL);
+    let rt = &rt;
+    let mut line = two_contexts(rt, rt.alloc());
+    let empty = FenceSet::new(rt.alloc(), 2).expect(rt, "contexts");
+    assert_need(rt, &empty, &line, NONE);
+    let mut set = two_fences(rt, rt.alloc());
+    assert_need(rt, &set, &line, WRITTEN);
+    let other = copied(rt, rt.alloc(), &set);
+    assert_need(rt, &other, &line, READ_BEHIND_KERNEL);
     finished(&mut line, 1);
-    assert_need(&rt, &other, &line, NONE);
-    assert_need(&rt, &set, &line, READ_BEHIND_WRITE);
+    assert_need(rt, &other, &line, NONE);
+    assert_need(rt, &set, &line, READ_BEHIND_WRITE);
     set.clear();
-    assert_need(&rt, &set, &line, NONE);
+    assert_need(rt, &set, &line, NONE);
 }

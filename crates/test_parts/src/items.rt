@@ -12,16 +12,17 @@ fn cut_back(rt: &impl Abort, list: &mut ItemList<u8>, len: usize, left: &[u8]) {
 /// A list that grows by slices, and is cut back.
 #[test]
 fn list_grows_and_is_cut_back(rt: HostRuntime) {
-    let mut list = ItemList::from_slice(rt.alloc(), &[1, 2]).expect(&rt, "items");
-    list.extend(&[3, 4, 5]).expect(&rt, "items");
-    list.extend(&[]).expect(&rt, "items");
-    are_bytes(&rt, list.items(), &[1, 2, 3, 4, 5]);
-    cut_back(&rt, &mut list, 9, &[1, 2, 3, 4, 5]);
-    cut_back(&rt, &mut list, 5, &[1, 2, 3, 4, 5]);
-    cut_back(&rt, &mut list, 2, &[1, 2]);
-    cut_back(&rt, &mut list, 0, &[]);
-    list.extend(&[6]).expect(&rt, "items");
-    are_bytes(&rt, list.items(), &[6]);
+    let rt = &rt;
+    let mut list = ItemList::from_slice(rt.alloc(), &[1, 2]).expect(rt, "items");
+    list.extend(&[3, 4, 5]).expect(rt, "items");
+    list.extend(&[]).expect(rt, "items");
+    are_bytes(rt, list.items(), &[1, 2, 3, 4, 5]);
+    cut_back(rt, &mut list, 9, &[1, 2, 3, 4, 5]);
+    cut_back(rt, &mut list, 5, &[1, 2, 3, 4, 5]);
+    cut_back(rt, &mut list, 2, &[1, 2]);
+    cut_back(rt, &mut list, 0, &[]);
+    list.extend(&[6]).expect(rt, "items");
+    are_bytes(rt, list.items(), &[6]);
 }
 
 /// What comes, how many of the first leave then, to how many the queue is cut back, and what is left.

@@ -35,15 +35,11 @@ fn evict(lru: &mut Lru) -> Option<BufId> {
     None
 }
 
-/// The buffer behind another in its list, if it is on one.
-fn behind(lru: &Lru, b: BufId) -> Option<BufId> {
-    if lru.is_listed(b) { lru.next(b) } else { None }
-}
-
-/// The buffer stands at the place, and what is behind it.
+/// The buffer stands at the place. Gives the one behind it in its list, if it is on one.
 fn follows(rt: &impl Abort, lru: &Lru, at: Option<BufId>, b: u32) -> Option<BufId> {
-    is_buffer(rt, at, Some(BufId(b)));
-    behind(lru, BufId(b))
+    let b = BufId(b);
+    is_buffer(rt, at, Some(b));
+    if lru.is_listed(b) { lru.next(b) } else { None }
 }
 
 /// The buffers of a list of VRAM are these.
@@ -60,12 +56,6 @@ fn assert_order(rt: &impl Abort, lru: &Lru, prio: u32, want: &[u32]) {
 fn touch(rt: &impl Abort, lru: &mut Lru, b: BufId) {
     ensure(rt, lru.is_listed(b));
     lru.touch(b);
-}
-
-/// Lists a buffer, which is listed, for another memory type.
-fn relist(rt: &impl Abort, lru: &mut Lru, b: BufId, mem: Mem) {
-    ensure(rt, lru.is_listed(b));
-    lru.relist(b, mem);
 }
 
 /// The odd numbers below 200, and the even ones behind them.
@@ -126,11 +116,12 @@ fn evict_all(rt: &impl Abort, lru: &mut Lru) {
 
 #[test]
 fn victims_in_priority_and_bulk_order(rt: HostRuntime) {
-    let mut lru = Lru::new(rt.alloc(), 8, 1).expect(&rt, "lists");
-    list_all(&rt, &mut lru, 1, THREE);
-    ensure(&rt, lru.can_add(BufId(7), Some(0)));
+    let rt = &rt;
+    let mut lru = Lru::new(rt.alloc(), 8, 1).expect(rt, "lists");
+    list_all(rt, &mut lru, 1, THREE);
+    ensure(rt, lru.can_add(BufId(7), Some(0)));
     lru.bulk_tail(0);
-    evict_all(&rt, &mut lru);
+    evict_all(rt, &mut lru);
     drop(lru);
 }
 
@@ -144,11 +135,12 @@ fn list_two_hundred(rt: &impl Abort, lru: &mut Lru) {
 
 #[test]
 fn bulk_of_two_hundred(rt: HostRuntime) {
-    let mut lru = Lru::new(rt.alloc(), 201, 1).expect(&rt, "lists");
-    list_two_hundred(&rt, &mut lru);
-    ensure(&rt, lru.can_add(BufId(200), Some(0)));
+    let rt = &rt;
+    let mut lru = Lru::new(rt.alloc(), 201, 1).expect(rt, "lists");
+    list_two_hundred(rt, &mut lru);
+    ensure(rt, lru.can_add(BufId(200), Some(0)));
     moved::<Brand>(&mut lru, Blank::new(1));
-    assert_two_hundred(&rt, &lru);
+    assert_two_hundred(rt, &lru);
     drop(lru);
 }
 
@@ -156,13 +148,14 @@ const OTHER_LIST: &[(u32, Option<u32>)] = &[(3, Some(0)), (4, None)];
 
 #[test]
 fn bulk_of_one_list(rt: HostRuntime) {
-    let mut lru = Lru::new(rt.alloc(), 8, 1).expect(&rt, "lists");
-    list_all(&rt, &mut lru, 1, THREE);
-    list_all(&rt, &mut lru, 2, OTHER_LIST);
-    ensure(&rt, lru.can_add(BufId(7), Some(0)));
+    let rt = &rt;
+    let mut lru = Lru::new(rt.alloc(), 8, 1).expect(rt, "lists");
+    list_all(rt, &mut lru, 1, THREE);
+    list_all(rt, &mut lru, 2, OTHER_LIST);
+    ensure(rt, lru.can_add(BufId(7), Some(0)));
     moved_in::<Brand>(&mut lru, 1, Blank::new(1));
-    assert_order(&rt, &lru, 1, &[1, 0, 2]);
-    assert_order(&rt, &lru, 2, &[3, 4]);
+    assert_order(rt, &lru, 1, &[1, 0, 2]);
+    assert_order(rt, &lru, 2, &[3, 4]);
     drop(lru);
 }
 
@@ -170,13 +163,15 @@ const FOUR: &[(u32, Option<u32>)] = &[(0, Some(0)), (1, None), (2, Some(0)), (3,
 
 #[test]
 fn touched_and_relisted(rt: HostRuntime) {
-    let mut lru = Lru::new(rt.alloc(), 4, 1).expect(&rt, "lists");
-    list_all(&rt, &mut lru, 2, FOUR);
-    touch(&rt, &mut lru, BufId(0));
-    assert_order(&rt, &lru, 2, &[2, 0, 1, 3]);
-    relist(&rt, &mut lru, BufId(2), Mem::Tt);
-    is_buffer(&rt, lru.first(Mem::Tt, 2), Some(BufId(2)));
-    touch(&rt, &mut lru, BufId(0));
-    assert_order(&rt, &lru, 2, &[1, 3, 0]);
+    let rt = &rt;
+    let mut lru = Lru::new(rt.alloc(), 4, 1).expect(rt, "lists");
+    list_all(rt, &mut lru, 2, FOUR);
+    touch(rt, &mut lru, BufId(0));
+    assert_order(rt, &lru, 2, &[2, 0, 1, 3]);
+    ensure(rt, lru.is_listed(BufId(2)));
+    lru.relist(BufId(2), Mem::Tt);
+    is_buffer(rt, lru.first(Mem::Tt, 2), Some(BufId(2)));
+    touch(rt, &mut lru, BufId(0));
+    assert_order(rt, &lru, 2, &[1, 3, 0]);
     drop(lru);
 }

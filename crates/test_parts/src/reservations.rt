@@ -18,16 +18,17 @@ fn try_take(rt: &impl Abort, resv: &mut Resv, stamp: Stamp, taken: bool) {
 
 #[test]
 fn one_ticket_holds_it(rt: HostRuntime) {
-    let mut resv = Resv::new(rt.alloc(), 1).expect(&rt, "a context");
-    try_take(&rt, &mut resv, Stamp(3), true);
-    try_take(&rt, &mut resv, Stamp(2), false);
-    try_take(&rt, &mut resv, Stamp(3), false);
-    ensure(&rt, resv.holder().is_some());
+    let rt = &rt;
+    let mut resv = Resv::new(rt.alloc(), 1).expect(rt, "a context");
+    try_take(rt, &mut resv, Stamp(3), true);
+    try_take(rt, &mut resv, Stamp(2), false);
+    try_take(rt, &mut resv, Stamp(3), false);
+    ensure(rt, resv.holder().is_some());
     resv.release();
-    is_held(&rt, &resv, None);
-    ensure(&rt, resv.try_take(Stamp(2)));
+    is_held(rt, &resv, None);
+    ensure(rt, resv.try_take(Stamp(2)));
     resv.clear();
-    is_held(&rt, &resv, None);
+    is_held(rt, &resv, None);
     drop(resv);
 }
 
@@ -53,11 +54,12 @@ fn assert_waits(rt: &impl Abort, resv: &mut Resv, line: &Timeline) {
 
 #[test]
 fn jobs_are_waited_for_by_usage(rt: HostRuntime) {
-    let mut line = Timeline::new(rt.alloc(), 1).expect(&rt, "a context");
-    is_job(&rt, emitted(&mut line, 0), Some(JOB));
-    let mut resv = Resv::new(rt.alloc(), 1).expect(&rt, "a context");
-    ensure(&rt, resv.fences().contexts() == 1);
+    let rt = &rt;
+    let mut line = Timeline::new(rt.alloc(), 1).expect(rt, "a context");
+    is_job(rt, emitted(&mut line, 0), Some(JOB));
+    let mut resv = Resv::new(rt.alloc(), 1).expect(rt, "a context");
+    ensure(rt, resv.fences().contexts() == 1);
     resv.add_fence(JOB, Usage::Write);
-    assert_waits(&rt, &mut resv, &line);
+    assert_waits(rt, &mut resv, &line);
     drop(resv);
 }

@@ -16,13 +16,14 @@ fn assert_frames(rt: &impl Abort, aper: &Aperture, want: &[Option<u32>; 4])
 /// Pages are mapped and cleared one at a time.
 #[test]
 fn pages_are_mapped_apart(rt: HostRuntime) {
-    let mut aper = Aperture::new(rt.alloc(), 4).expect(&rt, "pages");
-    assert_frames(&rt, &aper, &[None; 4]);
+    let rt = &rt;
+    let mut aper = Aperture::new(rt.alloc(), 4).expect(rt, "pages");
+    assert_frames(rt, &aper, &[None; 4]);
     aper.set(3, 5);
     aper.set(0, 7);
-    assert_frames(&rt, &aper, &[Some(7), None, None, Some(5)]);
+    assert_frames(rt, &aper, &[Some(7), None, None, Some(5)]);
     aper.set(3, 6);
-    assert_frames(&rt, &aper, &[Some(7), None, None, Some(6)]);
+    assert_frames(rt, &aper, &[Some(7), None, None, Some(6)]);
     aper.clear(0);
-    assert_frames(&rt, &aper, &[None, None, None, Some(6)]);
+    assert_frames(rt, &aper, &[None, None, None, Some(6)]);
 }

@@ -56,8 +56,9 @@ fn eight_frames(rt: &impl Abort, alloc: Global) -> Stores
 /// A packet goes to the frame to which its page is mapped when it runs.
 #[test]
 fn packet_follows_the_aperture(rt: HostRuntime) {
-    let mut stores = eight_frames(&rt, rt.alloc());
-    let mut out = ProbeBytes::new(rt.alloc()).expect(&rt, "bytes");
+    let rt = &rt;
+    let mut stores = eight_frames(rt, rt.alloc());
+    let mut out = ProbeBytes::new(rt.alloc()).expect(rt, "bytes");
     stores.aper.set(3, 5);
     let packet = Packet::Fill {
         to: PagePlace::Aper(3),
@@ -67,10 +68,10 @@ fn packet_follows_the_aperture(rt: HostRuntime) {
     };
     stores.aper.set(3, 6);
     run(&packet, &mut stores, &mut out);
-    assert_frames(&rt, &stores, 4096 * 5, &[0, 0]);
-    assert_frames(&rt, &stores, 4096 * 6, &[170, 0]);
-    are_bytes(&rt, stores.vram.part(0, 2), &[0, 0]);
-    assert_shown(&rt, &out, &[]);
+    assert_frames(rt, &stores, 4096 * 5, &[0, 0]);
+    assert_frames(rt, &stores, 4096 * 6, &[170, 0]);
+    are_bytes(rt, stores.vram.part(0, 2), &[0, 0]);
+    assert_shown(rt, &out, &[]);
     drop(stores);
 }
 
@@ -128,15 +129,16 @@ const PROBE: Packet = Packet::Probe {
 /// What the packets leave and show.
 #[test]
 fn job_of_three_ops(rt: HostRuntime) {
-    let mut stores = eight_frames(&rt, rt.alloc());
-    let mut out = ProbeBytes::new(rt.alloc()).expect(&rt, "bytes");
+    let rt = &rt;
+    let mut stores = eight_frames(rt, rt.alloc());
+    let mut out = ProbeBytes::new(rt.alloc()).expect(rt, "bytes");
     stores.frames.copy_page_part(0, &[1, 2]);
     run(&COPY, &mut stores, &mut out);
     run(&FILL, &mut stores, &mut out);
     run(&PROBE, &mut stores, &mut out);
-    assert_shown(&rt, &out, &[0, 1, 2, 0]);
-    assert_frames(&rt, &stores, 0, &[0xff, 2, 0]);
-    assert_frames(&rt, &stores, 4096 + 3, &[0, 1, 2, 0]);
+    assert_shown(rt, &out, &[0, 1, 2, 0]);
+    assert_frames(rt, &stores, 0, &[0xff, 2, 0]);
+    assert_frames(rt, &stores, 4096 + 3, &[0, 1, 2, 0]);
     drop(stores);
 }
 
@@ -199,17 +201,18 @@ const XOR_BACK: Packet = Packet::Xor {
 /// Bytes go from a store to the other, and a packet that isn't a probe shows nothing.
 #[test]
 fn packets_between_vram_and_frames(rt: HostRuntime) {
-    let mut stores = eight_frames(&rt, rt.alloc());
-    let mut out = ProbeBytes::new(rt.alloc()).expect(&rt, "bytes");
+    let rt = &rt;
+    let mut stores = eight_frames(rt, rt.alloc());
+    let mut out = ProbeBytes::new(rt.alloc()).expect(rt, "bytes");
     stores.frames.copy_page_part(4096 * 2 + 10, &[1, 2, 3]);
     run(&TO_VRAM, &mut stores, &mut out);
     run(&VRAM_SHOWN, &mut stores, &mut out);
-    assert_shown(&rt, &out, &[0, 1, 2, 3, 0]);
+    assert_shown(rt, &out, &[0, 1, 2, 3, 0]);
     run(&XOR_BACK, &mut stores, &mut out);
-    assert_frames(&rt, &stores, 4096 * 2 + 9, &[0, 3, 1, 3, 0]);
-    assert_shown(&rt, &out, &[]);
+    assert_frames(rt, &stores, 4096 * 2 + 9, &[0, 3, 1, 3, 0]);
+    assert_shown(rt, &out, &[]);
     out.set(&[4, 5]);
-    assert_shown(&rt, &out, &[4, 5]);
+    assert_shown(rt, &out, &[4, 5]);
     drop(stores);
 }
 
@@ -229,14 +232,15 @@ const CHANGE: Packet = Packet::Fill {
 /// A probe is shown over lent stores, through the aperture; another packet shows nothing and isn't done.
 #[test]
 fn probe_over_lent_stores(rt: HostRuntime) {
-    let mut stores = eight_frames(&rt, rt.alloc());
-    let mut out = ProbeBytes::new(rt.alloc()).expect(&rt, "bytes");
+    let rt = &rt;
+    let mut stores = eight_frames(rt, rt.alloc());
+    let mut out = ProbeBytes::new(rt.alloc()).expect(rt, "bytes");
     stores.aper.set(3, 2);
     stores.frames.copy_page_part(4096 * 2 + 10, &[1, 2, 3]);
     show(&LOOK, &stores, &mut out);
-    assert_shown(&rt, &out, &[0, 1, 2, 3, 0]);
+    assert_shown(rt, &out, &[0, 1, 2, 3, 0]);
     show(&CHANGE, &stores, &mut out);
-    assert_shown(&rt, &out, &[]);
-    assert_frames(&rt, &stores, 4096 * 2 + 9, &[0, 1, 2, 3, 0]);
+    assert_shown(rt, &out, &[]);
+    assert_frames(rt, &stores, 4096 * 2 + 9, &[0, 1, 2, 3, 0]);
     drop(stores);
 }

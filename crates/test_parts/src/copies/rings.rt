@@ -115,14 +115,15 @@ fn assert_steps(rt: &impl Abort, rings: &mut Rings, stores: &mut Stores, out: &m
 
 #[test]
 fn jobs_and_packets_in_order(rt: HostRuntime) {
-    let mut stores = stores(&rt, rt.alloc(), 0, 1, 0);
-    let mut out = ProbeBytes::new(rt.alloc()).expect(&rt, "bytes");
-    let mut rings = Rings::new(rt.alloc(), 1).expect(&rt, "a ring");
-    is_job(&rt, head(&rings), None);
-    push_free(&rt, rt.alloc(), &mut rings, ONE, &[FILL, PROBE]);
-    push_free(&rt, rt.alloc(), &mut rings, TWO, &[PROBE, FILL]);
-    assert_steps(&rt, &mut rings, &mut stores, &mut out);
-    is_job(&rt, head(&rings), None);
+    let rt = &rt;
+    let mut stores = stores(rt, rt.alloc(), 0, 1, 0);
+    let mut out = ProbeBytes::new(rt.alloc()).expect(rt, "bytes");
+    let mut rings = Rings::new(rt.alloc(), 1).expect(rt, "a ring");
+    is_job(rt, head(&rings), None);
+    push_free(rt, rt.alloc(), &mut rings, ONE, &[FILL, PROBE]);
+    push_free(rt, rt.alloc(), &mut rings, TWO, &[PROBE, FILL]);
+    assert_steps(rt, &mut rings, &mut stores, &mut out);
+    is_job(rt, head(&rings), None);
     drop(rings);
     drop(stores);
 }
@@ -148,10 +149,11 @@ fn assert_waits(rt: &impl Abort, rings: &Rings, line: &Timeline) {
 /// A job waits for readers too.
 #[test]
 fn head_waits_for_all_usages(rt: HostRuntime) {
-    let line = Timeline::new(rt.alloc(), 1).expect(&rt, "a context");
-    let mut rings = Rings::new(rt.alloc(), 1).expect(&rt, "a ring");
-    let waits = with_reader(&rt, rt.alloc());
-    push(&rt, &mut rings, TWO, waits, Vec::new(rt.alloc()));
-    assert_waits(&rt, &rings, &line);
+    let rt = &rt;
+    let line = Timeline::new(rt.alloc(), 1).expect(rt, "a context");
+    let mut rings = Rings::new(rt.alloc(), 1).expect(rt, "a ring");
+    let waits = with_reader(rt, rt.alloc());
+    push(rt, &mut rings, TWO, waits, Vec::new(rt.alloc()));
+    assert_waits(rt, &rings, &line);
     drop(rings);
 }

@@ -30,23 +30,24 @@ fn assert_page(rt: &impl Abort, store: &SwapStore, slot: u32, byte: u8)
 
 #[test]
 fn two_slots(rt: HostRuntime) {
-    let mut store = SwapStore::new(rt.alloc(), 2).expect(&rt, "slots");
-    assert_page(&rt, &store, 1, 0);
-    puts(&rt, &mut store, 1, 0);
-    puts(&rt, &mut store, 2, 1);
-    is_number(&rt, store.put(&[3; 4096]), None);
-    is_number(&rt, store.first(), None);
-    assert_page(&rt, &store, 0, 1);
-    takes(&rt, &mut store, 0, 1);
-    assert_page(&rt, &store, 0, 1);
-    is_number(&rt, store.first(), Some(0));
-    puts(&rt, &mut store, 3, 0);
-    takes(&rt, &mut store, 0, 3);
+    let rt = &rt;
+    let mut store = SwapStore::new(rt.alloc(), 2).expect(rt, "slots");
+    assert_page(rt, &store, 1, 0);
+    puts(rt, &mut store, 1, 0);
+    puts(rt, &mut store, 2, 1);
+    is_number(rt, store.put(&[3; 4096]), None);
+    is_number(rt, store.first(), None);
+    assert_page(rt, &store, 0, 1);
+    takes(rt, &mut store, 0, 1);
+    assert_page(rt, &store, 0, 1);
+    is_number(rt, store.first(), Some(0));
+    puts(rt, &mut store, 3, 0);
+    takes(rt, &mut store, 0, 3);
     store.drop_slot(1);
-    assert_page(&rt, &store, 1, 2);
-    puts(&rt, &mut store, 1, 0);
-    assert_page(&rt, &store, 0, 1);
-    puts(&rt, &mut store, 1, 1);
-    assert_page(&rt, &store, 1, 1);
+    assert_page(rt, &store, 1, 2);
+    puts(rt, &mut store, 1, 0);
+    assert_page(rt, &store, 0, 1);
+    puts(rt, &mut store, 1, 1);
+    assert_page(rt, &store, 1, 1);
     drop(store);
 }

@@ -42,14 +42,15 @@ fn goes_out(rt: &impl Abort, swap: &mut SwapStore, frames: &ByteStore)
 /// Frame 1 goes to slot 0, and comes back into frame 0.
 #[test]
 fn page_goes_out_and_comes_back(rt: HostRuntime) {
-    let mut frames = ByteStore::new(rt.alloc(), 2).expect(&rt, "frames");
-    let mut swap = SwapStore::new(rt.alloc(), 1).expect(&rt, "a slot");
+    let rt = &rt;
+    let mut frames = ByteStore::new(rt.alloc(), 2).expect(rt, "frames");
+    let mut swap = SwapStore::new(rt.alloc(), 1).expect(rt, "a slot");
     frames.fill(PAGE + 4094, 2, 7);
-    goes_out(&rt, &mut swap, &frames);
+    goes_out(rt, &mut swap, &frames);
     frames.zero_page(1);
     swap_in(&mut frames, 0, &mut swap, 0);
-    assert_bytes(&rt, &frames, 4093, &[0, 7, 7, 0]);
-    is_number(&rt, swap.first(), Some(0));
+    assert_bytes(rt, &frames, 4093, &[0, 7, 7, 0]);
+    is_number(rt, swap.first(), Some(0));
     drop(swap);
     drop(frames);
 }

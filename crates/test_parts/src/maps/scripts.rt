@@ -104,8 +104,9 @@ fn assert_areas(rt: &impl Abort, maps: &CpuMaps, want: &[(u32, BufId)]) {
 /// A buffer that a thread maps again has the same mapping; that of another thread is another.
 #[test]
 fn one_mapping_for_each_buffer_of_a_thread(rt: HostRuntime) {
+    let rt = &rt;
     let alloc = rt.alloc();
-    assert_areas(&rt, &maps_of(&rt, alloc, &[]), &[]);
+    assert_areas(rt, &maps_of(rt, alloc, &[]), &[]);
     let lines = [
         MapLine::Map(1, B),
         MapLine::Map(1, A),
@@ -113,6 +114,6 @@ fn one_mapping_for_each_buffer_of_a_thread(rt: HostRuntime) {
         MapLine::Map(1, B),
         MapLine::Map(3, B),
     ];
-    let maps = maps_of(&rt, alloc, &lines);
-    assert_areas(&rt, &maps, &[(1, B), (1, A), (3, B)]);
+    let maps = maps_of(rt, alloc, &lines);
+    assert_areas(rt, &maps, &[(1, B), (1, A), (3, B)]);
 }

@@ -1,8 +1,8 @@
 ghost use Rattle.std.specs.Prelude.{◌+◌, ◌≤◌};
 
+use crate::wanted::ensure;
 use Request::{Map, Unmap};
 use Told::{Gone, Kept, Made};
-use crate::wanted::ensure;
 use gpu_spaces::Space;
 use journal_model::{VStep, VSteps};
 use std::alloc::Global;

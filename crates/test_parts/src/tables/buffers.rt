@@ -109,20 +109,15 @@ fn take_change(rt: &impl Abort, alloc: Global, table: &mut BoTable, what: Change
     }
 }
 
-/// The buffer stands where it is to stand.
-fn assert_place(rt: &impl Abort, bo: &Bo, look: &Look) {
-    ensure(rt, bo.mem == look.mem);
-    ensure(rt, bo.spans.items().first().copied() == look.span);
-    ensure(rt, bo.table.frames() == look.frames);
-    is_number(rt, bo.table.first_unfilled(), look.unfilled);
-}
-
-/// The buffer lives, and is pinned and held as is wanted.
+/// The buffer lives, is pinned and held as is wanted, and stands where it is to stand.
 fn assert_seen(rt: &impl Abort, bo: &Bo, look: &Look) {
     ensure(rt, bo.alive);
     ensure(rt, bo.pins == look.pins);
     ensure(rt, bo.resv.holder() == look.holder);
-    assert_place(rt, bo, look);
+    ensure(rt, bo.mem == look.mem);
+    ensure(rt, bo.spans.items().first().copied() == look.span);
+    ensure(rt, bo.table.frames() == look.frames);
+    is_number(rt, bo.table.first_unfilled(), look.unfilled);
 }
 
 /// A buffer in SYSTEM without pages to fill, which nobody pins or holds.
@@ -375,12 +370,13 @@ fn assert_step(rt: &impl Abort, alloc: Global, table: &mut BoTable, step: &(Chan
 
 #[test]
 fn life_of_a_buffer(rt: HostRuntime) {
-    let mut table = two_buffers(&rt, rt.alloc());
+    let rt = &rt;
+    let mut table = two_buffers(rt, rt.alloc());
     for step in LIFE {
-        assert_step(&rt, rt.alloc(), &mut table, step);
+        assert_step(rt, rt.alloc(), &mut table, step);
     }
     table.kill(BufId(1));
-    assert_dead(&rt, &table, BufId(0));
-    assert_dead(&rt, &table, BufId(1));
+    assert_dead(rt, &table, BufId(0));
+    assert_dead(rt, &table, BufId(1));
     drop(table);
 }
