@@ -1,4 +1,4 @@
-//! Comparisons with what is wanted, each in one place: a call costs the check a tenth of a comparison that is written out.
+//! Comparisons with what is wanted, each written out once, since a call costs the check a third of it.
 ghost use Rattle.std.specs.Prelude.{◌≡◌, true};
 
 use std::process::Abort;
