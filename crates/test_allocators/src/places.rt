@@ -183,10 +183,16 @@ const SPANS: [Span; 3] = [
 /// Their pages, in order.
 const PAGES: &[u32] = &[7, 8, 0, 1, 2];
 
+/// The cursor gives the pages, and then none.
+fn assert_pages(rt: &impl Abort, cursor: &mut PageCursor, pages: &[u32]) {
+    for page in pages {
+        ensure(rt, cursor.next() == Some(*page));
+    }
+    ensure(rt, cursor.next().is_none());
+}
+
 #[test]
 fn pages_of_spans_in_order(rt: HostRuntime) {
-    let cursor = PageCursor::new(&SPANS);
-    let walked: Vec<u32> = cursor.collect(rt.alloc()).expect(&rt, "pages");
-    ensure(&rt, walked.as_slice() == PAGES);
-    drop(walked);
+    let mut cursor = PageCursor::new(&SPANS);
+    assert_pages(&rt, &mut cursor, PAGES);
 }

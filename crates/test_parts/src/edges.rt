@@ -37,101 +37,92 @@ fn faults<S: Source>(rt: &impl Abort, alloc: Global, source: &mut S, limit: u32,
     }
 }
 
-/// The source can't be read whole if this read fails.
-fn fails_at(rt: &impl Abort, alloc: Global, number: u64) {
-    let mut source = source(rt, alloc, 4, &[number]);
-    faults(rt, alloc, &mut source, 10, ReadFault::Failed);
-}
+/// How many bytes a read moves at most, the reads that fail, the limit in bytes, how the reading ends: with the whole text or with a fault; and which
+/// bytes another one then gives, if it is to be tried.
+type Reading = (
+    usize,
+    &'static [u64],
+    u32,
+    Option<ReadFault>,
+    Option<&'static [u8]>,
+);
 
-/// Ten bytes, four at a time, take three reads, and a fourth finds the end.
-#[test]
-fn reads_fail_where_listed(rt: HostRuntime) {
-    let alloc = rt.alloc();
-    for k in 1..=4 {
-        fails_at(&rt, alloc, k);
-    }
-    let mut source = source(&rt, alloc, 4, &[5]);
-    gives(&rt, alloc, &mut source, 10, TEXT);
-}
-
-/// How many bytes a read or a write moves at most.
-const CHUNKS: &[usize] = &[1, 3, 10, 5000];
-
-/// A source that moves so many bytes at a time gives the text, and then nothing.
-fn reads_whole(rt: &impl Abort, alloc: Global, chunk: usize) {
-    let mut source = source(rt, alloc, chunk, &[]);
-    gives(rt, alloc, &mut source, 5000, TEXT);
-    ensure(rt, matches!(source.read(&mut [0]), Ok(0)));
-}
-
-#[test]
-fn quiet_source_never_faults(rt: HostRuntime) {
-    for chunk in CHUNKS {
-        reads_whole(&rt, rt.alloc(), *chunk);
-    }
-}
-
-/// A sink that moves so many bytes at a time takes the text twice.
-fn writes_whole(rt: &impl Abort, alloc: Global, chunk: usize) {
-    let mut sink = sink(rt, alloc, 2 * TEXT.len(), chunk, &[]);
-    ensure(rt, write_all(&mut sink, TEXT).is_ok());
-    ensure(rt, write_all(&mut sink, TEXT).is_ok());
-    are_bytes(rt, sink.bytes(), b"ttm 1\nend\nttm 1\nend\n");
-}
-
-#[test]
-fn quiet_sink_never_faults(rt: HostRuntime) {
-    for chunk in CHUNKS {
-        writes_whole(&rt, rt.alloc(), *chunk);
-    }
-}
-
-/// Limits, and the bytes that are left behind a text that is longer.
-const TOO_LOW: &[(u32, &[u8])] = &[(9, b""), (0, b"tm 1\nend\n")];
-
-/// The text is longer than the limit, and these bytes are left.
-fn is_too_long(rt: &impl Abort, alloc: Global, limit: u32, left: &[u8]) {
-    let mut source = source(rt, alloc, 1, &[]);
-    faults(rt, alloc, &mut source, limit, ReadFault::TooLong);
-    gives(rt, alloc, &mut source, 10, left);
-}
-
-#[test]
-fn one_byte_more_than_the_limit(rt: HostRuntime) {
-    let rt = &rt;
-    let alloc = rt.alloc();
-    for (limit, left) in TOO_LOW {
-        is_too_long(rt, alloc, *limit, left);
-    }
-    let mut source = source(rt, alloc, 1, &[]);
-    gives(rt, alloc, &mut source, 10, TEXT);
-    gives(rt, alloc, &mut source, 10, b"");
-}
-
-/// The room of a sink, how many bytes a write moves, the write that fails, and what goes out before: at a listed call, or for
-/// want of room.
-type Failing = (usize, usize, u64, &'static [u8]);
-
-const FAILING: &[Failing] = &[
-    (10, 1, 1, b""),
-    (10, 1, 4, b"ttm"),
-    (10, 4, 3, b"ttm 1\nen"),
-    (7, 4, 9, b"ttm 1\ne"),
-    (0, 4, 9, b""),
+const READINGS: &[Reading] = &[
+    // ten bytes, four at a time, take three reads, and a fourth finds the end
+    (4, &[1], 10, Some(ReadFault::Failed), None),
+    (4, &[2], 10, Some(ReadFault::Failed), None),
+    (4, &[3], 10, Some(ReadFault::Failed), None),
+    (4, &[4], 10, Some(ReadFault::Failed), None),
+    (4, &[5], 10, None, None),
+    // however many bytes a read moves
+    (1, &[], 5000, None, Some(b"")),
+    (3, &[], 5000, None, Some(b"")),
+    (10, &[], 5000, None, Some(b"")),
+    (5000, &[], 5000, None, Some(b"")),
+    // the text is longer than the limit, or as long
+    (1, &[], 9, Some(ReadFault::TooLong), Some(b"")),
+    (1, &[], 0, Some(ReadFault::TooLong), Some(b"tm 1\nend\n")),
+    (1, &[], 10, None, Some(b"")),
 ];
 
-/// The text can't be written whole, and these bytes go out before.
-fn breaks_off(rt: &impl Abort, alloc: Global, row: &Failing) {
-    let (room, chunk, fail, want) = *row;
-    let mut sink = sink(rt, alloc, room, chunk, &[fail]);
+/// The reading ends as is wanted.
+fn assert_reading(rt: &impl Abort, alloc: Global, row: &Reading) {
+    let (chunk, fails, limit, fault, left) = *row;
+    let mut source = source(rt, alloc, chunk, fails);
+    match fault {
+        Some(fault) => faults(rt, alloc, &mut source, limit, fault),
+        None => gives(rt, alloc, &mut source, limit, TEXT),
+    }
+    if let Some(left) = left {
+        gives(rt, alloc, &mut source, 10, left);
+    }
+}
+
+#[test]
+fn sources_are_read_whole_or_fault(rt: HostRuntime) {
+    let alloc = rt.alloc();
+    let rt = &rt;
+    for row in READINGS {
+        assert_reading(rt, alloc, row);
+    }
+}
+
+/// The room of a sink in bytes, how many a write moves at most, the writes that fail, how often the text is written whole, and what has gone out once
+/// it is written again: that breaks off at a listed write, or for lack of room.
+type Writing = (usize, usize, &'static [u64], u32, &'static [u8]);
+
+const TWICE: &[u8] = b"ttm 1\nend\nttm 1\nend\n";
+
+const WRITINGS: &[Writing] = &[
+    (10, 1, &[1], 0, b""),
+    (10, 1, &[4], 0, b"ttm"),
+    (10, 4, &[3], 0, b"ttm 1\nen"),
+    (7, 4, &[9], 0, b"ttm 1\ne"),
+    (0, 4, &[9], 0, b""),
+    // however many bytes a write moves
+    (20, 1, &[], 2, TWICE),
+    (20, 3, &[], 2, TWICE),
+    (20, 10, &[], 2, TWICE),
+    (20, 5000, &[], 2, TWICE),
+];
+
+/// The writing ends as is wanted.
+fn assert_writing(rt: &impl Abort, alloc: Global, row: &Writing) {
+    let (room, chunk, fails, times, want) = *row;
+    let mut sink = sink(rt, alloc, room, chunk, fails);
+    for _time in 0..times {
+        ensure(rt, write_all(&mut sink, TEXT).is_ok());
+    }
     ensure(rt, write_all(&mut sink, TEXT).is_err());
     are_bytes(rt, sink.bytes(), want);
 }
 
 #[test]
-fn writes_fail_where_listed(rt: HostRuntime) {
-    for row in FAILING {
-        breaks_off(&rt, rt.alloc(), row);
+fn sinks_take_all_or_break_off(rt: HostRuntime) {
+    let alloc = rt.alloc();
+    let rt = &rt;
+    for row in WRITINGS {
+        assert_writing(rt, alloc, row);
     }
 }
 
