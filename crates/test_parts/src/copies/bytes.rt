@@ -1,7 +1,8 @@
-ghost use Rattle.std.specs.Prelude.{◌+◌, ◌≤◌, length};
+ghost use Rattle.std.specs.Prelude.{◌≡◌, ◌+◌, ◌*◌, ◌≤◌, length};
 
 use crate::wanted::{are_bytes, ensure};
 use byte_store::ByteStore;
+use std::alloc::Global;
 use std::process::Abort;
 
 /// The store has these bytes from a place on.
@@ -45,21 +46,41 @@ fn copies_and_exclusive_or_within(rt: HostRuntime) {
     assert_bytes(rt, &store, 0, &[0xfd, 0, 2, 1, 7, 0, 0]);
 }
 
-/// A byte far from others stands between zeros, and pages behind it are zeros. Bytes are copied to pages that nobody has written, and zeros from
-/// them; in an exclusive or their bytes are zeros.
+/// Forty pages of zeros.
+fn forty_pages(rt: &impl Abort, alloc: Global) -> ByteStore
+    ensures { length result ≡ 4096 * 40 }
+{
+    ByteStore::new(alloc, 40).expect(rt, "pages")
+}
+
+/// A byte far from others stands between zeros, and pages behind it are zeros.
 #[test]
-fn pages_far_from_others(rt: HostRuntime) {
+fn byte_far_from_others(rt: HostRuntime) {
     let rt = &rt;
-    let mut store = ByteStore::new(rt.alloc(), 40).expect(rt, "pages");
+    let mut store = forty_pages(rt, rt.alloc());
     assert_bytes(rt, &store, 4096 * 39, &[0; 16]);
     store.zero_page(39);
     store.put(4096 * 20 + 5, 7);
     assert_bytes(rt, &store, 4096 * 20 + 4, &[0, 7, 0]);
     assert_bytes(rt, &store, 4096 * 36 + 4, &[0; 16]);
+}
+
+/// Bytes are copied to pages that nobody has written, and zeros from them.
+#[test]
+fn copies_to_and_from_far_pages(rt: HostRuntime) {
+    let rt = &rt;
+    let mut store = forty_pages(rt, rt.alloc());
+    store.put(4096 * 20 + 5, 7);
     store.copy_within(4096 * 38, 4096 * 20 + 4, 3);
     assert_bytes(rt, &store, 4096 * 38, &[0, 7, 0]);
-    store.xor_page_part(4096 * 37 + 1, &[7]);
-    assert_bytes(rt, &store, 4096 * 37, &[0, 7, 0]);
     store.copy_within(4096 * 20, 4096 * 39, 8);
     assert_bytes(rt, &store, 4096 * 20 + 4, &[0, 0, 0]);
+}
+
+/// A byte of a page that nobody has written is a zero in an exclusive or.
+#[test]
+fn exclusive_or_of_far_pages(rt: HostRuntime) {
+    let mut store = forty_pages(&rt, rt.alloc());
+    store.xor_page_part(4096 * 38 + 1, &[7]);
+    assert_bytes(&rt, &store, 4096 * 38, &[0, 7, 0]);
 }

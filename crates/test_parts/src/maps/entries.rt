@@ -70,7 +70,7 @@ fn take_event(maps: &mut CpuMaps, event: Event) -> Faults {
 
 /// A buffer is written and read in SYSTEM, read in VRAM, to which it comes through TT, and evicted and read: each access with the pages that
 /// fault, and the entries behind it.
-const ONE_BUFFER: &[(Event, Faults, Pages)] = &[
+const ONE_BUFFER: [(Event, Faults, Pages); 7] = [
     (Event::Access(1, A, FRAMES), BOTH, FRAMES),
     (Event::Access(1, A, FIRST_FRAME), NEITHER, FRAMES),
     (Event::BufferLeaves(A), NEITHER, NONE),
@@ -89,13 +89,14 @@ fn assert_faults(rt: &impl Abort, maps: &mut CpuMaps, event: Event, faults: Faul
 #[test]
 fn accesses_fault_once(rt: HostRuntime) {
     let mut maps = maps_of(&rt, rt.alloc(), &[MapLine::Map(1, A)]);
-    for (event, faults, want) in ONE_BUFFER {
+    let events = ONE_BUFFER;
+    for (event, faults, want) in &events {
         assert_faults(&rt, &mut maps, *event, *faults, want);
     }
 }
 
 /// Two threads map a buffer, and the first another one, too: the entries of the three mappings behind each event.
-const TWO_BUFFERS: &[(Event, [Pages; 3])] = &[
+const TWO_BUFFERS: [(Event, [Pages; 3]); 11] = [
     (Event::Access(1, A, FRAMES), [FRAMES, NONE, NONE]),
     (Event::Access(2, A, FRAMES), [FRAMES, FRAMES, NONE]),
     (Event::Access(1, B, VRAM), [FRAMES, FRAMES, VRAM]),
@@ -121,7 +122,8 @@ fn assert_left(rt: &impl Abort, maps: &mut CpuMaps, event: Event, want: &[Pages;
 fn all_mappings_of_a_buffer_lose_a_page(rt: HostRuntime) {
     let lines = [MapLine::Map(1, A), MapLine::Map(1, B), MapLine::Map(2, A)];
     let mut maps = maps_of(&rt, rt.alloc(), &lines);
-    for (event, want) in TWO_BUFFERS {
+    let events = TWO_BUFFERS;
+    for (event, want) in &events {
         assert_left(&rt, &mut maps, *event, want);
     }
 }
