@@ -3,10 +3,30 @@ use item_queue::ItemQueue;
 use std::process::Abort;
 use ttm_base::ItemList;
 
-/// The list is cut back, and has these items left.
-fn cut_back(rt: &impl Abort, list: &mut ItemList<u8>, len: usize, left: &[u8]) {
-    list.truncate(len);
-    are_bytes(rt, list.items(), left);
+/// A change of a list.
+enum Change {
+    Extend(&'static [u8]),
+    CutBack(usize),
+}
+
+/// Changes of a list that has two items, and what it then has.
+const CHANGES: &[(Change, &[u8])] = &[
+    (Change::Extend(&[3, 4, 5]), &[1, 2, 3, 4, 5]),
+    (Change::Extend(&[]), &[1, 2, 3, 4, 5]),
+    (Change::CutBack(9), &[1, 2, 3, 4, 5]),
+    (Change::CutBack(5), &[1, 2, 3, 4, 5]),
+    (Change::CutBack(2), &[1, 2]),
+    (Change::CutBack(0), &[]),
+    (Change::Extend(&[6]), &[6]),
+];
+
+/// The list is changed, and then has these items.
+fn assert_change(rt: &impl Abort, list: &mut ItemList<u8>, change: &Change, want: &[u8]) {
+    match change {
+        Change::Extend(items) => list.extend(items).expect(rt, "items"),
+        Change::CutBack(len) => list.truncate(*len),
+    }
+    are_bytes(rt, list.items(), want);
 }
 
 /// A list that grows by slices, and is cut back.
@@ -14,15 +34,9 @@ fn cut_back(rt: &impl Abort, list: &mut ItemList<u8>, len: usize, left: &[u8]) {
 fn list_grows_and_is_cut_back(rt: HostRuntime) {
     let rt = &rt;
     let mut list = ItemList::from_slice(rt.alloc(), &[1, 2]).expect(rt, "items");
-    list.extend(&[3, 4, 5]).expect(rt, "items");
-    list.extend(&[]).expect(rt, "items");
-    are_bytes(rt, list.items(), &[1, 2, 3, 4, 5]);
-    cut_back(rt, &mut list, 9, &[1, 2, 3, 4, 5]);
-    cut_back(rt, &mut list, 5, &[1, 2, 3, 4, 5]);
-    cut_back(rt, &mut list, 2, &[1, 2]);
-    cut_back(rt, &mut list, 0, &[]);
-    list.extend(&[6]).expect(rt, "items");
-    are_bytes(rt, list.items(), &[6]);
+    for (change, want) in CHANGES {
+        assert_change(rt, &mut list, change, want);
+    }
 }
 
 /// What comes, how many of the first leave then, to how many the queue is cut back, and what is left.

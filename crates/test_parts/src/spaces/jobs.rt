@@ -34,15 +34,19 @@ fn assert_job(rt: &impl Abort, alloc: Global, space: &Space, ops: &[VOp], want: 
 }
 
 /// The part is this one.
-fn is_piece(rt: &impl Abort, piece: &Piece, want: &(BufId, u32, u32)) {
-    ensure(rt, (piece.b, piece.off, piece.len) == *want);
+fn is_piece(rt: &impl Abort, piece: Option<&Piece>, want: &(BufId, u32, u32)) {
+    match piece {
+        Some(piece) => ensure(rt, (piece.b, piece.off, piece.len) == *want),
+        None => ensure(rt, false),
+    }
 }
 
 /// The parts are these.
 fn are_pieces(rt: &impl Abort, pieces: &[Piece], want: &[(BufId, u32, u32)]) {
     ensure(rt, pieces.len() == want.len());
-    for (piece, told) in pieces.iter().zip(want.iter()) {
-        is_piece(rt, piece, told);
+    let mut pieces = pieces.iter();
+    for told in want {
+        is_piece(rt, pieces.next(), told);
     }
 }
 

@@ -92,19 +92,27 @@ fn is_told(step: VStep, want: Told) -> bool {
     }
 }
 
+/// The step is the one that is wanted.
+fn assert_step(rt: &impl Abort, step: Option<&VStep>, want: &Told) {
+    match step {
+        Some(step) => ensure(rt, is_told(*step, *want)),
+        None => ensure(rt, false),
+    }
+}
+
 /// The steps are these.
-fn assert_told(rt: &impl Abort, steps: &VSteps, want: &[Told]) {
-    let steps = steps.items();
+fn assert_told(rt: &impl Abort, steps: &[VStep], want: &[Told]) {
     ensure(rt, steps.len() == want.len());
-    for (step, told) in steps.iter().zip(want.iter()) {
-        ensure(rt, is_told(*step, *told));
+    let mut steps = steps.iter();
+    for told in want {
+        assert_step(rt, steps.next(), told);
     }
 }
 
 /// The request has these steps.
 fn assert_answer(rt: &impl Abort, alloc: Global, space: &mut Space, row: &(Request, &[Told])) {
     let steps = answer(rt, alloc, space, row.0);
-    assert_told(rt, &steps, row.1);
+    assert_told(rt, steps.items(), row.1);
 }
 
 /// The page is mapped to a page of a buffer, or to none.
