@@ -18,7 +18,7 @@ use ttm_base::{Mem, NoMemory, Span};
 ///
 /// # Errors
 ///
-/// Running out of memory. A count of 2^64 - 1 or more is answered so too: no memory holds a state with so many pages.
+/// Answers `NoMemory` also for a count of 2^64 - 1 or more: no memory holds a state with that many pages.
 pub fn accounts_of(alloc: Global, script: &Script, state: &State) -> Result<Accounts, NoMemory>
     ensures { IfOk result (AreAccountsOf script.now state.now.core) }
 {

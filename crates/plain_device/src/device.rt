@@ -57,7 +57,7 @@ impl Device {
     ///
     /// # Errors
     ///
-    /// Want of memory.
+    /// Lack of memory.
     pub fn new(alloc: Global, script: Script) -> Result<Device, NoMemory>
         requires { IsTrue (is_script script) }
         ensures { IfOk result (λ d. d ≡ record { script = script; journal = [] }) }
@@ -151,7 +151,7 @@ impl Device {
     ///
     /// # Errors
     ///
-    /// Want of memory; nothing is changed.
+    /// Lack of memory; nothing is changed.
     pub fn step(&mut self, who: Actor) -> Result<Turn, NoMemory>
         ensures turn { IfOk result (λ t. t ≡ turn_of self.old who) }
         ensures made { OnOk result (self.new ≡ after_turn self.old who) }
@@ -176,7 +176,7 @@ impl Device {
     ///
     /// # Errors
     ///
-    /// Want of memory.
+    /// Lack of memory.
     pub fn next_actor(&self) -> Result<Option<Actor>, NoMemory>
         ensures { IfOk result (λ found. found ≡ find (can_step self.now.script (state_of self.now.script self.now.journal)) (own_order self.now.script (state_of self.now.script self.now.journal))) }
     {

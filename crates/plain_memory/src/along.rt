@@ -16,7 +16,7 @@ use rules_state::{commands_of, ops_of};
 use std::alloc::Global;
 use ttm_base::NoMemory;
 
-/// The command that a thread is at, where so many commands of each thread are answered.
+/// The command that a thread is at; `answered` has how many commands of each thread are answered.
 fn command_by<'a>(script: &'a Script, answered: &Numbers, thread: u32) -> Option<&'a Command>
     ensures { option_copied result ≡ words.command_by script.now answered.now thread }
 {
@@ -65,7 +65,7 @@ fn answer(memory: &mut PlainMemory, command: Option<&Command>)
     }
 }
 
-/// Brings the memory behind an entry of a thread at this command.
+/// Brings the memory after an entry of a thread at this command.
 fn put_entry(
     alloc: Global,
     memory: &mut PlainMemory,
@@ -132,7 +132,7 @@ fn count_with(count: u64, found: bool) -> u64
     if found { count + 1 } else { count }
 }
 
-/// No answers of so many threads, and none of thread 0, which there isn't.
+/// No answers of `threads` threads, and none of thread 0, which doesn't exist.
 #[tactic(auto, using(crate::proofs::AlongLaws::replicate_push))]
 fn no_answers(alloc: Global, threads: usize) -> Result<Numbers, NoMemory>
     ensures { IfOk result (λ answered. answered ≡ replicate (threads + 1) 0) }

@@ -47,7 +47,7 @@ fn can_show_result(script: &Script, state: &State, thread: u32) -> bool
         )
 }
 
-/// The search may go on behind its k-th place.
+/// The search may go on after its k-th place.
 fn can_go_dry(state: &State, thread: u32, k: u32) -> bool
     ensures { IsTrue result ↔ facts.CanGoDry state.now thread k }
 {

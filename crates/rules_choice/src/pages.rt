@@ -28,7 +28,7 @@ pub fn free_marks(alloc: Global, held: &[Span], size: u32) -> Result<Vec<bool>, 
     Ok(marks)
 }
 
-/// Puts a free page behind all holes so far: it widens the last one that it touches, or is a new one.
+/// Puts a free page after all holes so far: it widens the last one that it touches, or is a new one.
 fn add_page(holes: &mut Spans, page: u32) -> Result<(), NoMemory>
     requires { page + 1 < 2 ^ 32 }
     ensures { OnOk result (holes.new ≡ words.with_page page holes.old) }

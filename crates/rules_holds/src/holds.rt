@@ -46,7 +46,7 @@ fn live_spans(alloc: Global, mem: Mem, buffers: &[Option<Buffer>]) -> Result<Spa
     Ok(spans)
 }
 
-/// Puts the spans of ghosts in a memory type behind others.
+/// Puts the spans of ghosts in a memory type after others.
 fn push_ghosts(spans: &mut Spans, mem: Mem, ghosts: &[Ghost]) -> Result<(), NoMemory>
     ensures { OnOk result (spans.new ≡ spans.old ++ flat_map (words.ghost_spans mem) ghosts.now) }
 {

@@ -40,7 +40,7 @@ fn is_unfinished_at(jobs: &[Job], at: usize, i: JobId) -> bool
 }
 
 /// One of these jobs has the name and isn't done. It is looked for from the place to the end, then before the place, which is left
-/// behind the job that is found: who looks for jobs in the order in which they stand finds each at once.
+/// after the job that is found: who looks for jobs in the order in which they stand finds each at once.
 #[tactic(auto, using(crate::proofs::OpenJobs::found))]
 fn has_unfinished_near(jobs: &[Job], place: &mut usize, i: JobId) -> bool
     ensures { result ≡ is_open jobs.now i }
@@ -115,7 +115,7 @@ fn are_last(core: &Core, run: JobRun) -> bool
     run.count == 0 || is_within(run, core.jobs.row())
 }
 
-/// The run without its first jobs, so many, of which it has more.
+/// The run without its first `count` jobs; it has more than these.
 fn behind(run: JobRun, count: u64) -> JobRun
     requires count { count < run.count }
     requires fits { IsTrue (fits run) }
@@ -182,7 +182,7 @@ pub fn waited_for(core: &Core, jobs: &JobIds) -> Option<JobId>
     named
 }
 
-/// Puts those of a run's jobs that aren't done behind others, one by one.
+/// Puts those of a run's jobs that aren't done after others, one by one.
 fn push_each_open(
     jobs: &mut JobIds,
     core: &Core,
@@ -206,7 +206,7 @@ fn push_each_open(
     Ok(())
 }
 
-/// Puts those of a run's jobs that aren't done behind others, from a least number on: at once, where all of those that may not be are of
+/// Puts those of a run's jobs that aren't done after others, from a least number on: at once, where all of those that may not be are of
 /// the last jobs.
 fn push_open_from(
     jobs: &mut JobIds,
@@ -231,7 +231,7 @@ fn push_open_from(
     }
 }
 
-/// Puts those of a run's jobs that aren't done behind others: with no look at the other jobs, where all of them are of the last ones.
+/// Puts those of a run's jobs that aren't done after others: with no look at the other jobs, where all of them are of the last ones.
 fn push_open(jobs: &mut JobIds, core: &Core, look: &mut Look, run: JobRun) -> Result<(), NoMemory>
     requires look { IsLook core.now look.old }
     requires fits { IsTrue (fits run) }

@@ -283,11 +283,11 @@ fn step_of_reaper(state: &State) -> Step
 }
 
 /// The entry that an actor makes next, or what it needs first. The bytes that a read or a probe shows are left empty. The marks are
-/// those of the frames that are held in the state; without them, a step that takes a frame marks them anew.
+/// those of the frames that are held in the state; without them, a step that takes a frame marks them again.
 ///
 /// # Errors
 ///
-/// Want of memory; nothing is changed.
+/// Lack of memory; nothing is changed.
 pub fn next_with(
     alloc: Global,
     script: &Script,
@@ -310,7 +310,7 @@ pub fn next_with(
 ///
 /// # Errors
 ///
-/// Want of memory; nothing is changed.
+/// Lack of memory; nothing is changed.
 pub fn next(alloc: Global, script: &Script, state: &State, who: Actor) -> Result<Step, NoMemory>
     requires { HasRoom script.now state.now }
     ensures { IfOk result (λ step. step ≡ words.next script.now state.now who) }

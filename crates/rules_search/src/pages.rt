@@ -112,7 +112,7 @@ fn frame_to_give(
     }
 }
 
-/// The next page with the lowest free frame; without one, a victim for swap. The frames that are held are marked anew where no marks
+/// The next page with the lowest free frame; without one, a victim for swap. The frames that are held are marked again where no marks
 /// are given.
 pub fn step_of_fill(
     alloc: Global,

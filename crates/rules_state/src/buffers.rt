@@ -53,7 +53,7 @@ pub fn dead_buffer(alloc: Global) -> Buffer
     }
 }
 
-/// Makes a buffer of so many `pages`, which stand nowhere.
+/// Makes a buffer of `pages` pages, which are nowhere.
 pub fn new_buffer(alloc: Global, pages: u32) -> Result<Buffer, NoMemory>
     ensures { IfOk result (λ x. x ≡ words.new_buffer pages) }
 {

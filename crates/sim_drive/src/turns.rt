@@ -49,7 +49,7 @@ fn take_turn(device: &mut Device, schedule: &[Actor], turn: u64) -> Result<(), N
 ///
 /// # Errors
 ///
-/// Want of memory; then fewer turns were taken.
+/// Lack of memory; then fewer turns were taken.
 pub fn drive(alloc: Global, device: &mut Device, allowed: u64) -> Result<u64, NoMemory>
     requires { device.old.journal ≡ [] }
     ensures turns { IfOk result (λ n. EndsAfter device.old.script allowed n) }

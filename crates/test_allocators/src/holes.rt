@@ -15,7 +15,7 @@ const LONG: Span = Span { start: 4, end: 10 };
 
 const HIGH: Span = Span { start: 40, end: 42 };
 
-/// A request for so many pages within a first and a last page, and the hole for it.
+/// A request for a number of pages within a first and a last page, and the hole for it.
 type Row = (Mode, u32, u32, u32, Option<Span>);
 
 /// The hole for a request.
@@ -56,7 +56,7 @@ fn assert_holes(rt: &impl Abort, holes: &Holes, rows: &[Row]) {
     }
 }
 
-/// No holes, with nodes for so many.
+/// Makes no holes, with nodes for a number of them.
 fn no_holes(rt: &impl Abort, alloc: Global, nodes: u32) -> Holes
     ensures holes { result.holes ≡ [] }
     ensures spare { result.spare ≡ max 0 nodes }

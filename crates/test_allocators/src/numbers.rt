@@ -11,7 +11,7 @@ fn assert_free(rt: &impl Abort, map: &FreeMap, count: u32, lowest: Option<u32>) 
     ensure(rt, map.first() == lowest);
 }
 
-/// The number is the lowest free one, and is taken. Then so many are free, and this is the lowest of them.
+/// The number is the lowest free one, and is taken. Then the stated number is free, and this is the lowest of them.
 fn takes(rt: &impl Abort, map: &mut FreeMap, number: u32, count: u32, lowest: Option<u32>)
     ensures { map.new ≡ slice_set map.old number true }
 {
@@ -41,7 +41,7 @@ fn assert_free_frames(rt: &impl Abort, pool: &PagePool, count: u32, lowest: Opti
     ensure(rt, pool.first() == lowest);
 }
 
-/// The frame is the lowest free one, and is taken. Then so many are free, and this is the lowest of them.
+/// The frame is the lowest free one, and is taken. Then the stated number is free, and this is the lowest of them.
 fn takes_frame(rt: &impl Abort, pool: &mut PagePool, frame: u32, count: u32, lowest: Option<u32>)
     ensures { pool.new ≡ slice_set pool.old frame true }
 {

@@ -12,7 +12,7 @@ const FIVE: &[Span] = &[
     Span { start: 11, end: 16 },
 ];
 
-/// A request for pages from a first page up to a last one, aligned to so many pages.
+/// A request for pages from a first page up to a last one, aligned to a number of pages.
 struct Request {
     pages: u32,
     align: u32,
@@ -33,7 +33,7 @@ enum Step {
     Choose(Request, Option<Span>),
     /// A request, whose answer is also the choice before it.
     Insert(Request, Result<Span, InsertFault>),
-    /// So many pages are free, and so many are used.
+    /// Asserts how many pages are free and how many are used.
     Lengths(u32, u32),
 }
 

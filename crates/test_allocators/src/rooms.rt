@@ -147,7 +147,7 @@ fn run<M: Manager>(rt: &impl Abort, alloc: Global, room: &mut M, step: &Step) {
     }
 }
 
-/// Each step gets what it is to get, and after the last one so many pages are free or held.
+/// Each step gets what it is to get, and after the last one these numbers of pages are free or held.
 fn ends_with<M: Manager + Drop>(
     rt: &impl Abort,
     alloc: Global,

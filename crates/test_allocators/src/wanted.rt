@@ -23,7 +23,7 @@ pub fn are_spans(rt: &impl Abort, got: &[Span], want: &[Span]) {
     ensure(rt, got == want);
 }
 
-/// So many pages are free, and so many are used.
+/// Asserts how many pages are free and how many are used.
 pub fn are_lengths(rt: &impl Abort, got: (u32, u32), free: u32, used: u32) {
     ensure(rt, got == (free, used));
 }

@@ -204,7 +204,7 @@ impl Case {
         Ok(())
     }
 
-    /// Puts so many letters x at the end of the text.
+    /// Puts `count` letters x at the end of the text.
     fn put_letters(&mut self, alloc: Global, count: u32) -> Result<()>
         ensures { OnOk result (self.new.text.items ≡ self.old.text.items ++ replicate count 120) }
     {

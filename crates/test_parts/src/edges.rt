@@ -15,7 +15,7 @@ fn source(rt: &impl Abort, alloc: Global, chunk: usize, fails: &[u64]) -> MemSou
     MemSource::new(bytes, chunk.max(1), fails)
 }
 
-/// A sink of so many bytes, whose listed writes fail.
+/// A sink of `room` bytes, whose listed writes fail.
 fn sink(rt: &impl Abort, alloc: Global, room: usize, chunk: usize, fails: &[u64]) -> MemSink {
     let fails = Vec::from_slice(alloc, fails).expect(rt, "numbers");
     MemSink::new(alloc, room, chunk.max(1), fails).expect(rt, "a sink")

@@ -35,7 +35,7 @@ fn evict(lru: &mut Lru) -> Option<BufId> {
     None
 }
 
-/// The buffer stands at the place. Gives the one behind it in its list, if it is on one.
+/// The buffer stands at the place. Gives the one after it in its list, if it is on one.
 fn follows(rt: &impl Abort, lru: &Lru, at: Option<BufId>, b: u32) -> Option<BufId> {
     let b = BufId(b);
     is_buffer(rt, at, Some(b));
@@ -58,7 +58,7 @@ fn touch(rt: &impl Abort, lru: &mut Lru, b: BufId) {
     lru.touch(b);
 }
 
-/// The odd numbers below 200, and the even ones behind them.
+/// The odd numbers below 200, and the even ones after them.
 fn odd_before_even(place: u32) -> u32
     requires { place < 200 }
 {
@@ -103,10 +103,10 @@ fn moved_in<L: Ledger>(lru: &mut Lru, prio: u32, blank: Blank)
 
 const THREE: &[(u32, Option<u32>)] = &[(0, Some(0)), (1, None), (2, Some(0))];
 
-/// The victims in order, and the buffer that is listed behind each, with its priority.
+/// The victims in order, and the buffer that is listed after each, with its priority.
 const VICTIMS: &[(u32, u32, u32)] = &[(1, 3, 1), (0, 4, 1), (2, 5, 1), (3, 6, 0), (6, 7, 1)];
 
-/// Evicts the victims, and lists a buffer behind each.
+/// Evicts the victims, and lists a buffer after each.
 fn evict_all(rt: &impl Abort, lru: &mut Lru) {
     for (victim, next, prio) in VICTIMS {
         is_buffer(rt, evict(lru), Some(BufId(*victim)));

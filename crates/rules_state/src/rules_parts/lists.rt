@@ -21,7 +21,7 @@ pub fn taken_off(alloc: Global, lists: &[BufIds], b: BufId) -> Result<Lists, NoM
     Ok(rest)
 }
 
-/// Where a buffer comes in a list: behind the last of its mates, or at the end.
+/// Where a buffer comes in a list: after the last of its mates, or at the end.
 fn place_in(script: &Script, list: &[BufId], b: BufId) -> usize
     ensures { result ≡ unwrap_or (words.behind_last (words.is_mate script.now b) list.now) (length list.now) }
 {
@@ -34,7 +34,7 @@ fn place_in(script: &Script, list: &[BufId], b: BufId) -> usize
     at
 }
 
-/// Puts a buffer into a list behind the last of its mates.
+/// Puts a buffer into a list after the last of its mates.
 #[tactic(auto, using(crate::proofs::rules_parts::OrderLaws::behind_last_within))]
 fn put_in(script: &Script, list: &mut BufIds, b: BufId) -> Result<(), NoMemory>
     ensures { OnOk result (list.new ≡ words.placed_in (words.is_mate script.now b) b list.old) }
@@ -158,7 +158,7 @@ fn with_members_last(
     Ok(new)
 }
 
-/// The lists, on each the members of a group behind the others.
+/// The lists, on each the members of a group after the others.
 pub fn members_last(
     alloc: Global,
     script: &Script,

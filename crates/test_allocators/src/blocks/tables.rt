@@ -35,7 +35,7 @@ macro_rules! block {
     };
 }
 
-/// Requests for so many pages, each to a manager of this size of which only these pages are held.
+/// Requests for numbers of pages, each to a manager of this size of which only these pages are held.
 pub struct Table {
     pub size: u32,
     pub held: &'static [u32],

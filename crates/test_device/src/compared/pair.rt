@@ -19,7 +19,7 @@ use ttm_base::{Actor, Logged, NoMemory, Turn};
 #[derive(Drop)]
 pub struct Asked {
     pub device: Device,
-    /// How many turns it couldn't take for want of memory, and took when it was asked again.
+    /// How many turns it couldn't take for lack of memory, and took when it was asked again.
     pub refused: u64,
 }
 
@@ -89,7 +89,7 @@ impl Pair {
     ///
     /// # Errors
     ///
-    /// Want of memory.
+    /// Lack of memory.
     pub fn of(alloc: Global, text: &[u8], when: When) -> Result<Option<Pair>, NoMemory>
         ensures { IfOk result (λ found. IfSome found (λ pair. AreInStep pair.replay.plain pair.replay.rooms)) }
     {
@@ -119,7 +119,7 @@ impl Pair {
         Ok(())
     }
 
-    /// What is to be the same behind a turn: the number of entries, whether all is over, how far the contexts are.
+    /// What is to be the same after a turn: the number of entries, whether all is over, how far the contexts are.
     fn compare_turn(&self) -> Result<(), Stop> {
         let device = &self.asked.device;
         let plain = &self.replay.plain;
@@ -129,11 +129,11 @@ impl Pair {
         self.compare_done()
     }
 
-    /// What is to be the same at the start and behind an entry: beside that, what the parts tell, if they are compared then.
+    /// What is to be the same at the start and after an entry: beside that, what the parts tell, if they are compared then.
     ///
     /// # Errors
     ///
-    /// A difference, or want of memory.
+    /// A difference, or lack of memory.
     pub fn compare_entry(&self) -> Result<(), Stop>
         requires { AreInStep self.now.replay.plain self.now.replay.rooms }
     {
@@ -148,7 +148,7 @@ impl Pair {
     ///
     /// # Errors
     ///
-    /// A difference, or want of memory.
+    /// A difference, or lack of memory.
     pub fn step(&mut self, who: Actor) -> Result<Turn, Stop>
         requires { AreInStep self.old.replay.plain self.old.replay.rooms }
         ensures { OnOk result (AreInStep self.new.replay.plain self.new.replay.rooms) }
@@ -168,7 +168,7 @@ impl Pair {
     ///
     /// # Errors
     ///
-    /// A difference, or want of memory.
+    /// A difference, or lack of memory.
     pub fn step_next(&mut self) -> Result<Option<Actor>, Stop>
         requires { AreInStep self.old.replay.plain self.old.replay.rooms }
         ensures { OnOk result (AreInStep self.new.replay.plain self.new.replay.rooms) }
@@ -210,11 +210,11 @@ impl Pair {
         }
     }
 
-    /// What is to be the same behind all turns: all entries, results, accounts and bytes, and what the parts tell.
+    /// What is to be the same after all turns: all entries, results, accounts and bytes, and what the parts tell.
     ///
     /// # Errors
     ///
-    /// A difference, or want of memory.
+    /// A difference, or lack of memory.
     pub fn compare_end(&self) -> Result<(), Stop>
         requires { AreInStep self.now.replay.plain self.now.replay.rooms }
     {

@@ -130,7 +130,7 @@ fn compare_aperture(replay: &Replay) -> Result<(), Stop> {
     Ok(())
 }
 
-/// The buffer behind another in its list, if it is on one.
+/// The buffer after another in its list, if it is on one.
 fn listed_behind(rooms: &Rooms, b: BufId) -> Option<BufId> {
     if rooms.lru().is_listed(b) {
         rooms.lru().next(b)

@@ -53,7 +53,7 @@ fn forty_pages(rt: &impl Abort, alloc: Global) -> ByteStore
     ByteStore::new(alloc, 40).expect(rt, "pages")
 }
 
-/// A byte far from others stands between zeros, and pages behind it are zeros.
+/// A byte far from others stands between zeros, and pages after it are zeros.
 #[test]
 fn byte_far_from_others(rt: HostRuntime) {
     let rt = &rt;

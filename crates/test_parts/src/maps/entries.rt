@@ -74,7 +74,7 @@ fn take_event(maps: &mut CpuMaps, event: Event) -> Faults {
 }
 
 /// A buffer is written and read in SYSTEM, read in VRAM, to which it comes through TT, and evicted and read: each access with the pages that
-/// fault, and the entries behind it.
+/// fault, and the entries after it.
 const ONE_BUFFER: &[(Event, Faults, Pages)] = &[
     (Event::Access(1, A, FRAMES), BOTH, FRAMES),
     (Event::Access(1, A, FIRST_FRAME), NEITHER, FRAMES),
@@ -99,7 +99,7 @@ fn accesses_fault_once(rt: HostRuntime) {
     }
 }
 
-/// Two threads map a buffer, and the first another one, too: the entries of the three mappings behind each event.
+/// Two threads map a buffer, and the first another one, too: the entries of the three mappings after each event.
 const TWO_BUFFERS: &[(Event, (Pages, Pages, Pages))] = &[
     (Event::Access(1, A, FRAMES), (FRAMES, NONE, NONE)),
     (Event::Access(2, A, FRAMES), (FRAMES, FRAMES, NONE)),

@@ -23,7 +23,7 @@ pub enum Request {
     Unmap(u32, u32),
 }
 
-/// A step, with pages from a first up to a last: a mapping goes, keeps what is before and behind, or is new.
+/// A step, with pages from a first up to a last: a mapping goes, keeps what is before and after, or is new.
 #[derive(Clone, Copy)]
 enum Told {
     Gone(u32, u32),
