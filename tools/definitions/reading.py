@@ -7,6 +7,9 @@ from typing import Callable, Dict, List, Optional
 from values import Record, Value, Variant
 
 MEMORIES = {"sys": "System", "tt": "Tt", "vram": "Vram"}
+REASONS = {"vram": "Vram", "tt": "Tt", "swap": "Swap"}
+CAUSES = {"pinned": "Pinned", "reserved": "Reserved", "outside": "Outside", "skipped": "Skipped"}
+REFUSALS = {name: name for name in ("NoBuffer", "Exists", "Pinned", "NotPinned", "PinMax", "NoSpace", "NoPages", "NoSwap")}
 # How the fields of each kind are read, after its word.
 KINDS: Dict[str, str] = {
     "ticket": "Ticket stamp", "reserve": "Reserve buffer", "backoff": "Backoff buffer stamp", "new": "New buffer", "free": "Free buffer number",
@@ -14,7 +17,7 @@ KINDS: Dict[str, str] = {
     "swapin": "SwapIn buffer number number number", "depopulate": "Depopulate buffer", "bind": "Bind buffer", "unbind": "Unbind buffer",
     "move": "Move buffer memory number left", "catch": "Catch buffer why", "loose": "Loose buffer", "skip": "Skip buffer", "dry": "Dry buffer number dry",
     "swapout": "SwapOut buffer number number", "nopages": "NoPages buffer", "arm": "Arm engine number", "packet": "Packet number number",
-    "done": "Done number", "reap": "Reap number", "bulk": "Bulk number", "refused": "Refused word",
+    "done": "Done number", "reap": "Reap number", "bulk": "Bulk number", "refused": "Refused refusal",
 }  # fmt: skip
 
 
@@ -30,10 +33,10 @@ class EntryReader:
             "memory": lambda word: Variant(MEMORIES[word]),
             "spans": self.spans,
             "left": lambda word: Variant("Now") if word == "now" else Variant("Ghost", (int(word),)),
-            "why": lambda word: Variant(word.capitalize()),
+            "why": lambda word: Variant(REASONS[word]),
             "dry": self.dry,
             "engine": lambda word: int(word[1:]),
-            "word": Variant,
+            "refusal": lambda word: Variant(REFUSALS[word]),
         }
 
     def entry(self, line: str) -> Optional[Record]:
@@ -80,5 +83,5 @@ class EntryReader:
 
     def cause(self, word: str) -> Record:
         name, cause, *stamp = word.split(":")
-        arguments = (Record({"0": int(stamp[0])}),) if stamp else ()
-        return Record({"b": self.buffer(name), "cause": Variant(cause.capitalize(), arguments)})
+        arguments = (Record({"0": int(stamp[0])}),) if CAUSES[cause] == "Reserved" else ()
+        return Record({"b": self.buffer(name), "cause": Variant(CAUSES[cause], arguments)})
