@@ -79,7 +79,9 @@ class EntryReader:
         return [Record({"start": int(start), "end": int(end)}) for start, end in (span.split("-") for span in word.split(","))]
 
     def dry(self, word: str) -> Variant:
-        return Variant("Short") if word == "short" else Variant("Of", ([self.cause(row) for row in word.split(",")],))
+        if word == "short":
+            return Variant("Short")
+        return Variant("Of", ([] if word == "-" else [self.cause(row) for row in word.split(",")],))
 
     def cause(self, word: str) -> Record:
         name, cause, *stamp = word.split(":")
