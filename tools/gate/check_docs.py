@@ -31,7 +31,7 @@ In backquotes, outside of blocks of code, are checked:
   `crate/Module.name`, `Module.name`  a definition (abbrev, record, data, field, lemma) of crates/crate/specs/Module.antt or of
                                       its proofs/, without a crate of any; `Module.antt` is the file alone; for a crate may
                                       stand a part of one, a module that has a page beside the crate's
-  `name_of_it`, `NameOfIt`            a name of anything above, of a clause, a crate, an edit, an example, or a word in a source
+  `name_of_it`, `NameOfIt`            a name of anything above, of a clause, a crate, an edit, an example, a case of test_device, or a word in a source
   `crate::f` (one, other)             a function with clauses of these names
   `name()`, `struct name`             the kernel's, which isn't checked; nor is a name that begins as one of KERNEL below
 
@@ -100,6 +100,9 @@ class Index:
                         self.read_definitions(part, path)
             for path in (TOP / "crates" / crate).glob("must-fail/*"):
                 self.words.add(path.stem)
+            for path in (TOP / "crates" / crate).glob("stdin"):
+                # (a row of cases is named by what stands before the slash)
+                self.words.update(re.findall(rf"^case ({WORD})", path.read_text(errors="replace"), re.M))
         self.words |= self.crates | self.libraries | {path.stem for path in (TOP / "examples").iterdir()}
         self.words |= {path.stem for path in tools_below(TOP / "tools")}
 

@@ -26,7 +26,7 @@ pub record HaveScript (bytes : Text) : Type 0 where
   pub script : Script
   pub spelled : IsScript (script_part bytes) script
 
--- a script without a report of a legal, complete journal behind it
+-- a script without a report of a legal, complete journal after it
 pub record AreInvalid (bytes : Text) : Type 0 where
   pub few : length bytes ≤ check_limit
   pub script : HaveScript bytes
@@ -45,7 +45,7 @@ abbrev pub VerdictsAreExact : Type 0
 VerdictsAreExact =
     (source sink : Edge) (s : Status) (bytes : Text) → source.before ≡ Some bytes → EndsChecked source sink s → IsTrue (is_verdict s) → IsExact bytes sink s
 
--- the bytes are those of a script and, behind it, the report of a legal, complete journal of it
+-- the bytes are those of a script and, after it, the report of a legal, complete journal of it
 pub record AreScriptAndReport (bytes : Text) : Type 0 where
   pub script_bytes : Text
   pub script : Script

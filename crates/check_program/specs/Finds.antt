@@ -1,4 +1,4 @@
--- What a source comes to that has a script and a report behind it, and the text and the status that are due for that.
+-- What a source comes to that has a script and a report after it, and the text and the status that are due for that.
 use Rattle.std.specs.Prelude.{◌≡◌, ℕ, ◌+◌, ◌≤◌, ◌++◌, ◌∷◌, [], ◌⊎◌, Some, codes, decimal, length}
 use Rattle.journal_model.specs.declared.script.Script.{Script}
 use Rattle.journal_model.specs.Words.{Text, line}

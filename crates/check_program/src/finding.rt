@@ -54,11 +54,11 @@ fn judged(alloc: Global, script: &Script, report: &[u8]) -> Result<Finding, NoMe
     }
 }
 
-/// What bytes come to: a script, and a report behind it.
+/// What bytes come to: a script, and a report after it.
 ///
 /// # Errors
 ///
-/// Want of memory.
+/// Lack of memory.
 pub fn finding_in(alloc: Global, bytes: &[u8]) -> Result<Finding, NoMemory>
     ensures { IfOk result (FindsIn bytes.now) }
 {

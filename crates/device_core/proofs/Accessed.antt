@@ -1,4 +1,4 @@
--- What the answer of a thread tells of its access, and of the state behind it.
+-- What the answer of a thread tells of its access, and of the state after it.
 use Rattle.std.proofs.Common.{◌≡◌, ℕ, ◌+◌, ◌*◌, ◌/◌, ◌<◌, ◌≤◌, ◌^◌, true, false, List, [], ◌∷◌, ◌++◌, Option, Some, None, IsTrue, ap, refl, sym, ◌∙◌, subst, length, if◌then◌else◌, arith}
 use Rattle.std.specs.Prelude.{◌&&◌, IsSome, is_some, nat_le, nat_lt, option_map, unwrap_or}
 use Rattle.std.specs.List.{list_all}
@@ -92,7 +92,7 @@ found_from script t n e found (Some a) at h = by (mapped_from script t n a.b) h
     by None g = cc
     by (Some from) g = let it : record { thread = t; pages = paged a } ≡ found = cc in record { access = a; at = at; is = sym it }
 
--- ---- the state behind
+-- ---- the state after
 
 shown_answer : (script : Script) (stores : Stores) (s : State) (who : Actor) (k : Kind) → is_answer (showing script stores s who k) ≡ is_answer k
 shown_answer script stores s who (kind.Packet n j piece) = refl

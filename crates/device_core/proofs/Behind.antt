@@ -1,4 +1,4 @@
--- The areas behind an answer of a thread, as the rooms tell it.
+-- The areas after an answer of a thread, as the rooms tell it.
 use Rattle.std.proofs.Common.{◌≡◌, ℕ, ◌+◌, ◌-◌, ◌<◌, ◌≤◌, ◌^◌, List, [], ◌∷◌, ◌++◌, Some, None, IsTrue, ap, refl, sym, subst, ◌∙◌, length, arith}
 use Rattle.std.specs.Prelude.{IsSome, fold}
 use Rattle.bo_table.specs.declared.bo.Bo.{Bo}

@@ -1,4 +1,4 @@
--- Of each context the greatest number that entries end is how many of its jobs are done behind them, as the timeline tells.
+-- Of each context the greatest number that entries end is how many of its jobs are done after them, as the timeline tells.
 use Rattle.std.proofs.Common.{◌≡◌, ℕ, zero, suc, ◌+◌, ◌-◌, ◌<◌, ◌≤◌, Bool, true, false, cond, List, [], ◌∷◌, ◌++◌, length, Some, Ok, IsTrue, refl, sym, subst, ◌∙◌, ap, ap₂, arith, ⊎_elim}
 use Rattle.std.specs.Prelude.{◌==◌, ◌&&◌, map, max, slice_get, if◌then◌else◌}
 use Rattle.std.proofs.lemmas.Grind.{common_steps}

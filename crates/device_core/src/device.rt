@@ -58,7 +58,7 @@ impl Device {
     ///
     /// # Errors
     ///
-    /// Want of memory.
+    /// Lack of memory.
     pub fn new(alloc: Global, script: Script) -> Result<Device, NoMemory>
         requires { IsTrue (is_script script) }
         ensures { IfOk result (λ d. d ≡ record { script = script; journal = [] }) }
@@ -200,7 +200,7 @@ impl Device {
     ///
     /// # Errors
     ///
-    /// Want of memory; nothing is changed.
+    /// Lack of memory; nothing is changed.
     pub fn step_next(&mut self) -> Result<Option<Actor>, NoMemory>
         ensures found { IfOk result (λ found. found ≡ next_actor self.old) }
         ensures made { OnOk result (self.new ≡ after_found self.old (next_actor self.old)) }

@@ -10,7 +10,7 @@ use journal_model::Entry;
 use map_follow::{answerer, end_mappings, fault_in, found_by, leave};
 use room_state::Rooms;
 
-/// Does to mappings what the last entry does, which answers a thread: what it found has entries, and mappings end behind it.
+/// Does to mappings what the last entry does, which answers a thread: what it found has entries, and mappings end after it.
 fn follow_answer(maps: &mut CpuMaps, rooms: &Rooms, before: &[Entry], entry: &Entry, thread: u32)
     requires last { rooms.now.journal ≡ before.now ++ entry.now ∷ [] }
     requires who { words.answerer entry.now ≡ Some thread }

@@ -152,6 +152,6 @@ row_more script reservations place slots i slot at =
     ∙ filter_map-append f (filter_map live_entry before) (filter_map live_entry ((i, slot) ∷ []))
     ∙ ap (λ rows. filter_map f (filter_map live_entry before) ++ rows) (row_of_slot f i slot)
 
--- behind the last one they are all
+-- after the last one they are all
 pub rows_all : (script : Script) (s : State) (place : Place) (n : ℕ) → length s.core.buffers ≤ n → rows_up_to script s.reservations place s.core.buffers n ≡ causes script s place
 rows_all script s place n h = ap (λ xs. filter_map (cause_row script s.reservations place) (filter_map live_entry (enumerate_from 0 xs))) (take_all n s.core.buffers h)

@@ -1,4 +1,4 @@
--- Walking a list from buffer to buffer, and four lists one behind the other.
+-- Walking a list from buffer to buffer, and four lists one after the other.
 use Rattle.std.proofs.Common.{◌≡◌, ℕ, zero, suc, ◌+◌, ◌≤◌, Bool, true, false, List, [], ◌∷◌, ◌++◌, Option, Some, None, refl, sym, ◌∙◌, ap, subst, arith, length}
 use Rattle.std.specs.Prelude.{◌||◌, ◌&&◌, not, find, take, drop, flat_map, slice_get, slice_index_or, if◌then◌else◌}
 use Rattle.std.proofs.lemmas.List.{append-nil}
@@ -33,7 +33,7 @@ pub first_in : (d : BufId) (l : List BufId) → slice_get l 0 ≡ Some d → has
 first_in d [] q = cc
 first_in d (x ∷ xs) q = let e : x ≡ d = cc in subst (λ y. has_buffer (y ∷ xs) d ≡ true) (sym e) (rw (same_self d) refl)
 
--- the one behind another is in the list
+-- the one after another is in the list
 pub behind_is : (b d : BufId) (l : List BufId) → behind b l ≡ Some d → has_buffer l d ≡ true
 behind_is b d [] h = cc
 behind_is b d (c ∷ cs) h = by (behind_is b d cs) (same_buffer b c) refl h

@@ -11,7 +11,7 @@ abbrev pub from_on : BufId → List BufId → List BufId
 from_on b [] = []
 from_on b (c ∷ cs) = if b.0 == c.0 then c ∷ cs else from_on b cs
 
--- nothing, behind the end
+-- nothing, after the end
 abbrev pub left_from : Option BufId → List BufId → List BufId
 left_from None l = []
 left_from (Some b) l = from_on b l

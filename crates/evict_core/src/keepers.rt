@@ -91,7 +91,7 @@ fn row_in(script: &Script, place: Place, b: BufId, bo: &Bo) -> Option<CauseRow>
 ///
 /// # Errors
 ///
-/// Want of memory.
+/// Lack of memory.
 pub(crate) fn causes(alloc: Global, rooms: &Rooms, place: Place) -> Result<Causes, NoMemory>
     ensures { IfOk result (λ rows. rows ≡ words.causes rooms.now.script (state_behind rooms.now) place) }
 {

@@ -49,7 +49,7 @@ pub fn next_victim(rooms: &Rooms, thread: u32) -> Option<BufId>
 ///
 /// # Errors
 ///
-/// Want of memory; nothing is changed.
+/// Lack of memory; nothing is changed.
 pub fn catch(rooms: &mut Rooms, thread: u32) -> Result<bool, NoMemory>
     requires stage { stage_of (task_of rooms.old.script (state_behind rooms.old) thread) ≡ stage.Search }
     requires none { finds_choice rooms.old.script (state_behind rooms.old) thread ≡ false }
@@ -93,7 +93,7 @@ fn make_dry(
 ///
 /// # Errors
 ///
-/// Want of memory; nothing is changed.
+/// Lack of memory; nothing is changed.
 pub fn dry(alloc: Global, rooms: &mut Rooms, thread: u32) -> Result<Step, NoMemory>
     requires stage { stage_of (task_of rooms.old.script (state_behind rooms.old) thread) ≡ stage.Search }
     requires none { finds_choice rooms.old.script (state_behind rooms.old) thread ≡ false }
@@ -118,7 +118,7 @@ pub fn dry(alloc: Global, rooms: &mut Rooms, thread: u32) -> Result<Step, NoMemo
 ///
 /// # Errors
 ///
-/// Want of memory; nothing is changed.
+/// Lack of memory; nothing is changed.
 pub fn skip(rooms: &mut Rooms, thread: u32) -> Result<Step, NoMemory>
     requires { is_skip (task_of rooms.old.script (state_behind rooms.old) thread) ≡ true }
     ensures step { IfOk result (λ step. step ≡ step_of (entry_of rooms.old (actor.Thread thread))) }
@@ -135,7 +135,7 @@ pub fn skip(rooms: &mut Rooms, thread: u32) -> Result<Step, NoMemory>
 ///
 /// # Errors
 ///
-/// Want of memory; nothing is changed.
+/// Lack of memory; nothing is changed.
 pub fn loose(rooms: &mut Rooms, thread: u32) -> Result<Step, NoMemory>
     requires stage { stage_of (task_of rooms.old.script (state_behind rooms.old) thread) ≡ stage.Empty }
     requires goes { lets_go (entry_of rooms.old (actor.Thread thread)) ≡ true }

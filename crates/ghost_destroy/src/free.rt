@@ -38,7 +38,7 @@ fn kind_of_free(rooms: &Rooms, b: BufId) -> Kind
 ///
 /// # Errors
 ///
-/// Want of memory; nothing is changed.
+/// Lack of memory; nothing is changed.
 pub fn hold(rooms: &mut Rooms, thread: u32) -> Result<Step, NoMemory>
     requires { free_due rooms.old.script (state_behind rooms.old) thread ≡ true }
     ensures step { IfOk result (λ step. step ≡ step_of (entry_of rooms.old (actor.Thread thread))) }

@@ -25,7 +25,7 @@ fn next_end(rooms: &Rooms) -> Result<Kind, Need>
 ///
 /// # Errors
 ///
-/// Want of memory; nothing is changed.
+/// Lack of memory; nothing is changed.
 pub fn reap_first(rooms: &mut Rooms) -> Result<Step, NoMemory>
     ensures step { IfOk result (λ step. step ≡ step_of (entry_of rooms.old actor.Reaper)) }
     ensures waits { IfOk result (λ step. step ≡ made_unless (reaper_needs (state_behind rooms.old))) }

@@ -15,7 +15,7 @@ const ALONE: BuddyFlags = BuddyFlags {
     contig: true,
 };
 
-/// Finds the first block that is held from a page on, or from a later one, of a manager of so many pages. It costs a step a page.
+/// Finds the first block that is held from `from` or a later page on, in a manager of `size` pages. It costs a step a page.
 #[tactic(auto, using(crate::proofs::OpenLaws::none_to_next, crate::proofs::OpenLaws::next_at))]
 pub fn next_block(manager: &BuddyManager, size: u32, from: u32) -> Option<Span>
     requires { manager.now.size ≡ size }
@@ -30,7 +30,7 @@ pub fn next_block(manager: &BuddyManager, size: u32, from: u32) -> Option<Span>
     None
 }
 
-/// A page is free. The list is for the answer of the search, and is empty behind it.
+/// A page is free. The list is for the answer of the search, and is empty after it.
 fn is_open(manager: &mut BuddyManager, page: u32, room: &mut Spans) -> Result<bool, NoMemory>
     requires page { page + 1 < 2 ^ 32 }
     requires empty { room.old ≡ [] }
@@ -94,7 +94,7 @@ fn block_from(start: u32, end: u32) -> Span
     }
 }
 
-/// Puts a hole's blocks behind others.
+/// Puts a hole's blocks after others.
 fn put_blocks(blocks: &mut Spans, hole: Span) -> Result<(), NoMemory>
     ensures { OnOk result (blocks.new ≡ blocks.old ++ blocks_of hole) }
 {

@@ -7,7 +7,7 @@ use range_manager::RangeManager;
 use std::alloc::Global;
 use ttm_base::{NoMemory, Span, Spans};
 
-/// Puts a free page behind all holes so far: it widens the last one that it touches, or is a new one.
+/// Puts a free page after all holes so far: it widens the last one that it touches, or is a new one.
 pub(crate) fn add_page(holes: &mut Spans, page: u32) -> Result<(), NoMemory>
     requires { page + 1 < 2 ^ 32 }
     ensures { OnOk result (holes.new ≡ with_page page holes.old) }

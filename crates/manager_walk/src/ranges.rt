@@ -4,7 +4,7 @@ ghost use Rattle.manager_walk.specs.Walk.{is_open, IsNextHeld, IsNextHole, NoneF
 use range_manager::RangeManager;
 use ttm_base::{Mode, Span};
 
-/// The first span that is held from a page on, or from a later one, of a manager of so many pages. It costs a step a page.
+/// Finds the first span that is held from `from` or a later page on, in a manager of `size` pages. It costs a step a page.
 #[tactic(auto, using(crate::proofs::OpenLaws::none_to_next, crate::proofs::OpenLaws::next_at))]
 pub fn next_held(manager: &RangeManager, size: u32, from: u32) -> Option<Span>
     requires { manager.now.size ≡ size }

@@ -18,7 +18,7 @@ use crate::status::{DONE, NO_MEMORY};
 use std::alloc::Global;
 use ttm_base::Span;
 
-/// Makes a manager of so many pages, of which none is held (drm_buddy_init). There must be fewer than 2^31.
+/// Makes a manager of `pages` pages, none of which is held (drm_buddy_init). There must be fewer than 2^31.
 #[unsafe(no_mangle)]
 pub extern "C" fn pearoar_blocks_create(alloc: Global, blocks: &mut BlockHandle, pages: u32) -> u32
     requires closed { blocks.old.live ≡ false }
@@ -47,7 +47,7 @@ pub extern "C" fn pearoar_blocks_destroy(alloc: Global, blocks: &mut BlockHandle
     drop(blocks.take(alloc).into_box());
 }
 
-/// Takes blocks for so many pages, from `first` up to `last` (drm_buddy_alloc_blocks).
+/// Takes blocks for `pages` pages, from `first` up to `last` (drm_buddy_alloc_blocks).
 #[unsafe(no_mangle)]
 pub extern "C" fn pearoar_blocks_alloc(
     alloc: Global,

@@ -68,7 +68,7 @@ pub struct BlockStats {
     pub orders: [usize; ORDERS],
 }
 
-/// How many blocks have so many pages.
+/// Counts the blocks of `pages` pages.
 fn count_of(blocks: &[Span], pages: u32) -> usize
     ensures { result ≡ count_by (λ block. length_of block == pages) blocks.now }
 {

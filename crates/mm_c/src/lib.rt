@@ -1,4 +1,4 @@
-//! The range manager and the buddy manager for C, behind handles.
+//! The range manager and the buddy manager for C, after handles.
 #![tactic(auto)]
 
 mod block_calls;

@@ -18,7 +18,7 @@ use crate::ranges::{RangeRequest, RangeStats, Ranges};
 use crate::status::{DONE, NO_MEMORY};
 use std::alloc::Global;
 
-/// Makes a manager of so many pages, of which none is held (drm_mm_init).
+/// Makes a manager of `pages` pages, none of which is held (drm_mm_init).
 #[unsafe(no_mangle)]
 pub extern "C" fn pearoar_ranges_create(alloc: Global, ranges: &mut RangeHandle, pages: u32) -> u32
     requires closed { ranges.old.live ≡ false }
@@ -47,7 +47,7 @@ pub extern "C" fn pearoar_ranges_destroy(alloc: Global, ranges: &mut RangeHandle
     drop(ranges.take(alloc).into_box());
 }
 
-/// Takes so many pages at a multiple of `align`, from `first` up to `last` (drm_mm_insert_node_in_range).
+/// Takes `pages` pages at a multiple of `align`, from `first` up to `last` (drm_mm_insert_node_in_range).
 #[unsafe(no_mangle)]
 pub extern "C" fn pearoar_ranges_insert(
     alloc: Global,

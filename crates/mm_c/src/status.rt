@@ -3,7 +3,7 @@
 pub const DONE: u32 = 0;
 /// No free pages meet the request, or pages of it are held (ENOSPC).
 pub const NO_ROOM: u32 = 1;
-/// Want of memory for the manager's own use (ENOMEM).
+/// Lack of memory for the manager's own use (ENOMEM).
 pub const NO_MEMORY: u32 = 2;
 /// The request has no meaning: an unknown mode, no pages to keep (EINVAL).
 pub const INVALID: u32 = 3;

@@ -57,7 +57,7 @@ fn kind_of_move(rooms: &Rooms, thread: u32, b: BufId, mem: Mem) -> Kind
 ///
 /// # Errors
 ///
-/// Want of memory; nothing is changed.
+/// Lack of memory; nothing is changed.
 pub fn carry(rooms: &mut Rooms, thread: u32) -> Result<Step, NoMemory>
     requires { stage_of (task_of rooms.old.script (state_behind rooms.old) thread) ≡ stage.Carry }
     ensures step { IfOk result (λ step. step ≡ step_of (entry_of rooms.old (actor.Thread thread))) }
@@ -101,7 +101,7 @@ fn target_to_untake(bo: &Bo) -> Mem
 ///
 /// # Errors
 ///
-/// Want of memory; nothing is changed.
+/// Lack of memory; nothing is changed.
 pub fn untake(rooms: &mut Rooms, thread: u32) -> Result<Step, NoMemory>
     requires { is_untake (state_behind rooms.old) (task_of rooms.old.script (state_behind rooms.old) thread) ≡ true }
     ensures step { IfOk result (λ step. step ≡ step_of (entry_of rooms.old (actor.Thread thread))) }

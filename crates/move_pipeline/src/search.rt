@@ -82,7 +82,7 @@ fn find(rooms: &mut Rooms, buffer_search: BufferSearch) -> Result<Option<(Mem, S
 ///
 /// # Errors
 ///
-/// Want of memory; nothing is changed.
+/// Lack of memory; nothing is changed.
 pub fn take_target(rooms: &mut Rooms, thread: u32) -> Result<bool, NoMemory>
     requires { stage_of (task_of rooms.old.script (state_behind rooms.old) thread) ≡ stage.Search }
     ensures found { IfOk result (λ taken. taken ≡ finds_choice rooms.old.script (state_behind rooms.old) thread) }

@@ -1,91 +1,71 @@
 //! Counts the pages, frames and slots of a state by how they are held.
 #![tactic(auto)]
 
-ghost use Rattle.std.specs.Prelude.{◌≡◌, [], IfOk, IfSome, filter, filter_map, length, not, sum_by, unwrap_or};
+ghost use Rattle.std.specs.Prelude.{◌≡◌, ◌<◌, IfOk, filter, length, sum_by};
 ghost use Rattle.ttm_base.specs.Holes.{is_free_beside as is_free};
 ghost use Rattle.ttm_base.specs.ListWords.{count_from};
-ghost use Rattle.ttm_base.specs.Reach.{length_of as length_in};
-ghost use Rattle.journal_model.specs.Account as words;
-ghost use Rattle.journal_model.specs.Places as places;
-ghost use Rattle.page_accounts.specs.Accounts.{AreAccountsOf, told};
-ghost use Rattle.plain_accounts.specs.Holdings.{amount, amount_of_ghost, amount_where_live};
+ghost use Rattle.page_accounts.specs.Accounts.{AreAccountsOf};
+ghost use Rattle.page_accounts.specs.Amounts.{amount_of_ghost, amount_where_live, counted};
+ghost use Rattle.page_accounts.specs.Counting.{most};
 
-use journal_model::{Buffer, Core, Ghost, Script, State};
+use journal_model::{Core, Script, State};
 use page_accounts::{Account, Accounts};
-use rules_holds::{
-    count_free_frames, count_free_slots, ghost_spans, held_slots, held_spans, is_free_beside,
-    spans_in,
-};
-use rules_state::{frame_of, length_of, size_of, slot_of, target_spans};
+use rules_holds::{count_free_frames, count_free_slots, held_spans, is_free_beside};
 use std::alloc::Global;
-use ttm_base::{Loc, Mem, NoMemory, Span};
+use ttm_base::{Mem, NoMemory, Span};
 
-/// What is counted of a buffer or a ghost.
-#[derive(Clone, Copy)]
-pub enum Holding {
-    /// Pages that it has in a memory type.
-    Pages(Mem),
-    /// Pages of its target in a memory type.
-    Targets(Mem),
-    Frames,
-    Slots,
-}
-
-/// The accounts of a state.
+/// Counts how the pages, frames and slots of a `state` are held.
 ///
 /// # Errors
 ///
-/// Want of memory. Counts that 64 bits don't hold are among it: no memory holds a state with so many pages.
+/// Answers `NoMemory` also for a count of 2^64 - 1 or more: no memory holds a state with that many pages.
 pub fn accounts_of(alloc: Global, script: &Script, state: &State) -> Result<Accounts, NoMemory>
     ensures { IfOk result (AreAccountsOf script.now state.now.core) }
 {
+    let core = &state.core;
+    let held = count_held(core);
+    let vram = held_spans(alloc, Mem::Vram, core)?;
+    let tt = held_spans(alloc, Mem::Tt, core)?;
+    let free_frames = count_free_frames(alloc, script, core)?;
+    let free_slots = count_free_slots(alloc, script, core)?;
     Ok(Accounts {
-        vram: page_account(alloc, script, Mem::Vram, &state.core)?,
-        tt: page_account(alloc, script, Mem::Tt, &state.core)?,
-        frames: frame_account(alloc, script, &state.core)?,
-        swap: slot_account(alloc, script, &state.core)?,
+        vram: with_free(held.vram, count_free_pages(vram.items(), script.sizes.vram))?,
+        tt: with_free(held.tt, count_free_pages(tt.items(), script.sizes.tt))?,
+        frames: with_free(held.frames, free_frames)?,
+        swap: with_free(held.swap, free_slots)?,
     })
 }
 
-#[tactic(auto, using(crate::proofs::HoldingLaws::pages_by_sums))]
-fn page_account(alloc: Global, script: &Script, mem: Mem, core: &Core) -> Result<Account, NoMemory>
-    ensures { IfOk result (λ a. told a ≡ words.account_of mem script.now core.now) }
+/// Counts what live buffers, their targets and ghosts hold. Each count saturates at `u64::MAX`.
+fn count_held(core: &Core) -> Accounts
+    ensures { result ≡ counted (λ what. sum_by (amount_where_live what) core.now.buffers) (λ what. sum_by (amount_of_ghost what) core.now.ghosts) }
 {
-    let held = held_spans(alloc, mem, core)?;
-    let buffers = core.buffers.items();
-    Ok(Account {
-        free: count_free_pages(held.items(), size_of(script, mem)),
-        live: count_buffers(Holding::Pages(mem), buffers).ok_or(NoMemory)?,
-        target: count_buffers(Holding::Targets(mem), buffers).ok_or(NoMemory)?,
-        ghosts: count_ghosts(Holding::Pages(mem), core.ghosts.items()).ok_or(NoMemory)?,
-    })
+    let mut accounts = Accounts::new();
+    for slot in core.buffers.items() {
+        if let Some(x) = slot {
+            accounts.add_buffer(x.mem, x.spans.items(), x.table.items(), &x.targets);
+        }
+    }
+    for left in core.ghosts.items() {
+        accounts.add_ghost(left.vram.items(), left.tt.items(), left.frames.items());
+    }
+    accounts
 }
 
-#[tactic(auto, using(crate::proofs::HoldingLaws::frames_by_sums))]
-fn frame_account(alloc: Global, script: &Script, core: &Core) -> Result<Account, NoMemory>
-    ensures { IfOk result (λ a. told a ≡ words.frame_account script.now core.now) }
+/// Puts the number of those that are free into an account of what is held, whose counts mustn't have saturated.
+fn with_free(held: Account, free: u64) -> Result<Account, NoMemory>
+    ensures free { IfOk result (λ a. a ≡ record held { free = free }) }
+    ensures live { IfOk result (λ a. held.live < most) }
+    ensures target { IfOk result (λ a. held.target < most) }
+    ensures ghosts { IfOk result (λ a. held.ghosts < most) }
 {
-    Ok(Account {
-        free: count_free_frames(alloc, script, core)?,
-        live: count_buffers(Holding::Frames, core.buffers.items()).ok_or(NoMemory)?,
-        target: 0,
-        ghosts: count_ghosts(Holding::Frames, core.ghosts.items()).ok_or(NoMemory)?,
-    })
+    if held.live == u64::MAX || held.target == u64::MAX || held.ghosts == u64::MAX {
+        return Err(NoMemory);
+    }
+    Ok(Account { free, ..held })
 }
 
-fn slot_account(alloc: Global, script: &Script, core: &Core) -> Result<Account, NoMemory>
-    ensures { IfOk result (λ a. told a ≡ words.slot_account script.now core.now) }
-{
-    let held = held_slots(alloc, core)?;
-    Ok(Account {
-        free: count_free_slots(alloc, script, core)?,
-        live: held.len() as u64,
-        target: 0,
-        ghosts: 0,
-    })
-}
-
-/// How many pages below the size no span has.
+/// Counts the pages below the `size` that no span has.
 #[tactic(auto, using(rules_holds::proofs::CountLaws::count_more))]
 fn count_free_pages(held: &[Span], size: u32) -> u64
     ensures { result ≡ length (filter (is_free held.now) (count_from 1 size 0)) }
@@ -97,76 +77,4 @@ fn count_free_pages(held: &[Span], size: u32) -> u64
         }
     }
     count
-}
-
-fn count_buffers(what: Holding, buffers: &[Option<Buffer>]) -> Option<u64>
-    ensures { IfSome result (λ n. n ≡ sum_by (amount_where_live what) buffers.now) }
-{
-    let mut count = 0u64;
-    for buffer in buffers {
-        count = count.checked_add(count_where_live(what, buffer)?)?;
-    }
-    Some(count)
-}
-
-fn count_where_live(what: Holding, buffer: &Option<Buffer>) -> Option<u64>
-    ensures { IfSome result (λ n. n ≡ amount_where_live what buffer.now) }
-{
-    match buffer {
-        Some(buffer) => count_buffer(what, buffer),
-        None => Some(0),
-    }
-}
-
-fn count_buffer(what: Holding, buffer: &Buffer) -> Option<u64>
-    ensures { IfSome result (λ n. n ≡ amount what buffer.now) }
-{
-    match what {
-        Holding::Pages(mem) => count_pages(spans_in(mem, buffer)),
-        Holding::Targets(mem) => count_pages(target_spans(mem, buffer)),
-        Holding::Frames => Some(count_frames(buffer.table.items())),
-        Holding::Slots => Some(count_slots(buffer.table.items())),
-    }
-}
-
-fn count_pages(spans: &[Span]) -> Option<u64>
-    ensures { IfSome result (λ n. n ≡ words.count_spans spans.now) }
-{
-    let mut count = 0u64;
-    for span in spans {
-        count = count.checked_add(u64::from(length_of(*span)))?;
-    }
-    Some(count)
-}
-
-fn count_frames(table: &[Loc]) -> u64
-    ensures { result ≡ length (filter_map places.frame_of table.now) }
-{
-    table.iter().filter_map(|loc| frame_of(*loc)).count() as u64
-}
-
-fn count_slots(table: &[Loc]) -> u64
-    ensures { result ≡ length (filter_map places.slot_of table.now) }
-{
-    table.iter().filter_map(|loc| slot_of(*loc)).count() as u64
-}
-
-fn count_ghosts(what: Holding, ghosts: &[Ghost]) -> Option<u64>
-    ensures { IfSome result (λ n. n ≡ sum_by (amount_of_ghost what) ghosts.now) }
-{
-    let mut count = 0u64;
-    for holder in ghosts {
-        count = count.checked_add(count_ghost(what, holder)?)?;
-    }
-    Some(count)
-}
-
-fn count_ghost(what: Holding, holder: &Ghost) -> Option<u64>
-    ensures { IfSome result (λ n. n ≡ amount_of_ghost what holder.now) }
-{
-    match what {
-        Holding::Pages(mem) => count_pages(ghost_spans(mem, holder)),
-        Holding::Frames => Some(holder.frames.len() as u64),
-        Holding::Targets(_) | Holding::Slots => Some(0),
-    }
 }

@@ -1,4 +1,4 @@
-ghost use Rattle.std.specs.Prelude.{◌≡◌, ◌↔◌, ◌+◌, ◌<◌, ◌^◌, ◌∷◌, ◌++◌, [], false, IfOk, OnOk, OnErr, Ok, IsTrue, find, length, remove};
+ghost use Rattle.std.specs.Prelude.{◌≡◌, ◌↔◌, ◌+◌, ◌<◌, ◌^◌, ◌∷◌, ◌++◌, [], false, IfOk, OnOk, OnErr, Ok, IsTrue, find, length};
 ghost use Rattle.journal_model.specs.ScriptRules.{is_script};
 ghost use Rattle.journal_model.specs.Complete.{is_complete};
 ghost use Rattle.journal_model.specs.Legal.{state_of, stores_of};
@@ -17,14 +17,6 @@ use rules_stores::PlainStores;
 use std::alloc::Global;
 use std::marker::Model;
 use ttm_base::{Actor, ItemList, Need, NoMemory, Turn};
-
-/// Takes out the entry at a position, and those behind it move up.
-fn take_back(journal: &mut ItemList<Entry>, at: usize)
-    requires { at < length journal.old }
-    ensures { journal.new ≡ remove journal.old at }
-{
-    journal.remove(at);
-}
 
 /// A memory manager that runs a script, and the journal of what it did.
 pub struct Device {
@@ -65,7 +57,7 @@ impl Device {
     ///
     /// # Errors
     ///
-    /// Want of memory.
+    /// Lack of memory.
     pub fn new(alloc: Global, script: Script) -> Result<Device, NoMemory>
         requires { IsTrue (is_script script) }
         ensures { IfOk result (λ d. d ≡ record { script = script; journal = [] }) }
@@ -150,7 +142,7 @@ impl Device {
             self.journal.get(at),
         );
         if made.is_err() {
-            take_back(&mut self.journal, at);
+            self.journal.remove(at);
         }
         made
     }
@@ -159,7 +151,7 @@ impl Device {
     ///
     /// # Errors
     ///
-    /// Want of memory; nothing is changed.
+    /// Lack of memory; nothing is changed.
     pub fn step(&mut self, who: Actor) -> Result<Turn, NoMemory>
         ensures turn { IfOk result (λ t. t ≡ turn_of self.old who) }
         ensures made { OnOk result (self.new ≡ after_turn self.old who) }
@@ -184,7 +176,7 @@ impl Device {
     ///
     /// # Errors
     ///
-    /// Want of memory.
+    /// Lack of memory.
     pub fn next_actor(&self) -> Result<Option<Actor>, NoMemory>
         ensures { IfOk result (λ found. found ≡ find (can_step self.now.script (state_of self.now.script self.now.journal)) (own_order self.now.script (state_of self.now.script self.now.journal))) }
     {

@@ -59,7 +59,7 @@ fn enact_step(
 ///
 /// # Errors
 ///
-/// Want of memory: the state stays, and so do the bytes.
+/// Lack of memory: the state stays, and so do the bytes.
 pub fn enact(
     alloc: Global,
     script: &Script,

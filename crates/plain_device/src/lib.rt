@@ -3,6 +3,5 @@
 
 mod device;
 pub mod enact;
-mod stepper;
 
 pub use device::Device;

@@ -43,7 +43,7 @@ put_at d f at k h =
 length-put : (d f : List ℕ) (at : ℕ) → at + length f ≤ length d → length (take at d ++ (f ++ drop (at + length f) d)) ≡ length d
 length-put d f at h = grind (arith, common_steps)
 
--- zeros, also behind them
+-- zeros, also after them
 pub zeros : (n o : ℕ) → get_or {A = ℕ} (replicate n 0) o 0 ≡ 0
 zeros n o =
     let none : ℕ = 0 in

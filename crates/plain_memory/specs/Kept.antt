@@ -4,7 +4,7 @@ use Rattle.std.specs.List.{slice_index_or}
 use Rattle.journal_model.specs.declared.script.Script.{Script}
 use Rattle.journal_model.specs.PlainMemory.{Memory}
 
--- the memory in such lists; zeros stand behind each of them, and in buffers that aren't there
+-- the memory in such lists; zeros follow each of them, and in buffers that aren't there
 abbrev pub memory_in : List (List ℕ) → Memory
 memory_in rooms b i = slice_index (slice_index_or rooms b []) i
 

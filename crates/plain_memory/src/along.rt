@@ -1,7 +1,6 @@
 ghost use Rattle.std.specs.Prelude.{◌≡◌, ℕ, ◌+◌, ◌<◌, ◌≤◌, ◌^◌, IsTrue, IfOk, OnOk, length, replicate, slice_index, option_copied, if◌then◌else◌};
 ghost use Rattle.journal_model.specs.Apply as actors;
-ghost use Rattle.journal_model.specs.ApplyJobs as jobs;
-ghost use Rattle.journal_model.specs.PlainMemory.{memory_after_result, with_zeros};
+ghost use Rattle.journal_model.specs.PlainMemory.{memory_after_result};
 ghost use Rattle.journal_model.specs.ScriptRules.{is_script};
 ghost use Rattle.journal_model.specs.Transparent.{bytes_owed, IsTransparent};
 ghost use Rattle.plain_memory.specs.Along as words;
@@ -12,12 +11,12 @@ ghost use Rattle.plain_memory.specs.Mismatches as counted;
 use crate::counts::is_answer;
 use crate::memory::PlainMemory;
 use journal_model::{Command, Entry, Kind, Numbers, Script, Shown};
-use rules_state::commands_of;
 use rules_state::rules_parts::actors::thread_of;
+use rules_state::{commands_of, ops_of};
 use std::alloc::Global;
-use ttm_base::{BufId, NoMemory, Op};
+use ttm_base::NoMemory;
 
-/// The command that a thread is at, where so many commands of each thread are answered.
+/// The command that a thread is at; `answered` has how many commands of each thread are answered.
 fn command_by<'a>(script: &'a Script, answered: &Numbers, thread: u32) -> Option<&'a Command>
     ensures { option_copied result ≡ words.command_by script.now answered.now thread }
 {
@@ -26,16 +25,6 @@ fn command_by<'a>(script: &'a Script, answered: &Numbers, thread: u32) -> Option
         None => 0,
     };
     commands_of(script, thread).get(at as usize)
-}
-
-/// The operations of a job.
-fn ops_of(command: Option<&Command>) -> &[Op]
-    ensures { result.now ≡ jobs.ops_of (option_copied command.entry) }
-{
-    match command {
-        Some(Command::Submit { ops, .. }) => ops.items(),
-        _ => &[],
-    }
 }
 
 /// Whether a result shows the bytes that its command has to show: a read those of the memory, and any other command none.
@@ -76,15 +65,7 @@ fn answer(memory: &mut PlainMemory, command: Option<&Command>)
     }
 }
 
-/// Makes all bytes of a buffer that was made or freed zero, for which no memory is wanted.
-fn cleared(memory: &mut PlainMemory, b: BufId) -> Result<(), NoMemory>
-    ensures { OnOk result (BecomesMemory memory.old memory.new (with_zeros b (memory_in memory.old))) }
-{
-    memory.clear(b);
-    Ok(())
-}
-
-/// Brings the memory behind an entry of a thread at this command.
+/// Brings the memory after an entry of a thread at this command.
 fn put_entry(
     alloc: Global,
     memory: &mut PlainMemory,
@@ -95,8 +76,10 @@ fn put_entry(
     ensures { OnOk result (BecomesMemory memory.old memory.new (words.memory_after (option_copied command.entry) kind.now (memory_in memory.old))) }
 {
     match kind {
-        Kind::New { b } => cleared(memory, *b),
-        Kind::Free { b, .. } => cleared(memory, *b),
+        Kind::New { b } | Kind::Free { b, .. } => {
+            memory.clear(*b);
+            Ok(())
+        }
         Kind::Arm { .. } => memory.apply_all(alloc, ops_of(command)),
         Kind::Result { .. } => {
             answer(memory, command);
@@ -149,7 +132,7 @@ fn count_with(count: u64, found: bool) -> u64
     if found { count + 1 } else { count }
 }
 
-/// No answers of so many threads, and none of thread 0, which there isn't.
+/// No answers of `threads` threads, and none of thread 0, which doesn't exist.
 #[tactic(auto, using(crate::proofs::AlongLaws::replicate_push))]
 fn no_answers(alloc: Global, threads: usize) -> Result<Numbers, NoMemory>
     ensures { IfOk result (λ answered. answered ≡ replicate (threads + 1) 0) }

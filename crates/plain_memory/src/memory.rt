@@ -75,7 +75,7 @@ impl PlainMemory {
         self.rooms[b.0 as usize].write(off as usize, from);
     }
 
-    /// Writes one byte so many times to a buffer from an offset on.
+    /// Writes `byte` to `len` bytes of a buffer from `off` on.
     pub fn fill(&mut self, b: BufId, off: u32, len: u32, byte: u8)
         requires { HasRange (sizes_in self.old) b off len }
         ensures { BecomesMemory self.old self.new (words.with_range b off len (λ i. byte) (memory_in self.old)) }

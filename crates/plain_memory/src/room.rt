@@ -30,7 +30,7 @@ fn write_at(room: &mut [u8], off: usize, from: &[u8])
     room[off..off + from.len()].copy_from_slice(from);
 }
 
-/// Writes one byte so many times at an offset.
+/// Writes `byte` to `len` bytes from `off` on.
 fn fill_at(room: &mut [u8], off: usize, len: usize, byte: u8)
     requires { off + len ≤ length room.old }
     ensures { room.new ≡ take off room.old ++ (replicate len byte ++ drop (off + len) room.old) }
@@ -63,7 +63,7 @@ impl Room {
         write_at(self.bytes.as_mut_slice(), off, from);
     }
 
-    /// Writes one byte so many times from an offset on.
+    /// Writes `byte` to `len` bytes from `off` on.
     pub fn fill(&mut self, off: usize, len: usize, byte: u8)
         requires { off + len ≤ length self.old }
         ensures { self.new ≡ take off self.old ++ (replicate len byte ++ drop (off + len) self.old) }

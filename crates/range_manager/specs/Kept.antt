@@ -16,7 +16,7 @@ abbrev pub AllBy : ℕ → List Span → Type 0
 AllBy n [] = Unit {0}
 AllBy n (s ∷ ss) = (s.end ≤ n) × AllBy n ss
 
--- each has a page, and so many pages at least lie between it and the next
+-- each has a page, and at least `gap` pages lie between it and the next
 abbrev pub IsSpaced : ℕ → List Span → Type 0
 IsSpaced gap [] = Unit {0}
 IsSpaced gap (s ∷ ss) = (s.start < s.end) × AllFrom (s.end + gap) ss × IsSpaced gap ss

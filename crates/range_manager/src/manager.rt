@@ -110,7 +110,7 @@ impl RangeManager {
         Some(choice.pages)
     }
 
-    /// Takes so many pages at a multiple of `align`, from `first` up to `last`, in the hole of the range choice (drm_mm_insert_node).
+    /// Takes `pages` pages at a multiple of `align`, from `first` up to `last`, in the hole of the range choice (drm_mm_insert_node).
     /// After a refusal nothing is changed.
     pub fn insert(
         &mut self,

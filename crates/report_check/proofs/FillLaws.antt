@@ -142,6 +142,6 @@ marked_one_more script c d frame old new more m one =
     (λ n. more n ∙ ap (λ h. has_number (held_frames c) n || h) (or_end (nat_eq n frame)) ∙ sym (has_both (held_frames c) (frame ∷ []) n))
     (marked_then (replicate script.sizes.frames false) old new (held_frames c) (frame ∷ []) m one)
 
--- those of the state behind an entry
+-- those of the state after an entry
 pub marks_given : (script : Script) (s : State) (e : Entry) (frame : ℕ) (old new : List Bool) → GivesFrame s e frame → AreFrames script s.core old → AreMarked old (frame ∷ []) new → AreFrames script (apply script s e).core new
 marks_given script s e frame old new given m one = marked_one_more script s.core (apply script s e).core frame old new (given script) m one

@@ -90,7 +90,7 @@ module _ (script : Script) (s : State) (bytes : PageBytes) (e : Entry) where
 more : (es : List Entry) (at : ℕ) (e : Entry) → slice_get es at ≡ Some e → take (at + 1) es ≡ take at es ++ e ∷ []
 more es at e h = take_more es at e (slice_get_within es at e h) ∙ ap (λ (y : Entry). take at es ++ y ∷ []) (get_or_from_slice_get es at e e h)
 
--- each entry of a legal journal is legal next behind those before it
+-- each entry of a legal journal is legal next after those before it
 legal_at : (script : Script) (w : World) (es : List Entry) (at : ℕ) (e : Entry) → slice_get es at ≡ Some e → IsLegalFrom script w es → IsLegalNext script (world_along script w (take at es)) e
 legal_at script w [] at e g h = cc
 legal_at script w (x ∷ es) zero e g h = let it : x ≡ e = cc in subst (IsLegalNext script w) it h.0
@@ -123,7 +123,7 @@ module _ (script : Script) (journal : List Entry) (at : ℕ) (state : State) (st
   pub ready : IsHeldSoFar → at < length journal → length journal < 2 ^ 64 → (e : Entry) → IsLegalNext script world e → IsReady script state e
   ready h less l e legal = can_apply script (take at journal) state stores.sizes (bytes_of stores) h (short_take journal at less l) e.who e (entry_next h e legal)
 
-  -- held again behind the entry
+  -- held again after the entry
   pub held_next : IsHeldSoFar → (e : Entry) (s : State) (new : KeptBytes) → slice_get journal at ≡ Some e → IsLegalNext script world e →
       s ≡ apply script state e → BecomesBytes stores new (stores_after script state e.who e.kind (bytes_of stores)) → IsHeld script (take (at + 1) journal) s new.sizes (bytes_of new)
   held_next h e s new there legal to b =
@@ -164,7 +164,7 @@ held_first script journal state stores fits s z b =
       no_more = λ page o h. ap (λ (f : PageBytes). f page o) b;
     }
 
--- behind the last: the journal is legal, and complete where the state is over
+-- after the last: the journal is legal, and complete where the state is over
 pub legal_to : (script : Script) (journal : List Entry) (state : State) (stores : KeptBytes) → IsHeld script (take (length journal) journal) state stores.sizes (bytes_of stores) →
     IsLegal script journal × (is_over script state ≡ is_complete script journal)
 legal_to script journal state stores h =
@@ -186,7 +186,7 @@ module _ (script : Script) (journal : List Entry) (at : ℕ) (state : State) whe
   entry_ready h legal less most e there =
       can_apply script (take at journal) state script.sizes bytes h (short_take journal at less most) e.who e (legal_at script (first_world script) journal at e there legal)
 
-  -- that behind the next entry
+  -- that after the next entry
   pub leads_on : LeadsSoFar → IsLegal script journal → (e : Entry) (s : State) → slice_get journal at ≡ Some e → s ≡ apply script state e →
       IsHeld script (take (at + 1) journal) s script.sizes (stores_of script (take (at + 1) journal))
   leads_on h legal e s there to =
@@ -203,7 +203,7 @@ pub leads_first : (script : Script) (journal : List Entry) (state : State) → I
 leads_first script journal state fits s =
     record { fits = fits; legal = tt; state_is = s; sizes_are = refl; bytes_are = refl; no_more = λ page o h. refl }
 
--- behind the last
+-- after the last
 pub leads_to : (script : Script) (journal : List Entry) (state : State) → IsHeld script (take (length journal) journal) state script.sizes (stores_of script (take (length journal) journal)) →
     state ≡ state_of script journal
 leads_to script journal state h = h.state_is ∙ ap (state_of script) (take-length journal)

@@ -134,7 +134,7 @@ first_is_line (b ∷ c ∷ t) h some = by (b == 10) refl (first_is_line (c ∷ t
         let s : n + 1 ≡ suc n = omega arith in
         subst (λ k. is_line (take k (b ∷ c ∷ t)) ≡ true) (sym s) (longer_line b (take n (c ∷ t)) e rest)
 
--- what is behind a place
+-- what follows a place
 lines_behind : (at : ℕ) (t : Text) → are_lines t ≡ true → are_lines (drop at t) ≡ true
 lines_behind zero t h = h
 lines_behind (suc at) [] h = refl

@@ -1,4 +1,4 @@
--- Parts of a text, one behind the other: what was written where one of them was refused, and the report by its parts.
+-- Parts of a text, one after the other: what was written where one of them was refused, and the report by its parts.
 use Rattle.std.proofs.Common.{◌≡◌, ℕ, ◌<◌, Bool, true, false, List, [], ◌∷◌, ◌++◌, Option, Result, ap, refl, ◌∙◌, sym, ⊎_elim, append_assoc, length-append, arith}
 use Rattle.std.specs.Prelude.{IsErr, ◌||◌, codes, decimal, length, flat_map}
 use Rattle.std.specs.List.{list_any, enumerate_from}

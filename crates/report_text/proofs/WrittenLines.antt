@@ -25,7 +25,7 @@ flat_map_next f [] i x h = cc
 flat_map_next f (y ∷ xs) zero x h = let e : y ≡ x = cc in ap (λ z. f z ++ []) e ∙ append-nil (f x)
 flat_map_next f (y ∷ xs) (suc i) x h = ap (λ t. f y ++ t) (flat_map_next f xs i x h) ∙ sym (append_assoc (f y) (flat_map f (take i xs)) (f x))
 
--- those before an item, its own, and those behind it
+-- those before an item, its own, and those after it
 pub flat_map_around : {X : Type 0} (f : X → Text) (xs : List X) (i : ℕ) (x : X) → slice_get xs i ≡ Some x
     → flat_map f xs ≡ (flat_map f (take i xs) ++ f x) ++ flat_map f (drop (suc i) xs)
 flat_map_around f [] i x h = cc

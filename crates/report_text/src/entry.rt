@@ -195,7 +195,7 @@ fn put_causes(line: &mut Line, script: &Script, rows: &[CauseRow]) -> Result<(),
     }
 }
 
-/// Puts each cause behind a comma.
+/// Puts each cause after a comma.
 fn put_more_causes(line: &mut Line, script: &Script, rows: &[CauseRow]) -> Result<(), NoMemory>
     ensures { OnOk result (line.new ≡ line.old ++ behind_each 44 (map (cause_row_word script.now) rows.now)) }
 {

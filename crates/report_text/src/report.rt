@@ -299,7 +299,7 @@ pub fn write_journal<K: Sink>(
     write_entries(line, script, journal, sink)
 }
 
-/// Writes the parts of a report behind the entries: the results and the accounts.
+/// Writes the parts of a report after the entries: the results and the accounts.
 pub fn write_outcome<K: Sink>(
     line: &mut Line,
     script: &Script,

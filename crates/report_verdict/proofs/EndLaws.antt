@@ -25,7 +25,7 @@ use Rattle.report_check.specs.declared.judge.Verdict.{Verdict}
 use Rattle.report_check.specs.declared.judge.Verdict.TheVariants as verdict
 use Rattle.report_check.specs.Judged.{Breaks, IsBadAt, Judges}
 
--- the entries before one, it, and those behind it
+-- the entries before one, it, and those after it
 split_at : (es : List Entry) (at : ℕ) (e : Entry) → slice_get es at ≡ Some e → es ≡ take at es ++ e ∷ drop (at + 1) es
 split_at [] at e h = cc
 split_at (x ∷ es) zero e h = let it : x ≡ e = cc in ap (λ y. y ∷ es) it

@@ -36,7 +36,7 @@ own_weight x = ap (λ t. if t then 1 else 0) (same_self x)
 other_span : (x y : Span) → same_span x y ≡ false → same_span y x ≡ false
 other_span x y h = false_from_ne_true (same_span y x) (λ t. both_ways (same_span x y) h (ap (same_span x) (same_is y x t) ∙ same_self x))
 
--- a span of one list that isn't the first of the other begins behind it
+-- a span of one list that isn't the first of the other begins after it
 behind_first : (x y : Span) (xs ys : List Span) → IsApart (y ∷ ys) → HaveSame (x ∷ xs) (y ∷ ys) → same_span x y ≡ false → y.end ≤ x.start
 behind_first x y xs ys b h e =
     let own = own_weight x in

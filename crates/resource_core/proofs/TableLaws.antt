@@ -221,7 +221,7 @@ put_gone find now count less held after o old at placed f old_is h l t c =
     (placed_gone find now count held placed o at less first (let e = ap length h in omega (arith, e, l))
     (λ q. t q ∙ ap (λ k. with_place None (find q) (same_key k q)) old_is) c)
 
--- ---- all places anew
+-- ---- all places again
 
 pub record IsRun (find : OwnerKey → Option ℕ) (held : List Holding) (i : ℕ) : Type 0 where
   pub each : (owner : Owner) → find (key_of owner) ≡ stands_at owner (take i held)

@@ -105,7 +105,7 @@ fn take_out(places: &mut HashMap<OwnerKey, usize>, key: OwnerKey)
     places.remove(&key);
 }
 
-/// Makes the table anew, in the room that it has.
+/// Makes the table again, in the room that it has.
 fn place_all(places: &mut HashMap<OwnerKey, usize>, held: &[Holding])
     requires distinct { words.AreDistinct held.now }
     requires room { length held.now ≤ hash_map_len places.old + spare places.old }

@@ -32,11 +32,11 @@ pub trait Manager {
     /// What the manager is seen as.
     ghost resources: { Self → Resources };
 
-    /// The rule of the manager, which no call changes: the spans that a request takes among the free pages of a size, for so many
+    /// The rule of the manager, which no call changes: the spans that a request takes among the free pages of a size, for a number of
     /// pages, an alignment, and a place.
     ghost choice: { Self → (ℕ → Bool) → ℕ → ℕ → ℕ → Place → Option (List Span) };
 
-    /// Gives an owner so many pages that a place reaches, by the manager's choice: from a multiple of `align` on, in pages, where
+    /// Gives an owner `pages` pages that a place reaches, by the manager's choice: from a multiple of `align` on, in pages, where
     /// the manager heeds it. The owner's holding comes last. After a refusal nothing is changed.
     fn take(
         &mut self,

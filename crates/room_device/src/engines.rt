@@ -26,7 +26,7 @@ fn shown_next(alloc: Global, rooms: &Rooms, engine: u32) -> Result<Bytes, NoMemo
     Ok(bytes)
 }
 
-/// The head's next packet, once what the job waits for is done; behind the last packet the job's end.
+/// The head's next packet, once what the job waits for is done; after the last packet the job's end.
 fn next_of_head(alloc: Global, rooms: &Rooms, engine: u32) -> Result<Result<Kind, Need>, NoMemory>
     requires { engine ≤ rooms.now.script.sizes.engines }
     ensures { IfOk result (λ next. entry_of rooms.now (actor.Engine engine) ≡ entry_by (actor.Engine engine) next) }
@@ -45,12 +45,12 @@ fn next_of_head(alloc: Global, rooms: &Rooms, engine: u32) -> Result<Result<Kind
     Ok(Ok(Kind::Packet { num, k, piece }))
 }
 
-/// The engine of a context goes on with the first job of it that isn't done: a packet runs, or the job ends behind its last one. Context 0 is that
+/// The engine of a context goes on with the first job of it that isn't done: a packet runs, or the job ends after its last one. Context 0 is that
 /// of moves.
 ///
 /// # Errors
 ///
-/// Want of memory; nothing is changed.
+/// Lack of memory; nothing is changed.
 pub(crate) fn run(alloc: Global, rooms: &mut Rooms, engine: u32) -> Result<Step, NoMemory>
     requires { engine ≤ rooms.old.script.sizes.engines }
     ensures step { IfOk result (λ step. step ≡ step_of (entry_of rooms.old (actor.Engine engine))) }

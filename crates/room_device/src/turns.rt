@@ -27,7 +27,7 @@ fn turn_of_engine(alloc: Global, rooms: &mut Rooms, engine: u32) -> Result<Step,
 ///
 /// # Errors
 ///
-/// Want of memory; nothing is changed.
+/// Lack of memory; nothing is changed.
 pub fn turn(alloc: Global, rooms: &mut Rooms, who: Actor) -> Result<Step, NoMemory>
     ensures step { IfOk result (λ step. step ≡ step_of (entry_of rooms.old who)) }
     ensures made { OnOk result (rooms.new ≡ after_step rooms.old (entry_of rooms.old who)) }

@@ -1,4 +1,4 @@
--- All parts behind an answer.
+-- All parts after an answer.
 use Rattle.std.proofs.Common.{◌≡◌, ℕ, ◌+◌, ◌*◌, ◌^◌, ◌<◌, ◌≤◌, true, false, List, [], ◌∷◌, ◌++◌, inl, Option, Some, None, Ok, IsSome, length, refl, sym, ◌∙◌, ap, subst, arith}
 use Rattle.std.specs.Prelude.{◌==◌, fold, option_and_then, option_map, slice_get, unwrap_or, if◌then◌else◌}
 use Rattle.std.proofs.lemmas.Bool.Decides.{nat_tests}
@@ -243,7 +243,7 @@ module _ (script : Script) (journal : List Entry) (p : Parts) (entry : Entry) (t
       ap (λ (x : Bos). (reservation_in x.reservations b).pins) g ∙ pins-released p.bos.reservations (course_in p.courses t).held b ∙ ap (λ (gs : List Reservation). (reservation_in gs b).pins) held.represents.bos.reservations_are in
       omega (arith, few, same)
 
-  -- ---- behind it
+  -- ---- after it
 
   room_for : (b : BufId) → IsThere s b → b.0 < length (released s.reservations (course s t).held)
   room_for b live =
@@ -275,7 +275,7 @@ module _ (script : Script) (journal : List Entry) (p : Parts) (entry : Entry) (t
   slots_same (command.Write b off values) at k o = slots_put (buffer s b) off values (stores_of script journal) (λ i l. (reached b off values (at_work (command.Write b off values) at) i l).within) k o
   slots_same cmd at k o = refl
 
-  -- the stores have the bytes behind the answer
+  -- the stores have the bytes after the answer
   unwritten : (cmd : Command) → command_in script p.courses t ≡ Some cmd → ((b : BufId) (off : ℕ) (values : List ℕ) → cmd ≡ command.Write b off values → ⊥) → (st : Stores) → st ≡ p.stores →
       HasStoresAfter script s (stores_of script journal) (actor.Thread t) (kind.Result r) st
   unwritten cmd at never st is =

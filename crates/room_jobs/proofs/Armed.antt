@@ -1,4 +1,4 @@
--- All parts behind a job of a thread's operations.
+-- All parts after a job of a thread's operations.
 use Rattle.std.proofs.Common.{◌≡◌, ℕ, zero, suc, ◌+◌, ◌^◌, ◌<◌, ◌≤◌, Bool, true, false, List, [], ◌∷◌, ◌++◌, Option, Some, None, IsSome, Ok, length, replicate, refl, sym, ◌∙◌, ap, ap₂, subst, arith, All}
 use Rattle.std.specs.Prelude.{◌||◌, flat_map, fold, is_some, option_map, slice_get, slice_index_or, slice_set}
 use Rattle.std.specs.List.{list_all}
@@ -234,7 +234,7 @@ module _ (script : Script) (journal : List Entry) (p : Parts) (entry : Entry) (t
   pub arm_context : HaveContext engine p.bos.fences
   arm_context i set e = let l = wide i set e in let k = known in omega (arith, l, k)
 
-  -- ---- behind it
+  -- ---- after it
 
   abbrev more : Job
   more = armed_job s job (ops_of cmd) (named_in cmd)

@@ -26,7 +26,7 @@ place_at None i = refl
 place_at (Some None) i = refl
 place_at (Some (Some x)) i = unfenced_place x.mem x i
 
--- behind its end a list has nothing
+-- after its end a list has nothing
 nothing_past : {X : Type 0} (xs : List X) (i : ℕ) → length xs ≤ i → slice_get xs i ≡ None
 nothing_past [] i h = refl
 nothing_past (x ∷ xs) zero h = absurd (omega (arith, h))

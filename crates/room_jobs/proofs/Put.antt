@@ -58,7 +58,7 @@ slots_put x off (v ∷ values) bytes h k o =
     slots_put x (off + 1) values (with_bytes bytes (page_at x (off / 4096)) (off % 4096) 1 (λ i. v)) (λ i l. h i (omega (arith, l))) k o
     ∙ kept_by bytes (page_at x (off / 4096)) (off % 4096) 1 (λ i. v) k o (h (off / 4096) (omega arith))
 
--- so the swap store has those behind the entry
+-- so the swap store has those after the entry
 pub slots_kept : (sizes : Sizes) (named : List ℕ) (bytes new : PageBytes) (s : SwapSlots) → HasNoMore sizes bytes → ((k o : ℕ) → new (slot k) o ≡ bytes (slot k) o) → AreSlots sizes.swap named bytes s →
     AreSlots sizes.swap named (within sizes new) s
 slots_kept sizes named bytes new s none same t =
@@ -101,7 +101,7 @@ length_left xs zero = omega arith
 length_left [] (suc n) = omega arith
 length_left (x ∷ xs) (suc n) = let rest = length_left xs n in omega (arith, rest)
 
--- behind the bytes that were put, those of one page more are put
+-- after the bytes that were put, those of one page more are put
 pub put_more : (x : Buffer) (off : ℕ) (bytes : List ℕ) (done len : ℕ) (old mid new : Stores) → HasPut x off (take done bytes) old mid → done + len ≤ length bytes → (off + done) % 4096 + len ≤ 4096 → IsThere mid (page_at x ((off + done) / 4096)) →
     new ≡ after_write mid (spot_at (page_at x ((off + done) / 4096)) ((off + done) % 4096)) (slice_range bytes done (done + len)) → HasPut x off (take (done + len) bytes) old new
 put_more x off bytes done len old mid new h inside fits there is sizes aper b t =

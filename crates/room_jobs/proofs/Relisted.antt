@@ -1,4 +1,4 @@
--- The lists of buffers behind an answer.
+-- The lists of buffers after an answer.
 use Rattle.std.proofs.Common.{◌≡◌, ℕ, zero, suc, ◌+◌, ◌<◌, true, false, List, [], ◌∷◌, ◌++◌, Option, Some, None, append-nil, cond, get_or, length, take, refl, sym, ◌∙◌, ap, subst, arith}
 use Rattle.std.specs.Prelude.{◌==◌, filter, fold, if◌then◌else◌}
 use Rattle.std.proofs.lemmas.Bool.Decides.{nat_tests}
@@ -118,7 +118,7 @@ module _ (script : Script) (buffers : List (Option Buffer)) (reservations : List
           subst (AreListed script buffers (reservation_changed pinned_less reservations b) (touched script buffers (reservation_changed pinned_less reservations b) lists b)) same
           (unpinned_further script buffers reservations lists o b representation members room k many)
 
-  -- the lists are those of the state behind the answer
+  -- the lists are those of the state after the answer
   pub answered_lists : (cmd : Command) → IsHeldFor bos buffers reservations c.held cmd → AreRelisted script bos c.held cmd o new → AreAnswered cmd new
   answered_lists (command.Pin b) h is = pinned b h.0 h.1 is
   answered_lists (command.Unpin b) h is = less_pinned b h.0 h.1 h.2 is

@@ -1,4 +1,4 @@
--- The lists of buffers behind an answer.
+-- The lists of buffers after an answer.
 use Rattle.std.specs.Prelude.{◌≡◌, ◌<◌, ◌==◌, List, Option, Some, None, filter, fold, length, if◌then◌else◌}
 use Rattle.ttm_base.specs.declared.BufId.{BufId}
 use Rattle.bo_table.specs.Seen.{Bos}

@@ -23,7 +23,7 @@ with_waits ops sets set bs = fold (λ s b. all_added (waited_use ops b) s (fence
 abbrev pub with_uses : JobId → List Op → Bos → List BufId → Bos
 with_uses job ops t bs = fold (λ u b. with_use job (use_of ops b) u b) t bs
 
--- the jobs of each buffer are kept for so many contexts
+-- the jobs of each buffer are kept for all contexts
 abbrev pub AreWide : ℕ → List (List Latest) → Type 0
 AreWide contexts sets = (i : ℕ) → ForSome (slice_get sets i) (λ set. length set ≡ contexts)
 

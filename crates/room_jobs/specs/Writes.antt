@@ -1,4 +1,4 @@
--- The stores behind the bytes of a write.
+-- The stores after the bytes of a write.
 use Rattle.std.specs.Prelude.{◌≡◌, ℕ, ◌+◌, ◌*◌, ◌<◌, ◌^◌, List, Some, length}
 use Rattle.ttm_base.specs.declared.BufId.{BufId}
 use Rattle.ttm_base.specs.Pages.{PageBytes, Aperture}

@@ -65,7 +65,7 @@ named_same System mem out x is = absurd (out refl)
 pub packets_are : (x : Buffer) (mem : Mem) → x.mem ≢ System → copies (length x.table) mem (target_spans mem x) x.mem x.spans ≡ move_packets x mem
 packets_are x mem out = named_same x.mem mem out x (count_from 1 (length x.table) 0)
 
--- so many numbers
+-- a list of n numbers has length n
 length-count : (n start : ℕ) → length (count_from 1 n start) ≡ n
 length-count zero start = refl
 length-count (suc n) start = ap suc (length-count n (1 + start))

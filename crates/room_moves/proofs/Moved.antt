@@ -1,4 +1,4 @@
--- All parts behind a move.
+-- All parts after a move.
 use Rattle.std.proofs.Common.{◌≡◌, ◌≢◌, ℕ, suc, ◌+◌, ◌<◌, ◌≤◌, ◌^◌, Bool, true, false, List, [], ◌∷◌, ◌++◌, Option, Some, None, Ok, length, refl, sym, ◌∙◌, ap, ap₂, subst, arith}
 use Rattle.std.specs.Prelude.{option_map, option_to_list, replicate, slice_get, slice_set, unwrap_or}
 use Rattle.std.specs.Option.{ForSome}
@@ -271,7 +271,7 @@ module _ (script : Script) (journal : List Entry) (p : Parts) (entry : Entry) (t
           let same : bo.resv.fences ≡ set = cc in
           subst (λ m. 0 < m) (sym (set_wide bo lent) ∙ ap length same) known
 
-  -- ---- the parts behind it
+  -- ---- the parts after it
 
   abbrev job : Job
   job = move_job s b mem n
@@ -294,7 +294,7 @@ module _ (script : Script) (journal : List Entry) (p : Parts) (entry : Entry) (t
       (sym (e ∙ ap₂ (λ a c. with_pushed p.rings (record { job = move_id n; waits = a; packets = c; ran = 0 })) w k))
       (rings_more s.core.jobs s.last_jobs job known num refl p.rings held.represents.rings (all_added Read (empty_set s) (set_at p.bos.fences b)) (before_write s p.bos.fences held.represents.bos.fences_are b x move.live))
 
-  -- what is left stands behind the other ghosts
+  -- what is left follows the other ghosts
   ghosts_then : (ghosts : List Ghost) (ghost : Option Ghost) → ghost ≡ left_by_move (length s.last_jobs) (unfenced x) (move_id n) l → ghosts ≡ p.ghosts ++ option_to_list ghost →
       AreGhosts jobs_then last_then (ghosts_left x (move_id n) l s.core.ghosts) ghosts
   ghosts_then ghosts ghost g e = subst (λ rs. AreGhosts jobs_then last_then (ghosts_left x (move_id n) l s.core.ghosts) rs) (sym (e ∙ ap (λ o. p.ghosts ++ option_to_list o) g)) (by l)
@@ -368,7 +368,7 @@ module _ (script : Script) (journal : List Entry) (p : Parts) (entry : Entry) (t
   legal_move : IsLegalNext script (world_of script journal) (record { who = actor.Thread t; kind = kind.Move b mem n l })
   legal_move = subst (λ y. IsLegalNext script (world_of script journal) y) is legal
 
-  -- the stores have the bytes and the aperture behind it
+  -- the stores have the bytes and the aperture after it
   stores_then : HasStoresAfter script s (stores_of script journal) (actor.Thread t) (kind.Move b mem n l) (record p.stores { aper = mapped_in mem p.stores.aper x })
   stores_then = by mem refl
     where
@@ -387,7 +387,7 @@ module _ (script : Script) (journal : List Entry) (p : Parts) (entry : Entry) (t
   mapped_unfenced Tt = refl
   mapped_unfenced System = refl
 
-  -- all parts tell the state and the bytes behind the move
+  -- all parts tell the state and the bytes after the move
   pub move_held : (bo : Bo) → IsBo p.bos b bo → (contexts : ℕ) → contexts ≡ length p.line → (packets : List Packet) → packets ≡ copies (length bo.table) mem (target_spans mem (as_buffer bo)) bo.mem bo.spans →
       (waits : List Latest) → waits ≡ all_added Read (replicate contexts nothing_kept) bo.resv.fences → (ghost : Option Ghost) → ghost ≡ left_by_move contexts (as_buffer bo) (move_id n) l →
       (rings : List (List Pushed)) → rings ≡ with_pushed p.rings (record { job = move_id n; waits = waits; packets = packets; ran = 0 }) → (ghosts : List Ghost) → ghosts ≡ p.ghosts ++ option_to_list ghost →

@@ -16,6 +16,6 @@ named Vram page = place.Vram page
 named Tt page = place.Aper page
 named System page = place.Frame 0
 
--- one copy of each of so many pages, from spans to spans
+-- one copy of each page, from spans to spans
 abbrev pub copies : ℕ → Mem → List Span → Mem → List Span → List Packet
 copies pages to targets from sources = map (λ i. copy_of_page (name_in_spans to targets i) (name_in_spans from sources i)) (count_from 1 pages 0)

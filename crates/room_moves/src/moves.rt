@@ -29,7 +29,7 @@ fn last_ghost(left: Left, before: u64) -> u64
     }
 }
 
-/// A job of the move engine copies each page of a buffer to its target, and the buffer stands there at once. What it leaves is free behind
+/// A job of the move engine copies each page of a buffer to its target, and the buffer stands there at once. What it leaves is free after
 /// the move fence, or a ghost's until the job is done.
 pub fn move_buffer(
     parts: &mut Parts,

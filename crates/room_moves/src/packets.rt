@@ -46,7 +46,7 @@ fn copy_of_page(to: PagePlace, from: PagePlace) -> Packet
     }
 }
 
-/// Copies so many pages, one by one. It costs as many steps as there are pages and spans.
+/// Copies `pages` pages, one by one. It costs as many steps as there are pages and spans.
 fn copy_pages(
     alloc: Global,
     pages: usize,

@@ -20,7 +20,7 @@ pub(crate) fn waits_of(alloc: Global, contexts: u32, bo: &Bo) -> Result<FenceSet
     Ok(waits)
 }
 
-/// Puts a ghost, if there is one, behind the others.
+/// Puts a ghost, if there is one, after the others.
 fn push_ghost(ghosts: &mut Ghosts, ghost_object: Option<Ghost>) -> Result<(), NoMemory>
     ensures ok { OnOk result (ghosts.new ≡ ghosts.old ++ option_to_list ghost_object) }
     ensures err { OnErr result (ghosts.new ≡ ghosts.old) }
@@ -31,7 +31,7 @@ fn push_ghost(ghosts: &mut Ghosts, ghost_object: Option<Ghost>) -> Result<(), No
     }
 }
 
-/// Puts a job in its ring, and the ghost that waits for it behind the others: both, or neither where memory is refused.
+/// Puts a job in its ring, and the ghost that waits for it after the others: both, or neither where memory is refused.
 pub(crate) fn start_job(
     rings: &mut Rings,
     ghosts: &mut Ghosts,

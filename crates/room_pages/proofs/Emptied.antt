@@ -1,4 +1,4 @@
--- All parts behind a buffer that gives its frames back.
+-- All parts after a buffer that gives its frames back.
 use Rattle.std.proofs.Common.{◌≡◌, ℕ, ◌<◌, Bool, List, [], ◌∷◌, ◌++◌, Some, length, refl, sym, ◌∙◌, ap, subst}
 use Rattle.std.specs.List.{filter_map}
 use Rattle.ttm_base.specs.declared.Actor.TheVariants as actor
@@ -56,7 +56,7 @@ module _ (script : Script) (journal : List Entry) (p : Parts) (entry : Entry) (t
       subst (AreHeldInTurn p.pool) (sym (lent_table script journal p held b emptied.0 bo at))
       (table_held_still frame_of script.sizes.frames (held_frames (state_of script journal).core) p.pool held.represents.pool.held_are (owner_law script journal held.fits held.legal).frames (buffer (state_of script journal) b).table (frames_within (state_of script journal).core b (buffer (state_of script journal) b) emptied.0))
 
-  -- all parts behind the entry
+  -- all parts after the entry
   pub depopulate_held : (pool : List Bool) (bos : Bos) (bo : Bo) → IsBo p.bos b bo → pool ≡ given_back p.pool (filter_map frame_of bo.table) → bos ≡ with_changed without_frames p.bos b →
       AreHeld script (journal ++ entry ∷ []) (record p { pool = pool; bos = bos })
   depopulate_held pool bos bo at back e =

@@ -1,4 +1,4 @@
--- All parts behind a page that goes to a slot.
+-- All parts after a page that goes to a slot.
 use Rattle.std.proofs.Common.{◌≡◌, ℕ, ◌*◌, ◌+◌, ◌-◌, ◌<◌, ◌≤◌, Bool, true, false, List, [], ◌∷◌, ◌++◌, Option, Some, length, refl, sym, ◌∙◌, ap, subst, arith, ◌⊎◌, inl, inr}
 use Rattle.std.specs.Prelude.{IfSome, IsSome, not, nat_lt, option_and_then, position, replicate, slice_get, slice_index, slice_set, unwrap_or, if◌then◌else◌}
 use Rattle.std.proofs.lemmas.List.{length-set}
@@ -50,10 +50,10 @@ use Rattle.room_representation.proofs.room_steps.Steps.{held_after, step_as}
 use Rattle.room_representation.proofs.room_steps.Frames.{changed_bos}
 use Rattle.room_representation.proofs.room_steps.Lent.{is_below, lent_below, lent_table}
 
--- ---- slots whose number of bytes is known only behind the page that is put there
+-- ---- slots whose number of bytes is known only after the page that is put there
 
 module _ (script : Script) (s : State) (who : Actor) (bytes : PageBytes) (swap : SwapSlots) (representation : AreSlots script.sizes.swap (held_slots s.core) bytes swap) where
-  -- zeros behind the last slot change nothing
+  -- zeros after the last slot change nothing
   padded_slots : (m : ℕ) → AreSlots script.sizes.swap (held_slots s.core) bytes (record { held = swap.held; bytes = swap.bytes ++ replicate m 0 })
   padded_slots m = record { held_are = representation.held_are; bytes_are = λ k o e. ap (λ n. if nat_lt o 4096 then n else 0) (padded_same swap.bytes m (4096 * k + o)) ∙ representation.bytes_are k o e }
 
@@ -83,7 +83,7 @@ module _ (script : Script) (s : State) (who : Actor) (bytes : PageBytes) (swap :
         subst (λ l. AreSlotsAfter (record { held = taken swap.held k; bytes = l })) (padded_over swap.bytes copy (4096 * k) m start (omega (arith, short, end)))
         (swap_out_slots script s who bytes (record { held = swap.held; bytes = swap.bytes ++ replicate m 0 }) (padded_slots m) b live page f k copy at free whole long same)
 
-    -- the swap store behind the page that was put into its lowest free slot
+    -- the swap store after the page that was put into its lowest free slot
     pub swapped_slots : (new : SwapSlots) → new.held ≡ taken swap.held k → new.bytes ≡ overwritten swap.bytes (4096 * k) copy → length new.bytes ≡ 4096 * length new.held → AreSlotsAfter new
     swapped_slots new held put long =
         let all : length new.held ≡ length swap.held = ap length held ∙ length-set swap.held k true in
@@ -162,7 +162,7 @@ module _ (script : Script) (journal : List Entry) (p : Parts) (entry : Entry) (t
       frame_read script.sizes (aperture s.core) (world_of script journal).stores p.stores held.represents.stores its_frame below o l
       ∙ sym (ap (λ q. (world_of script journal).stores q o) (ap (λ m. page_in m (buffer s b) page) gone.home ∙ ap (λ q. page_in_table (unwrap_or q loc.Zero)) gone.at))
 
-  -- all parts behind the entry
+  -- all parts after the entry
   pub swap_out_held : (pool : List Bool) (swap : SwapSlots) (bos : Bos) (bo : Bo) (f : ℕ) (o : Option ℕ) (copy : List ℕ) → IsBo p.bos b bo → frame_in bo.table page ≡ Some f →
       copy ≡ part p.stores.frames (4096 * f) 4096 → length copy ≡ 4096 → o ≡ position not p.swap.held → IfSome o (λ j. swap.held ≡ slice_set p.swap.held j true) →
       IfSome o (λ j. swap.bytes ≡ overwritten p.swap.bytes (4096 * j) copy) → length swap.bytes ≡ 4096 * length swap.held → pool ≡ slice_set p.pool f false →

@@ -1,4 +1,4 @@
--- All parts behind entries on victims, and on searches that failed.
+-- All parts after entries on victims, and on searches that failed.
 use Rattle.std.proofs.Common.{◌≡◌, ℕ, Bool, true, false, List, [], ◌∷◌, ◌++◌, Option, Some, None, IsSome, refl, sym, ◌∙◌, ap, subst}
 use Rattle.std.specs.Prelude.{◌&&◌, ◌==◌, is_none, not}
 use Rattle.ttm_base.specs.declared.Actor.TheVariants as actor
@@ -45,7 +45,7 @@ use Rattle.room_representation.specs.room_steps.Courses.{course_at, course_in, w
 use Rattle.room_representation.proofs.room_steps.Steps.{held_still, thread_stepped, thread_there}
 use Rattle.room_representation.proofs.room_steps.Frames.{LeavesInPlace, eased_represented, changed_represented}
 
--- ---- no frame is to be had
+-- ---- no frame is available
 
 module _ (script : Script) (journal : List Entry) (p : Parts) (entry : Entry) (t : ℕ) (b : BufId) (held : AreHeld script journal p) (is : entry ≡ record { who = actor.Thread t; kind = kind.NoPages b }) (legal : IsLegalNext script (world_of script journal) entry) where
   pub no_pages_there : IsSome (course_at p.courses t)

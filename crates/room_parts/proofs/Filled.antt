@@ -1,4 +1,4 @@
--- All parts behind entries that give a page of a buffer a frame.
+-- All parts after entries that give a page of a buffer a frame.
 use Rattle.std.proofs.Common.{◌≡◌, ℕ, ◌*◌, ◌+◌, ◌<◌, ◌≤◌, Bool, true, List, [], ◌∷◌, ◌++◌, Option, Some, None, length, refl, sym, ◌∙◌, ap, subst, arith}
 use Rattle.std.specs.Prelude.{IfSome, not, position, slice_get, slice_set}
 use Rattle.ttm_base.specs.declared.Actor.TheVariants as actor

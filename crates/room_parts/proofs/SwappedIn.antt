@@ -1,4 +1,4 @@
--- All parts behind a page that comes back from its slot.
+-- All parts after a page that comes back from its slot.
 use Rattle.std.proofs.Common.{◌≡◌, ℕ, zero, suc, ◌*◌, ◌+◌, ◌<◌, ◌≤◌, Bool, true, false, List, [], ◌∷◌, ◌++◌, Option, Some, None, length, refl, sym, ◌∙◌, ap, subst, arith}
 use Rattle.std.specs.Prelude.{IfSome, not, nat_eq, position, slice_get, slice_set, take, drop}
 use Rattle.std.proofs.lemmas.Bool.{eq-eqb}

@@ -19,6 +19,6 @@ awaits t = is_some t.system || is_some t.tt || is_some t.vram
 abbrev pub searched_places : Script → Command → BufId → Targets → List FlaggedPlace
 searched_places script cmd b t = if awaits t then through_tt else asked_places script cmd b
 
--- a course behind a dry place: the search for a victim has failed, that for a named buffer has failed with its last place
+-- a course after a dry place: the search for a victim has failed, that for a named buffer has failed with its last place
 abbrev pub dried : BufId → ℕ → ℕ → Course → Course
 dried b k places c = if is_caught c b then with_fail b deny.NoSpace c else gone_dry k places c

@@ -115,7 +115,7 @@ fn place_count(script: &Script, command: &Command, b: BufId, targets: &Targets) 
     }
 }
 
-/// The search for a victim has failed; that for a named buffer goes on behind place `k` of so many, or has failed with the last.
+/// The search for a victim has failed; that for a named buffer goes on after place `k` of `places`, or has failed with the last.
 fn note_dry(courses: &mut Courses, thread: u32, b: BufId, k: u32, places: usize)
     requires there { IsSome (course_at courses.old thread) }
     requires room { k + 1 < 2 ^ 32 }

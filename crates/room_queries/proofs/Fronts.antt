@@ -34,7 +34,7 @@ use Rattle.room_queries.proofs.Known.{rows, context_known}
 abbrev is_left_of : ℕ → Job → Bool
 is_left_of ctx j = (j.id.ctx == ctx) && not j.finished
 
--- what is first behind some items is the next one
+-- what is first after some items is the next one
 get_drop : {X : Type 0} (xs : List X) (n : ℕ) → slice_get (drop n xs) 0 ≡ slice_get xs n
 get_drop xs zero = refl
 get_drop [] (suc n) = refl
@@ -143,7 +143,7 @@ module _ (script : Script) (journal : List Entry) (p : Parts) (held : AreHeld sc
         ap (piece_left (world_of script journal) ctx) at_head
         ∙ ap (probe_piece (aperture (state_of script journal).core) (stores_of script journal)) (named ∙ ap (λ x. unwrap_or x no_packet) e)
 
-    -- its packets can run, as packets name what is there behind each legal journal
+    -- its packets can run, as packets name what is there after each legal journal
     runs : (k : Packet) → slice_get j.packets j.ran ≡ Some k → CanRun p.stores k
     runs k e =
         let at = filtered_at (is_left_of ctx) (state_of script journal).core.jobs j head_is.first in

@@ -1,4 +1,4 @@
--- What there is, behind a legal journal: contexts, declared buffers, and numbers that fit.
+-- What there is, after a legal journal: contexts, declared buffers, and numbers that fit.
 use Rattle.std.proofs.Common.{◌≡◌, ℕ, zero, suc, ◌+◌, ◌<◌, ◌≤◌, ◌^◌, List, [], ◌∷◌, Some, None, length, refl, sym, ◌∙◌, ap, arith}
 use Rattle.std.specs.Prelude.{slice_get}
 use Rattle.ttm_base.specs.declared.BufId.{BufId}
@@ -21,7 +21,7 @@ get_below [] i h = absurd (omega (arith, h))
 get_below (x ∷ xs) zero h = (x, refl)
 get_below (x ∷ xs) (suc i) h = get_below xs i (omega (arith, h))
 
--- a number behind a list has nothing
+-- a number after a list has nothing
 pub past_end : {X : Type 0} (xs : List X) (i : ℕ) → length xs ≤ i → slice_get xs i ≡ None
 past_end [] i h = refl
 past_end (x ∷ xs) zero h = absurd (omega (arith, h))

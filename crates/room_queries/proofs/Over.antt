@@ -38,7 +38,7 @@ rings_left (r ∷ rings) (suc i) h =
     let more : suc (i + 1) ≡ suc i + 1 = omega arith in
     rings_left rings i (omega (arith, h)) ∙ ap (λ k. is_none (slice_get (ring_of rings i) 0) && list_all is_empty (drop k (r ∷ rings))) more
 
--- behind all rings none is left
+-- after all rings none is left
 pub none_left : (rings : List (List Pushed)) (i : ℕ) → length rings ≤ i → list_all is_empty (drop i rings) ≡ true
 none_left [] zero h = refl
 none_left [] (suc i) h = refl

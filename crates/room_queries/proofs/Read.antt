@@ -48,7 +48,7 @@ bytes_counted : (f : ℕ → ℕ) (len off : ℕ) → length (map f (count_from 
 bytes_counted f zero off = refl
 bytes_counted f (suc len) off = ap suc (bytes_counted f len (1 + off))
 
--- behind the bytes of a first page there is room for the others
+-- after the bytes of a first page there is room for the others
 pub room_behind : (p : Parts) (page : Page) (off len first left : ℕ) (one : List ℕ) → first ≡ min len left → len ≤ 256 → one ≡ [] ++ bytes_in p page off first → length one + (len - first) ≤ 256
 room_behind p page off len first left one is_first few is =
     let long : length one ≡ first = ap length is ∙ bytes_counted (byte_in p page) first off in

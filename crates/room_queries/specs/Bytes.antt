@@ -25,7 +25,7 @@ standing bo = record { mem = bo.mem; spans = bo.spans; table = bo.table; targets
 abbrev pub page_of_bo : Bo → ℕ → Page
 page_of_bo bo i = page_at (standing bo) i
 
--- so many zeros
+-- len zeros
 abbrev pub zeros : ℕ → List ℕ
 zeros len = replicate len 0
 

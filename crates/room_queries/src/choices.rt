@@ -13,7 +13,7 @@ use state_words::{declared_align, declared_pages};
 use std::alloc::Global;
 use ttm_base::{BufId, Mem, NoMemory, Place, Spans};
 
-/// What VRAM has for so many pages, with an alignment, at a place.
+/// What VRAM has for `pages` pages, with an alignment, at a place.
 fn choose_vram(
     room: &mut VramRoom,
     alloc: Global,
@@ -35,7 +35,7 @@ fn choose_vram(
     }
 }
 
-/// What TT has for so many pages, with an alignment, at a place.
+/// What TT has for `pages` pages, with an alignment, at a place.
 fn choose_tt(
     room: &mut RangeRoom,
     alloc: Global,
@@ -60,7 +60,7 @@ fn choose_tt(
 ///
 /// # Errors
 ///
-/// Want of memory.
+/// Lack of memory.
 pub fn choice(
     parts: &mut Parts,
     alloc: Global,

@@ -9,7 +9,7 @@ use Rattle.journal_model.specs.declared.script.Sizes.{Sizes}
 use Rattle.journal_model.specs.Holds.{has_number}
 use Rattle.journal_model.specs.Stores.{is_there}
 
--- which of so many numbers are held
+-- which of the numbers below the size are held
 abbrev pub marks : List ℕ → ℕ → List Bool
 marks held size = map (has_number held) (count_from 1 size 0)
 

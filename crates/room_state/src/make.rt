@@ -11,7 +11,7 @@ use room_representation::Parts;
 use std::alloc::Global;
 use ttm_base::{Actor, NoMemory};
 
-/// Makes the parts those behind an entry of an engine.
+/// Makes the parts those after an entry of an engine.
 fn make_of_engine(
     parts: &mut Parts,
     alloc: Global,
@@ -39,7 +39,7 @@ fn make_of_engine(
     }
 }
 
-/// Makes the parts those behind an entry of the reaper.
+/// Makes the parts those after an entry of the reaper.
 fn make_of_reaper(parts: &mut Parts, script: &Script, before: &[Entry], entry: &Entry)
     requires held { AreHeld script.now before.now parts.old }
     requires who { entry.now.who ≡ actor.Reaper }
@@ -52,11 +52,11 @@ fn make_of_reaper(parts: &mut Parts, script: &Script, before: &[Entry], entry: &
     }
 }
 
-/// Makes the parts those behind an entry.
+/// Makes the parts those after an entry.
 ///
 /// # Errors
 ///
-/// Want of memory; the parts tell what they told before.
+/// Lack of memory; the parts tell what they told before.
 pub(crate) fn make_parts(
     parts: &mut Parts,
     alloc: Global,

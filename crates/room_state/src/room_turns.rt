@@ -24,7 +24,7 @@ pub enum Step {
 ///
 /// # Errors
 ///
-/// Want of memory; nothing is changed.
+/// Lack of memory; nothing is changed.
 pub fn make(rooms: &mut Rooms, who: Actor, kind: Kind) -> Result<Step, NoMemory>
     requires { entry_of rooms.old who ≡ Ok (record { who = who; kind = kind }) }
     ensures step { IfOk result (λ step. step ≡ step_of (entry_of rooms.old who)) }
@@ -39,7 +39,7 @@ pub fn make(rooms: &mut Rooms, who: Actor, kind: Kind) -> Result<Step, NoMemory>
 ///
 /// # Errors
 ///
-/// Want of memory; nothing is changed.
+/// Lack of memory; nothing is changed.
 pub fn turn(rooms: &mut Rooms, who: Actor, next: Result<Kind, Need>) -> Result<Step, NoMemory>
     requires { entry_of rooms.old who ≡ entry_by who next }
     ensures step { IfOk result (λ step. step ≡ step_of (entry_of rooms.old who)) }

@@ -83,7 +83,7 @@ impl Rooms {
     ///
     /// # Errors
     ///
-    /// Want of memory.
+    /// Lack of memory.
     pub fn new(alloc: Global, script: Script) -> Result<Rooms, NoMemory>
         requires { IsTrue (is_script script) }
         ensures { IfOk result (λ r. r ≡ record { script = script; journal = [] }) }
@@ -288,7 +288,7 @@ impl Rooms {
     ///
     /// # Errors
     ///
-    /// Want of memory.
+    /// Lack of memory.
     pub fn choice(&mut self, b: BufId, place: &Place) -> Result<Option<Spans>, NoMemory>
         requires { b.0 < length self.old.script.buffers }
         ensures choice { IfOk result (λ found. found ≡ choice_of self.old.script (state_behind self.old).core b place.now) }
@@ -320,7 +320,7 @@ impl Rooms {
     ///
     /// # Errors
     ///
-    /// Want of memory; nothing is changed.
+    /// Lack of memory; nothing is changed.
     pub fn append(&mut self, entry: Entry) -> Result<(), NoMemory>
         requires { MayAppend self.old entry }
         ensures ok { OnOk result (self.new ≡ with_entry self.old entry) }

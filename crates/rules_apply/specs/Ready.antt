@@ -30,7 +30,7 @@ pub record CanShowResult (script : Script) (s : State) (t : ℕ) : Type 0 where
   pub answer : CanAnswer s t
   pub pins : HasPinsLeft s.reservations (command_at_work script s t)
 
--- a search may go on behind its k-th place
+-- a search may go on after its k-th place
 pub record CanGoDry (s : State) (t k : ℕ) : Type 0 where
   pub there : IsThread s t
   pub room : k + 1 < 2 ^ 32

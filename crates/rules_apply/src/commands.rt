@@ -9,10 +9,10 @@ ghost use Rattle.rules_apply.specs.Ready.{IsThread, CanShowResult};
 use journal_model::{
     BufIds, Buffer, Command, Core, Ghost, Lists, Reservation, Reservations, Script, State,
 };
-use rules_holds::{push_spans, spans_in, unfinished_before_write};
-use rules_state::rules_parts::buffers::put_buffer;
+use rules_holds::{spans_in, unfinished_before_write};
+use rules_state::rules_parts::buffers::put_item;
 use rules_state::rules_parts::lists::{listed_in, members_last, taken_off, touched_all};
-use rules_state::rules_parts::reservations::{change_pins, put_reservation, release_all};
+use rules_state::rules_parts::reservations::{change_pins, release_all};
 use rules_state::{
     buffer_in, command_at_work, dead_buffer, declared_pages, frames_of, has_buffer, named,
     new_buffer, new_course, no_reservation, without_buffer,
@@ -34,8 +34,8 @@ pub fn make(
 {
     let buffer = new_buffer(alloc, declared_pages(script, b))?;
     let lists = listed_in(alloc, script, state.lists.items(), b, Some(Mem::System))?;
-    put_buffer(&mut state.core.buffers, b, Some(buffer));
-    put_reservation(&mut state.reservations, b, no_reservation());
+    put_item(&mut state.core.buffers, b.0, Some(buffer));
+    put_item(&mut state.reservations, b.0, no_reservation());
     state.lists = lists;
     let course = state.courses.get_mut(thread as usize - 1);
     course.made = true;
@@ -46,10 +46,8 @@ pub fn make(
 fn ghost_of_freed(alloc: Global, core: &Core, buffer: &Buffer, num: u64) -> Result<Ghost, NoMemory>
     ensures { IfOk result (λ left. left ≡ rows.ghost_of_freed core.now buffer.now num) }
 {
-    let mut vram = Spans::new(alloc);
-    push_spans(&mut vram, spans_in(Mem::Vram, buffer))?;
-    let mut tt = Spans::new(alloc);
-    push_spans(&mut tt, spans_in(Mem::Tt, buffer))?;
+    let vram = Spans::from_slice(alloc, spans_in(Mem::Vram, buffer))?;
+    let tt = Spans::from_slice(alloc, spans_in(Mem::Tt, buffer))?;
     let frames = frames_of(alloc, buffer)?;
     let jobs = unfinished_before_write(alloc, core, buffer)?;
     Ok(Ghost {
@@ -97,8 +95,8 @@ pub fn free(
     let course = state.courses.get(thread as usize - 1);
     let held = without_buffer(alloc, course.held.items(), b)?;
     leave_ghost(alloc, &mut state.core, b, num)?;
-    put_buffer(&mut state.core.buffers, b, None);
-    put_reservation(&mut state.reservations, b, no_reservation());
+    put_item(&mut state.core.buffers, b.0, None);
+    put_item(&mut state.reservations, b.0, no_reservation());
     state.lists = lists;
     if num != 0 {
         state.last_ghost = num;

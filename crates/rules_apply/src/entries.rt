@@ -13,7 +13,7 @@ use ttm_base::NoMemory;
 ///
 /// # Errors
 ///
-/// Want of memory; nothing is changed.
+/// Lack of memory; nothing is changed.
 pub fn apply(
     state: &mut State,
     alloc: Global,

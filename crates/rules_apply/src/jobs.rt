@@ -1,36 +1,15 @@
-ghost use Rattle.std.specs.Prelude.{◌≡◌, ◌+◌, ◌==◌, ◌++◌, ◌∷◌, [], true, IfOk, OnOk, OnErr, IsTrue, filter, flat_map, fold, not, option_copied, slice_set, if◌then◌else◌};
+ghost use Rattle.std.specs.Prelude.{◌≡◌, ◌+◌, ◌==◌, ◌++◌, ◌∷◌, [], true, IfOk, OnOk, OnErr, IsTrue, filter, flat_map, fold, not, if◌then◌else◌};
 ghost use Rattle.journal_model.specs.Waits as waits;
 ghost use Rattle.journal_model.specs.ApplyJobs.{with_use, after_arm, after_packet_run, after_done, after_reap};
-ghost use Rattle.journal_model.specs.ApplyJobs as rows;
 ghost use Rattle.rules_apply.specs.Ready.{IsThread, CanRun};
 
 use crate::commands::buffers_of;
-use journal_model::{Buffers, Command, Core, Ghosts, Job, JobIds, Numbers, Script, State};
+use journal_model::{Buffers, Core, Ghosts, Job, JobIds, Script, State};
 use rules_holds::{jobs_before_use, packets_of, use_of};
-use rules_state::command_at_work;
-use rules_state::rules_parts::buffers::{add_fence, drop_last_fence};
+use rules_state::rules_parts::buffers::{add_fence, drop_last_fence, put_item};
+use rules_state::{command_at_work, ops_of};
 use std::alloc::Global;
 use ttm_base::{BufId, JobId, NoMemory, Op};
-
-/// Keeps the number of the last job of a context.
-pub fn set_last_job(last_jobs: &mut Numbers, id: JobId)
-    ensures { last_jobs.new ≡ slice_set last_jobs.old id.ctx id.num }
-{
-    let index = id.ctx as usize;
-    if index < last_jobs.len() {
-        last_jobs.set(index, id.num);
-    }
-}
-
-/// The operations of a job.
-fn ops_of<'a>(command: Option<&'a Command>) -> &'a [Op]
-    ensures { result.now ≡ rows.ops_of (option_copied command.entry) }
-{
-    match command {
-        Some(Command::Submit { ops, .. }) => ops.items(),
-        _ => &[],
-    }
-}
 
 /// The jobs that a job waits for at its buffers.
 fn waits_at(alloc: Global, core: &Core, ops: &[Op], bs: &[BufId]) -> Result<JobIds, NoMemory>
@@ -100,7 +79,7 @@ pub fn arm(
         finished: false,
     };
     emit(&mut state.core, job, ops, bs.items())?;
-    set_last_job(&mut state.last_jobs, id);
+    put_item(&mut state.last_jobs, ctx, num);
     let course = state.courses.get_mut(thread as usize - 1);
     course.made = true;
     Ok(())

@@ -6,16 +6,16 @@ ghost use Rattle.journal_model.specs.ApplyMoves as rows;
 ghost use Rattle.rules_apply.specs.Ready.{HasShortTable};
 ghost use Rattle.rules_state.specs.rules_parts.Undo.{without_last};
 
-use crate::jobs::set_last_job;
 use journal_model::{
     Buffer, Core, Frames, Ghost, Ghosts, Job, JobIds, Left, Packets, Script, State,
 };
-use rules_holds::{push_spans, spans_in, unfinished_before_write};
-use rules_state::rules_parts::buffers::carry;
+use rules_holds::{spans_in, unfinished_before_write};
+use rules_state::rules_parts::buffers::{carry, put_item};
 use rules_state::rules_parts::lists::relisted;
 use rules_state::{buffer_in, dead_buffer, frames_of, name_in_spans, packet_place, target_spans};
 use std::alloc::Global;
-use ttm_base::{BufId, JobId, Mem, NoMemory, Packet, PagePlace, Span, Spans};
+use ttm_base::limits::PAGE_BYTES;
+use ttm_base::{BufId, JobId, Mem, NoMemory, Packet, PagePlace, Spans};
 
 /// A copy of a whole page.
 fn copy_of_page(to: PagePlace, from: PagePlace) -> Packet
@@ -26,7 +26,7 @@ fn copy_of_page(to: PagePlace, from: PagePlace) -> Packet
         toff: 0,
         from,
         foff: 0,
-        len: 4096,
+        len: PAGE_BYTES,
     }
 }
 
@@ -74,15 +74,6 @@ fn frames_left(alloc: Global, buffer: &Buffer) -> Result<Frames, NoMemory>
     }
 }
 
-/// A second list of spans.
-fn copied(alloc: Global, spans: &[Span]) -> Result<Spans, NoMemory>
-    ensures { IfOk result (λ copy. copy ≡ spans.now) }
-{
-    let mut copy = Spans::new(alloc);
-    push_spans(&mut copy, spans)?;
-    Ok(copy)
-}
-
 /// A list of one job.
 fn only(alloc: Global, id: JobId) -> Result<JobIds, NoMemory>
     ensures { IfOk result (λ jobs. jobs ≡ id ∷ []) }
@@ -98,8 +89,8 @@ fn ghost_of_moved(alloc: Global, buffer: &Buffer, id: JobId, num: u64) -> Result
 {
     Ok(Ghost {
         num,
-        vram: copied(alloc, spans_in(Mem::Vram, buffer))?,
-        tt: copied(alloc, spans_in(Mem::Tt, buffer))?,
+        vram: Spans::from_slice(alloc, spans_in(Mem::Vram, buffer))?,
+        tt: Spans::from_slice(alloc, spans_in(Mem::Tt, buffer))?,
         frames: frames_left(alloc, buffer)?,
         jobs: only(alloc, id)?,
     })
@@ -231,6 +222,6 @@ pub fn move_buffer(
     if let Left::Ghost(num) = left {
         state.last_ghost = num;
     }
-    set_last_job(&mut state.last_jobs, id);
+    put_item(&mut state.last_jobs, 0, num);
     Ok(())
 }

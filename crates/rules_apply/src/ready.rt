@@ -6,6 +6,7 @@ ghost use Rattle.rules_state.specs.rules_parts.Pins.{CanPin, HasPinsLeft};
 use journal_model::{Command, Entry, Kind, Reservation, Script, State};
 use rules_state::rules_parts::actors::{engine_of, thread_of};
 use rules_state::{command_at_work, course_of, live_in, reservation_in};
+use ttm_base::limits::MAX_PINS;
 use ttm_base::{BufId, JobId};
 
 /// The thread is there.
@@ -30,7 +31,7 @@ fn has_pins_left(reservations: &[Reservation], command: Option<&Command>) -> boo
     ensures { IsTrue result ↔ HasPinsLeft reservations.now (option_copied command.entry) }
 {
     match command {
-        Some(Command::Pin { b }) => reservation_in(reservations, *b).pins < 255,
+        Some(Command::Pin { b }) => reservation_in(reservations, *b).pins < MAX_PINS,
         _ => true,
     }
 }
@@ -46,7 +47,7 @@ fn can_show_result(script: &Script, state: &State, thread: u32) -> bool
         )
 }
 
-/// The search may go on behind its k-th place.
+/// The search may go on after its k-th place.
 fn can_go_dry(state: &State, thread: u32, k: u32) -> bool
     ensures { IsTrue result ↔ facts.CanGoDry state.now thread k }
 {

@@ -32,7 +32,7 @@ pub fn reserve(state: &mut State, thread: u32, b: BufId) -> Result<(), NoMemory>
     Ok(())
 }
 
-/// A thread lets its reservations go, and begins anew with a buffer.
+/// A thread lets its reservations go, and begins again with a buffer.
 pub fn back_off(alloc: Global, state: &mut State, thread: u32, b: BufId)
     requires { IsThread state.old thread }
     ensures { state.new ≡ after_backoff state.old thread b }

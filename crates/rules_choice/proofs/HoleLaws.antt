@@ -1,4 +1,4 @@
--- A page behind all holes, told by the last of them.
+-- A page after all holes, told by the last of them.
 use Rattle.std.proofs.Common.{◌≡◌, ℕ, zero, suc, ◌+◌, true, false, List, [], ◌∷◌, ◌++◌, Some, length, refl, ap, arith}
 use Rattle.std.specs.Prelude.{slice_get, slice_set, nat_eq}
 use Rattle.std.proofs.lemmas.Grind.{common_steps}

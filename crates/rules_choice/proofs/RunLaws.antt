@@ -14,7 +14,7 @@ use Rattle.ttm_base.specs.BuddyChoice.{is_free_block}
 use Rattle.state_words.proofs.PageLaws.{count_from-push}
 use Rattle.rules_choice.specs.Marks.{marked, AreRuns, AreRunsBeside, IsWithout}
 
--- what stands right before the page behind a page
+-- what stands right before the page after a page
 abbrev pub run_behind : List Bool → List ℕ → ℕ → ℕ
 run_behind marks runs page = if marked marks page then get_or runs page 0 + 1 else 0
 
@@ -92,7 +92,7 @@ run_more marks runs page run l here done k h = by (nat_eq k page) refl where
       let kept : get_or (set runs (page + 1) run) (k + 1) 0 ≡ get_or runs (k + 1) 0 = get_or-set_other runs (page + 1) (k + 1) run 0 (omega arith) in
       grind (arith, common_steps, same, old, kept)
 
--- and those behind it stay
+-- and those after it stay
 pub run_rest : (runs old : List ℕ) (page run size : ℕ) → ((k : ℕ) → page ≤ k → k < size → get_or runs (k + 1) 0 ≡ get_or old (k + 1) 0)
     → (k : ℕ) → page + 1 ≤ k → k < size → get_or (set runs (page + 1) run) (k + 1) 0 ≡ get_or old (k + 1) 0
 run_rest runs old page run size rest k l h =
@@ -100,7 +100,7 @@ run_rest runs old page run size rest k l h =
     let same = rest k (omega arith) h in
     grind (arith, kept, same)
 
--- where nothing changes behind the span, nothing changes further on
+-- where nothing changes after the span, nothing changes further on
 pub runs_same : (marks : List Bool) (runs old : List ℕ) (span : Span) (page : ℕ) → AreRunsBeside marks span old → length runs ≡ length old → span.end ≤ page → page < length marks
     → get_or runs 0 0 ≡ 0
     → ((k : ℕ) → k < page → get_or runs (k + 1) 0 ≡ run_behind marks runs k)

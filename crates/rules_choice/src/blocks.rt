@@ -46,7 +46,7 @@ pub fn counted(alloc: Global, marks: Vec<bool>) -> Result<FreePages, NoMemory>
     Ok(FreePages { marks, runs })
 }
 
-/// Counts the marked pages anew that stand right before a page, from a span on whose marks changed, as far as that changes anything.
+/// Counts the marked pages again that stand right before a page, from a span on whose marks changed, as far as that changes anything.
 pub fn count_anew(marks: &[bool], runs: &mut [u32], span: Span)
     requires small { length marks.now < 2 ^ 32 }
     requires beside { AreRunsBeside marks.now span runs.old }

@@ -1,4 +1,4 @@
-ghost use Rattle.std.specs.Prelude.{◌≡◌, ◌+◌, ◌<◌, ◌≤◌, ◌^◌, ◌∷◌, [], IfOk, Some, length, option_map};
+ghost use Rattle.std.specs.Prelude.{◌≡◌, ◌+◌, ◌<◌, ◌≤◌, ◌^◌, IfOk, Some, length, option_map};
 ghost use Rattle.ttm_base.specs.BuddyChoice as words;
 ghost use Rattle.rules_choice.specs.Marks.{marked, IsWithout};
 
@@ -20,15 +20,6 @@ fn without(free: FreePages, block: Span) -> FreePages
     take_span(&mut marks, block);
     count_anew(&marks, &mut runs, block);
     FreePages { marks, runs }
-}
-
-/// A list of one span.
-pub fn only(alloc: Global, span: Span) -> Result<Spans, NoMemory>
-    ensures { IfOk result (λ spans. spans ≡ span ∷ []) }
-{
-    let mut spans = Spans::new(alloc);
-    spans.push(span)?;
-    Ok(spans)
 }
 
 /// Block after block until no page is left.
@@ -73,14 +64,11 @@ fn contiguous(
     match candidate(free, range, topdown, order_of(pages)) {
         None => Ok(None),
         Some(found) => {
-            let spans = only(
-                alloc,
-                Span {
-                    start: found.block.start,
-                    end: found.block.start + pages,
-                },
-            )?;
-            Ok(Some(spans))
+            let cut = Span {
+                start: found.block.start,
+                end: found.block.start + pages,
+            };
+            Ok(Some(Spans::from_slice(alloc, &[cut])?))
         }
     }
 }

@@ -34,7 +34,7 @@ fn candidate_at(free: &FreePages, range: Span, order: u32, start: usize) -> Opti
     }
 }
 
-/// The candidate so far, or one behind it that is split from a smaller block.
+/// The candidate so far, or one after it that is split from a smaller block.
 fn lesser(best: Option<FreeBlock>, next: FreeBlock) -> FreeBlock
     ensures { candidate_of result ≡ lesser_by (λ c. c.whole) (option_map candidate_of best) (candidate_of next) }
 {

@@ -5,7 +5,7 @@ ghost use Rattle.journal_model.specs.Holds.{is_free_page, size_of};
 ghost use Rattle.journal_model.specs.Choice as words;
 ghost use Rattle.rules_choice.specs.Marks.{IsMarked};
 
-use crate::buddy::{buddy_choice, only};
+use crate::buddy::buddy_choice;
 use crate::pages::{free_marks, holes_among};
 use crate::ranges::range_choice;
 use journal_model::{Core, Script};
@@ -52,7 +52,7 @@ fn range_at(
     let align = declared_align(script, b);
     match range_choice(mode, found.items(), pages, align, reach_of(script, place)) {
         None => Ok(None),
-        Some(span) => Ok(Some(only(alloc, span)?)),
+        Some(span) => Ok(Some(Spans::from_slice(alloc, &[span])?)),
     }
 }
 

@@ -1,17 +1,9 @@
-ghost use Rattle.std.specs.Prelude.{◌≡◌, ◌+◌, ◌<◌, ◌^◌, ◌&&◌, ℕ, IfOk, OnOk, length, not, replicate, true};
+ghost use Rattle.std.specs.Prelude.{◌≡◌, ◌+◌, ◌<◌, ◌^◌, ◌&&◌, ℕ, IfOk, OnOk, length, not};
 ghost use Rattle.ttm_base.specs.Holes as words;
 ghost use Rattle.rules_choice.specs.Marks.{marked, IsMarked};
 
 use std::alloc::Global;
 use ttm_base::{NoMemory, Span, Spans};
-
-/// So many marks, all of them set.
-fn all_marked(alloc: Global, size: u32) -> Result<Vec<bool>, NoMemory>
-    ensures { IfOk result (λ marks. marks.items ≡ replicate size true) }
-{
-    let marks = vec![in alloc; true; size as usize]?;
-    Ok(marks)
-}
 
 /// Clears the marks of a span's pages.
 pub fn take_span(marks: &mut Vec<bool>, span: Span)
@@ -29,14 +21,14 @@ pub fn take_span(marks: &mut Vec<bool>, span: Span)
 pub fn free_marks(alloc: Global, held: &[Span], size: u32) -> Result<Vec<bool>, NoMemory>
     ensures { IfOk result (λ marks. IsMarked (words.is_free_beside held.now) size marks.items) }
 {
-    let mut marks = all_marked(alloc, size)?;
+    let mut marks = vec![in alloc; true; size as usize]?;
     for span in held {
         take_span(&mut marks, *span);
     }
     Ok(marks)
 }
 
-/// Puts a free page behind all holes so far: it widens the last one that it touches, or is a new one.
+/// Puts a free page after all holes so far: it widens the last one that it touches, or is a new one.
 fn add_page(holes: &mut Spans, page: u32) -> Result<(), NoMemory>
     requires { page + 1 < 2 ^ 32 }
     ensures { OnOk result (holes.new ≡ words.with_page page holes.old) }

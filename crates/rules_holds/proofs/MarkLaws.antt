@@ -76,7 +76,7 @@ count_of size held marks m =
     let len : length marks ≡ size = grind (arith, common_steps, m.len) in
     rw len (count_same (λ n. not (get_or marks n false)) (λ n. not (has_number held n)) size 0 (unmarked-free size held marks m))
 
--- none is among so many that have one
+-- none is among those in front, all of which have one
 pub none_in_front : (marks : List Bool) (front : ℕ) → ((n : ℕ) → n < front → get_or marks n false ≡ true) → find (λ n. not (get_or marks n false)) (count_from 1 front 0) ≡ None
 none_in_front marks zero h = refl
 none_in_front marks (suc n) h =

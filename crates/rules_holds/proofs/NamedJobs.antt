@@ -6,7 +6,7 @@ use Rattle.ttm_base.specs.declared.JobId.{JobId}
 use Rattle.ttm_base.specs.Fences.{named_first, is_named_before}
 use Rattle.rules_holds.specs.Named.{named_last}
 
--- a job named before another is named before those behind that one
+-- a job named before another is named before those after that one
 before_trans : (i k j : JobId) → is_named_before i k ≡ true → is_named_before k j ≡ true → is_named_before i j ≡ true
 before_trans i k j h l = grind (arith, nat_tests)
 

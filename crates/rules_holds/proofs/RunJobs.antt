@@ -54,7 +54,7 @@ none_open c least ctx first (suc n) h l =
     let rest = none_open c least ctx (1 + first) n h (omega arith) in
     grind (arith, common_steps)
 
--- so the others are those behind them
+-- so the others are those after them
 pub open_behind : (c : Core) (least : ℕ) (run : JobRun) → IsLeast c run.ctx least → least - run.first ≤ run.count
     → unfinished c (jobs_of_run (behind (least - run.first) run)) ≡ unfinished c (jobs_of_run run)
 open_behind c least run h l =

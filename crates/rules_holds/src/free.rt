@@ -122,7 +122,7 @@ fn slot_marks(alloc: Global, script: &Script, core: &Core) -> Result<Vec<bool>, 
     Ok(marks)
 }
 
-/// Each of so many marks from a start on is set.
+/// Whether each of 64 marks from `start` on is set.
 fn are_set(marks: &[bool], start: usize) -> bool
     requires { start + 64 ≤ length marks.now }
     ensures { result ≡ true → (n : ℕ) → start ≤ n → n < start + 64 → slice_index_or marks.now n false ≡ true }

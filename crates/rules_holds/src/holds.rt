@@ -2,11 +2,11 @@ ghost use Rattle.std.specs.Prelude.{◌≡◌, ◌++◌, IfOk, OnOk, flat_map};
 ghost use Rattle.std.specs.List.{list_any};
 ghost use Rattle.ttm_base.specs.Holes as pages;
 ghost use Rattle.journal_model.specs.Holds as words;
-ghost use Rattle.rules_holds.specs.Held.{spans_of_slot, slots_of_slot};
+ghost use Rattle.rules_holds.specs.Held.{spans_of_slot};
 
-use journal_model::{Buffer, Core, Frames, Ghost, Script};
+use journal_model::{Buffer, Core, Ghost};
 use place_list::rules_places::same_mem;
-use rules_state::{slot_of, target_spans};
+use rules_state::target_spans;
 use std::alloc::Global;
 use ttm_base::{Mem, NoMemory, Span, Spans};
 
@@ -32,44 +32,26 @@ pub fn ghost_spans(mem: Mem, left: &Ghost) -> &[Span]
     }
 }
 
-/// Puts spans behind others.
-pub fn push_spans(spans: &mut Spans, more: &[Span]) -> Result<(), NoMemory>
-    ensures { OnOk result (spans.new ≡ spans.old ++ more.now) }
-{
-    for span in more {
-        spans.push(*span)?;
-    }
-    Ok(())
-}
-
-/// Puts the spans behind others that a declared buffer holds in a memory type, with those of its target.
-fn push_held(spans: &mut Spans, mem: Mem, slot: &Option<Buffer>) -> Result<(), NoMemory>
-    ensures { OnOk result (spans.new ≡ spans.old ++ spans_of_slot mem slot.now) }
-{
-    if let Some(buffer) = slot {
-        push_spans(spans, spans_in(mem, buffer))?;
-        push_spans(spans, target_spans(mem, buffer))?;
-    }
-    Ok(())
-}
-
-/// The spans that live buffers hold in a memory type.
+/// The spans that live buffers hold in a memory type, each with those of its target.
 fn live_spans(alloc: Global, mem: Mem, buffers: &[Option<Buffer>]) -> Result<Spans, NoMemory>
     ensures { IfOk result (λ spans. spans ≡ flat_map (spans_of_slot mem) buffers.now) }
 {
     let mut spans = Spans::new(alloc);
     for slot in buffers {
-        push_held(&mut spans, mem, slot)?;
+        if let Some(buffer) = slot {
+            spans.extend(spans_in(mem, buffer))?;
+            spans.extend(target_spans(mem, buffer))?;
+        }
     }
     Ok(spans)
 }
 
-/// Puts the spans of ghosts in a memory type behind others.
+/// Puts the spans of ghosts in a memory type after others.
 fn push_ghosts(spans: &mut Spans, mem: Mem, ghosts: &[Ghost]) -> Result<(), NoMemory>
     ensures { OnOk result (spans.new ≡ spans.old ++ flat_map (words.ghost_spans mem) ghosts.now) }
 {
     for g in ghosts {
-        push_spans(spans, ghost_spans(mem, g))?;
+        spans.extend(ghost_spans(mem, g))?;
     }
     Ok(())
 }
@@ -103,29 +85,4 @@ pub fn is_free_beside(held: &[Span], page: u32) -> bool
     ensures { result ≡ pages.is_free_beside held.now page }
 {
     !is_held(held, page)
-}
-
-/// Puts the slots of a declared buffer behind others.
-fn push_slots(slots: &mut Frames, slot: &Option<Buffer>) -> Result<(), NoMemory>
-    ensures { OnOk result (slots.new ≡ slots.old ++ slots_of_slot slot.now) }
-{
-    if let Some(buffer) = slot {
-        for loc in buffer.table.items() {
-            if let Some(n) = slot_of(*loc) {
-                slots.push(n)?;
-            }
-        }
-    }
-    Ok(())
-}
-
-/// All swap slots that buffers hold.
-pub fn held_slots(alloc: Global, core: &Core) -> Result<Frames, NoMemory>
-    ensures { IfOk result (λ slots. slots ≡ words.held_slots core.now) }
-{
-    let mut slots = Frames::new(alloc);
-    for slot in core.buffers.items() {
-        push_slots(&mut slots, slot)?;
-    }
-    Ok(slots)
 }

@@ -61,7 +61,7 @@ impl Least {
 }
 
 /// A look for jobs that aren't done: the least numbers, once they were asked for, since all pending jobs are gone over for them; and the
-/// place behind the job that was found last.
+/// place after the job that was found last.
 #[derive(Drop)]
 pub struct Look {
     least: Option<Least>,

@@ -9,12 +9,10 @@ mod packets;
 mod waits;
 
 pub use free::{FrameMarks, count_free_frames, count_free_slots, free_frame, free_slot};
-pub use holds::{
-    ghost_spans, has_page, held_slots, held_spans, is_free_beside, push_spans, spans_in,
-};
+pub use holds::{ghost_spans, has_page, held_spans, is_free_beside, spans_in};
 pub use packets::packets_of;
 pub use state_words::{is_written, use_of};
 pub use waits::{
-    is_idle, is_unfinished, jobs_before_use, unfinished, unfinished_before_read,
-    unfinished_before_write, waited_before_read, waited_before_write, waited_for,
+    is_idle, is_unfinished, jobs_before_use, unfinished_before_write, waited_before_read,
+    waited_before_write, waited_for,
 };

@@ -1,7 +1,6 @@
 ghost use Rattle.std.specs.Prelude.{◌≡◌, ◌+◌, ◌<◌, ◌≤◌, ◌++◌, ◌&&◌, not, IfOk, OnOk, IsTrue};
 ghost use Rattle.std.specs.List.{position};
 ghost use Rattle.journal_model.specs.State.{new_buffer};
-ghost use Rattle.ttm_base.specs.Fences as fences;
 ghost use Rattle.journal_model.specs.Waits as words;
 ghost use Rattle.journal_model.specs.JobRuns.{jobs_of_run, fits, behind, fences_of_run, is_whole};
 ghost use Rattle.journal_model.specs.JobNames.{same_job};
@@ -41,7 +40,7 @@ fn is_unfinished_at(jobs: &[Job], at: usize, i: JobId) -> bool
 }
 
 /// One of these jobs has the name and isn't done. It is looked for from the place to the end, then before the place, which is left
-/// behind the job that is found: who looks for jobs in the order in which they stand finds each at once.
+/// after the job that is found: who looks for jobs in the order in which they stand finds each at once.
 #[tactic(auto, using(crate::proofs::OpenJobs::found))]
 fn has_unfinished_near(jobs: &[Job], place: &mut usize, i: JobId) -> bool
     ensures { result ≡ is_open jobs.now i }
@@ -79,34 +78,12 @@ pub fn is_unfinished(core: &Core, i: JobId) -> bool
     has_unfinished(core.jobs.pending(), i)
 }
 
-/// Those of the jobs that aren't done.
-pub fn unfinished(alloc: Global, core: &Core, jobs: &[JobId]) -> Result<JobIds, NoMemory>
-    ensures { IfOk result (λ left. left ≡ words.unfinished core.now jobs.now) }
-{
-    let mut look = Look::new();
-    let mut left = JobIds::new(alloc);
-    for i in jobs {
-        let least = look.least_of(core, i.ctx);
-        if is_open(core, least, &mut look.place, *i) {
-            left.push(*i)?;
-        }
-    }
-    Ok(left)
-}
-
-/// Of two jobs this one is named: in the lesser context, or the greater number.
-fn is_named_before(i: JobId, j: JobId) -> bool
-    ensures { result ≡ fences.is_named_before i j }
-{
-    i.ctx < j.ctx || (i.ctx == j.ctx && j.num < i.num)
-}
-
-/// The one of a job and those before it that is named.
+/// The one of a job and those before it that is named: in the lesser context, or of one context the greater number.
 fn named_last(named: Option<JobId>, i: JobId) -> JobId
     ensures { result ≡ named_last named i }
 {
     match named {
-        Some(j) if !is_named_before(i, j) => j,
+        Some(j) if !(i.ctx < j.ctx || (i.ctx == j.ctx && j.num < i.num)) => j,
         _ => i,
     }
 }
@@ -138,7 +115,7 @@ fn are_last(core: &Core, run: JobRun) -> bool
     run.count == 0 || is_within(run, core.jobs.row())
 }
 
-/// The run without its first jobs, so many, of which it has more.
+/// The run without its first `count` jobs; it has more than these.
 fn behind(run: JobRun, count: u64) -> JobRun
     requires count { count < run.count }
     requires fits { IsTrue (fits run) }
@@ -205,7 +182,7 @@ pub fn waited_for(core: &Core, jobs: &JobIds) -> Option<JobId>
     named
 }
 
-/// Puts those of a run's jobs that aren't done behind others, one by one.
+/// Puts those of a run's jobs that aren't done after others, one by one.
 fn push_each_open(
     jobs: &mut JobIds,
     core: &Core,
@@ -229,7 +206,7 @@ fn push_each_open(
     Ok(())
 }
 
-/// Puts those of a run's jobs that aren't done behind others, from a least number on: at once, where all of those that may not be are of
+/// Puts those of a run's jobs that aren't done after others, from a least number on: at once, where all of those that may not be are of
 /// the last jobs.
 fn push_open_from(
     jobs: &mut JobIds,
@@ -254,7 +231,7 @@ fn push_open_from(
     }
 }
 
-/// Puts those of a run's jobs that aren't done behind others: with no look at the other jobs, where all of them are of the last ones.
+/// Puts those of a run's jobs that aren't done after others: with no look at the other jobs, where all of them are of the last ones.
 fn push_open(jobs: &mut JobIds, core: &Core, look: &mut Look, run: JobRun) -> Result<(), NoMemory>
     requires look { IsLook core.now look.old }
     requires fits { IsTrue (fits run) }
@@ -333,18 +310,6 @@ pub fn unfinished_before_write(
     unfinished_before(alloc, core, buffer, Before::Write)
 }
 
-/// Those of the jobs before it is read that aren't done.
-#[tactic(auto, using(crate::proofs::BeforeLaws::read_is))]
-pub fn unfinished_before_read(
-    alloc: Global,
-    core: &Core,
-    buffer: &Buffer,
-) -> Result<JobIds, NoMemory>
-    ensures { IfOk result (λ jobs. jobs ≡ words.unfinished core.now (words.jobs_before_read buffer.now)) }
-{
-    unfinished_before(alloc, core, buffer, Before::Read)
-}
-
 /// The unfinished job to wait for before a buffer is written or read.
 fn waited_before(core: &Core, buffer: &Buffer, before: Before) -> Option<JobId>
     ensures { result ≡ words.waited_for core.now (jobs_before before buffer.now.fences) }
@@ -382,14 +347,16 @@ pub fn is_idle(core: &Core, buffer: &Buffer) -> bool
 }
 
 /// The unfinished jobs that a job waits for at a buffer: all of one that it writes, those that change one that it only reads.
+#[tactic(auto, using(crate::proofs::BeforeLaws::write_is, crate::proofs::BeforeLaws::read_is))]
 pub fn jobs_before_use(alloc: Global, core: &Core, ops: &[Op], b: BufId) -> Result<JobIds, NoMemory>
     ensures { IfOk result (λ jobs. jobs ≡ words.jobs_before_use core.now ops.now b) }
 {
     let dead = dead_buffer(alloc);
     let buffer = buffer_in(core, b, &dead);
-    if is_written(ops, b) {
-        unfinished_before_write(alloc, core, buffer)
+    let before = if is_written(ops, b) {
+        Before::Write
     } else {
-        unfinished_before_read(alloc, core, buffer)
-    }
+        Before::Read
+    };
+    unfinished_before(alloc, core, buffer, before)
 }

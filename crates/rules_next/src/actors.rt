@@ -2,7 +2,6 @@ ghost use Rattle.std.specs.Prelude.{◌≡◌, ◌+◌, ◌<◌, ◌^◌, ◌==�
 ghost use Rattle.journal_model.specs.declared.script.Command.TheVariants as command;
 ghost use Rattle.journal_model.specs.declared.entry.Kind.TheVariants as kind;
 ghost use Rattle.journal_model.specs.declared.entry.Shown.TheVariants as shown;
-ghost use Rattle.journal_model.specs.declared.state.Task.TheVariants as task;
 ghost use Rattle.journal_model.specs.State.{buffer};
 ghost use Rattle.journal_model.specs.Waits.{waited_for, jobs_before_read};
 ghost use Rattle.journal_model.specs.PageSteps.{unless_waiting};
@@ -11,7 +10,7 @@ ghost use Rattle.rules_holds.specs.Marked.{AreFrames};
 ghost use Rattle.rules_search.specs.Room.{HasRoom};
 
 use crate::tasks::task_of_command;
-use journal_model::{Bytes, Command, Course, Job, Kind, Script, SearchAim, Shown, State, Task};
+use journal_model::{Bytes, Command, Course, Job, Kind, Script, Shown, State, Task};
 use rules_holds::{FrameMarks, is_idle, waited_before_read, waited_for};
 use rules_search::{
     Step, Swap, next_ghost, next_job, once_idle, step_of_empty, step_of_fill, step_of_give_back,
@@ -170,23 +169,6 @@ fn step_of_act(
     }
 }
 
-/// The search of a buffer.
-fn step_of_search(
-    alloc: Global,
-    script: &Script,
-    state: &State,
-    course: &Course,
-    command: &Command,
-    b: BufId,
-    aim: SearchAim,
-) -> Result<Step, NoMemory>
-    requires { HasRoom script.now state.now }
-    ensures { IfOk result (λ step. step ≡ words.step_of_task script.now state.now course.now command.now (task.Search b aim)) }
-{
-    let place_search = place_search_for(alloc, script, command, course, b, aim)?;
-    step_of_place_search(alloc, script, state, course, b, &place_search)
-}
-
 /// The step of each task.
 fn step_of_task(
     alloc: Global,
@@ -206,7 +188,10 @@ fn step_of_task(
         Task::Answer => Ok(plain()),
         Task::Start => Ok(step_of_start(state, command)),
         Task::Lock(b) => Ok(step_of_lock(state, course, b)),
-        Task::Search { b, aim } => step_of_search(alloc, script, state, course, command, b, aim),
+        Task::Search { b, aim } => {
+            let place_search = place_search_for(alloc, script, command, course, b, aim)?;
+            step_of_place_search(alloc, script, state, course, b, &place_search)
+        }
         Task::Bind(b) => Ok(Ok(Kind::Bind { b })),
         Task::Unbind(b) => Ok(once_idle(alloc, &state.core, b, Kind::Unbind { b })),
         Task::Move { b, mem } => Ok(step_of_move(script, state, course, b, mem)),
@@ -298,11 +283,11 @@ fn step_of_reaper(state: &State) -> Step
 }
 
 /// The entry that an actor makes next, or what it needs first. The bytes that a read or a probe shows are left empty. The marks are
-/// those of the frames that are held in the state; without them, a step that takes a frame marks them anew.
+/// those of the frames that are held in the state; without them, a step that takes a frame marks them again.
 ///
 /// # Errors
 ///
-/// Want of memory; nothing is changed.
+/// Lack of memory; nothing is changed.
 pub fn next_with(
     alloc: Global,
     script: &Script,
@@ -321,11 +306,11 @@ pub fn next_with(
     }
 }
 
-/// The same, where no marks are kept.
+/// Gives the entry that an actor makes next, or what it needs first; a step that takes a frame marks the frames that are held.
 ///
 /// # Errors
 ///
-/// Want of memory; nothing is changed.
+/// Lack of memory; nothing is changed.
 pub fn next(alloc: Global, script: &Script, state: &State, who: Actor) -> Result<Step, NoMemory>
     requires { HasRoom script.now state.now }
     ensures { IfOk result (λ step. step ≡ words.next script.now state.now who) }

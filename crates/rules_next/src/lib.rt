@@ -8,4 +8,3 @@ pub mod rules_schedule;
 mod tasks;
 
 pub use actors::{next, next_with};
-pub use tasks::{stage_of, task_of};

@@ -1,4 +1,4 @@
-ghost use Rattle.std.specs.Prelude.{◌≡◌, IfOk, find, not};
+ghost use Rattle.std.specs.Prelude.{◌≡◌, IfOk};
 ghost use Rattle.journal_model.specs.State.{new_buffer};
 ghost use Rattle.journal_model.specs.Ready as words;
 
@@ -48,21 +48,16 @@ pub fn is_in_place(script: &Script, command: &Command, b: BufId, buffer: &Buffer
     !has_some_target(buffer) && meets(script, command, b, buffer)
 }
 
-/// The command reads or writes the buffer's bytes.
-pub fn uses_bytes(command: &Command) -> bool
-    ensures { result ≡ words.uses_bytes command.now }
-{
-    matches!(
-        command,
-        Command::Submit { .. } | Command::Write { .. } | Command::Read { .. }
-    )
-}
-
-/// In SYSTEM, each page that the command may use has a frame.
+/// In SYSTEM, each page whose bytes the command may read or write has a frame.
 pub fn is_filled(command: &Command, buffer: &Buffer) -> bool
     ensures { result ≡ words.is_filled command.now buffer.now }
 {
-    !uses_bytes(command) || !same_mem(buffer.mem, Mem::System) || has_all_frames(buffer)
+    match command {
+        Command::Submit { .. } | Command::Write { .. } | Command::Read { .. } => {
+            !same_mem(buffer.mem, Mem::System) || has_all_frames(buffer)
+        }
+        _ => true,
+    }
 }
 
 /// In place and filled. The empty buffer stands for one that isn't live.
@@ -72,22 +67,6 @@ fn is_ready(script: &Script, state: &State, command: &Command, b: BufId, dead: &
 {
     let buffer = buffer_in(&state.core, b, dead);
     is_in_place(script, command, b, buffer) && is_filled(command, buffer)
-}
-
-/// The first of these buffers that isn't ready.
-fn first_of(
-    script: &Script,
-    state: &State,
-    command: &Command,
-    bs: &[BufId],
-    dead: &Buffer,
-) -> Option<BufId>
-    requires { dead.now ≡ new_buffer 0 }
-    ensures { result ≡ find (λ b. not (words.is_ready script.now state.now command.now b)) bs.now }
-{
-    bs.iter()
-        .copied()
-        .find(|b| !is_ready(script, state, command, *b, dead))
 }
 
 /// The named buffer at work: the first that isn't ready.
@@ -101,5 +80,10 @@ pub fn first_unready(
 {
     let bs = named(alloc, command)?;
     let dead = dead_buffer(alloc);
-    Ok(first_of(script, state, command, bs.items(), &dead))
+    let unready = bs
+        .items()
+        .iter()
+        .copied()
+        .find(|b| !is_ready(script, state, command, *b, &dead));
+    Ok(unready)
 }

@@ -1,18 +1,19 @@
-ghost use Rattle.std.specs.Prelude.{◌≡◌, ◌++◌, IfOk, find, not, option_to_list};
+ghost use Rattle.std.specs.Prelude.{◌≡◌, IfOk, find, not};
 ghost use Rattle.ttm_base.specs.ListWords.{last_of};
 ghost use Rattle.journal_model.specs.State.{new_buffer, has_buffer};
 ghost use Rattle.journal_model.specs.Tasks as words;
 
 use crate::ready::{first_unready, has_all_frames, is_in_place};
 use journal_model::{
-    Buffer, Command, Course, Reservation, Script, SearchAim, Stage, State, Task, Victim, Why,
+    Buffer, Command, Course, Reservation, Script, SearchAim, State, Task, Victim, Why,
 };
 use rules_search::has_frame;
 use rules_state::{
-    buffer_in, command_at_work, course_of, dead_buffer, has_buffer, has_some_target, has_target,
-    named, reservation_in, same_mem,
+    buffer_in, dead_buffer, has_buffer, has_some_target, has_target, named, reservation_in,
+    same_mem,
 };
 use std::alloc::Global;
+use ttm_base::limits::MAX_PINS;
 use ttm_base::{BufId, Deny, Mem, NoMemory};
 
 /// New and touch take no ticket; each other command begins with one.
@@ -122,7 +123,9 @@ pub fn forbidden(state: &State, command: &Command) -> Option<Deny>
 {
     let reservations = state.reservations.items();
     match command {
-        Command::Pin { b } if reservation_in(reservations, *b).pins == 255 => Some(Deny::PinMax),
+        Command::Pin { b } if reservation_in(reservations, *b).pins == MAX_PINS => Some(
+            Deny::PinMax,
+        ),
         Command::Unpin { b } if reservation_in(reservations, *b).pins == 0 => Some(Deny::NotPinned),
         Command::Free { b } if reservation_in(reservations, *b).pins > 0 => Some(Deny::Pinned),
         Command::SwapOut { b } if reservation_in(reservations, *b).pins > 0 => Some(Deny::Pinned),
@@ -267,35 +270,5 @@ pub fn task_of_command(
     match last_caught(course.caught.items()) {
         Some(v) => Ok(task_of_victim(v, buffer_in(&state.core, v.b, &dead))),
         None => task_of_held(alloc, script, state, course, command),
-    }
-}
-
-/// What the thread has to do next.
-pub fn task_of(alloc: Global, script: &Script, state: &State, thread: u32) -> Result<Task, NoMemory>
-    ensures { IfOk result (λ task. task ≡ words.task_of script.now state.now thread) }
-{
-    match (
-        course_of(state, thread),
-        command_at_work(script, state, thread),
-    ) {
-        (Some(course), Some(command)) => task_of_command(alloc, script, state, course, command),
-        _ => Ok(Task::Idle),
-    }
-}
-
-/// The group of rules of a task.
-pub fn stage_of(task: Task) -> Stage
-    ensures { result ≡ words.stage_of task }
-{
-    match task {
-        Task::Idle => Stage::Idle,
-        Task::Start => Stage::Start,
-        Task::Lock(_) => Stage::Lock,
-        Task::Search { .. } => Stage::Search,
-        Task::Bind(_) | Task::Unbind(_) | Task::Move { .. } => Stage::Carry,
-        Task::Fill(_) => Stage::Fill,
-        Task::Empty(_) => Stage::Empty,
-        Task::GiveBack(_) | Task::Skip(_) | Task::GiveUp(_) => Stage::Fail,
-        Task::Answer | Task::Refuse(_) | Task::Act => Stage::Act,
     }
 }

@@ -1,4 +1,4 @@
-ghost use Rattle.std.specs.Prelude.{◌≡◌, ◌≤◌, ◌^◌, ◌&&◌, IfOk, find, length, option_copied, option_and_then};
+ghost use Rattle.std.specs.Prelude.{◌≡◌, ◌≤◌, ◌^◌, ◌&&◌, IfOk, length, option_copied, option_and_then};
 ghost use Rattle.journal_model.specs.State.{buffer, reservation};
 ghost use Rattle.journal_model.specs.Dry as words;
 
@@ -6,7 +6,7 @@ use journal_model::{Buffer, Cause, CauseRow, Causes, Ghost, Reservation, Script,
 use rules_holds::ghost_spans;
 use rules_state::{
     declared_pages, has_buffer, has_target, in_order, intersects, is_frame, length_of, live_in,
-    push_buffers, reach_of, reservation_in, same_mem,
+    reach_of, reservation_in, same_mem,
 };
 use std::alloc::Global;
 use ttm_base::{BufId, Mem, NoMemory, Place};
@@ -51,22 +51,12 @@ pub fn victim(
     ensures { IfOk result (λ found. found ≡ words.victim script.now state.now skips.now place) }
 {
     let bs = in_order(alloc, state, place.mem)?;
-    Ok(first_evictable(script, state, skips, place, bs.items()))
-}
-
-/// The first of these buffers that is evictable.
-fn first_evictable(
-    script: &Script,
-    state: &State,
-    skips: &[BufId],
-    place: Place,
-    bs: &[BufId],
-) -> Option<BufId>
-    ensures { result ≡ find (words.is_evictable script.now state.now skips.now place) bs.now }
-{
-    bs.iter()
+    let found = bs
+        .items()
+        .iter()
         .copied()
-        .find(|b| is_evictable(script, state, skips, place, *b))
+        .find(|b| is_evictable(script, state, skips, place, *b));
+    Ok(found)
 }
 
 /// The first ghost that holds a page that the place reaches.
@@ -100,21 +90,15 @@ fn is_swappable(state: &State, b: BufId) -> bool
     }
 }
 
-/// The first of these buffers that may give its frames to swap.
-fn first_swappable(state: &State, bs: &[BufId]) -> Option<BufId>
-    ensures { result ≡ find (λ b. words.is_loose (reservation state.now b) && words.has_frame (buffer state.now b)) bs.now }
-{
-    bs.iter().copied().find(|b| is_swappable(state, *b))
-}
-
 /// The first buffer that may give its frames to swap: in SYSTEM by priority, then in TT.
 pub fn swap_victim(alloc: Global, state: &State) -> Result<Option<BufId>, NoMemory>
     ensures { IfOk result (λ found. found ≡ words.swap_victim state.now) }
 {
     let mut bs = in_order(alloc, state, Mem::System)?;
     let others = in_order(alloc, state, Mem::Tt)?;
-    push_buffers(&mut bs, others.items())?;
-    Ok(first_swappable(state, bs.items()))
+    bs.extend(others.items())?;
+    let found = bs.items().iter().copied().find(|b| is_swappable(state, *b));
+    Ok(found)
 }
 
 /// The first ghost that holds a frame.
@@ -148,27 +132,7 @@ pub fn cause_of(script: &Script, place: Place, reservation: Reservation, buffer:
     }
 }
 
-/// The cause of a buffer that has its resource or a target in the place's manager.
-fn cause_row(
-    script: &Script,
-    reservations: &[Reservation],
-    place: Place,
-    b: BufId,
-    buffer: &Buffer,
-) -> Option<CauseRow>
-    ensures { result ≡ words.cause_row script.now reservations.now place (b, buffer.now) }
-{
-    if same_mem(buffer.mem, place.mem) || has_target(place.mem, buffer) {
-        Some(CauseRow {
-            b,
-            cause: cause_of(script, place, reservation_in(reservations, b), buffer),
-        })
-    } else {
-        None
-    }
-}
-
-/// The cause of a declared buffer, where it is live.
+/// The cause of a declared buffer, where it is live and has its resource or a target in the place's manager.
 fn row_of(
     script: &Script,
     reservations: &[Reservation],
@@ -179,8 +143,13 @@ fn row_of(
     ensures { result ≡ option_and_then (λ x. words.cause_row script.now reservations.now place (b, x)) slot.now }
 {
     match slot {
-        Some(buffer) => cause_row(script, reservations, place, b, buffer),
-        None => None,
+        Some(buffer) if same_mem(buffer.mem, place.mem) || has_target(place.mem, buffer) => {
+            Some(CauseRow {
+                b,
+                cause: cause_of(script, place, reservation_in(reservations, b), buffer),
+            })
+        }
+        _ => None,
     }
 }
 

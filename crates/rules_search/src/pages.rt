@@ -54,32 +54,7 @@ fn page_to_fill(buffer: &Buffer) -> u32
     }
 }
 
-/// A fresh page, or one that comes back from swap.
-fn filled_by(b: BufId, page: u32, frame: u32, loc: Loc) -> Kind
-    ensures { result ≡ words.filled_by b page frame loc }
-{
-    match loc {
-        Loc::Slot(slot) => Kind::SwapIn {
-            b,
-            page,
-            slot,
-            frame,
-        },
-        Loc::Zero | Loc::Frame(_) => Kind::Populate { b, page, frame },
-    }
-}
-
-/// A ghost will give a frame, or none is to be had.
-fn step_without_victim(state: &State, b: BufId) -> Step
-    ensures { result ≡ words.step_without_victim state.now b }
-{
-    match ghost_with_frame(state) {
-        Some(g) => Err(Need::Ghost(g.num)),
-        None => Ok(Kind::NoPages { b }),
-    }
-}
-
-/// A victim for swap, where a slot is free.
+/// A victim for swap, where a slot is free; else a ghost will give a frame, or there is none.
 fn step_without_frame(
     alloc: Global,
     script: &Script,
@@ -96,10 +71,13 @@ fn step_without_frame(
             }));
         }
     }
-    Ok(step_without_victim(state, b))
+    match ghost_with_frame(state) {
+        Some(g) => Ok(Err(Need::Ghost(g.num))),
+        None => Ok(Ok(Kind::NoPages { b })),
+    }
 }
 
-/// The next page without a frame gets one.
+/// The next page without a frame gets one: a fresh page, or one that comes back from swap.
 fn filled_with(alloc: Global, core: &Core, b: BufId, frame: u32) -> Kind
     requires { length (states.buffer_in core.now b).table ≤ 2 ^ 32 }
     ensures { result ≡ words.filled_by b (words.page_to_fill (states.buffer_in core.now b)) frame (loc_of (states.buffer_in core.now b) (words.page_to_fill (states.buffer_in core.now b))) }
@@ -107,7 +85,15 @@ fn filled_with(alloc: Global, core: &Core, b: BufId, frame: u32) -> Kind
     let dead = dead_buffer(alloc);
     let buffer = buffer_in(core, b, &dead);
     let page = page_to_fill(buffer);
-    filled_by(b, page, frame, loc_of(buffer, page))
+    match loc_of(buffer, page) {
+        Loc::Slot(slot) => Kind::SwapIn {
+            b,
+            page,
+            slot,
+            frame,
+        },
+        Loc::Zero | Loc::Frame(_) => Kind::Populate { b, page, frame },
+    }
 }
 
 /// The lowest free frame, by its marks where there are some.
@@ -126,7 +112,7 @@ fn frame_to_give(
     }
 }
 
-/// The next page with the lowest free frame; without one, a victim for swap. The frames that are held are marked anew where no marks
+/// The next page with the lowest free frame; without one, a victim for swap. The frames that are held are marked again where no marks
 /// are given.
 pub fn step_of_fill(
     alloc: Global,

@@ -59,29 +59,6 @@ fn step_of_crowded(
     }))
 }
 
-/// At the k-th forced place.
-fn step_of_forced_place(
-    alloc: Global,
-    script: &Script,
-    state: &State,
-    course: &Course,
-    b: BufId,
-    k: u32,
-    place: Place,
-) -> Result<Step, NoMemory>
-    requires { HasRoom script.now state.now }
-    ensures { IfOk result (λ step. step ≡ words.step_of_forced_place script.now state.now course.now b k place) }
-{
-    match choice(alloc, script, &state.core, b, place)? {
-        Some(spans) => Ok(Ok(Kind::Take {
-            b,
-            mem: place.mem,
-            spans,
-        })),
-        None => step_of_crowded(alloc, script, state, course, b, k, place),
-    }
-}
-
 /// At the k-th of the forced places.
 fn step_of_forced(
     alloc: Global,
@@ -99,7 +76,14 @@ fn step_of_forced(
         Some(place) => *place,
         None => whole(Mem::System),
     };
-    step_of_forced_place(alloc, script, state, course, b, k, place)
+    match choice(alloc, script, &state.core, b, place)? {
+        Some(spans) => Ok(Ok(Kind::Take {
+            b,
+            mem: place.mem,
+            spans,
+        })),
+        None => step_of_crowded(alloc, script, state, course, b, k, place),
+    }
 }
 
 /// The memory type and the pages of the first place with a choice.

@@ -1,5 +1,4 @@
-ghost use Rattle.std.specs.Prelude.{◌≡◌, IfOk, option_copied, replicate};
-ghost use Rattle.ttm_base.specs.declared.Loc.TheVariants as loc;
+ghost use Rattle.std.specs.Prelude.{◌≡◌, IfOk, option_copied};
 ghost use Rattle.journal_model.specs.State as words;
 
 use journal_model::{BufIds, Buffer, Core, Course, Fences, Reservation, State, Table, Targets};
@@ -37,17 +36,6 @@ pub fn is_live(state: &State, b: BufId) -> bool
     live_in(state.core.buffers.items(), b).is_some()
 }
 
-/// A table of so many pages that stand nowhere.
-fn empty_table(alloc: Global, pages: u32) -> Result<Table, NoMemory>
-    ensures { IfOk result (λ table. table ≡ replicate pages loc.Zero) }
-{
-    let mut table = Table::new(alloc);
-    for _page in 0..pages {
-        table.push(Loc::Zero)?;
-    }
-    Ok(table)
-}
-
 /// A buffer without pages, which stands for each buffer that isn't live. It takes no memory.
 pub fn dead_buffer(alloc: Global) -> Buffer
     ensures { result ≡ words.new_buffer 0 }
@@ -65,22 +53,15 @@ pub fn dead_buffer(alloc: Global) -> Buffer
     }
 }
 
-/// A buffer of so many pages as it is made.
+/// Makes a buffer of `pages` pages, which are nowhere.
 pub fn new_buffer(alloc: Global, pages: u32) -> Result<Buffer, NoMemory>
     ensures { IfOk result (λ x. x ≡ words.new_buffer pages) }
 {
-    let table = empty_table(alloc, pages)?;
-    Ok(Buffer {
-        mem: Mem::System,
-        spans: Spans::new(alloc),
-        table,
-        targets: Targets {
-            system: None,
-            tt: None,
-            vram: None,
-        },
-        fences: Fences::new(alloc),
-    })
+    let mut buffer = dead_buffer(alloc);
+    for _page in 0..pages {
+        buffer.table.push(Loc::Zero)?;
+    }
+    Ok(buffer)
 }
 
 /// The buffer, or where it isn't live the empty one.

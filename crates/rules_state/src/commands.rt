@@ -1,11 +1,12 @@
-ghost use Rattle.std.specs.Prelude.{◌≡◌, ◌∷◌, [], IfOk, option_copied};
+ghost use Rattle.std.specs.Prelude.{◌≡◌, IfOk, option_copied};
+ghost use Rattle.journal_model.specs.ApplyJobs as jobs;
 ghost use Rattle.journal_model.specs.Commands as words;
 
 use crate::buffers::course_of;
 use journal_model::{Command, Script, State};
 use state_words::{commands_of, declared_places, unflagged, whole};
 use std::alloc::Global;
-use ttm_base::{BufId, FlaggedPlace, FlaggedPlaces, Mem, NoMemory};
+use ttm_base::{BufId, FlaggedPlaces, Mem, NoMemory, Op};
 
 /// The command that a thread is at.
 pub fn command_at_work<'a>(script: &'a Script, state: &State, thread: u32) -> Option<&'a Command>
@@ -17,24 +18,14 @@ pub fn command_at_work<'a>(script: &'a Script, state: &State, thread: u32) -> Op
     }
 }
 
-/// A list of one place.
-pub(crate) fn only_place(alloc: Global, place: FlaggedPlace) -> Result<FlaggedPlaces, NoMemory>
-    ensures { IfOk result (λ places. places ≡ place ∷ []) }
+/// Lends the operations of a job, none of a command that is no job.
+pub fn ops_of(command: Option<&Command>) -> &[Op]
+    ensures { result.now ≡ jobs.ops_of (option_copied command.entry) }
 {
-    let mut places = FlaggedPlaces::new(alloc);
-    places.push(place)?;
-    Ok(places)
-}
-
-/// A second list of the same places.
-fn copied_places(alloc: Global, places: &[FlaggedPlace]) -> Result<FlaggedPlaces, NoMemory>
-    ensures { IfOk result (λ copy. copy ≡ places.now) }
-{
-    let mut copy = FlaggedPlaces::new(alloc);
-    for place in places {
-        copy.push(*place)?;
+    match command {
+        Some(Command::Submit { ops, .. }) => ops.items(),
+        _ => &[],
     }
-    Ok(copy)
 }
 
 /// The places where a command wants its buffer.
@@ -47,8 +38,10 @@ pub fn asked_places(
     ensures { IfOk result (λ places. places ≡ words.asked_places script.now command.now b) }
 {
     match command {
-        Command::Move { mem, .. } => only_place(alloc, unflagged(whole(*mem))),
-        Command::SwapOut { .. } => only_place(alloc, unflagged(whole(Mem::System))),
-        _ => copied_places(alloc, declared_places(script, b)),
+        Command::Move { mem, .. } => { FlaggedPlaces::from_slice(alloc, &[unflagged(whole(*mem))]) }
+        Command::SwapOut { .. } => {
+            FlaggedPlaces::from_slice(alloc, &[unflagged(whole(Mem::System))])
+        }
+        _ => FlaggedPlaces::from_slice(alloc, declared_places(script, b)),
     }
 }

@@ -1,4 +1,4 @@
-ghost use Rattle.std.specs.Prelude.{◌≡◌, ◌++◌, ◌*◌, ◌<◌, ◌^◌, IfOk, OnOk};
+ghost use Rattle.std.specs.Prelude.{◌≡◌, ◌*◌, ◌<◌, ◌^◌, IfOk};
 ghost use Rattle.journal_model.specs.Lists as words;
 
 use journal_model::{BufIds, Script, State};
@@ -14,16 +14,6 @@ pub fn list_number(mem: Mem, prio: u32) -> usize
     4 * mem_number(mem) as usize + prio as usize
 }
 
-/// Puts buffers behind others.
-pub fn push_buffers(bs: &mut BufIds, more: &[BufId]) -> Result<(), NoMemory>
-    ensures { OnOk result (bs.new ≡ bs.old ++ more.now) }
-{
-    for b in more {
-        bs.push(*b)?;
-    }
-    Ok(())
-}
-
 /// The buffers of a memory type in the order in which victims are looked for.
 pub fn in_order(alloc: Global, state: &State, mem: Mem) -> Result<BufIds, NoMemory>
     ensures { IfOk result (λ bs. bs ≡ words.in_order state.now mem) }
@@ -32,7 +22,7 @@ pub fn in_order(alloc: Global, state: &State, mem: Mem) -> Result<BufIds, NoMemo
     let lists = state.lists.items();
     for prio in 0..4 {
         if let Some(list) = lists.get(list_number(mem, prio)) {
-            push_buffers(&mut bs, list.items())?;
+            bs.extend(list.items())?;
         }
     }
     Ok(bs)

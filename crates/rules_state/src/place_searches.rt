@@ -5,7 +5,7 @@ ghost use Rattle.journal_model.specs.Search as words;
 ghost use Rattle.rules_state.specs.PlaceSearches.{place_search_of};
 
 use crate::buffers::{buffer_in, dead_buffer, has_target};
-use crate::commands::{asked_places, only_place};
+use crate::commands::asked_places;
 use journal_model::{Buffer, Command, Course, Script, SearchAim, State};
 use state_words::{as_fallback, is_caught, whole};
 use std::alloc::Global;
@@ -26,25 +26,8 @@ pub fn has_some_target(buffer: &Buffer) -> bool
     has_target(Mem::System, buffer) || has_target(Mem::Tt, buffer) || has_target(Mem::Vram, buffer)
 }
 
-/// A victim, and a buffer that has a target, hop through TT; any other goes where its command asks.
-pub fn aim_of(course: &Course, b: BufId, buffer: &Buffer) -> SearchAim
-    ensures { result ≡ words.aim_of course.now b buffer.now }
-{
-    if is_caught(course, b) || has_some_target(buffer) {
-        SearchAim::Hop
-    } else {
-        SearchAim::Asked
-    }
-}
-
-/// The hop on the way between SYSTEM and VRAM: all of TT, tried under pressure alone.
-fn through_tt(alloc: Global) -> Result<FlaggedPlaces, NoMemory>
-    ensures { IfOk result (λ places. places ≡ words.through_tt) }
-{
-    only_place(alloc, as_fallback(whole(Mem::Tt)))
-}
-
-/// The search of a buffer for a command. A victim's search has come no way.
+/// Gives the search of the buffer `b` for a command: the places that the command asks for, or for a hop between SYSTEM and VRAM all of TT,
+/// tried under pressure alone. A victim's search has come no way.
 pub fn place_search_for(
     alloc: Global,
     script: &Script,
@@ -62,7 +45,7 @@ pub fn place_search_for(
             dry: course.dry,
         }),
         SearchAim::Hop => {
-            let list = through_tt(alloc)?;
+            let list = FlaggedPlaces::from_slice(alloc, &[as_fallback(whole(Mem::Tt))])?;
             if is_caught(course, b) {
                 Ok(PlaceSearch {
                     list,
@@ -80,7 +63,8 @@ pub fn place_search_for(
     }
 }
 
-/// The search of a buffer, as its state tells it.
+/// Gives the search of the buffer `b`, as its state tells it: a victim, and a buffer that has a target, hop through TT; any other goes
+/// where its command asks.
 pub fn place_search_at_work(
     alloc: Global,
     script: &Script,
@@ -92,6 +76,10 @@ pub fn place_search_at_work(
     ensures { IfOk result (λ q. place_search_of q ≡ words.place_search_at_work script.now state.now course.now command.now b) }
 {
     let dead = dead_buffer(alloc);
-    let aim = aim_of(course, b, buffer_in(&state.core, b, &dead));
+    let aim = if is_caught(course, b) || has_some_target(buffer_in(&state.core, b, &dead)) {
+        SearchAim::Hop
+    } else {
+        SearchAim::Asked
+    };
     place_search_for(alloc, script, command, course, b, aim)
 }

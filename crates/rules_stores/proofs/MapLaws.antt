@@ -35,7 +35,7 @@ beside_first page start None rest = elim (start == page) as (λ b. frame_beside 
 beside_first page start (Some f) rest =
     elim (start == page) as (λ b. option_map (λ e. e.1) (if b then Some (start, f) else find (λ e. e.0 == page) rest) ≡ option_or (if b then Some f else None) (frame_beside page rest)) [ true ↦ refl | false ↦ refl ]
 
--- the frame beside the page so far behind a start, if it is below an end
+-- the frame beside the page so far after a start, if it is below an end
 abbrev at_place : {X : Type 0} → (X → Option ℕ) → List X → ℕ → ℕ → ℕ → Option ℕ
 at_place frame table page start end = if nat_le start page && nat_lt page end then option_and_then frame (slice_get table (page - start)) else None
 
@@ -57,7 +57,7 @@ place_first frame page n start t table rest =
       ]
     ]
 
--- the pages of one span, and those behind it
+-- the pages of one span, and those after it
 beside_count : {X : Type 0} (frame : X → Option ℕ) (page n start : ℕ) (more : List ℕ) (table : List X) →
     frame_beside page (filter_map (named frame) (zip (count_from 1 n start ++ more) table)) ≡ option_or (at_place frame table page start (start + n)) (frame_beside page (filter_map (named frame) (zip more (drop n table))))
 beside_count frame page zero start more table = grind (arith, nat_tests)
@@ -76,7 +76,7 @@ beside_count frame page (suc n) start more (t ∷ table) =
 place_span : {X : Type 0} (frame : X → Option ℕ) (s : Span) (table : List X) (page : ℕ) → at_place frame table page s.start (s.start + length_of s) ≡ at_span frame s table page
 place_span frame s table page = grind (arith, nat_tests)
 
--- of some spans the first, and those behind it
+-- of some spans the first, and those after it
 beside_span : {X : Type 0} (frame : X → Option ℕ) (spans : List Span) (k : ℕ) (d : Span) (table : List X) (page : ℕ) → k < length spans →
     frame_beside page (filter_map (named frame) (zip (pages_of (drop k spans)) table))
     ≡ option_or (at_span frame (get_or spans k d) table page) (frame_beside page (filter_map (named frame) (zip (pages_of (drop (k + 1) spans)) (drop (length_of (get_or spans k d)) table))))
@@ -108,7 +108,7 @@ frames_span spans k d frames page h =
     ∙ beside_span (λ f. Some f) spans k d frames page h
     ∙ ap (λ es. option_or (at_span (λ f. Some f) s frames page) (frame_beside page es)) (all_named (pages_of (drop (k + 1) spans)) (drop (length_of s) frames))
 
--- of some holders the first, and those behind it
+-- of some holders the first, and those after it
 pub beside_holder : {X : Type 0} (mapped : X → List (ℕ × ℕ)) (holders : List X) (k : ℕ) (d : X) (page : ℕ) → k < length holders →
     frame_beside page (flat_map mapped (drop k holders)) ≡ option_or (frame_beside page (mapped (get_or holders k d))) (frame_beside page (flat_map mapped (drop (k + 1) holders)))
 beside_holder mapped holders k d page h =

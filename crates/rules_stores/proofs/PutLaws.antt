@@ -12,7 +12,7 @@ use Rattle.journal_model.specs.Stores.{put_bytes}
 use Rattle.journal_model.specs.Stores.{is_there}
 use Rattle.rules_stores.specs.Kept.{KeptBytes, BecomesBytes, bytes_of, within}
 
--- first some bytes, and then others behind them
+-- first some bytes, and then others after them
 put_bytes-append : (x : Buffer) (off : ℕ) (xs ys : List ℕ) (bytes : PageBytes) → put_bytes x off (xs ++ ys) bytes ≡ put_bytes x (off + length xs) ys (put_bytes x off xs bytes)
 put_bytes-append x off [] ys bytes = let e : off ≡ off + 0 = omega arith in ap (λ n. put_bytes x n ys bytes) e
 put_bytes-append x off (b ∷ xs) ys bytes =
@@ -34,7 +34,7 @@ one_cell true b off o old =
       ]
     ]
 
--- a byte, and those behind it
+-- a byte, and those after it
 more_cells : (s : Bool) (bs : List ℕ) (b off o old : ℕ) →
     (if s && nat_le (off + 1) o && nat_lt o (off + 1 + length bs) then get_or bs (o - (off + 1)) 0 else (if s && nat_le off o && nat_lt o (off + 1) then b else old))
     ≡ (if s && nat_le off o && nat_lt o (off + suc (length bs)) then get_or (b ∷ bs) (o - off) 0 else old)
@@ -79,7 +79,7 @@ put_agrees x off [] first second p o h = h
 put_agrees x off (b ∷ xs) first second p o h =
     put_agrees x (off + 1) xs _ _ p o (ap (λ old. if same_page p (page_at x (off / 4096)) && nat_le (off % 4096) o && nat_lt o (off % 4096 + 1) then b else old) h)
 
--- bytes on one page, and then others behind them
+-- bytes on one page, and then others after them
 put_at : (sizes : Sizes) (x : Buffer) (off : ℕ) (xs ys : List ℕ) (bytes : PageBytes) → off % 4096 + length xs ≤ 4096 → (p : Page) (o : ℕ) (there : Bool) → there ≡ (is_there sizes p && nat_lt o 4096) →
     let mid = within sizes (with_bytes bytes (page_at x (off / 4096)) (off % 4096) (length xs) (slice_index xs)) bytes in
     (if there then put_bytes x (off + length xs) ys mid p o else mid p o) ≡ (if there then put_bytes x off (xs ++ ys) bytes p o else bytes p o)
@@ -129,7 +129,7 @@ module _ (old mid : KeptBytes) (x : Buffer) (off count : ℕ) (all : List ℕ) (
       let e : take count all ≡ all = take_all count all h in
       subst (λ (xs : List ℕ). BecomesBytes old mid (put_bytes x off xs (bytes_of old))) e (becomes_put_all old mid x off (take count all) (omega (arith, fits)) first_here)
 
-  -- and those behind them
+  -- and those after them
   pub put_parts : (new : KeptBytes) → BecomesBytes mid new (put_bytes x (off + count) (take (length all - count) (drop count all)) (bytes_of mid)) → BecomesBytes old new (put_bytes x off all (bytes_of old))
   put_parts new second =
       let rest : take (length all - count) (drop count all) ≡ drop count all = take_all (length all - count) (drop count all) (omega (arith, length-drop count all)) in

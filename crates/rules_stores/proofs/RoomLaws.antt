@@ -75,7 +75,7 @@ page_put d f page off len value r e n v q o =
       ]
     ]
 
--- the bytes of pages after so many bytes of one, as counted by the code, were written
+-- the bytes of pages after count bytes of one page, as the code counts them, were written
 pub page_write : (d f : List ℕ) (at count page off len : ℕ) (value : ℕ → ℕ) →
     count ≡ (if has_room d page then min (4096 - off) len else 0) → 0 < count → at ≡ 4096 * page + off → length f ≡ count →
     ((i : ℕ) → i < length f → get_or f i 0 ≡ value i) → (q o : ℕ) → room_byte (overwritten d at f) q o ≡ byte_after d page off len value q o

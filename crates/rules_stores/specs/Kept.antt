@@ -16,13 +16,13 @@ bytes_in v f s (vram p) o = room_byte v p o
 bytes_in v f s (frame p) o = room_byte f p o
 bytes_in v f s (slot p) o = room_byte s p o
 
--- the lists have so many pages, frames and slots
+-- the lists have the pages, frames and slots of the sizes
 pub record HasSizes (sizes : Sizes) (v f s : List ℕ) : Type 0 where
   pub vram_len : length v ≡ 4096 * sizes.vram
   pub frames_len : length f ≡ 4096 * sizes.frames
   pub slots_len : length s ≡ 4096 * sizes.swap
 
--- three lists of bytes, for so many pages, frames and slots
+-- three lists of bytes, for the pages, frames and slots of the sizes
 pub record KeptBytes : Type 0 where
   pub sizes : Sizes
   pub vram : List ℕ

@@ -1,7 +1,7 @@
 -- Bytes of pages, page after page, in one list.
 use Rattle.std.specs.Prelude.{ℕ, ◌+◌, ◌-◌, ◌*◌, Bool, List, ◌==◌, ◌&&◌, nat_le, nat_lt, length, slice_index, if◌then◌else◌}
 
--- the byte of a page at an offset; zeros stand behind the list
+-- the byte of a page at an offset; zeros follow the list
 abbrev pub room_byte : List ℕ → ℕ → ℕ → ℕ
 room_byte room page o = if nat_lt o 4096 then slice_index room (4096 * page + o) else 0
 

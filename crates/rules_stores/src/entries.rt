@@ -15,6 +15,7 @@ use crate::stores::PlainStores;
 use journal_model::{Command, Core, Entry, Kind, Script, State};
 use rules_state::command_at_work;
 use rules_state::rules_parts::actors::{engine_of, thread_of};
+use ttm_base::limits::PAGE_BYTES;
 use ttm_base::{Actor, JobId, Packet, PagePlace};
 
 /// A packet of a job, or a look at nothing where it isn't there.
@@ -121,18 +122,18 @@ impl PlainStores {
         ensures { BecomesBytes self.old self.new (words.stores_after script.now state.now entry.now.who entry.now.kind (bytes_of self.old)) }
     {
         match &entry.kind {
-            Kind::Populate { frame, .. } => self.fill(StorePage::Frame(*frame), 0, 4096, 0),
+            Kind::Populate { frame, .. } => self.fill(StorePage::Frame(*frame), 0, PAGE_BYTES, 0),
             Kind::SwapIn { slot, frame, .. } => copy_part(
                 self,
                 whole(StorePage::Frame(*frame)),
                 whole(StorePage::Slot(*slot)),
-                4096,
+                PAGE_BYTES,
             ),
             Kind::SwapOut { b, page, slot } => copy_part(
                 self,
                 whole(StorePage::Slot(*slot)),
                 whole(StorePage::of(&state.core, *b, *page)),
-                4096,
+                PAGE_BYTES,
             ),
             Kind::Packet { num, k, .. } => {
                 let id = JobId {

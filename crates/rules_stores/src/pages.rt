@@ -72,7 +72,7 @@ impl StorePage {
     }
 }
 
-/// What stands behind so many items.
+/// The items after the first `count`.
 fn behind<T>(items: &[T], count: usize) -> &[T]
     ensures { result.now ≡ drop count items.now }
 {

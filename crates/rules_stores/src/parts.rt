@@ -9,9 +9,10 @@ use crate::pages::StorePage;
 use crate::stores::PlainStores;
 use journal_model::Core;
 use ttm_base::BufId;
+use ttm_base::limits::PAGE_BYTES;
 
 /// Bytes of a page.
-const PAGE: usize = 4096;
+const PAGE: usize = PAGE_BYTES as usize;
 
 /// A part of a page: where it begins.
 #[derive(Clone, Copy)]

@@ -74,7 +74,7 @@ impl Room {
         }
     }
 
-    /// Writes one byte to a page so many times from an offset on, as far as the page goes.
+    /// Writes `byte` to `len` bytes of a page from `off` on, as far as the page goes.
     pub fn fill(&mut self, page: u32, off: u32, len: u32, byte: u8)
         ensures len { length self.new ≡ length self.old }
         ensures bytes { (q o : ℕ) → room_byte self.new q o ≡ byte_after self.old page off len (λ i. byte) q o }
@@ -85,7 +85,7 @@ impl Room {
         }
     }
 
-    /// Reads bytes of a page from an offset on; zeros stand behind the page.
+    /// Reads bytes of a page from an offset on; zeros follow the page.
     pub fn read(&self, page: u32, off: u32, into: &mut [u8])
         ensures { (i : ℕ) → i < length into.old → slice_index into.new i ≡ (if has_room self.now page then room_byte self.now page (off + i) else 0) }
     {

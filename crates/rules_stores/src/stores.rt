@@ -42,7 +42,7 @@ impl Model for PlainStores {
 }
 
 impl PlainStores {
-    /// Zeros in so many pages, frames and slots.
+    /// Makes stores of `sizes` pages, frames and slots, all zeros.
     pub fn new(alloc: Global, sizes: Sizes) -> Result<PlainStores, NoMemory>
         ensures sizes { IfOk result (λ s. s.sizes ≡ sizes) }
         ensures bytes { IfOk result (λ s. bytes_of s ≡ zeros) }
@@ -91,7 +91,7 @@ impl PlainStores {
         }
     }
 
-    /// Writes one byte so many times to a page from an offset on.
+    /// Writes `byte` to `len` bytes of a page from `off` on.
     pub fn fill(&mut self, page: StorePage, off: u32, len: u32, byte: u8)
         ensures { BecomesBytes self.old self.new (with_bytes (bytes_of self.old) (page_of page) off len (λ i. byte)) }
     {

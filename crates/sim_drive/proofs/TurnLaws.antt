@@ -13,7 +13,7 @@ use Rattle.laws.proofs.law_state.Turns.{run_good}
 use Rattle.device_core.specs.Kept.{Kept, entry_of, after_step, after_turn, next_actor, after_found}
 
 module _ (script : Script) (n : ℕ) where
-  -- the device that has taken so many turns
+  -- the device that has taken n turns
   abbrev pub at : Kept
   at = record { script = script; journal = scheduled script n }
 
@@ -51,13 +51,13 @@ module _ (script : Script) (n : ℕ) where
       after_incomplete who incomplete
       ∙ stepped_is who (ap (λ o. elim o [ Some x ↦ Some x | None ↦ next_actor at ]) h)
 
-  -- behind it
+  -- after it
   pub behind_schedule : (who : Option Actor) → next_actor at ≡ who → slice_get (scheduled_actors script) n ≡ None → after_found at who ≡ record { script = script; journal = scheduled script (n + 1) }
   behind_schedule (Some who) found h = stepped_is who (ap (λ o. elim o [ Some x ↦ Some x | None ↦ next_actor at ]) h ∙ found)
   behind_schedule None found h =
       ap (λ j. record { script = script; journal = j }) (sym (next_journal None (ap (λ o. elim o [ Some x ↦ Some x | None ↦ next_actor at ]) h ∙ found)))
 
--- the same of a device whose journal is that of so many turns
+-- the same of a device whose journal is that of n turns
 pub scheduled_moves : (k : Kept) (n : ℕ) (who : Actor) → k.journal ≡ scheduled k.script n → slice_get (scheduled_actors k.script) n ≡ Some who → is_complete k.script k.journal ≡ false →
     after_turn k who ≡ record { script = k.script; journal = scheduled k.script (n + 1) }
 scheduled_moves k n who j turn h =

@@ -15,7 +15,7 @@ pub record EndsAfter (script : Script) (allowed n : ℕ) : Type 0 where
   pub within : n ≤ allowed
   pub ends : (is_complete script (scheduled script n) ≡ true) ⊎ (n ≡ allowed)
 
--- the device stands where some number of turns leads, at most so many
+-- the device is where some number of turns leads, at most those allowed
 pub record HasTaken (script : Script) (allowed : ℕ) (k : Kept) : Type 0 where
   pub turns : ℕ
   pub few : turns ≤ allowed

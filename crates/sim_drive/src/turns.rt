@@ -1,4 +1,4 @@
-ghost use Rattle.std.specs.Prelude.{◌≡◌, ◌+◌, ◌++◌, [], OnOk, OnErr, IfOk, false, flat_map, slice_get};
+ghost use Rattle.std.specs.Prelude.{◌≡◌, ◌+◌, [], OnOk, OnErr, IfOk, false, flat_map, slice_get};
 ghost use Rattle.journal_model.specs.Complete.{is_complete};
 ghost use Rattle.journal_model.specs.Scheduled.{scheduled, scheduled_actors};
 ghost use Rattle.sim_drive.specs.Ends.{EndsAfter, HasTaken};
@@ -8,23 +8,13 @@ use journal_model::TurnLine;
 use std::alloc::Global;
 use ttm_base::{Actor, ItemList, NoMemory};
 
-/// Puts the actors of a line behind others.
-fn push_line(actors: &mut ItemList<Actor>, line: &[Actor]) -> Result<(), NoMemory>
-    ensures { OnOk result (actors.new ≡ actors.old ++ line.now) }
-{
-    for who in line {
-        actors.push(*who)?;
-    }
-    Ok(())
-}
-
 /// The actors of all schedule lines, in order.
 fn actors_of(alloc: Global, lines: &[TurnLine]) -> Result<ItemList<Actor>, NoMemory>
     ensures { IfOk result (λ actors. actors ≡ flat_map (λ l. l) lines.now) }
 {
     let mut actors = ItemList::new(alloc);
     for line in lines {
-        push_line(&mut actors, line.items())?;
+        actors.extend(line.items())?;
     }
     Ok(actors)
 }
@@ -59,7 +49,7 @@ fn take_turn(device: &mut Device, schedule: &[Actor], turn: u64) -> Result<(), N
 ///
 /// # Errors
 ///
-/// Want of memory; then fewer turns were taken.
+/// Lack of memory; then fewer turns were taken.
 pub fn drive(alloc: Global, device: &mut Device, allowed: u64) -> Result<u64, NoMemory>
     requires { device.old.journal ≡ [] }
     ensures turns { IfOk result (λ n. EndsAfter device.old.script allowed n) }

@@ -23,7 +23,7 @@ use Rattle.check_program.specs.Ends.{EndsChecked}
 abbrev pub allowed : Option ℕ → Script → ℕ
 allowed turns script = unwrap_or turns (min (turn_limit script) 18446744073709551615)
 
--- The journal is that of the stated interleaving after so many turns: it is legal, and the turns are the least number that
+-- The journal is that of the stated interleaving after the turns taken: it is legal, and the turns are the least number that
 -- makes it complete, or all that are allowed.
 pub record IsRunOf (script : Script) (turns : Option ℕ) (k : Kept) (taken : ℕ) : Type 0 where
   pub run : k ≡ record { script = script; journal = scheduled script taken }
@@ -51,7 +51,7 @@ ComesSim turns source outcome.Help = ⊥
 ComesSim turns source outcome.Version = ⊥
 ComesSim turns source (outcome.Judged f) = ⊥
 
--- what a script and the report behind it come to
+-- what a script and the report after it come to
 abbrev pub ComesChecked : Edge → Outcome → Type 0
 ComesChecked source (outcome.Judged f) = Finds source f
 ComesChecked source o = ⊥

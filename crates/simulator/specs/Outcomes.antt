@@ -44,7 +44,7 @@ help_text =
     ++ line (codes "5 (a write failed), 6 (no memory), 7 (not over after N turns) or 8 (the report isn't right)." ∷ [])
     ++ line (codes "Scripts and reports are described in docs/SPECIFICATION.md." ∷ [])
 
--- the report, behind a line that names the turns where it isn't complete
+-- the report, after a line that names the turns where it isn't complete
 abbrev pub run_text : Kept → ℕ → Text
 run_text k turns =
     if is_complete k.script k.journal then report k.script k.journal

@@ -14,9 +14,9 @@ pub enum Outcome {
     ReadFault,
     /// The first broken line, and on it the least broken rule.
     BadScript { line: u32, rule: u32 },
-    /// A device after so many turns.
+    /// A device after `turns` turns.
     Ran { device: Device, turns: u64 },
-    /// What was found in a script and the report behind it.
+    /// What was found in a script and the report after it.
     Judged(Finding),
 }
 

@@ -48,7 +48,7 @@ fn simulate<S: Source>(
     }
 }
 
-/// Reads a script and the report behind it, and judges it.
+/// Reads a script and the report after it, and judges it.
 fn judge<S: Source>(alloc: Global, source: &mut S) -> Result<Outcome, NoMemory>
     ensures comes { IfOk result (ComesChecked (record { before = S.left source.old; after = S.left source.new; faults_before = S.faults source.old; faults_after = S.faults source.new })) }
     ensures faults { OnErr result (S.faults source.new ≡ S.faults source.old) }
@@ -82,7 +82,7 @@ pub struct Told {
 ///
 /// # Errors
 ///
-/// Want of memory for the outcome, be it in the midst of a run; nothing is written.
+/// Lack of memory for the outcome, be it in the midst of a run; nothing is written.
 pub fn tell_outcome<S: Source, K: Sink>(
     alloc: Global,
     words: &Words,

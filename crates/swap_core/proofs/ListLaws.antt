@@ -59,7 +59,7 @@ behind_on b d (c ∷ l) h = by (behind_on b d l) (same_buffer b c) refl h
     by ih true p g = or_right (same_buffer d c) (list_any (same_buffer d) l) (head_on d l g)
     by ih false p g = or_right (same_buffer d c) (list_any (same_buffer d) l) (ih g)
 
--- the list from a buffer on is that buffer, and what is left from the one behind it on
+-- the list from a buffer on is that buffer, and what is left from the one after it on
 pub record Walked (b : BufId) (l : List BufId) : Type 0 where
   pub others : List BufId
   pub here : from_on b l ≡ b ∷ others

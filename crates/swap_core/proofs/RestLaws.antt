@@ -19,7 +19,7 @@ pub is_none_is : (o : Option BufId) (b : Bool) → is_some o ≡ not b → b ≡
 is_none_is None b e h = refl
 is_none_is (Some x) b e h = let f : true ≡ not true = e ∙ ap not h in cc
 
--- ---- lists behind each other
+-- ---- lists one after the other
 
 join : (count first : ℕ) (lists : List (List BufId)) → first < length lists → joined (suc count) first lists ≡ list_at lists first ++ joined count (suc first) lists
 join count first lists h = ap (λ ls. flat_map (λ (l : List BufId). l) (take (suc count) ls)) (drop-cons lists first [] h)
@@ -37,7 +37,7 @@ pub record AreSound (o : Order) : Type 0 where
   pub distinct : (i : ℕ) → IsDistinct same_buffer (list_at o.lists i)
 
 module _ (o : Order) (mem : Mem) (sound : AreSound o) where
-  -- from the first of a list on it is that list, and those behind it
+  -- from the first of a list on it is that list, and those after it
   rest_first : (prio : ℕ) (at : Option BufId) → prio < 4 → at ≡ slice_get (list_at o.lists (list_number mem prio)) 0
       → rest_of o mem prio at ≡ joined (suc (3 - prio)) (list_number mem prio) o.lists
   rest_first prio at low e =
@@ -59,7 +59,7 @@ module _ (o : Order) (mem : Mem) (sound : AreSound o) where
       let k : suc (3 - (prio + 1)) ≡ 3 - prio = omega arith in
       rest_first (prio + 1) at (omega arith) e ∙ ap (λ i. joined (suc (3 - (prio + 1))) i o.lists) n ∙ ap (λ m. joined m (list_number mem prio + 1) o.lists) k
 
-  -- behind the last list nothing is left
+  -- after the last list nothing is left
   pub rest_none : (prio : ℕ) → 3 ≤ prio → rest_of o mem prio None ≡ []
   rest_none prio h = let k : 3 - prio ≡ 0 = omega arith in ap (λ m. joined m (list_number mem prio + 1) o.lists) k
 
@@ -87,7 +87,7 @@ module _ (o : Order) (mem : Mem) (sound : AreSound o) where
     way : Walked b (list_at o.lists (list_number mem prio))
     way = walked b (list_at o.lists (list_number mem prio)) (sound.distinct (list_number mem prio)) on_list
 
-    -- the buffer at hand, and what is left from the one behind it on
+    -- the buffer at hand, and what is left from the one after it on
     pub rest_next : (next : Option BufId) → next ≡ behind b (list_of o b) → rest_of o mem prio (Some b) ≡ b ∷ rest_of o mem prio next
     rest_next next e =
         ap (λ l. l ++ behind_prio mem prio o.lists) (way.here ∙ ap (λ l. b ∷ l) (sym way.next ∙ ap (λ q. left_from q (list_at o.lists (list_number mem prio))) (ap (behind b) (sym own_list) ∙ sym e)))

@@ -27,7 +27,7 @@ module _ {X : Type 0} (p : X → Bool) (left rest : List X) (x : X) (goes : left
       by false e = refl
       by true e = cc
 
--- ---- one list behind another
+-- ---- one list after another
 
 module _ {X : Type 0} (p : X → Bool) (xs ys : List X) where
   pub found_first : (o : Option X) → o ≡ find p xs → is_some o ≡ true → o ≡ find p (xs ++ ys)

@@ -76,6 +76,6 @@ depopulate_due script s thread = gives_frames s (task_of script s thread)
 abbrev pub finds_frame : Script → State → Bool
 finds_frame script s = is_some (free_frame script s.core) || (is_some (free_slot script s.core) && is_some (swap_victim s))
 
--- the first ghost that holds a frame, where none is to be had otherwise
+-- the first ghost that holds a frame, where none is available otherwise
 abbrev pub ghost_before_frame : Script → State → Option Need
 ghost_before_frame script s = if finds_frame script s then None else option_map (λ g. need.Ghost g.num) (ghost_with_frame s)

@@ -6,7 +6,7 @@ use Rattle.ttm_base.specs.Reach.{mem_number}
 use Rattle.lru_bulk.specs.Lists.{Order, list_at, list_number}
 use Rattle.lru_bulk.specs.Members.{IsListedFor}
 
--- so many lists behind each other, from one on
+-- `count` lists one after the other, from one on
 abbrev pub joined : ℕ → ℕ → List (List BufId) → List BufId
 joined count first lists = flat_map (λ l. l) (take count (drop first lists))
 
@@ -19,7 +19,7 @@ abbrev pub from_on : BufId → List BufId → List BufId
 from_on b [] = []
 from_on b (c ∷ cs) = if b.0 == c.0 then c ∷ cs else from_on b cs
 
--- nothing, behind the end
+-- nothing, after the end
 abbrev pub left_from : Option BufId → List BufId → List BufId
 left_from None l = []
 left_from (Some b) l = from_on b l

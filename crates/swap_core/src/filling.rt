@@ -66,7 +66,7 @@ fn first_with_frame(ghosts: &[Ghost]) -> Option<u64>
     }
 }
 
-/// A ghost will give a frame, or none is to be had.
+/// A ghost will give a frame, or none is available.
 fn next_without_victim(rooms: &Rooms, b: BufId) -> Result<Kind, Need>
     ensures { result ≡ words.step_without_victim (state_behind rooms.now) b }
 {
@@ -107,7 +107,7 @@ fn next_of_fill(rooms: &Rooms, b: BufId) -> Result<Kind, Need>
 ///
 /// # Errors
 ///
-/// Want of memory; nothing is changed.
+/// Lack of memory; nothing is changed.
 pub fn fill(rooms: &mut Rooms, thread: u32) -> Result<Step, NoMemory>
     requires { stage_of (task_of rooms.old.script (state_behind rooms.old) thread) ≡ stage.Fill }
     ensures step { IfOk result (λ step. step ≡ step_of (entry_of rooms.old (actor.Thread thread))) }

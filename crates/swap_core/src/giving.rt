@@ -24,7 +24,7 @@ pub fn is_depopulate_due(rooms: &Rooms, thread: u32) -> bool
 ///
 /// # Errors
 ///
-/// Want of memory; nothing is changed.
+/// Lack of memory; nothing is changed.
 pub fn depopulate(rooms: &mut Rooms, thread: u32) -> Result<Step, NoMemory>
     requires { depopulate_due rooms.old.script (state_behind rooms.old) thread ≡ true }
     ensures step { IfOk result (λ step. step ≡ step_of (entry_of rooms.old (actor.Thread thread))) }

@@ -1,180 +1,177 @@
 ghost use Rattle.std.specs.Prelude.{◌≡◌, [], ◌∷◌};
 
+mod tables;
+
+use crate::blocks::tables::{CONTIG, PLAIN, Row, TABLES, Table};
+use crate::wanted::{are_lengths, are_spans, ensure};
 use buddy_manager::{AllocFault, BuddyFlags, BuddyManager};
 use std::alloc::Global;
 use std::process::Abort;
 use ttm_base::{Span, Spans};
 
-const PLAIN: BuddyFlags = BuddyFlags {
-    topdown: false,
-    contig: false,
-};
-
-const CONTIG: BuddyFlags = BuddyFlags {
-    topdown: false,
-    contig: true,
-};
-
-const TOPDOWN: BuddyFlags = BuddyFlags {
-    topdown: true,
-    contig: false,
-};
-
-/// All 12 pages.
-const ALL: Span = Span { start: 0, end: 12 };
-
-/// A request to a manager of 12 pages, which are a block of 8 and one of 4, the blocks that it is to get, and the lengths after it.
-struct Case {
-    pages: u32,
-    range: Span,
-    flags: BuddyFlags,
-    want: &'static [Span],
-    lengths: (u32, u32),
+/// The blocks of an answer, none where there are none.
+fn blocks_of(rt: &impl Abort, answer: Result<(), AllocFault>, blocks: Spans) -> Spans {
+    ensure(rt, answer != Err(AllocFault::NoMemory));
+    blocks
 }
 
-/// The blocks that a request gets, none where there are none.
+/// The blocks that a request gets.
 fn got(
     rt: &impl Abort,
     alloc: Global,
     manager: &mut BuddyManager,
     pages: u32,
-    range: Span,
+    range: (u32, u32),
     flags: BuddyFlags,
 ) -> Spans {
     let mut out = Spans::new(alloc);
-    match manager.alloc(pages.max(1), range.start, range.end, flags, &mut out) {
-        Ok(()) | Err(AllocFault::NoBlocks) => out,
-        Err(AllocFault::NoMemory) => panic!(rt; "no memory"),
-    }
+    let answer = manager.alloc(pages.max(1), range.0, range.1, flags, &mut out);
+    blocks_of(rt, answer, out)
 }
 
-/// A request for pages anywhere, and the block that it is to get.
-type Row = (u32, BuddyFlags, Span);
-
-/// Each request gets its block.
-fn get(rt: &impl Abort, alloc: Global, manager: &mut BuddyManager, rows: &[Row]) {
-    for (pages, flags, want) in rows {
-        let blocks = got(rt, alloc, manager, *pages, ALL, *flags);
-        assert!(rt; blocks.items() == [*want].as_slice());
-        drop(blocks);
-    }
+/// So many of the free pages are used, too.
+fn are_used(rt: &impl Abort, manager: &BuddyManager, before: (u32, u32), pages: u32) {
+    let free = before.0.saturating_sub(pages);
+    let used = before.1.saturating_add(pages);
+    are_lengths(rt, manager.lengths(), free, used);
 }
 
-/// Requests, and their answers.
-const CASES: [Case; 9] = [
-    // in all pages
-    Case {
-        pages: 3,
-        range: ALL,
-        flags: PLAIN,
-        want: &[Span { start: 8, end: 10 }, Span { start: 10, end: 11 }],
-        lengths: (9, 3),
-    },
-    Case {
-        pages: 3,
-        range: ALL,
-        flags: CONTIG,
-        want: &[Span { start: 8, end: 11 }],
-        lengths: (9, 3),
-    },
-    Case {
-        pages: 1,
-        range: ALL,
-        flags: TOPDOWN,
-        want: &[Span { start: 11, end: 12 }],
-        lengths: (11, 1),
-    },
-    Case {
-        pages: 9,
-        range: ALL,
-        flags: CONTIG,
-        want: &[],
-        lengths: (12, 0),
-    },
-    // in a range
-    Case {
-        pages: 2,
-        range: Span { start: 0, end: 7 },
-        flags: TOPDOWN,
-        want: &[Span { start: 4, end: 6 }],
-        lengths: (10, 2),
-    },
-    Case {
-        pages: 1,
-        range: Span { start: 5, end: 12 },
-        flags: PLAIN,
-        want: &[Span { start: 8, end: 9 }],
-        lengths: (11, 1),
-    },
-    Case {
-        pages: 8,
-        range: Span { start: 1, end: 12 },
-        flags: PLAIN,
-        want: &[Span { start: 8, end: 12 }, Span { start: 4, end: 8 }],
-        lengths: (4, 8),
-    },
-    Case {
-        pages: 12,
-        range: Span { start: 0, end: 99 },
-        flags: PLAIN,
-        want: &[Span { start: 0, end: 8 }, Span { start: 8, end: 12 }],
-        lengths: (0, 12),
-    },
-    Case {
-        pages: 2,
-        range: Span { start: 11, end: 99 },
-        flags: TOPDOWN,
-        want: &[],
-        lengths: (12, 0),
-    },
-];
+/// The request would get the blocks. Each is held once, and given back.
+fn choose(
+    rt: &impl Abort,
+    alloc: Global,
+    manager: &mut BuddyManager,
+    pages: u32,
+    range: (u32, u32),
+    flags: BuddyFlags,
+    want: &[Span],
+) {
+    let mut out = Spans::new(alloc);
+    let before = manager.lengths();
+    let answer = manager.choice(pages.max(1), range.0, range.1, flags, &mut out);
+    are_used(rt, manager, before, 0);
+    if let Ok(()) = answer {
+        manager.hold(&out).expect(rt, "the ends of blocks");
+        are_used(rt, manager, before, pages);
+        ensure(rt, manager.are_held(&out));
+        manager.release(&out);
+    }
+    are_used(rt, manager, before, 0);
+    let blocks = blocks_of(rt, answer, out);
+    are_spans(rt, blocks.items(), want);
+    drop(blocks);
+}
 
+/// The request gets the blocks, and gives them back.
+fn take(
+    rt: &impl Abort,
+    alloc: Global,
+    manager: &mut BuddyManager,
+    pages: u32,
+    range: (u32, u32),
+    flags: BuddyFlags,
+    want: &[Span],
+) {
+    let taken = if want.is_empty() { 0 } else { pages };
+    let before = manager.lengths();
+    let blocks = got(rt, alloc, manager, pages, range, flags);
+    are_used(rt, manager, before, taken);
+    are_spans(rt, blocks.items(), want);
+    if manager.are_held(&blocks) {
+        manager.release(&blocks);
+    }
+    drop(blocks);
+}
+
+/// The request would get the blocks that are wanted, and gets them.
+fn answer(rt: &impl Abort, alloc: Global, manager: &mut BuddyManager, pages: u32, row: &Row) {
+    let (flags, range, want) = *row;
+    choose(rt, alloc, manager, pages, range, flags, want);
+    take(rt, alloc, manager, pages, range, flags, want);
+}
+
+/// Holds the page.
+fn hold_page(rt: &impl Abort, alloc: Global, manager: &mut BuddyManager, page: u32) {
+    let range = (page, page.saturating_add(1));
+    drop(got(rt, alloc, manager, 1, range, PLAIN));
+}
+
+/// Each request is answered as is wanted.
+fn answers(rt: &impl Abort, alloc: Global, table: &Table) {
+    let mut manager = BuddyManager::new(alloc, table.size).expect(rt, "a manager");
+    for page in table.held {
+        hold_page(rt, alloc, &mut manager, *page);
+    }
+    for row in table.rows {
+        answer(rt, alloc, &mut manager, table.pages, row);
+    }
+    drop(manager);
+}
+
+/// Each table is answered as is wanted, and a manager of too many pages isn't made.
 #[test]
 fn buddy_manager_answers(rt: HostRuntime) {
     let alloc = rt.alloc();
-    for case in &CASES {
-        let mut manager = BuddyManager::new(alloc, 12).expect(&rt, "a manager");
-        let blocks = got(&rt, alloc, &mut manager, case.pages, case.range, case.flags);
-        assert!(rt; blocks.items() == case.want);
-        drop(blocks);
-        assert!(rt; manager.lengths() == case.lengths);
-        drop(manager);
+    let rt = &rt;
+    for table in TABLES {
+        answers(rt, alloc, table);
     }
+    ensure(rt, BuddyManager::new(alloc, 1 << 31).is_err());
+}
+
+/// Twelve free pages, which are a block of 8 and one of 4.
+fn twelve_pages(rt: &impl Abort, alloc: Global) -> BuddyManager
+    ensures size { result.size ≡ 12 }
+    ensures held { result.held ≡ [] }
+{
+    BuddyManager::new(alloc, 12).expect(rt, "a manager")
+}
+
+/// A request for pages anywhere gets one block.
+fn gets(
+    rt: &impl Abort,
+    alloc: Global,
+    manager: &mut BuddyManager,
+    pages: u32,
+    flags: BuddyFlags,
+    want: Span,
+) {
+    let blocks = got(rt, alloc, manager, pages, (0, 12), flags);
+    are_spans(rt, blocks.items(), &[want]);
+    drop(blocks);
 }
 
 const LAST_FOUR: Span = Span { start: 8, end: 12 };
 
 const FIRST_EIGHT: Span = Span { start: 0, end: 8 };
 
-const HELD: [Row; 1] = [(4, PLAIN, LAST_FOUR)];
-
-/// The pages that a trim left free.
-const TRIMMED: [Row; 1] = [(2, PLAIN, Span { start: 10, end: 12 })];
+/// The pages that a trim leaves free.
+const TRIMMED: Span = Span { start: 10, end: 12 };
 
 #[test]
 fn trimmed_pages_are_free(rt: HostRuntime) {
+    let rt = &rt;
     let alloc = rt.alloc();
-    let mut manager = BuddyManager::new(alloc, 12).expect(&rt, "a manager");
-    get(&rt, alloc, &mut manager, &HELD);
-    assert!(rt; manager.is_held(LAST_FOUR));
+    let mut manager = twelve_pages(rt, alloc);
+    gets(rt, alloc, &mut manager, 4, PLAIN, LAST_FOUR);
+    ensure(rt, manager.is_held(LAST_FOUR));
     manager.trim(LAST_FOUR, 1);
-    get(&rt, alloc, &mut manager, &TRIMMED);
+    gets(rt, alloc, &mut manager, 2, PLAIN, TRIMMED);
     drop(manager);
 }
 
 /// The blocks that were split for three pages are whole again.
-const MERGED: [Row; 2] = [(4, CONTIG, LAST_FOUR), (8, CONTIG, FIRST_EIGHT)];
-
 #[test]
 fn buddy_splits_and_merges(rt: HostRuntime) {
+    let rt = &rt;
     let alloc = rt.alloc();
-    let mut manager = BuddyManager::new(alloc, 12).expect(&rt, "a manager");
-    let three = got(&rt, alloc, &mut manager, 3, ALL, PLAIN);
-    let held = manager.are_held(&three);
-    assert!(rt; held);
+    let mut manager = twelve_pages(rt, alloc);
+    let three = got(rt, alloc, &mut manager, 3, (0, 12), PLAIN);
+    ensure(rt, manager.are_held(&three));
     manager.release(&three);
     drop(three);
-    get(&rt, alloc, &mut manager, &MERGED);
+    gets(rt, alloc, &mut manager, 4, CONTIG, LAST_FOUR);
+    gets(rt, alloc, &mut manager, 8, CONTIG, FIRST_EIGHT);
     drop(manager);
 }
 
@@ -185,35 +182,35 @@ fn named(rt: &impl Abort, alloc: Global, span: Span) -> Spans
     Spans::from_slice(alloc, &[span]).expect(rt, "a span")
 }
 
-/// The blocks beside the pages that are named, by the number of pages for which each is asked.
-const BESIDE: [Row; 4] = [
-    (4, PLAIN, Span { start: 0, end: 4 }),
-    (4, PLAIN, LAST_FOUR),
-    (1, PLAIN, Span { start: 4, end: 5 }),
-    (1, PLAIN, Span { start: 7, end: 8 }),
-];
-
 /// The blocks are held, but not twice, and are given back.
 fn gives_back_once(rt: &impl Abort, manager: &mut BuddyManager, spans: &Spans) {
     let mut twice = spans.copy().expect(rt, "spans");
     twice.extend(spans.items()).expect(rt, "spans");
-    assert!(rt; !manager.are_held(&twice));
+    ensure(rt, !manager.are_held(&twice));
     drop(twice);
-    let held = manager.are_held(spans);
-    assert!(rt; held);
+    ensure(rt, manager.are_held(spans));
     manager.release(spans);
+}
+
+/// The blocks beside pages that are named: the lower half of their block, the other root, and the pages on both sides.
+fn get_beside(rt: &impl Abort, alloc: Global, manager: &mut BuddyManager) {
+    gets(rt, alloc, manager, 4, PLAIN, Span { start: 0, end: 4 });
+    gets(rt, alloc, manager, 4, PLAIN, LAST_FOUR);
+    gets(rt, alloc, manager, 1, PLAIN, Span { start: 4, end: 5 });
+    gets(rt, alloc, manager, 1, PLAIN, Span { start: 7, end: 8 });
 }
 
 #[test]
 fn named_pages_are_held(rt: HostRuntime) {
+    let rt = &rt;
     let alloc = rt.alloc();
-    let mut manager = BuddyManager::new(alloc, 12).expect(&rt, "a manager");
-    let spans = named(&rt, alloc, Span { start: 5, end: 7 });
-    manager.hold(&spans).expect(&rt, "the ends of blocks");
-    assert!(rt; manager.lengths() == (10, 2));
-    get(&rt, alloc, &mut manager, &BESIDE);
-    gives_back_once(&rt, &mut manager, &spans);
+    let mut manager = twelve_pages(rt, alloc);
+    let spans = named(rt, alloc, Span { start: 5, end: 7 });
+    manager.hold(&spans).expect(rt, "the ends of blocks");
+    are_lengths(rt, manager.lengths(), 10, 2);
+    get_beside(rt, alloc, &mut manager);
+    gives_back_once(rt, &mut manager, &spans);
     drop(spans);
-    assert!(rt; manager.lengths() == (2, 10));
+    are_lengths(rt, manager.lengths(), 2, 10);
     drop(manager);
 }

@@ -6,8 +6,6 @@ mod blocks;
 #[cfg(test)]
 mod holes;
 #[cfg(test)]
-mod large_blocks;
-#[cfg(test)]
 mod numbers;
 #[cfg(test)]
 mod places;
@@ -17,3 +15,5 @@ mod ranges;
 mod rooms;
 #[cfg(test)]
 mod tables;
+#[cfg(test)]
+mod wanted;

@@ -1,63 +1,66 @@
 ghost use Rattle.std.specs.Prelude.{◌≡◌, slice_set, true};
 
+use crate::wanted::ensure;
 use free_map::FreeMap;
 use page_pool::PagePool;
 use std::process::Abort;
 
-/// The number is the lowest free one, and is taken.
-fn takes(rt: &impl Abort, map: &mut FreeMap, number: u32)
-    ensures { map.new ≡ slice_set map.old number true }
-{
-    assert!(rt; map.take() == Some(number));
-}
-
 /// So many numbers are free, and this is the lowest of them.
 fn assert_free(rt: &impl Abort, map: &FreeMap, count: u32, lowest: Option<u32>) {
-    assert!(rt; map.free() == count);
-    assert!(rt; map.first() == lowest);
+    ensure(rt, map.free() == count);
+    ensure(rt, map.first() == lowest);
+}
+
+/// The number is the lowest free one, and is taken. Then the stated number is free, and this is the lowest of them.
+fn takes(rt: &impl Abort, map: &mut FreeMap, number: u32, count: u32, lowest: Option<u32>)
+    ensures { map.new ≡ slice_set map.old number true }
+{
+    ensure(rt, map.take() == Some(number));
+    assert_free(rt, map, count, lowest);
 }
 
 #[test]
 fn lowest_free_of_three(rt: HostRuntime) {
-    let mut map = FreeMap::new(rt.alloc(), 3).expect(&rt, "a map");
-    assert_free(&rt, &map, 3, Some(0));
-    takes(&rt, &mut map, 0);
-    takes(&rt, &mut map, 1);
-    assert_free(&rt, &map, 1, Some(2));
-    takes(&rt, &mut map, 2);
-    assert!(rt; map.take() == None);
-    assert_free(&rt, &map, 0, None);
+    let rt = &rt;
+    let mut map = FreeMap::new(rt.alloc(), 3).expect(rt, "a map");
+    assert_free(rt, &map, 3, Some(0));
+    takes(rt, &mut map, 0, 2, Some(1));
+    takes(rt, &mut map, 1, 1, Some(2));
+    takes(rt, &mut map, 2, 0, None);
+    ensure(rt, map.take() == None);
+    assert_free(rt, &map, 0, None);
     map.give(1);
-    assert_free(&rt, &map, 1, Some(1));
-    takes(&rt, &mut map, 1);
+    assert_free(rt, &map, 1, Some(1));
+    takes(rt, &mut map, 1, 0, None);
     drop(map);
-}
-
-/// The frame is the lowest free one, and is taken.
-fn takes_frame(rt: &impl Abort, pool: &mut PagePool, frame: u32)
-    ensures { pool.new ≡ slice_set pool.old frame true }
-{
-    assert!(rt; pool.take() == Some(frame));
 }
 
 /// So many frames are free, and this is the lowest of them.
 fn assert_free_frames(rt: &impl Abort, pool: &PagePool, count: u32, lowest: Option<u32>) {
-    assert!(rt; pool.free() == count);
-    assert!(rt; pool.first() == lowest);
+    ensure(rt, pool.free() == count);
+    ensure(rt, pool.first() == lowest);
+}
+
+/// The frame is the lowest free one, and is taken. Then the stated number is free, and this is the lowest of them.
+fn takes_frame(rt: &impl Abort, pool: &mut PagePool, frame: u32, count: u32, lowest: Option<u32>)
+    ensures { pool.new ≡ slice_set pool.old frame true }
+{
+    ensure(rt, pool.take() == Some(frame));
+    assert_free_frames(rt, pool, count, lowest);
 }
 
 #[test]
 fn pool_of_three_frames(rt: HostRuntime) {
-    let mut pool = PagePool::new(rt.alloc(), 3).expect(&rt, "a pool");
-    assert_free_frames(&rt, &pool, 3, Some(0));
-    takes_frame(&rt, &mut pool, 0);
-    takes_frame(&rt, &mut pool, 1);
-    assert_free_frames(&rt, &pool, 1, Some(2));
-    takes_frame(&rt, &mut pool, 2);
-    assert!(rt; pool.take() == None);
-    assert_free_frames(&rt, &pool, 0, None);
+    let rt = &rt;
+    let mut pool = PagePool::new(rt.alloc(), 3).expect(rt, "a pool");
+    assert_free_frames(rt, &pool, 3, Some(0));
+    takes_frame(rt, &mut pool, 0, 2, Some(1));
+    takes_frame(rt, &mut pool, 1, 1, Some(2));
+    takes_frame(rt, &mut pool, 2, 0, None);
+    ensure(rt, pool.take() == None);
+    assert_free_frames(rt, &pool, 0, None);
     pool.give(1);
-    assert_free_frames(&rt, &pool, 1, Some(1));
-    takes_frame(&rt, &mut pool, 1);
+    assert_free_frames(rt, &pool, 1, Some(1));
+    takes_frame(rt, &mut pool, 1, 0, None);
     drop(pool);
 }

@@ -1,5 +1,6 @@
 ghost use Rattle.std.specs.Prelude.{◌≡◌};
 
+use crate::wanted::ensure;
 use place_list::{
     PageCursor, compatible, first_at, first_count, forced_at, forced_count, intersects, reach,
 };
@@ -16,7 +17,9 @@ const WHOLE: Place = Place {
 };
 
 /// A place's first and last page, how many pages there are, and which of them it reaches.
-const REACHES: [(u32, u32, u32, (u32, u32)); 5] = [
+type Reach = (u32, u32, u32, (u32, u32));
+
+const REACHES: &[Reach] = &[
     (0, 2, 8, (0, 2)),
     (3, 0, 8, (3, 8)),
     (3, 9, 8, (3, 8)),
@@ -24,15 +27,21 @@ const REACHES: [(u32, u32, u32, (u32, u32)); 5] = [
     (9, 0, 8, (8, 8)),
 ];
 
+/// The place reaches the pages.
+fn reaches(rt: &impl Abort, row: &Reach) {
+    let (first, last, size, reached) = *row;
+    let place = Place {
+        first,
+        last,
+        ..WHOLE
+    };
+    ensure(rt, reach(&place, size) == reached);
+}
+
 #[test]
 fn reach_of_a_place(rt: HostRuntime) {
-    for (first, last, size, reached) in &REACHES {
-        let place = Place {
-            first: *first,
-            last: *last,
-            ..WHOLE
-        };
-        assert!(rt; reach(&place, *size) == *reached);
+    for row in REACHES {
+        reaches(&rt, row);
     }
 }
 
@@ -43,7 +52,7 @@ fn two_spans(rt: &impl Abort, alloc: Global) -> Spans {
 }
 
 /// Pages from a first up to a last, and whether the spans have one of them.
-const MEETINGS: [((u32, u32), bool); 5] = [
+const MEETINGS: &[((u32, u32), bool)] = &[
     ((0, 2), false),
     ((0, 3), true),
     ((4, 6), false),
@@ -54,14 +63,14 @@ const MEETINGS: [((u32, u32), bool); 5] = [
 #[test]
 fn spans_in_a_reach(rt: HostRuntime) {
     let spans = two_spans(&rt, rt.alloc());
-    for (within, met) in &MEETINGS {
-        assert!(rt; intersects(&spans, *within) == *met);
+    for (within, met) in MEETINGS {
+        ensure(&rt, intersects(&spans, *within) == *met);
     }
     drop(spans);
 }
 
 /// Where a resource of two spans stands, a place, and whether it fits.
-const FITS: [(Mem, Place, bool); 5] = [
+const FITS: &[(Mem, Place, bool)] = &[
     (Mem::Vram, WHOLE, true),
     (Mem::Tt, WHOLE, false),
     (
@@ -100,18 +109,23 @@ fn placement(rt: &impl Abort, alloc: Global, places: &[FlaggedPlace]) -> Placeme
     Placement { list }
 }
 
+/// A resource of the spans fits the place, or doesn't.
+fn assert_fit(rt: &impl Abort, alloc: Global, spans: &Spans, row: &(Mem, Place, bool)) {
+    let unflagged = FlaggedPlace {
+        place: row.1,
+        desired: false,
+        fallback: false,
+    };
+    let placement = placement(rt, alloc, &[unflagged]);
+    ensure(rt, compatible(row.0, spans, &placement, 8) == row.2);
+    drop(placement);
+}
+
 #[test]
 fn resources_that_fit(rt: HostRuntime) {
     let spans = two_spans(&rt, rt.alloc());
-    for (mem, place, fits) in &FITS {
-        let unflagged = FlaggedPlace {
-            place: *place,
-            desired: false,
-            fallback: false,
-        };
-        let placement = placement(&rt, rt.alloc(), &[unflagged]);
-        assert!(rt; compatible(*mem, &spans, &placement, 8) == *fits);
-        drop(placement);
+    for row in FITS {
+        assert_fit(&rt, rt.alloc(), &spans, row);
     }
     drop(spans);
 }
@@ -141,15 +155,21 @@ const FLAGGED: [FlaggedPlace; 3] = [
     },
 ];
 
+/// The place is one of this memory type.
+fn is_in(rt: &impl Abort, place: &Place, mem: Mem) {
+    ensure(rt, place.mem == mem);
+}
+
 #[test]
 fn places_by_their_flags(rt: HostRuntime) {
-    let placement = placement(&rt, rt.alloc(), &FLAGGED);
-    assert!(rt; first_count(&placement) == 2);
-    assert!(rt; first_at(&placement, 0).mem == Mem::Vram);
-    assert!(rt; first_at(&placement, 1).mem == Mem::System);
-    assert!(rt; forced_count(&placement) == 2);
-    assert!(rt; forced_at(&placement, 0).mem == Mem::Tt);
-    assert!(rt; forced_at(&placement, 1).mem == Mem::System);
+    let rt = &rt;
+    let placement = placement(rt, rt.alloc(), &FLAGGED);
+    ensure(rt, first_count(&placement) == 2);
+    is_in(rt, first_at(&placement, 0), Mem::Vram);
+    is_in(rt, first_at(&placement, 1), Mem::System);
+    ensure(rt, forced_count(&placement) == 2);
+    is_in(rt, forced_at(&placement, 0), Mem::Tt);
+    is_in(rt, forced_at(&placement, 1), Mem::System);
     drop(placement);
 }
 
@@ -163,10 +183,16 @@ const SPANS: [Span; 3] = [
 /// Their pages, in order.
 const PAGES: &[u32] = &[7, 8, 0, 1, 2];
 
+/// The cursor gives the pages, and then none.
+fn assert_pages(rt: &impl Abort, cursor: &mut PageCursor, pages: &[u32]) {
+    for page in pages {
+        ensure(rt, cursor.next() == Some(*page));
+    }
+    ensure(rt, cursor.next().is_none());
+}
+
 #[test]
 fn pages_of_spans_in_order(rt: HostRuntime) {
-    let cursor = PageCursor::new(&SPANS);
-    let walked: Vec<u32> = cursor.collect(rt.alloc()).expect(&rt, "pages");
-    assert!(rt; walked.as_slice() == PAGES);
-    drop(walked);
+    let mut cursor = PageCursor::new(&SPANS);
+    assert_pages(&rt, &mut cursor, PAGES);
 }

@@ -1,9 +1,10 @@
+use crate::wanted::{are_lengths, ensure, is_span};
 use range_manager::{InsertFault, RangeManager};
 use std::alloc::Global;
 use std::process::Abort;
 use ttm_base::{Mode, Span};
 
-const FIVE: [Span; 5] = [
+const FIVE: &[Span] = &[
     Span { start: 0, end: 4 },
     Span { start: 4, end: 6 },
     Span { start: 6, end: 10 },
@@ -11,230 +12,346 @@ const FIVE: [Span; 5] = [
     Span { start: 11, end: 16 },
 ];
 
-/// A request to a manager of 16 pages of which some were held and let go, and the answer to it.
-struct Case {
-    held: &'static [Span],
-    gone: &'static [u32],
+/// A request for pages from a first page up to a last one, aligned to a number of pages.
+struct Request {
     pages: u32,
     align: u32,
-    range: (u32, u32),
+    first: u32,
+    last: u32,
     mode: Mode,
-    want: Result<Span, InsertFault>,
 }
 
-/// Sixteen free pages.
-fn sixteen_pages(rt: &impl Abort, alloc: Global) -> RangeManager {
-    RangeManager::new(alloc, 16).expect(rt, "a manager")
+/// A call to a manager of 16 pages, and the answer to it.
+enum Step {
+    /// Holds spans of free pages.
+    Hold(&'static [Span]),
+    /// The span can't be held, since a page of it is.
+    Refuse(Span),
+    /// Lets the span go that is held from this page on.
+    LetGo(u32),
+    /// The choice alone, which nobody takes.
+    Choose(Request, Option<Span>),
+    /// A request, whose answer is also the choice before it.
+    Insert(Request, Result<Span, InsertFault>),
+    /// Asserts how many pages are free and how many are used.
+    Lengths(u32, u32),
 }
 
 /// Holds spans of free pages.
 fn hold(rt: &impl Abort, manager: &mut RangeManager, spans: &[Span]) {
     for span in spans {
-        assert!(rt; manager.reserve(*span).is_ok());
+        ensure(rt, manager.reserve(*span).is_ok());
     }
 }
 
-/// Lets spans go, of which each is held.
-fn let_go(rt: &impl Abort, manager: &mut RangeManager, starts: &[u32]) {
-    for start in starts {
-        let held = manager.held_from(*start).is_some();
-        assert!(rt; held);
-        manager.remove(*start);
+/// Lets a span go, which is held.
+fn let_go(rt: &impl Abort, manager: &mut RangeManager, start: u32) {
+    ensure(rt, manager.held_from(start).is_some());
+    manager.remove(start);
+}
+
+/// The span that the request would get.
+fn choice(manager: &RangeManager, it: &Request) -> Option<Span> {
+    manager.choice(it.pages, it.align.max(1), it.first, it.last, it.mode)
+}
+
+/// The answer to the request is the one that is wanted, and the choice before it.
+fn insert(
+    rt: &impl Abort,
+    manager: &mut RangeManager,
+    it: &Request,
+    want: &Result<Span, InsertFault>,
+) {
+    is_span(rt, choice(manager, it), want.ok());
+    let got = manager.insert(it.pages, it.align.max(1), it.first, it.last, it.mode);
+    ensure(rt, got == *want);
+}
+
+/// The step is answered as is wanted.
+fn run(rt: &impl Abort, manager: &mut RangeManager, step: &Step) {
+    match step {
+        Step::Hold(spans) => hold(rt, manager, spans),
+        Step::Refuse(span) => {
+            ensure(rt, manager.reserve(*span) == Err(InsertFault::NoHole));
+        }
+        Step::LetGo(start) => let_go(rt, manager, *start),
+        Step::Choose(request, want) => is_span(rt, choice(manager, request), *want),
+        Step::Insert(request, want) => insert(rt, manager, request, want),
+        Step::Lengths(free, used) => are_lengths(rt, manager.lengths(), *free, *used),
     }
 }
 
-/// The answer is the one that is wanted, and the choice before it.
-fn answer(rt: &impl Abort, manager: &mut RangeManager, case: &Case) {
-    let (first, last) = case.range;
-    let align = case.align.max(1);
-    let choice = manager.choice(case.pages, align, first, last, case.mode);
-    let got = manager.insert(case.pages, align, first, last, case.mode);
-    assert!(rt; got == case.want);
-    assert!(rt; choice == got.ok());
+/// A manager of 16 pages answers each step as is wanted.
+fn answers(rt: &impl Abort, alloc: Global, steps: &[Step]) {
+    let mut manager = RangeManager::new(alloc, 16).expect(rt, "a manager");
+    for step in steps {
+        run(rt, &mut manager, step);
+    }
+    drop(manager);
 }
 
-/// Requests, and their answers.
-const CASES: [Case; 13] = [
+/// No pages in any place, by the best fit.
+const ANYWHERE: Request = Request {
+    pages: 0,
+    align: 1,
+    first: 0,
+    last: 16,
+    mode: Mode::Best,
+};
+
+/// Steps of a manager each.
+const CASES: &[&[Step]] = &[
     // in each mode
-    Case {
-        held: &FIVE,
-        gone: &[4, 10],
-        pages: 1,
-        align: 1,
-        range: (0, 16),
-        mode: Mode::Low,
-        want: Ok(Span { start: 4, end: 5 }),
-    },
-    Case {
-        held: &[Span { start: 0, end: 3 }],
-        gone: &[],
-        pages: 4,
-        align: 4,
-        range: (0, 16),
-        mode: Mode::Best,
-        want: Ok(Span { start: 4, end: 8 }),
-    },
-    Case {
-        held: &[],
-        gone: &[],
-        pages: 4,
-        align: 8,
-        range: (0, 16),
-        mode: Mode::High,
-        want: Ok(Span { start: 8, end: 12 }),
-    },
-    Case {
-        held: &[],
-        gone: &[],
-        pages: 4,
-        align: 1,
-        range: (2, 5),
-        mode: Mode::Best,
-        want: Err(InsertFault::NoHole),
-    },
+    &[
+        Step::Hold(FIVE),
+        Step::LetGo(4),
+        Step::LetGo(10),
+        Step::Insert(
+            Request {
+                pages: 1,
+                mode: Mode::Low,
+                ..ANYWHERE
+            },
+            Ok(Span { start: 4, end: 5 }),
+        ),
+    ],
+    &[
+        Step::Hold(&[Span { start: 0, end: 3 }]),
+        Step::Insert(
+            Request {
+                pages: 4,
+                align: 4,
+                ..ANYWHERE
+            },
+            Ok(Span { start: 4, end: 8 }),
+        ),
+    ],
+    &[Step::Insert(
+        Request {
+            pages: 4,
+            align: 8,
+            mode: Mode::High,
+            ..ANYWHERE
+        },
+        Ok(Span { start: 8, end: 12 }),
+    )],
+    &[Step::Insert(
+        Request {
+            pages: 4,
+            first: 2,
+            last: 5,
+            ..ANYWHERE
+        },
+        Err(InsertFault::NoHole),
+    )],
     // the rest of a hole is free
-    Case {
-        held: &[Span { start: 5, end: 7 }],
-        gone: &[],
-        pages: 5,
-        align: 1,
-        range: (0, 16),
-        mode: Mode::Best,
-        want: Ok(Span { start: 0, end: 5 }),
-    },
-    Case {
-        held: &[Span { start: 5, end: 7 }],
-        gone: &[],
-        pages: 6,
-        align: 1,
-        range: (0, 16),
-        mode: Mode::Low,
-        want: Ok(Span { start: 7, end: 13 }),
-    },
-    Case {
-        held: &[Span { start: 12, end: 16 }],
-        gone: &[],
-        pages: 3,
-        align: 1,
-        range: (0, 16),
-        mode: Mode::High,
-        want: Ok(Span { start: 9, end: 12 }),
-    },
-    Case {
-        held: &[
+    &[
+        Step::Hold(&[Span { start: 5, end: 7 }]),
+        Step::Insert(
+            Request {
+                pages: 5,
+                ..ANYWHERE
+            },
+            Ok(Span { start: 0, end: 5 }),
+        ),
+    ],
+    &[
+        Step::Hold(&[Span { start: 5, end: 7 }]),
+        Step::Insert(
+            Request {
+                pages: 6,
+                mode: Mode::Low,
+                ..ANYWHERE
+            },
+            Ok(Span { start: 7, end: 13 }),
+        ),
+    ],
+    &[
+        Step::Hold(&[Span { start: 12, end: 16 }]),
+        Step::Insert(
+            Request {
+                pages: 3,
+                mode: Mode::High,
+                ..ANYWHERE
+            },
+            Ok(Span { start: 9, end: 12 }),
+        ),
+    ],
+    &[
+        Step::Hold(&[
             Span { start: 0, end: 4 },
             Span { start: 8, end: 16 },
             Span { start: 4, end: 8 },
-        ],
-        gone: &[],
-        pages: 1,
-        align: 1,
-        range: (0, 16),
-        mode: Mode::Low,
-        want: Err(InsertFault::NoHole),
-    },
+        ]),
+        Step::Insert(
+            Request {
+                pages: 1,
+                mode: Mode::Low,
+                ..ANYWHERE
+            },
+            Err(InsertFault::NoHole),
+        ),
+    ],
     // holes that touch are joined
-    Case {
-        held: &FIVE,
-        gone: &[4],
-        pages: 2,
-        align: 1,
-        range: (0, 16),
-        mode: Mode::Best,
-        want: Ok(Span { start: 4, end: 6 }),
-    },
-    Case {
-        held: &FIVE,
-        gone: &[4, 10],
-        pages: 3,
-        align: 1,
-        range: (0, 16),
-        mode: Mode::Best,
-        want: Err(InsertFault::NoHole),
-    },
-    Case {
-        held: &FIVE,
-        gone: &[4, 6],
-        pages: 6,
-        align: 1,
-        range: (0, 16),
-        mode: Mode::Best,
-        want: Ok(Span { start: 4, end: 10 }),
-    },
-    Case {
-        held: &FIVE,
-        gone: &[6, 4],
-        pages: 6,
-        align: 1,
-        range: (0, 16),
-        mode: Mode::Best,
-        want: Ok(Span { start: 4, end: 10 }),
-    },
-    Case {
-        held: &FIVE,
-        gone: &[0, 6, 4],
-        pages: 10,
-        align: 1,
-        range: (0, 16),
-        mode: Mode::Best,
-        want: Ok(Span { start: 0, end: 10 }),
-    },
+    &[
+        Step::Hold(FIVE),
+        Step::LetGo(4),
+        Step::Insert(
+            Request {
+                pages: 2,
+                ..ANYWHERE
+            },
+            Ok(Span { start: 4, end: 6 }),
+        ),
+    ],
+    &[
+        Step::Hold(FIVE),
+        Step::LetGo(4),
+        Step::LetGo(10),
+        Step::Insert(
+            Request {
+                pages: 3,
+                ..ANYWHERE
+            },
+            Err(InsertFault::NoHole),
+        ),
+    ],
+    &[
+        Step::Hold(FIVE),
+        Step::LetGo(4),
+        Step::LetGo(6),
+        Step::Insert(
+            Request {
+                pages: 6,
+                ..ANYWHERE
+            },
+            Ok(Span { start: 4, end: 10 }),
+        ),
+    ],
+    &[
+        Step::Hold(FIVE),
+        Step::LetGo(6),
+        Step::LetGo(4),
+        Step::Insert(
+            Request {
+                pages: 6,
+                ..ANYWHERE
+            },
+            Ok(Span { start: 4, end: 10 }),
+        ),
+    ],
+    &[
+        Step::Hold(FIVE),
+        Step::LetGo(0),
+        Step::LetGo(6),
+        Step::LetGo(4),
+        Step::Insert(
+            Request {
+                pages: 10,
+                ..ANYWHERE
+            },
+            Ok(Span { start: 0, end: 10 }),
+        ),
+    ],
+    // the best fit and the highest
+    &[
+        Step::Insert(
+            Request {
+                pages: 4,
+                ..ANYWHERE
+            },
+            Ok(Span { start: 0, end: 4 }),
+        ),
+        Step::Insert(
+            Request {
+                pages: 2,
+                ..ANYWHERE
+            },
+            Ok(Span { start: 4, end: 6 }),
+        ),
+        Step::Insert(
+            Request {
+                pages: 4,
+                ..ANYWHERE
+            },
+            Ok(Span { start: 6, end: 10 }),
+        ),
+        Step::Insert(
+            Request {
+                pages: 1,
+                ..ANYWHERE
+            },
+            Ok(Span { start: 10, end: 11 }),
+        ),
+        Step::Insert(
+            Request {
+                pages: 5,
+                ..ANYWHERE
+            },
+            Ok(Span { start: 11, end: 16 }),
+        ),
+        Step::Lengths(0, 16),
+        Step::LetGo(4),
+        Step::LetGo(10),
+        Step::Lengths(3, 13),
+        Step::Insert(
+            Request {
+                pages: 1,
+                ..ANYWHERE
+            },
+            Ok(Span { start: 10, end: 11 }),
+        ),
+        Step::Insert(
+            Request {
+                pages: 1,
+                mode: Mode::High,
+                ..ANYWHERE
+            },
+            Ok(Span { start: 5, end: 6 }),
+        ),
+    ],
+    // what is held isn't held twice
+    &[
+        Step::Hold(&[Span { start: 4, end: 8 }]),
+        Step::Refuse(Span { start: 4, end: 8 }),
+    ],
+    // a choice holds nothing until it is reserved
+    &[
+        Step::Choose(
+            Request {
+                pages: 4,
+                mode: Mode::Low,
+                ..ANYWHERE
+            },
+            Some(Span { start: 0, end: 4 }),
+        ),
+        Step::Lengths(16, 0),
+        Step::Hold(&[Span { start: 0, end: 4 }]),
+        Step::Insert(
+            Request {
+                pages: 4,
+                mode: Mode::Low,
+                ..ANYWHERE
+            },
+            Ok(Span { start: 4, end: 8 }),
+        ),
+        Step::Choose(
+            Request {
+                pages: 4,
+                last: 8,
+                mode: Mode::Low,
+                ..ANYWHERE
+            },
+            None,
+        ),
+    ],
 ];
 
 #[test]
 fn range_manager_answers(rt: HostRuntime) {
-    for case in &CASES {
-        let mut manager = sixteen_pages(&rt, rt.alloc());
-        hold(&rt, &mut manager, case.held);
-        let_go(&rt, &mut manager, case.gone);
-        answer(&rt, &mut manager, case);
-        drop(manager);
+    let alloc = rt.alloc();
+    let rt = &rt;
+    for steps in CASES {
+        answers(rt, alloc, steps);
     }
-}
-
-/// A request for pages anywhere gets a span.
-fn gets(rt: &impl Abort, manager: &mut RangeManager, pages: u32, mode: Mode, want: Span) {
-    assert!(rt; manager.insert(pages, 1, 0, 16, mode) == Ok(want));
-}
-
-#[test]
-fn best_and_high_fit(rt: HostRuntime) {
-    let mut manager = sixteen_pages(&rt, rt.alloc());
-    for span in &FIVE {
-        let pages = span.end.saturating_sub(span.start);
-        gets(&rt, &mut manager, pages, Mode::Best, *span);
-    }
-    assert!(rt; manager.lengths() == (0, 16));
-    let_go(&rt, &mut manager, &[4, 10]);
-    assert!(rt; manager.lengths() == (3, 13));
-    gets(
-        &rt,
-        &mut manager,
-        1,
-        Mode::Best,
-        Span { start: 10, end: 11 },
-    );
-    gets(&rt, &mut manager, 1, Mode::High, Span { start: 5, end: 6 });
-    drop(manager);
-}
-
-#[test]
-fn reserve_twice(rt: HostRuntime) {
-    let mut manager = sixteen_pages(&rt, rt.alloc());
-    let span = Span { start: 4, end: 8 };
-    hold(&rt, &mut manager, &[span]);
-    assert!(rt; manager.reserve(span) == Err(InsertFault::NoHole));
-    drop(manager);
-}
-
-#[test]
-fn chosen_span_is_reserved(rt: HostRuntime) {
-    let mut manager = sixteen_pages(&rt, rt.alloc());
-    let first = Span { start: 0, end: 4 };
-    assert!(rt; manager.choice(4, 1, 0, 16, Mode::Low) == Some(first));
-    assert!(rt; manager.lengths() == (16, 0));
-    hold(&rt, &mut manager, &[first]);
-    gets(&rt, &mut manager, 4, Mode::Low, Span { start: 4, end: 8 });
-    assert!(rt; manager.choice(4, 1, 0, 8, Mode::Low) == None);
-    drop(manager);
 }

@@ -1,7 +1,8 @@
+use crate::wanted::{are_spans, ensure};
 use resource_core::{BuddyRoom, Lengths, Manager, PagesKind, RangeRoom, TakeFault, VramRoom};
 use std::alloc::Global;
 use std::process::Abort;
-use ttm_base::{BufId, JobId, Mem, Owner, Place, Span, Spans};
+use ttm_base::{BufId, JobId, Mem, NoMemory, Owner, Place, Span, Spans};
 
 const PLAIN: Place = Place {
     mem: Mem::Vram,
@@ -50,122 +51,120 @@ enum Step {
 fn answered(rt: &impl Abort, alloc: Global, answer: Result<Spans, TakeFault>) -> Spans {
     match answer {
         Ok(spans) => spans,
-        Err(TakeFault::NoRoom) => Spans::new(alloc),
-        Err(TakeFault::NoMemory) => panic!(rt; "no memory"),
-    }
-}
-
-/// The spans that an owner gets.
-fn taken<M: Manager>(
-    rt: &impl Abort,
-    alloc: Global,
-    room: &mut M,
-    owner: Owner,
-    pages: u32,
-    place: &Place,
-) -> Spans {
-    assert!(rt; !room.holds(owner));
-    let answer = room.take(alloc, owner, pages.max(1), 1, place);
-    answered(rt, alloc, answer)
-}
-
-/// The spans that a request would get.
-fn chosen<M: Manager>(
-    rt: &impl Abort,
-    alloc: Global,
-    room: &mut M,
-    pages: u32,
-    place: &Place,
-) -> Spans {
-    let answer = room.choose(alloc, pages.max(1), 1, place);
-    answered(rt, alloc, answer)
-}
-
-/// The spans that an owner is given to hold.
-fn held<M: Manager>(
-    rt: &impl Abort,
-    alloc: Global,
-    room: &mut M,
-    owner: Owner,
-    pages: u32,
-    place: &Place,
-) -> Spans {
-    assert!(rt; !room.holds(owner));
-    match room.choose(alloc, pages.max(1), 1, place) {
-        Ok(spans) => {
-            room.hold(owner, &spans).expect(rt, "a holding");
-            spans
+        Err(fault) => {
+            ensure(rt, fault == TakeFault::NoRoom);
+            Spans::new(alloc)
         }
-        Err(fault) => answered(rt, alloc, Err(fault)),
     }
 }
 
-/// The owner keeps these spans.
-fn keeps<M: Manager>(room: &M, owner: Owner, want: &[Span]) -> bool {
+/// The owner keeps these spans: none where it holds nothing.
+fn keeps<M: Manager>(rt: &impl Abort, room: &M, owner: Owner, want: &[Span]) {
     match room.spans_of(owner) {
-        Some(spans) => spans.items() == want,
-        None => want.is_empty(),
+        Some(spans) => are_spans(rt, spans.items(), want),
+        None => ensure(rt, want.is_empty()),
     }
 }
 
-/// The owner got the spans that it was to get, and keeps them.
-fn got<M: Manager>(rt: &impl Abort, room: &M, owner: Owner, spans: Spans, want: &[Span]) {
-    assert!(rt; spans.items() == want);
+/// The owner gets the spans, and keeps them.
+fn take<M: Manager>(
+    rt: &impl Abort,
+    alloc: Global,
+    room: &mut M,
+    owner: Owner,
+    pages: u32,
+    place: &Place,
+    want: &[Span],
+) {
+    ensure(rt, !room.holds(owner));
+    let answer = room.take(alloc, owner, pages.max(1), 1, place);
+    let spans = answered(rt, alloc, answer);
+    are_spans(rt, spans.items(), want);
     drop(spans);
-    assert!(rt; keeps(room, owner, want));
+    keeps(rt, room, owner, want);
+}
+
+/// The request would get the spans.
+fn choose<M: Manager>(
+    rt: &impl Abort,
+    alloc: Global,
+    room: &mut M,
+    pages: u32,
+    place: &Place,
+    want: &[Span],
+) {
+    let answer = room.choose(alloc, pages.max(1), 1, place);
+    let spans = answered(rt, alloc, answer);
+    are_spans(rt, spans.items(), want);
+    drop(spans);
+}
+
+/// The request would get the spans, which the owner is given to hold, and keeps.
+fn hold<M: Manager>(
+    rt: &impl Abort,
+    alloc: Global,
+    room: &mut M,
+    owner: Owner,
+    pages: u32,
+    place: &Place,
+    want: &[Span],
+) {
+    ensure(rt, !room.holds(owner));
+    let answer = room.choose(alloc, pages.max(1), 1, place);
+    let spans = answer.expect(rt, "spans");
+    are_spans(rt, spans.items(), want);
+    room.hold(owner, &spans).expect(rt, "a holding");
+    drop(spans);
+    keeps(rt, room, owner, want);
 }
 
 /// The owner's pages become those of another.
 fn pass<M: Manager>(rt: &impl Abort, room: &mut M, from: Owner, to: Owner) {
-    assert!(rt; room.holds(from) && !room.holds(to));
+    ensure(rt, room.holds(from));
+    ensure(rt, !room.holds(to));
     room.pass(from, to);
 }
 
 /// The owner gives its pages back.
 fn give<M: Manager>(rt: &impl Abort, room: &mut M, owner: Owner) {
-    assert!(rt; room.holds(owner));
+    ensure(rt, room.holds(owner));
     room.give(owner);
-    assert!(rt; !room.holds(owner));
+    ensure(rt, !room.holds(owner));
 }
 
 /// The step gets what it is to get.
 fn run<M: Manager>(rt: &impl Abort, alloc: Global, room: &mut M, step: &Step) {
     match step {
         Step::Take(owner, pages, place, want) => {
-            let spans = taken(rt, alloc, room, *owner, *pages, place);
-            got(rt, room, *owner, spans, want);
+            take(rt, alloc, room, *owner, *pages, place, want);
         }
-        Step::Choose(pages, place, want) => {
-            let spans = chosen(rt, alloc, room, *pages, place);
-            assert!(rt; spans.items() == *want);
-            drop(spans);
-        }
+        Step::Choose(pages, place, want) => choose(rt, alloc, room, *pages, place, want),
         Step::Hold(owner, pages, place, want) => {
-            let spans = held(rt, alloc, room, *owner, *pages, place);
-            got(rt, room, *owner, spans, want);
+            hold(rt, alloc, room, *owner, *pages, place, want);
         }
         Step::Pass(from, to) => pass(rt, room, *from, *to),
         Step::Give(owner) => give(rt, room, *owner),
     }
 }
 
-/// Each step gets what it is to get, and behind the last one so many pages are free or held.
+/// Each step gets what it is to get, and after the last one these numbers of pages are free or held.
 fn ends_with<M: Manager + Drop>(
     rt: &impl Abort,
     alloc: Global,
-    mut room: M,
+    room: Result<M, NoMemory>,
     steps: &[Step],
     want: Lengths,
 ) {
+    let mut room = room.expect(rt, "a room");
     for step in steps {
         run(rt, alloc, &mut room, step);
     }
-    assert!(rt; room.lengths() == want);
+    ensure(rt, room.lengths() == want);
     drop(room);
 }
 
 /// Calls on 12 pages of blocks.
-const BLOCKS: [Step; 12] = [
+const BLOCKS: &[Step] = &[
     Step::Choose(
         3,
         PLAIN,
@@ -204,25 +203,22 @@ const BLOCKS: [Step; 12] = [
     ),
 ];
 
+/// The pages after them.
+const BLOCKS_HELD: Lengths = Lengths {
+    free: 1,
+    live: 8,
+    targets: 3,
+    ghosts: 0,
+};
+
 #[test]
 fn buddy_room_answers(rt: HostRuntime) {
-    let want = Lengths {
-        free: 1,
-        live: 8,
-        targets: 3,
-        ghosts: 0,
-    };
-    ends_with(
-        &rt,
-        rt.alloc(),
-        BuddyRoom::new(rt.alloc(), 12).expect(&rt, "a room"),
-        &BLOCKS,
-        want,
-    );
+    let room = BuddyRoom::new(rt.alloc(), 12);
+    ends_with(&rt, rt.alloc(), room, BLOCKS, BLOCKS_HELD);
 }
 
 /// Calls on 16 pages of ranges.
-const RANGES: [Step; 14] = [
+const RANGES: &[Step] = &[
     Step::Take(
         Owner::Live(BufId(0)),
         4,
@@ -274,25 +270,22 @@ const RANGES: [Step; 14] = [
     ),
 ];
 
+/// The pages after them.
+const RANGES_HELD: Lengths = Lengths {
+    free: 1,
+    live: 15,
+    targets: 0,
+    ghosts: 0,
+};
+
 #[test]
 fn range_room_answers(rt: HostRuntime) {
-    let want = Lengths {
-        free: 1,
-        live: 15,
-        targets: 0,
-        ghosts: 0,
-    };
-    ends_with(
-        &rt,
-        rt.alloc(),
-        RangeRoom::new(rt.alloc(), 16).expect(&rt, "a room"),
-        &RANGES,
-        want,
-    );
+    let room = RangeRoom::new(rt.alloc(), 16);
+    ends_with(&rt, rt.alloc(), room, RANGES, RANGES_HELD);
 }
 
 /// Calls on 12 pages of VRAM in ranges.
-const VRAM_RANGES: [Step; 4] = [
+const VRAM_RANGES: &[Step] = &[
     Step::Take(
         Owner::Live(BufId(0)),
         3,
@@ -310,7 +303,7 @@ const VRAM_RANGES: [Step; 4] = [
 ];
 
 /// Calls on 12 pages of VRAM in blocks.
-const VRAM_BLOCKS: [Step; 3] = [
+const VRAM_BLOCKS: &[Step] = &[
     Step::Take(
         Owner::Live(BufId(0)),
         3,
@@ -340,20 +333,19 @@ const VRAM_BLOCKS_HELD: Lengths = Lengths {
     ghosts: 0,
 };
 
-/// Twelve pages of VRAM of this kind.
-fn vram_room(rt: &impl Abort, alloc: Global, kind: PagesKind) -> VramRoom {
+/// Twelve pages of VRAM of this kind, whose steps get what they are to get.
+fn vram_ends_with(rt: &impl Abort, alloc: Global, kind: PagesKind, steps: &[Step], want: Lengths) {
     let room = VramRoom::new(alloc, 12, kind).expect(rt, "a room");
-    assert!(rt; room.kind() == kind);
-    room
+    ensure(rt, room.kind() == kind);
+    ends_with(rt, alloc, Ok(room), steps, want);
 }
 
 #[test]
 fn vram_room_answers(rt: HostRuntime) {
     let alloc = rt.alloc();
-    let room = vram_room(&rt, alloc, PagesKind::Ranges);
-    ends_with(&rt, alloc, room, &VRAM_RANGES, VRAM_RANGES_HELD);
-    let room = vram_room(&rt, alloc, PagesKind::Blocks);
-    ends_with(&rt, alloc, room, &VRAM_BLOCKS, VRAM_BLOCKS_HELD);
+    let rt = &rt;
+    vram_ends_with(rt, alloc, PagesKind::Ranges, VRAM_RANGES, VRAM_RANGES_HELD);
+    vram_ends_with(rt, alloc, PagesKind::Blocks, VRAM_BLOCKS, VRAM_BLOCKS_HELD);
 }
 
 const FENCE: JobId = JobId { ctx: 0, num: 1 };
@@ -363,9 +355,9 @@ const LAST_FENCE: JobId = JobId { ctx: 0, num: 2 };
 #[test]
 fn move_fence_is_the_last(rt: HostRuntime) {
     let mut room = BuddyRoom::new(rt.alloc(), 12).expect(&rt, "a room");
-    assert!(rt; room.move_fence().is_none());
+    ensure(&rt, room.move_fence().is_none());
     room.set_move_fence(FENCE);
     room.set_move_fence(LAST_FENCE);
-    assert!(rt; room.move_fence() == Some(LAST_FENCE));
+    ensure(&rt, room.move_fence() == Some(LAST_FENCE));
     drop(room);
 }

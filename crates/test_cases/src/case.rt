@@ -9,10 +9,45 @@ use ttm_base::Actor;
 /// When parts that follow a device are compared with it.
 #[derive(Clone, Copy)]
 pub enum When {
-    /// At the start, and behind each entry.
+    /// At the start, and after each entry.
     EachEntry,
-    /// Once, behind all turns.
+    /// Once, after all turns.
     AtTheEnd,
+}
+
+/// How fast a value counts.
+#[derive(Clone, Copy)]
+pub enum Pace {
+    Fast,
+    /// A step takes some milliseconds.
+    Slow,
+}
+
+/// What a case runs.
+#[derive(Clone, Copy)]
+pub enum Form {
+    /// The program, by the case's words and text.
+    Program,
+    /// Two devices, which are compared turn by turn, and parts that follow one of them.
+    Devices(When),
+    /// The program on the script that is drawn from a number.
+    Drawn(u64),
+    /// A turn lock on a value that counts, and workers on threads.
+    Workers(Pace),
+    /// A turn lock on a value that counts, without threads.
+    OneWorker,
+}
+
+/// How workers are held before their turns.
+#[derive(Clone, Copy, PartialEq, Eq)]
+pub enum Hold {
+    Nobody,
+    /// Workers 1 and 2 wait for each other in their first turns.
+    UntilTheyMeet,
+    /// All but this worker wait in their first turns until it comes to its seventh.
+    UntilSeventhOf(u32),
+    /// Worker 1 waits in its second turn until another comes to its third, and the others in their first until worker 1 is held.
+    InBatchOfFirst,
 }
 
 /// What a program is given, and how.
@@ -32,8 +67,15 @@ pub struct Case {
     pub to_the_end: bool,
     /// At the end, which frame each page of TT stands for.
     pub shows_aperture: bool,
-    /// Two devices are compared turn by turn, and parts that follow one of them then.
-    pub compared: Option<When>,
+    /// The answer to each turn is told, and at the end the report.
+    pub tells_turns: bool,
+    /// After each answered command, what the first thread's mapping of the first buffer knows.
+    pub shows_mapping: bool,
+    /// A gate holds the workers so, and a line tells what it saw.
+    pub watched: Option<Hold>,
+    /// How many turns the gate sees at least.
+    pub least_turns: u64,
+    pub form: Form,
     pub text: Vec<u8>,
 }
 
@@ -49,7 +91,11 @@ impl Drop for Case {
             steps: _,
             to_the_end: _,
             shows_aperture: _,
-            compared: _,
+            tells_turns: _,
+            shows_mapping: _,
+            watched: _,
+            least_turns: _,
+            form: _,
             text: _,
         } = self;
     }
@@ -103,7 +149,11 @@ impl Case {
             steps: Vec::new(alloc),
             to_the_end: false,
             shows_aperture: false,
-            compared: None,
+            tells_turns: false,
+            shows_mapping: false,
+            watched: None,
+            least_turns: 1,
+            form: Form::Program,
             text: Vec::new(alloc),
         })
     }
@@ -113,8 +163,18 @@ impl Case {
         match line {
             "to the end" => self.to_the_end = true,
             "aperture" => self.shows_aperture = true,
-            "compare each entry" => self.compared = Some(When::EachEntry),
-            "compare at the end" => self.compared = Some(When::AtTheEnd),
+            "tell turns" => self.tells_turns = true,
+            "mapping" => self.shows_mapping = true,
+            "compare each entry" => self.form = Form::Devices(When::EachEntry),
+            "compare at the end" => self.form = Form::Devices(When::AtTheEnd),
+            "count" => self.form = Form::Workers(Pace::Fast),
+            "count slowly" => self.form = Form::Workers(Pace::Slow),
+            "count alone" => self.form = Form::OneWorker,
+            "watch" => self.watched = Some(Hold::Nobody),
+            "watch two that meet" => self.watched = Some(Hold::UntilTheyMeet),
+            "watch worker 1 ahead" => self.watched = Some(Hold::UntilSeventhOf(1)),
+            "watch worker 2 ahead" => self.watched = Some(Hold::UntilSeventhOf(2)),
+            "watch worker 1 held" => self.watched = Some(Hold::InBatchOfFirst),
             _ => return self.set_list(alloc, line),
         }
         Ok(())
@@ -132,6 +192,10 @@ impl Case {
             for who in actors(alloc, words)? {
                 self.steps.push(who)?;
             }
+        } else if let Some(count) = line.strip_prefix("turns ") {
+            self.least_turns = count.parse::<u64>().map_err(|_| broken())?;
+        } else if let Some(number) = line.strip_prefix("draw ") {
+            self.form = Form::Drawn(number.parse::<u64>().map_err(|_| broken())?);
         } else if let Some(count) = line.strip_prefix("letters ") {
             self.put_letters(alloc, count.parse::<u32>().map_err(|_| broken())?)?;
         } else {
@@ -140,7 +204,7 @@ impl Case {
         Ok(())
     }
 
-    /// Puts so many letters x at the end of the text.
+    /// Puts `count` letters x at the end of the text.
     fn put_letters(&mut self, alloc: Global, count: u32) -> Result<()>
         ensures { OnOk result (self.new.text.items ≡ self.old.text.items ++ replicate count 120) }
     {

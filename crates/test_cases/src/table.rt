@@ -24,7 +24,7 @@ impl Table {
     ///
     /// # Errors
     ///
-    /// A line that may not come there, or want of memory.
+    /// A line that may not come there, or lack of memory.
     pub fn take(&mut self, line: &str) -> Result<Option<Case>> {
         match &mut self.case {
             None => self.case = Some(Case::begin(self.alloc, line)?),

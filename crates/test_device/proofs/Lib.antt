@@ -1,1 +1,2 @@
+pub mod NextEntries
 pub mod SizeLaws

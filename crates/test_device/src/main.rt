@@ -1,25 +1,27 @@
-//! Runs a table of cases (`test_cases`), and prints what came of each: of the simulator what it wrote and its status; of a device that
-//! named actors step the answer to each turn, and the report; of two devices that are compared a line, and what parts have.
+//! Runs a table of cases (`test_cases`), and prints what came of each: of the program what it wrote and its status, and how its workers
+//! were held; of two devices that are compared a line, the answers to turns and the report, and what parts have; of workers on a value
+//! that counts how they ended.
 #![tactic(auto)]
 
-mod common;
 mod compared;
-mod simulated;
-mod stepped;
+mod program;
+mod threaded;
 
 use std::alloc::Global;
 use std::io;
 use std::io::{BufRead, BufReader};
-use test_cases::{Case, Table};
+use std::sync::Wait;
+use std::thread::Threads;
+use test_cases::{Case, Form, Table};
+use threaded::{drawn, workers};
 
-/// A case is a comparison of devices where it says so. Else one that names actors steps a device, and any other runs the simulator.
-fn run(rt: &HostRuntime, alloc: Global, case: &Case) -> io::Result<()> {
-    if let Some(when) = case.compared {
-        compared::run(rt, alloc, case, when)
-    } else if case.steps.is_empty() {
-        simulated::run(rt, alloc, case)
-    } else {
-        stepped::run(rt, alloc, case)
+fn run(rt: &(impl Threads + Wait + Sync + Print), alloc: Global, case: Case) -> io::Result<()> {
+    match case.form {
+        Form::Program => program::run(rt, alloc, &case),
+        Form::Devices(when) => compared::run(rt, alloc, &case, when),
+        Form::Drawn(number) => drawn::run(rt, alloc, case, number),
+        Form::Workers(pace) => workers::run(rt, alloc, &case, pace),
+        Form::OneWorker => workers::run_alone(rt, alloc, &case),
     }
 }
 
@@ -28,7 +30,7 @@ fn main(rt: HostRuntime) -> io::Result<()> {
     let mut table = Table::new(alloc);
     for line in BufReader::new(alloc, rt.reader())?.lines(alloc) {
         if let Some(case) = table.take(line?.as_str())? {
-            run(&rt, alloc, &case)?;
+            run(&rt, alloc, case)?;
         }
     }
     Ok(())

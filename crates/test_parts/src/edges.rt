@@ -1,3 +1,4 @@
+use crate::wanted::{are_bytes, ensure};
 use io_edge::{
     Failed, MemSink, MemSource, ReadFault, Sink, Source, StdSink, StdSource, read_all, write_all,
 };
@@ -14,101 +15,114 @@ fn source(rt: &impl Abort, alloc: Global, chunk: usize, fails: &[u64]) -> MemSou
     MemSource::new(bytes, chunk.max(1), fails)
 }
 
-/// A sink of so many bytes, whose listed writes fail.
+/// A sink of `room` bytes, whose listed writes fail.
 fn sink(rt: &impl Abort, alloc: Global, room: usize, chunk: usize, fails: &[u64]) -> MemSink {
     let fails = Vec::from_slice(alloc, fails).expect(rt, "numbers");
     MemSink::new(alloc, room, chunk.max(1), fails).expect(rt, "a sink")
 }
 
 /// The source has these bytes left, and no more than the limit.
-fn gives<S: Source>(alloc: Global, source: &mut S, limit: u32, want: &[u8]) -> bool {
+fn gives<S: Source>(rt: &impl Abort, alloc: Global, source: &mut S, limit: u32, want: &[u8]) {
     match read_all(alloc, source, limit as usize) {
-        Ok(bytes) => bytes.as_slice() == want,
-        Err(_) => false,
+        Ok(bytes) => are_bytes(rt, bytes.as_slice(), want),
+        Err(_) => ensure(rt, false),
     }
 }
 
 /// The source can't be read whole.
-fn faults<S: Source>(alloc: Global, source: &mut S, limit: u32, want: ReadFault) -> bool {
+fn faults<S: Source>(rt: &impl Abort, alloc: Global, source: &mut S, limit: u32, want: ReadFault) {
     match read_all(alloc, source, limit as usize) {
-        Ok(_) => false,
-        Err(fault) => fault == want,
+        Ok(_) => ensure(rt, false),
+        Err(fault) => ensure(rt, fault == want),
     }
 }
 
-/// Ten bytes, four at a time, take three reads, and a fourth finds the end.
-#[test]
-fn reads_fail_where_listed(rt: HostRuntime) {
-    let alloc = rt.alloc();
-    for k in 1..=4 {
-        let mut source = source(&rt, alloc, 4, &[k]);
-        assert!(rt;
-            faults(alloc, &mut source, 10, ReadFault::Failed),
-            "at read {k}"
-        );
-    }
-    let mut source = source(&rt, alloc, 4, &[5]);
-    assert!(rt; gives(alloc, &mut source, 10, TEXT));
-}
+/// How many bytes a read moves at most, the reads that fail, the limit in bytes, how the reading ends: with the whole text or with a fault; and which
+/// bytes another one then gives, if it is to be tried.
+type Reading = (
+    usize,
+    &'static [u64],
+    u32,
+    Option<ReadFault>,
+    Option<&'static [u8]>,
+);
 
-/// How many bytes a read or a write moves at most.
-const CHUNKS: &[usize] = &[1, 3, 10, 5000];
-
-#[test]
-fn quiet_source_never_faults(rt: HostRuntime) {
-    let alloc = rt.alloc();
-    for chunk in CHUNKS {
-        let mut source = source(&rt, alloc, *chunk, &[]);
-        assert!(rt; gives(alloc, &mut source, 5000, TEXT));
-        assert!(rt; matches!(source.read(&mut [0]), Ok(0)));
-    }
-}
-
-#[test]
-fn quiet_sink_never_faults(rt: HostRuntime) {
-    for chunk in CHUNKS {
-        let mut sink = sink(&rt, rt.alloc(), 2 * TEXT.len(), *chunk, &[]);
-        assert!(rt; write_all(&mut sink, TEXT).is_ok());
-        assert!(rt; write_all(&mut sink, TEXT).is_ok());
-        assert!(rt; sink.bytes() == b"ttm 1\nend\nttm 1\nend\n".as_slice());
-    }
-}
-
-/// Limits, and the bytes that are left behind a text that is longer.
-const TOO_LOW: &[(u32, &[u8])] = &[(9, b""), (0, b"tm 1\nend\n")];
-
-#[test]
-fn one_byte_more_than_the_limit(rt: HostRuntime) {
-    let alloc = rt.alloc();
-    for (limit, left) in TOO_LOW {
-        let mut source = source(&rt, alloc, 1, &[]);
-        assert!(rt;
-            faults(alloc, &mut source, *limit, ReadFault::TooLong),
-            "limit {limit}"
-        );
-        assert!(rt; gives(alloc, &mut source, 10, left));
-    }
-    let mut source = source(&rt, alloc, 1, &[]);
-    assert!(rt; gives(alloc, &mut source, 10, TEXT));
-    assert!(rt; gives(alloc, &mut source, 10, b""));
-}
-
-/// The room of a sink, how many bytes a write moves, the write that fails, and what goes out before: at a listed call, or for
-/// want of room.
-const FAILING: &[(usize, usize, u64, &[u8])] = &[
-    (10, 1, 1, b""),
-    (10, 1, 4, b"ttm"),
-    (10, 4, 3, b"ttm 1\nen"),
-    (7, 4, 9, b"ttm 1\ne"),
-    (0, 4, 9, b""),
+const READINGS: &[Reading] = &[
+    // ten bytes, four at a time, take three reads, and a fourth finds the end
+    (4, &[1], 10, Some(ReadFault::Failed), None),
+    (4, &[2], 10, Some(ReadFault::Failed), None),
+    (4, &[3], 10, Some(ReadFault::Failed), None),
+    (4, &[4], 10, Some(ReadFault::Failed), None),
+    (4, &[5], 10, None, None),
+    // however many bytes a read moves
+    (1, &[], 5000, None, Some(b"")),
+    (3, &[], 5000, None, Some(b"")),
+    (10, &[], 5000, None, Some(b"")),
+    (5000, &[], 5000, None, Some(b"")),
+    // the text is longer than the limit, or as long
+    (1, &[], 9, Some(ReadFault::TooLong), Some(b"")),
+    (1, &[], 0, Some(ReadFault::TooLong), Some(b"tm 1\nend\n")),
+    (1, &[], 10, None, Some(b"")),
 ];
 
+/// The reading ends as is wanted.
+fn assert_reading(rt: &impl Abort, alloc: Global, row: &Reading) {
+    let (chunk, fails, limit, fault, left) = *row;
+    let mut source = source(rt, alloc, chunk, fails);
+    match fault {
+        Some(fault) => faults(rt, alloc, &mut source, limit, fault),
+        None => gives(rt, alloc, &mut source, limit, TEXT),
+    }
+    if let Some(left) = left {
+        gives(rt, alloc, &mut source, 10, left);
+    }
+}
+
 #[test]
-fn writes_fail_where_listed(rt: HostRuntime) {
-    for (room, chunk, fail, want) in FAILING {
-        let mut sink = sink(&rt, rt.alloc(), *room, *chunk, &[*fail]);
-        assert!(rt; write_all(&mut sink, TEXT).is_err());
-        assert!(rt; sink.bytes() == *want);
+fn sources_are_read_whole_or_fault(rt: HostRuntime) {
+    let alloc = rt.alloc();
+    let rt = &rt;
+    for row in READINGS {
+        assert_reading(rt, alloc, row);
+    }
+}
+
+/// The room of a sink in bytes, how many a write moves at most, the writes that fail, how often the text is written whole, and what has gone out once
+/// it is written again: that breaks off at a listed write, or for lack of room.
+type Writing = (usize, usize, &'static [u64], u32, &'static [u8]);
+
+const TWICE: &[u8] = b"ttm 1\nend\nttm 1\nend\n";
+
+const WRITINGS: &[Writing] = &[
+    (10, 1, &[1], 0, b""),
+    (10, 1, &[4], 0, b"ttm"),
+    (10, 4, &[3], 0, b"ttm 1\nen"),
+    (7, 4, &[9], 0, b"ttm 1\ne"),
+    (0, 4, &[9], 0, b""),
+    // however many bytes a write moves
+    (20, 1, &[], 2, TWICE),
+    (20, 3, &[], 2, TWICE),
+    (20, 10, &[], 2, TWICE),
+    (20, 5000, &[], 2, TWICE),
+];
+
+/// The writing ends as is wanted.
+fn assert_writing(rt: &impl Abort, alloc: Global, row: &Writing) {
+    let (room, chunk, fails, times, want) = *row;
+    let mut sink = sink(rt, alloc, room, chunk, fails);
+    for _time in 0..times {
+        ensure(rt, write_all(&mut sink, TEXT).is_ok());
+    }
+    ensure(rt, write_all(&mut sink, TEXT).is_err());
+    are_bytes(rt, sink.bytes(), want);
+}
+
+#[test]
+fn sinks_take_all_or_break_off(rt: HostRuntime) {
+    let alloc = rt.alloc();
+    let rt = &rt;
+    for row in WRITINGS {
+        assert_writing(rt, alloc, row);
     }
 }
 
@@ -161,26 +175,35 @@ fn faults_of_a_reader(rt: HostRuntime) {
         good: 3,
         full: false,
     });
-    assert!(rt; faults(rt.alloc(), &mut input, 9, ReadFault::Failed));
-    assert!(rt; gives(rt.alloc(), &mut StdSource::new(TEXT), 10, TEXT));
+    faults(&rt, rt.alloc(), &mut input, 9, ReadFault::Failed);
+    let mut text = StdSource::new(TEXT);
+    gives(&rt, rt.alloc(), &mut text, 10, TEXT);
 }
 
 /// How many calls go well, whether nothing is taken, and what comes of a write. Each piece is written and flushed: two calls.
-const WRITES: &[(u32, bool, Result<usize, Failed>)] = &[
+type Written = (u32, bool, Result<usize, Failed>);
+
+const WRITES: &[Written] = &[
     (2, false, Ok(4)),
     (1, false, Err(Failed)),
     (0, false, Err(Failed)),
     (2, true, Err(Failed)),
 ];
 
+/// A write of four bytes ends as is wanted.
+fn assert_write(rt: &impl Abort, row: &Written) {
+    let (good, full, want) = *row;
+    let mut output = StdSink::new(Flaky {
+        calls: 0,
+        good,
+        full,
+    });
+    ensure(rt, output.write(b"text") == want);
+}
+
 #[test]
 fn faults_of_a_writer(rt: HostRuntime) {
-    for (good, full, want) in WRITES {
-        let mut output = StdSink::new(Flaky {
-            calls: 0,
-            good: *good,
-            full: *full,
-        });
-        assert!(rt; output.write(b"text") == *want);
+    for row in WRITES {
+        assert_write(&rt, row);
     }
 }

@@ -1,3 +1,4 @@
+use crate::wanted::{ensure, is_job};
 use fence_core::{FenceSet, Timeline};
 use std::alloc::Global;
 use std::process::Abort;
@@ -43,38 +44,43 @@ fn need(set: &FenceSet, usage: Usage, line: &Timeline) -> Option<JobId> {
 /// Of each usage the job to wait for.
 fn assert_need(rt: &impl Abort, set: &FenceSet, line: &Timeline, rows: &[(Usage, Option<JobId>)]) {
     for (usage, wanted) in rows {
-        assert!(rt; need(set, *usage, line) == *wanted);
+        is_job(rt, need(set, *usage, line), *wanted);
     }
 }
 
-/// The jobs 1 and 2 of context 0, of which the first is done, and job 1 of context 1.
-fn two_contexts(rt: &impl Abort, alloc: Global) -> Timeline {
-    let mut line = Timeline::new(alloc, 2).expect(rt, "contexts");
-    for ctx in [0, 0, 1] {
-        emitted(&mut line, ctx);
-    }
-    finished(&mut line, 0);
-    line
-}
-
-/// Jobs in the order in which they are emitted, and whether each is done at the end.
+/// Jobs in the order in which they are emitted, and whether each is done once the first context has marked one.
 const JOBS: &[(JobId, bool)] = &[
     (JobId { ctx: 0, num: 1 }, true),
     (JobId { ctx: 0, num: 2 }, false),
     (JobId { ctx: 1, num: 1 }, false),
 ];
 
+/// The jobs are emitted in their order.
+fn emit_all(rt: &impl Abort, line: &mut Timeline) {
+    for (job, _done) in JOBS {
+        is_job(rt, emitted(line, job.ctx), Some(*job));
+    }
+}
+
+/// The jobs are done, or aren't.
+fn assert_done(rt: &impl Abort, line: &Timeline) {
+    for (job, done) in JOBS {
+        ensure(rt, is_done(line, *job) == *done);
+    }
+}
+
+/// The jobs 1 and 2 of context 0, of which the first is done, and job 1 of context 1.
+fn two_contexts(rt: &impl Abort, alloc: Global) -> Timeline {
+    let mut line = Timeline::new(alloc, 2).expect(rt, "contexts");
+    emit_all(rt, &mut line);
+    ensure(rt, finished(&mut line, 0));
+    line
+}
+
 #[test]
 fn jobs_are_done_in_order(rt: HostRuntime) {
-    let mut line = Timeline::new(rt.alloc(), 2).expect(&rt, "contexts");
-    for (job, _done) in JOBS {
-        assert!(&rt; emitted(&mut line, job.ctx) == Some(*job));
-    }
-    let marked = finished(&mut line, 0);
-    assert!(&rt; marked);
-    for (job, done) in JOBS {
-        assert!(&rt; is_done(&line, *job) == *done);
-    }
+    let line = two_contexts(&rt, rt.alloc());
+    assert_done(&rt, &line);
 }
 
 const WRITE: JobId = JobId { ctx: 0, num: 2 };
@@ -114,16 +120,17 @@ fn copied(rt: &impl Abort, alloc: Global, set: &FenceSet) -> FenceSet {
 
 #[test]
 fn usages_and_what_they_wait_for(rt: HostRuntime) {
-    let mut line = two_contexts(&rt, rt.alloc());
-    let empty = FenceSet::new(rt.alloc(), 2).expect(&rt, "contexts");
-    assert_need(&rt, &empty, &line, NONE);
-    let mut set = two_fences(&rt, rt.alloc());
-    assert_need(&rt, &set, &line, WRITTEN);
-    let other = copied(&rt, rt.alloc(), &set);
-    assert_need(&rt, &other, &line, READ_BEHIND_KERNEL);
+    let rt = &rt;
+    let mut line = two_contexts(rt, rt.alloc());
+    let empty = FenceSet::new(rt.alloc(), 2).expect(rt, "contexts");
+    assert_need(rt, &empty, &line, NONE);
+    let mut set = two_fences(rt, rt.alloc());
+    assert_need(rt, &set, &line, WRITTEN);
+    let other = copied(rt, rt.alloc(), &set);
+    assert_need(rt, &other, &line, READ_BEHIND_KERNEL);
     finished(&mut line, 1);
-    assert_need(&rt, &other, &line, NONE);
-    assert_need(&rt, &set, &line, READ_BEHIND_WRITE);
+    assert_need(rt, &other, &line, NONE);
+    assert_need(rt, &set, &line, READ_BEHIND_WRITE);
     set.clear();
-    assert_need(&rt, &set, &line, NONE);
+    assert_need(rt, &set, &line, NONE);
 }

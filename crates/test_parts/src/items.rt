@@ -1,34 +1,48 @@
+use crate::wanted::{are_bytes, ensure};
 use item_queue::ItemQueue;
 use std::process::Abort;
 use ttm_base::ItemList;
 
-fn assert_items(rt: &impl Abort, list: &ItemList<u8>, want: &[u8]) {
-    assert!(rt; list.items() == want);
+/// A change of a list.
+enum Change {
+    Extend(&'static [u8]),
+    CutBack(usize),
 }
 
-/// The list is cut back, and has these items left.
-fn cut_back(rt: &impl Abort, list: &mut ItemList<u8>, len: usize, left: &[u8]) {
-    list.truncate(len);
-    assert_items(rt, list, left);
+/// Changes of a list that has two items, and what it then has.
+const CHANGES: &[(Change, &[u8])] = &[
+    (Change::Extend(&[3, 4, 5]), &[1, 2, 3, 4, 5]),
+    (Change::Extend(&[]), &[1, 2, 3, 4, 5]),
+    (Change::CutBack(9), &[1, 2, 3, 4, 5]),
+    (Change::CutBack(5), &[1, 2, 3, 4, 5]),
+    (Change::CutBack(2), &[1, 2]),
+    (Change::CutBack(0), &[]),
+    (Change::Extend(&[6]), &[6]),
+];
+
+/// The list is changed, and then has these items.
+fn assert_change(rt: &impl Abort, list: &mut ItemList<u8>, change: &Change, want: &[u8]) {
+    match change {
+        Change::Extend(items) => list.extend(items).expect(rt, "items"),
+        Change::CutBack(len) => list.truncate(*len),
+    }
+    are_bytes(rt, list.items(), want);
 }
 
 /// A list that grows by slices, and is cut back.
 #[test]
 fn list_grows_and_is_cut_back(rt: HostRuntime) {
-    let mut list = ItemList::from_slice(rt.alloc(), &[1, 2]).expect(&rt, "items");
-    list.extend(&[3, 4, 5]).expect(&rt, "items");
-    list.extend(&[]).expect(&rt, "items");
-    assert_items(&rt, &list, &[1, 2, 3, 4, 5]);
-    cut_back(&rt, &mut list, 9, &[1, 2, 3, 4, 5]);
-    cut_back(&rt, &mut list, 5, &[1, 2, 3, 4, 5]);
-    cut_back(&rt, &mut list, 2, &[1, 2]);
-    cut_back(&rt, &mut list, 0, &[]);
-    list.extend(&[6]).expect(&rt, "items");
-    assert_items(&rt, &list, &[6]);
+    let rt = &rt;
+    let mut list = ItemList::from_slice(rt.alloc(), &[1, 2]).expect(rt, "items");
+    for (change, want) in CHANGES {
+        assert_change(rt, &mut list, change, want);
+    }
 }
 
 /// What comes, how many of the first leave then, to how many the queue is cut back, and what is left.
-const ROWS: &[(&[u32], u32, usize, &[u32])] = &[
+type Row = (&'static [u32], u32, usize, &'static [u32]);
+
+const ROWS: &[Row] = &[
     (&[0, 1, 2, 3, 4], 1, 9, &[1, 2, 3, 4]),
     (&[], 2, 9, &[3, 4]),
     (&[5, 6, 7], 1, 9, &[4, 5, 6, 7]),
@@ -50,13 +64,19 @@ fn turn_over(rt: &impl Abort, queue: &mut ItemQueue<u32>, come: &[u32], leave: u
     }
 }
 
+/// Items come and leave, the queue is cut back, and has these items left.
+fn assert_row(rt: &impl Abort, queue: &mut ItemQueue<u32>, row: &Row) {
+    let (come, leave, kept, left) = *row;
+    turn_over(rt, queue, come, leave);
+    queue.truncate(kept);
+    ensure(rt, queue.items() == left);
+}
+
 /// A queue that gives up its first items, also more than are left, while others come.
 #[test]
 fn queue_gives_up_its_first_items(rt: HostRuntime) {
     let mut queue = ItemQueue::new(rt.alloc());
-    for (come, leave, kept, left) in ROWS {
-        turn_over(&rt, &mut queue, come, *leave);
-        queue.truncate(*kept);
-        assert!(rt; queue.items() == *left);
+    for row in ROWS {
+        assert_row(&rt, &mut queue, row);
     }
 }

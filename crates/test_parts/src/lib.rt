@@ -21,3 +21,5 @@ mod spaces;
 mod tables;
 #[cfg(test)]
 mod tickets;
+#[cfg(test)]
+mod wanted;

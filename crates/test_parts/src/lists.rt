@@ -1,7 +1,7 @@
 ghost use Rattle.std.specs.Prelude.{◌≡◌, ◌<◌};
 
+use crate::wanted::{ensure, is_buffer};
 use lru_bulk::{Lru, Steps};
-use std::alloc::Global;
 use std::marker::Brand;
 use std::process::Abort;
 use std::sync::ledger::{Blank, Ledger};
@@ -9,8 +9,8 @@ use ttm_base::{BufId, Mem};
 
 /// Lists a buffer, which may be listed.
 fn list(rt: &impl Abort, lru: &mut Lru, b: u32, prio: u32, group: Option<u32>) {
-    assert!(rt; prio < 4);
-    assert!(rt; lru.can_add(BufId(b), group));
+    ensure(rt, prio < 4);
+    ensure(rt, lru.can_add(BufId(b), group));
     lru.add(BufId(b), Mem::Vram, prio, group)
         .expect(rt, "a place");
 }
@@ -35,46 +35,47 @@ fn evict(lru: &mut Lru) -> Option<BufId> {
     None
 }
 
-/// The buffer behind another in its list, if it is on one.
-fn behind(lru: &Lru, b: BufId) -> Option<BufId> {
+/// The buffer stands at the place. Gives the one after it in its list, if it is on one.
+fn follows(rt: &impl Abort, lru: &Lru, at: Option<BufId>, b: u32) -> Option<BufId> {
+    let b = BufId(b);
+    is_buffer(rt, at, Some(b));
     if lru.is_listed(b) { lru.next(b) } else { None }
 }
 
 /// The buffers of a list of VRAM are these.
 fn assert_order(rt: &impl Abort, lru: &Lru, prio: u32, want: &[u32]) {
-    assert!(rt; prio < 4);
+    ensure(rt, prio < 4);
     let mut at = lru.first(Mem::Vram, prio);
     for b in want {
-        assert!(rt; at == Some(BufId(*b)));
-        at = behind(lru, BufId(*b));
+        at = follows(rt, lru, at, *b);
     }
-    assert!(rt; at == None);
+    is_buffer(rt, at, None);
 }
 
 /// Touches a buffer, which is listed.
 fn touch(rt: &impl Abort, lru: &mut Lru, b: BufId) {
-    assert!(rt; lru.is_listed(b));
+    ensure(rt, lru.is_listed(b));
     lru.touch(b);
 }
 
-/// Lists a buffer, which is listed, for another memory type.
-fn relist(rt: &impl Abort, lru: &mut Lru, b: BufId, mem: Mem) {
-    assert!(rt; lru.is_listed(b));
-    lru.relist(b, mem);
+/// The odd numbers below 200, and the even ones after them.
+fn odd_before_even(place: u32) -> u32
+    requires { place < 200 }
+{
+    if place < 100 {
+        2 * place + 1
+    } else {
+        2 * place - 200
+    }
 }
 
-/// The odd numbers below 200, and the even ones behind them.
-fn odd_before_even(rt: &impl Abort, alloc: Global) -> Vec<u32> {
-    let mut numbers = Vec::new(alloc);
+/// The buffers of the list are the two hundred, the odd ones first.
+fn assert_two_hundred(rt: &impl Abort, lru: &Lru) {
+    let mut at = lru.first(Mem::Vram, 0);
     for place in 0..200u32 {
-        let number = if place < 100 {
-            2 * place + 1
-        } else {
-            2 * place - 200
-        };
-        numbers.push(number).expect(rt, "a number");
+        at = follows(rt, lru, at, odd_before_even(place));
     }
-    numbers
+    is_buffer(rt, at, None);
 }
 
 /// Moves group 0, and counts.
@@ -102,20 +103,25 @@ fn moved_in<L: Ledger>(lru: &mut Lru, prio: u32, blank: Blank)
 
 const THREE: &[(u32, Option<u32>)] = &[(0, Some(0)), (1, None), (2, Some(0))];
 
-/// The victims in order, and the buffer that is listed behind each, with its priority.
+/// The victims in order, and the buffer that is listed after each, with its priority.
 const VICTIMS: &[(u32, u32, u32)] = &[(1, 3, 1), (0, 4, 1), (2, 5, 1), (3, 6, 0), (6, 7, 1)];
+
+/// Evicts the victims, and lists a buffer after each.
+fn evict_all(rt: &impl Abort, lru: &mut Lru) {
+    for (victim, next, prio) in VICTIMS {
+        is_buffer(rt, evict(lru), Some(BufId(*victim)));
+        list(rt, lru, *next, *prio, None);
+    }
+}
 
 #[test]
 fn victims_in_priority_and_bulk_order(rt: HostRuntime) {
-    let mut lru = Lru::new(rt.alloc(), 8, 1).expect(&rt, "lists");
-    list_all(&rt, &mut lru, 1, THREE);
-    assert!(&rt; lru.can_add(BufId(7), Some(0)));
+    let rt = &rt;
+    let mut lru = Lru::new(rt.alloc(), 8, 1).expect(rt, "lists");
+    list_all(rt, &mut lru, 1, THREE);
+    ensure(rt, lru.can_add(BufId(7), Some(0)));
     lru.bulk_tail(0);
-    for (victim, next, prio) in VICTIMS {
-        let evicted = evict(&mut lru);
-        assert!(&rt; evicted == Some(BufId(*victim)));
-        list(&rt, &mut lru, *next, *prio, None);
-    }
+    evict_all(rt, &mut lru);
     drop(lru);
 }
 
@@ -129,12 +135,12 @@ fn list_two_hundred(rt: &impl Abort, lru: &mut Lru) {
 
 #[test]
 fn bulk_of_two_hundred(rt: HostRuntime) {
-    let mut lru = Lru::new(rt.alloc(), 201, 1).expect(&rt, "lists");
-    list_two_hundred(&rt, &mut lru);
-    assert!(&rt; lru.can_add(BufId(200), Some(0)));
+    let rt = &rt;
+    let mut lru = Lru::new(rt.alloc(), 201, 1).expect(rt, "lists");
+    list_two_hundred(rt, &mut lru);
+    ensure(rt, lru.can_add(BufId(200), Some(0)));
     moved::<Brand>(&mut lru, Blank::new(1));
-    let wanted = odd_before_even(&rt, rt.alloc());
-    assert_order(&rt, &lru, 0, wanted.as_slice());
+    assert_two_hundred(rt, &lru);
     drop(lru);
 }
 
@@ -142,13 +148,14 @@ const OTHER_LIST: &[(u32, Option<u32>)] = &[(3, Some(0)), (4, None)];
 
 #[test]
 fn bulk_of_one_list(rt: HostRuntime) {
-    let mut lru = Lru::new(rt.alloc(), 8, 1).expect(&rt, "lists");
-    list_all(&rt, &mut lru, 1, THREE);
-    list_all(&rt, &mut lru, 2, OTHER_LIST);
-    assert!(&rt; lru.can_add(BufId(7), Some(0)));
+    let rt = &rt;
+    let mut lru = Lru::new(rt.alloc(), 8, 1).expect(rt, "lists");
+    list_all(rt, &mut lru, 1, THREE);
+    list_all(rt, &mut lru, 2, OTHER_LIST);
+    ensure(rt, lru.can_add(BufId(7), Some(0)));
     moved_in::<Brand>(&mut lru, 1, Blank::new(1));
-    assert_order(&rt, &lru, 1, &[1, 0, 2]);
-    assert_order(&rt, &lru, 2, &[3, 4]);
+    assert_order(rt, &lru, 1, &[1, 0, 2]);
+    assert_order(rt, &lru, 2, &[3, 4]);
     drop(lru);
 }
 
@@ -156,13 +163,15 @@ const FOUR: &[(u32, Option<u32>)] = &[(0, Some(0)), (1, None), (2, Some(0)), (3,
 
 #[test]
 fn touched_and_relisted(rt: HostRuntime) {
-    let mut lru = Lru::new(rt.alloc(), 4, 1).expect(&rt, "lists");
-    list_all(&rt, &mut lru, 2, FOUR);
-    touch(&rt, &mut lru, BufId(0));
-    assert_order(&rt, &lru, 2, &[2, 0, 1, 3]);
-    relist(&rt, &mut lru, BufId(2), Mem::Tt);
-    assert!(&rt; lru.first(Mem::Tt, 2) == Some(BufId(2)));
-    touch(&rt, &mut lru, BufId(0));
-    assert_order(&rt, &lru, 2, &[1, 3, 0]);
+    let rt = &rt;
+    let mut lru = Lru::new(rt.alloc(), 4, 1).expect(rt, "lists");
+    list_all(rt, &mut lru, 2, FOUR);
+    touch(rt, &mut lru, BufId(0));
+    assert_order(rt, &lru, 2, &[2, 0, 1, 3]);
+    ensure(rt, lru.is_listed(BufId(2)));
+    lru.relist(BufId(2), Mem::Tt);
+    is_buffer(rt, lru.first(Mem::Tt, 2), Some(BufId(2)));
+    touch(rt, &mut lru, BufId(0));
+    assert_order(rt, &lru, 2, &[1, 3, 0]);
     drop(lru);
 }

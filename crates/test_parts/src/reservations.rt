@@ -1,29 +1,34 @@
 use crate::fences::emitted;
+use crate::wanted::{ensure, is_job};
 use fence_core::Timeline;
 use resv_object::Resv;
 use std::process::Abort;
 use ttm_base::{JobId, Stamp, Usage};
 
+/// The ticket holds the reservation, or none does.
+fn is_held(rt: &impl Abort, resv: &Resv, holder: Option<Stamp>) {
+    ensure(rt, resv.holder() == holder);
+}
+
 /// A ticket takes the reservation or doesn't, and the third ticket holds it.
 fn try_take(rt: &impl Abort, resv: &mut Resv, stamp: Stamp, taken: bool) {
-    let took = resv.try_take(stamp);
-    assert!(rt; took == taken);
-    assert!(rt; resv.holder() == Some(Stamp(3)));
+    ensure(rt, resv.try_take(stamp) == taken);
+    is_held(rt, resv, Some(Stamp(3)));
 }
 
 #[test]
 fn one_ticket_holds_it(rt: HostRuntime) {
-    let mut resv = Resv::new(rt.alloc(), 1).expect(&rt, "a context");
-    try_take(&rt, &mut resv, Stamp(3), true);
-    try_take(&rt, &mut resv, Stamp(2), false);
-    try_take(&rt, &mut resv, Stamp(3), false);
-    assert!(&rt; resv.holder().is_some());
+    let rt = &rt;
+    let mut resv = Resv::new(rt.alloc(), 1).expect(rt, "a context");
+    try_take(rt, &mut resv, Stamp(3), true);
+    try_take(rt, &mut resv, Stamp(2), false);
+    try_take(rt, &mut resv, Stamp(3), false);
+    ensure(rt, resv.holder().is_some());
     resv.release();
-    assert!(&rt; resv.holder() == None);
-    let took = resv.try_take(Stamp(2));
-    assert!(&rt; took);
+    is_held(rt, &resv, None);
+    ensure(rt, resv.try_take(Stamp(2)));
     resv.clear();
-    assert!(&rt; resv.holder() == None);
+    is_held(rt, &resv, None);
     drop(resv);
 }
 
@@ -38,23 +43,23 @@ const WRITTEN: &[(Usage, Option<JobId>)] = &[
 
 /// The write is waited for until the reservation is cleared.
 fn assert_waits(rt: &impl Abort, resv: &mut Resv, line: &Timeline) {
-    assert!(rt; resv.fences().contexts() == line.contexts());
+    ensure(rt, resv.fences().contexts() == line.contexts());
     for (usage, wanted) in WRITTEN {
-        assert!(rt; resv.need(*usage, line) == *wanted);
+        is_job(rt, resv.need(*usage, line), *wanted);
     }
     resv.clear();
-    assert!(rt; resv.fences().contexts() == line.contexts());
-    assert!(rt; resv.need(Usage::Read, line) == None);
+    ensure(rt, resv.fences().contexts() == line.contexts());
+    is_job(rt, resv.need(Usage::Read, line), None);
 }
 
 #[test]
 fn jobs_are_waited_for_by_usage(rt: HostRuntime) {
-    let mut line = Timeline::new(rt.alloc(), 1).expect(&rt, "a context");
-    let made = emitted(&mut line, 0);
-    assert!(&rt; made == Some(JOB));
-    let mut resv = Resv::new(rt.alloc(), 1).expect(&rt, "a context");
-    assert!(&rt; resv.fences().contexts() == 1);
+    let rt = &rt;
+    let mut line = Timeline::new(rt.alloc(), 1).expect(rt, "a context");
+    is_job(rt, emitted(&mut line, 0), Some(JOB));
+    let mut resv = Resv::new(rt.alloc(), 1).expect(rt, "a context");
+    ensure(rt, resv.fences().contexts() == 1);
     resv.add_fence(JOB, Usage::Write);
-    assert_waits(&rt, &mut resv, &line);
+    assert_waits(rt, &mut resv, &line);
     drop(resv);
 }

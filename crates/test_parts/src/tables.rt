@@ -1,3 +1,3 @@
-//! Tests of the device's parts behind its journal: the table of buffers.
+//! Tests of the device's parts after its journal: the table of buffers.
 
 mod buffers;

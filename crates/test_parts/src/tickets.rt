@@ -1,21 +1,31 @@
+use crate::wanted::ensure;
+use std::process::Abort;
 use ttm_base::Stamp;
 use ww_ticket::{Decision, Tickets, decide};
 
 /// Who asks, whether it holds something, who holds what it asks for, and what comes of it.
-const ROWS: &[(Stamp, bool, Option<Stamp>, Decision)] = &[
+type Row = (Stamp, bool, Option<Stamp>, Decision);
+
+const ROWS: &[Row] = &[
     (Stamp(1), false, None, Decision::Take),
     (Stamp(1), true, Some(Stamp(2)), Decision::Wait(Stamp(2))),
     (Stamp(2), true, Some(Stamp(1)), Decision::Backoff(Stamp(1))),
     (Stamp(2), false, Some(Stamp(1)), Decision::Wait(Stamp(1))),
 ];
 
+/// The one who asks doesn't hold it, and is answered as is wanted.
+fn assert_decision(rt: &impl Abort, row: &Row) {
+    let (mine, holds, holder, wanted) = *row;
+    ensure(rt, holder != Some(mine));
+    ensure(rt, decide(mine, holds, holder) == wanted);
+}
+
 #[test]
 fn younger_backs_off_and_older_waits(rt: HostRuntime) {
-    for (mine, holds, holder, wanted) in ROWS {
-        assert!(&rt; *holder != Some(*mine));
-        assert!(&rt; decide(*mine, *holds, *holder) == *wanted);
+    for row in ROWS {
+        assert_decision(&rt, row);
     }
     let mut tickets = Tickets::new();
-    assert!(&rt; tickets.draw() == Stamp(1));
-    assert!(&rt; tickets.next() == Stamp(2));
+    ensure(&rt, tickets.draw() == Stamp(1));
+    ensure(&rt, tickets.next() == Stamp(2));
 }

@@ -21,7 +21,7 @@ fn three_jobs(rt: &impl Abort, alloc: Global) -> Jobs {
     jobs
 }
 
-/// There are so many jobs, and so many behind those at the front that are done.
+/// Tells whether there are `all` jobs, and `pending` of them after those at the front that are done.
 fn has_jobs(jobs: &Jobs, all: usize, pending: usize) -> bool {
     jobs.items().len() == all && jobs.pending().len() == pending
 }
@@ -30,12 +30,13 @@ fn has_jobs(jobs: &Jobs, all: usize, pending: usize) -> bool {
 fn jobs_at_the_front_are_closed_once_done(rt: HostRuntime) {
     let mut jobs = three_jobs(&rt, rt.alloc());
     jobs.finish(OTHER);
-    assert!(rt; has_jobs(&jobs, 3, 3));
+    let other_is_done = has_jobs(&jobs, 3, 3);
     jobs.finish(FIRST);
-    assert!(rt; has_jobs(&jobs, 3, 1));
-    assert!(rt; jobs.named(OTHER).is_some());
-    assert!(rt; jobs.named(JobId { ctx: 2, num: 2 }).is_none());
+    let both_are_done = has_jobs(&jobs, 3, 1);
+    let one_is_named = jobs.named(OTHER).is_some()
+        && jobs.named(JobId { ctx: 2, num: 2 }).is_none();
     jobs.drop_last();
-    assert!(rt; has_jobs(&jobs, 2, 0));
+    let last_is_gone = has_jobs(&jobs, 2, 0);
     drop(jobs);
+    assert!(rt; other_is_done && both_are_done && one_is_named && last_is_gone);
 }

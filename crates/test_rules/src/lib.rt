@@ -20,5 +20,3 @@ mod stores;
 mod texts;
 #[cfg(test)]
 mod turns;
-#[cfg(test)]
-mod words;

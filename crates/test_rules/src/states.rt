@@ -1,11 +1,9 @@
 use crate::making::{buffer_of, core_of, job_of, list, one, script_of, state_of};
 use journal_model::{Buffer, Command, Core, Course, Ghost, JobIds, Jobs, Script, State};
-use rules_holds::{
-    free_frame, free_slot, held_slots, held_spans, jobs_before_use, packets_of, unfinished,
-};
+use rules_holds::{free_frame, free_slot, held_spans, jobs_before_use, packets_of};
 use rules_state::{
-    asked_places, first_mentions, frames_of, in_order, named, new_course, pages_of,
-    place_search_at_work, slots_of, without_buffer,
+    asked_places, first_mentions, frames_of, in_order, named, new_course, place_search_at_work,
+    without_buffer,
 };
 use std::alloc::Global;
 use std::process::Abort;
@@ -67,43 +65,46 @@ fn listed_state(rt: &impl Abort, alloc: Global) -> State {
     state
 }
 
-/// The list is this one.
-fn are<T: Copy + PartialEq>(rt: &impl Abort, items: Result<ItemList<T>, NoMemory>, want: &[T]) {
-    let items = items.expect(rt, "items");
-    assert!(rt; items.items() == want);
+/// Tells whether the list is this one.
+fn are<T: Copy + PartialEq>(items: Result<ItemList<T>, NoMemory>, want: &[T]) -> bool {
+    match items {
+        Ok(items) => items.items() == want,
+        Err(NoMemory) => false,
+    }
 }
 
-/// The jobs are this one, or none.
-fn are_jobs(rt: &impl Abort, jobs: Result<JobIds, NoMemory>, want: &[JobId]) {
-    let jobs = jobs.expect(rt, "jobs");
-    let runs = jobs.runs();
-    assert!(rt; runs.len() == want.len());
-    for (run, id) in runs.iter().zip(want) {
-        assert!(rt; run.ctx == id.ctx && run.first == id.num && run.count == 1);
+/// Tells whether the jobs are the one of engine 1.
+fn is_job(jobs: Result<JobIds, NoMemory>) -> bool {
+    let Ok(jobs) = jobs else {
+        return false;
+    };
+    match jobs.runs() {
+        [run] => run.ctx == JOB.ctx && run.first == JOB.num && run.count == 1,
+        _ => false,
+    }
+}
+
+/// Tells whether the place is one.
+fn is_one_place(alloc: Global, script: &Script) -> bool {
+    match asked_places(alloc, script, &Command::SwapOut { b: A }, A) {
+        Ok(places) => places.len() == 1,
+        Err(NoMemory) => false,
     }
 }
 
 #[test]
-fn buffers_and_places_of_commands(rt: HostRuntime) {
+fn buffers_pages_and_places_of_commands(rt: HostRuntime) {
     let alloc = rt.alloc();
-    are(&rt, without_buffer(alloc, &[A, B, A], A), &[B]);
-    are(&rt, first_mentions(alloc, &[B, A, B]), &[B, A]);
-    are(&rt, named(alloc, &Command::Pin { b: B }), &[B]);
-    let script = script_of(&rt, alloc, SCRIPT);
-    let places = asked_places(alloc, &script, &Command::SwapOut { b: A }, A).expect(&rt, "places");
-    drop(script);
-    assert!(rt; places.len() == 1);
-}
-
-#[test]
-fn pages_of_a_buffer(rt: HostRuntime) {
-    let alloc = rt.alloc();
-    let spans = [Span { start: 0, end: 2 }, Span { start: 5, end: 6 }];
-    are(&rt, pages_of(alloc, &spans), &[0, 1, 5]);
+    let are_named = are(without_buffer(alloc, &[A, B, A], A), &[B])
+        && are(first_mentions(alloc, &[B, A, B]), &[B, A])
+        && are(named(alloc, &Command::Pin { b: B }), &[B]);
     let buffer = read_buffer(&rt, alloc);
-    are(&rt, frames_of(alloc, &buffer), &[0]);
-    are(&rt, slots_of(alloc, &buffer), &[0]);
+    let are_held = are(frames_of(alloc, &buffer), &[0]);
     drop(buffer);
+    let script = script_of(&rt, alloc, SCRIPT);
+    let is_asked = is_one_place(alloc, &script);
+    drop(script);
+    assert!(rt; are_named && are_held && is_asked);
 }
 
 /// The packets of a look at some bytes, which end at a page.
@@ -126,25 +127,6 @@ const PROBE: Op = Op::Probe {
     len: 10,
 };
 
-#[test]
-fn what_is_held_and_what_is_free(rt: HostRuntime) {
-    let alloc = rt.alloc();
-    let core = read_core(&rt, alloc);
-    are(
-        &rt,
-        held_spans(alloc, Mem::Tt, &core),
-        &[Span { start: 2, end: 4 }],
-    );
-    are(&rt, held_slots(alloc, &core), &[0]);
-    let script = script_of(&rt, alloc, SCRIPT);
-    let frame = free_frame(alloc, &script, &core).expect(&rt, "a look");
-    let slot = free_slot(alloc, &script, &core).expect(&rt, "a look");
-    drop(script);
-    drop(core);
-    assert!(rt; frame == Some(1));
-    assert!(rt; slot.is_none());
-}
-
 const FILL: Op = Op::Fill {
     dst: A,
     off: 0,
@@ -152,18 +134,30 @@ const FILL: Op = Op::Fill {
     byte: 7,
 };
 
-/// Packets end at pages, and a job is waited for.
-#[test]
-fn packets_and_jobs_to_wait_for(rt: HostRuntime) {
-    let alloc = rt.alloc();
-    let core = read_core(&rt, alloc);
-    are(&rt, packets_of(alloc, &core, &[PROBE]), PIECES);
-    are_jobs(&rt, unfinished(alloc, &core, &[JOB]), &[JOB]);
-    are_jobs(&rt, jobs_before_use(alloc, &core, &[FILL], A), &[JOB]);
-    drop(core);
+/// Tells whether the second frame is the lowest that is free, and no slot is.
+fn is_free(alloc: Global, script: &Script, core: &Core) -> bool {
+    matches!(free_frame(alloc, script, core), Ok(Some(1)))
+        && matches!(free_slot(alloc, script, core), Ok(None))
 }
 
-/// The search at work of a move to VRAM has one place, and no pressure.
+/// Packets end at pages, and a job is waited for.
+#[test]
+fn what_is_held_and_free_and_waited_for(rt: HostRuntime) {
+    let alloc = rt.alloc();
+    let core = read_core(&rt, alloc);
+    let script = script_of(&rt, alloc, SCRIPT);
+    let is_held = are(
+        held_spans(alloc, Mem::Tt, &core),
+        &[Span { start: 2, end: 4 }],
+    ) && is_free(alloc, &script, &core);
+    let is_waited_for = are(packets_of(alloc, &core, &[PROBE]), PIECES)
+        && is_job(jobs_before_use(alloc, &core, &[FILL], A));
+    drop(script);
+    drop(core);
+    assert!(rt; is_held && is_waited_for);
+}
+
+/// Tells whether the search at work of a move to VRAM has one place, and no pressure.
 fn has_one_place(alloc: Global, script: &Script, state: &State, course: &Course) -> bool {
     let moved = Command::Move {
         b: A,
@@ -179,11 +173,12 @@ fn has_one_place(alloc: Global, script: &Script, state: &State, course: &Course)
 fn eviction_order_and_search_of_a_state(rt: HostRuntime) {
     let alloc = rt.alloc();
     let state = listed_state(&rt, alloc);
-    are(&rt, in_order(alloc, &state, Mem::System), &[A]);
     let script = script_of(&rt, alloc, SCRIPT);
     let course = new_course(alloc, 0);
-    assert!(rt; has_one_place(alloc, &script, &state, &course));
+    let is_in_order = are(in_order(alloc, &state, Mem::System), &[A]);
+    let is_searched = has_one_place(alloc, &script, &state, &course);
     drop(state);
     drop(script);
     drop(course);
+    assert!(rt; is_in_order && is_searched);
 }

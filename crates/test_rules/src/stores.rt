@@ -3,7 +3,7 @@ use journal_model::{Bytes, Core, Entry, Ghosts, Jobs, Kind, Script, State};
 use rules_stores::{PlainStores, can_store};
 use std::alloc::Global;
 use std::process::Abort;
-use ttm_base::{Actor, BufId, JobId, Loc, Packet, PagePlace};
+use ttm_base::{Actor, BufId, JobId, Loc, NoMemory, Packet, PagePlace};
 
 /// Sizes alone.
 const SCRIPT: &str = "ttm 1\nvram range 1\ntt 1\nframes 2\nswap 1\nengines 1\nend\n";
@@ -39,12 +39,15 @@ fn filled_core(rt: &impl Abort, alloc: Global) -> Core {
     core_of(buffers, jobs, Ghosts::new(alloc))
 }
 
-/// The engine makes an entry that holds no list.
-fn make(rt: &impl Abort, script: &Script, state: &State, stores: &mut PlainStores, kind: Kind) {
-    assert!(rt; can_store(script, state, ENGINE, &kind));
+/// The engine makes an entry that holds no list, and tells whether it could.
+fn make(script: &Script, state: &State, stores: &mut PlainStores, kind: Kind) -> bool {
+    let can = can_store(script, state, ENGINE, &kind);
     let entry = Entry { who: ENGINE, kind };
-    stores.after(script, state, &entry);
+    if can {
+        stores.after(script, state, &entry);
+    }
     drop(entry);
+    can
 }
 
 /// A packet of the job, which has shown nothing yet.
@@ -56,34 +59,36 @@ fn packet(alloc: Global, k: u32) -> Kind {
     }
 }
 
-/// The page is filled, goes to the slot and comes back into the other frame.
-fn swap_the_page(
-    rt: &impl Abort,
-    alloc: Global,
-    script: &Script,
-    state: &State,
-    stores: &mut PlainStores,
-) {
-    make(rt, script, state, stores, packet(alloc, 0));
-    let out = Kind::SwapOut {
-        b: B,
-        page: 0,
-        slot: 0,
-    };
-    make(rt, script, state, stores, out);
-    let back = Kind::SwapIn {
-        b: B,
-        page: 0,
-        slot: 0,
-        frame: 1,
-    };
-    make(rt, script, state, stores, back);
+/// The page is filled, goes to the slot and comes back into the other frame. Tells whether it could.
+fn swap_the_page(alloc: Global, script: &Script, state: &State, stores: &mut PlainStores) -> bool {
+    make(script, state, stores, packet(alloc, 0))
+        && make(
+            script,
+            state,
+            stores,
+            Kind::SwapOut {
+                b: B,
+                page: 0,
+                slot: 0,
+            },
+        )
+        && make(
+            script,
+            state,
+            stores,
+            Kind::SwapIn {
+                b: B,
+                page: 0,
+                slot: 0,
+                frame: 1,
+            },
+        )
 }
 
-/// The packet shows these bytes.
-fn has_shown(shown: &Kind, want: &[u8]) -> bool {
+/// Tells whether the packet shows these bytes.
+fn has_shown(shown: Result<Kind, NoMemory>, want: &[u8]) -> bool {
     match shown {
-        Kind::Packet { piece, .. } => piece.items() == want,
+        Ok(Kind::Packet { piece, .. }) => piece.items() == want,
         _ => false,
     }
 }
@@ -94,14 +99,11 @@ fn filled_page_goes_through_swap(rt: HostRuntime) {
     let script = script_of(&rt, alloc, SCRIPT);
     let state = state_of(alloc, filled_core(&rt, alloc));
     let mut stores = PlainStores::new(alloc, script.sizes).expect(&rt, "stores");
-    swap_the_page(&rt, alloc, &script, &state, &mut stores);
-    let look = packet(alloc, 1);
-    let shown = stores
-        .showing(alloc, &script, &state, ENGINE, look)
-        .expect(&rt, "bytes");
-    assert!(rt; has_shown(&shown, &[0, 0, 7, 7]));
-    drop(shown);
+    let is_swapped = swap_the_page(alloc, &script, &state, &mut stores);
+    let shown = stores.showing(alloc, &script, &state, ENGINE, packet(alloc, 1));
+    let is_shown = has_shown(shown, &[0, 0, 7, 7]);
     drop(stores);
     drop(state);
     drop(script);
+    assert!(rt; is_swapped && is_shown);
 }

@@ -1,4 +1,6 @@
-//! Tests of reading entries and reports.
+//! Tests of reading scripts, entries and reports, and of writing what was read again.
 
 mod entries;
 mod reports;
+mod scripts;
+mod written;

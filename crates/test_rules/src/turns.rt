@@ -76,12 +76,12 @@ fn engines_go_before_threads_and_elders_before_others(rt: HostRuntime) {
     let alloc = rt.alloc();
     let script = script_of(&rt, alloc, SCRIPT);
     let mut state = state_with_tickets(&rt, alloc);
-    assert!(rt; has_room(&script, &state));
-    assert!(rt; has_order(alloc, &script, &state, ORDER));
-    assert!(rt; goes_next(alloc, &script, &state, Actor::Engine(1)));
-    assert!(rt; !is_over(&script, &state));
+    let is_ordered = has_order(alloc, &script, &state, ORDER)
+        && goes_next(alloc, &script, &state, Actor::Engine(1))
+        && !is_over(&script, &state);
     state.core.jobs.finish(JOB);
-    assert!(rt; is_over(&script, &state));
+    let is_ended = is_over(&script, &state);
     drop(state);
     drop(script);
+    assert!(rt; is_ordered && is_ended);
 }

@@ -7,7 +7,7 @@ use journal_model::Script;
 use std::alloc::Global;
 use ttm_base::{Actor, ItemList, NoMemory};
 
-/// Puts the threads from 1 on behind other actors.
+/// Puts the threads from 1 on after other actors.
 fn push_threads(actors: &mut ItemList<Actor>, count: u32) -> Result<(), NoMemory>
     ensures { OnOk result (actors.new ≡ actors.old ++ map actor.Thread (count_from 1 count 1)) }
 {
@@ -17,7 +17,7 @@ fn push_threads(actors: &mut ItemList<Actor>, count: u32) -> Result<(), NoMemory
     Ok(())
 }
 
-/// Puts the engines from 0 on behind other actors.
+/// Puts the engines from 0 on after other actors.
 fn push_engines(actors: &mut ItemList<Actor>, engines: u32) -> Result<(), NoMemory>
     ensures { OnOk result (actors.new ≡ actors.old ++ map actor.Engine (count_from 1 (engines + 1) 0)) }
 {

@@ -17,7 +17,7 @@ use worker_pool::{Gate, work_all};
 ///
 /// # Errors
 ///
-/// Want of memory.
+/// Lack of memory.
 pub fn run_threads<R: Threads + Wait + Sync, G: Gate + Sync>(
     rt: &R,
     alloc: Global,

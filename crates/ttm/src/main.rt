@@ -17,7 +17,7 @@ use worker_pool::IdleGate;
 ///
 /// # Errors
 ///
-/// Want of memory.
+/// Lack of memory.
 fn words_of(rt: &(impl Env + Alloc), alloc: Global) -> Result<Words, NoMemory> {
     let mut words = Words::new(alloc);
     match env::args(rt) {

@@ -1,5 +1,5 @@
 -- The budget of a batch of turns.
-use Rattle.std.specs.Prelude.{◌≡◌, ◌≤◌, ◌⊎◌, Option, Some}
+use Rattle.std.specs.Prelude.{◌≡◌, ℕ, ◌-◌, ◌≤◌, ◌⊎◌, Option, Some}
 use Rattle.turn_lock.specs.declared.batch.Batch.{Batch}
 
 -- a batch begins with a budget of 1 to 64
@@ -10,3 +10,7 @@ pub record Begins (batch : Batch) : Type 0 where
 -- the caller's own batch goes on, or one begins
 abbrev pub Resumes : Option Batch → Batch → Type 0
 Resumes before batch = (before ≡ Some batch) ⊎ Begins batch
+
+-- the same batch with less of its budget, which ends at 0
+abbrev pub charged : Batch → ℕ → Batch
+charged batch cost = record batch { left = batch.left - cost }

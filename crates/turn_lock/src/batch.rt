@@ -1,7 +1,7 @@
 //! Batches of turns, as cohort locks have them: one caller takes several turns in a row, while others sleep until the handoff. No turn
 //! needs a batch: whoever waits too long for the handoff begins one.
-ghost use Rattle.std.specs.Prelude.{◌≡◌, ◌-◌, IfSome};
-ghost use Rattle.turn_lock.specs.Batches.{Begins, Resumes};
+ghost use Rattle.std.specs.Prelude.{◌≡◌, IfSome};
+ghost use Rattle.turn_lock.specs.Batches.{Begins, Resumes, charged};
 
 use std::sync::Wait;
 use std::sync::atomic::AtomicU64;
@@ -49,7 +49,7 @@ impl Handoff {
 
     /// Takes `cost` off the budget of `batch`, which ends at 0. Offers the handoff where nothing is left.
     pub fn charge(&self, batch: Batch, cost: u64) -> Batch
-        ensures { result.left ≡ batch.left - cost }
+        ensures { result ≡ charged batch cost }
     {
         let left = batch.left.saturating_sub(cost);
         if left == 0 {

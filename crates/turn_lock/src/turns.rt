@@ -137,7 +137,7 @@ impl<V: Logged> Turns<V> {
         unreachable!()
     }
 
-    // Between two looks at the number served. Behind some looks it sleeps for as long as this number is served.
+    // Between two looks at the number served. After some looks it sleeps for as long as this number is served.
     fn rest<R: Wait>(&self, rt: &R, served: u64, looks: u64) {
         if looks < LOOKS {
             spin_loop();
@@ -205,7 +205,7 @@ impl<V: Logged> Turns<V> {
         let None = lent else { unreachable!() };
         self.table.shared.store::<Publish>(pass, LENGTH, count);
         let number = self.table.shared.fetch_add::<Advance>(pass, SERVED, 1);
-        // Who draws a number behind this look finds it served.
+        // Who draws a number after this look finds it served.
         if self.table.shared.peek(TICKET) != number.wrapping_add(1) {
             self.table.shared.wake_all(SERVED);
         }

@@ -1,4 +1,4 @@
--- Buffers behind the end of the table.
+-- Buffers after the end of the table.
 use Rattle.std.proofs.Common.{◌≡◌, ℕ, zero, suc, ◌≤◌, false, List, [], ◌∷◌, None, length, refl, sym, ap, arith}
 use Rattle.std.specs.Prelude.{is_some, option_and_then, slice_get}
 use Rattle.ttm_base.specs.declared.BufId.{BufId}

@@ -141,7 +141,7 @@ fn next_of_task(alloc: Global, rooms: &Rooms, thread: u32) -> Result<Next, NoMem
 ///
 /// # Errors
 ///
-/// Want of memory; nothing is changed.
+/// Lack of memory; nothing is changed.
 pub fn act(alloc: Global, rooms: &mut Rooms, thread: u32) -> Result<Step, NoMemory>
     requires act { stage_of (task_of rooms.old.script (state_behind rooms.old) thread) ≡ stage.Act }
     requires no_free { free_due rooms.old.script (state_behind rooms.old) thread ≡ false }

@@ -54,7 +54,7 @@ fn next_of_lock(rooms: &Rooms, thread: u32, b: BufId) -> Next
 ///
 /// # Errors
 ///
-/// Want of memory; nothing is changed.
+/// Lack of memory; nothing is changed.
 pub fn lock(rooms: &mut Rooms, thread: u32) -> Result<Step, NoMemory>
     requires { stage_of (task_of rooms.old.script (state_behind rooms.old) thread) ≡ stage.Lock }
     ensures step { IfOk result (λ step. step ≡ step_of (entry_of rooms.old (actor.Thread thread))) }

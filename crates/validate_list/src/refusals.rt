@@ -14,7 +14,7 @@ use ttm_base::{Actor, NoMemory};
 ///
 /// # Errors
 ///
-/// Want of memory; nothing is changed.
+/// Lack of memory; nothing is changed.
 pub fn refuse(rooms: &mut Rooms, thread: u32) -> Result<Step, NoMemory>
     requires { gives_up (task_of rooms.old.script (state_behind rooms.old) thread) ≡ true }
     ensures step { IfOk result (λ step. step ≡ step_of (entry_of rooms.old (actor.Thread thread))) }

@@ -1,4 +1,4 @@
-//! Workers that step the actors of a value behind a turn lock.
+//! Workers that step the actors of a value after a turn lock.
 #![tactic(auto)]
 
 ghost use Rattle.std.specs.Prelude.{◌≡◌, ℕ, ◌<◌, ◌≤◌, Some, IfOk, IfSome, OnOk, length, true};

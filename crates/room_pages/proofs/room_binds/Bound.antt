@@ -1,4 +1,4 @@
--- All parts behind a buffer that went from SYSTEM to TT.
+-- All parts after a buffer that went from SYSTEM to TT.
 use Rattle.std.proofs.Common.{◌≡◌, ℕ, ◌<◌, false, List, [], ◌∷◌, ◌++◌, Option, Ok, length, refl, sym, ◌∙◌, ap, ap₂, subst}
 use Rattle.std.specs.Prelude.{slice_get}
 use Rattle.ttm_base.specs.declared.Actor.TheVariants as actor
@@ -90,7 +90,7 @@ module _ (script : Script) (journal : List Entry) (p : Parts) (entry : Entry) (t
       let ghosts = ghosts_law script journal held.fits held.legal in
       spans.bind_fresh script journal held.fits held.legal Tt (λ e. (let x : Tt ≡ System = e in cc)) ghosts.first (λ i g at. (ghosts.drawn i g at).1) p.tt held.represents.tt t b told
 
-  -- behind the calls all parts are represented
+  -- after the calls all parts are represented
   pub bind_held : (bo : Bo) (table : List Loc) (aper : List (Option ℕ)) (u : Resources) (bos : Bos) (o : Order) → IsBo p.bos b bo → table ≡ bo.table → aper ≡ mapped_to p.stores.aper (pages_of (spans_at (owner.Target b) p.tt.held)) table →
       u ≡ passed_on (owner.Target b) (owner.Live b) p.tt → bos ≡ with_changed bound p.bos b → o ≡ relisted p.lru b Tt → AreMembersListed p.lru →
       AreHeld script (journal ++ entry ∷ []) (record p { stores = record p.stores { aper = aper }; tt = u; bos = bos; lru = o })

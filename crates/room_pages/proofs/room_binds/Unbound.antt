@@ -1,4 +1,4 @@
--- All parts behind a buffer that went from TT to SYSTEM.
+-- All parts after a buffer that went from TT to SYSTEM.
 use Rattle.std.proofs.Common.{◌≡◌, ℕ, ◌<◌, List, [], ◌∷◌, ◌++◌, Option, Some, Ok, length, refl, sym, ◌∙◌, ap, subst}
 use Rattle.std.specs.Prelude.{slice_get}
 use Rattle.ttm_base.specs.declared.Actor.TheVariants as actor
@@ -75,7 +75,7 @@ module _ (script : Script) (journal : List Entry) (p : Parts) (entry : Entry) (t
       subst (λ n. page < n) (sym held.represents.stores.aper_size)
       (buffer_inside script s.core (once_law script journal held.fits held.legal) page b (buffer s b) k live in_tt (ap (λ ss. slice_get (pages_of ss) k) (sym (own_spans (buffer s b) in_tt)) ∙ here))
 
-  -- behind the calls all parts are represented
+  -- after the calls all parts are represented
   pub unbind_held : (aper : List (Option ℕ)) (u : Resources) (bos : Bos) (o : Order) → aper ≡ cleared p.stores.aper (pages_of (spans_at (owner.Live b) p.tt.held)) →
       u ≡ given (owner.Live b) p.tt → bos ≡ with_changed unbound p.bos b → o ≡ relisted p.lru b System → AreMembersListed p.lru →
       AreHeld script (journal ++ entry ∷ []) (record p { stores = record p.stores { aper = aper }; tt = u; bos = bos; lru = o })

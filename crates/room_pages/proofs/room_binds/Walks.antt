@@ -12,7 +12,7 @@ module _ (left rest : List ℕ) (page : ℕ) (goes : left ≡ page ∷ rest) whe
   pub first_below : (n : ℕ) → AreBelow left n → page < n
   first_below n h = h 0 page (ap (λ l. slice_get l 0) goes)
 
-  -- those behind it are
+  -- those after it are
   pub rest_below : (n m : ℕ) → m ≡ n → AreBelow left n → AreBelow rest m
   rest_below n m e h k p at = subst (λ x. p < x) (sym e) (h (suc k) p (ap (λ l. slice_get l (suc k)) goes ∙ at))
 

@@ -1,4 +1,4 @@
--- All parts behind a buffer that is freed.
+-- All parts after a buffer that is freed.
 use Rattle.std.proofs.Common.{◌≡◌, ℕ, ◌<◌, Bool, false, List, [], ◌∷◌, ◌++◌, ◌≤◌, Option, Some, None, Ok, IsSome, length, refl, sym, ◌∙◌, ap, subst, arith}
 use Rattle.std.specs.Prelude.{unwrap_or, ◌==◌, filter_map, option_map, slice_get, slice_set, if◌then◌else◌}
 use Rattle.std.proofs.lemmas.Bool.{ne_eqb}
@@ -172,7 +172,7 @@ module _ (script : Script) (journal : List Entry) (p : Parts) (entry : Entry) (t
 
   -- ---- what is represented again
 
-  -- a manager behind its call
+  -- a manager after its call
   spans_now : (mine : Mem) → (mine ≡ System → ⊥) → (r : Resources) → HoldsAsIn (size_of script mine) mine s r → HoldsAsIn (size_of script mine) mine (after_free s t b g) (freed b g r)
   spans_now mine out r representation = thread_spans script journal held.fits held.legal mine out good.first (λ i h e. (good.drawn i h e).1) r representation t (kind.Free b g) step told
 

@@ -1,4 +1,4 @@
--- All parts behind a ghost that is reaped.
+-- All parts after a ghost that is reaped.
 use Rattle.std.proofs.Common.{◌≡◌, ℕ, ◌<◌, Bool, true, List, [], ◌∷◌, ◌++◌, Option, Some, length, take, drop, refl, sym, ◌∙◌, ap, subst}
 use Rattle.std.specs.Prelude.{unwrap_or, slice_get}
 use Rattle.ttm_base.specs.declared.Actor.TheVariants as actor

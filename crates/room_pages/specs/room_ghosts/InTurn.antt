@@ -3,7 +3,7 @@ use Rattle.std.specs.Prelude.{◌≡◌, ℕ, Bool, true, List, Option, Some, fi
 use Rattle.ttm_base.specs.declared.Loc.{Loc}
 use Rattle.room_representation.specs.lemma_room_bytes.GivenBack.{given_back}
 
--- each number is held when its turn comes, behind those before it
+-- each number is held when its turn comes, after those before it
 abbrev pub AreHeldInTurn : List Bool → List ℕ → Type 0
 AreHeldInTurn pool ks = (i k : ℕ) → slice_get ks i ≡ Some k → slice_get (given_back pool (take i ks)) k ≡ Some true
 

@@ -1,4 +1,4 @@
--- The aperture behind entries that map pages, clear them, or leave them to a ghost.
+-- The aperture after entries that map pages, clear them, or leave them to a ghost.
 use Rattle.std.proofs.Common.{◌≡◌, ℕ, zero, suc, ◌<◌, ◌≤◌, Bool, true, false, List, [], ◌∷◌, ◌++◌, Option, Some, None, refl, sym, subst, ◌∙◌, ap, arith, ◌⊎◌, inl, inr, ⊎_elim, length}
 use Rattle.std.specs.Prelude.{slice_get, slice_set, filter, not, option_and_then, ◌==◌, if◌then◌else◌}
 use Rattle.std.proofs.lemmas.Bool.{cases_eq, cases_lt, eq-eqb, ne_eqb}

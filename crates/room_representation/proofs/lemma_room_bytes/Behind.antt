@@ -1,4 +1,4 @@
--- The pool and the swap store behind an entry of any kind are those of the state and the bytes behind it.
+-- The pool and the swap store after an entry of any kind are those of the state and the bytes after it.
 use Rattle.std.proofs.Common.{◌≡◌, ℕ, zero, suc, ◌*◌, Bool, true, false, List, [], ◌∷◌, arith, length, Some, refl, sym, subst, ◌∙◌, ap}
 use Rattle.std.specs.Prelude.{◌==◌, find, option_map, slice_get, unwrap_or, if◌then◌else◌}
 use Rattle.std.proofs.lemmas.Bool.{eqb-true, eq-eqb, ne_eqb}
@@ -44,7 +44,7 @@ found (h ∷ ghosts) num (suc i) g at is only =
     ap (λ q. if q then Some h else find (λ h. h.num == num) ghosts) (ne_eqb h.num num (λ e. (let no = only 0 h refl e in absurd (omega (arith, no)))))
     ∙ found ghosts num i g at is (λ k y e f. (let r = only (suc k) y e f in omega (arith, r)))
 
--- what is behind the only ghost of its number are its frames
+-- what follows the only ghost of its number are its frames
 pub frames_behind_is : (ghosts : List Ghost) (num : ℕ) (g : IsOnlyGhost ghosts num) → frames_behind num ghosts ≡ g.ghost.frames
 frames_behind_is ghosts num g = ap (λ o. unwrap_or (option_map (λ (h : Ghost). h.frames) o) []) (found ghosts num g.place g.ghost g.at g.number g.only)
 
@@ -78,7 +78,7 @@ module _ (script : Script) (s : State) (who : Actor) (owned : HaveOneOwner scrip
       subst (λ fs. ArePooled script.sizes.frames (held_frames (applied script s who (kind.Reap num)).core) (given_back pool fs)) (sym is)
       (reap_pooled script s pool representation owned.frames num g.place g.ghost g.at g.number g.only)
 
-  -- the pool behind an entry holds what the state behind it holds
+  -- the pool after an entry holds what the state after it holds
   pub pool_behind : (k : Kind) (pool : List Bool) → Tells script s who k → ArePooled script.sizes.frames (held_frames s.core) pool →
       ArePooled script.sizes.frames (held_frames (applied script s who k).core) (pool_after s k pool)
   pool_behind (kind.New b) pool told representation = pool_stays script.sizes.frames s.core (applied script s who (kind.New b)).core pool (new_same script s (thread_of who) b told) representation
@@ -104,7 +104,7 @@ module _ (script : Script) (s : State) (who : Actor) (owned : HaveOneOwner scrip
       by Vram e = refl
       by System e = refl
 
-  -- the swap store behind an entry holds what the state behind it holds, with the bytes behind it
+  -- the swap store after an entry holds what the state after it holds, with the bytes after it
   pub slots_behind : (k : Kind) (bytes : PageBytes) (swap : SwapSlots) (copy : List ℕ) → HaveNoSlotsInTt s.core → length swap.bytes ≡ 4096 * length swap.held → Tells script s who k → IsSwappedOut s k bytes copy →
       AreSlots script.sizes.swap (held_slots s.core) bytes swap → AreSlots script.sizes.swap (held_slots (applied script s who k).core) (within script.sizes (stores_after script s who k bytes)) (slots_after s k copy swap)
   slots_behind (kind.New b) bytes swap copy full long told out representation = new_slots script s who b bytes swap told representation

@@ -22,7 +22,7 @@ use Rattle.room_representation.specs.Pages.{AreStores, HasNoMore}
 pub first_no_more : (script : Script) → HasNoMore script.sizes (first_world script).stores
 first_no_more script page o h = refl
 
--- behind each entry there are none beyond the sizes
+-- after each entry there are none beyond the sizes
 pub no_more_after : (script : Script) (w : World) (e : Entry) → HasNoMore script.sizes (world_after script w e).stores
 no_more_after script w e page o h = ap (λ q. if q then stores_after script w.state e.who e.kind w.stores page o else 0) h
 
@@ -31,7 +31,7 @@ nothing_behind [] i h = refl
 nothing_behind (x ∷ xs) zero h = absurd (omega (arith, h))
 nothing_behind (x ∷ xs) (suc i) h = nothing_behind xs i (omega (arith, h))
 
--- a part has none behind a page, or behind all pages
+-- a part has none after a page, or after all pages
 nothing_at : (xs : List ℕ) (n p o : ℕ) → length xs ≡ 4096 * n → (nat_lt p n && nat_lt o 4096) ≡ false → byte_at xs p o ≡ 0
 nothing_at xs n p o h e = by (nat_lt o 4096) refl
   where

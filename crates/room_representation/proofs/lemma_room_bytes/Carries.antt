@@ -1,4 +1,4 @@
--- The stores behind entries that carry a buffer into TT or out of it, free it, or reap a ghost.
+-- The stores after entries that carry a buffer into TT or out of it, free it, or reap a ghost.
 use Rattle.std.proofs.Common.{◌≡◌, ℕ, false, List, [], ◌∷◌, ◌++◌, Option, Some, None, refl, sym, ◌∙◌, ap, subst, ⊎_elim, length}
 use Rattle.std.specs.Prelude.{slice_get, slice_set, option_map, ◌==◌, if◌then◌else◌}
 use Rattle.ttm_base.specs.declared.Actor.{Actor}

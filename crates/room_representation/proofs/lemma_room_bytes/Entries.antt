@@ -1,4 +1,4 @@
--- From a legal journal with one entry more, and what the part's call ensures: the stores have the bytes and the aperture behind it.
+-- From a legal journal with one entry more, and what the part's call ensures: the stores have the bytes and the aperture after it.
 use Rattle.std.proofs.Common.{◌≡◌, ℕ, ◌*◌, ◌<◌, true, false, List, Option, Some, IsTrue, refl, sym, ◌∙◌, ap}
 use Rattle.std.specs.Prelude.{slice_get, ◌==◌}
 use Rattle.ttm_base.specs.declared.Actor.{Actor}

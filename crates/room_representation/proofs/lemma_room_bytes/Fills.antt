@@ -1,4 +1,4 @@
--- The stores behind entries on frames and slots, and behind those that leave bytes and aperture as they are.
+-- The stores after entries on frames and slots, and after those that leave bytes and aperture as they are.
 use Rattle.std.proofs.Common.{◌≡◌, ℕ, zero, suc, ◌+◌, ◌*◌, ◌<◌, true, List, [], ◌∷◌, ◌++◌, Option, Some, None, refl, sym, ◌∙◌, ap, arith, length, get_or}
 use Rattle.std.specs.Prelude.{slice_get, slice_set, fold, find, zip, flat_map, filter_map, option_map, option_and_then, ◌==◌}
 use Rattle.ttm_base.specs.declared.Actor.{Actor}

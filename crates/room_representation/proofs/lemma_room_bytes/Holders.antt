@@ -27,7 +27,7 @@ use Rattle.laws.proofs.law_holders.Positions.{times_at, in_sum, two_in_sum, in_l
 
 -- ---- from legal journals
 
--- pages are held once behind a legal entry
+-- pages are held once after a legal entry
 pub held_after : (script : Script) (journal : List Entry) (e : Entry) → IsTrue (is_script script) → IsLegal script journal → IsLegalNext script (world_of script journal) e
     → AreHeldOnce script (apply script (state_of script journal) e).core
 held_after script journal e fits legal next =

@@ -1,4 +1,4 @@
--- What a legal journal tells of its state and of the entry behind it, as far as the stores depend on it.
+-- What a legal journal tells of its state and of the entry after it, as far as the stores depend on it.
 use Rattle.std.proofs.Common.{◌≡◌, ℕ, true, false, List, Option, Some, None, Ok, Err, IsTrue, refl, sym, ◌∙◌, ap}
 use Rattle.std.specs.Prelude.{slice_get}
 use Rattle.ttm_base.specs.declared.Actor.{Actor}

@@ -1,4 +1,4 @@
--- The pool and the swap store behind one more legal entry.
+-- The pool and the swap store after one more legal entry.
 use Rattle.std.proofs.Common.{◌≡◌, ℕ, ◌*◌, Bool, List, [], ◌∷◌, ◌++◌, length, Option, Some, Ok, IsTrue, refl, sym, subst, ◌∙◌, ap}
 use Rattle.std.proofs.lemmas.Option.{slice_get_within}
 use Rattle.ttm_base.specs.declared.Actor.{Actor}

@@ -23,7 +23,7 @@ at_other (a ∷ aper) zero (suc q) o ne = refl
 at_other (a ∷ aper) (suc p) zero o ne = refl
 at_other (a ∷ aper) (suc p) (suc q) o ne = at_other aper p q o (λ e. ne (ap suc e))
 
--- no page behind the list is mapped
+-- no page after the list is mapped
 pub at_past : (aper : List (Option ℕ)) (p : ℕ) → length aper ≤ p → frame_at aper p ≡ None
 at_past [] p h = refl
 at_past (a ∷ aper) zero h = absurd (omega (arith, h))

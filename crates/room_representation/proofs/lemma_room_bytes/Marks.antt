@@ -209,7 +209,7 @@ times_front [] i k e = cc
 times_front (m ∷ ks) zero k e = let same : m ≡ k = cc in let it = ap one (eq-eqb k m (sym same)) in omega (arith, it)
 times_front (m ∷ ks) (suc i) k e = let rest = times_front ks i k e in omega (arith, rest)
 
--- behind some that were given back, one that is held besides is held still
+-- after some that were given back, one that is held besides is held still
 pub held_behind : (old front : List ℕ) (size k : ℕ) → AreOwned size old → times k front + 1 ≤ times k old → slice_get (given_back (marks old size) front) k ≡ Some true
 held_behind old front size k owned h =
     let once = owned_once size old owned k in

@@ -176,14 +176,14 @@ others_quiet script s who (kind.Result r) bytes h spares j o = by (command_at_wo
     by (Some cmd) e = refl
 others_quiet script s who k bytes h spares j o = refl
 
--- the swap store stays, behind each entry of another kind
+-- the swap store stays, after each entry of another kind
 pub slots_stay : (script : Script) (s : State) (who : Actor) (k : Kind) (bytes : PageBytes) (swap : SwapSlots) → keeps_tables k ≡ true → SparesSlots script s who k →
     AreSlots script.sizes.swap (held_slots s.core) bytes swap → AreSlots script.sizes.swap (held_slots (applied script s who k).core) (within script.sizes (stores_after script s who k bytes)) swap
 slots_stay script s who k bytes swap h spares representation =
     slots_same script (held_slots s.core) bytes swap representation (held_slots (applied script s who k).core) (stores_after script s who k bytes) (others_quiet script s who k bytes h spares)
     (λ n. ap (times n) (others_same script s who k h).slots)
 
--- and behind one that makes a buffer
+-- and after one that makes a buffer
 pub new_slots : (script : Script) (s : State) (who : Actor) (b : BufId) (bytes : PageBytes) (swap : SwapSlots) → live_in s.core.buffers b ≡ None →
     AreSlots script.sizes.swap (held_slots s.core) bytes swap → AreSlots script.sizes.swap (held_slots (applied script s who (kind.New b)).core) (within script.sizes (stores_after script s who (kind.New b) bytes)) swap
 new_slots script s who b bytes swap dead representation =

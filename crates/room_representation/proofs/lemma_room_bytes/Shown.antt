@@ -31,7 +31,7 @@ use Rattle.room_representation.proofs.lemma_room_bytes.Bytes.{frame_there}
 
 -- ---- ranges of a buffer
 
--- a range of bytes is one part and another behind it
+-- a range of bytes is one part and another after it
 pub range_append : (bytes : PageBytes) (x : Buffer) (m off n : ℕ) → model.bytes_of bytes x off (m + n) ≡ model.bytes_of bytes x off m ++ model.bytes_of bytes x (off + m) n
 range_append bytes x zero off n =
     let e : 0 + n ≡ n = omega arith in

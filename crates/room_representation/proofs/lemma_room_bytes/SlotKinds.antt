@@ -1,4 +1,4 @@
--- The swap store behind each entry that changes tables, on the state and the bytes that the entry leaves.
+-- The swap store after each entry that changes tables, on the state and the bytes that the entry leaves.
 use Rattle.std.proofs.Common.{◌≡◌, ℕ, ◌+◌, ◌*◌, ◌<◌, List, length, Some, refl, ap, arith}
 use Rattle.std.specs.Prelude.{filter_map, slice_get, slice_index}
 use Rattle.ttm_base.specs.declared.BufId.{BufId}

@@ -44,7 +44,7 @@ ghost_within c i g at n =
 
 -- ---- along a list
 
--- behind those in front of it, a number of the list is held still
+-- after those in front of it, a number of the list is held still
 pub list_held_still : (size : ℕ) (held : List ℕ) (pool : List Bool) → pool ≡ marks held size → AreOwned size held → (ks : List ℕ) → ((n : ℕ) → times n ks ≤ times n held) →
     (i k : ℕ) → slice_get ks i ≡ Some k → slice_get (given_back pool (take i ks)) k ≡ Some true
 list_held_still size held pool is owned ks within i k at =
@@ -96,7 +96,7 @@ module _ (see : Loc → Option ℕ) where
       let front = times-cons see k x (take i table) in
       omega (arith, rest, all, front)
 
-  -- behind those in front of it, what a page has is held still
+  -- after those in front of it, what a page has is held still
   pub table_held_still : (size : ℕ) (held : List ℕ) (pool : List Bool) → pool ≡ marks held size → AreOwned size held → (table : List Loc) → ((n : ℕ) → times n (filter_map see table) ≤ times n held) →
       (i : ℕ) (l : Loc) (k : ℕ) → slice_get table i ≡ Some l → see l ≡ Some k → slice_get (given_back pool (filter_map see (take i table))) k ≡ Some true
   table_held_still size held pool is owned table within i l k at h =

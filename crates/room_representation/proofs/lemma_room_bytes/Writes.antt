@@ -26,7 +26,7 @@ use Rattle.room_representation.specs.Pages.{AreStores}
 use Rattle.room_representation.specs.lemma_room_bytes.Mapped.{HasStores, HasStoresAfter}
 use Rattle.room_representation.proofs.lemma_room_bytes.Bytes.{stores_within, stores_written}
 
--- first some bytes, and then others behind them
+-- first some bytes, and then others after them
 put_bytes-append : (x : Buffer) (off : ℕ) (xs ys : List ℕ) (bytes : PageBytes) → put_bytes x off (xs ++ ys) bytes ≡ put_bytes x (off + length xs) ys (put_bytes x off xs bytes)
 put_bytes-append x off [] ys bytes = let e : off ≡ off + 0 = omega arith in ap (λ n. put_bytes x n ys bytes) e
 put_bytes-append x off (b ∷ xs) ys bytes =

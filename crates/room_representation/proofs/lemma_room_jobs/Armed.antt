@@ -1,4 +1,4 @@
--- All parts behind a job of a thread.
+-- All parts after a job of a thread.
 use Rattle.std.proofs.Common.{◌≡◌, ℕ, ◌+◌, ◌<◌, false, List, [], ◌∷◌, ◌++◌, Option, refl, sym, ◌∙◌, ap, subst, length}
 use Rattle.std.specs.Prelude.{◌==◌, find, flat_map, fold, map, option_map, slice_set, zip}
 use Rattle.ttm_base.specs.declared.BufId.{BufId}

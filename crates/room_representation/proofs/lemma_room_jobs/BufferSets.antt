@@ -1,4 +1,4 @@
--- Sets of jobs behind entries of threads: of a job, of what a buffer leaves, and of buffers.
+-- Sets of jobs after entries of threads: of a job, of what a buffer leaves, and of buffers.
 use Rattle.std.proofs.Common.{◌≡◌, ℕ, ◌+◌, ◌<◌, Bool, true, false, List, [], ◌∷◌, ◌++◌, Option, Some, None, refl, sym, ◌∙◌, ap, subst, length}
 use Rattle.std.specs.Prelude.{flat_map, fold, is_some, option_to_list, replicate, slice_set, if◌then◌else◌}
 use Rattle.std.specs.List.{list_all}
@@ -62,7 +62,7 @@ module _ (s : State) (sets : List (List Latest)) (f : AreFences s.last_jobs s.co
   pub armed_waits : (ops : List Op) (bs : List BufId) → list_all (λ b. is_some (live_in s.core.buffers b)) bs ≡ true → WaitsFor s.core.jobs s.last_jobs (flat_map (jobs_before_use s.core ops) bs) (armed_set ops sets (empty_set s) bs)
   armed_waits ops bs live = waits_armed s.core s.last_jobs sets f ops bs live [] (empty_set s) (waits_none s.core.jobs s.last_jobs)
 
-  -- the sets of its buffers have it behind it
+  -- the sets of its buffers have it after it
   pub armed_fences : (job : JobId) (ops : List Op) (bs : List BufId) → list_all (λ b. is_some (live_in s.core.buffers b)) bs ≡ true → job.ctx < length s.last_jobs → job.num ≡ last_number s.last_jobs job.ctx + 1 →
       AreFences (slice_set s.last_jobs job.ctx job.num) (fold (with_use job ops) s.core.buffers bs) (fold (λ l b. with_use_in job (use_of ops b) l b) sets bs)
   armed_fences job ops bs live known num =

@@ -193,7 +193,7 @@ module _ (jobs : List Job) (last : List ℕ) (rows : AreInLine last jobs) (e n :
 
   -- ---- one packet more
 
-  -- the jobs behind it
+  -- the jobs after it
   abbrev pub jobs_run : List Job
   jobs_run = changed_job after_run (job_id e n) jobs
 
@@ -249,7 +249,7 @@ module _ (jobs : List Job) (last : List ℕ) (rows : AreInLine last jobs) (e n :
 
   -- ---- the end
 
-  -- the jobs behind it
+  -- the jobs after it
   abbrev pub jobs_end : List Job
   jobs_end = changed_job ended (job_id e n) jobs
 

@@ -61,11 +61,11 @@ length_more [] k = refl
 length_more (x ∷ xs) k = let r = length_more xs k in omega (arith, r)
 
 module _ (jobs : List Job) (last : List ℕ) (k : Job) (known : k.id.ctx < length last) (num : k.id.num ≡ last_number last k.id.ctx + 1) (at_work : k.finished ≡ false) where
-  -- the jobs behind it
+  -- the jobs after it
   abbrev pub jobs_more : List Job
   jobs_more = jobs ++ k ∷ []
 
-  -- the last numbers behind it
+  -- the last numbers after it
   abbrev pub last_more : List ℕ
   last_more = slice_set last k.id.ctx k.id.num
 

@@ -1,4 +1,4 @@
--- What a legal journal tells of the jobs behind it: they are in line, a new one has the next number, and a packet is the head's next.
+-- What a legal journal tells of the jobs after it: they are in line, a new one has the next number, and a packet is the head's next.
 use Rattle.std.proofs.Common.{◌≡◌, ℕ, ◌+◌, List, Ok, IsTrue, ◌∙◌, ap, ap₂, subst}
 use Rattle.std.specs.Prelude.{◌==◌}
 use Rattle.std.proofs.lemmas.Bool.{eqb-true, and_parts}

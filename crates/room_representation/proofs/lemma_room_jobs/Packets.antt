@@ -92,7 +92,7 @@ nothing_behind [] i h = refl
 nothing_behind (x ∷ xs) zero h = absurd (omega (arith, h))
 nothing_behind (x ∷ xs) (suc i) h = nothing_behind xs i (omega (arith, h))
 
--- a byte behind a page, or behind all pages
+-- a byte after a page, or after all pages
 nothing_at : (xs : List ℕ) (n p o : ℕ) → length xs ≡ 4096 * n → (nat_lt p n && nat_lt o 4096) ≡ false → byte_at xs p o ≡ 0
 nothing_at xs n p o h e = by (nat_lt o 4096) refl
   where
@@ -182,7 +182,7 @@ module _ (script : Script) (c : Core) (bytes : PageBytes) (s : Stores) (t : AreS
     new_is : (page : Page) (o : ℕ) → is_reached page ≡ true → bytes_of new page o ≡ left page o
     new_is page o r = ran.bytes page o ∙ ap (λ a. after_packet a (bytes_of s) q page o) aperture_is ∙ after_agree (aperture c) (bytes_of s) bytes stores_agree q page o r
 
-    -- the stores have the bytes behind it
+    -- the stores have the bytes after it
     pub stores_run : AreStores script.sizes (aperture c) (within script.sizes left) new
     stores_run =
         let vram_len = ran.vram ∙ t.vram_size in

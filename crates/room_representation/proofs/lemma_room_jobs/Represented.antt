@@ -1,4 +1,4 @@
--- All parts behind the end of a job, and behind a packet.
+-- All parts after the end of a job, and after a packet.
 use Rattle.std.proofs.Common.{◌≡◌, ℕ, zero, suc, ◌<◌, List, [], ◌∷◌, Some, refl, sym, ◌∙◌, ap, subst, length}
 use Rattle.std.specs.Prelude.{drop, slice_get}
 use Rattle.ttm_base.specs.declared.Packet.{Packet}
@@ -64,7 +64,7 @@ module _ (script : Script) (s : State) (bytes : PageBytes) (p : Parts) (t : Repr
     pub packet_is : job_packet s.core (job_id e n) k ≡ q
     packet_is = packet_named s.last_jobs s.core rows e n k run.job run.head q (ap (slice_get run.job.packets) run.ran ∙ here)
 
-    -- it can run, as packets name what is there behind each legal journal
+    -- it can run, as packets name what is there after each legal journal
     pub packet_runs : NameWhatIsThere script s.core → CanRun p.stores q
     packet_runs names =
         let at = filtered_at (is_left_of e) s.core.jobs run.job run.head.first in
@@ -74,7 +74,7 @@ module _ (script : Script) (s : State) (bytes : PageBytes) (p : Parts) (t : Repr
     pub packet_shows : shown_by q p.stores ≡ probe_piece (aperture s.core) bytes (job_packet s.core (job_id e n) k)
     packet_shows = shows_same script s.core bytes p.stores t.stores t.no_more q ∙ ap (probe_piece (aperture s.core) bytes) (sym packet_is)
 
-    -- once it has run, it is counted, and the stores have the bytes behind its entry
+    -- once it has run, it is counted, and the stores have the bytes after its entry
     pub packet_represented : (new : Stores) → HasRun q p.stores new →
         Represents script (after_packet_run s (job_id e n)) (within script.sizes (after_packet (aperture s.core) bytes (job_packet s.core (job_id e n) k))) (record p { rings = with_ran p.rings e; stores = new })
     packet_represented new ran =

@@ -89,7 +89,7 @@ pub packet_named : (last : List ℕ) (c : Core) → AreInLine last c.jobs → (e
 packet_named last c rows e n k j head p h =
     ap (λ o. unwrap_or (option_and_then (λ (x : Job). slice_get x.packets k) o) no_packet) (head_named last c.jobs rows e n j head) ∙ ap (λ o. unwrap_or o no_packet) h
 
--- so is a job that was emitted, by the numbers behind it
+-- so is a job that was emitted, by the numbers after it
 pub emitted_known : (last : List ℕ) (jobs : List Job) (k : Job) → k.finished ≡ false → AreInLine (slice_set last k.id.ctx k.id.num) (jobs ++ k ∷ []) → k.id.ctx < length last
 emitted_known last jobs k f rows =
     let l = length_set last k.id.ctx k.id.num in

@@ -1,4 +1,4 @@
--- Each entry of a legal journal: a manager of VRAM or TT that keeps what the state tells does so behind the calls for the entry.
+-- Each entry of a legal journal: a manager of VRAM or TT that keeps what the state tells does so after the calls for the entry.
 use Rattle.std.proofs.Common.{◌≡◌, ℕ, ◌≤◌, Bool, true, false, List, [], Some, None, Ok, IsTrue, length, refl, sym, ◌∙◌, ap}
 use Rattle.std.specs.Prelude.{◌==◌, find, slice_get, if◌then◌else◌}
 use Rattle.ttm_base.specs.declared.Mem.{Mem}
@@ -125,7 +125,7 @@ module _ (script : Script) (journal : List Entry) (fits : IsTrue (is_script scri
     left_new b there left.Now x = tt
     left_new b there (left.Ghost g) x = next_is_new g x
 
-    -- ---- behind the calls
+    -- ---- after the calls
 
     -- an entry of a thread, of which is known what it tells
     pub thread_spans : (t : ℕ) (k : Kind) → next script s (actor.Thread t) ≡ Ok k → Told script s t k → HoldsAsIn size mine (applied script s (actor.Thread t) k) (behind mine k r)

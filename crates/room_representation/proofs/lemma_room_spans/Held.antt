@@ -1,4 +1,4 @@
--- Which spans a manager keeps of each owner behind a call, and when it may be called.
+-- Which spans a manager keeps of each owner after a call, and when it may be called.
 use Rattle.std.proofs.Common.{◌≡◌, ℕ, ◌≤◌, Bool, true, false, List, [], ◌∷◌, Some, None, length, refl, sym, ◌∙◌, ap, arith}
 use Rattle.std.specs.Prelude.{is_some, if◌then◌else◌}
 use Rattle.ttm_base.specs.declared.Span.{Span}
@@ -43,7 +43,7 @@ module _ (size : ℕ) (f : Owner → List Span) (r : Resources) (representation 
   none_of : (o : Owner) → holds o r.held ≡ false → f o ≡ []
   none_of o h = not_kept (f o) (sym (holds_is o) ∙ h)
 
-  -- ---- behind each call
+  -- ---- after each call
 
   -- an owner that had none holds these spans
   pub held_representation : (o : Owner) (spans : List Span) → f o ≡ [] → 1 ≤ length spans → HoldsAs size (with_owner f o spans) (held_by o spans r)

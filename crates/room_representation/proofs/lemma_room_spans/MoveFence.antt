@@ -92,7 +92,7 @@ behind_fence mine k r = refl
 pub fence_representation : (size : ℕ) (f : Owner → List Span) (r : Resources) (job : Option JobId) → HoldsAs size f r → HoldsAs size f (record r { move_fence = job })
 fence_representation size f r job representation = record { size_is = representation.size_is; owners = representation.owners; each = representation.each }
 
--- the state's move job is another behind an eviction alone
+-- the state's move job is another after an eviction alone
 pub fence_is : (script : Script) (s : State) (who : Actor) (k : Kind) → (applied script s who k).core.move_fence ≡ fence_behind k s.core.move_fence
 fence_is script s who (kind.Move b mem n left.Now) = refl
 fence_is script s who (kind.Move b mem n (left.Ghost g)) = refl

@@ -1,4 +1,4 @@
--- What is held behind an entry, and what a legal entry is.
+-- What is held after an entry, and what a legal entry is.
 use Rattle.std.proofs.Common.{◌≡◌, ℕ, Bool, true, false, List, [], ◌∷◌, ◌++◌, Ok, IsSome, refl, sym, ◌∙◌, ap, subst}
 use Rattle.ttm_base.specs.declared.Actor.{Actor}
 use Rattle.ttm_base.specs.declared.Actor.TheVariants as actor
@@ -22,7 +22,7 @@ use Rattle.room_representation.specs.Held.{AreHeld}
 use Rattle.room_representation.proofs.lemma_room_jobs.Packets.{within_same}
 use Rattle.room_representation.specs.room_steps.Courses.{course_at}
 
--- held again behind an entry, where the parts tell where it leads
+-- held again after an entry, where the parts tell where it leads
 pub held_after : (script : Script) (journal : List Entry) (p q : Parts) (e : Entry) → AreHeld script journal p → IsLegalNext script (world_of script journal) e →
     Represents script (world_after script (world_of script journal) e).state (world_after script (world_of script journal) e).stores q → AreHeld script (journal ++ e ∷ []) q
 held_after script journal p q e h legal represents =

@@ -23,7 +23,7 @@ use Rattle.laws.specs.lemma_bytes_told.Told.{IsThere}
 use Rattle.room_representation.specs.lemma_room_bytes.GivenBack.{given, given_back, taken}
 use Rattle.room_representation.specs.lemma_room_bytes.Tables.{SparesSlots}
 
--- ---- the parts behind an entry
+-- ---- the parts after an entry
 
 -- the frame of a page that has one
 abbrev pub frame_at : Buffer → ℕ → ℕ

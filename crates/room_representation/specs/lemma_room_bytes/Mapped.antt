@@ -1,4 +1,4 @@
--- What stores are behind an entry, an aperture after pages were mapped or cleared, and tables that are full of frames.
+-- What stores are after an entry, an aperture after pages were mapped or cleared, and tables that are full of frames.
 use Rattle.std.specs.Prelude.{◌≡◌, ℕ, ◌<◌, Bool, true, false, List, [], ◌∷◌, Option, Some, None, length, slice_get, slice_set}
 use Rattle.ttm_base.specs.declared.Actor.{Actor}
 use Rattle.ttm_base.specs.declared.Loc.{Loc}
@@ -18,7 +18,7 @@ use Rattle.room_representation.specs.Pages.{AreStores}
 abbrev pub HasStores : Script → State → PageBytes → Stores → Type 0
 HasStores script s bytes st = AreStores script.sizes (aperture s.core) bytes st
 
--- they have those behind an entry
+-- they have those after an entry
 abbrev pub HasStoresAfter : Script → State → PageBytes → Actor → Kind → Stores → Type 0
 HasStoresAfter script s bytes who k st = AreStores script.sizes (aperture (applied script s who k).core) (within script.sizes (stores_after script s who k bytes)) st
 

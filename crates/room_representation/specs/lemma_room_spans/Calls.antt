@@ -72,7 +72,7 @@ behind mine (kind.Free b g) r = freed b g r
 behind mine (kind.Reap g) r = given (owner.Ghost g) r
 behind mine _ r = r
 
--- the move job behind an entry: that of the last move of a victim
+-- the move job after an entry: that of the last move of a victim
 abbrev pub fence_behind : Kind → Option JobId → Option JobId
 fence_behind (kind.Move b mem n left.Now) old = Some (record { ctx = 0; num = n })
 fence_behind _ old = old

@@ -56,7 +56,7 @@ pub fn hold(courses: &mut Courses, thread: u32, b: BufId) -> Result<(), NoMemory
     Ok(())
 }
 
-/// A thread holds nothing, and begins anew with a buffer.
+/// A thread holds nothing, and begins again with a buffer.
 pub fn begin_anew(courses: &mut Courses, thread: u32, b: BufId)
     requires { IsSome (course_at courses.old thread) }
     ensures { courses.new ≡ with_course_by (begun_anew b) courses.old thread }
@@ -115,7 +115,7 @@ pub fn fail_search(courses: &mut Courses, thread: u32, b: BufId, deny: Deny)
     courses::fail_search(course, b, deny);
 }
 
-/// The search of a thread for a named buffer begins anew.
+/// The search of a thread for a named buffer begins again.
 pub fn end_search(courses: &mut Courses, thread: u32, b: BufId)
     requires { IsSome (course_at courses.old thread) }
     ensures { courses.new ≡ with_course_by (search_over b) courses.old thread }

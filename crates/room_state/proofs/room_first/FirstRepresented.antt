@@ -52,7 +52,7 @@ first_vram script last = record { rule = refl; held_as = first_spans script.size
 
 -- ---- bytes
 
--- each of so many things is that thing
+-- each item of a list of one thing repeated is that thing
 all_alike : {X : Type 0} (n i : ℕ) (x : X) → unwrap_or (slice_get (replicate n x) i) x ≡ x
 all_alike zero i x = refl
 all_alike (suc n) zero x = refl

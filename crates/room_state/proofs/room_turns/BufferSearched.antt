@@ -72,7 +72,7 @@ buffer_search_buffer cmd c b Hop = by (is_caught c b) refl
 pub place_there : (ps : List FlaggedPlace) (k : ℕ) (p : FlaggedPlace) → Some p ≡ slice_get ps k → slice_get (map (λ (p : FlaggedPlace). p.place) ps) k ≡ Some p.place
 place_there ps k p e = slice_get-map (λ (p : FlaggedPlace). p.place) ps k ∙ ap (option_map (λ (p : FlaggedPlace). p.place)) (sym e)
 
--- nothing behind its end
+-- nothing after its end
 pub place_lacking : (ps : List FlaggedPlace) (k : ℕ) → None ≡ slice_get ps k → slice_get (map (λ (p : FlaggedPlace). p.place) ps) k ≡ None
 place_lacking ps k e = slice_get-map (λ (p : FlaggedPlace). p.place) ps k ∙ ap (option_map (λ (p : FlaggedPlace). p.place)) (sym e)
 

@@ -131,7 +131,7 @@ fn first_work(alloc: Global, script: &Script) -> Result<Work, NoMemory>
 ///
 /// # Errors
 ///
-/// Want of memory.
+/// Lack of memory.
 pub fn first_parts(alloc: Global, script: &Script) -> Result<Parts, NoMemory>
     requires { IsTrue (is_script script.now) }
     ensures { IfOk result (λ parts. AreHeld script.now [] parts) }

@@ -134,7 +134,7 @@ pub fn place_at(script: &Script, buffer_search: BufferSearch, at: usize) -> Flag
     }
 }
 
-/// The place of a list that is tried under pressure behind so many others, else all of SYSTEM.
+/// The place of a list that is tried under pressure after `dry` others, else all of SYSTEM.
 fn forced_place(list: &[FlaggedPlace], dry: u32) -> Place
     ensures { result ≡ unwrap_or (slice_get (forced_places list.now) dry) (all_of System) }
 {

@@ -8,17 +8,17 @@ ghost use Rattle.journal_model.specs.ApplyVictims.{leaves_tt};
 ghost use Rattle.journal_model.specs.ApplyMoves.{moved, table_left};
 ghost use Rattle.rules_state.specs.rules_parts.Undo.{without_last_fence};
 
-use journal_model::{Buffer, Buffers, Table, Targets};
+use journal_model::{Buffers, Table, Targets};
 use std::alloc::Global;
-use ttm_base::{BufId, Fence, JobId, Loc, Mem, NoMemory, Spans, Usage};
+use ttm_base::{BufId, Fence, ItemList, JobId, Loc, Mem, NoMemory, Spans, Usage};
 
-/// Puts a buffer, or none, in the place of a declared one.
-pub fn put_buffer(buffers: &mut Buffers, b: BufId, buffer: Option<Buffer>)
-    ensures { buffers.new ≡ slice_set buffers.old b.0 buffer }
+/// Puts another item at `index`, if the list has one there.
+pub fn put_item<T: Drop>(items: &mut ItemList<T>, index: u32, item: T)
+    ensures { items.new ≡ slice_set items.old index item }
 {
-    let index = b.0 as usize;
-    if index < buffers.len() {
-        buffers.set(index, buffer);
+    let index = index as usize;
+    if index < items.len() {
+        items.set(index, item);
     }
 }
 

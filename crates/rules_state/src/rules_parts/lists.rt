@@ -1,4 +1,4 @@
-ghost use Rattle.std.specs.Prelude.{◌≡◌, ◌++◌, IfOk, OnOk, fold, filter, length, map, not, option_copied, unwrap_or};
+ghost use Rattle.std.specs.Prelude.{◌≡◌, IfOk, OnOk, fold, length, map, option_copied, unwrap_or};
 ghost use Rattle.journal_model.specs.Lists as words;
 ghost use Rattle.rules_state.specs.rules_parts.Listing as listing;
 
@@ -21,7 +21,7 @@ pub fn taken_off(alloc: Global, lists: &[BufIds], b: BufId) -> Result<Lists, NoM
     Ok(rest)
 }
 
-/// Where a buffer comes in a list: behind the last of its mates, or at the end.
+/// Where a buffer comes in a list: after the last of its mates, or at the end.
 fn place_in(script: &Script, list: &[BufId], b: BufId) -> usize
     ensures { result ≡ unwrap_or (words.behind_last (words.is_mate script.now b) list.now) (length list.now) }
 {
@@ -34,7 +34,7 @@ fn place_in(script: &Script, list: &[BufId], b: BufId) -> usize
     at
 }
 
-/// Puts a buffer into a list behind the last of its mates.
+/// Puts a buffer into a list after the last of its mates.
 #[tactic(auto, using(crate::proofs::rules_parts::OrderLaws::behind_last_within))]
 fn put_in(script: &Script, list: &mut BufIds, b: BufId) -> Result<(), NoMemory>
     ensures { OnOk result (list.new ≡ words.placed_in (words.is_mate script.now b) b list.old) }
@@ -135,41 +135,7 @@ pub fn touched_all(
     Ok(new)
 }
 
-/// Adds the buffers of a list that are in a group to others.
-fn add_members(
-    script: &Script,
-    group: u32,
-    list: &[BufId],
-    found: &mut BufIds,
-) -> Result<(), NoMemory>
-    ensures { OnOk result (found.new ≡ found.old ++ filter (words.is_member script.now group) list.now) }
-{
-    for b in list {
-        if is_member(script, group, *b) {
-            found.push(*b)?;
-        }
-    }
-    Ok(())
-}
-
-/// Adds the buffers of a list that aren't in a group to others.
-fn add_others(
-    script: &Script,
-    group: u32,
-    list: &[BufId],
-    found: &mut BufIds,
-) -> Result<(), NoMemory>
-    ensures { OnOk result (found.new ≡ found.old ++ filter (λ b. not (words.is_member script.now group b)) list.now) }
-{
-    for b in list {
-        if !is_member(script, group, *b) {
-            found.push(*b)?;
-        }
-    }
-    Ok(())
-}
-
-/// A list with the members of a group behind the others.
+/// Copies a list with the members of a `group` after the others.
 fn with_members_last(
     alloc: Global,
     script: &Script,
@@ -179,12 +145,20 @@ fn with_members_last(
     ensures { IfOk result (λ new. new ≡ words.members_last (words.is_member script.now group) list.now) }
 {
     let mut new = BufIds::new(alloc);
-    add_others(script, group, list, &mut new)?;
-    add_members(script, group, list, &mut new)?;
+    for other in list {
+        if !is_member(script, group, *other) {
+            new.push(*other)?;
+        }
+    }
+    for member in list {
+        if is_member(script, group, *member) {
+            new.push(*member)?;
+        }
+    }
     Ok(new)
 }
 
-/// The lists, on each the members of a group behind the others.
+/// The lists, on each the members of a group after the others.
 pub fn members_last(
     alloc: Global,
     script: &Script,

@@ -1,20 +1,10 @@
-ghost use Rattle.std.specs.Prelude.{◌≡◌, Some, slice_set};
+ghost use Rattle.std.specs.Prelude.{◌≡◌, Some};
 ghost use Rattle.journal_model.specs.State.{reservation_changed};
 ghost use Rattle.journal_model.specs.ApplyCommands.{with_holder, released, pinned_more, pinned_less, with_pins};
 ghost use Rattle.rules_state.specs.rules_parts.Pins.{CanPin, HasPinsLeft};
 
-use journal_model::{Command, Reservation, Reservations};
+use journal_model::{Command, Reservations};
 use ttm_base::{BufId, Stamp};
-
-/// Puts another reservation, if the buffer is declared.
-pub fn put_reservation(reservations: &mut Reservations, b: BufId, reservation: Reservation)
-    ensures { reservations.new ≡ slice_set reservations.old b.0 reservation }
-{
-    let index = b.0 as usize;
-    if index < reservations.len() {
-        reservations.set(index, reservation);
-    }
-}
 
 /// Gives a buffer another holder, or none.
 pub fn set_holder(reservations: &mut Reservations, b: BufId, holder: Option<Stamp>)

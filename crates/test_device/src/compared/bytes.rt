@@ -1,6 +1,6 @@
 ghost use Rattle.std.specs.Prelude.{◌≡◌, ◌*◌, length};
 
-use super::difference::{Difference, Stop, agree};
+use super::difference::{Stop, agree_on};
 use device_core::Device;
 use room_representation::Parts;
 use rules_stores::{PlainStores, StorePage};
@@ -8,16 +8,11 @@ use rules_stores::{PlainStores, StorePage};
 /// Bytes of a page.
 const PAGE: u64 = 4096;
 
-/// Goes on only if the stores have these bytes on a page.
-fn compare_page(
-    stores: &PlainStores,
-    page: StorePage,
-    bytes: &[u8],
-    found: Difference,
-) -> Result<(), Stop> {
+/// Tells whether the stores have these bytes on a page.
+fn is_same_page(stores: &PlainStores, page: StorePage, bytes: &[u8]) -> bool {
     let mut wanted = [0; PAGE as usize];
     stores.read(page, 0, &mut wanted);
-    agree(bytes == wanted.as_slice(), found)
+    bytes == wanted.as_slice()
 }
 
 /// Each page of VRAM.
@@ -26,7 +21,8 @@ fn compare_vram(parts: &Parts, pages: u32, stores: &PlainStores) -> Result<(), S
 {
     for page in 0..pages {
         let bytes = parts.stores.vram.part(PAGE * page as u64, PAGE);
-        compare_page(stores, StorePage::Vram(page), bytes, Difference::Vram(page))?;
+        let same = is_same_page(stores, StorePage::Vram(page), bytes);
+        agree_on(same, "other bytes on page of VRAM", u64::from(page))?;
     }
     Ok(())
 }
@@ -37,12 +33,8 @@ fn compare_frames(parts: &Parts, frames: u32, stores: &PlainStores) -> Result<()
 {
     for frame in 0..frames {
         let bytes = parts.stores.frames.part(PAGE * frame as u64, PAGE);
-        compare_page(
-            stores,
-            StorePage::Frame(frame),
-            bytes,
-            Difference::Frame(frame),
-        )?;
+        let same = is_same_page(stores, StorePage::Frame(frame), bytes);
+        agree_on(same, "other bytes in frame", u64::from(frame))?;
     }
     Ok(())
 }
@@ -53,7 +45,8 @@ fn compare_slots(parts: &Parts, slots: u32, stores: &PlainStores) -> Result<(), 
 {
     for slot in 0..slots {
         let bytes = parts.swap.page(slot);
-        compare_page(stores, StorePage::Slot(slot), bytes, Difference::Slot(slot))?;
+        let same = is_same_page(stores, StorePage::Slot(slot), bytes);
+        agree_on(same, "other bytes in slot", u64::from(slot))?;
     }
     Ok(())
 }

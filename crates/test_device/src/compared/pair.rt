@@ -2,14 +2,15 @@ ghost use Rattle.std.specs.Prelude.{OnOk, IfOk, IfSome};
 ghost use Rattle.test_device.specs.Steps.{AreInStep};
 
 use super::bytes::compare_bytes;
-use super::difference::{Difference, Stop, agree};
+use super::difference::{Difference, Stop, agree, agree_on};
 use super::parts::compare_parts;
 use super::replay::Replay;
 use super::report::{line_that_differs, report_of};
-use crate::common::device_for;
 use device_core::Device;
 use io_edge::MemSink;
+use journal_model::{Entry, Kind};
 use plain_accounts::accounts_of;
+use script_text::{ScriptFault, read_script};
 use std::alloc::Global;
 use test_cases::When;
 use ttm_base::{Actor, Logged, NoMemory, Turn};
@@ -18,7 +19,7 @@ use ttm_base::{Actor, Logged, NoMemory, Turn};
 #[derive(Drop)]
 pub struct Asked {
     pub device: Device,
-    /// How many turns it couldn't take for want of memory, and took when it was asked again.
+    /// How many turns it couldn't take for lack of memory, and took when it was asked again.
     pub refused: u64,
 }
 
@@ -31,6 +32,19 @@ pub struct Pair {
     pub replay: Replay,
     /// How many turns were taken on both.
     pub turns: u64,
+}
+
+/// The greatest number of a job of the context `ctx` that an entry of a journal ends, or 0.
+fn last_done(journal: &[Entry], ctx: u32) -> u64 {
+    let mut most = 0;
+    for entry in journal {
+        if let (Actor::Engine(engine), Kind::Done { num }) = (entry.who, &entry.kind) {
+            if engine == ctx && most < *num {
+                most = *num;
+            }
+        }
+    }
+    most
 }
 
 impl Asked {
@@ -57,12 +71,25 @@ impl Asked {
     }
 }
 
+/// The device on its parts for a text; none, where that is no script.
+///
+/// # Errors
+///
+/// `NoMemory` if memory runs out.
+fn device_for(alloc: Global, text: &[u8]) -> Result<Option<Device>, NoMemory> {
+    match read_script(alloc, text) {
+        Ok(script) => Ok(Some(Device::new(alloc, script)?)),
+        Err(ScriptFault::NoMemory) => Err(NoMemory),
+        Err(ScriptFault::Bad { .. }) => Ok(None),
+    }
+}
+
 impl Pair {
     /// All of a text; none, where that is no script.
     ///
     /// # Errors
     ///
-    /// Want of memory.
+    /// Lack of memory.
     pub fn of(alloc: Global, text: &[u8], when: When) -> Result<Option<Pair>, NoMemory>
         ensures { IfOk result (λ found. IfSome found (λ pair. AreInStep pair.replay.plain pair.replay.rooms)) }
     {
@@ -84,32 +111,29 @@ impl Pair {
     /// The last job of each context that is done.
     fn compare_done(&self) -> Result<(), Stop> {
         let device = &self.asked.device;
+        let journal = self.replay.plain.journal();
         for ctx in 0..=device.script().sizes.engines {
-            agree(
-                device.done(ctx) == self.replay.plain.done(ctx),
-                Difference::Done(ctx),
-            )?;
+            let same = device.done(ctx) == last_done(journal, ctx);
+            agree_on(same, "another last job of context", u64::from(ctx))?;
         }
         Ok(())
     }
 
-    /// What is to be the same behind a turn: the number of entries, whether all is over, how far the contexts are.
+    /// What is to be the same after a turn: the number of entries, whether all is over, how far the contexts are.
     fn compare_turn(&self) -> Result<(), Stop> {
         let device = &self.asked.device;
         let plain = &self.replay.plain;
-        agree(
-            device.journal().len() == plain.journal().len(),
-            Difference::Length,
-        )?;
-        agree(device.over() == plain.over(), Difference::Over)?;
+        let same = device.journal().len() == plain.journal().len();
+        agree(same, "another number of entries")?;
+        agree(device.over() == plain.over(), "another end")?;
         self.compare_done()
     }
 
-    /// What is to be the same at the start and behind an entry: beside that, what the parts tell, if they are compared then.
+    /// What is to be the same at the start and after an entry: beside that, what the parts tell, if they are compared then.
     ///
     /// # Errors
     ///
-    /// A difference, or want of memory.
+    /// A difference, or lack of memory.
     pub fn compare_entry(&self) -> Result<(), Stop>
         requires { AreInStep self.now.replay.plain self.now.replay.rooms }
     {
@@ -124,33 +148,34 @@ impl Pair {
     ///
     /// # Errors
     ///
-    /// A difference, or want of memory.
-    pub fn step(&mut self, who: Actor) -> Result<(), Stop>
+    /// A difference, or lack of memory.
+    pub fn step(&mut self, who: Actor) -> Result<Turn, Stop>
         requires { AreInStep self.old.replay.plain self.old.replay.rooms }
         ensures { OnOk result (AreInStep self.new.replay.plain self.new.replay.rooms) }
     {
         self.turns = self.turns.saturating_add(1);
         let turn = self.replay.step(who)?;
         let here = self.asked.step(who)?;
-        agree(here == turn, Difference::Answer)?;
+        agree(here == turn, "another answer")?;
         match turn {
-            Turn::Made(_) => self.compare_entry(),
-            Turn::Blocked(_) | Turn::Over => self.compare_turn(),
+            Turn::Made(_) => self.compare_entry()?,
+            Turn::Blocked(_) | Turn::Over => self.compare_turn()?,
         }
+        Ok(turn)
     }
 
     /// A turn in the simulator's order on both devices: whose it was, if somebody has an entry.
     ///
     /// # Errors
     ///
-    /// A difference, or want of memory.
+    /// A difference, or lack of memory.
     pub fn step_next(&mut self) -> Result<Option<Actor>, Stop>
         requires { AreInStep self.old.replay.plain self.old.replay.rooms }
         ensures { OnOk result (AreInStep self.new.replay.plain self.new.replay.rooms) }
     {
         let who = self.replay.step_next()?;
         let here = self.asked.step_next()?;
-        agree(here == who, Difference::Next)?;
+        agree(here == who, "another actor")?;
         if who.is_some() {
             self.turns = self.turns.saturating_add(1);
         }
@@ -166,7 +191,7 @@ impl Pair {
     }
 
     /// The report of the device on its parts.
-    fn report_on_parts(&self) -> Result<MemSink, NoMemory> {
+    pub fn report_on_parts(&self) -> Result<MemSink, NoMemory> {
         let device = &self.asked.device;
         let accounts = device.accounts();
         report_of(self.alloc, device.script(), device.journal(), &accounts)
@@ -177,16 +202,19 @@ impl Pair {
         let wanted = self.report_by_definitions()?;
         let here = self.report_on_parts()?;
         match line_that_differs(here.bytes(), wanted.bytes()) {
-            Some(line) => Err(Stop::Differs(Difference::Line(line))),
+            Some(line) => Err(Stop::Differs(Difference {
+                what: "another report from line",
+                number: Some(line),
+            })),
             None => Ok(()),
         }
     }
 
-    /// What is to be the same behind all turns: all entries, results, accounts and bytes, and what the parts tell.
+    /// What is to be the same after all turns: all entries, results, accounts and bytes, and what the parts tell.
     ///
     /// # Errors
     ///
-    /// A difference, or want of memory.
+    /// A difference, or lack of memory.
     pub fn compare_end(&self) -> Result<(), Stop>
         requires { AreInStep self.now.replay.plain self.now.replay.rooms }
     {

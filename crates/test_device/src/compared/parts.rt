@@ -3,8 +3,8 @@ ghost use Rattle.laws.specs.lemma_bytes_told.Told.{IsThere};
 ghost use Rattle.room_state.specs.Kept.{state_behind};
 ghost use Rattle.test_device.specs.Steps.{AreInStep};
 
-use super::accounts::{accounts_in, are_same_accounts};
-use super::difference::{Difference, Stop, agree};
+use super::accounts::{accounts_in, are_kept, are_same_accounts};
+use super::difference::{Stop, agree, agree_on};
 use super::replay::Replay;
 use bo_table::BoTable;
 use copy_packet::ProbeBytes;
@@ -38,7 +38,11 @@ fn compare_piece(
     let place = StorePage::of(&replay.plain.state().core, b, page);
     let mut wanted = [0; PIECE as usize];
     replay.plain.stores().read(place, off, &mut wanted);
-    agree(seen.bytes() == wanted.as_slice(), Difference::Bytes(b))
+    agree_on(
+        seen.bytes() == wanted.as_slice(),
+        "other bytes on a page of buffer",
+        u64::from(b.0),
+    )
 }
 
 /// Compares the bytes of each page of a live buffer.
@@ -61,7 +65,7 @@ fn compare_needs(replay: &Replay, b: BufId, buffer: &Buffer) -> Result<(), Stop>
     let rooms = &replay.rooms;
     let same = rooms.need(b, Usage::Write) == waited_before_write(core, buffer)
         && rooms.need(b, Usage::Read) == waited_before_read(core, buffer);
-    agree(same, Difference::Need(b))
+    agree_on(same, "other jobs before buffer", u64::from(b.0))
 }
 
 /// The table has a live buffer of that number.
@@ -76,7 +80,7 @@ fn compare_buffer(replay: &Replay, b: BufId, seen: &mut ProbeBytes) -> Result<()
 {
     let live = live_in(replay.plain.state().core.buffers.items(), b);
     let same = is_alive(replay.rooms.bos(), b) == live.is_some();
-    agree(same, Difference::Live(b))?;
+    agree_on(same, "another life of buffer", u64::from(b.0))?;
     if let Some(buffer) = live {
         compare_needs(replay, b, buffer)?;
         compare_pages(replay, b, seen)?;
@@ -117,12 +121,16 @@ fn compare_aperture(replay: &Replay) -> Result<(), Stop> {
     let aperture = replay.rooms.aperture();
     for page in 0..replay.rooms.script().sizes.tt {
         let wanted = frame_at(replay.plain.state(), page);
-        agree(aperture.get(page) == wanted, Difference::Aperture(page))?;
+        agree_on(
+            aperture.get(page) == wanted,
+            "another frame at page of TT",
+            u64::from(page),
+        )?;
     }
     Ok(())
 }
 
-/// The buffer behind another in its list, if it is on one.
+/// The buffer after another in its list, if it is on one.
 fn listed_behind(rooms: &Rooms, b: BufId) -> Option<BufId> {
     if rooms.lru().is_listed(b) {
         rooms.lru().next(b)
@@ -153,7 +161,7 @@ fn compare_list(replay: &Replay, mem: Mem, prio: u32) -> Result<(), Stop>
         Some(list) => is_same_list(&replay.rooms, first, list.items()),
         None => first.is_none(),
     };
-    agree(same, Difference::List(number))
+    agree_on(same, "another order of list", number as u64)
 }
 
 /// The twelve lists.
@@ -182,14 +190,13 @@ fn compare_jobs_of(replay: &Replay, ctx: u32) -> Result<(), Stop>
 {
     let state = replay.plain.state();
     let rooms = &replay.rooms;
-    let last = state
-        .last_jobs
-        .items()
-        .get(ctx as usize)
-        .map_or(0, |last| *last);
+    let last = match state.last_jobs.items().get(ctx as usize) {
+        Some(last) => *last,
+        None => 0,
+    };
     let same = last.checked_add(1) == Some(rooms.next_job(ctx))
         && head_of(state, ctx) == rooms.head(ctx);
-    agree(same, Difference::Job(ctx))
+    agree_on(same, "other jobs of context", u64::from(ctx))
 }
 
 fn compare_jobs(replay: &Replay) -> Result<(), Stop> {
@@ -204,30 +211,34 @@ fn compare_numbers(replay: &Replay) -> Result<(), Stop> {
     let state = replay.plain.state();
     let rooms = &replay.rooms;
     let same = state.last_stamp.checked_add(1) == Some(rooms.next_stamp().0);
-    agree(same, Difference::Stamp)?;
-    let first = state.core.ghosts.items().first().map(|left| left.num);
+    agree(same, "another stamp")?;
+    let first = match state.core.ghosts.items().first() {
+        Some(left) => Some(left.num),
+        None => None,
+    };
     let same = state.last_ghost.checked_add(1) == Some(rooms.next_ghost())
         && first == rooms.first_ghost();
-    agree(same, Difference::Ghost)
+    agree(same, "other ghosts")
 }
 
 /// How many entries there are, and whether all is over.
 fn compare_entries(replay: &Replay) -> Result<(), Stop> {
     let plain = &replay.plain;
     let rooms = &replay.rooms;
-    agree(plain.over() == rooms.over(), Difference::OverOnParts)?;
-    agree(
-        plain.journal().len() == rooms.journal().len(),
-        Difference::Given,
-    )
+    agree(plain.over() == rooms.over(), "another end on the parts")?;
+    let same = plain.journal().len() == rooms.journal().len();
+    agree(same, "another number of entries on the parts")
 }
 
 /// How many commands each thread has answered.
 fn compare_answered(replay: &Replay) -> Result<(), Stop> {
     let kept = replay.rooms.parts().courses.items();
     for (i, course) in replay.plain.state().courses.items().iter().enumerate() {
-        let answered = kept.get(i).map(|found| found.answered);
-        agree(answered == Some(course.answered), Difference::Answered(i))?;
+        let same = match kept.get(i) {
+            Some(found) => found.answered == course.answered,
+            None => false,
+        };
+        agree_on(same, "another place of thread from 0", i as u64)?;
     }
     Ok(())
 }
@@ -237,17 +248,24 @@ fn compare_free(replay: &Replay, alloc: Global) -> Result<(), Stop> {
     let script = replay.plain.script();
     let core = &replay.plain.state().core;
     let frame = free_frame(alloc, script, core)?;
-    agree(replay.rooms.free_frame() == frame, Difference::FreeFrame)?;
+    agree(
+        replay.rooms.free_frame() == frame,
+        "another lowest free frame",
+    )?;
     let slot = free_slot(alloc, script, core)?;
-    agree(replay.rooms.free_slot() == slot, Difference::FreeSlot)
+    agree(replay.rooms.free_slot() == slot, "another lowest free slot")
 }
 
 /// Pages, frames and slots that are held or free.
 fn compare_accounts(replay: &Replay, alloc: Global) -> Result<(), Stop> {
     let script = replay.plain.script();
     let wanted = accounts_of(alloc, script, replay.plain.state())?;
-    let found = accounts_in(replay.rooms.parts(), script);
-    agree(are_same_accounts(&found, &wanted), Difference::Accounts)
+    let found = accounts_in(&replay.rooms);
+    agree(are_same_accounts(&found, &wanted), "other accounts")?;
+    agree(
+        are_kept(replay.rooms.parts(), &wanted),
+        "other accounts that are kept",
+    )
 }
 
 /// Goes on only if the parts tell what the plain device does.

@@ -1,35 +1,44 @@
 ghost use Rattle.std.specs.Prelude.{◌≡◌, OnOk, OnErr, IfOk, IfSome, IsTrue};
 ghost use Rattle.journal_model.specs.ScriptRules.{is_script};
-ghost use Rattle.plain_device.specs.Kept.{turn_of, after_turn};
-ghost use Rattle.test_device.specs.Steps.{AreInStep, IsOneAhead};
+ghost use Rattle.plain_device.specs.Kept.{entry_of, turn_of, after_turn};
+ghost use Rattle.test_device.specs.Steps.{AreInStep};
 
-use super::copies::copy_of;
-use journal_model::Script;
+use journal_model::{Entry, Script};
 use plain_device::Device;
 use room_state::Rooms;
+use rules_next::next;
+use rules_search::has_room;
 use script_text::{ScriptFault, read_script};
 use std::alloc::Global;
-use ttm_base::{Actor, NoMemory, Turn};
+use ttm_base::{Actor, Need, NoMemory, Turn};
 
 /// A device by the definitions, and parts that are given its entries.
 #[derive(Drop)]
 pub struct Replay {
+    alloc: Global,
     pub plain: Device,
     pub rooms: Rooms,
 }
 
-/// A turn of an actor on the plain device. Where memory was short it is asked once more.
-fn step_plain(plain: &mut Device, who: Actor) -> Result<Turn, NoMemory>
-    ensures turn { IfOk result (λ t. t ≡ turn_of plain.old who) }
-    ensures made { OnOk result (plain.new ≡ after_turn plain.old who) }
+/// The entry that an actor makes next on a plain device, or what it needs first.
+fn next_entry(alloc: Global, plain: &Device, who: Actor) -> Result<Result<Entry, Need>, NoMemory>
+    ensures { IfOk result (λ step. step ≡ entry_of plain.now who) }
 {
-    match plain.step(who) {
-        Ok(turn) => Ok(turn),
-        Err(NoMemory) => plain.step(who),
+    let script = plain.script();
+    let state = plain.state();
+    if !has_room(script, state) {
+        return Err(NoMemory);
+    }
+    match next(alloc, script, state, who)? {
+        Ok(kind) => {
+            let kind = plain.stores().showing(alloc, script, state, who, kind)?;
+            Ok(Ok(Entry { who, kind }))
+        }
+        Err(need) => Ok(Err(need)),
     }
 }
 
-/// The actor whose turn it is on the plain device. Where memory was short it is asked once more.
+/// The actor whose turn it is on the plain device, which is asked once more where memory was short.
 fn next_actor(plain: &Device) -> Result<Option<Actor>, NoMemory> {
     match plain.next_actor() {
         Ok(found) => Ok(found),
@@ -47,14 +56,18 @@ impl Replay {
     {
         let plain = Device::new(alloc, script)?;
         let rooms = Rooms::new(alloc, again)?;
-        Ok(Replay { plain, rooms })
+        Ok(Replay {
+            alloc,
+            plain,
+            rooms,
+        })
     }
 
     /// A device and parts that run the script of a text and haven't begun; none, where that is no script.
     ///
     /// # Errors
     ///
-    /// Want of memory.
+    /// `NoMemory` if memory runs out.
     pub fn of(alloc: Global, text: &[u8]) -> Result<Option<Replay>, NoMemory>
         ensures { IfOk result (λ found. IfSome found (λ replay. AreInStep replay.plain replay.rooms)) }
     {
@@ -65,51 +78,55 @@ impl Replay {
         }
     }
 
-    /// Gives the parts the entry that the device has made more than they have.
-    fn give_entry(&mut self) -> Result<(), NoMemory>
-        requires { IsOneAhead self.old.plain self.old.rooms }
-        ensures given { OnOk result (AreInStep self.new.plain self.new.rooms) }
-        ensures err { OnErr result (IsOneAhead self.new.plain self.new.rooms) }
+    /// Gives the parts the entry that an actor makes next on the device, if it has one.
+    fn give(&mut self, who: Actor) -> Result<(), NoMemory>
+        requires { AreInStep self.old.plain self.old.rooms }
+        ensures plain { self.new.plain ≡ self.old.plain }
+        ensures given { OnOk result (AreInStep (after_turn self.old.plain who) self.new.rooms) }
+        ensures err { OnErr result (self.new.rooms ≡ self.old.rooms) }
     {
-        let at = self.rooms.journal().len();
-        let entry = copy_of(&self.plain.journal()[at])?;
-        self.rooms.append(entry)
-    }
-
-    /// The same. Where memory was short they are given it once more.
-    fn follow(&mut self) -> Result<(), NoMemory>
-        requires { IsOneAhead self.old.plain self.old.rooms }
-        ensures { OnOk result (AreInStep self.new.plain self.new.rooms) }
-    {
-        match self.give_entry() {
-            Ok(()) => Ok(()),
-            Err(NoMemory) => self.give_entry(),
+        if self.plain.over() {
+            return Ok(());
+        }
+        match next_entry(self.alloc, &self.plain, who)? {
+            Ok(entry) => self.rooms.append(entry),
+            Err(_) => Ok(()),
         }
     }
 
-    /// A turn of an actor, which the parts follow.
+    /// Gives them the entry, once more where memory was short.
+    fn follow(&mut self, who: Actor) -> Result<(), NoMemory>
+        requires { AreInStep self.old.plain self.old.rooms }
+        ensures plain { self.new.plain ≡ self.old.plain }
+        ensures given { OnOk result (AreInStep (after_turn self.old.plain who) self.new.rooms) }
+    {
+        match self.give(who) {
+            Ok(()) => Ok(()),
+            Err(NoMemory) => self.give(who),
+        }
+    }
+
+    /// A turn of an actor, which the parts take too. Where memory was short the device is asked once more.
     ///
     /// # Errors
     ///
-    /// Want of memory.
+    /// `NoMemory` if memory runs out.
     pub fn step(&mut self, who: Actor) -> Result<Turn, NoMemory>
         requires { AreInStep self.old.plain self.old.rooms }
         ensures { OnOk result (AreInStep self.new.plain self.new.rooms) }
     {
-        match step_plain(&mut self.plain, who)? {
-            Turn::Made(number) => {
-                self.follow()?;
-                Ok(Turn::Made(number))
-            }
-            turn => Ok(turn),
+        self.follow(who)?;
+        match self.plain.step(who) {
+            Ok(turn) => Ok(turn),
+            Err(NoMemory) => self.plain.step(who),
         }
     }
 
-    /// A turn in the simulator's order, which the parts follow: the actor that has an entry, if somebody has one.
+    /// A turn in the simulator's order, which the parts follow: the actor that has an entry, if some actor has one.
     ///
     /// # Errors
     ///
-    /// Want of memory.
+    /// `NoMemory` if memory runs out.
     pub fn step_next(&mut self) -> Result<Option<Actor>, NoMemory>
         requires { AreInStep self.old.plain self.old.rooms }
         ensures { OnOk result (AreInStep self.new.plain self.new.rooms) }

@@ -26,7 +26,7 @@ fn write_all_parts(
 ///
 /// # Errors
 ///
-/// Want of memory, and more than 4 MiB.
+/// Lack of memory, and more than 4 MiB.
 pub fn report_of(
     alloc: Global,
     script: &Script,

@@ -1,6 +1,7 @@
 ghost use Rattle.std.specs.Prelude.{◌==◌, if◌then◌else◌};
 ghost use Rattle.ttm_base.specs.declared.PagePlace.TheVariants as place;
 
+use crate::wanted::{are_packets, ensure};
 use op_cutting::{PageNames, cut, packet_count};
 use std::alloc::Global;
 use std::process::Abort;
@@ -29,21 +30,21 @@ impl PageNames for InOrder {
 fn is_cut_in_a_vector(rt: &impl Abort, alloc: Global, op: Op, want: &[Packet]) {
     let mut packets = Vec::new(alloc);
     cut(&mut packets, &InOrder, &[op]).expect(rt, "packets");
-    assert!(rt; packets.as_slice() == want);
+    are_packets(rt, packets.as_slice(), want);
 }
 
 /// The operation is cut into these packets in a list.
 fn is_cut_in_a_list(rt: &impl Abort, alloc: Global, op: Op, want: &[Packet]) {
     let mut packets = ItemList::new(alloc);
     cut(&mut packets, &InOrder, &[op]).expect(rt, "packets");
-    assert!(rt; packets.items() == want);
+    are_packets(rt, packets.items(), want);
 }
 
 /// The operation is cut into these packets, and as many are foretold.
 fn is_cut_into(rt: &impl Abort, alloc: Global, op: Op, want: &[Packet]) {
     is_cut_in_a_vector(rt, alloc, op, want);
     is_cut_in_a_list(rt, alloc, op, want);
-    assert!(rt; packet_count(&op) as usize == want.len());
+    ensure(rt, packet_count(&op) as usize == want.len());
 }
 
 /// From the frames of B to the pages of A in VRAM.
@@ -55,8 +56,8 @@ const COPY: Op = Op::Copy {
     len: 5000,
 };
 
-/// Each piece ends where the source or the destination comes to another page.
-const COPIES: [Packet; 4] = [
+/// It is cut at both borders: each piece ends where the source or the destination comes to another page.
+const COPIES: &[Packet] = &[
     Packet::Copy {
         to: PagePlace::Vram(0),
         toff: 100,
@@ -87,11 +88,7 @@ const COPIES: [Packet; 4] = [
     },
 ];
 
-#[test]
-fn copy_is_cut_at_both_borders(rt: HostRuntime) {
-    is_cut_into(&rt, rt.alloc(), COPY, &COPIES);
-}
-
+/// A whole page, which is one packet.
 const XOR: Op = Op::Xor {
     dst: B,
     doff: 4096,
@@ -100,7 +97,7 @@ const XOR: Op = Op::Xor {
     len: 4096,
 };
 
-const XORS: [Packet; 1] = [Packet::Xor {
+const XORS: &[Packet] = &[Packet::Xor {
     to: PagePlace::Frame(1),
     toff: 0,
     from: PagePlace::Vram(2),
@@ -108,11 +105,7 @@ const XORS: [Packet; 1] = [Packet::Xor {
     len: 4096,
 }];
 
-#[test]
-fn whole_page_is_one_packet(rt: HostRuntime) {
-    is_cut_into(&rt, rt.alloc(), XOR, &XORS);
-}
-
+/// It ends in the next page.
 const FILL: Op = Op::Fill {
     dst: B,
     off: 4094,
@@ -120,7 +113,7 @@ const FILL: Op = Op::Fill {
     byte: 9,
 };
 
-const FILLS: [Packet; 2] = [
+const FILLS: &[Packet] = &[
     Packet::Fill {
         to: PagePlace::Frame(0),
         off: 4094,
@@ -135,17 +128,19 @@ const FILLS: [Packet; 2] = [
     },
 ];
 
-#[test]
-fn fill_ends_in_the_next_page(rt: HostRuntime) {
-    is_cut_into(&rt, rt.alloc(), FILL, &FILLS);
-}
+/// It has no bytes, and so no packets.
+const PROBE: Op = Op::Probe {
+    src: A,
+    off: 4095,
+    len: 0,
+};
+
+/// Operations, and the packets into which each is cut.
+const CUTS: &[(Op, &[Packet])] = &[(COPY, COPIES), (XOR, XORS), (FILL, FILLS), (PROBE, &[])];
 
 #[test]
-fn probe_of_no_bytes_has_no_packets(rt: HostRuntime) {
-    let probe = Op::Probe {
-        src: A,
-        off: 4095,
-        len: 0,
-    };
-    is_cut_into(&rt, rt.alloc(), probe, &[]);
+fn operations_are_cut_at_borders(rt: HostRuntime) {
+    for (op, want) in CUTS {
+        is_cut_into(&rt, rt.alloc(), *op, want);
+    }
 }

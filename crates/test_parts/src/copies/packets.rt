@@ -1,6 +1,7 @@
 ghost use Rattle.std.specs.Prelude.{◌≡◌, ◌+◌, ◌*◌, ◌≤◌, length};
 
 use crate::copies::stores::stores;
+use crate::wanted::{are_bytes, are_packets};
 use copy_packet::{PagePlaces, PlaceMap, PlaceRow, ProbeBytes, Stores, cut, run, show};
 use std::alloc::Global;
 use std::process::Abort;
@@ -27,7 +28,7 @@ fn assert_cut(
         places.push(row(rt, alloc, *b, pages)).expect(rt, "a row");
     }
     let packets = cut(alloc, ops, &places).expect(rt, "packets");
-    assert!(rt; packets.as_slice() == want);
+    are_packets(rt, packets.as_slice(), want);
 }
 
 /// Bytes of frames from a place on.
@@ -35,12 +36,12 @@ fn assert_frames(rt: &impl Abort, stores: &Stores, at: u64, want: &[u8])
     requires page { length want.now ≤ 4096 }
     requires inside { at + length want.now ≤ length stores.now.frames }
 {
-    assert!(rt; stores.frames.part(at, want.len() as u64) == want);
+    are_bytes(rt, stores.frames.part(at, want.len() as u64), want);
 }
 
 /// What was shown.
 fn assert_shown(rt: &impl Abort, out: &ProbeBytes, want: &[u8]) {
-    assert!(rt; out.bytes() == want);
+    are_bytes(rt, out.bytes(), want);
 }
 
 /// A page of VRAM, eight frames, and an aperture of four pages.
@@ -55,8 +56,9 @@ fn eight_frames(rt: &impl Abort, alloc: Global) -> Stores
 /// A packet goes to the frame to which its page is mapped when it runs.
 #[test]
 fn packet_follows_the_aperture(rt: HostRuntime) {
-    let mut stores = eight_frames(&rt, rt.alloc());
-    let mut out = ProbeBytes::new(rt.alloc()).expect(&rt, "bytes");
+    let rt = &rt;
+    let mut stores = eight_frames(rt, rt.alloc());
+    let mut out = ProbeBytes::new(rt.alloc()).expect(rt, "bytes");
     stores.aper.set(3, 5);
     let packet = Packet::Fill {
         to: PagePlace::Aper(3),
@@ -66,10 +68,10 @@ fn packet_follows_the_aperture(rt: HostRuntime) {
     };
     stores.aper.set(3, 6);
     run(&packet, &mut stores, &mut out);
-    assert_frames(&rt, &stores, 4096 * 5, &[0, 0]);
-    assert_frames(&rt, &stores, 4096 * 6, &[170, 0]);
-    assert!(rt; stores.vram.part(0, 2) == [0, 0].as_slice());
-    assert_shown(&rt, &out, &[]);
+    assert_frames(rt, &stores, 4096 * 5, &[0, 0]);
+    assert_frames(rt, &stores, 4096 * 6, &[170, 0]);
+    are_bytes(rt, stores.vram.part(0, 2), &[0, 0]);
+    assert_shown(rt, &out, &[]);
     drop(stores);
 }
 
@@ -124,24 +126,19 @@ const PROBE: Packet = Packet::Probe {
     len: 4,
 };
 
-/// Three operations on a buffer at frame 0 and one at frame 1 are three packets.
-#[test]
-fn three_ops_are_three_packets(rt: HostRuntime) {
-    assert_cut(&rt, rt.alloc(), &BUFFERS, &OPS, &[COPY, FILL, PROBE]);
-}
-
 /// What the packets leave and show.
 #[test]
 fn job_of_three_ops(rt: HostRuntime) {
-    let mut stores = eight_frames(&rt, rt.alloc());
-    let mut out = ProbeBytes::new(rt.alloc()).expect(&rt, "bytes");
+    let rt = &rt;
+    let mut stores = eight_frames(rt, rt.alloc());
+    let mut out = ProbeBytes::new(rt.alloc()).expect(rt, "bytes");
     stores.frames.copy_page_part(0, &[1, 2]);
     run(&COPY, &mut stores, &mut out);
     run(&FILL, &mut stores, &mut out);
     run(&PROBE, &mut stores, &mut out);
-    assert_shown(&rt, &out, &[0, 1, 2, 0]);
-    assert_frames(&rt, &stores, 0, &[0xff, 2, 0]);
-    assert_frames(&rt, &stores, 4096 + 3, &[0, 1, 2, 0]);
+    assert_shown(rt, &out, &[0, 1, 2, 0]);
+    assert_frames(rt, &stores, 0, &[0xff, 2, 0]);
+    assert_frames(rt, &stores, 4096 + 3, &[0, 1, 2, 0]);
     drop(stores);
 }
 
@@ -172,9 +169,10 @@ const PIECES: [Packet; 2] = [
     },
 ];
 
-/// An operation is cut where it comes to another page.
+/// Three operations on a buffer at frame 0 and one at frame 1 are three packets, and an operation is cut where it comes to another page.
 #[test]
-fn fill_is_cut_at_the_border(rt: HostRuntime) {
+fn operations_are_cut(rt: HostRuntime) {
+    assert_cut(&rt, rt.alloc(), &BUFFERS, &OPS, &[COPY, FILL, PROBE]);
     assert_cut(&rt, rt.alloc(), &BEHIND, &[OVER_THE_BORDER], &PIECES);
 }
 
@@ -203,17 +201,18 @@ const XOR_BACK: Packet = Packet::Xor {
 /// Bytes go from a store to the other, and a packet that isn't a probe shows nothing.
 #[test]
 fn packets_between_vram_and_frames(rt: HostRuntime) {
-    let mut stores = eight_frames(&rt, rt.alloc());
-    let mut out = ProbeBytes::new(rt.alloc()).expect(&rt, "bytes");
+    let rt = &rt;
+    let mut stores = eight_frames(rt, rt.alloc());
+    let mut out = ProbeBytes::new(rt.alloc()).expect(rt, "bytes");
     stores.frames.copy_page_part(4096 * 2 + 10, &[1, 2, 3]);
     run(&TO_VRAM, &mut stores, &mut out);
     run(&VRAM_SHOWN, &mut stores, &mut out);
-    assert_shown(&rt, &out, &[0, 1, 2, 3, 0]);
+    assert_shown(rt, &out, &[0, 1, 2, 3, 0]);
     run(&XOR_BACK, &mut stores, &mut out);
-    assert_frames(&rt, &stores, 4096 * 2 + 9, &[0, 3, 1, 3, 0]);
-    assert_shown(&rt, &out, &[]);
+    assert_frames(rt, &stores, 4096 * 2 + 9, &[0, 3, 1, 3, 0]);
+    assert_shown(rt, &out, &[]);
     out.set(&[4, 5]);
-    assert_shown(&rt, &out, &[4, 5]);
+    assert_shown(rt, &out, &[4, 5]);
     drop(stores);
 }
 
@@ -233,14 +232,15 @@ const CHANGE: Packet = Packet::Fill {
 /// A probe is shown over lent stores, through the aperture; another packet shows nothing and isn't done.
 #[test]
 fn probe_over_lent_stores(rt: HostRuntime) {
-    let mut stores = eight_frames(&rt, rt.alloc());
-    let mut out = ProbeBytes::new(rt.alloc()).expect(&rt, "bytes");
+    let rt = &rt;
+    let mut stores = eight_frames(rt, rt.alloc());
+    let mut out = ProbeBytes::new(rt.alloc()).expect(rt, "bytes");
     stores.aper.set(3, 2);
     stores.frames.copy_page_part(4096 * 2 + 10, &[1, 2, 3]);
     show(&LOOK, &stores, &mut out);
-    assert_shown(&rt, &out, &[0, 1, 2, 3, 0]);
+    assert_shown(rt, &out, &[0, 1, 2, 3, 0]);
     show(&CHANGE, &stores, &mut out);
-    assert_shown(&rt, &out, &[]);
-    assert_frames(&rt, &stores, 4096 * 2 + 9, &[0, 1, 2, 3, 0]);
+    assert_shown(rt, &out, &[]);
+    assert_frames(rt, &stores, 4096 * 2 + 9, &[0, 1, 2, 3, 0]);
     drop(stores);
 }

@@ -2,6 +2,7 @@ ghost use Rattle.std.specs.Prelude.{◌≡◌, ◌≤◌, length, IsTrue};
 ghost use Rattle.copy_packet.specs.Runs.{CanRun};
 
 use crate::copies::stores::stores;
+use crate::wanted::{ensure, is_job, is_number};
 use copy_engine::Rings;
 use copy_packet::{ProbeBytes, Stores};
 use fence_core::{FenceSet, Timeline};
@@ -11,8 +12,10 @@ use ttm_base::{JobId, Packet, PagePlace, Usage};
 
 /// Pushes a job, where it may be pushed.
 fn push(rt: &impl Abort, rings: &mut Rings, job: JobId, waits: FenceSet, packets: Vec<Packet>) {
-    assert!(rt; job.ctx < rings.contexts() && 0 < job.num);
-    assert!(rt; waits.contexts() == rings.contexts() && packets.len() < 9);
+    ensure(rt, job.ctx < rings.contexts());
+    ensure(rt, 0 < job.num);
+    ensure(rt, waits.contexts() == rings.contexts());
+    ensure(rt, packets.len() < 9);
     rings.push(job, waits, packets).expect(rt, "a place");
 }
 
@@ -90,7 +93,7 @@ fn push_free(rt: &impl Abort, alloc: Global, rings: &mut Rings, job: JobId, pack
 }
 
 /// The head before each step, the number of the packet that is run, if one is, and how many bytes were shown last.
-const STEPS: [(JobId, Option<u32>, usize); 6] = [
+const STEPS: &[(JobId, Option<u32>, usize)] = &[
     (ONE, Some(0), 0),
     (ONE, Some(1), 2),
     (ONE, None, 2),
@@ -103,23 +106,24 @@ const STEPS: [(JobId, Option<u32>, usize); 6] = [
 fn assert_steps(rt: &impl Abort, rings: &mut Rings, stores: &mut Stores, out: &mut ProbeBytes)
     requires { length stores.old.frames ≡ 4096 }
 {
-    for (job, number, shown) in &STEPS {
-        assert!(rt; head(rings) == Some(*job));
-        assert!(rt; step(rings, stores, out) == *number);
-        assert!(rt; out.bytes().len() == *shown);
+    for (job, number, shown) in STEPS {
+        is_job(rt, head(rings), Some(*job));
+        is_number(rt, step(rings, stores, out), *number);
+        ensure(rt, out.bytes().len() == *shown);
     }
 }
 
 #[test]
 fn jobs_and_packets_in_order(rt: HostRuntime) {
-    let mut stores = stores(&rt, rt.alloc(), 0, 1, 0);
-    let mut out = ProbeBytes::new(rt.alloc()).expect(&rt, "bytes");
-    let mut rings = Rings::new(rt.alloc(), 1).expect(&rt, "a ring");
-    assert!(&rt; head(&rings) == None);
-    push_free(&rt, rt.alloc(), &mut rings, ONE, &[FILL, PROBE]);
-    push_free(&rt, rt.alloc(), &mut rings, TWO, &[PROBE, FILL]);
-    assert_steps(&rt, &mut rings, &mut stores, &mut out);
-    assert!(&rt; head(&rings) == None);
+    let rt = &rt;
+    let mut stores = stores(rt, rt.alloc(), 0, 1, 0);
+    let mut out = ProbeBytes::new(rt.alloc()).expect(rt, "bytes");
+    let mut rings = Rings::new(rt.alloc(), 1).expect(rt, "a ring");
+    is_job(rt, head(&rings), None);
+    push_free(rt, rt.alloc(), &mut rings, ONE, &[FILL, PROBE]);
+    push_free(rt, rt.alloc(), &mut rings, TWO, &[PROBE, FILL]);
+    assert_steps(rt, &mut rings, &mut stores, &mut out);
+    is_job(rt, head(&rings), None);
     drop(rings);
     drop(stores);
 }
@@ -135,19 +139,21 @@ fn with_reader(rt: &impl Abort, alloc: Global) -> FenceSet {
 
 /// The head has run no packet, and waits for the first job.
 fn assert_waits(rt: &impl Abort, rings: &Rings, line: &Timeline) {
-    assert!(rt; line.contexts() == rings.contexts() && 0 < rings.contexts());
-    assert!(rt; rings.head(0).is_some());
-    assert!(rt; rings.ready(0, line) == Some(ONE));
-    assert!(rt; rings.ran(0) == 0);
+    ensure(rt, line.contexts() == rings.contexts());
+    ensure(rt, 0 < rings.contexts());
+    ensure(rt, rings.head(0).is_some());
+    is_job(rt, rings.ready(0, line), Some(ONE));
+    ensure(rt, rings.ran(0) == 0);
 }
 
 /// A job waits for readers too.
 #[test]
 fn head_waits_for_all_usages(rt: HostRuntime) {
-    let line = Timeline::new(rt.alloc(), 1).expect(&rt, "a context");
-    let mut rings = Rings::new(rt.alloc(), 1).expect(&rt, "a ring");
-    let waits = with_reader(&rt, rt.alloc());
-    push(&rt, &mut rings, TWO, waits, Vec::new(rt.alloc()));
-    assert_waits(&rt, &rings, &line);
+    let rt = &rt;
+    let line = Timeline::new(rt.alloc(), 1).expect(rt, "a context");
+    let mut rings = Rings::new(rt.alloc(), 1).expect(rt, "a ring");
+    let waits = with_reader(rt, rt.alloc());
+    push(rt, &mut rings, TWO, waits, Vec::new(rt.alloc()));
+    assert_waits(rt, &rings, &line);
     drop(rings);
 }

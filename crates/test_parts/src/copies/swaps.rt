@@ -2,6 +2,7 @@ ghost use Rattle.std.specs.Prelude.{◌≡◌, ◌+◌, ◌*◌, ◌≤◌, fals
 ghost use Rattle.byte_store.specs.Parts.{overwritten, part};
 
 use crate::copies::bytes::assert_bytes;
+use crate::wanted::is_number;
 use byte_store::{ByteStore, PAGE};
 use std::process::Abort;
 use swap_store::SwapStore;
@@ -34,21 +35,22 @@ fn goes_out(rt: &impl Abort, swap: &mut SwapStore, frames: &ByteStore)
     requires { 2 * PAGE ≤ length frames.now }
     ensures { swap.new.held ≡ slice_set swap.old.held 0 true }
 {
-    assert!(rt; swap_out(swap, frames, 1) == Some(0));
-    assert!(rt; swap_out(swap, frames, 0) == None);
+    is_number(rt, swap_out(swap, frames, 1), Some(0));
+    is_number(rt, swap_out(swap, frames, 0), None);
 }
 
 /// Frame 1 goes to slot 0, and comes back into frame 0.
 #[test]
 fn page_goes_out_and_comes_back(rt: HostRuntime) {
-    let mut frames = ByteStore::new(rt.alloc(), 2).expect(&rt, "frames");
-    let mut swap = SwapStore::new(rt.alloc(), 1).expect(&rt, "a slot");
+    let rt = &rt;
+    let mut frames = ByteStore::new(rt.alloc(), 2).expect(rt, "frames");
+    let mut swap = SwapStore::new(rt.alloc(), 1).expect(rt, "a slot");
     frames.fill(PAGE + 4094, 2, 7);
-    goes_out(&rt, &mut swap, &frames);
+    goes_out(rt, &mut swap, &frames);
     frames.zero_page(1);
     swap_in(&mut frames, 0, &mut swap, 0);
-    assert_bytes(&rt, &frames, 4093, &[0, 7, 7, 0]);
-    assert!(rt; swap.first() == Some(0));
+    assert_bytes(rt, &frames, 4093, &[0, 7, 7, 0]);
+    is_number(rt, swap.first(), Some(0));
     drop(swap);
     drop(frames);
 }

@@ -1,10 +1,11 @@
 use crate::maps::scripts::{A, B, MapLine, maps_of};
+use crate::wanted::ensure;
 use cpu_maps::CpuMaps;
 use std::process::Abort;
 use ttm_base::{BufId, PagePlace};
 
 /// Of each of a buffer's two pages a place, or none.
-type Pages = [Option<PagePlace>; 2];
+type Pages = (Option<PagePlace>, Option<PagePlace>);
 
 /// What happens to mappings.
 #[derive(Clone, Copy)]
@@ -18,52 +19,63 @@ enum Event {
     Unmap(u32, BufId),
 }
 
-const NONE: Pages = [None; 2];
+const NONE: Pages = (None, None);
 
-const FRAMES: Pages = [Some(PagePlace::Frame(0)), Some(PagePlace::Frame(1))];
+const FRAMES: Pages = (Some(PagePlace::Frame(0)), Some(PagePlace::Frame(1)));
 
-const VRAM: Pages = [Some(PagePlace::Vram(0)), Some(PagePlace::Vram(1))];
+const VRAM: Pages = (Some(PagePlace::Vram(0)), Some(PagePlace::Vram(1)));
 
-const FIRST_FRAME: Pages = [Some(PagePlace::Frame(0)), None];
+const FIRST_FRAME: Pages = (Some(PagePlace::Frame(0)), None);
 
-const LAST_FRAME: Pages = [None, Some(PagePlace::Frame(1))];
+const LAST_FRAME: Pages = (None, Some(PagePlace::Frame(1)));
 
-/// The entries of a thread's mapping.
-fn entries(maps: &CpuMaps, thread: u32, b: BufId) -> Pages {
-    [maps.entry(thread, b, 0), maps.entry(thread, b, 1)]
+/// The page's entry in a thread's mapping is the one that is wanted.
+fn assert_entry(rt: &impl Abort, entry: Option<PagePlace>, want: Option<PagePlace>) {
+    ensure(rt, entry == want);
+}
+
+/// The entries of a thread's mapping are these.
+fn assert_entries(rt: &impl Abort, maps: &CpuMaps, thread: u32, b: BufId, want: &Pages) {
+    assert_entry(rt, maps.entry(thread, b, 0), want.0);
+    assert_entry(rt, maps.entry(thread, b, 1), want.1);
 }
 
 /// Which of a buffer's two pages fault.
-type Faults = [bool; 2];
+type Faults = (bool, bool);
 
-const BOTH: Faults = [true, true];
+const BOTH: Faults = (true, true);
 
-const FIRST: Faults = [true, false];
+const FIRST: Faults = (true, false);
 
-const NEITHER: Faults = [false, false];
+const NEITHER: Faults = (false, false);
+
+/// Reads or writes a page that has a place here, and tells whether it faults.
+fn access(maps: &mut CpuMaps, thread: u32, b: BufId, page: u32, place: Option<PagePlace>) -> bool {
+    let Some(place) = place else {
+        return false;
+    };
+    let faults = maps.entry(thread, b, page).is_none();
+    maps.fault_in(thread, b, page, place);
+    faults
+}
 
 /// Does what happens, and gives the pages that fault.
 fn take_event(maps: &mut CpuMaps, event: Event) -> Faults {
-    let mut faults = NEITHER;
     match event {
-        Event::Access(thread, b, places) => {
-            for page in 0..2 {
-                if let Some(place) = places[page as usize] {
-                    faults[page as usize] = maps.entry(thread, b, page).is_none();
-                    maps.fault_in(thread, b, page, place);
-                }
-            }
+        Event::Access(thread, b, (first, last)) => {
+            let faults = access(maps, thread, b, 0, first);
+            return (faults, access(maps, thread, b, 1, last));
         }
         Event::PageLeaves(b, page) => maps.drop_page(b, page),
         Event::BufferLeaves(b) => maps.drop_buffer(b),
         Event::Unmap(thread, b) => maps.unmap(thread, b),
     }
-    faults
+    NEITHER
 }
 
 /// A buffer is written and read in SYSTEM, read in VRAM, to which it comes through TT, and evicted and read: each access with the pages that
-/// fault, and the entries behind it.
-const ONE_BUFFER: [(Event, Faults, Pages); 7] = [
+/// fault, and the entries after it.
+const ONE_BUFFER: &[(Event, Faults, Pages)] = &[
     (Event::Access(1, A, FRAMES), BOTH, FRAMES),
     (Event::Access(1, A, FIRST_FRAME), NEITHER, FRAMES),
     (Event::BufferLeaves(A), NEITHER, NONE),
@@ -73,41 +85,48 @@ const ONE_BUFFER: [(Event, Faults, Pages); 7] = [
     (Event::Access(1, A, FIRST_FRAME), FIRST, FIRST_FRAME),
 ];
 
+/// The event faults on these pages, and leaves these entries.
+fn assert_faults(rt: &impl Abort, maps: &mut CpuMaps, event: Event, faults: Faults, want: &Pages) {
+    ensure(rt, take_event(maps, event) == faults);
+    assert_entries(rt, maps, 1, A, want);
+}
+
 #[test]
 fn accesses_fault_once(rt: HostRuntime) {
     let mut maps = maps_of(&rt, rt.alloc(), &[MapLine::Map(1, A)]);
     for (event, faults, want) in ONE_BUFFER {
-        assert!(rt; take_event(&mut maps, event) == faults);
-        assert!(rt; entries(&maps, 1, A) == want);
+        assert_faults(&rt, &mut maps, *event, *faults, want);
     }
 }
 
-/// Two threads map a buffer, and the first another one, too: the entries of the three mappings behind each event.
-const TWO_BUFFERS: [(Event, [Pages; 3]); 11] = [
-    (Event::Access(1, A, FRAMES), [FRAMES, NONE, NONE]),
-    (Event::Access(2, A, FRAMES), [FRAMES, FRAMES, NONE]),
-    (Event::Access(1, B, VRAM), [FRAMES, FRAMES, VRAM]),
-    (Event::PageLeaves(A, 0), [LAST_FRAME, LAST_FRAME, VRAM]),
-    (Event::PageLeaves(A, 2), [LAST_FRAME, LAST_FRAME, VRAM]),
-    (Event::Access(2, A, FIRST_FRAME), [LAST_FRAME, FRAMES, VRAM]),
-    (Event::Access(2, B, VRAM), [LAST_FRAME, FRAMES, VRAM]),
-    (Event::Unmap(2, B), [LAST_FRAME, FRAMES, VRAM]),
-    (Event::Unmap(1, A), [NONE, FRAMES, VRAM]),
-    (Event::BufferLeaves(A), [NONE, NONE, VRAM]),
-    (Event::BufferLeaves(B), [NONE, NONE, NONE]),
+/// Two threads map a buffer, and the first another one, too: the entries of the three mappings after each event.
+const TWO_BUFFERS: &[(Event, (Pages, Pages, Pages))] = &[
+    (Event::Access(1, A, FRAMES), (FRAMES, NONE, NONE)),
+    (Event::Access(2, A, FRAMES), (FRAMES, FRAMES, NONE)),
+    (Event::Access(1, B, VRAM), (FRAMES, FRAMES, VRAM)),
+    (Event::PageLeaves(A, 0), (LAST_FRAME, LAST_FRAME, VRAM)),
+    (Event::PageLeaves(A, 2), (LAST_FRAME, LAST_FRAME, VRAM)),
+    (Event::Access(2, A, FIRST_FRAME), (LAST_FRAME, FRAMES, VRAM)),
+    (Event::Access(2, B, VRAM), (LAST_FRAME, FRAMES, VRAM)),
+    (Event::Unmap(2, B), (LAST_FRAME, FRAMES, VRAM)),
+    (Event::Unmap(1, A), (NONE, FRAMES, VRAM)),
+    (Event::BufferLeaves(A), (NONE, NONE, VRAM)),
+    (Event::BufferLeaves(B), (NONE, NONE, NONE)),
 ];
+
+/// The event leaves these entries.
+fn assert_left(rt: &impl Abort, maps: &mut CpuMaps, event: Event, want: &(Pages, Pages, Pages)) {
+    take_event(maps, event);
+    assert_entries(rt, maps, 1, A, &want.0);
+    assert_entries(rt, maps, 2, A, &want.1);
+    assert_entries(rt, maps, 1, B, &want.2);
+}
 
 #[test]
 fn all_mappings_of_a_buffer_lose_a_page(rt: HostRuntime) {
     let lines = [MapLine::Map(1, A), MapLine::Map(1, B), MapLine::Map(2, A)];
     let mut maps = maps_of(&rt, rt.alloc(), &lines);
     for (event, want) in TWO_BUFFERS {
-        take_event(&mut maps, event);
-        let left = [
-            entries(&maps, 1, A),
-            entries(&maps, 2, A),
-            entries(&maps, 1, B),
-        ];
-        assert!(rt; left == want);
+        assert_left(&rt, &mut maps, *event, want);
     }
 }

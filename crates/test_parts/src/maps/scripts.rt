@@ -1,4 +1,5 @@
-use cpu_maps::CpuMaps;
+use crate::wanted::ensure;
+use cpu_maps::{Area, CpuMaps};
 use journal_model::{
     CommandLists, Decl, Decls, Mark, MarkKind, Marks, Name, Script, Sizes, TurnLines,
 };
@@ -53,41 +54,62 @@ fn mark_of(line: MapLine) -> Mark {
     }
 }
 
-/// The mappings of a script with two buffers and these lines.
-pub fn maps_of(rt: &impl Abort, alloc: Global, lines: &[MapLine]) -> CpuMaps {
+/// Two buffers of two pages.
+fn two_buffers(rt: &impl Abort, alloc: Global) -> Decls {
     let mut buffers = Decls::new(alloc);
     buffers.push(two_pages(alloc)).expect(rt, "a buffer");
     buffers.push(two_pages(alloc)).expect(rt, "a buffer");
+    buffers
+}
+
+/// The marks of lines.
+fn marks_of(rt: &impl Abort, alloc: Global, lines: &[MapLine]) -> Marks {
     let mut marks = Marks::new(alloc);
     for line in lines {
         marks.push(mark_of(*line)).expect(rt, "a line");
     }
+    marks
+}
+
+/// The mappings of a script with two buffers and these lines.
+pub fn maps_of(rt: &impl Abort, alloc: Global, lines: &[MapLine]) -> CpuMaps {
     let script = Script {
         version: 2,
         sizes: SIZES,
-        buffers,
+        buffers: two_buffers(rt, alloc),
         threads: CommandLists::new(alloc),
         turns: TurnLines::new(alloc),
-        marks,
+        marks: marks_of(rt, alloc, lines),
     };
     CpuMaps::new(alloc, &script).expect(rt, "mappings")
 }
 
+/// The mapping is of this thread and buffer, with two pages.
+fn assert_area(rt: &impl Abort, area: Option<&Area>, want: &(u32, BufId)) {
+    match area {
+        Some(area) => {
+            ensure(rt, (area.thread, area.b) == *want);
+            ensure(rt, area.entries.items() == [None, None].as_slice());
+        }
+        None => ensure(rt, false),
+    }
+}
+
 /// The mappings are of these threads and buffers, with two pages each.
 fn assert_areas(rt: &impl Abort, maps: &CpuMaps, want: &[(u32, BufId)]) {
-    let areas = maps.areas();
-    assert!(rt; areas.len() == want.len());
-    for (area, (thread, b)) in areas.iter().zip(want.iter()) {
-        assert!(rt; area.thread == *thread && area.b == *b);
-        assert!(rt; area.entries.items() == [None, None].as_slice());
+    ensure(rt, maps.areas().len() == want.len());
+    let mut areas = maps.areas().iter();
+    for owner in want {
+        assert_area(rt, areas.next(), owner);
     }
 }
 
 /// A buffer that a thread maps again has the same mapping; that of another thread is another.
 #[test]
 fn one_mapping_for_each_buffer_of_a_thread(rt: HostRuntime) {
+    let rt = &rt;
     let alloc = rt.alloc();
-    assert_areas(&rt, &maps_of(&rt, alloc, &[]), &[]);
+    assert_areas(rt, &maps_of(rt, alloc, &[]), &[]);
     let lines = [
         MapLine::Map(1, B),
         MapLine::Map(1, A),
@@ -95,6 +117,6 @@ fn one_mapping_for_each_buffer_of_a_thread(rt: HostRuntime) {
         MapLine::Map(1, B),
         MapLine::Map(3, B),
     ];
-    let maps = maps_of(&rt, alloc, &lines);
-    assert_areas(&rt, &maps, &[(1, B), (1, A), (3, B)]);
+    let maps = maps_of(rt, alloc, &lines);
+    assert_areas(rt, &maps, &[(1, B), (1, A), (3, B)]);
 }

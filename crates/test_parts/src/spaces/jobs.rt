@@ -4,7 +4,8 @@ ghost use Rattle.gpu_spaces.specs.Inside.{is_inside};
 
 use crate::spaces::requests::Request::{self, Map, Unmap};
 use crate::spaces::requests::{A, B, C, answer};
-use gpu_spaces::Space;
+use crate::wanted::{are_ops, ensure};
+use gpu_spaces::{Piece, Space};
 use journal_model::VOp;
 use std::alloc::Global;
 use std::process::Abort;
@@ -19,24 +20,37 @@ fn space_of(rt: &impl Abort, alloc: Global, requests: &[Request]) -> Space {
     space
 }
 
-/// The operations with addresses are these by name.
+/// The operations with addresses are these by name: none where a page isn't mapped.
 fn assert_job(rt: &impl Abort, alloc: Global, space: &Space, ops: &[VOp], want: &[Op])
     requires { list_all is_inside ops.now ≡ true }
 {
     match space.job(alloc, ops).expect(rt, "memory") {
-        Some(job) => assert!(rt; job.items() == want),
-        None => assert!(rt; false),
+        Some(job) => {
+            ensure(rt, job.len() > 0);
+            are_ops(rt, job.items(), want);
+        }
+        None => ensure(rt, want.is_empty()),
     }
 }
 
-/// A page of the operations isn't mapped.
-fn assert_no_job(rt: &impl Abort, alloc: Global, space: &Space, ops: &[VOp])
-    requires { list_all is_inside ops.now ≡ true }
-{
-    assert!(rt; space.job(alloc, ops).expect(rt, "memory").is_none());
+/// The part is this one.
+fn is_piece(rt: &impl Abort, piece: Option<&Piece>, want: &(BufId, u32, u32)) {
+    match piece {
+        Some(piece) => ensure(rt, (piece.b, piece.off, piece.len) == *want),
+        None => ensure(rt, false),
+    }
 }
 
-/// The range has these parts.
+/// The parts are these.
+fn are_pieces(rt: &impl Abort, pieces: &[Piece], want: &[(BufId, u32, u32)]) {
+    ensure(rt, pieces.len() == want.len());
+    let mut pieces = pieces.iter();
+    for told in want {
+        is_piece(rt, pieces.next(), told);
+    }
+}
+
+/// The range has these parts: none where a page isn't mapped.
 fn assert_pieces(
     rt: &impl Abort,
     alloc: Global,
@@ -47,26 +61,13 @@ fn assert_pieces(
 )
     requires { addr + len ≤ 4294967296 }
 {
-    let Some(pieces) = space.pieces(alloc, addr, len).expect(rt, "memory") else {
-        return assert!(rt; false);
-    };
-    let pieces = pieces.items();
-    assert!(rt; pieces.len() == want.len());
-    for (piece, (b, off, len)) in pieces.iter().zip(want.iter()) {
-        assert!(rt; piece.b == *b && piece.off == *off && piece.len == *len);
+    match space.pieces(alloc, addr, len).expect(rt, "memory") {
+        Some(pieces) => {
+            ensure(rt, pieces.len() > 0);
+            are_pieces(rt, pieces.items(), want);
+        }
+        None => ensure(rt, want.is_empty()),
     }
-}
-
-/// A page of the range isn't mapped.
-fn assert_no_pieces(rt: &impl Abort, alloc: Global, space: &Space, addr: u64, len: u32)
-    requires { addr + len ≤ 4294967296 }
-{
-    assert!(rt;
-        space
-            .pieces(alloc, addr, len)
-            .expect(rt, "memory")
-            .is_none()
-    );
 }
 
 const TWO: [Request; 2] = [Map(16, 4, A, 0), Map(17, 2, B, 0)];
@@ -139,15 +140,16 @@ const INTO_THE_HOLE: [VOp; 2] = [
 
 #[test]
 fn page_that_is_not_mapped(rt: HostRuntime) {
+    let rt = &rt;
     let alloc = rt.alloc();
-    let space = space_of(&rt, alloc, &HOLED);
-    assert_no_job(&rt, alloc, &space, &IN_THE_HOLE);
-    assert_no_job(&rt, alloc, &space, &INTO_THE_HOLE);
-    assert_no_pieces(&rt, alloc, &space, 65535, 1);
-    assert_no_pieces(&rt, alloc, &space, 69632, 8192);
-    assert_no_pieces(&rt, alloc, &space, 81919, 2);
-    assert_pieces(&rt, alloc, &space, 69632, 4096, &[(B, 0, 4096)]);
-    assert_pieces(&rt, alloc, &space, 77824, 4096, &[(A, 12288, 4096)]);
+    let space = space_of(rt, alloc, &HOLED);
+    assert_job(rt, alloc, &space, &IN_THE_HOLE, &[]);
+    assert_job(rt, alloc, &space, &INTO_THE_HOLE, &[]);
+    assert_pieces(rt, alloc, &space, 65535, 1, &[]);
+    assert_pieces(rt, alloc, &space, 69632, 8192, &[]);
+    assert_pieces(rt, alloc, &space, 81919, 2, &[]);
+    assert_pieces(rt, alloc, &space, 69632, 4096, &[(B, 0, 4096)]);
+    assert_pieces(rt, alloc, &space, 77824, 4096, &[(A, 12288, 4096)]);
 }
 
 const FOUR: [Request; 4] = [
@@ -218,26 +220,28 @@ const COPIES_BY_NAME: [Op; 6] = [
 
 #[test]
 fn copies_are_cut_at_both_borders(rt: HostRuntime) {
+    let rt = &rt;
     let alloc = rt.alloc();
-    let space = space_of(&rt, alloc, &FOUR);
-    assert_job(&rt, alloc, &space, &COPIES, &COPIES_BY_NAME);
+    let space = space_of(rt, alloc, &FOUR);
+    assert_job(rt, alloc, &space, &COPIES, &COPIES_BY_NAME);
     let all = [(A, 4096, 8192), (A, 20480, 8192)];
-    assert_pieces(&rt, alloc, &space, 0, 16384, &all);
-    assert_pieces(&rt, alloc, &space, 8191, 2, &[(A, 12287, 1), (A, 20480, 1)]);
+    assert_pieces(rt, alloc, &space, 0, 16384, &all);
+    assert_pieces(rt, alloc, &space, 8191, 2, &[(A, 12287, 1), (A, 20480, 1)]);
 }
 
 #[test]
 fn last_byte_of_the_space(rt: HostRuntime) {
+    let rt = &rt;
     let alloc = rt.alloc();
-    let space = space_of(&rt, alloc, &[Map(1_048_575, 1, A, 4095)]);
-    assert_pieces(&rt, alloc, &space, 4_294_967_295, 1, &[(A, 16_777_215, 1)]);
+    let space = space_of(rt, alloc, &[Map(1_048_575, 1, A, 4095)]);
+    assert_pieces(rt, alloc, &space, 4_294_967_295, 1, &[(A, 16_777_215, 1)]);
     assert_pieces(
-        &rt,
+        rt,
         alloc,
         &space,
         4_294_963_200,
         4096,
         &[(A, 16_773_120, 4096)],
     );
-    assert_no_pieces(&rt, alloc, &space, 4_294_963_199, 2);
+    assert_pieces(rt, alloc, &space, 4_294_963_199, 2, &[]);
 }

@@ -1,3 +1,6 @@
+ghost use Rattle.std.specs.Prelude.{◌+◌, ◌≤◌};
+
+use crate::wanted::ensure;
 use Request::{Map, Unmap};
 use Told::{Gone, Kept, Made};
 use gpu_spaces::Space;
@@ -20,7 +23,7 @@ pub enum Request {
     Unmap(u32, u32),
 }
 
-/// A step, with pages from a first up to a last: a mapping goes, keeps what is before and behind, or is new.
+/// A step, with pages from a first up to a last: a mapping goes, keeps what is before and after, or is new.
 #[derive(Clone, Copy)]
 enum Told {
     Gone(u32, u32),
@@ -28,16 +31,28 @@ enum Told {
     Made(u32, u32, BufId, u32),
 }
 
+/// The pages are a request's: some, no more than a buffer has, in the space.
+fn assert_inside(rt: &impl Abort, va: u32, n: u32)
+    ensures some { 1 ≤ n }
+    ensures most { n ≤ 4096 }
+    ensures inside { va + n ≤ SPACE_PAGES }
+{
+    ensure(rt, n >= 1);
+    ensure(rt, n <= 4096);
+    ensure(rt, va <= SPACE_PAGES - n);
+}
+
 /// Does a request, and gives its steps.
 pub fn answer(rt: &impl Abort, alloc: Global, space: &mut Space, request: Request) -> VSteps {
     let mut steps = VSteps::new(alloc);
     match request {
         Map(va, n, b, off) => {
-            assert!(rt; n >= 1 && n <= 4096 && va <= SPACE_PAGES - n && off <= 4096 - n);
+            assert_inside(rt, va, n);
+            ensure(rt, off <= 4096 - n);
             space.map(va, n, b, off, &mut steps).expect(rt, "memory");
         }
         Unmap(va, n) => {
-            assert!(rt; n >= 1 && n <= 4096 && va <= SPACE_PAGES - n);
+            assert_inside(rt, va, n);
             space.unmap(va, n, &mut steps).expect(rt, "memory");
         }
     }
@@ -77,154 +92,170 @@ fn is_told(step: VStep, want: Told) -> bool {
     }
 }
 
-/// The steps are these.
-fn assert_told(rt: &impl Abort, steps: &VSteps, want: &[Told]) {
-    let steps = steps.items();
-    assert!(rt; steps.len() == want.len());
-    for (step, told) in steps.iter().zip(want.iter()) {
-        assert!(rt; is_told(*step, *told));
+/// The step is the one that is wanted.
+fn assert_step(rt: &impl Abort, step: Option<&VStep>, want: &Told) {
+    match step {
+        Some(step) => ensure(rt, is_told(*step, *want)),
+        None => ensure(rt, false),
     }
+}
+
+/// The steps are these.
+fn assert_told(rt: &impl Abort, steps: &[VStep], want: &[Told]) {
+    ensure(rt, steps.len() == want.len());
+    let mut steps = steps.iter();
+    for told in want {
+        assert_step(rt, steps.next(), told);
+    }
+}
+
+/// The request has these steps.
+fn assert_answer(rt: &impl Abort, alloc: Global, space: &mut Space, row: &(Request, &[Told])) {
+    let steps = answer(rt, alloc, space, row.0);
+    assert_told(rt, steps.items(), row.1);
+}
+
+/// The page is mapped to a page of a buffer, or to none.
+fn assert_page(rt: &impl Abort, space: &Space, row: &(u32, Option<(BufId, u32)>)) {
+    ensure(rt, space.at(row.0) == row.1);
 }
 
 /// Requests of a new space, each with its steps, and what then stands at pages.
-fn assert_rows(
-    rt: &impl Abort,
-    alloc: Global,
-    rows: &[(Request, &[Told])],
-    pages: &[(u32, Option<(BufId, u32)>)],
-) {
+struct Case {
+    rows: &'static [(Request, &'static [Told])],
+    pages: &'static [(u32, Option<(BufId, u32)>)],
+}
+
+/// The requests have their steps, and the pages stand as is wanted.
+fn assert_case(rt: &impl Abort, alloc: Global, case: &Case) {
     let mut space = Space::new(alloc);
-    for (request, want) in rows {
-        let steps = answer(rt, alloc, &mut space, *request);
-        assert_told(rt, &steps, want);
+    for row in case.rows {
+        assert_answer(rt, alloc, &mut space, row);
     }
-    for (page, want) in pages {
-        assert!(rt; space.at(*page) == *want);
+    for page in case.pages {
+        assert_page(rt, &space, page);
     }
 }
 
-const BOTH_ENDS: [(Request, &[Told]); 3] = [
-    (Map(16, 4, A, 0), &[Made(16, 20, A, 0)]),
-    (
-        Map(17, 2, B, 0),
-        &[
-            Kept(16, 20, Some((16, 17)), Some((19, 20))),
-            Made(17, 19, B, 0),
-        ],
-    ),
-    (Unmap(18, 1), &[Kept(17, 19, Some((17, 18)), None)]),
-];
+/// A remap keeps both ends.
+const BOTH_ENDS: Case = Case {
+    rows: &[
+        (Map(16, 4, A, 0), &[Made(16, 20, A, 0)]),
+        (
+            Map(17, 2, B, 0),
+            &[
+                Kept(16, 20, Some((16, 17)), Some((19, 20))),
+                Made(17, 19, B, 0),
+            ],
+        ),
+        (Unmap(18, 1), &[Kept(17, 19, Some((17, 18)), None)]),
+    ],
+    pages: &[
+        (15, None),
+        (16, Some((A, 0))),
+        (17, Some((B, 0))),
+        (18, None),
+        (19, Some((A, 3))),
+        (20, None),
+    ],
+};
 
-const BESIDE_ENDS: [(u32, Option<(BufId, u32)>); 6] = [
-    (15, None),
-    (16, Some((A, 0))),
-    (17, Some((B, 0))),
-    (18, None),
-    (19, Some((A, 3))),
-    (20, None),
-];
+/// A hole in a mapping. The last but one takes what is left, and the last nothing.
+const HOLES: Case = Case {
+    rows: &[
+        (Map(0, 8, A, 10), &[Made(0, 8, A, 10)]),
+        (Unmap(2, 3), &[Kept(0, 8, Some((0, 2)), Some((5, 8)))]),
+        (Unmap(2, 3), &[]),
+        (
+            Unmap(1, 5),
+            &[
+                Kept(0, 2, Some((0, 1)), None),
+                Kept(5, 8, None, Some((6, 8))),
+            ],
+        ),
+        (Unmap(0, 4096), &[Gone(0, 1), Gone(6, 8)]),
+        (Unmap(0, 4096), &[]),
+    ],
+    pages: &[(0, None), (6, None), (7, None)],
+};
 
-#[test]
-fn remap_keeps_both_ends(rt: HostRuntime) {
-    assert_rows(&rt, rt.alloc(), &BOTH_ENDS, &BESIDE_ENDS);
-}
-
-/// The last takes what is left, and then nothing.
-const HOLES: [(Request, &[Told]); 6] = [
-    (Map(0, 8, A, 10), &[Made(0, 8, A, 10)]),
-    (Unmap(2, 3), &[Kept(0, 8, Some((0, 2)), Some((5, 8)))]),
-    (Unmap(2, 3), &[]),
-    (
-        Unmap(1, 5),
-        &[
-            Kept(0, 2, Some((0, 1)), None),
-            Kept(5, 8, None, Some((6, 8))),
-        ],
-    ),
-    (Unmap(0, 4096), &[Gone(0, 1), Gone(6, 8)]),
-    (Unmap(0, 4096), &[]),
-];
-
-#[test]
-fn hole_in_a_mapping(rt: HostRuntime) {
-    assert_rows(&rt, rt.alloc(), &HOLES, &[(0, None), (6, None), (7, None)]);
-}
-
-const OVER_SEVERAL: [(Request, &[Told]); 5] = [
-    (Map(8, 2, C, 7), &[Made(8, 10, C, 7)]),
-    (Map(0, 2, A, 0), &[Made(0, 2, A, 0)]),
-    (Map(4, 2, B, 0), &[Made(4, 6, B, 0)]),
-    (
-        Map(1, 8, B, 100),
-        &[
-            Kept(0, 2, Some((0, 1)), None),
-            Gone(4, 6),
-            Kept(8, 10, None, Some((9, 10))),
-            Made(1, 9, B, 100),
-        ],
-    ),
-    (Map(1, 8, C, 0), &[Gone(1, 9), Made(1, 9, C, 0)]),
-];
-
-const BESIDE_SEVERAL: [(u32, Option<(BufId, u32)>); 5] = [
-    (0, Some((A, 0))),
-    (1, Some((C, 0))),
-    (8, Some((C, 7))),
-    (9, Some((C, 8))),
-    (10, None),
-];
-
-#[test]
-fn map_over_several_mappings(rt: HostRuntime) {
-    assert_rows(&rt, rt.alloc(), &OVER_SEVERAL, &BESIDE_SEVERAL);
-}
+/// A map over several mappings.
+const OVER_SEVERAL: Case = Case {
+    rows: &[
+        (Map(8, 2, C, 7), &[Made(8, 10, C, 7)]),
+        (Map(0, 2, A, 0), &[Made(0, 2, A, 0)]),
+        (Map(4, 2, B, 0), &[Made(4, 6, B, 0)]),
+        (
+            Map(1, 8, B, 100),
+            &[
+                Kept(0, 2, Some((0, 1)), None),
+                Gone(4, 6),
+                Kept(8, 10, None, Some((9, 10))),
+                Made(1, 9, B, 100),
+            ],
+        ),
+        (Map(1, 8, C, 0), &[Gone(1, 9), Made(1, 9, C, 0)]),
+    ],
+    pages: &[
+        (0, Some((A, 0))),
+        (1, Some((C, 0))),
+        (8, Some((C, 7))),
+        (9, Some((C, 8))),
+        (10, None),
+    ],
+};
 
 /// Mappings side by side stay two, also where the buffer's pages go on.
-const NEIGHBOURS: [(Request, &[Told]); 4] = [
-    (Map(2, 2, A, 2), &[Made(2, 4, A, 2)]),
-    (Map(0, 2, A, 0), &[Made(0, 2, A, 0)]),
-    (Map(4, 2, A, 4), &[Made(4, 6, A, 4)]),
-    (
-        Unmap(1, 4),
-        &[
-            Kept(0, 2, Some((0, 1)), None),
-            Gone(2, 4),
-            Kept(4, 6, None, Some((5, 6))),
-        ],
-    ),
-];
+const NEIGHBOURS: Case = Case {
+    rows: &[
+        (Map(2, 2, A, 2), &[Made(2, 4, A, 2)]),
+        (Map(0, 2, A, 0), &[Made(0, 2, A, 0)]),
+        (Map(4, 2, A, 4), &[Made(4, 6, A, 4)]),
+        (
+            Unmap(1, 4),
+            &[
+                Kept(0, 2, Some((0, 1)), None),
+                Gone(2, 4),
+                Kept(4, 6, None, Some((5, 6))),
+            ],
+        ),
+    ],
+    pages: &[(0, Some((A, 0))), (4, None), (5, Some((A, 5)))],
+};
+
+/// The ends of the space.
+const ENDS: Case = Case {
+    rows: &[
+        (
+            Map(1_048_575, 1, A, 4095),
+            &[Made(1_048_575, 1_048_576, A, 4095)],
+        ),
+        (
+            Map(1_044_480, 4096, B, 0),
+            &[Gone(1_048_575, 1_048_576), Made(1_044_480, 1_048_576, B, 0)],
+        ),
+        (Map(0, 1, C, 0), &[Made(0, 1, C, 0)]),
+        (
+            Unmap(1_048_575, 1),
+            &[Kept(1_044_480, 1_048_576, Some((1_044_480, 1_048_575)), None)],
+        ),
+    ],
+    pages: &[
+        (0, Some((C, 0))),
+        (1_044_479, None),
+        (1_048_574, Some((B, 4094))),
+        (1_048_575, None),
+        (4_294_967_295, None),
+    ],
+};
+
+const CASES: &[Case] = &[BOTH_ENDS, HOLES, OVER_SEVERAL, NEIGHBOURS, ENDS];
 
 #[test]
-fn neighbours_are_not_merged(rt: HostRuntime) {
-    let pages = [(0, Some((A, 0))), (4, None), (5, Some((A, 5)))];
-    assert_rows(&rt, rt.alloc(), &NEIGHBOURS, &pages);
-}
-
-const ENDS: [(Request, &[Told]); 4] = [
-    (
-        Map(1_048_575, 1, A, 4095),
-        &[Made(1_048_575, 1_048_576, A, 4095)],
-    ),
-    (
-        Map(1_044_480, 4096, B, 0),
-        &[Gone(1_048_575, 1_048_576), Made(1_044_480, 1_048_576, B, 0)],
-    ),
-    (Map(0, 1, C, 0), &[Made(0, 1, C, 0)]),
-    (
-        Unmap(1_048_575, 1),
-        &[Kept(1_044_480, 1_048_576, Some((1_044_480, 1_048_575)), None)],
-    ),
-];
-
-const AT_ENDS: [(u32, Option<(BufId, u32)>); 5] = [
-    (0, Some((C, 0))),
-    (1_044_479, None),
-    (1_048_574, Some((B, 4094))),
-    (1_048_575, None),
-    (4_294_967_295, None),
-];
-
-#[test]
-fn ends_of_the_space(rt: HostRuntime) {
-    assert_rows(&rt, rt.alloc(), &ENDS, &AT_ENDS);
+fn requests_have_their_steps(rt: HostRuntime) {
+    let alloc = rt.alloc();
+    let rt = &rt;
+    for case in CASES {
+        assert_case(rt, alloc, case);
+    }
 }

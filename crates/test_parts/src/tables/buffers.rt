@@ -1,3 +1,4 @@
+use crate::wanted::{ensure, is_number};
 use bo_table::{Bo, BoTable};
 use journal_model::{Decl, Name};
 use std::alloc::Global;
@@ -59,29 +60,29 @@ fn three_from(rt: &impl Abort, alloc: Global, start: u32) -> Spans {
 
 /// A buffer, which is declared.
 fn lent<'a>(rt: &impl Abort, table: &'a BoTable, b: BufId) -> &'a Bo {
-    assert!(rt; (b.0 as usize) < table.len());
+    ensure(rt, (b.0 as usize) < table.len());
     table.get(b)
 }
 
 /// Reserves a buffer, which is declared and which nobody holds.
 fn reserve(rt: &impl Abort, table: &mut BoTable, b: BufId, stamp: Stamp) {
-    assert!(rt; (b.0 as usize) < table.len());
-    assert!(rt; table.get(b).resv.holder().is_none());
+    ensure(rt, (b.0 as usize) < table.len());
+    ensure(rt, table.get(b).resv.holder().is_none());
     table.reserve(b, stamp);
 }
 
 /// Pins a buffer, which is declared and can be pinned once more.
 fn pin(rt: &impl Abort, table: &mut BoTable, b: BufId) {
-    assert!(rt; (b.0 as usize) < table.len());
-    assert!(rt; table.get(b).pins < 255);
+    ensure(rt, (b.0 as usize) < table.len());
+    ensure(rt, table.get(b).pins < 255);
     table.pin(b);
 }
 
 /// Lets a job of context 0 use a buffer, which is declared.
 fn add_fence(rt: &impl Abort, table: &mut BoTable, b: BufId, num: u64) {
-    assert!(rt; (b.0 as usize) < table.len());
-    assert!(rt; 0 < table.get(b).resv.fences().contexts());
-    assert!(rt; 0 < num);
+    ensure(rt, (b.0 as usize) < table.len());
+    ensure(rt, 0 < table.get(b).resv.fences().contexts());
+    ensure(rt, 0 < num);
     table.add_fence(b, JobId { ctx: 0, num }, Usage::Write);
 }
 
@@ -108,20 +109,15 @@ fn take_change(rt: &impl Abort, alloc: Global, table: &mut BoTable, what: Change
     }
 }
 
-/// The buffer stands where it is to stand.
-fn assert_place(rt: &impl Abort, bo: &Bo, look: &Look) {
-    assert!(rt; bo.mem == look.mem);
-    assert!(rt; bo.spans.items().first().copied() == look.span);
-    assert!(rt; bo.table.frames() == look.frames);
-    assert!(rt; bo.table.first_unfilled() == look.unfilled);
-}
-
-/// The buffer lives, and is pinned and held as is wanted.
+/// The buffer lives, is pinned and held as is wanted, and stands where it is to stand.
 fn assert_seen(rt: &impl Abort, bo: &Bo, look: &Look) {
-    assert!(rt; bo.alive);
-    assert!(rt; bo.pins == look.pins);
-    assert!(rt; bo.resv.holder() == look.holder);
-    assert_place(rt, bo, look);
+    ensure(rt, bo.alive);
+    ensure(rt, bo.pins == look.pins);
+    ensure(rt, bo.resv.holder() == look.holder);
+    ensure(rt, bo.mem == look.mem);
+    ensure(rt, bo.spans.items().first().copied() == look.span);
+    ensure(rt, bo.table.frames() == look.frames);
+    is_number(rt, bo.table.first_unfilled(), look.unfilled);
 }
 
 /// A buffer in SYSTEM without pages to fill, which nobody pins or holds.
@@ -144,7 +140,7 @@ const AT_8: Option<Span> = Some(Span { start: 8, end: 11 });
 const AT_16: Option<Span> = Some(Span { start: 16, end: 19 });
 
 /// The changes of the second buffer's life, and what is to be seen after each.
-const LIFE: [(Change, Look); 25] = [
+const LIFE: &[(Change, Look)] = &[
     (
         Change::Make,
         Look {
@@ -362,19 +358,25 @@ fn two_buffers(rt: &impl Abort, alloc: Global) -> BoTable {
 /// The buffer is dead, and nobody pins it.
 fn assert_dead(rt: &impl Abort, table: &BoTable, b: BufId) {
     let bo = lent(rt, table, b);
-    assert!(rt; !bo.alive);
-    assert!(rt; bo.pins == 0);
+    ensure(rt, !bo.alive);
+    ensure(rt, bo.pins == 0);
+}
+
+/// After the change the second buffer is seen as is wanted.
+fn assert_step(rt: &impl Abort, alloc: Global, table: &mut BoTable, step: &(Change, Look)) {
+    take_change(rt, alloc, table, step.0);
+    assert_seen(rt, lent(rt, table, BufId(1)), &step.1);
 }
 
 #[test]
 fn life_of_a_buffer(rt: HostRuntime) {
-    let mut table = two_buffers(&rt, rt.alloc());
-    for (what, wanted) in &LIFE {
-        take_change(&rt, rt.alloc(), &mut table, *what);
-        assert_seen(&rt, lent(&rt, &table, BufId(1)), wanted);
+    let rt = &rt;
+    let mut table = two_buffers(rt, rt.alloc());
+    for step in LIFE {
+        assert_step(rt, rt.alloc(), &mut table, step);
     }
     table.kill(BufId(1));
-    assert_dead(&rt, &table, BufId(0));
-    assert_dead(&rt, &table, BufId(1));
+    assert_dead(rt, &table, BufId(0));
+    assert_dead(rt, &table, BufId(1));
     drop(table);
 }

@@ -19,7 +19,7 @@ new a
 end
 ";
 
-/// Reports, how many entries are read, the place behind them, and the entry from which on there are no more, with the rule that it breaks.
+/// Reports, how many entries are read, the place after them, and the entry from which on there are no more, with the rule that it breaks.
 const REPORTS: &[(&str, usize, usize, Option<(u64, Rule)>)] = &[
     (
         "report 1\njournal 2\n1 t1 new a\n2 t1 result ok\nresults\n",

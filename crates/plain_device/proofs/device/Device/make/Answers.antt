@@ -21,7 +21,7 @@ enact-made-requires-clause-short c = can_store c.self.inside.script (rules_of c.
 pub invariant_of-self-then-is_err : goal.invariant_of-self-then-is_err
 invariant_of-self-then-is_err c =
     held_same c.self.inside.script c.self.inside.journal c.self.inside.state c.self.inside.stores c.self.invariant
-    c.len-at.result c.push.new.self c.take_back.new.journal c.args.entry c.enact-made.new.state c.enact-made.new.stores c.len-at.ensures c.in_ok-push.ensures.ok c.take_back.ensures
+    c.len-at.result c.push.new.self c.remove.new.self c.args.entry c.enact-made.new.state c.enact-made.new.stores c.len-at.ensures c.in_ok-push.ensures.ok c.remove.ensures.left
     (of_err ((c.enact-made.new.state ≡ c.self.inside.state) × BecomesBytes c.self.inside.stores c.enact-made.new.stores (bytes_of c.self.inside.stores)) c.enact-made.result (sym c.is_err.ensures.value ∙ c.if-is_err.true) c.enact-made.ensures.err)
 
 pub invariant_of-self-else-is_err : goal.invariant_of-self-else-is_err

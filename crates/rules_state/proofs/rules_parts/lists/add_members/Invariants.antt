@@ -1,7 +1,0 @@
-use Rattle.std.proofs.Common.{◌≡◌, ◌++◌, take}
-use Rattle.std.specs.Prelude.{filter}
-use Rattle.journal_model.specs.Lists.{is_member}
-use Rattle.rules_state.proofs.rules_parts.lists.add_members.Given as goal
-
-abbrev pub invariant-loop-b : goal.invariant-loop-b
-invariant-loop-b l = l.found ≡ l.initial.found ++ filter (is_member l.script l.group) (take l.b-index l.list)

@@ -1,0 +1,162 @@
+//! A gate and a sink that tell whether workers were held as they should be, and whether a turn was taken after something was written.
+ghost use Rattle.std.specs.Prelude.{◌≡◌, ◌<◌, ◌≤◌, [], Some, length, take, IfOk, MatchResult};
+ghost use Rattle.std.specs.Io.KnownBytes.{append_known};
+ghost use Rattle.io_edge.specs.Faults.{faults_after};
+
+use io_edge::{Failed, MemSink, Sink};
+use std::io;
+use std::sync::atomic::Ordering::SeqCst;
+use std::sync::atomic::{AtomicBool, AtomicU64};
+use test_cases::{Case, Hold};
+use worker_pool::Gate;
+
+/// How often a worker looks for a flag at most.
+const MOST_LOOKS: u64 = 1_000_000_000;
+
+/// A flag that one worker raises and others wait for.
+#[derive(Drop)]
+struct Flag {
+    is_up: AtomicBool,
+    /// Some worker looked as often as it may.
+    is_missed: AtomicBool,
+}
+
+impl Flag {
+    fn new() -> Flag {
+        Flag {
+            is_up: AtomicBool::new(false),
+            is_missed: AtomicBool::new(false),
+        }
+    }
+
+    fn raise(&self) {
+        self.is_up.store(true, SeqCst);
+    }
+
+    fn wait(&self) {
+        for _look in 0..MOST_LOOKS {
+            if self.is_up.load(SeqCst) {
+                return;
+            }
+        }
+        self.is_missed.store(true, SeqCst);
+    }
+
+    /// Tells whether the flag was raised and no worker waited in vain.
+    fn is_met(&self) -> bool {
+        self.is_up.load(SeqCst) && !self.is_missed.load(SeqCst)
+    }
+}
+
+/// What was seen of turns and writes.
+#[derive(Drop)]
+pub struct Watch {
+    hold: Hold,
+    first: Flag,
+    second: Flag,
+    turns: AtomicU64,
+    writes: AtomicU64,
+    is_late: AtomicBool,
+}
+
+impl Watch {
+    /// A gate that holds workers so.
+    pub fn new(hold: Hold) -> Watch {
+        Watch {
+            hold,
+            first: Flag::new(),
+            second: Flag::new(),
+            turns: AtomicU64::new(0),
+            writes: AtomicU64::new(0),
+            is_late: AtomicBool::new(false),
+        }
+    }
+
+    /// Raises one flag, and waits for the other.
+    fn meet(&self, own: &Flag, other: &Flag) {
+        own.raise();
+        other.wait();
+    }
+
+    /// Holds a worker before this turn.
+    fn hold(&self, worker: u32, turn: u64) {
+        match (self.hold, worker, turn) {
+            (Hold::UntilTheyMeet, 1, 1) | (Hold::InBatchOfFirst, 1, 2) => self.meet(
+                &self.first,
+                &self.second,
+            ),
+            (Hold::UntilTheyMeet, 2, 1) => self.meet(&self.second, &self.first),
+            (Hold::UntilSeventhOf(ahead), _, 7) if worker == ahead => self.first.raise(),
+            (Hold::UntilSeventhOf(ahead), _, 1) if worker != ahead => self.first.wait(),
+            (Hold::InBatchOfFirst, _, 1) if worker != 1 => self.first.wait(),
+            (Hold::InBatchOfFirst, _, 3) if worker != 1 => self.second.raise(),
+            _ => {}
+        }
+    }
+
+    /// Tells whether each worker that was held was let go by the one that it waited for.
+    pub fn has_held(&self) -> bool {
+        match self.hold {
+            Hold::Nobody => true,
+            Hold::UntilSeventhOf(_) => self.first.is_met(),
+            Hold::UntilTheyMeet | Hold::InBatchOfFirst => self.first.is_met()
+                && self.second.is_met(),
+        }
+    }
+
+    /// Tells whether there were as many turns and something was written, and no turn after that.
+    fn came_last(&self, least: u64) -> bool {
+        self.turns.load(SeqCst) >= least
+            && self.writes.load(SeqCst) > 0
+            && !self.is_late.load(SeqCst)
+    }
+
+    /// Prints what was seen, if the case asks for it.
+    pub fn print(&self, rt: &impl Print, case: &Case) -> io::Result<()> {
+        if case.watched.is_none() {
+            return Ok(());
+        }
+        let turns = case.least_turns;
+        let held = self.has_held();
+        let last = self.came_last(turns);
+        println!(rt; "workers held: {held}, then written, after {turns} turns or more: {last}")
+    }
+}
+
+impl Gate for Watch {
+    fn before_turn(&self, worker: u32, turn: u64) {
+        self.turns.fetch_add(1, SeqCst);
+        if self.writes.load(SeqCst) > 0 {
+            self.is_late.store(true, SeqCst);
+        }
+        self.hold(worker, turn);
+    }
+}
+
+/// A sink that tells the watch of each write.
+#[derive(Drop)]
+pub struct WatchedSink<'a> {
+    pub sink: MemSink,
+    pub watch: &'a Watch,
+}
+
+impl<'a> Sink for WatchedSink<'a> {
+    ghost written = { λ s. Some s.sink.written };
+
+    ghost faults = { λ s. s.sink.faults };
+
+    ghost broken = { λ _. 0 };
+
+    fn write(&mut self, piece: &[u8]) -> Result<usize, Failed>
+        requires { 0 < length piece.now }
+        ensures some { IfOk result (λ n. 1 ≤ n) }
+        ensures bound { IfOk result (λ n. n ≤ length piece.now) }
+        ensures moved { MatchResult result
+            (λ n. Some self.new.sink.written ≡ append_known (Some self.old.sink.written) (take n piece.now))
+            (λ _. Some self.new.sink.written ≡ Some self.old.sink.written) }
+        ensures faults { self.new.sink.faults ≡ faults_after result self.old.sink.faults }
+    {
+        self.watch.writes.fetch_add(1, SeqCst);
+        self.sink.write(piece)
+    }
+}

@@ -1,6 +1,0 @@
-//! Tests of the report's parts on mappings.
-
-mod faults;
-mod followed;
-mod scripts;
-mod steps;
