@@ -2,20 +2,22 @@
 use denote.Param.Send.{IsSend, sendable, recorded_send, enum_send}
 use denote.Enum.Enum.{Enum}
 use denote.Enum.Declared.{shape}
+use denote.RattleType.{RattleType}
 use denote.Hole.{as_row}
 use denote.Model.Local.{Parts as Members, rows}
 use denote.Model.Goals.{send, has_of, part_has, one_law, tied_goals}
 use denote.Param.SendFields.{declared_send}
 use Rattle.std.proofs.Crossing.{crosses}
 use Rattle.std.proofs.MapsCrossing as maps
+use Rattle.hole_tree.specs.declared.sort.Side.{Ghosts}
+use Rattle.hole_tree.specs.contracts.sort.ByStart as ByStart
+use Rattle.hole_tree.specs.contracts.sort.ByStartSide.TheImpl as by_start
+use Rattle.hole_tree.specs.contracts.sort.ByLength as ByLength
+use Rattle.hole_tree.specs.contracts.sort.ByLengthSide.TheImpl as by_length
 use Rattle.hole_tree.specs.contracts.tree.Tree as Tree
 use Rattle.hole_tree.specs.contracts.tree.Tree.TheKnot as knot
 use Rattle.hole_tree.specs.declared.tree.Tree.TheDeep.{the_members, member-Tree}
 use Rattle.hole_tree.specs.contracts.tree.Node as Node
-use Rattle.hole_tree.specs.contracts.lengths.Lengths as Lengths
-use Rattle.hole_tree.specs.contracts.lengths.Lengths.TheKnot as by_length
-use Rattle.hole_tree.specs.declared.lengths.Lengths.TheDeep as in_lengths
-use Rattle.hole_tree.specs.contracts.lengths.Entry as HoleEntry
 use Rattle.hole_tree.specs.contracts.holes.Holes as Holes
 use Rattle.range_manager.specs.contracts.manager.RangeManager as RangeManager
 use Rattle.block_tree.specs.contracts.free_blocks.FreeBlocks as FreeBlocks
@@ -41,52 +43,51 @@ use Rattle.journal_model.specs.contracts.state.Course as Course
 use Rattle.room_representation.specs.contracts.parts.Ghost as Ghost
 use Rattle.room_representation.specs.contracts.parts.Parts as Parts
 
--- ---- holes: a node holds trees, so a tree may go where each tree that it holds may
+-- ---- holes: a node holds trees, so a tree may go where each tree that it holds may, and what a node keeps of a side
 
-node_at : (p : Members knot.frame) → IsSend (rows knot.frame p member-Tree) → IsSend (knot.at-Node p)
-node_at p s = search (sendable, crosses) depth 30
+module _ (S : RattleType) (g : Ghosts S.Denot) (side : IsSend S) where
+  node_at : (p : Members (knot.frame S g)) → IsSend (rows (knot.frame S g) p member-Tree) → IsSend (knot.at-Node S g p)
+  node_at p s = search (sendable, crosses) depth 30
 
-top_at : (p : Members knot.frame) → IsSend (knot.at-Node p) → IsSend (knot.at-Top p)
-top_at p s = search (sendable, crosses) depth 30
+  top_at : (p : Members (knot.frame S g)) → IsSend (knot.at-Node S g p) → IsSend (knot.at-Top S g p)
+  top_at p s = search (sendable, crosses) depth 30
 
-tree_at : (p : Members knot.frame) → IsSend (knot.at-Top p) → IsSend (knot.view-Tree p)
-tree_at p s = search (sendable, crosses) depth 30
+  tree_at : (p : Members (knot.frame S g)) → IsSend (knot.at-Top S g p) → IsSend (knot.view-Tree S g p)
+  tree_at p s = search (sendable, crosses) depth 30
 
-one_deeper : (p : Members knot.frame) → ((i : the_members) → IsSend (rows knot.frame p i)) → (i : the_members) → IsSend (rows knot.frame (knot.step p) i)
-one_deeper p all member-Tree = has_of knot.frame send (knot.step p) member-Tree (part_has send (knot.view-Tree p) (tree_at p (top_at p (node_at p (all member-Tree)))))
+  one_deeper : (p : Members (knot.frame S g)) → ((i : the_members) → IsSend (rows (knot.frame S g) p i)) → (i : the_members) → IsSend (rows (knot.frame S g) (knot.step S g p) i)
+  one_deeper p all member-Tree =
+      has_of (knot.frame S g) send (knot.step S g p) member-Tree (part_has send (knot.view-Tree S g p) (tree_at p (top_at p (node_at p (all member-Tree)))))
 
-members : (i : the_members) → IsSend (rows knot.frame knot.tied i)
-members = tied_goals knot.frame knot.step knot.sizes (one_law the_members send) one_deeper
+  members : (i : the_members) → IsSend (rows (knot.frame S g) (knot.tied S g) i)
+  members = tied_goals (knot.frame S g) (knot.step S g) (knot.sizes S g) (one_law the_members send) one_deeper
 
-tree : IsSend Tree.the_row
-tree = members member-Tree
+  tree : IsSend (Tree.the_row S g)
+  tree = members member-Tree
 
-node : IsSend Node.the_row
-node = search (sendable, crosses, tree) depth 30
+  node : IsSend (Node.the_row S g)
+  node = search (sendable, crosses, tree) depth 30
 
-entry_at : (p : Members by_length.frame) → IsSend (rows by_length.frame p in_lengths.member-Lengths) → IsSend (by_length.at-Entry p)
-entry_at p s = search (sendable, crosses) depth 30
+side_by_start : IsSend ByStart.the_row
+side_by_start = search (sendable, crosses) depth 30
 
-link_at : (p : Members by_length.frame) → IsSend (by_length.at-Entry p) → IsSend (by_length.at-Link p)
-link_at p s = search (sendable, crosses) depth 30
+tree_by_start : IsSend (Tree.the_row ByStart.the_row by_start.ghosts)
+tree_by_start = tree ByStart.the_row by_start.ghosts side_by_start
 
-lengths_at : (p : Members by_length.frame) → IsSend (by_length.at-Link p) → IsSend (by_length.view-Lengths p)
-lengths_at p s = search (sendable, crosses) depth 30
+node_by_start : IsSend (Node.the_row ByStart.the_row by_start.ghosts)
+node_by_start = node ByStart.the_row by_start.ghosts side_by_start
 
-entry_deeper : (p : Members by_length.frame) → ((i : in_lengths.the_members) → IsSend (rows by_length.frame p i)) → (i : in_lengths.the_members) → IsSend (rows by_length.frame (by_length.step p) i)
-entry_deeper p all in_lengths.member-Lengths = has_of by_length.frame send (by_length.step p) in_lengths.member-Lengths (part_has send (by_length.view-Lengths p) (lengths_at p (link_at p (entry_at p (all in_lengths.member-Lengths)))))
+side_by_length : IsSend ByLength.the_row
+side_by_length = search (sendable, crosses) depth 30
 
-by_length_members : (i : in_lengths.the_members) → IsSend (rows by_length.frame by_length.tied i)
-by_length_members = tied_goals by_length.frame by_length.step by_length.sizes (one_law in_lengths.the_members send) entry_deeper
+tree_by_length : IsSend (Tree.the_row ByLength.the_row by_length.ghosts)
+tree_by_length = tree ByLength.the_row by_length.ghosts side_by_length
 
-lengths : IsSend Lengths.the_row
-lengths = by_length_members in_lengths.member-Lengths
-
-hole_entry : IsSend HoleEntry.the_row
-hole_entry = search (sendable, crosses, lengths) depth 30
+node_by_length : IsSend (Node.the_row ByLength.the_row by_length.ghosts)
+node_by_length = node ByLength.the_row by_length.ghosts side_by_length
 
 holes : IsSend Holes.the_row
-holes = search (sendable, crosses, tree, node, lengths, hole_entry) depth 30
+holes = search (sendable, crosses, tree_by_start, node_by_start, tree_by_length, node_by_length) depth 30
 
 -- ---- the managers
 
