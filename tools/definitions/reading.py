@@ -21,21 +21,28 @@ KINDS: Dict[str, str] = {
 }  # fmt: skip
 
 
+def natural(word: str) -> int:
+    """Returns a natural number; definitions know no others."""
+    if not word.isdigit():
+        raise ValueError(word)
+    return int(word)
+
+
 class EntryReader:
     """Reads the entries of a script whose buffers have these names."""
 
     def __init__(self, names: List[str]) -> None:
         self.names = names
         self.fields: Dict[str, Callable[[str], Value]] = {
-            "number": int,
-            "stamp": lambda word: Record({"0": int(word)}),
+            "number": natural,
+            "stamp": lambda word: Record({"0": natural(word)}),
             "buffer": self.buffer,
             "memory": lambda word: Variant(MEMORIES[word]),
             "spans": self.spans,
-            "left": lambda word: Variant("Now") if word == "now" else Variant("Ghost", (int(word),)),
+            "left": lambda word: Variant("Now") if word == "now" else Variant("Ghost", (natural(word),)),
             "why": lambda word: Variant(REASONS[word]),
             "dry": self.dry,
-            "engine": lambda word: int(word[1:]),
+            "engine": lambda word: natural(word[1:]),
             "refusal": lambda word: Variant(REFUSALS[word]),
         }
 
@@ -67,7 +74,7 @@ class EntryReader:
     def actor(word: str) -> Variant:
         if word == "r":
             return Variant("Reaper")
-        return Variant({"t": "Thread", "e": "Engine"}[word[0]], (int(word[1:]),))
+        return Variant({"t": "Thread", "e": "Engine"}[word[0]], (natural(word[1:]),))
 
     def buffer(self, word: str) -> Record:
         return Record({"0": self.names.index(word)})
@@ -76,7 +83,7 @@ class EntryReader:
     def spans(word: str) -> List[Value]:
         if word == "-":
             return []
-        return [Record({"start": int(start), "end": int(end)}) for start, end in (span.split("-") for span in word.split(","))]
+        return [Record({"start": natural(start), "end": natural(end)}) for start, end in (span.split("-") for span in word.split(","))]
 
     def dry(self, word: str) -> Variant:
         if word == "short":
@@ -85,5 +92,5 @@ class EntryReader:
 
     def cause(self, word: str) -> Record:
         name, cause, *stamp = word.split(":")
-        arguments = (Record({"0": int(stamp[0])}),) if CAUSES[cause] == "Reserved" else ()
+        arguments = (Record({"0": natural(stamp[0])}),) if CAUSES[cause] == "Reserved" else ()
         return Record({"b": self.buffer(name), "cause": Variant(CAUSES[cause], arguments)})

@@ -87,6 +87,9 @@ class Verdicts(unittest.TestCase):
     def test_a_line_is_no_entry(self) -> None:
         self.assertEqual(self.verdict((b"\n23 t1 populate a 0 0\n", b"\n23 t1 populate a 0 00\n")), b"rejected: entry 23, rule 2\n")
 
+    def test_a_number_has_no_sign(self) -> None:
+        self.assertEqual(self.verdict((b"\n23 t1 populate a 0 0\n", b"\n23 t1 populate a 0 -1\n")), b"rejected: entry 23, rule 2\n")
+
     def test_an_entry_is_not_next(self) -> None:
         self.assertEqual(self.verdict((b"\n23 t1 populate a 0 0\n", b"\n23 t1 populate a 0 1\n")), b"rejected: entry 23, rule 3\n")
 
