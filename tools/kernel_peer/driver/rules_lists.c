@@ -5,15 +5,38 @@
 void __real_ttm_resource_move_to_lru_tail(struct ttm_resource *res);
 void __wrap_ttm_resource_move_to_lru_tail(struct ttm_resource *res);
 
+static struct ttm_lru_bulk_move_pos *range_of(struct ttm_resource *res)
+{
+	return &res->bo->bulk_move->pos[res->mem_type][res->bo->priority];
+}
+
+/*
+ * Tells whether no other member of the group stands in the list. In the kernel a target is a member from when it is taken; here a buffer on its
+ * way is in no list but the one that it leaves.
+ */
 static bool is_sole_member(struct ttm_resource *res)
 {
 	struct ttm_buffer_object *bo = res->bo;
-	struct ttm_lru_bulk_move_pos *pos;
+	struct ttm_resource *other, *last;
 
 	if (bo->pin_count || !bo->bulk_move)
 		return false;
-	pos = &bo->bulk_move->pos[res->mem_type][bo->priority];
-	return pos->first == res && pos->last == res;
+	last = range_of(res)->last;
+	for (other = range_of(res)->first; other; other = other == last ? NULL : next_on_list(other))
+		if (other != res && other->bo->resource == other)
+			return false;
+	return last;
+}
+
+/* Moves the group's range to the end of its list: an only member, which is the last in the range, and targets. */
+static void move_range_last(struct ttm_resource *res)
+{
+	struct ttm_resource *at = range_of(res)->first, *last = range_of(res)->last, *next;
+
+	for (; at; at = next) {
+		next = at == last ? NULL : next_on_list(at);
+		list_move_tail(lru_link(at), &ttm_manager_type(&device, res->mem_type)->lru[res->bo->priority]);
+	}
 }
 
 void __wrap_ttm_resource_move_to_lru_tail(struct ttm_resource *res)
@@ -26,10 +49,9 @@ void __wrap_ttm_resource_move_to_lru_tail(struct ttm_resource *res)
 		if (ours(RULE_SKIP))
 			return;
 	}
+	__real_ttm_resource_move_to_lru_tail(res);
 	if (ours(unpinned ? RULE_UNPIN : RULE_SOLE) && is_sole_member(res))
-		list_move_tail(lru_link(res), &ttm_manager_type(bo->bdev, res->mem_type)->lru[bo->priority]);
-	else
-		__real_ttm_resource_move_to_lru_tail(res);
+		move_range_last(res);
 }
 
 /*

@@ -25,4 +25,19 @@ static inline struct list_head *lru_link(struct ttm_resource *res)
 #endif
 }
 
+/* the resource after it in the list, which isn't the last */
+static inline struct ttm_resource *next_on_list(struct ttm_resource *res)
+{
+#ifdef PEER_KERNEL_6_12
+	struct ttm_lru_item *item = &res->lru;
+
+	do
+		item = list_next_entry(item, link);
+	while (!ttm_lru_item_is_res(item));
+	return ttm_lru_item_to_res(item);
+#else
+	return list_next_entry(res, lru);
+#endif
+}
+
 #endif
