@@ -5,7 +5,7 @@ use Rattle.std.specs.List.{list_all, list_any}
 use Rattle.std.proofs.lemmas.Bool.{ltb_from_iff}
 use Rattle.ttm_base.specs.declared.Loc.{Loc}
 use Rattle.ttm_base.specs.declared.Loc.TheVariants.{Frame, Slot, Zero}
-use Rattle.journal_model.specs.Places.{is_frame}
+use Rattle.journal_model.specs.rules.Places.{is_frame}
 use Rattle.bo_table.specs.Pages.{frame_count, has_no_frame, first_unfilled}
 
 counted : (places : List Loc) → list_any is_frame places ≡ true → 0 < frame_count places

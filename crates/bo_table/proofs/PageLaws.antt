@@ -7,8 +7,8 @@ use Rattle.std.specs.Prelude.{map, nat_lt, not, position, slice_get, slice_set, 
 use Rattle.std.specs.List.{position_or_len}
 use Rattle.ttm_base.specs.declared.Loc.{Loc}
 use Rattle.ttm_base.specs.declared.Loc.TheVariants.{Frame, Slot, Zero}
-use Rattle.journal_model.specs.Places.{is_frame}
-use Rattle.journal_model.specs.ApplyPages.{without_frame}
+use Rattle.journal_model.specs.rules.Places.{is_frame}
+use Rattle.journal_model.specs.rules.ApplyPages.{without_frame}
 use Rattle.bo_table.proofs.Setting.{length_set}
 use Rattle.bo_table.specs.Pages.{frame_count, first_filled, first_unfilled, IsCounted}
 

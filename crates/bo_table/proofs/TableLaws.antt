@@ -9,7 +9,7 @@ use Rattle.fence_core.specs.declared.fence_set.Latest.{Latest}
 use Rattle.fence_core.specs.Fences.{nothing_kept, added}
 use Rattle.journal_model.specs.declared.state.Buffer.{Buffer}
 use Rattle.journal_model.specs.declared.state.Reservation.{Reservation}
-use Rattle.journal_model.specs.State.{changed, live_in, reservation_changed, reservation_in, no_reservation, no_targets, new_buffer}
+use Rattle.journal_model.specs.rules.State.{changed, live_in, reservation_changed, reservation_in, no_reservation, no_targets, new_buffer}
 use Rattle.ttm_base.proofs.ListLaws.{set_same}
 use Rattle.bo_table.proofs.Setting.{set_beyond}
 use Rattle.ttm_base.specs.declared.Loc.{Loc}

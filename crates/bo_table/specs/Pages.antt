@@ -2,7 +2,7 @@
 use Rattle.std.specs.Prelude.{◌≡◌, ℕ, ◌<◌, ◌^◌, Bool, not, List, length}
 use Rattle.std.specs.List.{filter_map, position_or_len}
 use Rattle.ttm_base.specs.declared.Loc.{Loc}
-use Rattle.journal_model.specs.Places.{frame_of, is_frame}
+use Rattle.journal_model.specs.rules.Places.{frame_of, is_frame}
 
 -- a page that is to be filled
 abbrev pub has_no_frame : Loc → Bool

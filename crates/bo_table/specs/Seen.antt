@@ -9,8 +9,8 @@ use Rattle.fence_core.specs.Fences.{nothing_kept, added}
 use Rattle.journal_model.specs.declared.script.Decl.{Decl}
 use Rattle.journal_model.specs.declared.state.Buffer.{Buffer}
 use Rattle.journal_model.specs.declared.state.Reservation.{Reservation}
-use Rattle.journal_model.specs.State.{no_reservation, new_buffer, changed, reservation_changed, target_spans, with_target}
-use Rattle.journal_model.specs.ApplyMoves.{table_left}
+use Rattle.journal_model.specs.rules.State.{no_reservation, new_buffer, changed, reservation_changed, target_spans, with_target}
+use Rattle.journal_model.specs.rules.ApplyMoves.{table_left}
 use Rattle.bo_table.specs.declared.bo.Bo.{Bo}
 
 -- by declared number. Of all the fences of a buffer there are the latest job of each context and usage. A dead buffer has its pages and

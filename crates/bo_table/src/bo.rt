@@ -1,12 +1,12 @@
 #![tactic(auto)]
 
 ghost use Rattle.std.specs.Prelude.{◌≡◌, ◌<◌, [], Some, None, IfOk, unwrap_or, length};
-ghost use Rattle.journal_model.specs.State as words;
-ghost use Rattle.journal_model.specs.State.{new_buffer, target_of, with_target};
-ghost use Rattle.journal_model.specs.ApplyCommands.{with_holder, pinned_more, pinned_less};
-ghost use Rattle.journal_model.specs.ApplyPages.{without_frames, with_loc, with_spans, bound, unbound};
-ghost use Rattle.journal_model.specs.ApplyVictims.{leaves_tt};
-ghost use Rattle.journal_model.specs.ApplyMoves.{table_left};
+ghost use Rattle.journal_model.specs.rules.State as words;
+ghost use Rattle.journal_model.specs.rules.State.{new_buffer, target_of, with_target};
+ghost use Rattle.journal_model.specs.rules.ApplyCommands.{with_holder, pinned_more, pinned_less};
+ghost use Rattle.journal_model.specs.rules.ApplyPages.{without_frames, with_loc, with_spans, bound, unbound};
+ghost use Rattle.journal_model.specs.rules.ApplyVictims.{leaves_tt};
+ghost use Rattle.journal_model.specs.rules.ApplyMoves.{table_left};
 ghost use Rattle.bo_table.specs.Seen.{carried, IsDead, IsChanged, IsReservationChanged, IsReset, IsUsed};
 
 use crate::page_table::PageTable;

@@ -3,9 +3,9 @@
 ghost use Rattle.std.specs.Prelude.{◌≡◌, ◌+◌, ◌<◌, ◌≤◌, ◌^◌, IfOk, length, map, not, position, replicate, slice_set};
 ghost use Rattle.std.specs.List.{filter_map, list_all, list_any};
 ghost use Rattle.ttm_base.specs.declared.Loc.TheVariants as loc;
-ghost use Rattle.journal_model.specs.ApplyPages.{without_frame};
-ghost use Rattle.journal_model.specs.Places.{frame_of};
-ghost use Rattle.journal_model.specs.Places as words;
+ghost use Rattle.journal_model.specs.rules.ApplyPages.{without_frame};
+ghost use Rattle.journal_model.specs.rules.Places.{frame_of};
+ghost use Rattle.journal_model.specs.rules.Places as words;
 ghost use Rattle.bo_table.specs.Pages.{frame_count, first_filled, first_unfilled};
 
 use journal_model::Table;

@@ -2,10 +2,10 @@
 
 ghost use Rattle.std.specs.Prelude.{◌≡◌, ◌<◌, [], Some, None, IfOk, length, slice_get};
 ghost use Rattle.std.specs.Option.{ForSome};
-ghost use Rattle.journal_model.specs.State.{reservation_in};
-ghost use Rattle.journal_model.specs.ApplyCommands.{with_holder, pinned_more, pinned_less};
-ghost use Rattle.journal_model.specs.ApplyPages.{with_loc, with_spans, without_frames, bound, unbound};
-ghost use Rattle.journal_model.specs.ApplyVictims.{leaves_tt};
+ghost use Rattle.journal_model.specs.rules.State.{reservation_in};
+ghost use Rattle.journal_model.specs.rules.ApplyCommands.{with_holder, pinned_more, pinned_less};
+ghost use Rattle.journal_model.specs.rules.ApplyPages.{with_loc, with_spans, without_frames, bound, unbound};
+ghost use Rattle.journal_model.specs.rules.ApplyVictims.{leaves_tt};
 ghost use Rattle.bo_table.specs.Seen.{carried, first_bos, IsBo, with_made, with_killed, with_changed, with_reservation, with_use};
 
 use crate::bo::Bo;

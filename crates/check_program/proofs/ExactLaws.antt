@@ -2,11 +2,11 @@
 use Rattle.std.proofs.Common.{◌≡◌, ℕ, ◌<◌, ◌≤◌, ◌++◌, ◌⊎◌, true, inl, inr, Option, Some, None, IfSome, length, length-append, ap, sym, subst, ◌∙◌, refl, arith}
 use Rattle.std.specs.Io.KnownBytes.{prepend_known}
 use Rattle.journal_model.specs.declared.script.Script.{Script}
-use Rattle.journal_model.specs.Words.{Text}
-use Rattle.journal_model.specs.FirstFault.{first_fault}
-use Rattle.journal_model.specs.Verdict.{IsAccepted, IsRejected, check_limit, report_part, script_part}
-use Rattle.journal_model.specs.ReportText.{report}
-use Rattle.journal_model.specs.ScriptRules.{IsScript}
+use Rattle.journal_model.specs.scripts.Words.{Text}
+use Rattle.journal_model.specs.scripts.FirstFault.{first_fault}
+use Rattle.journal_model.specs.reports.Verdict.{IsAccepted, IsRejected, check_limit, report_part, script_part}
+use Rattle.journal_model.specs.reports.ReportText.{report}
+use Rattle.journal_model.specs.scripts.ScriptRules.{IsScript}
 use Rattle.law_legal.proofs.law_script.Story.{fault_where_no_script, one_value}
 use Rattle.law_legal.proofs.law_verdict.Law.{accepted_is_not_rejected, cut_reports_are_accepted, rejected_once}
 use Rattle.law_legal.proofs.law_verdict.ScriptLines.{scripts_are_cut_off}

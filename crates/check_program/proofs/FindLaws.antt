@@ -1,9 +1,9 @@
 -- What was found.
 use Rattle.std.proofs.Common.{◌≡◌, ◌≤◌, inl, length, subst}
 use Rattle.journal_model.specs.declared.script.Script.{Script}
-use Rattle.journal_model.specs.Words.{Text}
-use Rattle.journal_model.specs.Verdict.{IsAccepted, IsRejected, check_limit, report_part, script_part}
-use Rattle.journal_model.specs.ScriptRules.{IsScript}
+use Rattle.journal_model.specs.scripts.Words.{Text}
+use Rattle.journal_model.specs.reports.Verdict.{IsAccepted, IsRejected, check_limit, report_part, script_part}
+use Rattle.journal_model.specs.scripts.ScriptRules.{IsScript}
 use Rattle.entry_reader.specs.Rules.{number_of}
 use Rattle.program_edges.specs.Edges.{Edge, WasReadWhole}
 use Rattle.check_program.specs.declared.finding.Finding.{Finding}

@@ -3,9 +3,9 @@ use Rattle.std.proofs.Common.{◌≡◌, ℕ, ◌+◌, ◌<◌, ◌≤◌, Bool,
 use Rattle.std.proofs.Math.Seq.{take-add}
 use Rattle.std.proofs.lemmas.List.{append-nil, drop_all, length-take-le}
 use Rattle.std.proofs.lemmas.List.Concat.{flat_map-cons}
-use Rattle.journal_model.specs.Words.{Text}
-use Rattle.journal_model.specs.Cut.{lines_of}
-use Rattle.journal_model.specs.Verdict.{ends_script, report_lines, report_part, script_lines, script_part}
+use Rattle.journal_model.specs.scripts.Words.{Text}
+use Rattle.journal_model.specs.scripts.Cut.{lines_of}
+use Rattle.journal_model.specs.reports.Verdict.{ends_script, report_lines, report_part, script_lines, script_part}
 use Rattle.law_legal.proofs.law_verdict.Passes.{joined, lines_are}
 use Rattle.script_words.specs.Lines.{line_len}
 use Rattle.script_text.proofs.Lines.{first_line, line_len-within, line_len-some}

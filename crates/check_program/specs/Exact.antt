@@ -2,12 +2,12 @@
 use Rattle.std.specs.Prelude.{◌≡◌, ℕ, ◌<◌, ◌≤◌, ◌↔◌, ◌⊎◌, ◌++◌, Bool, true, false, List, Some, IsTrue, length}
 use Rattle.journal_model.specs.declared.script.Script.{Script}
 use Rattle.journal_model.specs.declared.entry.Entry.{Entry}
-use Rattle.journal_model.specs.Words.{Text}
-use Rattle.journal_model.specs.Legal.{IsLegal}
-use Rattle.journal_model.specs.Complete.{is_complete}
-use Rattle.journal_model.specs.ReportText.{report}
-use Rattle.journal_model.specs.Verdict.{check_limit, script_part}
-use Rattle.journal_model.specs.ScriptRules.{IsScript}
+use Rattle.journal_model.specs.scripts.Words.{Text}
+use Rattle.journal_model.specs.rules.Legal.{IsLegal}
+use Rattle.journal_model.specs.statements.Complete.{is_complete}
+use Rattle.journal_model.specs.reports.ReportText.{report}
+use Rattle.journal_model.specs.reports.Verdict.{check_limit, script_part}
+use Rattle.journal_model.specs.scripts.ScriptRules.{IsScript}
 use Rattle.program_edges.specs.declared.status.Status.{Status}
 use Rattle.program_edges.specs.declared.status.Status.TheVariants as status
 use Rattle.program_edges.specs.Edges.{Edge, IsWritten}

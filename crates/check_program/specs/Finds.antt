@@ -1,10 +1,10 @@
 -- What a source comes to that has a script and a report after it, and the text and the status that are due for that.
 use Rattle.std.specs.Prelude.{◌≡◌, ℕ, ◌+◌, ◌≤◌, ◌++◌, ◌∷◌, [], ◌⊎◌, Some, codes, decimal, length}
 use Rattle.journal_model.specs.declared.script.Script.{Script}
-use Rattle.journal_model.specs.Words.{Text, line}
-use Rattle.journal_model.specs.FirstFault.{first_fault}
-use Rattle.journal_model.specs.Verdict.{IsAccepted, IsRejected, check_limit, report_part, script_part}
-use Rattle.journal_model.specs.ScriptRules.{IsScript}
+use Rattle.journal_model.specs.scripts.Words.{Text, line}
+use Rattle.journal_model.specs.scripts.FirstFault.{first_fault}
+use Rattle.journal_model.specs.reports.Verdict.{IsAccepted, IsRejected, check_limit, report_part, script_part}
+use Rattle.journal_model.specs.scripts.ScriptRules.{IsScript}
 use Rattle.entry_reader.specs.declared.rule.Rule.{Rule}
 use Rattle.entry_reader.specs.declared.rule.Rule.TheVariants as rules
 use Rattle.entry_reader.specs.Rules.{number_of}

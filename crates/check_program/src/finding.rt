@@ -1,7 +1,7 @@
 //! What an input comes to.
 
 ghost use Rattle.std.specs.Prelude.{◌≡◌, IfOk, IsTrue, OnErr};
-ghost use Rattle.journal_model.specs.ScriptRules.{is_script};
+ghost use Rattle.journal_model.specs.scripts.ScriptRules.{is_script};
 ghost use Rattle.program_edges.specs.Edges.{Edge};
 ghost use Rattle.check_program.specs.Finds.{Finds, FindsIn, FindsReport, status_of};
 

@@ -1,7 +1,7 @@
 //! Where the script ends, and the report begins.
 
 ghost use Rattle.std.specs.Prelude.{◌≡◌, ◌≤◌, drop, length, take};
-ghost use Rattle.journal_model.specs.Verdict.{report_part, script_part};
+ghost use Rattle.journal_model.specs.reports.Verdict.{report_part, script_part};
 ghost use Rattle.script_words.specs.Lines.{line_len};
 
 use script_words::cut::len_of_line;

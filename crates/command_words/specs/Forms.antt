@@ -1,7 +1,7 @@
 -- The words that the program knows.
 use Rattle.std.specs.Prelude.{List, [], ◌∷◌, Option, Some, None, option_map, bytes_eq, codes, ◌&&◌, if◌then◌else◌}
-use Rattle.journal_model.specs.Words.{Text}
-use Rattle.journal_model.specs.Reading.{number_in}
+use Rattle.journal_model.specs.scripts.Words.{Text}
+use Rattle.journal_model.specs.scripts.Reading.{number_in}
 use Rattle.command_words.specs.declared.Form.{Form}
 use Rattle.command_words.specs.declared.Form.TheVariants as form
 

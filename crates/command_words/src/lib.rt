@@ -2,7 +2,7 @@
 #![tactic(auto)]
 
 ghost use Rattle.std.specs.Prelude.{◌≡◌, ◌++◌, ◌∷◌, [], ◌+◌, ◌*◌, ◌-◌, ◌==◌, min, OnOk, OnErr, bytes_eq, string_bytes};
-ghost use Rattle.journal_model.specs.Reading.{number_in, read_on};
+ghost use Rattle.journal_model.specs.scripts.Reading.{number_in, read_on};
 ghost use Rattle.command_words.specs.Forms.{form_of, form_of_word};
 
 use journal_model::Bytes;

@@ -6,8 +6,8 @@ use Rattle.ttm_base.specs.declared.PagePlace.{PagePlace}
 use Rattle.journal_model.specs.declared.script.Script.{Script}
 use Rattle.journal_model.specs.declared.script.Mark.{Mark}
 use Rattle.journal_model.specs.declared.script.MarkKind.TheVariants as mark
-use Rattle.journal_model.specs.State.{same_buffer}
-use Rattle.journal_model.specs.Commands.{decl}
+use Rattle.journal_model.specs.rules.State.{same_buffer}
+use Rattle.journal_model.specs.rules.Commands.{decl}
 use Rattle.cpu_maps.specs.declared.area.Area.{Area}
 
 -- ---- one mapping

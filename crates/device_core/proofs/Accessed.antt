@@ -16,16 +16,16 @@ use Rattle.journal_model.specs.declared.entry.Entry.{Entry}
 use Rattle.journal_model.specs.declared.entry.Kind.{Kind}
 use Rattle.journal_model.specs.declared.entry.Kind.TheVariants as kind
 use Rattle.journal_model.specs.declared.entry.Shown.{Shown}
-use Rattle.journal_model.specs.Apply.{applied}
-use Rattle.journal_model.specs.Commands.{decl}
-use Rattle.journal_model.specs.CommandRules.{is_between, is_byte, is_command, is_declared, is_range_of}
-use Rattle.journal_model.specs.Complete.{is_answer, is_by_thread}
-use Rattle.journal_model.specs.Legal.{IsLegal, IsLegalNext, first_world, state_of, stores_of, world_of}
-use Rattle.journal_model.specs.Mapped.{Access, access_of, meets_page, peek_or_poke}
-use Rattle.journal_model.specs.Next.{next}
-use Rattle.journal_model.specs.ScriptRules.{is_script}
-use Rattle.journal_model.specs.State.{buffer, course, course_of, live_in, new_buffer, new_course}
-use Rattle.journal_model.specs.Stores.{Stores, showing}
+use Rattle.journal_model.specs.rules.Apply.{applied}
+use Rattle.journal_model.specs.rules.Commands.{decl}
+use Rattle.journal_model.specs.scripts.CommandRules.{is_between, is_byte, is_command, is_declared, is_range_of}
+use Rattle.journal_model.specs.statements.Complete.{is_answer, is_by_thread}
+use Rattle.journal_model.specs.rules.Legal.{IsLegal, IsLegalNext, first_world, state_of, stores_of, world_of}
+use Rattle.journal_model.specs.marks.Mapped.{Access, access_of, meets_page, peek_or_poke}
+use Rattle.journal_model.specs.rules.Next.{next}
+use Rattle.journal_model.specs.scripts.ScriptRules.{is_script}
+use Rattle.journal_model.specs.rules.State.{buffer, course, course_of, live_in, new_buffer, new_course}
+use Rattle.journal_model.specs.rules.Stores.{Stores, showing}
 use Rattle.laws.proofs.law_state.JournalCourses.{one_more_if, own_answered, thread_is_there}
 use Rattle.laws.proofs.law_state.Rules.{Rules, declared_pages, rules_of}
 use Rattle.laws.proofs.law_state.Shown.{LegalStep, legal_step}

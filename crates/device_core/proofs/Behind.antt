@@ -8,9 +8,9 @@ use Rattle.journal_model.specs.declared.script.Script.{Script}
 use Rattle.journal_model.specs.declared.entry.Entry.{Entry}
 use Rattle.journal_model.specs.declared.state.Reservation.{Reservation}
 use Rattle.journal_model.specs.declared.state.State.{State}
-use Rattle.journal_model.specs.Legal.{IsLegal, state_of}
-use Rattle.journal_model.specs.ScriptRules.{is_script}
-use Rattle.journal_model.specs.State.{buffer, course, course_of}
+use Rattle.journal_model.specs.rules.Legal.{IsLegal, state_of}
+use Rattle.journal_model.specs.scripts.ScriptRules.{is_script}
+use Rattle.journal_model.specs.rules.State.{buffer, course, course_of}
 use Rattle.cpu_maps.specs.declared.area.Area.{Area}
 use Rattle.law_legal.specs.law_maps.Following.{areas_behind}
 use Rattle.laws.proofs.law_state.GoodStates.{good_law}

@@ -8,7 +8,7 @@ use Rattle.room_representation.specs.Bos.{AreBos, unfenced}
 use Rattle.journal_model.specs.declared.script.Script.{Script}
 use Rattle.journal_model.specs.declared.state.Buffer.{Buffer}
 use Rattle.journal_model.specs.declared.state.Reservation.{Reservation}
-use Rattle.journal_model.specs.State.{live_in}
+use Rattle.journal_model.specs.rules.State.{live_in}
 use Rattle.cpu_maps.specs.declared.area.Area.{Area}
 use Rattle.map_follow.specs.declared.found.Found.{Found}
 use Rattle.map_follow.specs.Founds.{with_found}

@@ -19,14 +19,14 @@ use Rattle.journal_model.specs.declared.state.Task.TheVariants as task
 use Rattle.journal_model.specs.declared.entry.Entry.{Entry}
 use Rattle.journal_model.specs.declared.entry.Kind.{Kind}
 use Rattle.journal_model.specs.declared.entry.Kind.TheVariants as kind
-use Rattle.journal_model.specs.State.{course}
-use Rattle.journal_model.specs.ScriptRules.{is_script}
-use Rattle.journal_model.specs.Next.{next}
-use Rattle.journal_model.specs.Apply.{applied}
-use Rattle.journal_model.specs.ApplyJobs.{after_done, changed_job}
-use Rattle.journal_model.specs.Stores.{Stores, showing}
-use Rattle.journal_model.specs.Waits.{same_job}
-use Rattle.journal_model.specs.Legal.{World, state_of, world_of, IsLegal, IsLegalFrom, IsLegalNext}
+use Rattle.journal_model.specs.rules.State.{course}
+use Rattle.journal_model.specs.scripts.ScriptRules.{is_script}
+use Rattle.journal_model.specs.rules.Next.{next}
+use Rattle.journal_model.specs.rules.Apply.{applied}
+use Rattle.journal_model.specs.rules.ApplyJobs.{after_done, changed_job}
+use Rattle.journal_model.specs.rules.Stores.{Stores, showing}
+use Rattle.journal_model.specs.rules.Waits.{same_job}
+use Rattle.journal_model.specs.rules.Legal.{World, state_of, world_of, IsLegal, IsLegalFrom, IsLegalNext}
 use Rattle.journal_model.proofs.JournalLaws.{world_of-append, IsLegal-append}
 use Rattle.laws.specs.law_state.GoodState.{last_number}
 use Rattle.laws.proofs.law_state.JournalCourses.{is_of_reaper, of_reaper}

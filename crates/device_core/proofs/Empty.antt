@@ -13,7 +13,7 @@ use Rattle.journal_model.specs.declared.state.State.{State}
 use Rattle.journal_model.specs.declared.entry.Entry.{Entry}
 use Rattle.journal_model.specs.declared.entry.Kind.{Kind}
 use Rattle.journal_model.specs.declared.entry.Kind.TheVariants as kind
-use Rattle.journal_model.specs.State.{course}
+use Rattle.journal_model.specs.rules.State.{course}
 use Rattle.cpu_maps.specs.declared.area.Area.{Area}
 use Rattle.law_legal.specs.law_maps.Following.{areas_behind}
 use Rattle.map_follow.specs.declared.found.Found.{Found}

@@ -5,10 +5,10 @@ use Rattle.ttm_base.specs.declared.Actor.{Actor}
 use Rattle.ttm_base.specs.declared.Need.{Need}
 use Rattle.ttm_base.specs.Pages.{Page}
 use Rattle.journal_model.specs.declared.entry.Entry.{Entry}
-use Rattle.journal_model.specs.Legal.{IsLegal, made_of, state_of}
-use Rattle.journal_model.specs.Mapped.{Mapping, count_answers, is_through, mapped_entry, mappings}
-use Rattle.journal_model.specs.MarkLaws.{MapsAreRight}
-use Rattle.journal_model.specs.Places.{place_of}
+use Rattle.journal_model.specs.rules.Legal.{IsLegal, made_of, state_of}
+use Rattle.journal_model.specs.marks.Mapped.{Mapping, count_answers, is_through, mapped_entry, mappings}
+use Rattle.journal_model.specs.statements.MarkLaws.{MapsAreRight}
+use Rattle.journal_model.specs.rules.Places.{place_of}
 use Rattle.journal_model.proofs.JournalLaws.{IsLegal-append}
 use Rattle.laws.proofs.law_state.Turns.{next_is_legal}
 use Rattle.law_legal.specs.law_maps.Following.{page_there}

@@ -5,9 +5,9 @@ use Rattle.ttm_base.specs.declared.Need.{Need}
 use Rattle.ttm_base.specs.declared.Turn.{Turn}
 use Rattle.ttm_base.specs.declared.Turn.TheVariants as turn
 use Rattle.journal_model.specs.declared.entry.Entry.{Entry}
-use Rattle.journal_model.specs.Complete.{is_complete}
-use Rattle.journal_model.specs.DeadEnd.{can_step}
-use Rattle.journal_model.specs.Scheduled.{own_order}
+use Rattle.journal_model.specs.statements.Complete.{is_complete}
+use Rattle.journal_model.specs.statements.DeadEnd.{can_step}
+use Rattle.journal_model.specs.statements.Scheduled.{own_order}
 pub use Rattle.room_state.specs.room_turns.Turns.{Kept, state_behind, world_behind, with_entry, entry_of, after_step}
 
 -- the answer to a turn of an actor whose next entry is this one, or that needs this, where the journal isn't complete

@@ -2,9 +2,9 @@
 use Rattle.std.specs.Prelude.{◌≡◌, ℕ, List, Some, IsTrue}
 use Rattle.ttm_base.specs.declared.BufId.{BufId}
 use Rattle.ttm_base.specs.declared.PagePlace.{PagePlace}
-use Rattle.journal_model.specs.Legal.{IsLegal, made_of}
-use Rattle.journal_model.specs.Places.{place_of}
-use Rattle.journal_model.specs.ScriptRules.{is_script}
+use Rattle.journal_model.specs.rules.Legal.{IsLegal, made_of}
+use Rattle.journal_model.specs.rules.Places.{place_of}
+use Rattle.journal_model.specs.scripts.ScriptRules.{is_script}
 use Rattle.cpu_maps.specs.declared.area.Area.{Area}
 use Rattle.cpu_maps.specs.Areas.{entry_in}
 use Rattle.law_legal.specs.law_maps.Following.{page_there}

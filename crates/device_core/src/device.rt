@@ -1,9 +1,9 @@
 ghost use Rattle.std.specs.Prelude.{◌≡◌, ◌↔◌, [], false, IfOk, OnOk, OnErr, IsTrue, find};
-ghost use Rattle.journal_model.specs.ScriptRules.{is_script};
-ghost use Rattle.journal_model.specs.Complete.{is_complete};
-ghost use Rattle.journal_model.specs.Legal.{IsLegal, made_of, state_of};
-ghost use Rattle.journal_model.specs.MarkLaws.{MapsAreRight};
-ghost use Rattle.journal_model.specs.Transparent.{IsTransparent};
+ghost use Rattle.journal_model.specs.scripts.ScriptRules.{is_script};
+ghost use Rattle.journal_model.specs.statements.Complete.{is_complete};
+ghost use Rattle.journal_model.specs.rules.Legal.{IsLegal, made_of, state_of};
+ghost use Rattle.journal_model.specs.statements.MarkLaws.{MapsAreRight};
+ghost use Rattle.journal_model.specs.rules.Transparent.{IsTransparent};
 ghost use Rattle.map_follow.specs.Follows.{KnowExactly};
 ghost use Rattle.room_state.specs.room_turns.Turns.{step_of};
 ghost use Rattle.laws.specs.law_sound.Sound.{SomeGoesOn};

@@ -1,7 +1,7 @@
 //! Mappings of buffers by the CPU follow the entries of the rooms.
 ghost use Rattle.std.specs.Prelude.{◌≡◌, ◌∷◌, ◌++◌, List, [], Some};
 ghost use Rattle.journal_model.specs.declared.entry.Entry.{Entry as OneEntry};
-ghost use Rattle.journal_model.specs.Legal.{state_of};
+ghost use Rattle.journal_model.specs.rules.Legal.{state_of};
 ghost use Rattle.map_follow.specs.Follows as words;
 ghost use Rattle.map_follow.specs.Laws.{areas_after};
 

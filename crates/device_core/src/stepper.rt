@@ -27,7 +27,7 @@ impl Logged for Device {
 }
 
 impl Stepper for Device {
-    ghost use Rattle.journal_model.specs.Complete.{is_complete};
+    ghost use Rattle.journal_model.specs.statements.Complete.{is_complete};
 
     ghost is_over = { is_complete };
 

@@ -10,13 +10,13 @@ use Rattle.journal_model.specs.declared.entry.DryWhy.TheVariants as dry
 use Rattle.journal_model.specs.declared.entry.CauseRow.{CauseRow}
 use Rattle.journal_model.specs.declared.entry.Cause.{Cause}
 use Rattle.journal_model.specs.declared.entry.Cause.TheVariants as cause
-use Rattle.journal_model.specs.Words.{Text, listed, name_of}
-use Rattle.journal_model.specs.EntryText.{cause_row_word, cause_word, dry_word}
-use Rattle.journal_model.specs.Cut.{cut_at}
-use Rattle.journal_model.specs.CommandRules.{is_declared}
-use Rattle.journal_model.specs.ScriptRules.{is_letter, is_letter_or_digit, is_name, is_script}
-use Rattle.journal_model.specs.Readable.{is_cause, is_cause_row, is_dry_why}
-use Rattle.journal_model.specs.Reading.{known, names_of}
+use Rattle.journal_model.specs.scripts.Words.{Text, listed, name_of}
+use Rattle.journal_model.specs.reports.EntryText.{cause_row_word, cause_word, dry_word}
+use Rattle.journal_model.specs.scripts.Cut.{cut_at}
+use Rattle.journal_model.specs.scripts.CommandRules.{is_declared}
+use Rattle.journal_model.specs.scripts.ScriptRules.{is_letter, is_letter_or_digit, is_name, is_script}
+use Rattle.journal_model.specs.scripts.Readable.{is_cause, is_cause_row, is_dry_why}
+use Rattle.journal_model.specs.scripts.Reading.{known, names_of}
 use Rattle.law_legal.proofs.law_items.Tests.{both, joint}
 use Rattle.law_legal.proofs.law_script.CutLaws.{cut_again, joined, lacks}
 use Rattle.law_legal.proofs.law_script.WordLaws.{bytes_are}

@@ -11,15 +11,15 @@ use Rattle.journal_model.specs.declared.line.ActorWord.{ActorWord}
 use Rattle.journal_model.specs.declared.line.ActorWord.TheVariants as read_as
 use Rattle.journal_model.specs.declared.entry.Entry.{Entry}
 use Rattle.journal_model.specs.declared.entry.Kind.{Kind}
-use Rattle.journal_model.specs.Words.{Text, actor_word, line, spaced}
-use Rattle.journal_model.specs.EntryText.{entry_line, kind_words}
-use Rattle.journal_model.specs.Cut.{cut_at}
-use Rattle.journal_model.specs.FirstFault.{ends_line, is_line_feed, without_end}
-use Rattle.journal_model.specs.CommandRules.{is_between}
-use Rattle.journal_model.specs.ScriptRules.{is_actor, is_script}
-use Rattle.journal_model.specs.Readable.{is_kind, is_readable, is_some_actor, is_u64}
-use Rattle.journal_model.specs.Reading.{actor_of, engine_actor, is_plain, names_of, read_on, thread_actor}
-use Rattle.journal_model.specs.Verdict.{IsEntryText, has_actor}
+use Rattle.journal_model.specs.scripts.Words.{Text, actor_word, line, spaced}
+use Rattle.journal_model.specs.reports.EntryText.{entry_line, kind_words}
+use Rattle.journal_model.specs.scripts.Cut.{cut_at}
+use Rattle.journal_model.specs.scripts.FirstFault.{ends_line, is_line_feed, without_end}
+use Rattle.journal_model.specs.scripts.CommandRules.{is_between}
+use Rattle.journal_model.specs.scripts.ScriptRules.{is_actor, is_script}
+use Rattle.journal_model.specs.scripts.Readable.{is_kind, is_readable, is_some_actor, is_u64}
+use Rattle.journal_model.specs.scripts.Reading.{actor_of, engine_actor, is_plain, names_of, read_on, thread_actor}
+use Rattle.journal_model.specs.reports.Verdict.{IsEntryText, has_actor}
 use Rattle.law_legal.proofs.law_items.Tests.{both, joint, lt_is, is_le}
 use Rattle.law_legal.proofs.law_script.CutLaws.{cut_again, lacks}
 use Rattle.law_legal.proofs.law_script.TextLaws.{text_is_line}

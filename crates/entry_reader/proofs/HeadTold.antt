@@ -6,11 +6,11 @@ use Rattle.std.proofs.lemmas.Bool.{eqb-true}
 use Rattle.std.proofs.lemmas.Bool.Decides.{nat_tests}
 use Rattle.std.proofs.lemmas.List.{length-take-le, take-append-drop}
 use Rattle.journal_model.specs.declared.script.Script.{Script}
-use Rattle.journal_model.specs.Words.{Text, line, spaced}
-use Rattle.journal_model.specs.Cut.{cut_at, lines_of, onto}
-use Rattle.journal_model.specs.FirstFault.{ends_line, without_end}
-use Rattle.journal_model.specs.ReportText.{report_head}
-use Rattle.journal_model.specs.Readable.{is_u64}
+use Rattle.journal_model.specs.scripts.Words.{Text, line, spaced}
+use Rattle.journal_model.specs.scripts.Cut.{cut_at, lines_of, onto}
+use Rattle.journal_model.specs.scripts.FirstFault.{ends_line, without_end}
+use Rattle.journal_model.specs.reports.ReportText.{report_head}
+use Rattle.journal_model.specs.scripts.Readable.{is_u64}
 use Rattle.script_words.specs.Lines.{line_len}
 use Rattle.law_legal.proofs.law_items.Tests.{and_true, joint}
 use Rattle.law_legal.proofs.law_script.WordLaws.{bytes_are}

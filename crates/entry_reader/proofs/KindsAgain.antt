@@ -6,12 +6,12 @@ use Rattle.journal_model.specs.declared.script.Script.{Script}
 use Rattle.journal_model.specs.declared.entry.Kind.{Kind}
 use Rattle.journal_model.specs.declared.entry.Kind.TheVariants as kind
 use Rattle.journal_model.specs.declared.entry.Shown.TheVariants as shown
-use Rattle.journal_model.specs.Words.{hex, mem_word, name_of, spans_word}
-use Rattle.journal_model.specs.EntryText.{deny_word, dry_word, kind_words, left_word, why_word}
-use Rattle.journal_model.specs.CommandRules.{is_declared}
-use Rattle.journal_model.specs.ScriptRules.{is_script}
-use Rattle.journal_model.specs.Readable.{are_bytes, is_dry_why, is_kind, is_left, is_span, is_u32, is_u64}
-use Rattle.journal_model.specs.Reading.{bytes_in_hex, known, mem_of, names_of}
+use Rattle.journal_model.specs.scripts.Words.{hex, mem_word, name_of, spans_word}
+use Rattle.journal_model.specs.reports.EntryText.{deny_word, dry_word, kind_words, left_word, why_word}
+use Rattle.journal_model.specs.scripts.CommandRules.{is_declared}
+use Rattle.journal_model.specs.scripts.ScriptRules.{is_script}
+use Rattle.journal_model.specs.scripts.Readable.{are_bytes, is_dry_why, is_kind, is_left, is_span, is_u32, is_u64}
+use Rattle.journal_model.specs.scripts.Reading.{bytes_in_hex, known, mem_of, names_of}
 use Rattle.law_legal.proofs.law_items.Tests.{both}
 use Rattle.law_legal.proofs.law_script.AgainLaws.{bytes_again}
 use Rattle.law_legal.proofs.law_script.WordLaws.{mem_again}

@@ -7,11 +7,11 @@ use Rattle.journal_model.specs.declared.script.Script.{Script}
 use Rattle.journal_model.specs.declared.entry.Kind.{Kind}
 use Rattle.journal_model.specs.declared.entry.Kind.TheVariants as kind
 use Rattle.journal_model.specs.declared.entry.Shown.TheVariants as shown
-use Rattle.journal_model.specs.Words.{Text, name_of}
-use Rattle.journal_model.specs.EntryText.{kind_words, piece_words}
-use Rattle.journal_model.specs.CommandRules.{is_declared}
-use Rattle.journal_model.specs.Readable.{are_bytes, is_dry_why, is_kind, is_left, is_span, is_u32, is_u64}
-use Rattle.journal_model.specs.Reading.{bytes_in_hex, known, mem_of, names_of}
+use Rattle.journal_model.specs.scripts.Words.{Text, name_of}
+use Rattle.journal_model.specs.reports.EntryText.{kind_words, piece_words}
+use Rattle.journal_model.specs.scripts.CommandRules.{is_declared}
+use Rattle.journal_model.specs.scripts.Readable.{are_bytes, is_dry_why, is_kind, is_left, is_span, is_u32, is_u64}
+use Rattle.journal_model.specs.scripts.Reading.{bytes_in_hex, known, mem_of, names_of}
 use Rattle.law_legal.proofs.law_items.Tests.{joint}
 use Rattle.law_legal.proofs.law_script.WordLaws.{bytes_are}
 use Rattle.entry_reader.specs.EntryReading.{buffer_kind, deny_of, dry_of, engine_of, find_kind, kind_of, kind_of_four, kind_of_one, kind_of_three, kind_of_two, left_of, list_of, on_buffer, page_kind, pair_kind, piece_of, plain_kind, read_kind, span_of, u32_of, u64_of, why_of, with_four, with_three, with_two}

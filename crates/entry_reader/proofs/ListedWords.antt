@@ -1,7 +1,7 @@
 -- The words of a list that is so long, by what reading each of them answers.
 use Rattle.std.proofs.Common.{◌≡◌, ◌≤◌, ◌<◌, List, [], ◌∷◌, length, refl, ap, ◌∙◌, arith}
 use Rattle.std.specs.Prelude.{get_or}
-use Rattle.journal_model.specs.Words.{Text}
+use Rattle.journal_model.specs.scripts.Words.{Text}
 
 cons : {a b : Text} {xs ys : List Text} → a ≡ b → xs ≡ ys → a ∷ xs ≡ b ∷ ys
 cons {b = b} {xs = xs} e f = ap (λ x. x ∷ xs) e ∙ ap (λ x. b ∷ x) f

@@ -2,8 +2,8 @@
 use Rattle.std.proofs.Common.{◌≡◌, ℕ, ◌<◌, Bool, true, false, cond, eqb, List, [], ◌∷◌, ◌++◌, length, map, Option, Some, refl, ap, sym, ◌∙◌, arith, bytes_eq}
 use Rattle.std.specs.Prelude.{◌&&◌, ◌||◌, not, codes}
 use Rattle.std.specs.List.{join_with_byte, list_all, list_any}
-use Rattle.journal_model.specs.Words.{Text, listed}
-use Rattle.journal_model.specs.Cut.{cut_at}
+use Rattle.journal_model.specs.scripts.Words.{Text, listed}
+use Rattle.journal_model.specs.scripts.Cut.{cut_at}
 use Rattle.law_legal.proofs.law_items.Tests.{either, both, joint}
 use Rattle.law_legal.proofs.law_script.WordLaws.{bytes_are}
 use Rattle.law_legal.proofs.law_script.CutLaws.{cut_some, joined, cut_again, lacks}

@@ -1,7 +1,7 @@
 -- Numbers by their digits.
 use Rattle.std.proofs.Common.{◌≡◌, ℕ, ◌+◌, ◌-◌, ◌*◌, List, ◌<◌, min, length, take, get_or, ap, sym, ◌∙◌, add-one, arith}
 use Rattle.std.proofs.Math.Seq.{take-suc}
-use Rattle.journal_model.specs.Reading.{read_on}
+use Rattle.journal_model.specs.scripts.Reading.{read_on}
 use Rattle.script_words.proofs.Numbers.{read_on_more_is}
 
 -- what is above the bound stays above it

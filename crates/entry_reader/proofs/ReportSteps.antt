@@ -7,10 +7,10 @@ use Rattle.std.proofs.lemmas.List.Concat.{flat_map-cons}
 use Rattle.std.proofs.lemmas.Grind.{flat_map-append}
 use Rattle.journal_model.specs.declared.script.Script.{Script}
 use Rattle.journal_model.specs.declared.entry.Entry.{Entry}
-use Rattle.journal_model.specs.Words.{Text, actor_word, spaced}
-use Rattle.journal_model.specs.EntryText.{entry_line, kind_words}
-use Rattle.journal_model.specs.Cut.{lines_of}
-use Rattle.journal_model.specs.Verdict.{AreEntryTexts, HasHead, IsEntryText}
+use Rattle.journal_model.specs.scripts.Words.{Text, actor_word, spaced}
+use Rattle.journal_model.specs.reports.EntryText.{entry_line, kind_words}
+use Rattle.journal_model.specs.scripts.Cut.{lines_of}
+use Rattle.journal_model.specs.reports.Verdict.{AreEntryTexts, HasHead, IsEntryText}
 use Rattle.script_words.specs.Lines.{line_len}
 use Rattle.entry_reader.specs.Parsing.{HasEntries, IsCut, IsHead, IsWhole, head_text, text_to}
 use Rattle.entry_reader.proofs.HeadTold.{first_is, first_length, first_line, line_len_within}

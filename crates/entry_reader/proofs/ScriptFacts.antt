@@ -3,10 +3,10 @@ use Rattle.std.proofs.Common.{◌≡◌, ◌≤◌, ◌^◌, Bool, true, length,
 use Rattle.std.specs.Prelude.{◌&&◌, nat_le, sum_by}
 use Rattle.std.specs.List.{list_all}
 use Rattle.journal_model.specs.declared.script.Script.{Script}
-use Rattle.journal_model.specs.CommandRules.{command_len, is_between, is_command}
-use Rattle.journal_model.specs.ScriptRules.{has_distinct_names, has_sizes, is_decl, is_script, is_turn_line}
-use Rattle.journal_model.specs.MarkRules.{have_marks}
-use Rattle.journal_model.specs.Readable.{is_u64}
+use Rattle.journal_model.specs.scripts.CommandRules.{command_len, is_between, is_command}
+use Rattle.journal_model.specs.scripts.ScriptRules.{has_distinct_names, has_sizes, is_decl, is_script, is_turn_line}
+use Rattle.journal_model.specs.scripts.MarkRules.{have_marks}
+use Rattle.journal_model.specs.scripts.Readable.{is_u64}
 use Rattle.law_legal.proofs.law_items.Tests.{both, le_is, lt_is}
 use Rattle.law_legal.proofs.law_script.NamesAgain.{IsNamed}
 use Rattle.law_legal.proofs.law_script.NumberLaws.{between}

@@ -2,10 +2,10 @@
 use Rattle.std.proofs.Common.{◌≡◌, ℕ, suc, ◌+◌, ◌≤◌, List, [], ◌∷◌, ◌++◌, length, drop, refl, ap, sym, subst, ◌∙◌, arith, append_assoc, length-append}
 use Rattle.journal_model.specs.declared.script.Script.{Script}
 use Rattle.journal_model.specs.declared.entry.Entry.{Entry}
-use Rattle.journal_model.specs.Words.{Text}
-use Rattle.journal_model.specs.Cut.{lines_of}
-use Rattle.journal_model.specs.Legal.{IsLegal}
-use Rattle.journal_model.specs.Verdict.{AreEntryTexts, HasHead, IsEntryText, IsRejected, IsRightTo, TellsNext, no_entry}
+use Rattle.journal_model.specs.scripts.Words.{Text}
+use Rattle.journal_model.specs.scripts.Cut.{lines_of}
+use Rattle.journal_model.specs.rules.Legal.{IsLegal}
+use Rattle.journal_model.specs.reports.Verdict.{AreEntryTexts, HasHead, IsEntryText, IsRejected, IsRightTo, TellsNext, no_entry}
 use Rattle.entry_reader.specs.Parsing.{HasEntries, IsCut}
 
 append_same : (a b x y : List Text) → length a ≡ length b → a ++ x ≡ b ++ y → x ≡ y

@@ -4,9 +4,9 @@ use Rattle.std.specs.Prelude.{◌||◌, not, option_map}
 use Rattle.std.specs.List.{list_any}
 use Rattle.std.proofs.lemmas.List.{append-nil}
 use Rattle.journal_model.specs.declared.script.Decl.{Decl}
-use Rattle.journal_model.specs.Words.{Text}
-use Rattle.journal_model.specs.Reading.{names_of}
-use Rattle.journal_model.specs.ScriptRules.{has_distinct_names, same_text}
+use Rattle.journal_model.specs.scripts.Words.{Text}
+use Rattle.journal_model.specs.scripts.Reading.{names_of}
+use Rattle.journal_model.specs.scripts.ScriptRules.{has_distinct_names, same_text}
 use Rattle.script_words.proofs.Cuts.{drop_here}
 use Rattle.law_legal.proofs.law_items.Tests.{both, either, not_true}
 use Rattle.law_legal.proofs.law_script.AgainLaws.{turned}

@@ -1,7 +1,7 @@
 -- What is said of parts that are all there, and that parts which are there make a whole.
 use Rattle.std.proofs.Common.{◌≡◌, Bool, true, false, cond, [], ◌∷◌, Option, Some, None, refl, ap, subst, ◌∙◌}
 use Rattle.std.specs.Prelude.{option_map}
-use Rattle.journal_model.specs.Words.{Text}
+use Rattle.journal_model.specs.scripts.Words.{Text}
 use Rattle.entry_reader.specs.EntryReading.{with_two, with_three, with_four}
 
 -- what holds of the value, if there is one

@@ -16,12 +16,12 @@ use Rattle.journal_model.specs.declared.entry.Why.{Why}
 use Rattle.journal_model.specs.declared.entry.Why.TheVariants as why
 use Rattle.journal_model.specs.declared.entry.Left.{Left}
 use Rattle.journal_model.specs.declared.entry.Left.TheVariants as left
-use Rattle.journal_model.specs.Words.{Text, hex, hex_byte, mem_word, name_of, span_word, spans_word}
-use Rattle.journal_model.specs.EntryText.{deny_word, left_word, piece_words, why_word}
-use Rattle.journal_model.specs.Cut.{cut_at}
-use Rattle.journal_model.specs.CommandRules.{is_declared}
-use Rattle.journal_model.specs.Readable.{are_bytes, is_left, is_span, is_u32, is_u64}
-use Rattle.journal_model.specs.Reading.{bytes_in_hex, is_digit, known, mem_of, names_of}
+use Rattle.journal_model.specs.scripts.Words.{Text, hex, hex_byte, mem_word, name_of, span_word, spans_word}
+use Rattle.journal_model.specs.reports.EntryText.{deny_word, left_word, piece_words, why_word}
+use Rattle.journal_model.specs.scripts.Cut.{cut_at}
+use Rattle.journal_model.specs.scripts.CommandRules.{is_declared}
+use Rattle.journal_model.specs.scripts.Readable.{are_bytes, is_left, is_span, is_u32, is_u64}
+use Rattle.journal_model.specs.scripts.Reading.{bytes_in_hex, is_digit, known, mem_of, names_of}
 use Rattle.law_legal.proofs.law_items.Tests.{both, joint, lt_is, true_lt}
 use Rattle.law_legal.proofs.law_script.NumberLaws.{number_again, number_takes, own}
 use Rattle.law_legal.proofs.law_script.HexLaws.{bytes_take}

@@ -20,10 +20,10 @@ use Rattle.journal_model.specs.declared.entry.DryWhy.TheVariants as dry
 use Rattle.journal_model.specs.declared.entry.CauseRow.{CauseRow}
 use Rattle.journal_model.specs.declared.entry.Cause.{Cause}
 use Rattle.journal_model.specs.declared.entry.Cause.TheVariants as cause
-use Rattle.journal_model.specs.Words.{Text}
-use Rattle.journal_model.specs.Cut.{cut_at}
-use Rattle.journal_model.specs.Reading.{number_in, known, names_of, bytes_in_hex, mem_of, actor_of}
-use Rattle.journal_model.specs.FirstFault.{ends_line, without_end}
+use Rattle.journal_model.specs.scripts.Words.{Text}
+use Rattle.journal_model.specs.scripts.Cut.{cut_at}
+use Rattle.journal_model.specs.scripts.Reading.{number_in, known, names_of, bytes_in_hex, mem_of, actor_of}
+use Rattle.journal_model.specs.scripts.FirstFault.{ends_line, without_end}
 
 -- ---- parts that are all there, or none
 

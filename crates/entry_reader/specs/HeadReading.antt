@@ -1,9 +1,9 @@
 -- The first two lines of a report: a keyword and a number each.
 use Rattle.std.specs.Prelude.{ℕ, List, [], ◌∷◌, Option, None, bytes_eq, codes, if◌then◌else◌}
 use Rattle.journal_model.specs.declared.script.Script.{Script}
-use Rattle.journal_model.specs.Words.{Text}
-use Rattle.journal_model.specs.Cut.{cut_at}
-use Rattle.journal_model.specs.FirstFault.{ends_line, without_end}
+use Rattle.journal_model.specs.scripts.Words.{Text}
+use Rattle.journal_model.specs.scripts.Cut.{cut_at}
+use Rattle.journal_model.specs.scripts.FirstFault.{ends_line, without_end}
 use Rattle.entry_reader.specs.EntryReading.{is_number, u64_of}
 
 -- the number behind the keyword

@@ -3,11 +3,11 @@ use Rattle.std.specs.Prelude.{◌≡◌, ℕ, ◌+◌, ◌<◌, ◌≤◌, List,
 use Rattle.std.specs.List.{enumerate_from}
 use Rattle.journal_model.specs.declared.script.Script.{Script}
 use Rattle.journal_model.specs.declared.entry.Entry.{Entry}
-use Rattle.journal_model.specs.Words.{Text, line}
-use Rattle.journal_model.specs.Cut.{lines_of}
-use Rattle.journal_model.specs.EntryText.{entry_line}
-use Rattle.journal_model.specs.ReportText.{report_head}
-use Rattle.journal_model.specs.Verdict.{AreEntryTexts, HasHead, IsEntryText}
+use Rattle.journal_model.specs.scripts.Words.{Text, line}
+use Rattle.journal_model.specs.scripts.Cut.{lines_of}
+use Rattle.journal_model.specs.reports.EntryText.{entry_line}
+use Rattle.journal_model.specs.reports.ReportText.{report_head}
+use Rattle.journal_model.specs.reports.Verdict.{AreEntryTexts, HasHead, IsEntryText}
 use Rattle.entry_reader.specs.declared.report.Head.{Head}
 use Rattle.entry_reader.specs.declared.report.Parsed.{Parsed}
 use Rattle.entry_reader.specs.declared.report.ReportBad.{ReportBad}

@@ -2,8 +2,8 @@
 use Rattle.std.specs.Prelude.{ℕ, Option, Some, None}
 use Rattle.journal_model.specs.declared.script.Script.{Script}
 use Rattle.journal_model.specs.declared.entry.Entry.{Entry}
-use Rattle.journal_model.specs.Words.{Text}
-use Rattle.journal_model.specs.Verdict.{IsEntryText}
+use Rattle.journal_model.specs.scripts.Words.{Text}
+use Rattle.journal_model.specs.reports.Verdict.{IsEntryText}
 
 -- the entry whose text it is, or none where it is the text of no entry
 abbrev pub IsRead : Script → ℕ → Text → Option Entry → Type 0

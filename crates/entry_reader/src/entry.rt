@@ -1,9 +1,9 @@
 //! An entry by its line.
 
 ghost use Rattle.std.specs.Prelude.{◌≡◌, ◌≤◌, IfOk, length, true};
-ghost use Rattle.journal_model.specs.FirstFault.{ends_line, without_end};
-ghost use Rattle.journal_model.specs.Reading.{actor_of, names_of};
-ghost use Rattle.journal_model.specs.ScriptRules.{is_script};
+ghost use Rattle.journal_model.specs.scripts.FirstFault.{ends_line, without_end};
+ghost use Rattle.journal_model.specs.scripts.Reading.{actor_of, names_of};
+ghost use Rattle.journal_model.specs.scripts.ScriptRules.{is_script};
 ghost use Rattle.entry_reader.specs.EntryReading.{entry_of, entry_of_words, is_number};
 ghost use Rattle.entry_reader.specs.Read.{IsRead};
 

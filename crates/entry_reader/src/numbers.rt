@@ -1,7 +1,7 @@
 //! Numbers of 32 and of 64 bits.
 
 ghost use Rattle.std.specs.Prelude.{◌≡◌, min};
-ghost use Rattle.journal_model.specs.Reading.{read_on};
+ghost use Rattle.journal_model.specs.scripts.Reading.{read_on};
 ghost use Rattle.entry_reader.specs.EntryReading.{u32_of, u64_of};
 
 use script_words::words::is_plain_number;

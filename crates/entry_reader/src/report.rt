@@ -2,8 +2,8 @@
 
 ghost use Rattle.std.specs.Prelude.{◌≡◌, ◌≤◌, IfOk, drop, length, take, true};
 ghost use Rattle.script_words.specs.Lines.{line_len};
-ghost use Rattle.journal_model.specs.Reading.{names_of};
-ghost use Rattle.journal_model.specs.ScriptRules.{is_script};
+ghost use Rattle.journal_model.specs.scripts.Reading.{names_of};
+ghost use Rattle.journal_model.specs.scripts.ScriptRules.{is_script};
 ghost use Rattle.entry_reader.specs.HeadReading.{count_of, numbered_of, numbered_words};
 ghost use Rattle.entry_reader.specs.Parsing.{IsHead, IsHeadRead, IsParsed};
 

@@ -17,15 +17,15 @@ use Rattle.journal_model.specs.declared.entry.DryWhy.TheVariants as dry
 use Rattle.journal_model.specs.declared.entry.Kind.TheVariants as kind
 use Rattle.journal_model.specs.declared.entry.Why.{Why}
 use Rattle.journal_model.specs.declared.entry.Why.TheVariants as why
-use Rattle.journal_model.specs.State.{buffer, course}
-use Rattle.journal_model.specs.Dry.{causes, ghost_in, has_frame, is_long_enough, victim}
-use Rattle.journal_model.specs.Holds.{free_slot}
-use Rattle.journal_model.specs.Waits.{waited_for, jobs_before_write}
-use Rattle.journal_model.specs.PageSteps.{first_frame_page, step_of_empty, unless_waiting, why_caught}
-use Rattle.journal_model.specs.Search.{Step, step_of_crowded, why_of}
-use Rattle.journal_model.specs.Next.{next}
-use Rattle.journal_model.specs.Tasks.{stage_of, task_of}
-use Rattle.journal_model.specs.Legal.{World, shown_step}
+use Rattle.journal_model.specs.rules.State.{buffer, course}
+use Rattle.journal_model.specs.rules.Dry.{causes, ghost_in, has_frame, is_long_enough, victim}
+use Rattle.journal_model.specs.rules.Holds.{free_slot}
+use Rattle.journal_model.specs.rules.Waits.{waited_for, jobs_before_write}
+use Rattle.journal_model.specs.rules.PageSteps.{first_frame_page, step_of_empty, unless_waiting, why_caught}
+use Rattle.journal_model.specs.rules.Search.{Step, step_of_crowded, why_of}
+use Rattle.journal_model.specs.rules.Next.{next}
+use Rattle.journal_model.specs.rules.Tasks.{stage_of, task_of}
+use Rattle.journal_model.specs.rules.Legal.{World, shown_step}
 use Rattle.room_state.specs.room_turns.Turns.{Kept, state_behind, world_behind}
 use Rattle.room_state.specs.room_turns.Searching.{BufferSearch, finds_choice, buffer_search_of, place_at_work, victim_for, victim_of}
 use Rattle.room_state.specs.room_turns.Turns.{entry_of}

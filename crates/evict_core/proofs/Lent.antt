@@ -11,9 +11,9 @@ use Rattle.bo_table.proofs.TableLaws.{get_map}
 use Rattle.journal_model.specs.declared.script.Script.{Script}
 use Rattle.journal_model.specs.declared.state.State.{State}
 use Rattle.journal_model.specs.declared.state.Buffer.{Buffer}
-use Rattle.journal_model.specs.State.{reservation, live_in, reservation_in, has_buffer, no_reservation}
-use Rattle.journal_model.specs.Choice.{reach_of}
-use Rattle.journal_model.specs.Dry.{is_evictable, is_loose}
+use Rattle.journal_model.specs.rules.State.{reservation, live_in, reservation_in, has_buffer, no_reservation}
+use Rattle.journal_model.specs.rules.Choice.{reach_of}
+use Rattle.journal_model.specs.rules.Dry.{is_evictable, is_loose}
 use Rattle.room_representation.specs.Bos.{AreBos, unfenced}
 use Rattle.evict_core.specs.Walks.{stands_in}
 

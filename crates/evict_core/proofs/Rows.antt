@@ -22,11 +22,11 @@ use Rattle.journal_model.specs.declared.state.Reservation.{Reservation}
 use Rattle.journal_model.specs.declared.state.Job.{Job}
 use Rattle.journal_model.specs.declared.state.Ghost as state
 use Rattle.journal_model.specs.declared.entry.CauseRow.{CauseRow}
-use Rattle.journal_model.specs.State.{reservation_in, has_target, no_reservation, target_of}
-use Rattle.journal_model.specs.ScriptRules.{is_script}
-use Rattle.journal_model.specs.Holds.{live_entry}
-use Rattle.journal_model.specs.Holds as holds
-use Rattle.journal_model.specs.Dry.{cause_of, cause_row, causes}
+use Rattle.journal_model.specs.rules.State.{reservation_in, has_target, no_reservation, target_of}
+use Rattle.journal_model.specs.scripts.ScriptRules.{is_script}
+use Rattle.journal_model.specs.rules.Holds.{live_entry}
+use Rattle.journal_model.specs.rules.Holds as holds
+use Rattle.journal_model.specs.rules.Dry.{cause_of, cause_row, causes}
 use Rattle.room_representation.specs.declared.parts.Ghost.{Ghost}
 use Rattle.room_representation.specs.Bos.{AreBos, unfenced}
 use Rattle.room_representation.specs.Ghosts.{AreGhosts, IsGhost}

@@ -10,9 +10,9 @@ use Rattle.lru_bulk.specs.declared.nodes.Listing.{Listing}
 use Rattle.lru_bulk.specs.Lists.{Order, list_at, list_number, list_as, list_of, listing_of, behind}
 use Rattle.journal_model.specs.declared.script.Script.{Script}
 use Rattle.journal_model.specs.declared.state.State.{State}
-use Rattle.journal_model.specs.State.{has_buffer, reservation_in}
-use Rattle.journal_model.specs.Commands.{decl}
-use Rattle.journal_model.specs.Dry.{is_evictable, victim}
+use Rattle.journal_model.specs.rules.State.{has_buffer, reservation_in}
+use Rattle.journal_model.specs.rules.Commands.{decl}
+use Rattle.journal_model.specs.rules.Dry.{is_evictable, victim}
 use Rattle.laws.specs.law_lists.GoodLists.{GoodLists, stand_once}
 use Rattle.room_representation.specs.lemma_room_lists.Listed.{AreListed, listing_as}
 use Rattle.evict_core.specs.Walks.{from_on, left_from}

@@ -4,7 +4,7 @@ use Rattle.std.specs.Prelude.{◌||◌, ◌&&◌, not, find, take, drop, flat_ma
 use Rattle.std.proofs.lemmas.List.{append-nil}
 use Rattle.ttm_base.specs.declared.BufId.{BufId}
 use Rattle.lru_bulk.specs.Lists.{behind}
-use Rattle.journal_model.specs.State.{same_buffer, has_buffer}
+use Rattle.journal_model.specs.rules.State.{same_buffer, has_buffer}
 use Rattle.laws.specs.law_lists.GoodLists.{stand_once}
 use Rattle.laws.proofs.law_sound.Bufs.{same_self, same_is}
 use Rattle.evict_core.specs.Walks.{from_on, left_from}

@@ -11,8 +11,8 @@ use Rattle.bo_table.specs.Seen.{reservation_of}
 use Rattle.journal_model.specs.declared.script.Script.{Script}
 use Rattle.journal_model.specs.declared.state.Buffer.{Buffer}
 use Rattle.journal_model.specs.declared.entry.CauseRow.{CauseRow}
-use Rattle.journal_model.specs.State.{target_of}
-use Rattle.journal_model.specs.Dry.{cause_of}
+use Rattle.journal_model.specs.rules.State.{target_of}
+use Rattle.journal_model.specs.rules.Dry.{cause_of}
 use Rattle.room_representation.specs.declared.parts.Ghost.{Ghost}
 
 -- a lent buffer, without its fences

@@ -1,5 +1,5 @@
 ghost use Rattle.std.specs.Prelude.{◌≡◌, IfOk, option_map};
-ghost use Rattle.journal_model.specs.Dry as words;
+ghost use Rattle.journal_model.specs.rules.Dry as words;
 ghost use Rattle.bo_table.specs.Seen.{reservation_of};
 ghost use Rattle.room_state.specs.room_turns.Turns.{state_behind};
 ghost use Rattle.evict_core.specs.Rows as rows_of;

@@ -2,8 +2,8 @@ ghost use Rattle.std.specs.Prelude.{◌≡◌, Ok, true, false, None, Some, IfOk
 ghost use Rattle.ttm_base.specs.declared.Actor.TheVariants as actor;
 ghost use Rattle.journal_model.specs.declared.entry.Kind.TheVariants as kind_words;
 ghost use Rattle.journal_model.specs.declared.state.Stage.TheVariants as stage;
-ghost use Rattle.journal_model.specs.Tasks.{stage_of, task_of};
-ghost use Rattle.journal_model.specs.Search as words;
+ghost use Rattle.journal_model.specs.rules.Tasks.{stage_of, task_of};
+ghost use Rattle.journal_model.specs.rules.Search as words;
 ghost use Rattle.room_state.specs.room_turns.Turns.{state_behind};
 ghost use Rattle.room_state.specs.declared.room_turns.Step.TheVariants as step_words;
 ghost use Rattle.room_state.specs.room_turns.Searching.{finds_choice, victim_of};

@@ -1,6 +1,6 @@
 ghost use Rattle.std.specs.Prelude.{◌≡◌, ◌<◌, ◌&&◌, ◌||◌, not, find};
-ghost use Rattle.journal_model.specs.Choice.{reach_of as reached};
-ghost use Rattle.journal_model.specs.Dry as words;
+ghost use Rattle.journal_model.specs.rules.Choice.{reach_of as reached};
+ghost use Rattle.journal_model.specs.rules.Dry as words;
 ghost use Rattle.lru_bulk.specs.Lists.{list_at, list_number};
 ghost use Rattle.bo_table.specs.Seen.{reservation_of};
 ghost use Rattle.room_state.specs.room_turns.Turns.{state_behind};

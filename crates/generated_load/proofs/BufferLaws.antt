@@ -9,11 +9,11 @@ use Rattle.ttm_base.specs.declared.BufId.{BufId}
 use Rattle.ttm_base.specs.declared.Placement.{Placement}
 use Rattle.journal_model.specs.declared.script.Decl.{Decl}
 use Rattle.journal_model.specs.declared.script.Script.{Script}
-use Rattle.journal_model.specs.Words.{Text, name_of}
-use Rattle.journal_model.specs.Spelling.{buffer_line, placement_words}
-use Rattle.journal_model.specs.Commands.{decl, undeclared}
-use Rattle.journal_model.specs.CommandRules.{is_between, is_range_of}
-use Rattle.journal_model.specs.ScriptRules.{is_decl, is_name, is_group, is_place_list, same_text, has_distinct_names}
+use Rattle.journal_model.specs.scripts.Words.{Text, name_of}
+use Rattle.journal_model.specs.scripts.Spelling.{buffer_line, placement_words}
+use Rattle.journal_model.specs.rules.Commands.{decl, undeclared}
+use Rattle.journal_model.specs.scripts.CommandRules.{is_between, is_range_of}
+use Rattle.journal_model.specs.scripts.ScriptRules.{is_decl, is_name, is_group, is_place_list, same_text, has_distinct_names}
 use Rattle.law_legal.proofs.law_items.Tests.{both, joint, is_le}
 use Rattle.law_legal.proofs.law_items.ListFacts.{all_more, sum_more}
 use Rattle.generated_load.specs.Draws.{draw}

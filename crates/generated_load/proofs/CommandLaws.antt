@@ -12,10 +12,10 @@ use Rattle.ttm_base.specs.declared.Op.TheVariants as op
 use Rattle.journal_model.specs.declared.script.Script.{Script}
 use Rattle.journal_model.specs.declared.script.Command.{Command}
 use Rattle.journal_model.specs.declared.script.Command.TheVariants as command
-use Rattle.journal_model.specs.Commands.{named, first_mentions, buffers_of_op}
-use Rattle.journal_model.specs.Words.{Text, line, name_of}
-use Rattle.journal_model.specs.Spelling.{command_words, op_words}
-use Rattle.journal_model.specs.CommandRules.{is_between, is_range_of, is_op, is_byte, is_command, command_len}
+use Rattle.journal_model.specs.rules.Commands.{named, first_mentions, buffers_of_op}
+use Rattle.journal_model.specs.scripts.Words.{Text, line, name_of}
+use Rattle.journal_model.specs.scripts.Spelling.{command_words, op_words}
+use Rattle.journal_model.specs.scripts.CommandRules.{is_between, is_range_of, is_op, is_byte, is_command, command_len}
 use Rattle.law_legal.proofs.law_items.Tests.{and_true, both, is_le, joint}
 use Rattle.law_legal.proofs.law_items.ListFacts.{all_more, length_more, sum_more}
 use Rattle.generated_load.specs.declared.choices.Choice.{Choice}

@@ -3,7 +3,7 @@ use Rattle.std.proofs.Common.{◌≡◌, ℕ, ◌+◌, ◌*◌, ◌<◌, ◌≤�
 use Rattle.std.specs.Prelude.{decimal}
 use Rattle.std.proofs.lemmas.Fmt.{length-decimal-le}
 use Rattle.std.proofs.lemmas.List.{length-append}
-use Rattle.journal_model.specs.Words.{Text, hex, hex_byte, line, spaced}
+use Rattle.journal_model.specs.scripts.Words.{Text, hex, hex_byte, line, spaced}
 
 -- the bytes of the words, with one more for each
 abbrev pub room : List Text → ℕ

@@ -8,14 +8,14 @@ use Rattle.std.proofs.lemmas.List.Sums.{sum_by-cons}
 use Rattle.journal_model.specs.declared.script.Script.{Script}
 use Rattle.journal_model.specs.declared.script.Decl.{Decl}
 use Rattle.journal_model.specs.declared.script.Command.{Command}
-use Rattle.journal_model.specs.Words.{Text, line}
-use Rattle.journal_model.specs.Spelling.{buffer_line, spelling}
-use Rattle.journal_model.specs.CommandRules.{command_len}
-use Rattle.journal_model.specs.ScriptRules.{is_script}
+use Rattle.journal_model.specs.scripts.Words.{Text, line}
+use Rattle.journal_model.specs.scripts.Spelling.{buffer_line, spelling}
+use Rattle.journal_model.specs.scripts.CommandRules.{command_len}
+use Rattle.journal_model.specs.scripts.ScriptRules.{is_script}
 use Rattle.law_legal.proofs.law_items.Tests.{joint, is_le}
 use Rattle.law_legal.proofs.law_items.ListFacts.{has_few}
 use Rattle.law_legal.proofs.law_script.Sound.{frame, six}
-use Rattle.journal_model.specs.ScriptRules.{IsScript}
+use Rattle.journal_model.specs.scripts.ScriptRules.{IsScript}
 use Rattle.generated_load.specs.Draws.{seeded}
 use Rattle.generated_load.specs.Buffers.{load_sizes, load_buffers}
 use Rattle.generated_load.specs.Commands.{load_threads}

@@ -6,9 +6,9 @@ use Rattle.std.proofs.lemmas.List.{length-map}
 use Rattle.std.proofs.lemmas.List.Concat.{flat_map-cons}
 use Rattle.journal_model.specs.declared.script.Script.{Script}
 use Rattle.journal_model.specs.declared.script.Command.{Command}
-use Rattle.journal_model.specs.Words.{Text, line}
-use Rattle.journal_model.specs.Spelling.{buffer_line, command_words, turn_line, spelling}
-use Rattle.journal_model.specs.MarkRules.{ThreadMappings, empty_thread_mappings, have_marks}
+use Rattle.journal_model.specs.scripts.Words.{Text, line}
+use Rattle.journal_model.specs.scripts.Spelling.{buffer_line, command_words, turn_line, spelling}
+use Rattle.journal_model.specs.scripts.MarkRules.{ThreadMappings, empty_thread_mappings, have_marks}
 use Rattle.law_legal.specs.law_items.Items.{Item, Asks, ComesFrom, commands_in, marks_in, numbered, item_text, items_text, item_fits, all_along, items_fit}
 use Rattle.law_legal.proofs.law_items.ListFacts.{has_few}
 use Rattle.law_legal.proofs.law_items.Tests.{both, joint}

@@ -5,8 +5,8 @@ use Rattle.ttm_base.specs.declared.Mem.TheVariants.{Tt, Vram}
 use Rattle.ttm_base.specs.declared.Placement.{Placement}
 use Rattle.journal_model.specs.declared.script.Decl.{Decl}
 use Rattle.journal_model.specs.declared.script.Sizes.{Sizes}
-use Rattle.journal_model.specs.Words.{Text}
-use Rattle.journal_model.specs.Commands.{whole, as_desired, as_fallback}
+use Rattle.journal_model.specs.scripts.Words.{Text}
+use Rattle.journal_model.specs.rules.Commands.{whole, as_desired, as_fallback}
 use Rattle.generated_load.specs.Draws.{draw}
 
 -- 64 pages of VRAM by buddies, 512 of TT, 192 frames, 256 slots, two user engines

@@ -1,7 +1,7 @@
 -- The script that is drawn from a number, and what is promised of it.
 use Rattle.std.specs.Prelude.{◌≡◌, ℕ, [], ◌∷◌, IsTrue, length, map}
 use Rattle.journal_model.specs.declared.script.Script.{Script}
-use Rattle.journal_model.specs.ScriptRules.{is_script}
+use Rattle.journal_model.specs.scripts.ScriptRules.{is_script}
 use Rattle.generated_load.specs.Draws.{seeded}
 use Rattle.generated_load.specs.Buffers.{load_sizes, load_buffers}
 use Rattle.generated_load.specs.Commands.{load_threads}

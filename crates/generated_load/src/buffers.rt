@@ -1,5 +1,5 @@
 ghost use Rattle.std.specs.Prelude.{◌≡◌, ◌<◌, IfOk};
-ghost use Rattle.journal_model.specs.Commands.{whole};
+ghost use Rattle.journal_model.specs.rules.Commands.{whole};
 ghost use Rattle.generated_load.specs.Buffers.{load_buffer, load_buffers, load_name, load_pages, load_placement};
 
 use crate::draws::Draws;

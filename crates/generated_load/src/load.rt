@@ -1,5 +1,5 @@
 ghost use Rattle.std.specs.Prelude.{◌≡◌, IfOk};
-ghost use Rattle.journal_model.specs.ScriptRules.{IsScript};
+ghost use Rattle.journal_model.specs.scripts.ScriptRules.{IsScript};
 ghost use Rattle.generated_load.specs.Commands.{load_threads};
 ghost use Rattle.generated_load.specs.Loads.{IsLoad, load_script};
 

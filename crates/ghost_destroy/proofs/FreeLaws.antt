@@ -7,10 +7,10 @@ use Rattle.journal_model.specs.declared.state.State.{State}
 use Rattle.journal_model.specs.declared.state.Task.{Task}
 use Rattle.journal_model.specs.declared.state.Task.TheVariants as task
 use Rattle.journal_model.specs.declared.entry.Entry.{Entry}
-use Rattle.journal_model.specs.Commands.{command_at_work}
-use Rattle.journal_model.specs.Legal.{IsLegal, state_of}
-use Rattle.journal_model.specs.ScriptRules.{is_script}
-use Rattle.journal_model.specs.Tasks.{task_of}
+use Rattle.journal_model.specs.rules.Commands.{command_at_work}
+use Rattle.journal_model.specs.rules.Legal.{IsLegal, state_of}
+use Rattle.journal_model.specs.scripts.ScriptRules.{is_script}
+use Rattle.journal_model.specs.rules.Tasks.{task_of}
 use Rattle.laws.proofs.law_sound.Bufs.{same_self}
 use Rattle.room_state.specs.room_turns.Acting.{command_in, frees, free_due}
 use Rattle.room_state.proofs.room_turns.Works.{acted_has, has_declared}

@@ -4,7 +4,7 @@ use Rattle.ttm_base.specs.declared.Need.{Need}
 use Rattle.ttm_base.specs.declared.Need.TheVariants as need
 use Rattle.journal_model.specs.declared.state.State.{State}
 use Rattle.journal_model.specs.declared.state.Ghost.{Ghost}
-use Rattle.journal_model.specs.Waits.{waited_for}
+use Rattle.journal_model.specs.rules.Waits.{waited_for}
 
 -- the job that isn't done yet; a ghost, where there is none
 abbrev pub need_before_end : State → Option Ghost → Option Need

@@ -1,7 +1,7 @@
 ghost use Rattle.std.specs.Prelude.{◌≡◌, ◌<◌, Ok, true, IfOk, OnOk, OnErr, length};
 ghost use Rattle.ttm_base.specs.declared.Actor.TheVariants as actor;
 ghost use Rattle.journal_model.specs.declared.script.Command.TheVariants as command;
-ghost use Rattle.journal_model.specs.Next.{step_of_act};
+ghost use Rattle.journal_model.specs.rules.Next.{step_of_act};
 ghost use Rattle.room_state.specs.room_turns.Turns.{state_behind};
 ghost use Rattle.room_state.specs.declared.room_turns.Step.TheVariants as answer;
 ghost use Rattle.room_state.specs.room_turns.Acting.{free_due};

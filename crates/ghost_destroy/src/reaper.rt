@@ -1,6 +1,6 @@
 ghost use Rattle.std.specs.Prelude.{◌≡◌, IfOk, OnOk, OnErr};
 ghost use Rattle.ttm_base.specs.declared.Actor.TheVariants as actor;
-ghost use Rattle.journal_model.specs.Next.{step_of_reaper};
+ghost use Rattle.journal_model.specs.rules.Next.{step_of_reaper};
 ghost use Rattle.room_state.specs.room_turns.Turns.{state_behind};
 ghost use Rattle.room_state.specs.room_turns.Acting.{made_unless};
 ghost use Rattle.room_state.specs.room_turns.Turns.{after_step, entry_of, step_of};

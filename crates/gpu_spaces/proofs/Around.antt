@@ -7,7 +7,7 @@ use Rattle.std.specs.declared.ops.Bound.TheVariants.{Included, Unbounded}
 use Rattle.std.proofs.lemmas.Bool.{cases_Bool}
 use Rattle.std.proofs.lemmas.Bool.Decides.{nat_tests}
 use Rattle.ttm_base.specs.Holes.{has_page}
-use Rattle.journal_model.specs.Spaces.{Region}
+use Rattle.journal_model.specs.marks.Spaces.{Region}
 use Rattle.law_legal.specs.law_spaces.Rising.{IsRising, IsPast}
 use Rattle.gpu_spaces.specs.declared.mappings.Rest.{Rest}
 use Rattle.gpu_spaces.specs.Kept.{region_at}

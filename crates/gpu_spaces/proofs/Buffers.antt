@@ -6,9 +6,9 @@ use Rattle.std.proofs.lemmas.Bool.{cases_Bool, ltb-true, ltb-false, lt-ltb, le-l
 use Rattle.std.proofs.lemmas.Simd.{map-map}
 use Rattle.ttm_base.specs.declared.BufId.{BufId}
 use Rattle.ttm_base.specs.declared.Span.{Span}
-use Rattle.journal_model.specs.State.{has_buffer}
-use Rattle.journal_model.specs.Spaces.{Region, does_meet}
-use Rattle.journal_model.specs.ByName.{has_byte_of}
+use Rattle.journal_model.specs.rules.State.{has_buffer}
+use Rattle.journal_model.specs.marks.Spaces.{Region, does_meet}
+use Rattle.journal_model.specs.marks.ByName.{has_byte_of}
 use Rattle.law_legal.specs.law_spaces.Rising.{IsRising}
 use Rattle.gpu_spaces.specs.declared.mappings.Rest.{Rest}
 use Rattle.gpu_spaces.specs.Kept.{region_at}

@@ -7,7 +7,7 @@ use Rattle.std.proofs.lemmas.Bool.Decides.{nat_tests}
 use Rattle.std.proofs.lemmas.List.Folds.{find-append}
 use Rattle.ttm_base.specs.declared.Span.{Span}
 use Rattle.ttm_base.specs.Holes.{has_page}
-use Rattle.journal_model.specs.Spaces.{Region}
+use Rattle.journal_model.specs.marks.Spaces.{Region}
 use Rattle.law_legal.specs.law_spaces.Rising.{IsRising, IsPast}
 use Rattle.law_legal.specs.law_spaces.Sides.{head_of, tail_of, sides}
 use Rattle.law_legal.proofs.law_spaces.Found.{found_past, found_passes, has_parts}

@@ -3,8 +3,8 @@ use Rattle.std.proofs.Common.{◌≡◌, ℕ, zero, suc, ◌+◌, ◌-◌, ◌<�
 use Rattle.std.specs.Prelude.{option_map}
 use Rattle.ttm_base.specs.declared.Op.{Op}
 use Rattle.journal_model.specs.declared.space.VOp.{VOp}
-use Rattle.journal_model.specs.Spaces.{Region}
-use Rattle.journal_model.specs.ByName.{Spot, Part, spot_at, parts_from, first_address, second_address, op_by_name, ops_from, joined, op_in_names, job_by_name}
+use Rattle.journal_model.specs.marks.Spaces.{Region}
+use Rattle.journal_model.specs.marks.ByName.{Spot, Part, spot_at, parts_from, first_address, second_address, op_by_name, ops_from, joined, op_in_names, job_by_name}
 use Rattle.law_legal.proofs.law_spaces.Found.{cases_option, spot_has_room}
 
 -- ---- how often may be more than there are bytes

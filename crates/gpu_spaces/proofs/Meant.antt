@@ -4,15 +4,15 @@ use Rattle.std.specs.Prelude.{Result, Ok, Err, IfOk, IsSome, IfSome, IfNone, tru
 use Rattle.std.specs.List.{list_all}
 use Rattle.ttm_base.specs.declared.Op.{Op}
 use Rattle.journal_model.specs.declared.space.VOp.{VOp}
-use Rattle.journal_model.specs.MarkRules.{has_apart_ranges}
+use Rattle.journal_model.specs.scripts.MarkRules.{has_apart_ranges}
 use Rattle.law_legal.specs.law_addresses.Addressed.{MeansAddresses}
 use Rattle.std.proofs.lemmas.Bool.{cases_lt}
 use Rattle.std.proofs.lemmas.List.{map-append}
 use Rattle.ttm_base.specs.Holes.{has_page}
 use Rattle.ttm_base.specs.ListWords.{count_from}
-use Rattle.journal_model.specs.PlainMemory.{Memory}
-use Rattle.journal_model.specs.Spaces.{Space, Region, regions_space}
-use Rattle.journal_model.specs.ByName.{Spot, Part, spot_in, spot_at, parts_from, parts_of_range, job_by_name, byte_there}
+use Rattle.journal_model.specs.rules.PlainMemory.{Memory}
+use Rattle.journal_model.specs.marks.Spaces.{Space, Region, regions_space}
+use Rattle.journal_model.specs.marks.ByName.{Spot, Part, spot_in, spot_at, parts_from, parts_of_range, job_by_name, byte_there}
 use Rattle.law_legal.specs.law_spaces.Rising.{IsRising}
 use Rattle.law_legal.proofs.law_spaces.Found.{cases_option, spot_has_room}
 use Rattle.law_legal.proofs.law_spaces.Names.{IsThere, first_bytes, seen_range, count-split, job_is_meant}

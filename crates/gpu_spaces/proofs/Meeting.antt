@@ -10,7 +10,7 @@ use Rattle.std.proofs.lemmas.Bool.Decides.{nat_tests}
 use Rattle.std.proofs.lemmas.Simd.{map-map}
 use Rattle.ttm_base.specs.declared.Span.{Span}
 use Rattle.ttm_base.specs.Holes.{has_page}
-use Rattle.journal_model.specs.Spaces.{Region, does_meet, step_at}
+use Rattle.journal_model.specs.marks.Spaces.{Region, does_meet, step_at}
 use Rattle.law_legal.specs.law_spaces.Rising.{IsRising, IsPast}
 use Rattle.gpu_spaces.specs.declared.mappings.Rest.{Rest}
 use Rattle.gpu_spaces.specs.declared.mappings.Mapping.{Mapping}

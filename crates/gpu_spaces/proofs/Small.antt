@@ -9,7 +9,7 @@ use Rattle.ttm_base.specs.Holes.{has_page}
 use Rattle.journal_model.specs.declared.script.MarkKind.{MarkKind}
 use Rattle.journal_model.specs.declared.script.MarkKind.TheVariants as mark
 use Rattle.journal_model.specs.declared.space.VStep.{VStep}
-use Rattle.journal_model.specs.Spaces.{Region, new_region, regions_after, regions_space, after_request, has_pages, steps_of, is_remap}
+use Rattle.journal_model.specs.marks.Spaces.{Region, new_region, regions_after, regions_space, after_request, has_pages, steps_of, is_remap}
 use Rattle.law_legal.specs.law_spaces.Rising.{IsRising}
 use Rattle.law_legal.specs.law_spaces.Sides.{head_of, tail_of, sides}
 use Rattle.law_legal.proofs.law_spaces.Sides.{after_is_sides, pages_of_rising}

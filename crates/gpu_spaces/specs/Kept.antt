@@ -1,7 +1,7 @@
 -- Mappings as the balanced map keeps them, and as the definitions have them.
 use Rattle.std.specs.Prelude.{ℕ, List, map}
 use Rattle.std.specs.BTreeMap.{BTreeMap}
-use Rattle.journal_model.specs.Spaces.{Region}
+use Rattle.journal_model.specs.marks.Spaces.{Region}
 use Rattle.gpu_spaces.specs.declared.mappings.Rest.{Rest}
 use Rattle.gpu_spaces.specs.declared.mappings.Mapping.{Mapping}
 

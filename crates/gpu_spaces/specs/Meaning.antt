@@ -1,9 +1,9 @@
 -- What a space says of a range of addresses, byte by byte.
 use Rattle.std.specs.Prelude.{ℕ, ◌+◌, ◌<◌, ◌/◌, ◌≡◌, List, None, IsSome, flat_map, map}
 use Rattle.ttm_base.specs.ListWords.{count_from}
-use Rattle.journal_model.specs.PlainMemory.{Memory, memory_range}
-use Rattle.journal_model.specs.Spaces.{Space}
-use Rattle.journal_model.specs.ByName.{Part, byte_there}
+use Rattle.journal_model.specs.rules.PlainMemory.{Memory, memory_range}
+use Rattle.journal_model.specs.marks.Spaces.{Space}
+use Rattle.journal_model.specs.marks.ByName.{Part, byte_there}
 
 -- the bytes of the parts, one after the other
 abbrev pub parts_shown : Memory → List Part → List ℕ

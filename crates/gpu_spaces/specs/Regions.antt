@@ -1,6 +1,6 @@
 -- Mappings found by their first pages, and changed there.
 use Rattle.std.specs.Prelude.{ℕ, ◌+◌, ◌-◌, ◌<◌, ◌≤◌, Bool, List, [], ◌∷◌, Option, Some, None, ◌==◌, nat_lt, find, if◌then◌else◌}
-use Rattle.journal_model.specs.Spaces.{Region, part_of}
+use Rattle.journal_model.specs.marks.Spaces.{Region, part_of}
 use Rattle.law_legal.specs.law_spaces.Rising.{IsRising}
 
 -- a mapping begins at a page

@@ -1,6 +1,6 @@
 -- Spots and pieces as the definitions have them.
-use Rattle.journal_model.specs.ByName as name
-use Rattle.journal_model.specs.ByName.{Part}
+use Rattle.journal_model.specs.marks.ByName as name
+use Rattle.journal_model.specs.marks.ByName.{Part}
 use Rattle.gpu_spaces.specs.declared.spot.Spot.{Spot}
 use Rattle.gpu_spaces.specs.declared.pieces.Piece.{Piece}
 

@@ -1,10 +1,10 @@
 //! Which buffers ranges of addresses have.
 ghost use Rattle.std.specs.Prelude.{◌≡◌, ℕ, ◌+◌, ◌/◌, ◌<◌, ◌≤◌, ◌++◌, true, map, filter, IfOk, OnOk};
 ghost use Rattle.std.specs.List.{list_any};
-ghost use Rattle.journal_model.specs.Spaces.{does_meet};
-ghost use Rattle.journal_model.specs.ByName as name;
-ghost use Rattle.journal_model.specs.MarkRules as marks;
-ghost use Rattle.journal_model.specs.MarkRules.{has_apart_ranges};
+ghost use Rattle.journal_model.specs.marks.Spaces.{does_meet};
+ghost use Rattle.journal_model.specs.marks.ByName as name;
+ghost use Rattle.journal_model.specs.scripts.MarkRules as marks;
+ghost use Rattle.journal_model.specs.scripts.MarkRules.{has_apart_ranges};
 ghost use Rattle.law_legal.specs.law_spaces.Rising.{IsRising};
 ghost use Rattle.gpu_spaces.specs.Inside.{is_inside};
 ghost use Rattle.gpu_spaces.specs.Kept.{regions_in};

@@ -1,8 +1,8 @@
 //! The job by name: operations with addresses, cut at the borders of mappings.
 ghost use Rattle.std.specs.Prelude.{◌≡◌, ◌+◌, ◌-◌, ◌≤◌, ◌++◌, true, false, Some, None, IfOk, length, min, option_map, if◌then◌else◌};
 ghost use Rattle.std.specs.List.{list_all};
-ghost use Rattle.journal_model.specs.ByName as name;
-ghost use Rattle.journal_model.specs.ByName.{job_by_name, op_in_names};
+ghost use Rattle.journal_model.specs.marks.ByName as name;
+ghost use Rattle.journal_model.specs.marks.ByName.{job_by_name, op_in_names};
 ghost use Rattle.gpu_spaces.specs.Inside.{is_inside};
 ghost use Rattle.gpu_spaces.specs.Kept.{regions_in};
 ghost use Rattle.gpu_spaces.specs.Regions.{IsKept};

@@ -1,6 +1,6 @@
 //! The parts of a range of addresses.
 ghost use Rattle.std.specs.Prelude.{◌≡◌, ◌+◌, ◌≤◌, IfOk, map, option_map};
-ghost use Rattle.journal_model.specs.ByName.{parts_of_range};
+ghost use Rattle.journal_model.specs.marks.ByName.{parts_of_range};
 ghost use Rattle.gpu_spaces.specs.Kept.{regions_in};
 ghost use Rattle.gpu_spaces.specs.Regions.{IsKept};
 ghost use Rattle.gpu_spaces.specs.Spots.{part_of};

@@ -1,13 +1,13 @@
 ghost use Rattle.std.specs.Prelude.{◌≡◌, ◌+◌, ◌≤◌, [], true, IfOk, IfSome, IfNone, IsTrue, OnOk, OnErr, filter, length, min, map, option_map};
 ghost use Rattle.std.specs.List.{list_all};
 ghost use Rattle.journal_model.specs.declared.script.MarkKind.TheVariants as mark;
-ghost use Rattle.journal_model.specs.ByName.{parts_of_range, job_by_name};
-ghost use Rattle.journal_model.specs.MarkRules.{has_apart_ranges};
+ghost use Rattle.journal_model.specs.marks.ByName.{parts_of_range, job_by_name};
+ghost use Rattle.journal_model.specs.scripts.MarkRules.{has_apart_ranges};
 ghost use Rattle.gpu_spaces.specs.Inside.{is_inside};
 ghost use Rattle.gpu_spaces.specs.Spots.{part_of};
 ghost use Rattle.gpu_spaces.specs.Meaning.{parts_shown, range_shown, IsMappedRange, LacksPage};
-ghost use Rattle.journal_model.specs.PlainMemory.{Memory};
-ghost use Rattle.journal_model.specs.Spaces.{regions_after, regions_space, steps_of, after_request, are_disjoint, is_remap};
+ghost use Rattle.journal_model.specs.rules.PlainMemory.{Memory};
+ghost use Rattle.journal_model.specs.marks.Spaces.{regions_after, regions_space, steps_of, after_request, are_disjoint, is_remap};
 ghost use Rattle.law_legal.specs.law_addresses.Addressed.{MeansAddresses};
 
 use crate::apart::is_apart;
@@ -37,7 +37,7 @@ impl Drop for Space {
 
 impl Model for Space {
     ghost use Rattle.std.specs.Prelude.{List};
-    ghost use Rattle.journal_model.specs.Spaces.{Region};
+    ghost use Rattle.journal_model.specs.marks.Spaces.{Region};
     ghost use Rattle.gpu_spaces.specs.Kept.{regions_in};
     ghost use Rattle.gpu_spaces.specs.Regions.{IsKept};
 
@@ -159,7 +159,7 @@ impl Space {
 
 impl Space {
     ghost use Rattle.std.specs.Prelude.{◌≡◌, ◌+◌, ◌-◌, ◌<◌, ◌≤◌, ◌++◌, [], IfSome, OnOk, OnErr, map, filter, option_map, option_to_list};
-    ghost use Rattle.journal_model.specs.Spaces.{does_meet, step_at, map_step};
+    ghost use Rattle.journal_model.specs.marks.Spaces.{does_meet, step_at, map_step};
     ghost use Rattle.law_legal.specs.law_spaces.Rising.{IsRising};
     ghost use Rattle.law_legal.specs.law_spaces.Sides.{sides};
     ghost use Rattle.gpu_spaces.specs.Kept.{region_of};

@@ -1,6 +1,6 @@
 //! Where an address stands.
 ghost use Rattle.std.specs.Prelude.{◌≡◌, ◌+◌, ◌<◌, ◌≤◌, IfSome, option_map};
-ghost use Rattle.journal_model.specs.ByName as name;
+ghost use Rattle.journal_model.specs.marks.ByName as name;
 ghost use Rattle.gpu_spaces.specs.Kept.{regions_in};
 ghost use Rattle.gpu_spaces.specs.Regions.{IsKept};
 ghost use Rattle.gpu_spaces.specs.Spots.{spot_of};

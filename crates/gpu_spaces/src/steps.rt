@@ -1,7 +1,7 @@
 //! The steps of a request.
 ghost use Rattle.std.specs.Prelude.{◌≡◌, ◌<◌, ◌++◌, [], OnOk, OnErr, map, filter, option_map, option_to_list};
-ghost use Rattle.journal_model.specs.Spaces as words;
-ghost use Rattle.journal_model.specs.Spaces.{does_meet, map_step};
+ghost use Rattle.journal_model.specs.marks.Spaces as words;
+ghost use Rattle.journal_model.specs.marks.Spaces.{does_meet, map_step};
 ghost use Rattle.law_legal.specs.law_spaces.Rising.{IsRising};
 ghost use Rattle.gpu_spaces.specs.Kept.{regions_in, region_of};
 

@@ -9,7 +9,7 @@ use Rattle.ttm_base.specs.declared.Usage.{Usage}
 use Rattle.ttm_base.specs.declared.Fence.{Fence}
 use Rattle.journal_model.specs.declared.fences.FenceRun.{FenceRun}
 use Rattle.journal_model.specs.declared.job_ids.JobRun.{JobRun}
-use Rattle.journal_model.specs.JobRuns.{jobs_of_run, fits, fences_of_run, is_whole}
+use Rattle.journal_model.specs.code.JobRuns.{jobs_of_run, fits, fences_of_run, is_whole}
 
 -- numbers counted on
 counted_on : (m n start : ℕ) → count_from 1 (m + n) start ≡ count_from 1 m start ++ count_from 1 n (start + m)

@@ -8,8 +8,8 @@ use Rattle.ttm_base.specs.declared.Op.{Op}
 use Rattle.journal_model.specs.declared.script.Script.{Script}
 use Rattle.journal_model.specs.declared.entry.Kind.{Kind}
 use Rattle.journal_model.specs.declared.entry.Kind.TheVariants as kind
-use Rattle.journal_model.specs.Waits.{same_job}
-use Rattle.journal_model.specs.PlainMemory.{Plain, plain_after_arm, plain_after_kind, pieces_shown}
+use Rattle.journal_model.specs.rules.Waits.{same_job}
+use Rattle.journal_model.specs.rules.PlainMemory.{Plain, plain_after_arm, plain_after_kind, pieces_shown}
 
 -- the entry arms this job
 abbrev pub is_arm_of : JobId → Kind → Bool

@@ -9,10 +9,10 @@ use Rattle.ttm_base.specs.ListWords.{count_from}
 use Rattle.ttm_base.specs.declared.JobId.{JobId}
 use Rattle.journal_model.specs.declared.state.Job.{Job}
 use Rattle.journal_model.specs.declared.job_ids.JobRun.{JobRun}
-use Rattle.journal_model.specs.JobNames.{same_job}
-use Rattle.journal_model.specs.JobRuns.{jobs_of_run, is_in, behind, fits}
-use Rattle.journal_model.specs.Jobs.{IsRow, closes, has_packets_left}
-use Rattle.journal_model.specs.ApplyJobs.{changed_job}
+use Rattle.journal_model.specs.rules.JobNames.{same_job}
+use Rattle.journal_model.specs.code.JobRuns.{jobs_of_run, is_in, behind, fits}
+use Rattle.journal_model.specs.code.Jobs.{IsRow, closes, has_packets_left}
+use Rattle.journal_model.specs.rules.ApplyJobs.{changed_job}
 use Rattle.journal_model.proofs.JobRunLaws.{joined_jobs}
 use Rattle.journal_model.proofs.SplitJobs.{others_same, others_left, left_behind, drop-map, any_of_rest}
 

@@ -6,9 +6,9 @@ use Rattle.std.specs.Prelude.{find, map, remove, not, if◌then◌else◌}
 use Rattle.std.specs.List.{list_all, list_any}
 use Rattle.ttm_base.specs.declared.JobId.{JobId}
 use Rattle.journal_model.specs.declared.state.Job.{Job}
-use Rattle.journal_model.specs.Waits.{same_job}
-use Rattle.journal_model.specs.ApplyJobs.{changed_job}
-use Rattle.journal_model.specs.Jobs.{ArePending, AreClosed, IsSplit, AreBounded, closes, is_bounded, is_past, has_packets_left}
+use Rattle.journal_model.specs.rules.Waits.{same_job}
+use Rattle.journal_model.specs.rules.ApplyJobs.{changed_job}
+use Rattle.journal_model.specs.code.Jobs.{ArePending, AreClosed, IsSplit, AreBounded, closes, is_bounded, is_past, has_packets_left}
 
 -- ---- names
 

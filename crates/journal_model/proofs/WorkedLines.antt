@@ -4,9 +4,9 @@ use Rattle.std.specs.Prelude.{codes, Ok, None}
 use Rattle.ttm_base.specs.declared.Mem.TheVariants.{System}
 use Rattle.journal_model.specs.declared.script.Script.{Script}
 use Rattle.journal_model.specs.declared.script.Command.TheVariants as command
-use Rattle.journal_model.specs.Words.{Text}
-use Rattle.journal_model.specs.Commands.{whole}
-use Rattle.journal_model.specs.FirstFault.{script_of, first_fault}
+use Rattle.journal_model.specs.scripts.Words.{Text}
+use Rattle.journal_model.specs.rules.Commands.{whole}
+use Rattle.journal_model.specs.scripts.FirstFault.{script_of, first_fault}
 use Rattle.journal_model.proofs.Rows.{sizes, buf_named, buf_id}
 
 -- ---- a script of eleven lines

@@ -11,8 +11,8 @@ use Rattle.journal_model.specs.declared.entry.Shown.TheVariants as shown
 use Rattle.journal_model.specs.declared.entry.Left.TheVariants as left
 use Rattle.journal_model.specs.declared.entry.DryWhy.TheVariants as dry
 use Rattle.journal_model.specs.declared.entry.Cause.TheVariants as cause
-use Rattle.journal_model.specs.Commands.{whole}
-use Rattle.journal_model.specs.Readable.{is_readable}
+use Rattle.journal_model.specs.rules.Commands.{whole}
+use Rattle.journal_model.specs.scripts.Readable.{is_readable}
 use Rattle.journal_model.proofs.Rows.{sizes, buf, buf_id, stamp, span}
 
 -- one buffer, and no thread

@@ -1,6 +1,6 @@
 ghost use Rattle.std.specs.Prelude.{◌≡◌, ◌-◌, ◌++◌, ◌∷◌, [], IfSome, IsTrue, OnOk, OnErr, length, take, flat_map};
 ghost use Rattle.std.specs.List.{list_all};
-ghost use Rattle.journal_model.specs.JobRuns.{fences_of_run, is_whole};
+ghost use Rattle.journal_model.specs.code.JobRuns.{fences_of_run, is_whole};
 
 use crate::job_ids::{JobRun, joined};
 use std::alloc::Global;
@@ -37,7 +37,7 @@ impl Model for Fences {
     ghost use Rattle.std.specs.Prelude.{List, IsTrue, flat_map};
     ghost use Rattle.std.specs.List.{list_all};
     ghost use Rattle.ttm_base.specs.declared.Fence.{Fence};
-    ghost use Rattle.journal_model.specs.JobRuns.{fences_of_run, is_whole};
+    ghost use Rattle.journal_model.specs.code.JobRuns.{fences_of_run, is_whole};
 
     ghost Value = { List Fence };
 

@@ -1,6 +1,6 @@
 ghost use Rattle.std.specs.Prelude.{◌≡◌, ◌++◌, ◌∷◌, [], IfSome, IsTrue, OnOk, OnErr, flat_map};
 ghost use Rattle.std.specs.List.{list_all};
-ghost use Rattle.journal_model.specs.JobRuns.{jobs_of_run, fits};
+ghost use Rattle.journal_model.specs.code.JobRuns.{jobs_of_run, fits};
 
 use std::alloc::Global;
 use std::marker::Model;
@@ -40,7 +40,7 @@ impl Model for JobIds {
     ghost use Rattle.std.specs.Prelude.{List, IsTrue, flat_map};
     ghost use Rattle.std.specs.List.{list_all};
     ghost use Rattle.ttm_base.specs.declared.JobId.{JobId};
-    ghost use Rattle.journal_model.specs.JobRuns.{jobs_of_run, fits};
+    ghost use Rattle.journal_model.specs.code.JobRuns.{jobs_of_run, fits};
 
     ghost Value = { List JobId };
 

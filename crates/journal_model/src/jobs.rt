@@ -24,7 +24,7 @@ pub struct Jobs {
 impl Model for Jobs {
     ghost use Rattle.std.specs.Prelude.{List};
     ghost use Rattle.journal_model.specs.declared.state.Job.{Job};
-    ghost use Rattle.journal_model.specs.Jobs.{AreKept};
+    ghost use Rattle.journal_model.specs.code.Jobs.{AreKept};
 
     ghost Value = { List Job };
 

@@ -17,15 +17,15 @@ use Rattle.journal_model.specs.declared.state.Job.{Job}
 use Rattle.journal_model.specs.declared.entry.Entry.{Entry}
 use Rattle.journal_model.specs.declared.entry.Kind.{Kind}
 use Rattle.journal_model.specs.declared.entry.Kind.TheVariants as kind
-use Rattle.journal_model.specs.ScriptRules.{is_script}
-use Rattle.journal_model.specs.Places.{aperture}
-use Rattle.journal_model.specs.Holds.{has_number}
-use Rattle.journal_model.specs.Waits.{same_job}
-use Rattle.journal_model.specs.Spares.{pages_taken, pages_given, job_names, are_unnamed, remaining}
-use Rattle.journal_model.specs.Next.{next}
-use Rattle.journal_model.specs.Apply.{applied}
-use Rattle.journal_model.specs.Stores.{showing}
-use Rattle.journal_model.specs.Legal.{World, first_world, world_after, world_along, world_of, state_of, IsLegalNext, IsLegalFrom, IsLegal}
+use Rattle.journal_model.specs.scripts.ScriptRules.{is_script}
+use Rattle.journal_model.specs.rules.Places.{aperture}
+use Rattle.journal_model.specs.rules.Holds.{has_number}
+use Rattle.journal_model.specs.rules.Waits.{same_job}
+use Rattle.journal_model.specs.statements.Spares.{pages_taken, pages_given, job_names, are_unnamed, remaining}
+use Rattle.journal_model.specs.rules.Next.{next}
+use Rattle.journal_model.specs.rules.Apply.{applied}
+use Rattle.journal_model.specs.rules.Stores.{showing}
+use Rattle.journal_model.specs.rules.Legal.{World, first_world, world_after, world_along, world_of, state_of, IsLegalNext, IsLegalFrom, IsLegal}
 use Rattle.law_facts.specs.Facts.{MappingsStay, LegalMappingsStay}
 use Rattle.laws.specs.law_holders.Maps.{Maps}
 use Rattle.laws.specs.law_transparent.NamedPlaces.{IsThere, IsRunnable}

@@ -11,12 +11,12 @@ use Rattle.ttm_base.specs.Cutting.{PageMap, packets_of}
 use Rattle.journal_model.specs.declared.script.Script.{Script}
 use Rattle.journal_model.specs.declared.state.Core.{Core}
 use Rattle.journal_model.specs.declared.state.Job.{Job}
-use Rattle.journal_model.specs.State.{buffer_in, has_buffer}
-use Rattle.journal_model.specs.Commands.{decl, buffers_of_op, first_mentions}
-use Rattle.journal_model.specs.CommandRules.{is_op}
-use Rattle.journal_model.specs.Places.{place_of, packet_place, aperture}
-use Rattle.journal_model.specs.Waits.{same_job, is_written, unfinished, jobs_before_read, jobs_before_write, jobs_before_use}
-use Rattle.journal_model.specs.PlainMemory.{Memory, OwedProbes, pieces_shown}
+use Rattle.journal_model.specs.rules.State.{buffer_in, has_buffer}
+use Rattle.journal_model.specs.rules.Commands.{decl, buffers_of_op, first_mentions}
+use Rattle.journal_model.specs.scripts.CommandRules.{is_op}
+use Rattle.journal_model.specs.rules.Places.{place_of, packet_place, aperture}
+use Rattle.journal_model.specs.rules.Waits.{same_job, is_written, unfinished, jobs_before_read, jobs_before_write, jobs_before_use}
+use Rattle.journal_model.specs.rules.PlainMemory.{Memory, OwedProbes, pieces_shown}
 use Rattle.law_facts.specs.Facts.{touches, writes_to}
 use Rattle.laws.specs.lemma_bytes_model.Memory.{Page, Nowhere, touched, written}
 use Rattle.laws.specs.lemma_bytes_model.View.{View, Good, Idle, Live}

@@ -12,12 +12,12 @@ use Rattle.journal_model.specs.declared.script.Script.{Script}
 use Rattle.journal_model.specs.declared.entry.Entry.{Entry}
 use Rattle.journal_model.specs.declared.state.Core.{Core}
 use Rattle.journal_model.specs.declared.state.Job.{Job}
-use Rattle.journal_model.specs.ScriptRules.{is_script}
-use Rattle.journal_model.specs.State.{buffer_in}
-use Rattle.journal_model.specs.Places.{place_of, aperture}
-use Rattle.journal_model.specs.Spares.{remaining}
-use Rattle.journal_model.specs.Waits.{same_job, changes, unfinished, jobs_before_read, jobs_before_write}
-use Rattle.journal_model.specs.Legal.{World, first_world, world_along, world_of, state_of, IsLegalNext, IsLegalFrom, IsLegal}
+use Rattle.journal_model.specs.scripts.ScriptRules.{is_script}
+use Rattle.journal_model.specs.rules.State.{buffer_in}
+use Rattle.journal_model.specs.rules.Places.{place_of, aperture}
+use Rattle.journal_model.specs.statements.Spares.{remaining}
+use Rattle.journal_model.specs.rules.Waits.{same_job, changes, unfinished, jobs_before_read, jobs_before_write}
+use Rattle.journal_model.specs.rules.Legal.{World, first_world, world_along, world_of, state_of, IsLegalNext, IsLegalFrom, IsLegal}
 use Rattle.law_facts.specs.Facts.{touches, writes_to, conflict, LegalConflictsWait, LegalReadyJobsMayRun}
 use Rattle.laws.specs.lemma_bytes_model.Memory.{touched}
 use Rattle.laws.specs.law_holders.Holding.{seen}

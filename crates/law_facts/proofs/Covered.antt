@@ -11,14 +11,14 @@ use Rattle.journal_model.specs.declared.script.Script.{Script}
 use Rattle.journal_model.specs.declared.entry.Entry.{Entry}
 use Rattle.journal_model.specs.declared.state.Core.{Core}
 use Rattle.journal_model.specs.declared.state.Job.{Job}
-use Rattle.journal_model.specs.ScriptRules.{is_script}
-use Rattle.journal_model.specs.State.{buffer_in, target_spans}
-use Rattle.journal_model.specs.Places.{pages_of, page_in_vram, place_of, aperture}
-use Rattle.journal_model.specs.Holds.{has_number}
-use Rattle.journal_model.specs.Waits.{same_job, changes, jobs_before_read, jobs_before_write}
-use Rattle.journal_model.specs.Spares.{remaining}
-use Rattle.journal_model.specs.Legal.{state_of, IsLegal}
-use Rattle.journal_model.specs.PlainMemory.{plain_of}
+use Rattle.journal_model.specs.scripts.ScriptRules.{is_script}
+use Rattle.journal_model.specs.rules.State.{buffer_in, target_spans}
+use Rattle.journal_model.specs.rules.Places.{pages_of, page_in_vram, place_of, aperture}
+use Rattle.journal_model.specs.rules.Holds.{has_number}
+use Rattle.journal_model.specs.rules.Waits.{same_job, changes, jobs_before_read, jobs_before_write}
+use Rattle.journal_model.specs.statements.Spares.{remaining}
+use Rattle.journal_model.specs.rules.Legal.{state_of, IsLegal}
+use Rattle.journal_model.specs.rules.PlainMemory.{plain_of}
 use Rattle.law_facts.specs.Facts.{touches, writes_to, IsCovered}
 use Rattle.laws.specs.lemma_bytes_model.Memory.{Nowhere, Vram, written}
 use Rattle.laws.specs.lemma_bytes_model.View.{Live, Target, Idle, is_fence}

@@ -6,10 +6,10 @@ use Rattle.ttm_base.specs.declared.JobId.{JobId}
 use Rattle.journal_model.specs.declared.script.Script.{Script}
 use Rattle.journal_model.specs.declared.entry.Entry.{Entry}
 use Rattle.journal_model.specs.declared.state.Job.{Job}
-use Rattle.journal_model.specs.ScriptRules.{is_script}
-use Rattle.journal_model.specs.Waits.{same_job}
-use Rattle.journal_model.specs.After.{ComesAfter, by_context, by_wait, through}
-use Rattle.journal_model.specs.Legal.{state_of, IsLegal}
+use Rattle.journal_model.specs.scripts.ScriptRules.{is_script}
+use Rattle.journal_model.specs.rules.Waits.{same_job}
+use Rattle.journal_model.specs.statements.After.{ComesAfter, by_context, by_wait, through}
+use Rattle.journal_model.specs.rules.Legal.{state_of, IsLegal}
 use Rattle.law_facts.specs.Facts.{IsCovered, WaitsFor}
 use Rattle.laws.proofs.law_state.GoodStates.{good_law}
 use Rattle.laws.proofs.lemma_bytes_model.Actions.{clash, bool_cases}

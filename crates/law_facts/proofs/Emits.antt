@@ -16,12 +16,12 @@ use Rattle.ttm_base.specs.Packets.{packet_touches}
 use Rattle.journal_model.specs.declared.script.Script.{Script}
 use Rattle.journal_model.specs.declared.state.Core.{Core}
 use Rattle.journal_model.specs.declared.state.Job.{Job}
-use Rattle.journal_model.specs.State.{buffer_in, live_in, changed, new_buffer, target_spans, has_target}
-use Rattle.journal_model.specs.Places.{pages_of, page_in_vram, page_at, place_of, frames_of, packet_place, name_in_spans, aperture}
-use Rattle.journal_model.specs.Holds.{has_number}
-use Rattle.journal_model.specs.Ready.{has_all_frames}
-use Rattle.journal_model.specs.Waits.{same_job, unfinished, jobs_before_read, jobs_before_write}
-use Rattle.journal_model.specs.ApplyMoves.{moved, move_packets, copy_of_page, table_left}
+use Rattle.journal_model.specs.rules.State.{buffer_in, live_in, changed, new_buffer, target_spans, has_target}
+use Rattle.journal_model.specs.rules.Places.{pages_of, page_in_vram, page_at, place_of, frames_of, packet_place, name_in_spans, aperture}
+use Rattle.journal_model.specs.rules.Holds.{has_number}
+use Rattle.journal_model.specs.rules.Ready.{has_all_frames}
+use Rattle.journal_model.specs.rules.Waits.{same_job, unfinished, jobs_before_read, jobs_before_write}
+use Rattle.journal_model.specs.rules.ApplyMoves.{moved, move_packets, copy_of_page, table_left}
 use Rattle.law_facts.specs.Facts.{touches, writes_to}
 use Rattle.laws.specs.law_holders.Holding.{seen}
 use Rattle.laws.specs.law_holders.Maps.{Maps}

@@ -12,12 +12,12 @@ use Rattle.journal_model.specs.declared.entry.Entry.{Entry}
 use Rattle.journal_model.specs.declared.state.Core.{Core}
 use Rattle.journal_model.specs.declared.state.Buffer.{Buffer}
 use Rattle.journal_model.specs.declared.state.Job.{Job}
-use Rattle.journal_model.specs.ScriptRules.{is_script}
-use Rattle.journal_model.specs.State.{buffer_in, new_buffer, target_spans}
-use Rattle.journal_model.specs.Places.{pages_of, page_in_vram, page_in_table, page_at, place_of}
-use Rattle.journal_model.specs.Holds.{is_free_page, has_number}
-use Rattle.journal_model.specs.Waits.{same_job, changes, unfinished, jobs_before_read, jobs_before_write}
-use Rattle.journal_model.specs.Legal.{World, first_world, world_along, world_of, state_of, IsLegalNext, IsLegalFrom, IsLegal}
+use Rattle.journal_model.specs.scripts.ScriptRules.{is_script}
+use Rattle.journal_model.specs.rules.State.{buffer_in, new_buffer, target_spans}
+use Rattle.journal_model.specs.rules.Places.{pages_of, page_in_vram, page_in_table, page_at, place_of}
+use Rattle.journal_model.specs.rules.Holds.{is_free_page, has_number}
+use Rattle.journal_model.specs.rules.Waits.{same_job, changes, unfinished, jobs_before_read, jobs_before_write}
+use Rattle.journal_model.specs.rules.Legal.{World, first_world, world_along, world_of, state_of, IsLegalNext, IsLegalFrom, IsLegal}
 use Rattle.law_facts.specs.Facts.{touches, writes_to, is_job_of, kernel_jobs, LegalPlacesAreFenced, LegalTargetsAreFenced}
 use Rattle.laws.specs.lemma_bytes_model.Memory as memory
 use Rattle.laws.specs.lemma_bytes_model.View.{Live, Target}

@@ -18,14 +18,14 @@ use Rattle.ttm_base.specs.Pages as pages
 use Rattle.journal_model.specs.declared.state.Core.{Core}
 use Rattle.journal_model.specs.declared.state.Buffer.{Buffer}
 use Rattle.journal_model.specs.declared.state.Job.{Job}
-use Rattle.journal_model.specs.State.{live_in, buffer_in, changed, new_buffer, target_spans}
-use Rattle.journal_model.specs.Places.{pages_of, page_in_vram, page_in_table, page_in, page_at, loc_of}
-use Rattle.journal_model.specs.Holds.{is_free_page, has_number}
-use Rattle.journal_model.specs.Waits.{same_job, changes, unfinished, use_of}
-use Rattle.journal_model.specs.ApplyPages.{with_fence, with_kernel_fences, with_spans, with_loc, without_frames, bound, unbound}
-use Rattle.journal_model.specs.ApplyMoves.{moved, table_left}
-use Rattle.journal_model.specs.ApplyVictims.{leaves_tt}
-use Rattle.journal_model.specs.ApplyJobs.{with_use}
+use Rattle.journal_model.specs.rules.State.{live_in, buffer_in, changed, new_buffer, target_spans}
+use Rattle.journal_model.specs.rules.Places.{pages_of, page_in_vram, page_in_table, page_in, page_at, loc_of}
+use Rattle.journal_model.specs.rules.Holds.{is_free_page, has_number}
+use Rattle.journal_model.specs.rules.Waits.{same_job, changes, unfinished, use_of}
+use Rattle.journal_model.specs.rules.ApplyPages.{with_fence, with_kernel_fences, with_spans, with_loc, without_frames, bound, unbound}
+use Rattle.journal_model.specs.rules.ApplyMoves.{moved, table_left}
+use Rattle.journal_model.specs.rules.ApplyVictims.{leaves_tt}
+use Rattle.journal_model.specs.rules.ApplyJobs.{with_use}
 use Rattle.law_facts.specs.Facts.{touches, is_kernel, kernel_jobs, is_job_of}
 use Rattle.laws.proofs.law_state.Lists.{set_at}
 use Rattle.laws.proofs.lemma_bytes_model.Actions.{or_first, or_second}

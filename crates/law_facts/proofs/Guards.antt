@@ -13,15 +13,15 @@ use Rattle.journal_model.specs.declared.state.Core.{Core}
 use Rattle.journal_model.specs.declared.state.Buffer.{Buffer}
 use Rattle.journal_model.specs.declared.state.Job.{Job}
 use Rattle.journal_model.specs.declared.state.Ghost as ghosts
-use Rattle.journal_model.specs.ScriptRules.{is_script}
-use Rattle.journal_model.specs.State.{live_in, new_buffer}
-use Rattle.journal_model.specs.Places.{frames_of, page_in_table, aperture}
-use Rattle.journal_model.specs.Holds.{held_frames, has_number}
-use Rattle.journal_model.specs.Waits.{same_job}
-use Rattle.journal_model.specs.Spares.{remaining}
-use Rattle.journal_model.specs.After.{ComesAfter, by_context, by_wait, through}
-use Rattle.journal_model.specs.Legal.{state_of, stores_of, IsLegal}
-use Rattle.journal_model.specs.PlainMemory.{plain_of}
+use Rattle.journal_model.specs.scripts.ScriptRules.{is_script}
+use Rattle.journal_model.specs.rules.State.{live_in, new_buffer}
+use Rattle.journal_model.specs.rules.Places.{frames_of, page_in_table, aperture}
+use Rattle.journal_model.specs.rules.Holds.{held_frames, has_number}
+use Rattle.journal_model.specs.rules.Waits.{same_job}
+use Rattle.journal_model.specs.statements.Spares.{remaining}
+use Rattle.journal_model.specs.statements.After.{ComesAfter, by_context, by_wait, through}
+use Rattle.journal_model.specs.rules.Legal.{state_of, stores_of, IsLegal}
+use Rattle.journal_model.specs.rules.PlainMemory.{plain_of}
 use Rattle.law_facts.specs.Facts.{touches, IsCovered, GhostsAreFenced, FreePagesAreFenced, LegalGhostsAreFenced, LegalFreePagesAreFenced}
 use Rattle.laws.specs.lemma_bytes_model.Memory.{Page, Nowhere, Vram, Frame, touched, written}
 use Rattle.laws.specs.lemma_bytes_model.View.{Owner, Idle, Free, Kept, Ghost, Covers, self, behind, Guarded}

@@ -4,8 +4,8 @@ use Rattle.std.specs.Prelude.{Contains, slice_get, slice_index_or, if◌then◌e
 use Rattle.std.specs.List.{list_any}
 use Rattle.ttm_base.specs.declared.JobId.{JobId}
 use Rattle.journal_model.specs.declared.state.Job.{Job}
-use Rattle.journal_model.specs.Waits.{same_job}
-use Rattle.journal_model.specs.ApplyJobs.{changed_job}
+use Rattle.journal_model.specs.rules.Waits.{same_job}
+use Rattle.journal_model.specs.rules.ApplyJobs.{changed_job}
 use Rattle.laws.proofs.lemma_bytes_model.Actions.{or_first, or_second}
 use Rattle.laws.proofs.lemma_bytes_view.Jobs.{same_job-refl, changed_there}
 use Rattle.laws.proofs.lemma_bytes_view.MoreJobs.{get_front}

@@ -10,7 +10,7 @@ use Rattle.ttm_base.specs.Pages as pages
 use Rattle.ttm_base.specs.Packets.{is_aper, packet_names, packet_touches, packet_writes}
 use Rattle.journal_model.specs.declared.state.Core.{Core}
 use Rattle.journal_model.specs.declared.state.Job.{Job}
-use Rattle.journal_model.specs.Places.{aperture}
+use Rattle.journal_model.specs.rules.Places.{aperture}
 use Rattle.law_facts.specs.Facts.{touches, writes_to}
 use Rattle.laws.proofs.lemma_bytes_model.Actions.{or_first, or_second}
 

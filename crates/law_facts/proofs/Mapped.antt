@@ -17,19 +17,19 @@ use Rattle.journal_model.specs.declared.state.State.{State}
 use Rattle.journal_model.specs.declared.state.Core.{Core}
 use Rattle.journal_model.specs.declared.state.Buffer.{Buffer}
 use Rattle.journal_model.specs.declared.state.Ghost.{Ghost}
-use Rattle.journal_model.specs.State.{live_in, buffer, buffer_in, changed, new_buffer}
-use Rattle.journal_model.specs.Commands.{command_at_work}
-use Rattle.journal_model.specs.Places.{pages_of, frames_of}
-use Rattle.journal_model.specs.Holds.{spans_in, has_number}
-use Rattle.journal_model.specs.Waits.{use_of, jobs_before_target}
-use Rattle.journal_model.specs.Spares.{tt_of_ghosts, pages_taken}
-use Rattle.journal_model.specs.PageSteps.{page_to_fill, first_frame_page, next_job, next_ghost}
-use Rattle.journal_model.specs.Apply.{applied}
-use Rattle.journal_model.specs.ApplyCommands.{named_in, ghost_of_freed}
-use Rattle.journal_model.specs.ApplyPages.{with_fence, with_kernel_fences, with_spans, with_loc, without_frames, bound}
-use Rattle.journal_model.specs.ApplyMoves.{moved, frames_left, ghost_of_moved}
-use Rattle.journal_model.specs.ApplyVictims.{leaves_tt}
-use Rattle.journal_model.specs.ApplyJobs.{ops_of, with_use}
+use Rattle.journal_model.specs.rules.State.{live_in, buffer, buffer_in, changed, new_buffer}
+use Rattle.journal_model.specs.rules.Commands.{command_at_work}
+use Rattle.journal_model.specs.rules.Places.{pages_of, frames_of}
+use Rattle.journal_model.specs.rules.Holds.{spans_in, has_number}
+use Rattle.journal_model.specs.rules.Waits.{use_of, jobs_before_target}
+use Rattle.journal_model.specs.statements.Spares.{tt_of_ghosts, pages_taken}
+use Rattle.journal_model.specs.rules.PageSteps.{page_to_fill, first_frame_page, next_job, next_ghost}
+use Rattle.journal_model.specs.rules.Apply.{applied}
+use Rattle.journal_model.specs.rules.ApplyCommands.{named_in, ghost_of_freed}
+use Rattle.journal_model.specs.rules.ApplyPages.{with_fence, with_kernel_fences, with_spans, with_loc, without_frames, bound}
+use Rattle.journal_model.specs.rules.ApplyMoves.{moved, frames_left, ghost_of_moved}
+use Rattle.journal_model.specs.rules.ApplyVictims.{leaves_tt}
+use Rattle.journal_model.specs.rules.ApplyJobs.{ops_of, with_use}
 use Rattle.laws.specs.law_holders.Maps.{BufferMaps, GhostMaps, Maps}
 use Rattle.laws.specs.lemma_bytes_told.Told.{Told, still, makes, frees, leaves, takes, untakes, populates, swaps_in, depopulates, binds, unbinds, moves_up, moves_across, moves_down, evicts, catches, swaps_out, arms, reads, writes, results}
 use Rattle.laws.proofs.law_state.Lists.{set_at}

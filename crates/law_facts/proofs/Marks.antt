@@ -15,18 +15,18 @@ use Rattle.journal_model.specs.declared.entry.Kind.TheVariants as kind
 use Rattle.journal_model.specs.declared.entry.DryWhy.{DryWhy}
 use Rattle.journal_model.specs.declared.entry.DryWhy.TheVariants as dry
 use Rattle.journal_model.specs.declared.state.State.{State}
-use Rattle.journal_model.specs.State.{course, buffer, same_buffer}
-use Rattle.journal_model.specs.Commands.{command_at_work}
-use Rattle.journal_model.specs.Complete.{is_complete, answers_of, thread_numbers}
-use Rattle.journal_model.specs.Commands.{commands_of}
-use Rattle.journal_model.specs.Legal.{World, Made, first_world, world_along, made_along}
-use Rattle.journal_model.specs.PlainMemory.{Plain, first_plain, plain_after, plain_after_kind}
-use Rattle.journal_model.specs.Transparent.{IsKindPlain, IsTransparentFrom}
-use Rattle.journal_model.specs.Apply.{thread_of}
-use Rattle.journal_model.specs.Dry.{is_dry, dry_why, same_why}
-use Rattle.journal_model.specs.Search.{aim_of}
-use Rattle.journal_model.specs.Causes.{since_last, in_command, named_at_work, is_take_of, dry_of, is_at_work, places_sought, is_dry_place, is_dry_as_told, was_dry, search_of, shows_pressure, PressedSearch, pressed_by, all_went_dry, is_search_over, is_out_of_space, has_its_cause, have_causes}
-use Rattle.journal_model.specs.MarkLaws.{HaveOneStory, MarksTellNothing, MarksTurnNothing}
+use Rattle.journal_model.specs.rules.State.{course, buffer, same_buffer}
+use Rattle.journal_model.specs.rules.Commands.{command_at_work}
+use Rattle.journal_model.specs.statements.Complete.{is_complete, answers_of, thread_numbers}
+use Rattle.journal_model.specs.rules.Commands.{commands_of}
+use Rattle.journal_model.specs.rules.Legal.{World, Made, first_world, world_along, made_along}
+use Rattle.journal_model.specs.rules.PlainMemory.{Plain, first_plain, plain_after, plain_after_kind}
+use Rattle.journal_model.specs.rules.Transparent.{IsKindPlain, IsTransparentFrom}
+use Rattle.journal_model.specs.rules.Apply.{thread_of}
+use Rattle.journal_model.specs.rules.Dry.{is_dry, dry_why, same_why}
+use Rattle.journal_model.specs.rules.Search.{aim_of}
+use Rattle.journal_model.specs.statements.Causes.{since_last, in_command, named_at_work, is_take_of, dry_of, is_at_work, places_sought, is_dry_place, is_dry_as_told, was_dry, search_of, shows_pressure, PressedSearch, pressed_by, all_went_dry, is_search_over, is_out_of_space, has_its_cause, have_causes}
+use Rattle.journal_model.specs.statements.MarkLaws.{HaveOneStory, MarksTellNothing, MarksTurnNothing}
 use Rattle.laws.proofs.law_search.FormSearches.{in_form, choice_same, place_search_same, long_same, victim_same, ghost_same, causes_same}
 use Rattle.laws.proofs.law_search.FormSteps.{unready_same, world_same}
 use Rattle.laws.proofs.law_search.Forms.{scheduled_same}

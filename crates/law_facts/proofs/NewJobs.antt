@@ -19,21 +19,21 @@ use Rattle.journal_model.specs.declared.entry.Kind.{Kind}
 use Rattle.journal_model.specs.declared.state.State.{State}
 use Rattle.journal_model.specs.declared.state.Core.{Core}
 use Rattle.journal_model.specs.declared.state.Job.{Job}
-use Rattle.journal_model.specs.ScriptRules.{is_script}
-use Rattle.journal_model.specs.State.{buffer, buffer_in, live_in}
-use Rattle.journal_model.specs.Commands.{decl, named, command_at_work}
-use Rattle.journal_model.specs.CommandRules.{is_op, is_command, is_between}
-use Rattle.journal_model.specs.Places.{packet_place, frames_of}
-use Rattle.journal_model.specs.Holds.{has_number}
-use Rattle.journal_model.specs.Ready.{is_ready, uses_bytes}
-use Rattle.journal_model.specs.Waits.{jobs_before_use}
-use Rattle.journal_model.specs.PageSteps.{next_job}
-use Rattle.journal_model.specs.Next.{next}
-use Rattle.journal_model.specs.Apply.{applied}
-use Rattle.journal_model.specs.ApplyCommands.{named_in}
-use Rattle.journal_model.specs.ApplyJobs.{ops_of}
-use Rattle.journal_model.specs.Legal.{World, first_world, world_of, state_of, stores_of, IsLegalNext, IsLegal}
-use Rattle.journal_model.specs.PlainMemory.{Memory, OwedProbes, plain_of}
+use Rattle.journal_model.specs.scripts.ScriptRules.{is_script}
+use Rattle.journal_model.specs.rules.State.{buffer, buffer_in, live_in}
+use Rattle.journal_model.specs.rules.Commands.{decl, named, command_at_work}
+use Rattle.journal_model.specs.scripts.CommandRules.{is_op, is_command, is_between}
+use Rattle.journal_model.specs.rules.Places.{packet_place, frames_of}
+use Rattle.journal_model.specs.rules.Holds.{has_number}
+use Rattle.journal_model.specs.rules.Ready.{is_ready, uses_bytes}
+use Rattle.journal_model.specs.rules.Waits.{jobs_before_use}
+use Rattle.journal_model.specs.rules.PageSteps.{next_job}
+use Rattle.journal_model.specs.rules.Next.{next}
+use Rattle.journal_model.specs.rules.Apply.{applied}
+use Rattle.journal_model.specs.rules.ApplyCommands.{named_in}
+use Rattle.journal_model.specs.rules.ApplyJobs.{ops_of}
+use Rattle.journal_model.specs.rules.Legal.{World, first_world, world_of, state_of, stores_of, IsLegalNext, IsLegal}
+use Rattle.journal_model.specs.rules.PlainMemory.{Memory, OwedProbes, plain_of}
 use Rattle.law_facts.specs.Facts.{touches, FreePagesAreFenced}
 use Rattle.laws.specs.law_state.GoodState.{GoodState, HasPages}
 use Rattle.laws.specs.lemma_bytes_told.Told.{Told, still, makes, frees, leaves, takes, untakes, populates, swaps_in, depopulates, binds, unbinds, moves_up, moves_across, moves_down, evicts, catches, swaps_out, arms, reads, writes, results}

@@ -9,10 +9,10 @@ use Rattle.journal_model.specs.declared.script.Script.{Script}
 use Rattle.journal_model.specs.declared.entry.Entry.{Entry}
 use Rattle.journal_model.specs.declared.state.Core.{Core}
 use Rattle.journal_model.specs.declared.state.Job.{Job}
-use Rattle.journal_model.specs.ScriptRules.{is_script}
-use Rattle.journal_model.specs.Legal.{state_of, IsLegal}
-use Rattle.journal_model.specs.Waits.{same_job}
-use Rattle.journal_model.specs.After.{ComesAfter, by_context, by_wait, through}
+use Rattle.journal_model.specs.scripts.ScriptRules.{is_script}
+use Rattle.journal_model.specs.rules.Legal.{state_of, IsLegal}
+use Rattle.journal_model.specs.rules.Waits.{same_job}
+use Rattle.journal_model.specs.statements.After.{ComesAfter, by_context, by_wait, through}
 use Rattle.law_facts.specs.Facts.{LegalJobsAreInOrder}
 use Rattle.laws.specs.law_sound.Sound.{waits_for_none_of, WaitsGoBack, is_among, waits_for_some_of}
 use Rattle.laws.specs.law_jobs.JobLines.{done_of}

@@ -7,10 +7,10 @@ use Rattle.journal_model.specs.declared.script.Script.{Script}
 use Rattle.journal_model.specs.declared.entry.Entry.{Entry}
 use Rattle.journal_model.specs.declared.state.Job.{Job}
 use Rattle.ttm_base.specs.declared.JobId.{JobId}
-use Rattle.journal_model.specs.ScriptRules.{is_script}
-use Rattle.journal_model.specs.Waits.{same_job}
-use Rattle.journal_model.specs.After.{ComesAfter, by_context, by_wait, through}
-use Rattle.journal_model.specs.Legal.{state_of, IsLegal}
+use Rattle.journal_model.specs.scripts.ScriptRules.{is_script}
+use Rattle.journal_model.specs.rules.Waits.{same_job}
+use Rattle.journal_model.specs.statements.After.{ComesAfter, by_context, by_wait, through}
+use Rattle.journal_model.specs.rules.Legal.{state_of, IsLegal}
 use Rattle.laws.proofs.law_jobs.Law.{line_law}
 use Rattle.laws.proofs.law_sound.Along.{sound_law}
 use Rattle.law_facts.proofs.Jobs.{has_of, GoOn}

@@ -12,12 +12,12 @@ use Rattle.ttm_base.specs.Packets.{packet_names}
 use Rattle.journal_model.specs.declared.script.Script.{Script}
 use Rattle.journal_model.specs.declared.script.Command.TheVariants as command
 use Rattle.journal_model.specs.declared.state.Core.{Core}
-use Rattle.journal_model.specs.State.{buffer_in, target_spans}
-use Rattle.journal_model.specs.Commands.{whole}
-use Rattle.journal_model.specs.Places.{place_of, aperture}
-use Rattle.journal_model.specs.Holds.{is_free_page}
-use Rattle.journal_model.specs.Waits.{waited_for}
-use Rattle.journal_model.specs.Scheduled.{run_of, run_along}
+use Rattle.journal_model.specs.rules.State.{buffer_in, target_spans}
+use Rattle.journal_model.specs.rules.Commands.{whole}
+use Rattle.journal_model.specs.rules.Places.{place_of, aperture}
+use Rattle.journal_model.specs.rules.Holds.{is_free_page}
+use Rattle.journal_model.specs.rules.Waits.{waited_for}
+use Rattle.journal_model.specs.statements.Scheduled.{run_of, run_along}
 use Rattle.law_facts.specs.Facts.{touches, writes_to, conflict, is_job_of, kernel_jobs}
 use Rattle.journal_model.proofs.Rows.{sizes, buf, buf_id, span, script_of, alone}
 

@@ -16,14 +16,14 @@ use Rattle.journal_model.specs.declared.state.Core.{Core}
 use Rattle.journal_model.specs.declared.state.Buffer.{Buffer}
 use Rattle.journal_model.specs.declared.state.Job.{Job}
 use Rattle.journal_model.specs.declared.state.Ghost.{Ghost}
-use Rattle.journal_model.specs.State.{live_in, buffer_in, target_spans}
-use Rattle.journal_model.specs.Places.{pages_of, frames_of, place_of, aperture}
-use Rattle.journal_model.specs.Holds.{is_free_page, held_frames, has_number}
-use Rattle.journal_model.specs.Waits.{same_job, waited_for, jobs_before_read, jobs_before_write}
-use Rattle.journal_model.specs.After.{ComesAfter}
-use Rattle.journal_model.specs.Spares.{remaining}
-use Rattle.journal_model.specs.Legal.{state_of}
-use Rattle.journal_model.specs.Laws.{ForLegal}
+use Rattle.journal_model.specs.rules.State.{live_in, buffer_in, target_spans}
+use Rattle.journal_model.specs.rules.Places.{pages_of, frames_of, place_of, aperture}
+use Rattle.journal_model.specs.rules.Holds.{is_free_page, held_frames, has_number}
+use Rattle.journal_model.specs.rules.Waits.{same_job, waited_for, jobs_before_read, jobs_before_write}
+use Rattle.journal_model.specs.statements.After.{ComesAfter}
+use Rattle.journal_model.specs.statements.Spares.{remaining}
+use Rattle.journal_model.specs.rules.Legal.{state_of}
+use Rattle.journal_model.specs.statements.Laws.{ForLegal}
 
 -- a law of the state after every legal journal
 abbrev pub ForStates : (Core → Type 0) → Type 0

@@ -4,7 +4,7 @@
 
 ghost use Rattle.law_facts.specs.Facts.{LegalJobsAreInOrder, LegalPlacesAreFenced, LegalTargetsAreFenced, LegalConflictsWait, LegalReadyJobsMayRun};
 ghost use Rattle.law_facts.specs.Facts.{LegalGhostsAreFenced, LegalFreePagesAreFenced, LegalMappingsStay};
-ghost use Rattle.journal_model.specs.MarkLaws.{MarksTellNothing, MarksTurnNothing};
+ghost use Rattle.journal_model.specs.statements.MarkLaws.{MarksTellNothing, MarksTurnNothing};
 
 /// Where a job comes after another, by its context or by the waits of the state, and is done, the other is done; and a job waits only for
 /// jobs that were emitted before it.

@@ -6,9 +6,9 @@ use Rattle.journal_model.specs.declared.script.Script.{Script}
 use Rattle.journal_model.specs.declared.entry.Entry.{Entry}
 use Rattle.journal_model.specs.declared.entry.Kind.{Kind}
 use Rattle.journal_model.specs.declared.entry.Kind.TheVariants as kind
-use Rattle.journal_model.specs.ScriptRules.{is_script}
-use Rattle.journal_model.specs.Next.{next}
-use Rattle.journal_model.specs.Legal.{IsLegal, first_world, world_along, state_of}
+use Rattle.journal_model.specs.scripts.ScriptRules.{is_script}
+use Rattle.journal_model.specs.rules.Next.{next}
+use Rattle.journal_model.specs.rules.Legal.{IsLegal, first_world, world_along, state_of}
 use Rattle.laws.proofs.law_state.Shown.{shows, legal_plain}
 use Rattle.laws.proofs.law_owners.Fronts.{legal_front, throughout_law}
 use Rattle.laws.proofs.law_end.Ends.{journals_end}

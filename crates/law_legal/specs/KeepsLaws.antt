@@ -8,13 +8,13 @@ use Rattle.journal_model.specs.declared.script.Script.{Script}
 use Rattle.journal_model.specs.declared.entry.Entry.{Entry}
 use Rattle.journal_model.specs.declared.entry.DryWhy.{DryWhy}
 use Rattle.journal_model.specs.declared.entry.Kind.TheVariants as kind
-use Rattle.journal_model.specs.Legal.{IsLegal, made_of, state_of}
-use Rattle.journal_model.specs.Scheduled.{turn_limit}
-use Rattle.journal_model.specs.Readable.{is_readable}
-use Rattle.journal_model.specs.ReportText.{report}
-use Rattle.journal_model.specs.Laws.{HasCauses}
-use Rattle.journal_model.specs.MarkLaws.{MapsAreRight}
-use Rattle.journal_model.specs.Transparent.{IsTransparent}
+use Rattle.journal_model.specs.rules.Legal.{IsLegal, made_of, state_of}
+use Rattle.journal_model.specs.statements.Scheduled.{turn_limit}
+use Rattle.journal_model.specs.scripts.Readable.{is_readable}
+use Rattle.journal_model.specs.reports.ReportText.{report}
+use Rattle.journal_model.specs.statements.Laws.{HasCauses}
+use Rattle.journal_model.specs.statements.MarkLaws.{MapsAreRight}
+use Rattle.journal_model.specs.rules.Transparent.{IsTransparent}
 use Rattle.laws.specs.law_owners.Throughout.{HoldThroughout}
 use Rattle.laws.specs.law_lists.NamedVictims.{NamesVictims}
 use Rattle.laws.specs.law_answers.InOrder.{AreInOrder}

@@ -1,5 +1,5 @@
 //! Laws on mappings of buffers by the CPU: what they know is so, since they forget the pages that leave.
-ghost use Rattle.journal_model.specs.MarkLaws.{LegalMapsAreRight};
+ghost use Rattle.journal_model.specs.statements.MarkLaws.{LegalMapsAreRight};
 ghost use Rattle.law_legal.specs.law_maps.Following.{EntriesGoWithTheirPages, EntriesGoWithTheirMapping};
 
 /// Where areas have the entries that a journal gives a mapping, they have them behind one more entry that isn't an answer, once the call

@@ -1,5 +1,5 @@
 //! Laws of address spaces: what the mappings that requests leave say of each page, and what a job by name does.
-ghost use Rattle.journal_model.specs.Laws.{RegionsAreTheSpace, RegionsAreDisjoint, RemapsAreFew, NamesAreAddresses};
+ghost use Rattle.journal_model.specs.statements.Laws.{RegionsAreTheSpace, RegionsAreDisjoint, RemapsAreFew, NamesAreAddresses};
 
 /// The mappings that requests leave say of each page what the requests say.
 pub fn mappings_are_the_space()

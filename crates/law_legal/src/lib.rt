@@ -13,8 +13,8 @@ pub mod law_verdict;
 ghost use Rattle.std.specs.Prelude.{IsTrue, List};
 ghost use Rattle.journal_model.specs.declared.script.Script.{Script};
 ghost use Rattle.journal_model.specs.declared.entry.Entry.{Entry};
-ghost use Rattle.journal_model.specs.ScriptRules.{is_script};
-ghost use Rattle.journal_model.specs.Legal.{IsLegal};
+ghost use Rattle.journal_model.specs.scripts.ScriptRules.{is_script};
+ghost use Rattle.journal_model.specs.rules.Legal.{IsLegal};
 ghost use Rattle.law_legal.specs.KeepsLaws.{KeepsLaws};
 
 /// Each legal journal of a script keeps the laws.

@@ -11,7 +11,7 @@ use Rattle.ttm_base.specs.ListWords.{count_from}
 use Rattle.ttm_base.specs.Cutting.{Piece, PageMap, pieces_of, packet_of, packets_of}
 use Rattle.ttm_base.specs.Packets.{after_packet, probe_piece}
 use Rattle.ttm_base.specs.Pages.{Page, nowhere, vram, frame, slot, PageBytes, Aperture, same_page, translated, with_bytes, read_bytes}
-use Rattle.journal_model.specs.PlainMemory.{Memory, with_range, after_op, after_ops, memory_range, piece_shown}
+use Rattle.journal_model.specs.rules.PlainMemory.{Memory, with_range, after_op, after_ops, memory_range, piece_shown}
 use Rattle.laws.specs.law_cutting.Parts.{part_of, IsInPage, IsPiece}
 use Rattle.laws.proofs.law_cutting.Whole.{Each, IsApart, pieces_are, parts_are_whole, joined_is_shown}
 use Rattle.law_packets.specs.Through.{AllInside, AreApart, IsInside, after_packets, memory_of, op_shows, packets_show, probes_show}

@@ -7,7 +7,7 @@ use Rattle.ttm_base.specs.declared.Packet.{Packet}
 use Rattle.ttm_base.specs.Cutting.{PageMap}
 use Rattle.ttm_base.specs.Packets.{after_packet, probe_piece}
 use Rattle.ttm_base.specs.Pages.{PageBytes, Aperture, same_page, translated}
-use Rattle.journal_model.specs.PlainMemory.{Memory, after_op, memory_range}
+use Rattle.journal_model.specs.rules.PlainMemory.{Memory, after_op, memory_range}
 
 -- the bytes of buffers, each read at the page that its name means
 abbrev pub memory_of : Aperture → PageMap → PageBytes → Memory

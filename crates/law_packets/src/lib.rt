@@ -8,7 +8,7 @@ ghost use Rattle.ttm_base.specs.declared.Op.{Op};
 ghost use Rattle.ttm_base.specs.declared.Packet.{Packet};
 ghost use Rattle.ttm_base.specs.Cutting.{PageMap, packets_of};
 ghost use Rattle.ttm_base.specs.Pages.{Page, PageBytes, Aperture, same_page, translated};
-ghost use Rattle.journal_model.specs.PlainMemory.{after_ops};
+ghost use Rattle.journal_model.specs.rules.PlainMemory.{after_ops};
 ghost use Rattle.copy_packet.specs.declared.stores.Stores.{Stores};
 ghost use Rattle.copy_packet.specs.Runs.{CanRun};
 ghost use Rattle.law_packets.specs.Ready.{AllShort, AreThere};

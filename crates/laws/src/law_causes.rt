@@ -8,10 +8,10 @@ ghost use Rattle.journal_model.specs.declared.state.State.{State};
 ghost use Rattle.journal_model.specs.declared.entry.DryWhy.{DryWhy};
 ghost use Rattle.journal_model.specs.declared.entry.Entry.{Entry};
 ghost use Rattle.journal_model.specs.declared.entry.Kind.TheVariants as kind;
-ghost use Rattle.journal_model.specs.ScriptRules.{is_script};
-ghost use Rattle.journal_model.specs.Next.{next};
-ghost use Rattle.journal_model.specs.Legal.{IsLegal, made_of, state_of};
-ghost use Rattle.journal_model.specs.Laws.{LegalHasCauses};
+ghost use Rattle.journal_model.specs.scripts.ScriptRules.{is_script};
+ghost use Rattle.journal_model.specs.rules.Next.{next};
+ghost use Rattle.journal_model.specs.rules.Legal.{IsLegal, made_of, state_of};
+ghost use Rattle.journal_model.specs.statements.Laws.{LegalHasCauses};
 ghost use Rattle.laws.specs.law_causes.Explains.{Explains};
 ghost use Rattle.laws.specs.law_causes.Refused.{LeavesNothing};
 

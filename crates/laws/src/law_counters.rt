@@ -2,8 +2,8 @@
 ghost use Rattle.std.specs.Prelude.{IsTrue, List};
 ghost use Rattle.journal_model.specs.declared.script.Script.{Script};
 ghost use Rattle.journal_model.specs.declared.entry.Entry.{Entry};
-ghost use Rattle.journal_model.specs.ScriptRules.{is_script};
-ghost use Rattle.journal_model.specs.Legal.{IsLegal, state_of};
+ghost use Rattle.journal_model.specs.scripts.ScriptRules.{is_script};
+ghost use Rattle.journal_model.specs.rules.Legal.{IsLegal, state_of};
 ghost use Rattle.laws.specs.law_counters.Counted.{AreCounted};
 
 /// The last stamp, the last ghost and the last job of each context are below 2^63.

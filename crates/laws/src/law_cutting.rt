@@ -6,8 +6,8 @@ ghost use Rattle.ttm_base.specs.declared.Op.TheVariants as op;
 ghost use Rattle.ttm_base.specs.declared.BufId.{BufId};
 ghost use Rattle.ttm_base.specs.Cutting.{Piece, pieces_of};
 ghost use Rattle.journal_model.specs.declared.script.Script.{Script};
-ghost use Rattle.journal_model.specs.CommandRules.{is_op};
-ghost use Rattle.journal_model.specs.PlainMemory.{Memory, after_ops, memory_range, piece_shown};
+ghost use Rattle.journal_model.specs.scripts.CommandRules.{is_op};
+ghost use Rattle.journal_model.specs.rules.PlainMemory.{Memory, after_ops, memory_range, piece_shown};
 ghost use Rattle.laws.specs.law_cutting.Parts.{part_of, IsPiece};
 
 /// The pieces of operations, each as an operation of its own and in order, leave the memory that the operations leave.

@@ -2,10 +2,10 @@
 ghost use Rattle.std.specs.Prelude.{◌<◌, IsTrue, List, length};
 ghost use Rattle.journal_model.specs.declared.script.Script.{Script};
 ghost use Rattle.journal_model.specs.declared.entry.Entry.{Entry};
-ghost use Rattle.journal_model.specs.ScriptRules.{is_script};
-ghost use Rattle.journal_model.specs.Legal.{IsLegal};
-ghost use Rattle.journal_model.specs.Scheduled.{turn_limit};
-ghost use Rattle.journal_model.specs.Laws.{LimitSuffices};
+ghost use Rattle.journal_model.specs.scripts.ScriptRules.{is_script};
+ghost use Rattle.journal_model.specs.rules.Legal.{IsLegal};
+ghost use Rattle.journal_model.specs.statements.Scheduled.{turn_limit};
+ghost use Rattle.journal_model.specs.statements.Laws.{LimitSuffices};
 
 /// Each legal journal, whatever the order of its actors, has fewer entries than the limit of turns.
 pub fn journals_end()

@@ -2,8 +2,8 @@
 ghost use Rattle.std.specs.Prelude.{ℕ, IsTrue, List};
 ghost use Rattle.journal_model.specs.declared.script.Script.{Script};
 ghost use Rattle.journal_model.specs.declared.entry.Entry.{Entry};
-ghost use Rattle.journal_model.specs.ScriptRules.{is_script};
-ghost use Rattle.journal_model.specs.Legal.{IsLegal, state_of};
+ghost use Rattle.journal_model.specs.scripts.ScriptRules.{is_script};
+ghost use Rattle.journal_model.specs.rules.Legal.{IsLegal, state_of};
 ghost use Rattle.laws.specs.law_state.GoodState.{last_number};
 ghost use Rattle.laws.specs.law_jobs.JobLines.{IsLine, done_of};
 

@@ -1,5 +1,5 @@
 //! Laws on marks and versions: marks change nothing of what happens, and the version changes the first line of a report alone.
-ghost use Rattle.journal_model.specs.MarkLaws.{MarksChangeNothing, ReportsAgree};
+ghost use Rattle.journal_model.specs.statements.MarkLaws.{MarksChangeNothing, ReportsAgree};
 
 /// A script and the same without marks have the same legal journals.
 pub fn marks_change_nothing()

@@ -2,8 +2,8 @@
 ghost use Rattle.std.specs.Prelude.{◌≡◌, ◌++◌, [], List, true, count_by, length, sum_by};
 ghost use Rattle.journal_model.specs.declared.script.Script.{Script};
 ghost use Rattle.journal_model.specs.declared.entry.Entry.{Entry};
-ghost use Rattle.journal_model.specs.Complete.{is_answer, is_complete};
-ghost use Rattle.journal_model.specs.Legal.{IsLegal};
+ghost use Rattle.journal_model.specs.statements.Complete.{is_answer, is_complete};
+ghost use Rattle.journal_model.specs.rules.Legal.{IsLegal};
 
 /// A legal journal goes on no further than where it is complete.
 pub fn complete_is_last()

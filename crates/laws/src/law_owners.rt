@@ -2,9 +2,9 @@
 ghost use Rattle.std.specs.Prelude.{IsTrue, List};
 ghost use Rattle.journal_model.specs.declared.script.Script.{Script};
 ghost use Rattle.journal_model.specs.declared.entry.Entry.{Entry};
-ghost use Rattle.journal_model.specs.ScriptRules.{is_script};
-ghost use Rattle.journal_model.specs.Legal.{IsLegal, state_of};
-ghost use Rattle.journal_model.specs.Laws.{LegalHasAccounts};
+ghost use Rattle.journal_model.specs.scripts.ScriptRules.{is_script};
+ghost use Rattle.journal_model.specs.rules.Legal.{IsLegal, state_of};
+ghost use Rattle.journal_model.specs.statements.Laws.{LegalHasAccounts};
 ghost use Rattle.laws.specs.law_owners.OneOwner.{HaveOneOwner};
 ghost use Rattle.laws.specs.law_owners.Throughout.{HoldThroughout};
 

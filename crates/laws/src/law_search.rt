@@ -5,12 +5,12 @@ ghost use Rattle.ttm_base.specs.declared.Actor.{Actor};
 ghost use Rattle.ttm_base.specs.declared.BufId.{BufId};
 ghost use Rattle.journal_model.specs.declared.script.Script.{Script};
 ghost use Rattle.journal_model.specs.declared.entry.Entry.{Entry};
-ghost use Rattle.journal_model.specs.Commands.{decl};
-ghost use Rattle.journal_model.specs.ScriptRules.{is_script};
-ghost use Rattle.journal_model.specs.OldSearch.{IsSameSearch};
-ghost use Rattle.journal_model.specs.Laws.{FormsAgree};
-ghost use Rattle.journal_model.specs.Legal.{IsLegal};
-ghost use Rattle.journal_model.specs.Scheduled.{journal_along};
+ghost use Rattle.journal_model.specs.rules.Commands.{decl};
+ghost use Rattle.journal_model.specs.scripts.ScriptRules.{is_script};
+ghost use Rattle.journal_model.specs.statements.OldSearch.{IsSameSearch};
+ghost use Rattle.journal_model.specs.statements.Laws.{FormsAgree};
+ghost use Rattle.journal_model.specs.rules.Legal.{IsLegal};
+ghost use Rattle.journal_model.specs.statements.Scheduled.{journal_along};
 ghost use Rattle.laws.specs.law_search.TwoLists.{IsTwoLists};
 
 /// For desired places followed by fallback places the search gives the entry of the old one for preferred and busy places.

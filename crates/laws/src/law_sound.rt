@@ -3,11 +3,11 @@ ghost use Rattle.std.specs.Prelude.{◌≡◌, ◌↔◌, IsTrue, List, true, fa
 ghost use Rattle.ttm_base.specs.declared.Actor.{Actor};
 ghost use Rattle.journal_model.specs.declared.script.Script.{Script};
 ghost use Rattle.journal_model.specs.declared.entry.Entry.{Entry};
-ghost use Rattle.journal_model.specs.ScriptRules.{is_script};
-ghost use Rattle.journal_model.specs.Legal.{IsLegal, state_of};
-ghost use Rattle.journal_model.specs.Complete.{is_complete, is_over};
-ghost use Rattle.journal_model.specs.DeadEnd.{can_step};
-ghost use Rattle.journal_model.specs.Laws.{LegalNeverEndsDead};
+ghost use Rattle.journal_model.specs.scripts.ScriptRules.{is_script};
+ghost use Rattle.journal_model.specs.rules.Legal.{IsLegal, state_of};
+ghost use Rattle.journal_model.specs.statements.Complete.{is_complete, is_over};
+ghost use Rattle.journal_model.specs.statements.DeadEnd.{can_step};
+ghost use Rattle.journal_model.specs.statements.Laws.{LegalNeverEndsDead};
 ghost use Rattle.laws.specs.law_sound.Orders.{FindsOne};
 ghost use Rattle.laws.specs.law_sound.Sound.{Sound, SomeGoesOn};
 ghost use Rattle.journal_model.specs.declared.state.State.{State};

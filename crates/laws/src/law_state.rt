@@ -3,14 +3,14 @@
 ghost use Rattle.std.specs.Prelude.{IsTrue, List, length, ◌≡◌, ℕ};
 ghost use Rattle.journal_model.specs.declared.script.Script.{Script};
 ghost use Rattle.journal_model.specs.declared.entry.Entry.{Entry};
-ghost use Rattle.journal_model.specs.ScriptRules.{is_script};
-ghost use Rattle.journal_model.specs.Legal.{IsLegal, state_of};
+ghost use Rattle.journal_model.specs.scripts.ScriptRules.{is_script};
+ghost use Rattle.journal_model.specs.rules.Legal.{IsLegal, state_of};
 ghost use Rattle.laws.specs.law_state.GoodState.{GoodState};
 ghost use Rattle.laws.specs.law_state.Counters.{Below};
 ghost use Rattle.laws.specs.law_state.Courses.{GoodCourses};
-ghost use Rattle.journal_model.specs.State.{course};
-ghost use Rattle.journal_model.specs.Scheduled.{scheduled};
-ghost use Rattle.journal_model.specs.Complete.{answers_of, is_complete, is_over};
+ghost use Rattle.journal_model.specs.rules.State.{course};
+ghost use Rattle.journal_model.specs.statements.Scheduled.{scheduled};
+ghost use Rattle.journal_model.specs.statements.Complete.{answers_of, is_complete, is_over};
 
 /// Page tables have their declared pages; jobs have distinct names, some packets each, and no more run than there are.
 pub fn states_are_good()

@@ -4,7 +4,7 @@ ghost use Rattle.ttm_base.specs.declared.Actor.{Actor};
 ghost use Rattle.journal_model.specs.declared.script.Script.{Script};
 ghost use Rattle.journal_model.specs.declared.state.State.{State};
 ghost use Rattle.journal_model.specs.declared.entry.Kind.{Kind};
-ghost use Rattle.journal_model.specs.Next.{next};
+ghost use Rattle.journal_model.specs.rules.Next.{next};
 ghost use Rattle.laws.specs.law_step.Due.{is_due};
 
 /// What an actor makes next tells of the state before it: a buffer is dead before it is made; it is where it has to be before it is

@@ -4,9 +4,9 @@ ghost use Rattle.ttm_base.specs.declared.Actor.TheVariants as actor;
 ghost use Rattle.journal_model.specs.declared.script.Script.{Script};
 ghost use Rattle.journal_model.specs.declared.entry.Entry.{Entry};
 ghost use Rattle.journal_model.specs.declared.entry.Kind.{Kind};
-ghost use Rattle.journal_model.specs.ScriptRules.{is_script};
-ghost use Rattle.journal_model.specs.Next.{next};
-ghost use Rattle.journal_model.specs.Legal.{IsLegal, state_of};
+ghost use Rattle.journal_model.specs.scripts.ScriptRules.{is_script};
+ghost use Rattle.journal_model.specs.rules.Next.{next};
+ghost use Rattle.journal_model.specs.rules.Legal.{IsLegal, state_of};
 ghost use Rattle.laws.specs.lemma_bytes_told.Told.{Told};
 
 /// Behind a legal journal a thread's next entry tells where its buffer stands, that it is filled, has its target or is idle, and

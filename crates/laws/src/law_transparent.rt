@@ -3,19 +3,19 @@
 //! the places that packets name.
 ghost use Rattle.std.specs.Prelude.{ℕ, IsTrue, ◌≡◌, List, Some, Ok};
 ghost use Rattle.journal_model.specs.declared.script.Script.{Script};
-ghost use Rattle.journal_model.specs.ScriptRules.{is_script};
-ghost use Rattle.journal_model.specs.Scheduled.{scheduled};
-ghost use Rattle.journal_model.specs.Transparent.{IsTransparent};
-ghost use Rattle.journal_model.specs.Laws.{LegalIsTransparent};
+ghost use Rattle.journal_model.specs.scripts.ScriptRules.{is_script};
+ghost use Rattle.journal_model.specs.statements.Scheduled.{scheduled};
+ghost use Rattle.journal_model.specs.rules.Transparent.{IsTransparent};
+ghost use Rattle.journal_model.specs.statements.Laws.{LegalIsTransparent};
 ghost use Rattle.ttm_base.specs.declared.BufId.{BufId};
 ghost use Rattle.journal_model.specs.declared.state.Buffer.{Buffer};
 ghost use Rattle.journal_model.specs.declared.entry.Entry.{Entry};
-ghost use Rattle.journal_model.specs.State.{live_in};
-ghost use Rattle.journal_model.specs.Legal.{IsLegal, state_of};
+ghost use Rattle.journal_model.specs.rules.State.{live_in};
+ghost use Rattle.journal_model.specs.rules.Legal.{IsLegal, state_of};
 ghost use Rattle.laws.specs.law_transparent.OwnPages.{HasItsPages, GoodGhosts};
 ghost use Rattle.ttm_base.specs.declared.Actor.{Actor};
 ghost use Rattle.journal_model.specs.declared.entry.Kind.{Kind};
-ghost use Rattle.journal_model.specs.Next.{next};
+ghost use Rattle.journal_model.specs.rules.Next.{next};
 ghost use Rattle.laws.specs.law_transparent.NamedPlaces.{NameWhatIsThere};
 ghost use Rattle.laws.specs.law_transparent.Spared.{SparesPackets};
 

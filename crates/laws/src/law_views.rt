@@ -2,9 +2,9 @@
 ghost use Rattle.std.specs.Prelude.{IsTrue, List};
 ghost use Rattle.journal_model.specs.declared.script.Script.{Script};
 ghost use Rattle.journal_model.specs.declared.entry.Entry.{Entry};
-ghost use Rattle.journal_model.specs.ScriptRules.{is_script};
-ghost use Rattle.journal_model.specs.PlainMemory.{plain_of};
-ghost use Rattle.journal_model.specs.Legal.{IsLegal, state_of, stores_of};
+ghost use Rattle.journal_model.specs.scripts.ScriptRules.{is_script};
+ghost use Rattle.journal_model.specs.rules.PlainMemory.{plain_of};
+ghost use Rattle.journal_model.specs.rules.Legal.{IsLegal, state_of, stores_of};
 ghost use Rattle.laws.specs.law_views.GoodViews.{HasGoodView};
 
 /// Behind each legal journal jobs of which one writes a page that the other touches come one after the other, jobs that touch a page are

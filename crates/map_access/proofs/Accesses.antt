@@ -5,8 +5,8 @@ use Rattle.std.specs.List.{list_any}
 use Rattle.journal_model.specs.declared.script.Mark.{Mark}
 use Rattle.journal_model.specs.declared.script.MarkKind.{MarkKind}
 use Rattle.journal_model.specs.declared.script.MarkKind.TheVariants as mark
-use Rattle.journal_model.specs.Marks.{is_mapped}
-use Rattle.journal_model.specs.Mapped.{Mapping, has_ended, mapping_of, mappings_in}
+use Rattle.journal_model.specs.marks.Marks.{is_mapped}
+use Rattle.journal_model.specs.marks.Mapped.{Mapping, has_ended, mapping_of, mappings_in}
 use Rattle.map_access.specs.Accesses.{has_ended_by, is_way_of}
 
 -- the items from one on

@@ -3,9 +3,9 @@ use Rattle.std.proofs.Common.{◌≡◌, ℕ, ◌+◌, cond, List, [], ◌∷◌
 use Rattle.std.specs.Prelude.{◌&&◌, map}
 use Rattle.std.proofs.lemmas.List.Sums.{sum_by-cons}
 use Rattle.journal_model.specs.declared.entry.Entry.{Entry}
-use Rattle.journal_model.specs.Complete.{answers_of, is_answer, is_by_thread}
-use Rattle.journal_model.specs.Legal.{Made}
-use Rattle.journal_model.specs.Mapped.{count_answers}
+use Rattle.journal_model.specs.statements.Complete.{answers_of, is_answer, is_by_thread}
+use Rattle.journal_model.specs.rules.Legal.{Made}
+use Rattle.journal_model.specs.marks.Mapped.{count_answers}
 
 -- one more answer, or none
 answers_next : (thread : ℕ) (es : List Entry) (e : Entry) → answers_of thread (es ++ e ∷ []) ≡ answers_of thread es + cond (is_by_thread thread e.who && is_answer e.kind) 1 0

@@ -3,7 +3,7 @@ use Rattle.std.proofs.Common.{◌≡◌, ℕ, zero, suc, ◌+◌, ◌-◌, ◌*�
 use Rattle.std.specs.Prelude.{◌&&◌, filter, nat_le, nat_lt}
 use Rattle.std.proofs.lemmas.Bool.{cases_lt, lt-ltb, le-ltb, le-leb, lt-leb}
 use Rattle.ttm_base.specs.ListWords.{count_from}
-use Rattle.journal_model.specs.Mapped.{Access, meets_page, pages_of_access}
+use Rattle.journal_model.specs.marks.Mapped.{Access, meets_page, pages_of_access}
 use Rattle.map_access.specs.Accesses.{paged}
 
 -- the page behind a range, by its parts

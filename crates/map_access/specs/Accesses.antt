@@ -5,9 +5,9 @@ use Rattle.journal_model.specs.declared.script.Script.{Script}
 use Rattle.journal_model.specs.declared.script.Mark.{Mark}
 use Rattle.journal_model.specs.declared.entry.Entry.{Entry}
 use Rattle.journal_model.specs.declared.entry.Kind.TheVariants as kind
-use Rattle.journal_model.specs.Complete.{is_by_thread}
-use Rattle.journal_model.specs.Mapped.{Access, mapping_at, peek_or_poke}
-use Rattle.journal_model.specs.Marks.{is_mapped}
+use Rattle.journal_model.specs.statements.Complete.{is_by_thread}
+use Rattle.journal_model.specs.marks.Mapped.{Access, mapping_at, peek_or_poke}
+use Rattle.journal_model.specs.marks.Marks.{is_mapped}
 use Rattle.map_access.specs.declared.access.Access as rust
 
 -- the mark stands directly above the thread's command

@@ -1,11 +1,11 @@
 //! Which entries are results of peeks and pokes, and the mappings through which they go.
 ghost use Rattle.std.specs.Prelude.{◌≡◌, ◌+◌, ◌/◌, ◌<◌, find, option_copied, option_map, slice_get};
 ghost use Rattle.std.specs.List.{list_any};
-ghost use Rattle.journal_model.specs.Commands.{commands_of};
-ghost use Rattle.journal_model.specs.Complete as complete;
-ghost use Rattle.journal_model.specs.Marks as marks;
-ghost use Rattle.journal_model.specs.Mapped as words;
-ghost use Rattle.journal_model.specs.Mapped.{is_through, mapping_of};
+ghost use Rattle.journal_model.specs.rules.Commands.{commands_of};
+ghost use Rattle.journal_model.specs.statements.Complete as complete;
+ghost use Rattle.journal_model.specs.marks.Marks as marks;
+ghost use Rattle.journal_model.specs.marks.Mapped as words;
+ghost use Rattle.journal_model.specs.marks.Mapped.{is_through, mapping_of};
 ghost use Rattle.map_access.specs.Accesses.{access_in, has_ended_by, is_way_of, mapped_from, paged};
 
 use journal_model::{Command, Entry, Kind, Mark, MarkKind, Script};

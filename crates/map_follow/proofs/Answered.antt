@@ -12,13 +12,13 @@ use Rattle.journal_model.specs.declared.script.Script.{Script}
 use Rattle.journal_model.specs.declared.entry.Kind.{Kind}
 use Rattle.journal_model.specs.declared.entry.Kind.TheVariants as kind
 use Rattle.journal_model.specs.declared.state.State.{State}
-use Rattle.journal_model.specs.Commands.{decl}
-use Rattle.journal_model.specs.Complete.{is_answer, is_by_thread}
-use Rattle.journal_model.specs.Legal.{Made}
-use Rattle.journal_model.specs.Mapped.{Access, Mapping, answered_before, count_answers, entry_after, has_ended, is_through, mappings_in, meets_page, peek_or_poke}
-use Rattle.journal_model.specs.MarkRules.{are_in_order}
-use Rattle.journal_model.specs.Places.{page_at}
-use Rattle.journal_model.specs.State.{buffer, same_buffer}
+use Rattle.journal_model.specs.rules.Commands.{decl}
+use Rattle.journal_model.specs.statements.Complete.{is_answer, is_by_thread}
+use Rattle.journal_model.specs.rules.Legal.{Made}
+use Rattle.journal_model.specs.marks.Mapped.{Access, Mapping, answered_before, count_answers, entry_after, has_ended, is_through, mappings_in, meets_page, peek_or_poke}
+use Rattle.journal_model.specs.scripts.MarkRules.{are_in_order}
+use Rattle.journal_model.specs.rules.Places.{page_at}
+use Rattle.journal_model.specs.rules.State.{buffer, same_buffer}
 use Rattle.cpu_maps.specs.declared.area.Area.{Area}
 use Rattle.cpu_maps.specs.Areas.{entry_in}
 use Rattle.laws.proofs.law_sound.Bufs.{same_is}

@@ -10,7 +10,7 @@ use Rattle.ttm_base.specs.ListWords.{count_from}
 use Rattle.journal_model.specs.declared.script.Mark.{Mark}
 use Rattle.journal_model.specs.declared.script.MarkKind.{MarkKind}
 use Rattle.journal_model.specs.declared.script.MarkKind.TheVariants as mark
-use Rattle.journal_model.specs.State.{same_buffer}
+use Rattle.journal_model.specs.rules.State.{same_buffer}
 use Rattle.cpu_maps.specs.declared.area.Area.{Area}
 use Rattle.cpu_maps.specs.Areas.{emptied, entry_in, entry_of, is_of, unmapped, with_entry, with_fault, without_buffer, without_page}
 use Rattle.cpu_maps.proofs.Setting.{length_set}

@@ -10,9 +10,9 @@ use Rattle.journal_model.specs.declared.script.Script.{Script}
 use Rattle.journal_model.specs.declared.script.Mark.{Mark}
 use Rattle.journal_model.specs.declared.script.MarkKind.{MarkKind}
 use Rattle.journal_model.specs.declared.script.MarkKind.TheVariants as mark
-use Rattle.journal_model.specs.Commands.{decl}
-use Rattle.journal_model.specs.Mapped.{Mapping, count_answers, has_ended, mapped_entry}
-use Rattle.journal_model.specs.State.{same_buffer}
+use Rattle.journal_model.specs.rules.Commands.{decl}
+use Rattle.journal_model.specs.marks.Mapped.{Mapping, count_answers, has_ended, mapped_entry}
+use Rattle.journal_model.specs.rules.State.{same_buffer}
 use Rattle.cpu_maps.specs.declared.area.Area.{Area}
 use Rattle.cpu_maps.specs.Areas.{areas_of, empty_area, entry_in, entry_of, is_of, with_area, with_mark}
 use Rattle.law_legal.specs.law_maps.Following.{page_there}

@@ -6,12 +6,12 @@ use Rattle.ttm_base.specs.declared.Actor.{Actor}
 use Rattle.ttm_base.specs.declared.Actor.TheVariants as actor
 use Rattle.journal_model.specs.declared.script.Script.{Script}
 use Rattle.journal_model.specs.declared.entry.Entry.{Entry}
-use Rattle.journal_model.specs.Complete.{answers_of, is_answer, is_by_thread}
-use Rattle.journal_model.specs.Legal.{IsLegal, IsLegalFrom, IsLegalNext, Made, World, first_world, made_along, made_of, state_of, world_after, world_along, world_of}
-use Rattle.journal_model.specs.Mapped.{answered_before, count_answers}
-use Rattle.journal_model.specs.MarkRules.{are_in_order, have_marks}
-use Rattle.journal_model.specs.ScriptRules.{is_script}
-use Rattle.journal_model.specs.State.{course}
+use Rattle.journal_model.specs.statements.Complete.{answers_of, is_answer, is_by_thread}
+use Rattle.journal_model.specs.rules.Legal.{IsLegal, IsLegalFrom, IsLegalNext, Made, World, first_world, made_along, made_of, state_of, world_after, world_along, world_of}
+use Rattle.journal_model.specs.marks.Mapped.{answered_before, count_answers}
+use Rattle.journal_model.specs.scripts.MarkRules.{are_in_order, have_marks}
+use Rattle.journal_model.specs.scripts.ScriptRules.{is_script}
+use Rattle.journal_model.specs.rules.State.{course}
 use Rattle.cpu_maps.specs.declared.area.Area.{Area}
 use Rattle.laws.proofs.law_state.Counted.{counted_law}
 use Rattle.law_legal.specs.law_maps.Following.{areas_behind}

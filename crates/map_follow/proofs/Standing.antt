@@ -8,9 +8,9 @@ use Rattle.ttm_base.specs.declared.BufId.{BufId}
 use Rattle.journal_model.specs.declared.script.Mark.{Mark}
 use Rattle.journal_model.specs.declared.script.MarkKind.{MarkKind}
 use Rattle.journal_model.specs.declared.script.MarkKind.TheVariants as mark
-use Rattle.journal_model.specs.State.{same_buffer}
-use Rattle.journal_model.specs.Mapped.{Mapping, end_of, has_ended, is_through, mapping_of, mappings_in, unmaps}
-use Rattle.journal_model.specs.MarkRules.{are_in_order, is_above}
+use Rattle.journal_model.specs.rules.State.{same_buffer}
+use Rattle.journal_model.specs.marks.Mapped.{Mapping, end_of, has_ended, is_through, mapping_of, mappings_in, unmaps}
+use Rattle.journal_model.specs.scripts.MarkRules.{are_in_order, is_above}
 use Rattle.map_follow.specs.Follows.{maps_for}
 use Rattle.laws.proofs.law_sound.Bufs.{same_is, same_self}
 

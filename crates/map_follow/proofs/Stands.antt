@@ -19,16 +19,16 @@ use Rattle.journal_model.specs.declared.entry.Entry.{Entry}
 use Rattle.journal_model.specs.declared.entry.Kind.{Kind}
 use Rattle.journal_model.specs.declared.entry.Kind.TheVariants as kind
 use Rattle.journal_model.specs.declared.entry.Shown.{Shown}
-use Rattle.journal_model.specs.Commands.{commands_of, decl}
-use Rattle.journal_model.specs.CommandRules.{is_command}
-use Rattle.journal_model.specs.Complete.{is_by_thread}
-use Rattle.journal_model.specs.Legal.{IsLegal, IsLegalNext, state_of, stores_of, world_of}
-use Rattle.journal_model.specs.Mapped.{Access, access_of, meets_page, peek_or_poke}
-use Rattle.journal_model.specs.Marks.{is_mapped_at}
-use Rattle.journal_model.specs.Places.{is_frame, page_at, page_in, page_in_table, page_in_vram, pages_of}
-use Rattle.journal_model.specs.ScriptRules.{is_script}
-use Rattle.journal_model.specs.State.{buffer, course, live_in, new_buffer}
-use Rattle.journal_model.specs.Stores.{showing}
+use Rattle.journal_model.specs.rules.Commands.{commands_of, decl}
+use Rattle.journal_model.specs.scripts.CommandRules.{is_command}
+use Rattle.journal_model.specs.statements.Complete.{is_by_thread}
+use Rattle.journal_model.specs.rules.Legal.{IsLegal, IsLegalNext, state_of, stores_of, world_of}
+use Rattle.journal_model.specs.marks.Mapped.{Access, access_of, meets_page, peek_or_poke}
+use Rattle.journal_model.specs.marks.Marks.{is_mapped_at}
+use Rattle.journal_model.specs.rules.Places.{is_frame, page_at, page_in, page_in_table, page_in_vram, pages_of}
+use Rattle.journal_model.specs.scripts.ScriptRules.{is_script}
+use Rattle.journal_model.specs.rules.State.{buffer, course, live_in, new_buffer}
+use Rattle.journal_model.specs.rules.Stores.{showing}
 use Rattle.laws.specs.law_state.GoodState.{HasPages}
 use Rattle.laws.proofs.law_state.GoodStates.{good_law}
 use Rattle.laws.proofs.law_state.JobsKeep.{all_at}

@@ -8,11 +8,11 @@ use Rattle.journal_model.specs.declared.script.Script.{Script}
 use Rattle.journal_model.specs.declared.script.Mark.{Mark}
 use Rattle.journal_model.specs.declared.script.MarkKind.TheVariants as mark
 use Rattle.journal_model.specs.declared.entry.Entry.{Entry}
-use Rattle.journal_model.specs.Complete.{is_answer}
-use Rattle.journal_model.specs.Commands.{decl}
-use Rattle.journal_model.specs.Legal.{Made}
-use Rattle.journal_model.specs.Mapped.{Mapping, count_answers, entry_after, mapped_entry, mapping_at}
-use Rattle.journal_model.specs.State.{same_buffer}
+use Rattle.journal_model.specs.statements.Complete.{is_answer}
+use Rattle.journal_model.specs.rules.Commands.{decl}
+use Rattle.journal_model.specs.rules.Legal.{Made}
+use Rattle.journal_model.specs.marks.Mapped.{Mapping, count_answers, entry_after, mapped_entry, mapping_at}
+use Rattle.journal_model.specs.rules.State.{same_buffer}
 use Rattle.cpu_maps.specs.declared.area.Area.{Area}
 use Rattle.cpu_maps.specs.Areas.{entry_in, is_of}
 use Rattle.law_legal.specs.law_maps.Following.{page_there}

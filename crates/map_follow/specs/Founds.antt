@@ -13,9 +13,9 @@ use Rattle.ttm_base.specs.ListWords.{count_from}
 use Rattle.journal_model.specs.declared.script.Script.{Script}
 use Rattle.journal_model.specs.declared.entry.Entry.{Entry}
 use Rattle.journal_model.specs.declared.state.State.{State}
-use Rattle.journal_model.specs.State.{buffer}
-use Rattle.journal_model.specs.Mapped.{Access}
-use Rattle.journal_model.specs.Places.{pages_of}
+use Rattle.journal_model.specs.rules.State.{buffer}
+use Rattle.journal_model.specs.marks.Mapped.{Access}
+use Rattle.journal_model.specs.rules.Places.{pages_of}
 use Rattle.map_access.specs.Accesses.{access_in, mapped_from, paged}
 use Rattle.cpu_maps.specs.declared.area.Area.{Area}
 use Rattle.cpu_maps.specs.Areas.{with_fault}

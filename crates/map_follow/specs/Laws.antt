@@ -3,9 +3,9 @@ use Rattle.std.specs.Prelude.{ℕ, ◌+◌, List, [], ◌∷◌, ◌++◌, Some,
 use Rattle.journal_model.specs.declared.script.Script.{Script}
 use Rattle.journal_model.specs.declared.entry.Entry.{Entry}
 use Rattle.journal_model.specs.declared.state.State.{State}
-use Rattle.journal_model.specs.Legal.{IsLegal, made_of, state_of}
-use Rattle.journal_model.specs.ScriptRules.{is_script}
-use Rattle.journal_model.specs.State.{course}
+use Rattle.journal_model.specs.rules.Legal.{IsLegal, made_of, state_of}
+use Rattle.journal_model.specs.scripts.ScriptRules.{is_script}
+use Rattle.journal_model.specs.rules.State.{course}
 use Rattle.cpu_maps.specs.declared.area.Area.{Area}
 use Rattle.cpu_maps.specs.Areas.{areas_of}
 use Rattle.law_legal.specs.law_maps.Following.{areas_behind}

@@ -10,13 +10,13 @@ use Rattle.journal_model.specs.declared.state.State.{State}
 use Rattle.journal_model.specs.declared.state.Stage.TheVariants as stage
 use Rattle.journal_model.specs.declared.state.Task.TheVariants as task
 use Rattle.journal_model.specs.declared.entry.Kind.TheVariants as kind
-use Rattle.journal_model.specs.State.{buffer}
-use Rattle.journal_model.specs.Dry.{has_frame}
-use Rattle.journal_model.specs.Legal.{IsLegal}
-use Rattle.journal_model.specs.PageSteps.{step_of_give_back, target_to_untake}
-use Rattle.journal_model.specs.ScriptRules.{is_script}
-use Rattle.journal_model.specs.Search.{Step}
-use Rattle.journal_model.specs.Tasks.{task_of, stage_of}
+use Rattle.journal_model.specs.rules.State.{buffer}
+use Rattle.journal_model.specs.rules.Dry.{has_frame}
+use Rattle.journal_model.specs.rules.Legal.{IsLegal}
+use Rattle.journal_model.specs.rules.PageSteps.{step_of_give_back, target_to_untake}
+use Rattle.journal_model.specs.scripts.ScriptRules.{is_script}
+use Rattle.journal_model.specs.rules.Search.{Step}
+use Rattle.journal_model.specs.rules.Tasks.{task_of, stage_of}
 use Rattle.laws.specs.lemma_bytes_told.Told.{IsThere}
 use Rattle.room_state.specs.room_turns.Turns.{Kept, state_behind}
 use Rattle.room_state.specs.room_turns.Acting.{is_untake}

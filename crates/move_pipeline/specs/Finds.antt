@@ -8,8 +8,8 @@ use Rattle.ttm_base.specs.declared.Span.{Span}
 use Rattle.ttm_base.specs.Placement.{first_places}
 use Rattle.journal_model.specs.declared.script.Script.{Script}
 use Rattle.journal_model.specs.declared.state.State.{State}
-use Rattle.journal_model.specs.Choice.{choice}
-use Rattle.journal_model.specs.Search.{first_choice}
+use Rattle.journal_model.specs.rules.Choice.{choice}
+use Rattle.journal_model.specs.rules.Search.{first_choice}
 use Rattle.room_state.specs.room_turns.Searching.{BufferSearch, place_at_work}
 
 -- a place with a choice: its memory type, and the pages

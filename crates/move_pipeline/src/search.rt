@@ -2,8 +2,8 @@ ghost use Rattle.std.specs.Prelude.{◌≡◌, ◌<◌, Ok, true, false, Some, I
 ghost use Rattle.ttm_base.specs.Placement.{first_places};
 ghost use Rattle.ttm_base.specs.declared.Actor.TheVariants as actor;
 ghost use Rattle.journal_model.specs.declared.state.Stage.TheVariants as stage;
-ghost use Rattle.journal_model.specs.Search.{first_choice};
-ghost use Rattle.journal_model.specs.Tasks.{stage_of, task_of};
+ghost use Rattle.journal_model.specs.rules.Search.{first_choice};
+ghost use Rattle.journal_model.specs.rules.Tasks.{stage_of, task_of};
 ghost use Rattle.room_state.specs.room_turns.Turns.{state_behind};
 ghost use Rattle.room_state.specs.declared.room_turns.Step.TheVariants as step_words;
 ghost use Rattle.room_state.specs.room_turns.Searching.{finds_choice};

@@ -11,10 +11,10 @@ use Rattle.ttm_base.specs.declared.Mem.TheVariants.{Tt, Vram}
 use Rattle.journal_model.specs.declared.script.Script.{Script}
 use Rattle.journal_model.specs.declared.state.Core.{Core}
 use Rattle.journal_model.specs.declared.state.Buffer.{Buffer}
-use Rattle.journal_model.specs.Places.{frames_of, slots_of, pages_of}
-use Rattle.journal_model.specs.Holds.{live_buffers, live_entry, held_spans, held_frames, held_slots}
-use Rattle.journal_model.specs.Account as model
-use Rattle.journal_model.specs.Account.{account_of, frame_account, slot_account, total, are_distinct, has_accounts}
+use Rattle.journal_model.specs.rules.Places.{frames_of, slots_of, pages_of}
+use Rattle.journal_model.specs.rules.Holds.{live_buffers, live_entry, held_spans, held_frames, held_slots}
+use Rattle.journal_model.specs.statements.Account as model
+use Rattle.journal_model.specs.statements.Account.{account_of, frame_account, slot_account, total, are_distinct, has_accounts}
 use Rattle.page_accounts.specs.declared.accounts.Account.{Account}
 use Rattle.page_accounts.specs.Accounts.{AreAccountsOf, told}
 use Rattle.page_accounts.specs.Counting.{AreSmall, most, closed, closed_account}

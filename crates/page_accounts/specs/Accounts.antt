@@ -3,7 +3,7 @@ use Rattle.std.specs.Prelude.{◌≡◌}
 use Rattle.ttm_base.specs.declared.Mem.TheVariants.{Tt, Vram}
 use Rattle.journal_model.specs.declared.script.Script.{Script}
 use Rattle.journal_model.specs.declared.state.Core.{Core}
-use Rattle.journal_model.specs.Account as model
+use Rattle.journal_model.specs.statements.Account as model
 use Rattle.page_accounts.specs.declared.accounts.Account.{Account}
 use Rattle.page_accounts.specs.declared.accounts.Accounts.{Accounts}
 

@@ -4,10 +4,10 @@ use Rattle.ttm_base.specs.declared.Mem.TheVariants.{Tt, Vram}
 use Rattle.ttm_base.specs.declared.Span.{Span}
 use Rattle.journal_model.specs.declared.script.Sizes.{Sizes}
 use Rattle.journal_model.specs.declared.state.Buffer.{Buffer}
-use Rattle.journal_model.specs.State.{target_spans}
-use Rattle.journal_model.specs.Places.{frames_of, slots_of}
-use Rattle.journal_model.specs.Holds.{spans_in}
-use Rattle.journal_model.specs.Account.{count_spans}
+use Rattle.journal_model.specs.rules.State.{target_spans}
+use Rattle.journal_model.specs.rules.Places.{frames_of, slots_of}
+use Rattle.journal_model.specs.rules.Holds.{spans_in}
+use Rattle.journal_model.specs.statements.Account.{count_spans}
 use Rattle.page_accounts.specs.declared.accounts.Account.{Account}
 use Rattle.page_accounts.specs.declared.accounts.Accounts.{Accounts}
 

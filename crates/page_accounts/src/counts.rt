@@ -1,8 +1,8 @@
 ghost use Rattle.std.specs.Prelude.{◌≡◌, [], filter_map, length, min, unwrap_or, if◌then◌else◌};
 ghost use Rattle.ttm_base.specs.Reach.{same_mem};
-ghost use Rattle.journal_model.specs.Account.{count_spans};
-ghost use Rattle.journal_model.specs.Places as places;
-ghost use Rattle.journal_model.specs.State as states;
+ghost use Rattle.journal_model.specs.statements.Account.{count_spans};
+ghost use Rattle.journal_model.specs.rules.Places as places;
+ghost use Rattle.journal_model.specs.rules.State as states;
 ghost use Rattle.page_accounts.specs.Counting.{most};
 
 use journal_model::Targets;

@@ -10,9 +10,9 @@ use Rattle.ttm_base.specs.declared.Mem.{Mem}
 use Rattle.journal_model.specs.declared.script.Script.{Script}
 use Rattle.journal_model.specs.declared.state.Core.{Core}
 use Rattle.journal_model.specs.declared.state.Buffer.{Buffer}
-use Rattle.journal_model.specs.Places.{frames_of, slots_of}
-use Rattle.journal_model.specs.Holds.{live_buffers, live_entry}
-use Rattle.journal_model.specs.Account as model
+use Rattle.journal_model.specs.rules.Places.{frames_of, slots_of}
+use Rattle.journal_model.specs.rules.Holds.{live_buffers, live_entry}
+use Rattle.journal_model.specs.statements.Account as model
 use Rattle.page_accounts.specs.declared.accounts.Account.{Account}
 use Rattle.page_accounts.specs.Accounts.{told}
 use Rattle.page_accounts.specs.Amounts.{Holding, Pages, Targets, Frames, Slots, amount, amount_of_ghost, amount_where_live}

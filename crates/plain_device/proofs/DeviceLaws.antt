@@ -14,13 +14,13 @@ use Rattle.journal_model.specs.declared.state.State.{State}
 use Rattle.journal_model.specs.declared.entry.Entry.{Entry}
 use Rattle.journal_model.specs.declared.entry.Kind.{Kind}
 use Rattle.journal_model.specs.declared.entry.Kind.TheVariants as kind
-use Rattle.journal_model.specs.Commands.{command_at_work}
-use Rattle.journal_model.specs.ScriptRules.{is_script}
-use Rattle.journal_model.specs.Next.{next}
-use Rattle.journal_model.specs.Apply.{apply, applied, thread_of}
-use Rattle.journal_model.specs.Stores.{is_there, within, zeros, stores_after, showing}
-use Rattle.journal_model.specs.Complete.{is_over, is_complete}
-use Rattle.journal_model.specs.Legal.{World, first_state, IsLegal, IsLegalNext, state_of, stores_of, world_of, world_after, next_entry, shown_step}
+use Rattle.journal_model.specs.rules.Commands.{command_at_work}
+use Rattle.journal_model.specs.scripts.ScriptRules.{is_script}
+use Rattle.journal_model.specs.rules.Next.{next}
+use Rattle.journal_model.specs.rules.Apply.{apply, applied, thread_of}
+use Rattle.journal_model.specs.rules.Stores.{is_there, within, zeros, stores_after, showing}
+use Rattle.journal_model.specs.statements.Complete.{is_over, is_complete}
+use Rattle.journal_model.specs.rules.Legal.{World, first_state, IsLegal, IsLegalNext, state_of, stores_of, world_of, world_after, next_entry, shown_step}
 use Rattle.journal_model.proofs.JournalLaws.{world_of-append, IsLegal-append}
 use Rattle.laws.proofs.law_state.Counted.{over_law}
 use Rattle.laws.proofs.law_state.Shown.{LegalStep, legal_step}

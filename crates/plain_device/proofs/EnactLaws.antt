@@ -13,11 +13,11 @@ use Rattle.journal_model.specs.declared.state.Core.{Core}
 use Rattle.journal_model.specs.declared.entry.Entry.{Entry}
 use Rattle.journal_model.specs.declared.entry.Kind.{Kind}
 use Rattle.journal_model.specs.declared.entry.Kind.TheVariants as kind
-use Rattle.journal_model.specs.State.{buffer_in}
-use Rattle.journal_model.specs.Commands.{command_at_work}
-use Rattle.journal_model.specs.Apply.{apply, applied, thread_of}
-use Rattle.journal_model.specs.Stores.{put_bytes, written, stores_after}
-use Rattle.journal_model.specs.CommandRules.{is_command, is_range_of, is_byte}
+use Rattle.journal_model.specs.rules.State.{buffer_in}
+use Rattle.journal_model.specs.rules.Commands.{command_at_work}
+use Rattle.journal_model.specs.rules.Apply.{apply, applied, thread_of}
+use Rattle.journal_model.specs.rules.Stores.{put_bytes, written, stores_after}
+use Rattle.journal_model.specs.scripts.CommandRules.{is_command, is_range_of, is_byte}
 use Rattle.laws.proofs.law_state.Rules.{Rules, at_work_rules}
 use Rattle.rules_stores.specs.Writes.{CanStore, IsShortWrite}
 use Rattle.rules_apply.specs.Sure.{takes_no_memory}

@@ -28,17 +28,17 @@ use Rattle.journal_model.specs.declared.state.Task.{Task}
 use Rattle.journal_model.specs.declared.state.Task.TheVariants as task
 use Rattle.journal_model.specs.declared.entry.Kind.{Kind}
 use Rattle.journal_model.specs.declared.entry.Kind.TheVariants as kind
-use Rattle.journal_model.specs.State.{buffer, course, course_of, live_in, new_buffer}
-use Rattle.journal_model.specs.Commands.{commands_of, command_at_work, decl, undeclared, asked_places}
-use Rattle.journal_model.specs.ScriptRules.{is_script, is_decl, is_place_list, has_sizes, has_distinct_names, is_turn_line}
-use Rattle.journal_model.specs.CommandRules.{is_between, is_command, command_len}
-use Rattle.journal_model.specs.MarkRules.{has_few_lines, have_marks, are_in_order, is_in_thread, marks_fit, empty_thread_mappings}
-use Rattle.journal_model.specs.Complete.{thread_numbers}
-use Rattle.journal_model.specs.Waits.{same_job}
-use Rattle.journal_model.specs.Search.{PlaceSearch, place_search, is_caught, through_tt, step_of_place_search}
-use Rattle.journal_model.specs.PageSteps.{next_job}
-use Rattle.journal_model.specs.Next.{next, step_of_task, step_of_act, step_of_start}
-use Rattle.journal_model.specs.Stores.{Stores, showing}
+use Rattle.journal_model.specs.rules.State.{buffer, course, course_of, live_in, new_buffer}
+use Rattle.journal_model.specs.rules.Commands.{commands_of, command_at_work, decl, undeclared, asked_places}
+use Rattle.journal_model.specs.scripts.ScriptRules.{is_script, is_decl, is_place_list, has_sizes, has_distinct_names, is_turn_line}
+use Rattle.journal_model.specs.scripts.CommandRules.{is_between, is_command, command_len}
+use Rattle.journal_model.specs.scripts.MarkRules.{has_few_lines, have_marks, are_in_order, is_in_thread, marks_fit, empty_thread_mappings}
+use Rattle.journal_model.specs.statements.Complete.{thread_numbers}
+use Rattle.journal_model.specs.rules.Waits.{same_job}
+use Rattle.journal_model.specs.rules.Search.{PlaceSearch, place_search, is_caught, through_tt, step_of_place_search}
+use Rattle.journal_model.specs.rules.PageSteps.{next_job}
+use Rattle.journal_model.specs.rules.Next.{next, step_of_task, step_of_act, step_of_start}
+use Rattle.journal_model.specs.rules.Stores.{Stores, showing}
 use Rattle.laws.proofs.law_state.JournalCourses.{is_of_engine, is_of_reaper, of_engine, of_reaper, thread_is_there}
 use Rattle.laws.specs.law_state.GoodState.{last_number, GoodState}
 use Rattle.laws.specs.law_state.Counters.{Below}

@@ -7,9 +7,9 @@ use Rattle.journal_model.specs.declared.state.State.{State}
 use Rattle.journal_model.specs.declared.entry.Entry.{Entry}
 use Rattle.journal_model.specs.declared.entry.Kind.{Kind}
 use Rattle.journal_model.specs.declared.entry.Kind.TheVariants as kind
-use Rattle.journal_model.specs.Stores.{is_there}
-use Rattle.journal_model.specs.ScriptRules.{is_script}
-use Rattle.journal_model.specs.Legal.{IsLegal, state_of, stores_of}
+use Rattle.journal_model.specs.rules.Stores.{is_there}
+use Rattle.journal_model.specs.scripts.ScriptRules.{is_script}
+use Rattle.journal_model.specs.rules.Legal.{IsLegal, state_of, stores_of}
 
 -- there are no bytes beyond the pages that there are
 abbrev pub HasNoMore : Sizes → PageBytes → Type 0

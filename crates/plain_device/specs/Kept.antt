@@ -6,8 +6,8 @@ use Rattle.ttm_base.specs.declared.Turn.{Turn}
 use Rattle.ttm_base.specs.declared.Turn.TheVariants as turn
 use Rattle.journal_model.specs.declared.script.Script.{Script}
 use Rattle.journal_model.specs.declared.entry.Entry.{Entry}
-use Rattle.journal_model.specs.Legal.{next_entry, world_of}
-use Rattle.journal_model.specs.Complete.{is_complete}
+use Rattle.journal_model.specs.rules.Legal.{next_entry, world_of}
+use Rattle.journal_model.specs.statements.Complete.{is_complete}
 
 pub record Kept : Type 0 where
   pub script : Script

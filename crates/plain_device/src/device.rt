@@ -1,9 +1,9 @@
 ghost use Rattle.std.specs.Prelude.{◌≡◌, ◌↔◌, ◌+◌, ◌<◌, ◌^◌, ◌∷◌, ◌++◌, [], false, IfOk, OnOk, OnErr, Ok, IsTrue, find, length};
-ghost use Rattle.journal_model.specs.ScriptRules.{is_script};
-ghost use Rattle.journal_model.specs.Complete.{is_complete};
-ghost use Rattle.journal_model.specs.Legal.{state_of, stores_of};
-ghost use Rattle.journal_model.specs.DeadEnd.{can_step};
-ghost use Rattle.journal_model.specs.Scheduled.{own_order};
+ghost use Rattle.journal_model.specs.scripts.ScriptRules.{is_script};
+ghost use Rattle.journal_model.specs.statements.Complete.{is_complete};
+ghost use Rattle.journal_model.specs.rules.Legal.{state_of, stores_of};
+ghost use Rattle.journal_model.specs.statements.DeadEnd.{can_step};
+ghost use Rattle.journal_model.specs.statements.Scheduled.{own_order};
 ghost use Rattle.laws.specs.law_sound.Sound.{SomeGoesOn};
 ghost use Rattle.rules_stores.specs.Kept.{bytes_of};
 ghost use Rattle.plain_device.specs.Kept.{entry_of, with_entry, turn_of, after_turn};

@@ -1,6 +1,6 @@
 ghost use Rattle.std.specs.Prelude.{◌≡◌, OnOk, OnErr, true, false};
-ghost use Rattle.journal_model.specs.Apply as words;
-ghost use Rattle.journal_model.specs.Stores.{stores_after};
+ghost use Rattle.journal_model.specs.rules.Apply as words;
+ghost use Rattle.journal_model.specs.rules.Stores.{stores_after};
 ghost use Rattle.rules_apply.specs.Ready.{IsReady};
 ghost use Rattle.rules_stores.specs.Kept.{BecomesBytes, bytes_of};
 ghost use Rattle.rules_stores.specs.Writes.{CanStore};

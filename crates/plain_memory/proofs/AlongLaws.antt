@@ -18,12 +18,12 @@ use Rattle.journal_model.specs.declared.entry.Kind.{Kind}
 use Rattle.journal_model.specs.declared.entry.Kind.TheVariants as kind
 use Rattle.journal_model.specs.declared.entry.Shown.{Shown}
 use Rattle.journal_model.specs.declared.entry.Shown.TheVariants as shown
-use Rattle.journal_model.specs.Apply.{thread_of}
-use Rattle.journal_model.specs.Commands.{commands_of}
-use Rattle.journal_model.specs.PlainMemory.{Memory, Plain, first_plain, plain_of, plain_after, plain_after_kind, command_of, answered_one_more}
-use Rattle.journal_model.specs.Transparent.{bytes_shown, bytes_owed, IsKindPlain, IsTransparentFrom, IsTransparent}
+use Rattle.journal_model.specs.rules.Apply.{thread_of}
+use Rattle.journal_model.specs.rules.Commands.{commands_of}
+use Rattle.journal_model.specs.rules.PlainMemory.{Memory, Plain, first_plain, plain_of, plain_after, plain_after_kind, command_of, answered_one_more}
+use Rattle.journal_model.specs.rules.Transparent.{bytes_shown, bytes_owed, IsKindPlain, IsTransparentFrom, IsTransparent}
 use Rattle.plain_memory.specs.Kept.{BecomesMemory, memory_in, sizes_in, sizes_of}
-use Rattle.journal_model.specs.ScriptRules.{is_script}
+use Rattle.journal_model.specs.scripts.ScriptRules.{is_script}
 use Rattle.plain_memory.specs.Fits.{CommandFits}
 use Rattle.plain_memory.specs.Along.{memory_after, is_answer, command_by, counts_after, IsPlain}
 use Rattle.plain_memory.specs.Mismatches.{shows, is_mismatch, mismatch_at, mismatches_from, mismatches_of}

@@ -12,10 +12,10 @@ use Rattle.journal_model.specs.declared.script.Script.{Script}
 use Rattle.journal_model.specs.declared.script.Decl.{Decl}
 use Rattle.journal_model.specs.declared.script.Command.{Command}
 use Rattle.journal_model.specs.declared.script.Command.TheVariants as command
-use Rattle.journal_model.specs.Commands.{commands_of, decl, named, undeclared}
-use Rattle.journal_model.specs.CommandRules.{command_len, is_between, is_byte, is_command, is_op, is_range_of}
-use Rattle.journal_model.specs.MarkRules.{have_marks}
-use Rattle.journal_model.specs.ScriptRules.{has_distinct_names, has_sizes, is_decl, is_script, is_turn_line}
+use Rattle.journal_model.specs.rules.Commands.{commands_of, decl, named, undeclared}
+use Rattle.journal_model.specs.scripts.CommandRules.{command_len, is_between, is_byte, is_command, is_op, is_range_of}
+use Rattle.journal_model.specs.scripts.MarkRules.{have_marks}
+use Rattle.journal_model.specs.scripts.ScriptRules.{has_distinct_names, has_sizes, is_decl, is_script, is_turn_line}
 use Rattle.journal_model.proofs.ListSteps.{passes_at}
 use Rattle.plain_memory.specs.Kept.{sizes_of}
 use Rattle.plain_memory.specs.Fits.{HasRange, OpFits, CommandFits}

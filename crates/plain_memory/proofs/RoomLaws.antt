@@ -12,7 +12,7 @@ use Rattle.ttm_base.specs.declared.Op.{Op}
 use Rattle.ttm_base.specs.declared.Op.TheVariants as op
 use Rattle.ttm_base.specs.ListWords.{count_from}
 use Rattle.journal_model.specs.declared.script.Decl.{Decl}
-use Rattle.journal_model.specs.PlainMemory.{Memory, with_range, with_zeros, memory_range, after_op, after_ops}
+use Rattle.journal_model.specs.rules.PlainMemory.{Memory, with_range, with_zeros, memory_range, after_op, after_ops}
 use Rattle.plain_memory.specs.Kept.{BecomesMemory, memory_in, sizes_in}
 use Rattle.plain_memory.specs.Fits.{HasRange}
 

@@ -4,9 +4,9 @@ use Rattle.journal_model.specs.declared.script.Script.{Script}
 use Rattle.journal_model.specs.declared.script.Command.{Command}
 use Rattle.journal_model.specs.declared.entry.Kind.{Kind}
 use Rattle.journal_model.specs.declared.entry.Kind.TheVariants as kind
-use Rattle.journal_model.specs.ApplyJobs.{ops_of}
-use Rattle.journal_model.specs.Commands.{commands_of}
-use Rattle.journal_model.specs.PlainMemory.{Memory, Plain, with_zeros, after_ops, memory_after_result}
+use Rattle.journal_model.specs.rules.ApplyJobs.{ops_of}
+use Rattle.journal_model.specs.rules.Commands.{commands_of}
+use Rattle.journal_model.specs.rules.PlainMemory.{Memory, Plain, with_zeros, after_ops, memory_after_result}
 use Rattle.plain_memory.specs.Kept.{memory_in, sizes_in, sizes_of}
 
 -- the memory by kind, of a thread at this command

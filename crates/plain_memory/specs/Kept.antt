@@ -2,7 +2,7 @@
 use Rattle.std.specs.Prelude.{◌≡◌, ℕ, ◌*◌, List, [], length, map, slice_index}
 use Rattle.std.specs.List.{slice_index_or}
 use Rattle.journal_model.specs.declared.script.Script.{Script}
-use Rattle.journal_model.specs.PlainMemory.{Memory}
+use Rattle.journal_model.specs.rules.PlainMemory.{Memory}
 
 -- the memory in such lists; zeros follow each of them, and in buffers that aren't there
 abbrev pub memory_in : List (List ℕ) → Memory

@@ -8,9 +8,9 @@ use Rattle.journal_model.specs.declared.entry.Kind.{Kind}
 use Rattle.journal_model.specs.declared.entry.Kind.TheVariants as kind
 use Rattle.journal_model.specs.declared.entry.Shown.{Shown}
 use Rattle.journal_model.specs.declared.entry.Shown.TheVariants as shown
-use Rattle.journal_model.specs.Apply.{thread_of}
-use Rattle.journal_model.specs.PlainMemory.{Memory, Plain, first_plain, plain_after, command_of}
-use Rattle.journal_model.specs.Transparent.{bytes_owed}
+use Rattle.journal_model.specs.rules.Apply.{thread_of}
+use Rattle.journal_model.specs.rules.PlainMemory.{Memory, Plain, first_plain, plain_after, command_of}
+use Rattle.journal_model.specs.rules.Transparent.{bytes_owed}
 
 -- a result shows these bytes, or none where none are owed
 abbrev pub shows : Shown → Option (List ℕ) → Bool

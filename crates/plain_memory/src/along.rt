@@ -1,8 +1,8 @@
 ghost use Rattle.std.specs.Prelude.{◌≡◌, ℕ, ◌+◌, ◌<◌, ◌≤◌, ◌^◌, IsTrue, IfOk, OnOk, length, replicate, slice_index, option_copied, if◌then◌else◌};
-ghost use Rattle.journal_model.specs.Apply as actors;
-ghost use Rattle.journal_model.specs.PlainMemory.{memory_after_result};
-ghost use Rattle.journal_model.specs.ScriptRules.{is_script};
-ghost use Rattle.journal_model.specs.Transparent.{bytes_owed, IsTransparent};
+ghost use Rattle.journal_model.specs.rules.Apply as actors;
+ghost use Rattle.journal_model.specs.rules.PlainMemory.{memory_after_result};
+ghost use Rattle.journal_model.specs.scripts.ScriptRules.{is_script};
+ghost use Rattle.journal_model.specs.rules.Transparent.{bytes_owed, IsTransparent};
 ghost use Rattle.plain_memory.specs.Along as words;
 ghost use Rattle.plain_memory.specs.Fits.{CommandFits};
 ghost use Rattle.plain_memory.specs.Kept.{BecomesMemory, memory_in, sizes_in};

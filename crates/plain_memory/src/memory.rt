@@ -1,5 +1,5 @@
 ghost use Rattle.std.specs.Prelude.{◌≡◌, ℕ, ◌<◌, All, length, slice_index, bit_xor, IfOk, OnOk, OnErr};
-ghost use Rattle.journal_model.specs.PlainMemory as words;
+ghost use Rattle.journal_model.specs.rules.PlainMemory as words;
 ghost use Rattle.plain_memory.specs.Kept.{BecomesMemory, memory_in, sizes_in, sizes_of};
 ghost use Rattle.plain_memory.specs.Fits.{HasRange, OpFits};
 

@@ -4,7 +4,7 @@ use Rattle.std.specs.Option.{option_map}
 use Rattle.std.specs.Io.KnownBytes.{append_known, prepend_known}
 use Rattle.io_edge.specs.Faults.{one_more}
 use Rattle.io_edge.specs.Written.{AppendsFront}
-use Rattle.journal_model.specs.Words.{Text}
+use Rattle.journal_model.specs.scripts.Words.{Text}
 
 -- The bytes left in a source, or written to a sink, where they are told, and the count of its faults: before and after a call.
 pub record Edge : Type 0 where

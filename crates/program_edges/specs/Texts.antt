@@ -1,6 +1,6 @@
 -- The line for what is no script.
 use Rattle.std.specs.Prelude.{ℕ, [], ◌∷◌, ◌++◌, codes, decimal}
-use Rattle.journal_model.specs.Words.{Text}
+use Rattle.journal_model.specs.scripts.Words.{Text}
 
 -- names the first broken line, and on it the least broken rule
 abbrev pub bad_script_text : ℕ → ℕ → Text

@@ -11,11 +11,11 @@ use Rattle.journal_model.specs.declared.entry.Kind.TheVariants as kind
 use Rattle.journal_model.specs.declared.state.Core.{Core}
 use Rattle.journal_model.specs.declared.state.State.{State}
 use Rattle.journal_model.specs.declared.state.Buffer.{Buffer}
-use Rattle.journal_model.specs.State.{live_in}
-use Rattle.journal_model.specs.Apply.{apply, applied}
-use Rattle.journal_model.specs.Places.{frame_of, frames_of, is_frame}
-use Rattle.journal_model.specs.Holds.{has_number, held_frames, ghost_frames}
-use Rattle.journal_model.specs.ApplyPages.{after_populate, with_loc}
+use Rattle.journal_model.specs.rules.State.{live_in}
+use Rattle.journal_model.specs.rules.Apply.{apply, applied}
+use Rattle.journal_model.specs.rules.Places.{frame_of, frames_of, is_frame}
+use Rattle.journal_model.specs.rules.Holds.{has_number, held_frames, ghost_frames}
+use Rattle.journal_model.specs.rules.ApplyPages.{after_populate, with_loc}
 use Rattle.rules_holds.specs.Held.{frames_of_slot}
 use Rattle.rules_holds.specs.Marked.{AreMarked, AreFrames}
 use Rattle.rules_holds.proofs.HeldLaws.{live_frames_of}

@@ -12,13 +12,13 @@ use Rattle.journal_model.specs.declared.state.State.{State}
 use Rattle.journal_model.specs.declared.entry.Entry.{Entry}
 use Rattle.journal_model.specs.declared.entry.Kind.{Kind}
 use Rattle.journal_model.specs.declared.entry.Kind.TheVariants as kind
-use Rattle.journal_model.specs.ScriptRules.{is_script}
-use Rattle.journal_model.specs.Next.{next}
-use Rattle.journal_model.specs.Apply.{apply}
-use Rattle.journal_model.specs.Stores.{Stores, zeros, within, stores_after, showing}
-use Rattle.journal_model.specs.Complete.{is_over, is_complete}
-use Rattle.journal_model.specs.Legal.{World, first_state, first_world, IsLegal, IsLegalFrom, IsLegalNext, state_of, stores_of, world_of, world_after, world_along, shown_step}
-use Rattle.journal_model.specs.Verdict.{unshown, unshown_step, IsStep}
+use Rattle.journal_model.specs.scripts.ScriptRules.{is_script}
+use Rattle.journal_model.specs.rules.Next.{next}
+use Rattle.journal_model.specs.rules.Apply.{apply}
+use Rattle.journal_model.specs.rules.Stores.{Stores, zeros, within, stores_after, showing}
+use Rattle.journal_model.specs.statements.Complete.{is_over, is_complete}
+use Rattle.journal_model.specs.rules.Legal.{World, first_state, first_world, IsLegal, IsLegalFrom, IsLegalNext, state_of, stores_of, world_of, world_after, world_along, shown_step}
+use Rattle.journal_model.specs.reports.Verdict.{unshown, unshown_step, IsStep}
 use Rattle.laws.proofs.law_state.Shown.{legal_step}
 use Rattle.laws.proofs.law_state.Counted.{over_law}
 use Rattle.rules_search.specs.Room.{HasRoom}

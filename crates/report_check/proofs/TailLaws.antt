@@ -6,9 +6,9 @@ use Rattle.std.proofs.Math.Seq.{take-length}
 use Rattle.std.proofs.lemmas.List.{append_cancel_left}
 use Rattle.journal_model.specs.declared.script.Script.{Script}
 use Rattle.journal_model.specs.declared.entry.Entry.{Entry}
-use Rattle.journal_model.specs.Words.{Text, line}
-use Rattle.journal_model.specs.Legal.{state_of}
-use Rattle.journal_model.specs.ReportText.{report}
+use Rattle.journal_model.specs.scripts.Words.{Text, line}
+use Rattle.journal_model.specs.rules.Legal.{state_of}
+use Rattle.journal_model.specs.reports.ReportText.{report}
 use Rattle.page_accounts.specs.declared.accounts.Accounts.{Accounts}
 use Rattle.page_accounts.specs.Accounts.{AreAccountsOf}
 use Rattle.report_text.specs.Parts.{journal_part, mappings_part, outcome_part}

@@ -7,10 +7,10 @@ use Rattle.journal_model.specs.declared.entry.Entry.{Entry}
 use Rattle.journal_model.specs.declared.state.Buffer.{Buffer}
 use Rattle.journal_model.specs.declared.state.Core.{Core}
 use Rattle.journal_model.specs.declared.state.State.{State}
-use Rattle.journal_model.specs.State.{live_in}
-use Rattle.journal_model.specs.Places.{is_frame}
-use Rattle.journal_model.specs.Holds.{has_number, held_frames}
-use Rattle.journal_model.specs.Apply.{apply}
+use Rattle.journal_model.specs.rules.State.{live_in}
+use Rattle.journal_model.specs.rules.Places.{is_frame}
+use Rattle.journal_model.specs.rules.Holds.{has_number, held_frames}
+use Rattle.journal_model.specs.rules.Apply.{apply}
 
 -- there is such a page, without a frame
 abbrev pub is_empty_place : Option Loc → Bool

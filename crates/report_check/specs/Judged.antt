@@ -3,9 +3,9 @@ use Rattle.std.specs.Prelude.{◌≡◌, ℕ, ◌+◌, true, false, List, Option
 use Rattle.journal_model.specs.declared.script.Script.{Script}
 use Rattle.journal_model.specs.declared.entry.Entry.{Entry}
 use Rattle.journal_model.specs.declared.entry.Kind.{Kind}
-use Rattle.journal_model.specs.Legal.{World, IsLegal, IsLegalNext, world_of}
-use Rattle.journal_model.specs.Complete.{is_complete}
-use Rattle.journal_model.specs.Verdict.{unshown, IsStep}
+use Rattle.journal_model.specs.rules.Legal.{World, IsLegal, IsLegalNext, world_of}
+use Rattle.journal_model.specs.statements.Complete.{is_complete}
+use Rattle.journal_model.specs.reports.Verdict.{unshown, IsStep}
 use Rattle.entry_reader.specs.declared.rule.Rule.{Rule}
 use Rattle.entry_reader.specs.declared.rule.Rule.TheVariants as rule
 use Rattle.report_check.specs.declared.judge.Verdict.{Verdict}

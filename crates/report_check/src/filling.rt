@@ -1,7 +1,7 @@
 //! The marks of the frames that are held, kept from entry to entry while pages get frames.
 
 ghost use Rattle.std.specs.Prelude.{◌≡◌, IfOk, IfSome};
-ghost use Rattle.journal_model.specs.Apply.{apply};
+ghost use Rattle.journal_model.specs.rules.Apply.{apply};
 ghost use Rattle.rules_holds.specs.Marked.{AreFrames};
 ghost use Rattle.report_check.specs.Filling as words;
 ghost use Rattle.report_check.specs.Filling.{GivesFrame};

@@ -1,7 +1,7 @@
 //! A journal is replayed over plain lists, entry by entry.
 
 ghost use Rattle.std.specs.Prelude.{IfOk, IfSome, IsTrue, option_copied};
-ghost use Rattle.journal_model.specs.ScriptRules.{is_script};
+ghost use Rattle.journal_model.specs.scripts.ScriptRules.{is_script};
 ghost use Rattle.rules_holds.specs.Marked.{AreFrames};
 ghost use Rattle.rules_search.specs.Room.{HasRoom};
 ghost use Rattle.rules_stores.specs.Kept.{bytes_of};

@@ -2,7 +2,7 @@
 
 ghost use Rattle.std.specs.Prelude.{◌≡◌, ◌↔◌, IsTrue};
 ghost use Rattle.journal_model.specs.declared.entry.Kind.TheVariants as kinds;
-ghost use Rattle.journal_model.specs.Verdict.{unshown};
+ghost use Rattle.journal_model.specs.reports.Verdict.{unshown};
 
 use crate::parts::{same_bytes, same_dry, same_left, same_shown, same_spans, same_why};
 use journal_model::{DryWhy, Kind, Left, Shown};

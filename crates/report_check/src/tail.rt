@@ -4,10 +4,10 @@ ghost use Rattle.std.specs.Prelude.{◌≡◌, ◌↔◌, ◌++◌, ◌∷◌, �
 ghost use Rattle.std.specs.Io.KnownBytes.{append_known};
 ghost use Rattle.io_edge.specs.Faults.{faults_after};
 ghost use Rattle.io_edge.specs.Written.{Writes};
-ghost use Rattle.journal_model.specs.Legal.{IsLegal, state_of};
-ghost use Rattle.journal_model.specs.ReportText.{report};
-ghost use Rattle.journal_model.specs.ScriptRules.{is_script};
-ghost use Rattle.journal_model.specs.Words.{line as line_of};
+ghost use Rattle.journal_model.specs.rules.Legal.{IsLegal, state_of};
+ghost use Rattle.journal_model.specs.reports.ReportText.{report};
+ghost use Rattle.journal_model.specs.scripts.ScriptRules.{is_script};
+ghost use Rattle.journal_model.specs.scripts.Words.{line as line_of};
 ghost use Rattle.report_mappings.specs.Faults.{IsLegalIfMapped};
 ghost use Rattle.report_mappings.specs.Requests.{are_in_spaces};
 ghost use Rattle.page_accounts.specs.Accounts.{AreAccountsOf};

@@ -11,12 +11,12 @@ use Rattle.journal_model.specs.declared.script.Command.{Command}
 use Rattle.journal_model.specs.declared.script.Mark.{Mark}
 use Rattle.journal_model.specs.declared.script.MarkKind.{MarkKind}
 use Rattle.journal_model.specs.declared.script.MarkKind.TheVariants as mark
-use Rattle.journal_model.specs.CommandRules.{command_len, is_between, is_command, is_declared}
-use Rattle.journal_model.specs.Commands.{commands_of, decl, undeclared}
-use Rattle.journal_model.specs.Complete.{thread_numbers}
-use Rattle.journal_model.specs.Marks.{marks_at}
-use Rattle.journal_model.specs.MarkRules.{ThreadMappings, are_in_order, are_marks, thread_mappings_after, empty_thread_mappings, has_few_lines, have_marks, is_in_thread, is_mark, is_page_range, is_way, marks_fit}
-use Rattle.journal_model.specs.ScriptRules.{has_distinct_names, has_sizes, is_decl, is_script, is_turn_line}
+use Rattle.journal_model.specs.scripts.CommandRules.{command_len, is_between, is_command, is_declared}
+use Rattle.journal_model.specs.rules.Commands.{commands_of, decl, undeclared}
+use Rattle.journal_model.specs.statements.Complete.{thread_numbers}
+use Rattle.journal_model.specs.marks.Marks.{marks_at}
+use Rattle.journal_model.specs.scripts.MarkRules.{ThreadMappings, are_in_order, are_marks, thread_mappings_after, empty_thread_mappings, has_few_lines, have_marks, is_in_thread, is_mark, is_page_range, is_way, marks_fit}
+use Rattle.journal_model.specs.scripts.ScriptRules.{has_distinct_names, has_sizes, is_decl, is_script, is_turn_line}
 use Rattle.report_mappings.specs.Requests.{are_in_spaces, is_in_space}
 
 -- a number of the count passes what all pass

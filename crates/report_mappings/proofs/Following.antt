@@ -11,13 +11,13 @@ use Rattle.journal_model.specs.declared.entry.Entry.{Entry}
 use Rattle.journal_model.specs.declared.entry.Kind.{Kind}
 use Rattle.journal_model.specs.declared.entry.Kind.TheVariants as kind
 use Rattle.journal_model.specs.declared.state.State.{State}
-use Rattle.journal_model.specs.State.{buffer, course, same_buffer}
-use Rattle.journal_model.specs.Places.{page_at}
-use Rattle.journal_model.specs.Words.{Text}
-use Rattle.journal_model.specs.Complete.{answers_of, is_answer, is_by_thread}
-use Rattle.journal_model.specs.Legal.{World, Made, IsLegal, IsLegalFrom, first_world, made_along, made_of, state_of, world_after, world_along}
-use Rattle.journal_model.specs.Mapped.{Access, Mapping, answered_before, count_answers, entry_after, faulted, has_ended, is_through, mapped_entry, mapping_at, mappings, meets_page, pages_of_access, peek_or_poke}
-use Rattle.journal_model.specs.ReportText.{fault_lines, faults_line, thread_faults}
+use Rattle.journal_model.specs.rules.State.{buffer, course, same_buffer}
+use Rattle.journal_model.specs.rules.Places.{page_at}
+use Rattle.journal_model.specs.scripts.Words.{Text}
+use Rattle.journal_model.specs.statements.Complete.{answers_of, is_answer, is_by_thread}
+use Rattle.journal_model.specs.rules.Legal.{World, Made, IsLegal, IsLegalFrom, first_world, made_along, made_of, state_of, world_after, world_along}
+use Rattle.journal_model.specs.marks.Mapped.{Access, Mapping, answered_before, count_answers, entry_after, faulted, has_ended, is_through, mapped_entry, mapping_at, mappings, meets_page, pages_of_access, peek_or_poke}
+use Rattle.journal_model.specs.reports.ReportText.{fault_lines, faults_line, thread_faults}
 use Rattle.laws.proofs.law_state.Counted.{counted_law}
 use Rattle.report_mappings.specs.Faults.{access_in, faults_in, faults_text, is_fault, left_by, mapped_from, paged, seen_after, seen_at}
 use Rattle.map_access.proofs.Accesses.{drop_at, found_does}

@@ -5,10 +5,10 @@ use Rattle.std.specs.List.{enumerate_from}
 use Rattle.std.proofs.lemmas.Bool.{and_parts}
 use Rattle.journal_model.specs.declared.script.Script.{Script}
 use Rattle.journal_model.specs.declared.script.Mark.{Mark}
-use Rattle.journal_model.specs.Marks.{is_request}
-use Rattle.journal_model.specs.Words.{Text}
-use Rattle.journal_model.specs.Spaces.{Region, regions_after, steps_along, steps_of}
-use Rattle.journal_model.specs.ReportText.{request_lines}
+use Rattle.journal_model.specs.marks.Marks.{is_request}
+use Rattle.journal_model.specs.scripts.Words.{Text}
+use Rattle.journal_model.specs.marks.Spaces.{Region, regions_after, steps_along, steps_of}
+use Rattle.journal_model.specs.reports.ReportText.{request_lines}
 use Rattle.map_access.proofs.Accesses.{drop_at}
 use Rattle.report_mappings.specs.Requests.{is_asked_by, requests_among}
 

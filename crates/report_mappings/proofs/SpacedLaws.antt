@@ -1,6 +1,6 @@
 -- Lists and lines as they are put behind others.
 use Rattle.std.proofs.Common.{◌≡◌, List, [], ◌∷◌, ◌++◌, map, ap, ◌∙◌, sym, append_assoc}
-use Rattle.journal_model.specs.Words.{Text, line, listed, spaced}
+use Rattle.journal_model.specs.scripts.Words.{Text, line, listed, spaced}
 use Rattle.text_line.specs.Spaced.{behind_each, spaced_out}
 use Rattle.text_line.proofs.SpacedLaws.{join_with_byte-cons}
 

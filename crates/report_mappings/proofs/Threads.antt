@@ -4,8 +4,8 @@ use Rattle.std.specs.Prelude.{flat_map, slice_get}
 use Rattle.std.proofs.lemmas.List.{take_all}
 use Rattle.ttm_base.specs.ListWords.{count_from}
 use Rattle.journal_model.specs.declared.script.Script.{Script}
-use Rattle.journal_model.specs.Complete.{thread_numbers}
-use Rattle.journal_model.specs.Words.{Text}
+use Rattle.journal_model.specs.statements.Complete.{thread_numbers}
+use Rattle.journal_model.specs.scripts.Words.{Text}
 
 -- a number of the count
 counted : (n start i : ℕ) → i < n → slice_get (count_from 1 n start) i ≡ Some (i + start)

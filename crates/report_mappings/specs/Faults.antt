@@ -7,11 +7,11 @@ use Rattle.journal_model.specs.declared.script.Script.{Script}
 use Rattle.journal_model.specs.declared.entry.Entry.{Entry}
 use Rattle.journal_model.specs.declared.entry.Kind.{Kind}
 use Rattle.journal_model.specs.declared.entry.Kind.TheVariants as kind
-use Rattle.journal_model.specs.Words.{Text}
-use Rattle.journal_model.specs.Legal.{IsLegal}
-use Rattle.journal_model.specs.Marks.{is_map}
-use Rattle.journal_model.specs.Mapped.{Access}
-use Rattle.journal_model.specs.ReportText.{faults_line}
+use Rattle.journal_model.specs.scripts.Words.{Text}
+use Rattle.journal_model.specs.rules.Legal.{IsLegal}
+use Rattle.journal_model.specs.marks.Marks.{is_map}
+use Rattle.journal_model.specs.marks.Mapped.{Access}
+use Rattle.journal_model.specs.reports.ReportText.{faults_line}
 use Rattle.map_access.specs.declared.access.Access as rust
 pub use Rattle.map_access.specs.Accesses.{access_in, mapped_from, paged}
 

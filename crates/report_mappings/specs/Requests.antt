@@ -5,7 +5,7 @@ use Rattle.journal_model.specs.declared.script.Script.{Script}
 use Rattle.journal_model.specs.declared.script.Mark.{Mark}
 use Rattle.journal_model.specs.declared.script.MarkKind.{MarkKind}
 use Rattle.journal_model.specs.declared.script.MarkKind.TheVariants as mark
-use Rattle.journal_model.specs.Marks.{is_request}
+use Rattle.journal_model.specs.marks.Marks.{is_request}
 
 -- at least a page, all of the space, and all of pages that a buffer may have
 abbrev pub is_in_space : MarkKind → Bool

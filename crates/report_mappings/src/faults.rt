@@ -1,12 +1,12 @@
 //! The part on mappings by the CPU: of each peek and poke the pages that it faults.
 ghost use Rattle.std.specs.Prelude.{◌≡◌, ℕ, ◌<◌, ◌++◌, ◌&&◌, [], IfOk, OnOk, decimal, flat_map, map, option_map};
 ghost use Rattle.std.specs.List.{list_any};
-ghost use Rattle.journal_model.specs.Complete.{is_answer, thread_numbers};
-ghost use Rattle.journal_model.specs.Complete as complete;
-ghost use Rattle.journal_model.specs.Legal.{IsLegal, made_of};
-ghost use Rattle.journal_model.specs.Marks as marks;
-ghost use Rattle.journal_model.specs.ReportText.{faults_line, maps_part, thread_faults};
-ghost use Rattle.journal_model.specs.Words.{numbers_word};
+ghost use Rattle.journal_model.specs.statements.Complete.{is_answer, thread_numbers};
+ghost use Rattle.journal_model.specs.statements.Complete as complete;
+ghost use Rattle.journal_model.specs.rules.Legal.{IsLegal, made_of};
+ghost use Rattle.journal_model.specs.marks.Marks as marks;
+ghost use Rattle.journal_model.specs.reports.ReportText.{faults_line, maps_part, thread_faults};
+ghost use Rattle.journal_model.specs.scripts.Words.{numbers_word};
 ghost use Rattle.text_line.specs.Spaced.{behind_each};
 ghost use Rattle.report_mappings.specs.Faults as words;
 ghost use Rattle.report_mappings.specs.Faults.{IsLegalIfMapped, access_in, faults_in, faults_text, mapped_from, paged, seen_after};

@@ -1,11 +1,11 @@
 //! The part on address spaces: of each request its steps.
 ghost use Rattle.std.specs.Prelude.{◌≡◌, ◌++◌, ◌∷◌, [], true, IsTrue, OnOk, codes, decimal, flat_map, option_to_list};
 ghost use Rattle.std.specs.List.{list_any};
-ghost use Rattle.journal_model.specs.Complete.{thread_numbers};
-ghost use Rattle.journal_model.specs.Marks as marks;
-ghost use Rattle.journal_model.specs.ReportText.{request_lines, spaces_part, step_words, thread_steps};
-ghost use Rattle.journal_model.specs.Spaces.{regions_after, steps_of};
-ghost use Rattle.journal_model.specs.Words.{line as line_of, name_of, span_word, spans_word, thread_word};
+ghost use Rattle.journal_model.specs.statements.Complete.{thread_numbers};
+ghost use Rattle.journal_model.specs.marks.Marks as marks;
+ghost use Rattle.journal_model.specs.reports.ReportText.{request_lines, spaces_part, step_words, thread_steps};
+ghost use Rattle.journal_model.specs.marks.Spaces.{regions_after, steps_of};
+ghost use Rattle.journal_model.specs.scripts.Words.{line as line_of, name_of, span_word, spans_word, thread_word};
 ghost use Rattle.text_line.specs.Spaced.{spaced_out};
 ghost use Rattle.report_mappings.specs.Requests as words;
 ghost use Rattle.report_mappings.specs.Requests.{are_in_spaces, is_in_space};

@@ -1,5 +1,5 @@
 ghost use Rattle.std.specs.Prelude.{◌≡◌, ◌++◌, OnOk, map};
-ghost use Rattle.journal_model.specs.Words.{span_word, spans_word};
+ghost use Rattle.journal_model.specs.scripts.Words.{span_word, spans_word};
 ghost use Rattle.text_line.specs.Spaced.{behind_each};
 
 use text_line::Line;

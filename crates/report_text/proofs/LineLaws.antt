@@ -9,13 +9,13 @@ use Rattle.journal_model.specs.declared.space.VStep.{VStep}
 use Rattle.journal_model.specs.declared.entry.Entry.{Entry}
 use Rattle.journal_model.specs.declared.entry.Kind.{Kind}
 use Rattle.journal_model.specs.declared.entry.Kind.TheVariants as kind
-use Rattle.journal_model.specs.Complete.{thread_numbers}
-use Rattle.journal_model.specs.Legal.{Made, made_of}
-use Rattle.journal_model.specs.Mapped.{Access, access_at, answered_before, faulted}
-use Rattle.journal_model.specs.Marks.{is_map, is_vmap, requests_of}
-use Rattle.journal_model.specs.ReportText.{fault_lines, faults_line, maps_part, request_lines, spaces_part, step_words, thread_faults, thread_steps}
-use Rattle.journal_model.specs.Spaces.{steps_along}
-use Rattle.journal_model.specs.Words.{Text, line, numbers_word, spaced, thread_word}
+use Rattle.journal_model.specs.statements.Complete.{thread_numbers}
+use Rattle.journal_model.specs.rules.Legal.{Made, made_of}
+use Rattle.journal_model.specs.marks.Mapped.{Access, access_at, answered_before, faulted}
+use Rattle.journal_model.specs.marks.Marks.{is_map, is_vmap, requests_of}
+use Rattle.journal_model.specs.reports.ReportText.{fault_lines, faults_line, maps_part, request_lines, spaces_part, step_words, thread_faults, thread_steps}
+use Rattle.journal_model.specs.marks.Spaces.{steps_along}
+use Rattle.journal_model.specs.scripts.Words.{Text, line, numbers_word, spaced, thread_word}
 use Rattle.std.specs.Io.KnownBytes.{append_known}
 use Rattle.io_edge.specs.Lines.{is_line}
 use Rattle.io_edge.specs.Written.{AppendsFront, Writes}

@@ -9,12 +9,12 @@ use Rattle.io_edge.proofs.Told.{append_known-twice, front_of_first, front_of_nex
 use Rattle.journal_model.specs.declared.script.Script.{Script}
 use Rattle.journal_model.specs.declared.entry.Entry.{Entry}
 use Rattle.journal_model.specs.declared.state.Core.{Core}
-use Rattle.journal_model.specs.Words.{Text, line}
-use Rattle.journal_model.specs.Marks.{is_map, is_vmap}
-use Rattle.journal_model.specs.Complete.{thread_numbers}
-use Rattle.journal_model.specs.Legal.{state_of}
-use Rattle.journal_model.specs.EntryText.{entry_line}
-use Rattle.journal_model.specs.ReportText.{account_line, account_lines, maps_part, report, spaces_part, thread_results}
+use Rattle.journal_model.specs.scripts.Words.{Text, line}
+use Rattle.journal_model.specs.marks.Marks.{is_map, is_vmap}
+use Rattle.journal_model.specs.statements.Complete.{thread_numbers}
+use Rattle.journal_model.specs.rules.Legal.{state_of}
+use Rattle.journal_model.specs.reports.EntryText.{entry_line}
+use Rattle.journal_model.specs.reports.ReportText.{account_line, account_lines, maps_part, report, spaces_part, thread_results}
 use Rattle.page_accounts.specs.declared.accounts.Accounts.{Accounts}
 use Rattle.page_accounts.specs.Accounts.{AreAccountsOf}
 use Rattle.report_text.specs.Parts.{four_lines, journal_part, mappings_part, outcome_part}

@@ -1,7 +1,7 @@
 -- Lines as they are put: the first word, and then the others.
 use Rattle.std.proofs.Common.{◌≡◌, List, [], ◌∷◌, ◌++◌, drop, Some, ap, ◌∙◌, sym, append_assoc}
 use Rattle.std.specs.Prelude.{slice_get}
-use Rattle.journal_model.specs.Words.{Text, line, spaced}
+use Rattle.journal_model.specs.scripts.Words.{Text, line, spaced}
 use Rattle.text_line.specs.Spaced.{spaced_out}
 use Rattle.text_line.proofs.SpacedLaws.{join_with_byte-cons}
 

@@ -5,7 +5,7 @@ use Rattle.std.specs.List.{enumerate_from}
 use Rattle.std.proofs.lemmas.List.{take_all}
 use Rattle.std.proofs.lemmas.Option.{slice_get_read}
 use Rattle.std.specs.Io.KnownBytes.{append_known}
-use Rattle.journal_model.specs.Words.{Text, line, spaced}
+use Rattle.journal_model.specs.scripts.Words.{Text, line, spaced}
 use Rattle.io_edge.specs.Written.{AppendsFront, Writes}
 use Rattle.io_edge.proofs.Told.{append_known-twice, front_is_nothing, front_of_first, front_of_next, writes_refused}
 

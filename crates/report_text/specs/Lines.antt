@@ -1,6 +1,6 @@
 -- Texts of lines.
 use Rattle.std.specs.Prelude.{Bool, true, [], ◌∷◌, ◌==◌}
-use Rattle.journal_model.specs.Words.{Text}
+use Rattle.journal_model.specs.scripts.Words.{Text}
 
 -- the text is empty, or ends with a line feed
 abbrev pub are_lines : Text → Bool

@@ -4,10 +4,10 @@ use Rattle.std.specs.List.{enumerate_from}
 use Rattle.journal_model.specs.declared.script.Script.{Script}
 use Rattle.journal_model.specs.declared.script.Sizes.{Sizes}
 use Rattle.journal_model.specs.declared.entry.Entry.{Entry}
-use Rattle.journal_model.specs.Complete.{thread_numbers}
-use Rattle.journal_model.specs.Words.{Text, line}
-use Rattle.journal_model.specs.EntryText.{entry_line}
-use Rattle.journal_model.specs.ReportText.{account_line, maps_part, spaces_part, thread_results}
+use Rattle.journal_model.specs.statements.Complete.{thread_numbers}
+use Rattle.journal_model.specs.scripts.Words.{Text, line}
+use Rattle.journal_model.specs.reports.EntryText.{entry_line}
+use Rattle.journal_model.specs.reports.ReportText.{account_line, maps_part, spaces_part, thread_results}
 use Rattle.page_accounts.specs.declared.accounts.Accounts.{Accounts}
 use Rattle.page_accounts.specs.Accounts.{told}
 

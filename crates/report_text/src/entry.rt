@@ -1,7 +1,7 @@
 ghost use Rattle.std.specs.Prelude.{◌≡◌, ◌+◌, ◌++◌, ◌∷◌, [], OnOk, codes, decimal, drop, length, map, slice_get, unwrap_or};
-ghost use Rattle.journal_model.specs.EntryText.{cause_row_word, cause_word, deny_word, dry_word, entry_line, kind_words, left_word, piece_words, shown_words, why_word};
-ghost use Rattle.journal_model.specs.Words.{actor_word, hex, listed, mem_word, name_of, spans_word};
-ghost use Rattle.journal_model.specs.ReportText.{answer_words};
+ghost use Rattle.journal_model.specs.reports.EntryText.{cause_row_word, cause_word, deny_word, dry_word, entry_line, kind_words, left_word, piece_words, shown_words, why_word};
+ghost use Rattle.journal_model.specs.scripts.Words.{actor_word, hex, listed, mem_word, name_of, spans_word};
+ghost use Rattle.journal_model.specs.reports.ReportText.{answer_words};
 ghost use Rattle.text_line.specs.Spaced.{behind_each, spaced_out};
 
 use journal_model::{Cause, CauseRow, DryWhy, Entry, Kind, Left, Script, Shown, Why};

@@ -1,12 +1,12 @@
 ghost use Rattle.std.specs.Prelude.{◌≡◌, ◌+◌, ◌++◌, ◌∷◌, ◌||◌, [], codes, decimal, drop, flat_map, filter_map, is_some, length, unwrap_or, IsTrue, OnOk};
 ghost use Rattle.std.specs.List.{enumerate_from, list_any};
 ghost use Rattle.io_edge.specs.Written.{Writes};
-ghost use Rattle.journal_model.specs.Marks.{is_map, is_vmap};
-ghost use Rattle.journal_model.specs.Words.{line as line_of, thread_word};
-ghost use Rattle.journal_model.specs.EntryText.{entry_line};
-ghost use Rattle.journal_model.specs.ReportText.{account_line, account_lines, answer_line, answer_of, answer_words, report, thread_results};
-ghost use Rattle.journal_model.specs.Complete.{is_by_thread, thread_numbers};
-ghost use Rattle.journal_model.specs.Legal.{state_of};
+ghost use Rattle.journal_model.specs.marks.Marks.{is_map, is_vmap};
+ghost use Rattle.journal_model.specs.scripts.Words.{line as line_of, thread_word};
+ghost use Rattle.journal_model.specs.reports.EntryText.{entry_line};
+ghost use Rattle.journal_model.specs.reports.ReportText.{account_line, account_lines, answer_line, answer_of, answer_words, report, thread_results};
+ghost use Rattle.journal_model.specs.statements.Complete.{is_by_thread, thread_numbers};
+ghost use Rattle.journal_model.specs.rules.Legal.{state_of};
 ghost use Rattle.page_accounts.specs.Accounts.{AreAccountsOf, told};
 ghost use Rattle.report_mappings.specs.Faults.{IsLegalIfMapped};
 ghost use Rattle.report_mappings.specs.Requests.{are_in_spaces};

@@ -5,13 +5,13 @@ use Rattle.std.proofs.lemmas.List.{length-take-le}
 use Rattle.std.proofs.lemmas.Option.{slice_get_within}
 use Rattle.journal_model.specs.declared.script.Script.{Script}
 use Rattle.journal_model.specs.declared.entry.Entry.{Entry}
-use Rattle.journal_model.specs.Words.{Text}
-use Rattle.journal_model.specs.Cut.{lines_of}
-use Rattle.journal_model.specs.ScriptRules.{is_script}
-use Rattle.journal_model.specs.Legal.{IsLegal, world_of}
-use Rattle.journal_model.specs.Complete.{is_complete}
-use Rattle.journal_model.specs.ReportText.{report}
-use Rattle.journal_model.specs.Verdict.{IsAccepted, IsRejected, TellsNext, no_head, no_step, not_shown, not_complete, no_end}
+use Rattle.journal_model.specs.scripts.Words.{Text}
+use Rattle.journal_model.specs.scripts.Cut.{lines_of}
+use Rattle.journal_model.specs.scripts.ScriptRules.{is_script}
+use Rattle.journal_model.specs.rules.Legal.{IsLegal, world_of}
+use Rattle.journal_model.specs.statements.Complete.{is_complete}
+use Rattle.journal_model.specs.reports.ReportText.{report}
+use Rattle.journal_model.specs.reports.Verdict.{IsAccepted, IsRejected, TellsNext, no_head, no_step, not_shown, not_complete, no_end}
 use Rattle.laws.proofs.law_transparent.Law.{transparent_given}
 use Rattle.laws.proofs.law_transparent.Ways.{have_ways}
 use Rattle.entry_reader.specs.declared.report.ReportBad.{ReportBad}

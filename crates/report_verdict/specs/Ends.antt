@@ -1,7 +1,7 @@
 -- What comes of a report.
 use Rattle.journal_model.specs.declared.script.Script.{Script}
-use Rattle.journal_model.specs.Words.{Text}
-use Rattle.journal_model.specs.Verdict.{IsAccepted, IsRejected}
+use Rattle.journal_model.specs.scripts.Words.{Text}
+use Rattle.journal_model.specs.reports.Verdict.{IsAccepted, IsRejected}
 use Rattle.entry_reader.specs.Rules.{number_of}
 use Rattle.report_verdict.specs.declared.ending.Ending.{Ending}
 use Rattle.report_verdict.specs.declared.ending.Ending.TheVariants as ending

@@ -1,7 +1,7 @@
 //! What comes of a report.
 
 ghost use Rattle.std.specs.Prelude.{◌≡◌, IfOk, IsTrue};
-ghost use Rattle.journal_model.specs.ScriptRules.{is_script};
+ghost use Rattle.journal_model.specs.scripts.ScriptRules.{is_script};
 ghost use Rattle.entry_reader.specs.Parsing.{IsParsed};
 ghost use Rattle.report_verdict.specs.Ends.{Ends};
 

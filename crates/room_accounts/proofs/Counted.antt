@@ -10,9 +10,9 @@ use Rattle.journal_model.specs.declared.state.Core.{Core}
 use Rattle.journal_model.specs.declared.state.Buffer.{Buffer}
 use Rattle.journal_model.specs.declared.state.Ghost as state
 use Rattle.journal_model.specs.declared.state.Job.{Job}
-use Rattle.journal_model.specs.Account.{count_spans}
-use Rattle.journal_model.specs.ScriptRules.{is_script}
-use Rattle.journal_model.specs.Legal.{state_of}
+use Rattle.journal_model.specs.statements.Account.{count_spans}
+use Rattle.journal_model.specs.scripts.ScriptRules.{is_script}
+use Rattle.journal_model.specs.rules.Legal.{state_of}
 use Rattle.laws.proofs.law_owners.Accounts.{account_law}
 use Rattle.laws.proofs.law_state.GoodStates.{good_law}
 use Rattle.laws.proofs.law_sound.Along.{sound_law}

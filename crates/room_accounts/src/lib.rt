@@ -3,7 +3,7 @@
 
 ghost use Rattle.std.specs.Prelude.{◌≡◌};
 ghost use Rattle.bo_table.specs.Seen.{body_of};
-ghost use Rattle.journal_model.specs.Legal.{state_of};
+ghost use Rattle.journal_model.specs.rules.Legal.{state_of};
 ghost use Rattle.page_accounts.specs.Accounts.{AreAccountsOf};
 ghost use Rattle.page_accounts.specs.Counting.{with_where_live};
 ghost use Rattle.room_representation.specs.Held.{AreHeld};

@@ -6,9 +6,9 @@ use Rattle.ttm_base.specs.declared.Need.TheVariants as need
 use Rattle.journal_model.specs.declared.script.Script.{Script}
 use Rattle.journal_model.specs.declared.state.Job.{Job}
 use Rattle.journal_model.specs.declared.entry.Entry.{Entry}
-use Rattle.journal_model.specs.Legal.{IsLegal, shown_step, state_of}
-use Rattle.journal_model.specs.Next.{head_of, step_of_job}
-use Rattle.journal_model.specs.ScriptRules.{is_script}
+use Rattle.journal_model.specs.rules.Legal.{IsLegal, shown_step, state_of}
+use Rattle.journal_model.specs.rules.Next.{head_of, step_of_job}
+use Rattle.journal_model.specs.scripts.ScriptRules.{is_script}
 use Rattle.laws.proofs.law_state.GoodStates.{good_law}
 use Rattle.laws.proofs.law_state.JobNames.{found_at}
 use Rattle.room_state.specs.room_turns.Turns.{Kept, entry_of, state_behind, world_behind}

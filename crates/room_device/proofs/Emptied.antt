@@ -14,14 +14,14 @@ use Rattle.journal_model.specs.declared.state.Task.TheVariants as task
 use Rattle.journal_model.specs.declared.entry.Kind.TheVariants as kind
 use Rattle.journal_model.specs.declared.entry.Why.{Why}
 use Rattle.journal_model.specs.declared.entry.Why.TheVariants as why
-use Rattle.journal_model.specs.State.{buffer, course}
-use Rattle.journal_model.specs.Commands.{command_at_work}
-use Rattle.journal_model.specs.Dry.{has_frame}
-use Rattle.journal_model.specs.Holds.{free_slot}
-use Rattle.journal_model.specs.Next.{next}
-use Rattle.journal_model.specs.PageSteps.{first_frame_page, once_idle, step_of_empty, why_caught}
-use Rattle.journal_model.specs.Search.{Step}
-use Rattle.journal_model.specs.Tasks.{stage_of, task_of}
+use Rattle.journal_model.specs.rules.State.{buffer, course}
+use Rattle.journal_model.specs.rules.Commands.{command_at_work}
+use Rattle.journal_model.specs.rules.Dry.{has_frame}
+use Rattle.journal_model.specs.rules.Holds.{free_slot}
+use Rattle.journal_model.specs.rules.Next.{next}
+use Rattle.journal_model.specs.rules.PageSteps.{first_frame_page, once_idle, step_of_empty, why_caught}
+use Rattle.journal_model.specs.rules.Search.{Step}
+use Rattle.journal_model.specs.rules.Tasks.{stage_of, task_of}
 use Rattle.evict_core.specs.Tasks.{lets_go}
 use Rattle.swap_core.specs.Due.{can_swap, if_for_swap, swap_out_due, swapped_at}
 use Rattle.room_state.specs.room_turns.Turns.{Kept, entry_of, state_behind}

@@ -4,8 +4,8 @@ use Rattle.ttm_base.specs.declared.Need.{Need}
 use Rattle.ttm_base.specs.declared.Need.TheVariants as need
 use Rattle.journal_model.specs.declared.state.State.{State}
 use Rattle.journal_model.specs.declared.state.Job.{Job}
-use Rattle.journal_model.specs.Next.{head_of}
-use Rattle.journal_model.specs.Waits.{waited_for}
+use Rattle.journal_model.specs.rules.Next.{head_of}
+use Rattle.journal_model.specs.rules.Waits.{waited_for}
 
 -- a job; and before each of its packets that what it waits for is done
 abbrev pub need_of_head : State → Option Job → Option Need

@@ -1,7 +1,7 @@
 ghost use Rattle.std.specs.Prelude.{◌≡◌, false, IfOk, OnOk, OnErr};
 ghost use Rattle.ttm_base.specs.declared.Actor.TheVariants as actor;
 ghost use Rattle.journal_model.specs.declared.state.Stage.TheVariants as stage;
-ghost use Rattle.journal_model.specs.Tasks.{stage_of, task_of};
+ghost use Rattle.journal_model.specs.rules.Tasks.{stage_of, task_of};
 ghost use Rattle.room_state.specs.room_turns.Searching.{finds_choice};
 ghost use Rattle.room_state.specs.room_turns.Turns.{after_step, entry_of, state_behind, step_of};
 

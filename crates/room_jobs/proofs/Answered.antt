@@ -26,17 +26,17 @@ use Rattle.journal_model.specs.declared.entry.Entry.{Entry}
 use Rattle.journal_model.specs.declared.entry.Kind.{Kind}
 use Rattle.journal_model.specs.declared.entry.Kind.TheVariants as kind
 use Rattle.journal_model.specs.declared.entry.Shown.{Shown}
-use Rattle.journal_model.specs.State.{buffer, course, reservation, reservation_in, has_buffer, live_in, new_buffer}
-use Rattle.journal_model.specs.ApplyCommands.{held_as_named, on_to_next, released, with_pins}
-use Rattle.journal_model.specs.Commands.{command_at_work, decl, named}
-use Rattle.journal_model.specs.CommandRules.{is_command}
-use Rattle.journal_model.specs.Holds.{held_slots}
-use Rattle.journal_model.specs.Lists.{touched}
-use Rattle.journal_model.specs.Next.{next}
-use Rattle.journal_model.specs.Places.{aperture, page_at}
-use Rattle.journal_model.specs.Stores.{put_bytes, showing, stores_after, written}
-use Rattle.journal_model.specs.Tasks.{forbidden}
-use Rattle.journal_model.specs.Legal.{World, IsLegalNext, state_of, stores_of, world_of, world_after}
+use Rattle.journal_model.specs.rules.State.{buffer, course, reservation, reservation_in, has_buffer, live_in, new_buffer}
+use Rattle.journal_model.specs.rules.ApplyCommands.{held_as_named, on_to_next, released, with_pins}
+use Rattle.journal_model.specs.rules.Commands.{command_at_work, decl, named}
+use Rattle.journal_model.specs.scripts.CommandRules.{is_command}
+use Rattle.journal_model.specs.rules.Holds.{held_slots}
+use Rattle.journal_model.specs.rules.Lists.{touched}
+use Rattle.journal_model.specs.rules.Next.{next}
+use Rattle.journal_model.specs.rules.Places.{aperture, page_at}
+use Rattle.journal_model.specs.rules.Stores.{put_bytes, showing, stores_after, written}
+use Rattle.journal_model.specs.rules.Tasks.{forbidden}
+use Rattle.journal_model.specs.rules.Legal.{World, IsLegalNext, state_of, stores_of, world_of, world_after}
 use Rattle.laws.proofs.law_state.Shown.{legal_step}
 use Rattle.laws.specs.law_state.Courses.{makes}
 use Rattle.laws.specs.law_state.GoodState.{HasPages}

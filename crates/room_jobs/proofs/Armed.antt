@@ -26,15 +26,15 @@ use Rattle.journal_model.specs.declared.state.Job.{Job}
 use Rattle.journal_model.specs.declared.state.State.{State}
 use Rattle.journal_model.specs.declared.entry.Entry.{Entry}
 use Rattle.journal_model.specs.declared.entry.Kind.TheVariants as kind
-use Rattle.journal_model.specs.State.{buffer, buffer_in, course, has_buffer, live_in, same_buffer, with_course}
-use Rattle.journal_model.specs.ApplyCommands.{has_made, named_in}
-use Rattle.journal_model.specs.ApplyJobs.{after_submit, ops_of, with_use}
-use Rattle.journal_model.specs.Commands.{command_at_work, named}
-use Rattle.journal_model.specs.CommandRules.{is_command}
-use Rattle.journal_model.specs.Places.{packet_place}
-use Rattle.journal_model.specs.Waits.{jobs_before_use, use_of}
-use Rattle.journal_model.specs.Next.{next}
-use Rattle.journal_model.specs.Legal.{IsLegalNext, state_of, stores_of, world_of}
+use Rattle.journal_model.specs.rules.State.{buffer, buffer_in, course, has_buffer, live_in, same_buffer, with_course}
+use Rattle.journal_model.specs.rules.ApplyCommands.{has_made, named_in}
+use Rattle.journal_model.specs.rules.ApplyJobs.{after_submit, ops_of, with_use}
+use Rattle.journal_model.specs.rules.Commands.{command_at_work, named}
+use Rattle.journal_model.specs.scripts.CommandRules.{is_command}
+use Rattle.journal_model.specs.rules.Places.{packet_place}
+use Rattle.journal_model.specs.rules.Waits.{jobs_before_use, use_of}
+use Rattle.journal_model.specs.rules.Next.{next}
+use Rattle.journal_model.specs.rules.Legal.{IsLegalNext, state_of, stores_of, world_of}
 use Rattle.laws.specs.law_state.GoodState.{last_number}
 use Rattle.laws.proofs.law_state.GoodStates.{good_law}
 use Rattle.laws.proofs.law_state.JobsKeep.{few_packets}

@@ -7,8 +7,8 @@ use Rattle.ttm_base.specs.declared.Mem.{Mem}
 use Rattle.ttm_base.specs.declared.Mem.TheVariants.{System, Tt, Vram}
 use Rattle.journal_model.specs.declared.state.Buffer.{Buffer}
 use Rattle.journal_model.specs.declared.state.Core.{Core}
-use Rattle.journal_model.specs.State.{buffer_in, live_in, new_buffer}
-use Rattle.journal_model.specs.Places.{name_in, packet_place}
+use Rattle.journal_model.specs.rules.State.{buffer_in, live_in, new_buffer}
+use Rattle.journal_model.specs.rules.Places.{name_in, packet_place}
 use Rattle.bo_table.specs.Seen.{Bos}
 use Rattle.bo_table.proofs.TableLaws.{get_map}
 use Rattle.room_representation.specs.Bos.{unfenced}

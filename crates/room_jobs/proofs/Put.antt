@@ -15,8 +15,8 @@ use Rattle.journal_model.specs.declared.script.Sizes.{Sizes}
 use Rattle.journal_model.specs.declared.script.Command.{Command}
 use Rattle.journal_model.specs.declared.script.Command.TheVariants as command
 use Rattle.journal_model.specs.declared.state.Buffer.{Buffer}
-use Rattle.journal_model.specs.Places.{page_at, page_in}
-use Rattle.journal_model.specs.Stores.{is_there, put_bytes, within}
+use Rattle.journal_model.specs.rules.Places.{page_at, page_in}
+use Rattle.journal_model.specs.rules.Stores.{is_there, put_bytes, within}
 use Rattle.room_representation.specs.Bos.{unfenced}
 use Rattle.room_representation.specs.Pages.{AreSlots, AreStores, HasNoMore}
 use Rattle.room_representation.specs.lemma_room_bytes.Shown.{is_in_stores}

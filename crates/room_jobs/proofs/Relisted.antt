@@ -16,10 +16,10 @@ use Rattle.journal_model.specs.declared.script.Command.TheVariants as command
 use Rattle.journal_model.specs.declared.state.Buffer.{Buffer}
 use Rattle.journal_model.specs.declared.state.Course.{Course}
 use Rattle.journal_model.specs.declared.state.Reservation.{Reservation}
-use Rattle.journal_model.specs.State.{reservation_in, has_buffer, live_in, reservation_changed}
-use Rattle.journal_model.specs.Commands.{decl, named}
-use Rattle.journal_model.specs.Lists.{touched}
-use Rattle.journal_model.specs.ApplyCommands.{held_as_named, pinned_less, pinned_more, with_pins}
+use Rattle.journal_model.specs.rules.State.{reservation_in, has_buffer, live_in, reservation_changed}
+use Rattle.journal_model.specs.rules.Commands.{decl, named}
+use Rattle.journal_model.specs.rules.Lists.{touched}
+use Rattle.journal_model.specs.rules.ApplyCommands.{held_as_named, pinned_less, pinned_more, with_pins}
 use Rattle.room_representation.specs.lemma_room_lists.Listed.{AreListed}
 use Rattle.room_representation.proofs.lemma_room_lists.KindLaws.{touched_again, pinned_again, pinned_lists, unpinned_further, unpinned_lists}
 use Rattle.room_jobs.specs.Bodies.{body_at}

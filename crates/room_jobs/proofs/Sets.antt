@@ -10,7 +10,7 @@ use Rattle.ttm_base.specs.declared.Usage.{Usage}
 use Rattle.fence_core.specs.declared.fence_set.Latest.{Latest}
 use Rattle.fence_core.specs.Fences.{added, all_added, later, kept_of, only}
 use Rattle.fence_core.proofs.SetLaws.{length-all_added}
-use Rattle.journal_model.specs.Waits.{use_of}
+use Rattle.journal_model.specs.rules.Waits.{use_of}
 use Rattle.bo_table.specs.Seen.{Bos, fences_at, with_use}
 use Rattle.room_jobs.specs.Uses.{AreWide, HaveContext, waited_use, with_uses, with_waits}
 

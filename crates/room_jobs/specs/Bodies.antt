@@ -3,7 +3,7 @@ use Rattle.std.specs.Prelude.{unwrap_or}
 use Rattle.ttm_base.specs.declared.BufId.{BufId}
 use Rattle.bo_table.specs.Seen.{Bos}
 use Rattle.journal_model.specs.declared.state.Buffer.{Buffer}
-use Rattle.journal_model.specs.State.{live_in, new_buffer}
+use Rattle.journal_model.specs.rules.State.{live_in, new_buffer}
 
 -- without its fences, where it is known to be live
 abbrev pub body_at : Bos → BufId → Buffer

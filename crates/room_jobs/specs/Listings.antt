@@ -9,9 +9,9 @@ use Rattle.journal_model.specs.declared.script.Command.{Command}
 use Rattle.journal_model.specs.declared.script.Command.TheVariants as command
 use Rattle.journal_model.specs.declared.state.Buffer.{Buffer}
 use Rattle.journal_model.specs.declared.state.Reservation.{Reservation}
-use Rattle.journal_model.specs.State.{reservation_in, has_buffer, live_in}
-use Rattle.journal_model.specs.Commands.{decl, named}
-use Rattle.journal_model.specs.Lists.{touched}
+use Rattle.journal_model.specs.rules.State.{reservation_in, has_buffer, live_in}
+use Rattle.journal_model.specs.rules.Commands.{decl, named}
+use Rattle.journal_model.specs.rules.Lists.{touched}
 use Rattle.room_representation.specs.lemma_room_lists.Listed.{AreListed}
 use Rattle.room_jobs.specs.Bodies.{body_at}
 

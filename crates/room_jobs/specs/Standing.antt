@@ -7,8 +7,8 @@ use Rattle.ttm_base.specs.declared.PagePlace.{PagePlace}
 use Rattle.ttm_base.specs.declared.PagePlace.TheVariants as place
 use Rattle.ttm_base.specs.Cutting.{PageMap}
 use Rattle.journal_model.specs.declared.state.Buffer.{Buffer}
-use Rattle.journal_model.specs.State.{live_in, new_buffer}
-use Rattle.journal_model.specs.Places.{frame_of, packet_place}
+use Rattle.journal_model.specs.rules.State.{live_in, new_buffer}
+use Rattle.journal_model.specs.rules.Places.{frame_of, packet_place}
 use Rattle.bo_table.specs.declared.bo.Bo.{Bo}
 use Rattle.bo_table.specs.Seen.{Bos}
 

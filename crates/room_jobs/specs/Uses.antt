@@ -8,7 +8,7 @@ use Rattle.ttm_base.specs.declared.Usage.{Usage}
 use Rattle.ttm_base.specs.declared.Usage.TheVariants.{Write, Read}
 use Rattle.fence_core.specs.declared.fence_set.Latest.{Latest}
 use Rattle.fence_core.specs.Fences.{all_added}
-use Rattle.journal_model.specs.Waits.{is_written, use_of}
+use Rattle.journal_model.specs.rules.Waits.{is_written, use_of}
 use Rattle.bo_table.specs.Seen.{Bos, fences_at, with_use}
 
 -- at a buffer that it writes it waits for jobs of all usages, at one that it only reads for those up to Write

@@ -3,7 +3,7 @@ use Rattle.std.specs.Prelude.{ℕ, List, Option, option_and_then, slice_get}
 use Rattle.journal_model.specs.declared.script.Script.{Script}
 use Rattle.journal_model.specs.declared.script.Command.{Command}
 use Rattle.journal_model.specs.declared.state.Course.{Course}
-use Rattle.journal_model.specs.Commands.{commands_of}
+use Rattle.journal_model.specs.rules.Commands.{commands_of}
 use Rattle.room_representation.specs.room_steps.Courses.{course_at}
 
 -- the next one after those that the thread has answered

@@ -9,9 +9,9 @@ use Rattle.journal_model.specs.declared.script.Sizes.{Sizes}
 use Rattle.journal_model.specs.declared.script.Command.{Command}
 use Rattle.journal_model.specs.declared.script.Command.TheVariants as command
 use Rattle.journal_model.specs.declared.state.Buffer.{Buffer}
-use Rattle.journal_model.specs.State.{live_in}
-use Rattle.journal_model.specs.Places.{page_at}
-use Rattle.journal_model.specs.Stores.{put_bytes}
+use Rattle.journal_model.specs.rules.State.{live_in}
+use Rattle.journal_model.specs.rules.Places.{page_at}
+use Rattle.journal_model.specs.rules.Stores.{put_bytes}
 use Rattle.room_representation.specs.Pages.{AreStores}
 use Rattle.room_jobs.specs.Bodies.{body_at}
 

@@ -1,8 +1,8 @@
 ghost use Rattle.std.specs.Prelude.{◌≡◌, OnOk, OnErr, filter};
 ghost use Rattle.ttm_base.specs.declared.BufId.{BufId as Id};
 ghost use Rattle.journal_model.specs.declared.script.Command.TheVariants as command_of;
-ghost use Rattle.journal_model.specs.State as words;
-ghost use Rattle.journal_model.specs.Commands as commands;
+ghost use Rattle.journal_model.specs.rules.State as words;
+ghost use Rattle.journal_model.specs.rules.Commands as commands;
 ghost use Rattle.room_jobs.specs.Listings.{unlisted, unpinned, CanRelist, AreTouched, AreRelisted};
 
 use bo_table::BoTable;

@@ -1,6 +1,6 @@
 ghost use Rattle.std.specs.Prelude.{◌≡◌, IfOk};
 ghost use Rattle.ttm_base.specs.Cutting as words;
-ghost use Rattle.journal_model.specs.Places as places;
+ghost use Rattle.journal_model.specs.rules.Places as places;
 ghost use Rattle.room_jobs.specs.Standing.{body_in, frame_place, standing_names};
 
 use bo_table::{Bo, BoTable};

@@ -1,8 +1,8 @@
 ghost use Rattle.std.specs.Prelude.{◌≡◌, ◌<◌, Some};
 ghost use Rattle.ttm_base.specs.declared.BufId.{BufId as Id};
 ghost use Rattle.journal_model.specs.declared.script.Command.TheVariants as command_of;
-ghost use Rattle.journal_model.specs.State.{reservation_in};
-ghost use Rattle.journal_model.specs.ApplyCommands.{with_pins};
+ghost use Rattle.journal_model.specs.rules.State.{reservation_in};
+ghost use Rattle.journal_model.specs.rules.ApplyCommands.{with_pins};
 
 use bo_table::BoTable;
 use journal_model::Command;

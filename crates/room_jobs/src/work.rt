@@ -1,6 +1,6 @@
 ghost use Rattle.std.specs.Prelude.{◌≡◌, IsSome, IfOk, option_copied};
-ghost use Rattle.journal_model.specs.ApplyJobs as rows;
-ghost use Rattle.journal_model.specs.ApplyCommands as commands;
+ghost use Rattle.journal_model.specs.rules.ApplyJobs as rows;
+ghost use Rattle.journal_model.specs.rules.ApplyCommands as commands;
 ghost use Rattle.room_representation.specs.room_steps.Courses.{course_at};
 ghost use Rattle.room_jobs.specs.Work.{work_of};
 

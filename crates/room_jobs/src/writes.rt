@@ -1,7 +1,7 @@
 ghost use Rattle.std.specs.Prelude.{◌≡◌, ◌+◌, ◌<◌, ◌≤◌, ◌^◌, ℕ, List, length};
 ghost use Rattle.ttm_base.specs.declared.BufId.{BufId as Id};
 ghost use Rattle.journal_model.specs.declared.script.Command.TheVariants as command_of;
-ghost use Rattle.journal_model.specs.Places as places;
+ghost use Rattle.journal_model.specs.rules.Places as places;
 ghost use Rattle.copy_packet.specs.StoreBytes.{IsThere};
 ghost use Rattle.copy_packet.specs.Spots.{after_write, spot_at};
 ghost use Rattle.room_representation.specs.room_steps.Lent.{as_buffer};

@@ -11,10 +11,10 @@ use Rattle.journal_model.specs.declared.state.Buffer.{Buffer}
 use Rattle.journal_model.specs.declared.entry.Kind.TheVariants as kind
 use Rattle.journal_model.specs.declared.entry.Left.{Left}
 use Rattle.journal_model.specs.declared.entry.Left.TheVariants as left
-use Rattle.journal_model.specs.ApplyMoves.{copy_of_page, move_packets, frames_left}
-use Rattle.journal_model.specs.PageSteps.{next_ghost}
-use Rattle.journal_model.specs.Places.{name_in, name_in_spans, packet_place}
-use Rattle.journal_model.specs.State.{buffer, target_spans}
+use Rattle.journal_model.specs.rules.ApplyMoves.{copy_of_page, move_packets, frames_left}
+use Rattle.journal_model.specs.rules.PageSteps.{next_ghost}
+use Rattle.journal_model.specs.rules.Places.{name_in, name_in_spans, packet_place}
+use Rattle.journal_model.specs.rules.State.{buffer, target_spans}
 use Rattle.laws.specs.lemma_bytes_told.Told.{IsThere, Told, still, moves_up, moves_across, moves_down, evicts}
 use Rattle.room_representation.specs.Bos.{unfenced}
 use Rattle.room_moves.specs.Copies.{copies}

@@ -32,15 +32,15 @@ use Rattle.journal_model.specs.declared.entry.Entry.{Entry}
 use Rattle.journal_model.specs.declared.entry.Kind.TheVariants as kind
 use Rattle.journal_model.specs.declared.entry.Left.{Left}
 use Rattle.journal_model.specs.declared.entry.Left.TheVariants as left
-use Rattle.journal_model.specs.Apply.{applied}
-use Rattle.journal_model.specs.ApplyMoves.{moved, move_packets, ghosts_left, last_ghost_left, move_fence_left}
-use Rattle.journal_model.specs.Holds.{held_slots, size_of}
-use Rattle.journal_model.specs.Legal.{IsLegalNext, state_of, stores_of, world_of}
-use Rattle.journal_model.specs.Next.{next}
-use Rattle.journal_model.specs.Lists.{touched}
-use Rattle.journal_model.specs.Places.{aperture, pages_of}
-use Rattle.journal_model.specs.State.{buffer, changed, target_spans}
-use Rattle.journal_model.specs.Stores.{within}
+use Rattle.journal_model.specs.rules.Apply.{applied}
+use Rattle.journal_model.specs.rules.ApplyMoves.{moved, move_packets, ghosts_left, last_ghost_left, move_fence_left}
+use Rattle.journal_model.specs.rules.Holds.{held_slots, size_of}
+use Rattle.journal_model.specs.rules.Legal.{IsLegalNext, state_of, stores_of, world_of}
+use Rattle.journal_model.specs.rules.Next.{next}
+use Rattle.journal_model.specs.rules.Lists.{touched}
+use Rattle.journal_model.specs.rules.Places.{aperture, pages_of}
+use Rattle.journal_model.specs.rules.State.{buffer, changed, target_spans}
+use Rattle.journal_model.specs.rules.Stores.{within}
 use Rattle.laws.proofs.law_counters.Law.{counters_law}
 use Rattle.laws.proofs.law_owners.Law.{once_law, owner_law}
 use Rattle.laws.proofs.law_transparent.PagesLaw.{ghosts_law}

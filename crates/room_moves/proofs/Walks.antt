@@ -7,8 +7,8 @@ use Rattle.ttm_base.specs.declared.Span.{Span}
 use Rattle.ttm_base.specs.declared.Packet.{Packet}
 use Rattle.ttm_base.specs.ListWords.{count_from}
 use Rattle.place_list.specs.SpanPages.{pages_of}
-use Rattle.journal_model.specs.ApplyMoves.{copy_of_page}
-use Rattle.journal_model.specs.Places.{name_in_spans}
+use Rattle.journal_model.specs.rules.ApplyMoves.{copy_of_page}
+use Rattle.journal_model.specs.rules.Places.{name_in_spans}
 use Rattle.room_moves.specs.Copies.{copies, named}
 
 -- the first that is left is the next

@@ -7,8 +7,8 @@ use Rattle.ttm_base.specs.declared.PagePlace.{PagePlace}
 use Rattle.ttm_base.specs.declared.PagePlace.TheVariants as place
 use Rattle.ttm_base.specs.declared.Span.{Span}
 use Rattle.ttm_base.specs.ListWords.{count_from}
-use Rattle.journal_model.specs.ApplyMoves.{copy_of_page}
-use Rattle.journal_model.specs.Places.{name_in_spans}
+use Rattle.journal_model.specs.rules.ApplyMoves.{copy_of_page}
+use Rattle.journal_model.specs.rules.Places.{name_in_spans}
 
 -- how packets name a page of a memory type
 abbrev pub named : Mem → ℕ → PagePlace

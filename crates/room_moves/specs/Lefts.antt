@@ -7,8 +7,8 @@ use Rattle.fence_core.specs.Fences.{added, nothing_kept}
 use Rattle.journal_model.specs.declared.entry.Left.{Left}
 use Rattle.journal_model.specs.declared.entry.Left.TheVariants as left
 use Rattle.journal_model.specs.declared.state.Buffer.{Buffer}
-use Rattle.journal_model.specs.ApplyMoves.{frames_left}
-use Rattle.journal_model.specs.Holds.{spans_in}
+use Rattle.journal_model.specs.rules.ApplyMoves.{frames_left}
+use Rattle.journal_model.specs.rules.Holds.{spans_in}
 use Rattle.room_representation.specs.declared.parts.Ghost.{Ghost}
 
 -- the ghost that a buffer leaves, which waits for the move's job alone

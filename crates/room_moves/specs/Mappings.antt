@@ -3,8 +3,8 @@ use Rattle.std.specs.Prelude.{ℕ, List, Option}
 use Rattle.ttm_base.specs.declared.Mem.{Mem}
 use Rattle.ttm_base.specs.declared.Mem.TheVariants.{System, Tt, Vram}
 use Rattle.journal_model.specs.declared.state.Buffer.{Buffer}
-use Rattle.journal_model.specs.State.{target_spans}
-use Rattle.journal_model.specs.Places.{pages_of}
+use Rattle.journal_model.specs.rules.State.{target_spans}
+use Rattle.journal_model.specs.rules.Places.{pages_of}
 use Rattle.room_representation.specs.lemma_room_bytes.Mapped.{mapped_to}
 
 -- the pages of a target in TT are mapped to the buffer's frames

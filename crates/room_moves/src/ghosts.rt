@@ -1,8 +1,8 @@
 ghost use Rattle.std.specs.Prelude.{◌≡◌, ◌<◌, IfOk, replicate};
 ghost use Rattle.ttm_base.specs.declared.Usage.TheVariants as usage;
 ghost use Rattle.fence_core.specs.Fences.{added, nothing_kept};
-ghost use Rattle.journal_model.specs.Holds as holds;
-ghost use Rattle.journal_model.specs.ApplyMoves as words;
+ghost use Rattle.journal_model.specs.rules.Holds as holds;
+ghost use Rattle.journal_model.specs.rules.ApplyMoves as words;
 ghost use Rattle.room_representation.specs.room_steps.Lent.{as_buffer};
 ghost use Rattle.room_moves.specs.Lefts.{left_by_move};
 

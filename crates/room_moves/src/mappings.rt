@@ -1,7 +1,7 @@
 ghost use Rattle.std.specs.Prelude.{◌≡◌, length};
 ghost use Rattle.ttm_base.specs.declared.Mem.TheVariants.{Tt as InTt};
-ghost use Rattle.journal_model.specs.State.{target_spans};
-ghost use Rattle.journal_model.specs.Places.{pages_of};
+ghost use Rattle.journal_model.specs.rules.State.{target_spans};
+ghost use Rattle.journal_model.specs.rules.Places.{pages_of};
 ghost use Rattle.room_pages.specs.room_binds.Apertures.{AreBelow};
 ghost use Rattle.room_representation.specs.room_steps.Lent.{as_buffer};
 ghost use Rattle.room_moves.specs.Mappings.{mapped_in};

@@ -1,7 +1,7 @@
 ghost use Rattle.std.specs.Prelude.{◌≡◌, ◌≢◌, IfOk, drop, length, slice_get, unwrap_or};
 ghost use Rattle.ttm_base.specs.declared.Mem.TheVariants.{System as InSystem};
-ghost use Rattle.journal_model.specs.ApplyMoves as words;
-ghost use Rattle.journal_model.specs.State as model;
+ghost use Rattle.journal_model.specs.rules.ApplyMoves as words;
+ghost use Rattle.journal_model.specs.rules.State as model;
 ghost use Rattle.room_representation.specs.room_steps.Lent.{as_buffer};
 ghost use Rattle.room_moves.specs.Copies.{copies, named};
 

@@ -10,12 +10,12 @@ use Rattle.journal_model.specs.declared.script.Script.{Script}
 use Rattle.journal_model.specs.declared.state.Buffer.{Buffer}
 use Rattle.journal_model.specs.declared.entry.Entry.{Entry}
 use Rattle.journal_model.specs.declared.entry.Kind.TheVariants as kind
-use Rattle.journal_model.specs.State.{buffer, live_in}
-use Rattle.journal_model.specs.ApplyPages.{without_frames, after_depopulate}
-use Rattle.journal_model.specs.Holds.{held_frames}
-use Rattle.journal_model.specs.Places.{frame_of, frames_of}
-use Rattle.journal_model.specs.Stores.{stores_after}
-use Rattle.journal_model.specs.Legal.{IsLegalNext, state_of, world_of, world_after}
+use Rattle.journal_model.specs.rules.State.{buffer, live_in}
+use Rattle.journal_model.specs.rules.ApplyPages.{without_frames, after_depopulate}
+use Rattle.journal_model.specs.rules.Holds.{held_frames}
+use Rattle.journal_model.specs.rules.Places.{frame_of, frames_of}
+use Rattle.journal_model.specs.rules.Stores.{stores_after}
+use Rattle.journal_model.specs.rules.Legal.{IsLegalNext, state_of, world_of, world_after}
 use Rattle.laws.proofs.law_owners.Law.{owner_law}
 use Rattle.laws.specs.lemma_bytes_told.Told as told
 use Rattle.laws.specs.lemma_bytes_told.Told.{IsThere, Told}

@@ -18,12 +18,12 @@ use Rattle.journal_model.specs.declared.state.State.{State}
 use Rattle.journal_model.specs.declared.state.Buffer.{Buffer}
 use Rattle.journal_model.specs.declared.entry.Entry.{Entry}
 use Rattle.journal_model.specs.declared.entry.Kind.TheVariants as kind
-use Rattle.journal_model.specs.State.{buffer, live_in}
-use Rattle.journal_model.specs.ApplyPages.{with_loc, after_swap_out}
-use Rattle.journal_model.specs.Holds.{free_slot, held_frames, held_slots}
-use Rattle.journal_model.specs.Places.{aperture, frame_of, page_at, page_in, page_in_table}
-use Rattle.journal_model.specs.Stores.{stores_after, within}
-use Rattle.journal_model.specs.Legal.{IsLegalNext, state_of, world_of, world_after}
+use Rattle.journal_model.specs.rules.State.{buffer, live_in}
+use Rattle.journal_model.specs.rules.ApplyPages.{with_loc, after_swap_out}
+use Rattle.journal_model.specs.rules.Holds.{free_slot, held_frames, held_slots}
+use Rattle.journal_model.specs.rules.Places.{aperture, frame_of, page_at, page_in, page_in_table}
+use Rattle.journal_model.specs.rules.Stores.{stores_after, within}
+use Rattle.journal_model.specs.rules.Legal.{IsLegalNext, state_of, world_of, world_after}
 use Rattle.laws.proofs.law_owners.Law.{owner_law}
 use Rattle.laws.specs.lemma_bytes_told.Told.{IsThere, Told, still, swaps_out}
 use Rattle.laws.proofs.law_transparent.Carried.{told_law}

@@ -5,7 +5,7 @@ use Rattle.std.specs.List.{filter_map}
 use Rattle.std.proofs.lemmas.Option.{slice_get-get_or}
 use Rattle.ttm_base.specs.declared.Loc.{Loc}
 use Rattle.ttm_base.specs.declared.Loc.TheVariants as loc
-use Rattle.journal_model.specs.Places.{frame_of}
+use Rattle.journal_model.specs.rules.Places.{frame_of}
 use Rattle.room_representation.specs.lemma_room_bytes.GivenBack.{given, given_back}
 use Rattle.room_representation.proofs.lemma_room_bytes.Walks.{passed, table_given}
 use Rattle.room_pages.specs.Tables.{AreHeldInTurn}

@@ -2,7 +2,7 @@
 use Rattle.std.specs.Prelude.{◌≡◌, ℕ, Bool, true, List, Option, Some, option_and_then, slice_get, take}
 use Rattle.std.specs.List.{filter_map}
 use Rattle.ttm_base.specs.declared.Loc.{Loc}
-use Rattle.journal_model.specs.Places.{frame_of}
+use Rattle.journal_model.specs.rules.Places.{frame_of}
 use Rattle.room_representation.specs.lemma_room_bytes.GivenBack.{given_back}
 
 -- each frame of the table is held when its turn comes, after those before it

@@ -1,6 +1,6 @@
 ghost use Rattle.std.specs.Prelude.{◌≡◌, IsSome, Some};
 ghost use Rattle.std.specs.List.{filter_map};
-ghost use Rattle.journal_model.specs.Places.{frame_of};
+ghost use Rattle.journal_model.specs.rules.Places.{frame_of};
 ghost use Rattle.room_representation.specs.lemma_room_bytes.GivenBack.{given_back};
 ghost use Rattle.room_pages.specs.Tables.{AreHeldInTurn, frame_in};
 

@@ -13,11 +13,11 @@ use Rattle.journal_model.specs.declared.state.Course.{Course}
 use Rattle.journal_model.specs.declared.state.Task.{Task}
 use Rattle.journal_model.specs.declared.entry.Entry.{Entry}
 use Rattle.journal_model.specs.declared.entry.Kind.TheVariants as kind
-use Rattle.journal_model.specs.State.{course}
-use Rattle.journal_model.specs.ApplyCommands.{has_made, after_bulk}
-use Rattle.journal_model.specs.CommandRules.{is_command}
-use Rattle.journal_model.specs.Lists as state
-use Rattle.journal_model.specs.Legal.{IsLegalNext, state_of, stores_of, world_of}
+use Rattle.journal_model.specs.rules.State.{course}
+use Rattle.journal_model.specs.rules.ApplyCommands.{has_made, after_bulk}
+use Rattle.journal_model.specs.scripts.CommandRules.{is_command}
+use Rattle.journal_model.specs.rules.Lists as state
+use Rattle.journal_model.specs.rules.Legal.{IsLegalNext, state_of, stores_of, world_of}
 use Rattle.laws.proofs.law_state.Rules.{rules_of, at_work_rules}
 use Rattle.laws.proofs.law_sound.Along.{Stepped}
 use Rattle.laws.proofs.law_sound.Gifts.{Gives, shifts, seeks, fills}

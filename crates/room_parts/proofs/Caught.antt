@@ -21,15 +21,15 @@ use Rattle.journal_model.specs.declared.state.Task.{Task}
 use Rattle.journal_model.specs.declared.entry.Entry.{Entry}
 use Rattle.journal_model.specs.declared.entry.Why.{Why}
 use Rattle.journal_model.specs.declared.entry.Kind.TheVariants as kind
-use Rattle.journal_model.specs.State.{changed, course, buffer, reservation, reservation_in, reservation_changed, has_buffer}
-use Rattle.journal_model.specs.ApplyCommands.{with_holder}
-use Rattle.journal_model.specs.ApplyPages as pages
-use Rattle.journal_model.specs.ApplyVictims.{leaves_tt, with_victim, with_skip, no_longer_caught, with_fail, after_catch}
-use Rattle.journal_model.specs.Choice.{reach_of}
-use Rattle.journal_model.specs.Dry.{is_loose, is_evictable, has_frame}
-use Rattle.journal_model.specs.Lists as state
-use Rattle.journal_model.specs.Lists.{in_order}
-use Rattle.journal_model.specs.Legal.{IsLegalNext, state_of, stores_of, world_of}
+use Rattle.journal_model.specs.rules.State.{changed, course, buffer, reservation, reservation_in, reservation_changed, has_buffer}
+use Rattle.journal_model.specs.rules.ApplyCommands.{with_holder}
+use Rattle.journal_model.specs.rules.ApplyPages as pages
+use Rattle.journal_model.specs.rules.ApplyVictims.{leaves_tt, with_victim, with_skip, no_longer_caught, with_fail, after_catch}
+use Rattle.journal_model.specs.rules.Choice.{reach_of}
+use Rattle.journal_model.specs.rules.Dry.{is_loose, is_evictable, has_frame}
+use Rattle.journal_model.specs.rules.Lists as state
+use Rattle.journal_model.specs.rules.Lists.{in_order}
+use Rattle.journal_model.specs.rules.Legal.{IsLegalNext, state_of, stores_of, world_of}
 use Rattle.laws.proofs.law_sound.Along.{Stepped}
 use Rattle.laws.proofs.law_sound.Bufs.{found_passes}
 use Rattle.laws.proofs.law_sound.Gifts.{Gives, seeks, fills, evicts, evicts_for_swap}

@@ -24,13 +24,13 @@ use Rattle.journal_model.specs.declared.state.Task.TheVariants as task
 use Rattle.journal_model.specs.declared.entry.Entry.{Entry}
 use Rattle.journal_model.specs.declared.entry.DryWhy.{DryWhy}
 use Rattle.journal_model.specs.declared.entry.Kind.TheVariants as kind
-use Rattle.journal_model.specs.State.{buffer, course, has_buffer, with_course}
-use Rattle.journal_model.specs.Commands.{asked_places, command_at_work, decl, named, undeclared}
-use Rattle.journal_model.specs.Ready.{has_some_target, is_ready}
-use Rattle.journal_model.specs.ScriptRules.{is_decl, is_flagged, is_new_list, is_old_list, is_place, is_place_list}
-use Rattle.journal_model.specs.Search.{PlaceSearch, aim_of, is_caught, place_search, place_search_at_work, through_tt}
-use Rattle.journal_model.specs.ApplyVictims.{course_after_dry, gone_dry, with_fail}
-use Rattle.journal_model.specs.Legal.{IsLegalNext, state_of, stores_of, world_of}
+use Rattle.journal_model.specs.rules.State.{buffer, course, has_buffer, with_course}
+use Rattle.journal_model.specs.rules.Commands.{asked_places, command_at_work, decl, named, undeclared}
+use Rattle.journal_model.specs.rules.Ready.{has_some_target, is_ready}
+use Rattle.journal_model.specs.scripts.ScriptRules.{is_decl, is_flagged, is_new_list, is_old_list, is_place, is_place_list}
+use Rattle.journal_model.specs.rules.Search.{PlaceSearch, aim_of, is_caught, place_search, place_search_at_work, through_tt}
+use Rattle.journal_model.specs.rules.ApplyVictims.{course_after_dry, gone_dry, with_fail}
+use Rattle.journal_model.specs.rules.Legal.{IsLegalNext, state_of, stores_of, world_of}
 use Rattle.laws.proofs.law_state.GoodStates.{good_law}
 use Rattle.laws.proofs.law_state.JobsKeep.{all_at}
 use Rattle.laws.proofs.law_state.Rules.{Rules, rules_of}

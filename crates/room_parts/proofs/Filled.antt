@@ -12,11 +12,11 @@ use Rattle.journal_model.specs.declared.state.State.{State}
 use Rattle.journal_model.specs.declared.state.Buffer.{Buffer}
 use Rattle.journal_model.specs.declared.entry.Entry.{Entry}
 use Rattle.journal_model.specs.declared.entry.Kind.TheVariants as kind
-use Rattle.journal_model.specs.State.{buffer, live_in}
-use Rattle.journal_model.specs.ApplyPages.{with_loc, after_populate}
-use Rattle.journal_model.specs.Holds.{free_frame, held_frames}
-use Rattle.journal_model.specs.Stores.{stores_after}
-use Rattle.journal_model.specs.Legal.{World, IsLegalNext, state_of, stores_of, world_of, world_after}
+use Rattle.journal_model.specs.rules.State.{buffer, live_in}
+use Rattle.journal_model.specs.rules.ApplyPages.{with_loc, after_populate}
+use Rattle.journal_model.specs.rules.Holds.{free_frame, held_frames}
+use Rattle.journal_model.specs.rules.Stores.{stores_after}
+use Rattle.journal_model.specs.rules.Legal.{World, IsLegalNext, state_of, stores_of, world_of, world_after}
 use Rattle.laws.specs.lemma_bytes_told.Told.{IsThere, Told, still, populates}
 use Rattle.laws.proofs.law_transparent.Carried.{told_law}
 use Rattle.room_representation.proofs.lemma_room_lists.KindLaws.{changed_unseen}

@@ -21,12 +21,12 @@ use Rattle.journal_model.specs.declared.state.Reservation.{Reservation}
 use Rattle.journal_model.specs.declared.state.Task.{Task}
 use Rattle.journal_model.specs.declared.entry.Entry.{Entry}
 use Rattle.journal_model.specs.declared.entry.Kind.TheVariants as kind
-use Rattle.journal_model.specs.State.{course, reservation_in, live_in, new_buffer, no_reservation}
-use Rattle.journal_model.specs.ApplyCommands.{has_made, after_new}
-use Rattle.journal_model.specs.CommandRules.{is_command}
-use Rattle.journal_model.specs.Commands.{decl, undeclared}
-use Rattle.journal_model.specs.Stores.{stores_after}
-use Rattle.journal_model.specs.Legal.{World, IsLegalNext, state_of, stores_of, world_of, world_after}
+use Rattle.journal_model.specs.rules.State.{course, reservation_in, live_in, new_buffer, no_reservation}
+use Rattle.journal_model.specs.rules.ApplyCommands.{has_made, after_new}
+use Rattle.journal_model.specs.scripts.CommandRules.{is_command}
+use Rattle.journal_model.specs.rules.Commands.{decl, undeclared}
+use Rattle.journal_model.specs.rules.Stores.{stores_after}
+use Rattle.journal_model.specs.rules.Legal.{World, IsLegalNext, state_of, stores_of, world_of, world_after}
 use Rattle.laws.proofs.law_state.GoodStates.{good_law}
 use Rattle.laws.proofs.law_state.Rules.{rules_of, at_work_rules}
 use Rattle.laws.proofs.law_sound.Along.{Stepped}

@@ -12,8 +12,8 @@ use Rattle.copy_engine.specs.Pushes.{Pushed, next_of, with_ran, without_head}
 use Rattle.journal_model.specs.declared.script.Script.{Script}
 use Rattle.journal_model.specs.declared.entry.Entry.{Entry}
 use Rattle.journal_model.specs.declared.entry.Kind.TheVariants as kind
-use Rattle.journal_model.specs.ApplyJobs.{after_done}
-use Rattle.journal_model.specs.Legal.{World, IsLegalNext, state_of, stores_of, world_of, world_after}
+use Rattle.journal_model.specs.rules.ApplyJobs.{after_done}
+use Rattle.journal_model.specs.rules.Legal.{World, IsLegalNext, state_of, stores_of, world_of, world_after}
 use Rattle.laws.proofs.law_transparent.PacketPlacesLaw.{places_law}
 use Rattle.room_representation.specs.declared.parts.Parts.{Parts}
 use Rattle.room_representation.specs.Lines.{AreInLine}

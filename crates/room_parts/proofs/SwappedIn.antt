@@ -15,12 +15,12 @@ use Rattle.journal_model.specs.declared.state.State.{State}
 use Rattle.journal_model.specs.declared.state.Buffer.{Buffer}
 use Rattle.journal_model.specs.declared.entry.Entry.{Entry}
 use Rattle.journal_model.specs.declared.entry.Kind.TheVariants as kind
-use Rattle.journal_model.specs.State.{buffer, live_in}
-use Rattle.journal_model.specs.ApplyPages.{with_loc, after_swap_in}
-use Rattle.journal_model.specs.Holds.{free_frame, held_frames, held_slots}
-use Rattle.journal_model.specs.Places.{slot_of, slots_of}
-use Rattle.journal_model.specs.Stores.{stores_after, within}
-use Rattle.journal_model.specs.Legal.{World, IsLegalNext, state_of, world_of, world_after}
+use Rattle.journal_model.specs.rules.State.{buffer, live_in}
+use Rattle.journal_model.specs.rules.ApplyPages.{with_loc, after_swap_in}
+use Rattle.journal_model.specs.rules.Holds.{free_frame, held_frames, held_slots}
+use Rattle.journal_model.specs.rules.Places.{slot_of, slots_of}
+use Rattle.journal_model.specs.rules.Stores.{stores_after, within}
+use Rattle.journal_model.specs.rules.Legal.{World, IsLegalNext, state_of, world_of, world_after}
 use Rattle.laws.proofs.law_owners.Counts.{one, times}
 use Rattle.laws.proofs.law_owners.Keeps.{in_loc}
 use Rattle.laws.proofs.law_owners.Law.{owner_law}

@@ -24,13 +24,13 @@ use Rattle.journal_model.specs.declared.state.Buffer.{Buffer}
 use Rattle.journal_model.specs.declared.state.Course.{Course}
 use Rattle.journal_model.specs.declared.entry.Entry.{Entry}
 use Rattle.journal_model.specs.declared.entry.Kind.TheVariants as kind
-use Rattle.journal_model.specs.State.{buffer, changed, target_spans}
-use Rattle.journal_model.specs.ApplyPages as pages
-use Rattle.journal_model.specs.ApplyPages.{with_fence, with_kernel_fences, with_spans, after_take, search_over}
-use Rattle.journal_model.specs.Holds.{size_of}
-use Rattle.journal_model.specs.Next.{next}
-use Rattle.journal_model.specs.Waits.{jobs_before_target}
-use Rattle.journal_model.specs.Legal.{IsLegalNext, state_of, stores_of, world_of}
+use Rattle.journal_model.specs.rules.State.{buffer, changed, target_spans}
+use Rattle.journal_model.specs.rules.ApplyPages as pages
+use Rattle.journal_model.specs.rules.ApplyPages.{with_fence, with_kernel_fences, with_spans, after_take, search_over}
+use Rattle.journal_model.specs.rules.Holds.{size_of}
+use Rattle.journal_model.specs.rules.Next.{next}
+use Rattle.journal_model.specs.rules.Waits.{jobs_before_target}
+use Rattle.journal_model.specs.rules.Legal.{IsLegalNext, state_of, stores_of, world_of}
 use Rattle.laws.proofs.law_transparent.PagesLaw.{ghosts_law}
 use Rattle.laws.proofs.law_transparent.Carried.{told_law}
 use Rattle.laws.specs.lemma_bytes_told.Told as told

@@ -12,9 +12,9 @@ use Rattle.journal_model.specs.declared.state.Reservation.{Reservation}
 use Rattle.journal_model.specs.declared.state.Task.{Task}
 use Rattle.journal_model.specs.declared.entry.Entry.{Entry}
 use Rattle.journal_model.specs.declared.entry.Kind.TheVariants as kind
-use Rattle.journal_model.specs.State.{course, reservation, reservation_in, reservation_changed}
-use Rattle.journal_model.specs.ApplyCommands.{with_holder, released, on_to_next}
-use Rattle.journal_model.specs.Legal.{IsLegalNext, state_of, stores_of, world_of}
+use Rattle.journal_model.specs.rules.State.{course, reservation, reservation_in, reservation_changed}
+use Rattle.journal_model.specs.rules.ApplyCommands.{with_holder, released, on_to_next}
+use Rattle.journal_model.specs.rules.Legal.{IsLegalNext, state_of, stores_of, world_of}
 use Rattle.ttm_base.specs.declared.Deny.{Deny}
 use Rattle.laws.proofs.law_sound.Along.{Stepped, sound_law}
 use Rattle.laws.proofs.law_sound.Gifts.{Gives, reserves, draws, seeks, fills}

@@ -13,8 +13,8 @@ use Rattle.journal_model.specs.declared.state.Buffer.{Buffer}
 use Rattle.journal_model.specs.declared.entry.Entry.{Entry}
 use Rattle.journal_model.specs.declared.entry.Kind.{Kind}
 use Rattle.journal_model.specs.declared.entry.Kind.TheVariants as kind
-use Rattle.journal_model.specs.ApplyPages.{with_spans, after_untake}
-use Rattle.journal_model.specs.Legal.{IsLegalNext, state_of, stores_of, world_of}
+use Rattle.journal_model.specs.rules.ApplyPages.{with_spans, after_untake}
+use Rattle.journal_model.specs.rules.Legal.{IsLegalNext, state_of, stores_of, world_of}
 use Rattle.laws.specs.lemma_bytes_told.Told.{IsThere, Told, still, untakes}
 use Rattle.laws.proofs.law_transparent.Carried.{told_law}
 use Rattle.room_representation.specs.lemma_room_spans.Calls.{untaken, given}

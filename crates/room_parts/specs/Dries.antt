@@ -7,9 +7,9 @@ use Rattle.journal_model.specs.declared.script.Script.{Script}
 use Rattle.journal_model.specs.declared.script.Command.{Command}
 use Rattle.journal_model.specs.declared.state.Course.{Course}
 use Rattle.journal_model.specs.declared.state.Targets.{Targets}
-use Rattle.journal_model.specs.Commands.{asked_places}
-use Rattle.journal_model.specs.Search.{is_caught, through_tt}
-use Rattle.journal_model.specs.ApplyVictims.{with_fail, gone_dry}
+use Rattle.journal_model.specs.rules.Commands.{asked_places}
+use Rattle.journal_model.specs.rules.Search.{is_caught, through_tt}
+use Rattle.journal_model.specs.rules.ApplyVictims.{with_fail, gone_dry}
 
 -- something waits for a buffer with these targets
 abbrev pub awaits : Targets → Bool

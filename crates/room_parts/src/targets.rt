@@ -4,7 +4,7 @@ ghost use Rattle.ttm_base.specs.declared.Mem.TheVariants.{Tt as InTt, Vram as In
 ghost use Rattle.ttm_base.specs.declared.JobId.{JobId as Id};
 ghost use Rattle.ttm_base.specs.declared.Owner.TheVariants as owner;
 ghost use Rattle.journal_model.specs.declared.entry.Kind.TheVariants as kind;
-ghost use Rattle.journal_model.specs.Legal.{IsLegalNext, world_of};
+ghost use Rattle.journal_model.specs.rules.Legal.{IsLegalNext, world_of};
 ghost use Rattle.resource_core.specs.Vram.{spans_of_kind};
 ghost use Rattle.room_representation.specs.lemma_room_spans.Calls.{taken, untaken};
 ghost use Rattle.room_parts.specs.Takes.{CanHold};

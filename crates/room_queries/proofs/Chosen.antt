@@ -14,10 +14,10 @@ use Rattle.resource_core.specs.Vram.{spans_of_kind}
 use Rattle.journal_model.specs.declared.script.Script.{Script}
 use Rattle.journal_model.specs.declared.script.Decl.{Decl}
 use Rattle.journal_model.specs.declared.entry.Entry.{Entry}
-use Rattle.journal_model.specs.Choice.{choice}
-use Rattle.journal_model.specs.Commands.{decl, undeclared}
-use Rattle.journal_model.specs.ScriptRules.{is_decl}
-use Rattle.journal_model.specs.Legal.{state_of}
+use Rattle.journal_model.specs.rules.Choice.{choice}
+use Rattle.journal_model.specs.rules.Commands.{decl, undeclared}
+use Rattle.journal_model.specs.scripts.ScriptRules.{is_decl}
+use Rattle.journal_model.specs.rules.Legal.{state_of}
 use Rattle.laws.proofs.law_transparent.PagesLaw.{ghosts_law}
 use Rattle.laws.proofs.law_state.JobsKeep.{all_at}
 use Rattle.laws.proofs.law_state.Rules.{rules_of}

@@ -12,11 +12,11 @@ use Rattle.copy_engine.specs.Pushes.{Pushed, next_of, packet_of, ring_of, wait_o
 use Rattle.journal_model.specs.declared.script.Script.{Script}
 use Rattle.journal_model.specs.declared.entry.Entry.{Entry}
 use Rattle.journal_model.specs.declared.state.Job.{Job}
-use Rattle.journal_model.specs.Next.{head_of}
-use Rattle.journal_model.specs.Places.{aperture}
-use Rattle.journal_model.specs.Stores.{job_packet, no_packet}
-use Rattle.journal_model.specs.Waits.{waited_for}
-use Rattle.journal_model.specs.Legal.{state_of, stores_of, world_of}
+use Rattle.journal_model.specs.rules.Next.{head_of}
+use Rattle.journal_model.specs.rules.Places.{aperture}
+use Rattle.journal_model.specs.rules.Stores.{job_packet, no_packet}
+use Rattle.journal_model.specs.rules.Waits.{waited_for}
+use Rattle.journal_model.specs.rules.Legal.{state_of, stores_of, world_of}
 use Rattle.laws.specs.law_jobs.JobLines.{unfinished_of}
 use Rattle.laws.proofs.law_transparent.PacketPlacesLaw.{places_law}
 use Rattle.room_representation.specs.declared.parts.Parts.{Parts}

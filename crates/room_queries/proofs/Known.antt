@@ -5,8 +5,8 @@ use Rattle.ttm_base.specs.declared.BufId.{BufId}
 use Rattle.fence_core.specs.Timelines.{progress_of}
 use Rattle.journal_model.specs.declared.script.Script.{Script}
 use Rattle.journal_model.specs.declared.entry.Entry.{Entry}
-use Rattle.journal_model.specs.PageSteps.{next_job}
-use Rattle.journal_model.specs.Legal.{state_of}
+use Rattle.journal_model.specs.rules.PageSteps.{next_job}
+use Rattle.journal_model.specs.rules.Legal.{state_of}
 use Rattle.laws.proofs.law_state.GoodStates.{good_law}
 use Rattle.laws.proofs.law_counters.Law.{counters_law}
 use Rattle.laws.proofs.law_sound.Along.{sound_law}

@@ -11,9 +11,9 @@ use Rattle.journal_model.specs.declared.script.Script.{Script}
 use Rattle.journal_model.specs.declared.entry.Entry.{Entry}
 use Rattle.journal_model.specs.declared.state.Ghost as state
 use Rattle.journal_model.specs.declared.state.Job.{Job}
-use Rattle.journal_model.specs.State.{buffer}
-use Rattle.journal_model.specs.Waits.{waited_for}
-use Rattle.journal_model.specs.Legal.{state_of}
+use Rattle.journal_model.specs.rules.State.{buffer}
+use Rattle.journal_model.specs.rules.Waits.{waited_for}
+use Rattle.journal_model.specs.rules.Legal.{state_of}
 use Rattle.room_representation.specs.declared.parts.Parts.{Parts}
 use Rattle.room_representation.specs.declared.parts.Ghost.{Ghost}
 use Rattle.room_representation.specs.Fences.{fences_of, set_at}

@@ -11,8 +11,8 @@ use Rattle.journal_model.specs.declared.entry.Entry.{Entry}
 use Rattle.journal_model.specs.declared.state.Course.{Course}
 use Rattle.journal_model.specs.declared.state.Ghost as state
 use Rattle.journal_model.specs.declared.state.Job.{Job}
-use Rattle.journal_model.specs.Complete.{is_complete, thread_numbers}
-use Rattle.journal_model.specs.Legal.{state_of}
+use Rattle.journal_model.specs.statements.Complete.{is_complete, thread_numbers}
+use Rattle.journal_model.specs.rules.Legal.{state_of}
 use Rattle.laws.proofs.law_state.Counted.{over_law}
 use Rattle.laws.specs.law_jobs.JobLines.{unfinished_of}
 use Rattle.laws.proofs.law_state.GoodStates.{good_law}

@@ -17,12 +17,12 @@ use Rattle.bo_table.specs.Seen.{IsBo, body_of}
 use Rattle.journal_model.specs.declared.script.Script.{Script}
 use Rattle.journal_model.specs.declared.entry.Entry.{Entry}
 use Rattle.journal_model.specs.declared.state.Buffer.{Buffer}
-use Rattle.journal_model.specs.State.{buffer}
-use Rattle.journal_model.specs.Holds.{held_slots}
-use Rattle.journal_model.specs.Places.{page_at, page_in, page_in_table, page_in_vram, pages_of, slot_of}
-use Rattle.journal_model.specs.Stores as model
-use Rattle.journal_model.specs.Stores.{byte_of}
-use Rattle.journal_model.specs.Legal.{state_of, stores_of}
+use Rattle.journal_model.specs.rules.State.{buffer}
+use Rattle.journal_model.specs.rules.Holds.{held_slots}
+use Rattle.journal_model.specs.rules.Places.{page_at, page_in, page_in_table, page_in_vram, pages_of, slot_of}
+use Rattle.journal_model.specs.rules.Stores as model
+use Rattle.journal_model.specs.rules.Stores.{byte_of}
+use Rattle.journal_model.specs.rules.Legal.{state_of, stores_of}
 use Rattle.laws.proofs.law_owners.Law.{once_law, owner_law}
 use Rattle.laws.specs.lemma_bytes_told.Told.{IsThere}
 use Rattle.room_representation.specs.declared.parts.Parts.{Parts}

@@ -5,7 +5,7 @@ use Rattle.ttm_base.specs.Pages.{Page, nowhere, vram, frame, slot, PageBytes}
 use Rattle.copy_packet.specs.StoreBytes.{byte_at, HasPage}
 use Rattle.bo_table.specs.declared.bo.Bo.{Bo}
 use Rattle.journal_model.specs.declared.state.Buffer.{Buffer}
-use Rattle.journal_model.specs.Places.{page_at}
+use Rattle.journal_model.specs.rules.Places.{page_at}
 use Rattle.room_representation.specs.declared.parts.Parts.{Parts}
 use Rattle.room_queries.specs.declared.bytes.Standing.{Standing}
 use Rattle.room_queries.specs.declared.bytes.Standing.TheVariants.{Nowhere, Vram, Frame, Slot}

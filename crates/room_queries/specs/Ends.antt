@@ -3,7 +3,7 @@ use Rattle.std.specs.Prelude.{ℕ, Bool, List, ◌==◌, is_none, length, slice_
 use Rattle.copy_engine.specs.Pushes.{Pushed}
 use Rattle.journal_model.specs.declared.script.Script.{Script}
 use Rattle.journal_model.specs.declared.state.Course.{Course}
-use Rattle.journal_model.specs.Commands.{commands_of}
+use Rattle.journal_model.specs.rules.Commands.{commands_of}
 use Rattle.room_representation.specs.room_steps.Courses.{course_in}
 
 -- the thread has answered all its commands

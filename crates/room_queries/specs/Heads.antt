@@ -2,10 +2,10 @@
 use Rattle.std.specs.Prelude.{ℕ, List, [], Option, Some, None, length, nat_lt, if◌then◌else◌}
 use Rattle.ttm_base.specs.Packets.{probe_piece}
 use Rattle.journal_model.specs.declared.state.Job.{Job}
-use Rattle.journal_model.specs.Next.{head_of}
-use Rattle.journal_model.specs.Places.{aperture}
-use Rattle.journal_model.specs.Stores.{job_packet}
-use Rattle.journal_model.specs.Legal.{World}
+use Rattle.journal_model.specs.rules.Next.{head_of}
+use Rattle.journal_model.specs.rules.Places.{aperture}
+use Rattle.journal_model.specs.rules.Stores.{job_packet}
+use Rattle.journal_model.specs.rules.Legal.{World}
 
 -- the number of the packet that runs next, if one is left
 abbrev pub number_left : Option Job → Option ℕ

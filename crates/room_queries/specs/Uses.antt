@@ -4,7 +4,7 @@ use Rattle.ttm_base.specs.declared.JobId.{JobId}
 use Rattle.ttm_base.specs.declared.Usage.{Usage}
 use Rattle.ttm_base.specs.declared.Usage.TheVariants.{Kernel, Write, Read}
 use Rattle.journal_model.specs.declared.state.Buffer.{Buffer}
-use Rattle.journal_model.specs.Waits.{jobs_before_read, jobs_before_write}
+use Rattle.journal_model.specs.rules.Waits.{jobs_before_read, jobs_before_write}
 
 -- the usage that covers, with the lower ones, the jobs to be waited for
 abbrev pub covering : Usage → Usage

@@ -1,9 +1,9 @@
 ghost use Rattle.std.specs.Prelude.{◌≡◌, ◌+◌, ◌<◌, ◌≤◌, ◌++◌, length, map};
 ghost use Rattle.ttm_base.specs.ListWords.{count_from};
 ghost use Rattle.copy_packet.specs.StoreBytes.{byte_at, HasPage};
-ghost use Rattle.journal_model.specs.State.{buffer};
-ghost use Rattle.journal_model.specs.Stores as words;
-ghost use Rattle.journal_model.specs.Legal.{state_of, stores_of, world_of};
+ghost use Rattle.journal_model.specs.rules.State.{buffer};
+ghost use Rattle.journal_model.specs.rules.Stores as words;
+ghost use Rattle.journal_model.specs.rules.Legal.{state_of, stores_of, world_of};
 ghost use Rattle.laws.specs.lemma_bytes_told.Told.{IsThere};
 ghost use Rattle.room_representation.specs.Held.{AreHeld};
 ghost use Rattle.room_queries.specs.Heads.{head_piece};

@@ -2,8 +2,8 @@ ghost use Rattle.std.specs.Prelude.{◌≡◌, ◌<◌, ◌≤◌, Some, None, I
 ghost use Rattle.resource_core.specs.Choices.{range_spans};
 ghost use Rattle.resource_core.specs.Resources.{is_free};
 ghost use Rattle.resource_core.specs.Vram.{spans_of_kind};
-ghost use Rattle.journal_model.specs.Choice as words;
-ghost use Rattle.journal_model.specs.Legal.{state_of};
+ghost use Rattle.journal_model.specs.rules.Choice as words;
+ghost use Rattle.journal_model.specs.rules.Legal.{state_of};
 ghost use Rattle.room_representation.specs.Held.{AreHeld};
 
 use journal_model::{Entry, Script};

@@ -1,7 +1,7 @@
 ghost use Rattle.std.specs.Prelude.{◌≡◌, ◌+◌, ◌≤◌};
-ghost use Rattle.journal_model.specs.Holds as holds;
-ghost use Rattle.journal_model.specs.PageSteps as steps;
-ghost use Rattle.journal_model.specs.Legal.{state_of};
+ghost use Rattle.journal_model.specs.rules.Holds as holds;
+ghost use Rattle.journal_model.specs.rules.PageSteps as steps;
+ghost use Rattle.journal_model.specs.rules.Legal.{state_of};
 ghost use Rattle.room_representation.specs.Held.{AreHeld};
 
 use journal_model::{Entry, Script};

@@ -1,6 +1,6 @@
 ghost use Rattle.std.specs.Prelude.{◌≡◌, ◌+◌, ◌&&◌};
 ghost use Rattle.std.specs.List.{list_all};
-ghost use Rattle.journal_model.specs.Complete.{is_complete, thread_numbers};
+ghost use Rattle.journal_model.specs.statements.Complete.{is_complete, thread_numbers};
 ghost use Rattle.room_representation.specs.Held.{AreHeld};
 ghost use Rattle.room_queries.specs.Ends.{answered_in, is_empty};
 

@@ -1,6 +1,6 @@
 ghost use Rattle.std.specs.Prelude.{◌≡◌, ◌≤◌, option_map};
-ghost use Rattle.journal_model.specs.Next.{head_of};
-ghost use Rattle.journal_model.specs.Legal.{state_of};
+ghost use Rattle.journal_model.specs.rules.Next.{head_of};
+ghost use Rattle.journal_model.specs.rules.Legal.{state_of};
 ghost use Rattle.room_representation.specs.Held.{AreHeld};
 ghost use Rattle.room_queries.specs.Heads.{number_left};
 

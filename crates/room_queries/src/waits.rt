@@ -1,8 +1,8 @@
 ghost use Rattle.std.specs.Prelude.{◌≡◌, ◌<◌, ◌≤◌, length, option_and_then, option_map, slice_get};
-ghost use Rattle.journal_model.specs.State.{buffer};
-ghost use Rattle.journal_model.specs.Next.{head_of};
-ghost use Rattle.journal_model.specs.Waits.{waited_for};
-ghost use Rattle.journal_model.specs.Legal.{state_of};
+ghost use Rattle.journal_model.specs.rules.State.{buffer};
+ghost use Rattle.journal_model.specs.rules.Next.{head_of};
+ghost use Rattle.journal_model.specs.rules.Waits.{waited_for};
+ghost use Rattle.journal_model.specs.rules.Legal.{state_of};
 ghost use Rattle.room_representation.specs.Held.{AreHeld};
 ghost use Rattle.room_queries.specs.Uses as words;
 ghost use Rattle.room_queries.specs.Uses.{jobs_before};

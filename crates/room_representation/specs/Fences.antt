@@ -10,7 +10,7 @@ use Rattle.fence_core.specs.Fences.{nothing_kept, added}
 use Rattle.fence_core.specs.Histories.{set_of}
 use Rattle.journal_model.specs.declared.state.Buffer.{Buffer}
 use Rattle.journal_model.specs.declared.state.Job.{Job}
-use Rattle.journal_model.specs.Waits.{same_job}
+use Rattle.journal_model.specs.rules.Waits.{same_job}
 use Rattle.laws.specs.law_state.GoodState.{last_number}
 
 -- the fences of a buffer, none where it is dead

@@ -6,8 +6,8 @@ use Rattle.copy_packet.specs.declared.stores.Stores.{Stores}
 use Rattle.copy_packet.specs.StoreBytes.{bytes_of, byte_at, aperture_of}
 use Rattle.swap_store.specs.Slots.{SwapSlots}
 use Rattle.journal_model.specs.declared.script.Sizes.{Sizes}
-use Rattle.journal_model.specs.Holds.{has_number}
-use Rattle.journal_model.specs.Stores.{is_there}
+use Rattle.journal_model.specs.rules.Holds.{has_number}
+use Rattle.journal_model.specs.rules.Stores.{is_there}
 
 -- which of the numbers below the size are held
 abbrev pub marks : List ℕ → ℕ → List Bool

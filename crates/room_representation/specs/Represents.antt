@@ -3,8 +3,8 @@ use Rattle.std.specs.Prelude.{◌≡◌}
 use Rattle.ttm_base.specs.Pages.{PageBytes}
 use Rattle.journal_model.specs.declared.script.Script.{Script}
 use Rattle.journal_model.specs.declared.state.State.{State}
-use Rattle.journal_model.specs.Holds.{held_frames, held_slots}
-use Rattle.journal_model.specs.Places.{aperture}
+use Rattle.journal_model.specs.rules.Holds.{held_frames, held_slots}
+use Rattle.journal_model.specs.rules.Places.{aperture}
 use Rattle.room_representation.specs.lemma_room_lists.Listed.{AreListed}
 use Rattle.room_representation.specs.declared.parts.Parts.{Parts}
 use Rattle.room_representation.specs.Bos.{AreBos}

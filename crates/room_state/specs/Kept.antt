@@ -3,7 +3,7 @@ use Rattle.std.specs.Prelude.{List, [], ◌∷◌, ◌++◌}
 use Rattle.journal_model.specs.declared.script.Script.{Script}
 use Rattle.journal_model.specs.declared.state.State.{State}
 use Rattle.journal_model.specs.declared.entry.Entry.{Entry}
-use Rattle.journal_model.specs.Legal.{World, IsLegalNext, state_of, world_of}
+use Rattle.journal_model.specs.rules.Legal.{World, IsLegalNext, state_of, world_of}
 
 -- the script that is run, and the entries so far
 pub record Kept : Type 0 where

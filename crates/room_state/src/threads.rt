@@ -1,6 +1,6 @@
 ghost use Rattle.std.specs.Prelude.{◌≡◌, ◌∷◌, ◌++◌, [], OnOk, OnErr};
 ghost use Rattle.ttm_base.specs.declared.Actor.TheVariants as actor;
-ghost use Rattle.journal_model.specs.Legal.{IsLegalNext, world_of};
+ghost use Rattle.journal_model.specs.rules.Legal.{IsLegalNext, world_of};
 ghost use Rattle.room_representation.specs.Held.{AreHeld};
 ghost use Rattle.room_state.specs.Themes as words;
 ghost use Rattle.room_state.specs.declared.themes.Theme.TheVariants as theme;

@@ -15,13 +15,13 @@ use Rattle.journal_model.specs.declared.state.Core.{Core}
 use Rattle.journal_model.specs.declared.state.Buffer.{Buffer}
 use Rattle.journal_model.specs.declared.state.Course.{Course}
 use Rattle.journal_model.specs.declared.state.Reservation.{Reservation}
-use Rattle.journal_model.specs.State.{buffer_in, course, has_buffer, new_course, no_reservation, without_buffer, with_course}
-use Rattle.journal_model.specs.Commands.{command_at_work}
-use Rattle.journal_model.specs.Places.{packet_place}
-use Rattle.journal_model.specs.Waits.{jobs_before_use}
-use Rattle.journal_model.specs.Lists.{taken_off, touched}
-use Rattle.journal_model.specs.ApplyCommands.{after_free, after_result, ghost_of_freed, has_made, named_in, released, with_pins}
-use Rattle.journal_model.specs.ApplyJobs.{after_arm, ops_of, with_use}
+use Rattle.journal_model.specs.rules.State.{buffer_in, course, has_buffer, new_course, no_reservation, without_buffer, with_course}
+use Rattle.journal_model.specs.rules.Commands.{command_at_work}
+use Rattle.journal_model.specs.rules.Places.{packet_place}
+use Rattle.journal_model.specs.rules.Waits.{jobs_before_use}
+use Rattle.journal_model.specs.rules.Lists.{taken_off, touched}
+use Rattle.journal_model.specs.rules.ApplyCommands.{after_free, after_result, ghost_of_freed, has_made, named_in, released, with_pins}
+use Rattle.journal_model.specs.rules.ApplyJobs.{after_arm, ops_of, with_use}
 use Rattle.rules_apply.specs.Ready.{IsThread}
 
 -- a course that is there, by whether the thread's number is 0

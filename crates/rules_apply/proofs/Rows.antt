@@ -4,13 +4,13 @@ use Rattle.std.specs.Prelude.{slice_set}
 use Rattle.ttm_base.specs.declared.Mem.{Mem}
 use Rattle.ttm_base.specs.declared.JobId.{JobId}
 use Rattle.journal_model.specs.declared.entry.Left.{Left}
-use Rattle.journal_model.specs.ApplyMoves.{after_move_job, core_after_move, last_ghost_left, moved}
+use Rattle.journal_model.specs.rules.ApplyMoves.{after_move_job, core_after_move, last_ghost_left, moved}
 use Rattle.ttm_base.specs.declared.Mem.TheVariants.{System, Tt}
 use Rattle.ttm_base.specs.declared.BufId.{BufId}
 use Rattle.journal_model.specs.declared.script.Script.{Script}
 use Rattle.journal_model.specs.declared.state.State.{State}
-use Rattle.journal_model.specs.State.{changed, with_buffers}
-use Rattle.journal_model.specs.ApplyPages.{after_bind, after_unbind, bound, unbound}
+use Rattle.journal_model.specs.rules.State.{changed, with_buffers}
+use Rattle.journal_model.specs.rules.ApplyPages.{after_bind, after_unbind, bound, unbound}
 use Rattle.rules_state.specs.rules_parts.Listing.{relisted}
 use Rattle.rules_state.proofs.rules_parts.ListingLaws.{touched-moved}
 

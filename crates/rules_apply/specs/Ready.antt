@@ -10,11 +10,11 @@ use Rattle.journal_model.specs.declared.state.Job.{Job}
 use Rattle.journal_model.specs.declared.entry.Entry.{Entry}
 use Rattle.journal_model.specs.declared.entry.Kind.{Kind}
 use Rattle.journal_model.specs.declared.entry.Kind.TheVariants as kind
-use Rattle.journal_model.specs.State.{course_of, course, buffer}
+use Rattle.journal_model.specs.rules.State.{course_of, course, buffer}
 use Rattle.rules_state.specs.rules_parts.Pins.{HasPinsLeft}
-use Rattle.journal_model.specs.Commands.{command_at_work}
-use Rattle.journal_model.specs.Apply.{thread_of, engine_of}
-pub use Rattle.journal_model.specs.Jobs.{has_packets_left}
+use Rattle.journal_model.specs.rules.Commands.{command_at_work}
+use Rattle.journal_model.specs.rules.Apply.{thread_of, engine_of}
+pub use Rattle.journal_model.specs.code.Jobs.{has_packets_left}
 
 -- the thread is there
 abbrev pub IsThread : State → ℕ → Type 0

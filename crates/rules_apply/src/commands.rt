@@ -1,8 +1,8 @@
 ghost use Rattle.std.specs.Prelude.{◌≡◌, ◌==◌, ◌++◌, ◌∷◌, [], if◌then◌else◌, IfOk, OnOk, OnErr, filter, fold, option_copied};
-ghost use Rattle.journal_model.specs.State as words;
-ghost use Rattle.journal_model.specs.ApplyCommands as rows;
-ghost use Rattle.journal_model.specs.ApplyCommands.{after_new, after_free, after_bulk, after_result, named_in, released, with_pins};
-ghost use Rattle.journal_model.specs.Lists.{touched};
+ghost use Rattle.journal_model.specs.rules.State as words;
+ghost use Rattle.journal_model.specs.rules.ApplyCommands as rows;
+ghost use Rattle.journal_model.specs.rules.ApplyCommands.{after_new, after_free, after_bulk, after_result, named_in, released, with_pins};
+ghost use Rattle.journal_model.specs.rules.Lists.{touched};
 ghost use Rattle.rules_state.specs.rules_parts.Pins.{HasPinsLeft};
 ghost use Rattle.rules_apply.specs.Ready.{IsThread, CanShowResult};
 

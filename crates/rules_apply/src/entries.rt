@@ -1,5 +1,5 @@
 ghost use Rattle.std.specs.Prelude.{◌≡◌, OnOk, OnErr, false};
-ghost use Rattle.journal_model.specs.Apply as words;
+ghost use Rattle.journal_model.specs.rules.Apply as words;
 ghost use Rattle.rules_apply.specs.Ready.{IsReady};
 ghost use Rattle.rules_apply.specs.Sure.{takes_no_memory};
 

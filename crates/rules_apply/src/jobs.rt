@@ -1,6 +1,6 @@
 ghost use Rattle.std.specs.Prelude.{◌≡◌, ◌+◌, ◌==◌, ◌++◌, ◌∷◌, [], true, IfOk, OnOk, OnErr, IsTrue, filter, flat_map, fold, not, if◌then◌else◌};
-ghost use Rattle.journal_model.specs.Waits as waits;
-ghost use Rattle.journal_model.specs.ApplyJobs.{with_use, after_arm, after_packet_run, after_done, after_reap};
+ghost use Rattle.journal_model.specs.rules.Waits as waits;
+ghost use Rattle.journal_model.specs.rules.ApplyJobs.{with_use, after_arm, after_packet_run, after_done, after_reap};
 ghost use Rattle.rules_apply.specs.Ready.{IsThread, CanRun};
 
 use crate::commands::buffers_of;

@@ -1,8 +1,8 @@
 ghost use Rattle.std.specs.Prelude.{◌≡◌, ◌<◌, ◌^◌, ◌++◌, ◌∷◌, [], false, IfOk, OnOk, OnErr, length, option_to_list};
-ghost use Rattle.journal_model.specs.State.{changed};
-ghost use Rattle.journal_model.specs.State as words;
-ghost use Rattle.journal_model.specs.Waits as waits;
-ghost use Rattle.journal_model.specs.ApplyMoves as rows;
+ghost use Rattle.journal_model.specs.rules.State.{changed};
+ghost use Rattle.journal_model.specs.rules.State as words;
+ghost use Rattle.journal_model.specs.rules.Waits as waits;
+ghost use Rattle.journal_model.specs.rules.ApplyMoves as rows;
 ghost use Rattle.rules_apply.specs.Ready.{HasShortTable};
 ghost use Rattle.rules_state.specs.rules_parts.Undo.{without_last};
 

@@ -1,7 +1,7 @@
 ghost use Rattle.std.specs.Prelude.{◌≡◌, OnOk, OnErr, option_to_list};
-ghost use Rattle.journal_model.specs.Waits.{jobs_before_target};
+ghost use Rattle.journal_model.specs.rules.Waits.{jobs_before_target};
 ghost use Rattle.rules_apply.specs.Ready.{IsThread};
-ghost use Rattle.journal_model.specs.ApplyPages.{after_take, after_bind, after_unbind, after_untake, after_populate, after_swap_in, after_swap_out, after_depopulate};
+ghost use Rattle.journal_model.specs.rules.ApplyPages.{after_take, after_bind, after_unbind, after_untake, after_populate, after_swap_in, after_swap_out, after_depopulate};
 
 use journal_model::{Core, Script, State};
 use rules_holds::is_unfinished;

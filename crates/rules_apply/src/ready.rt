@@ -1,5 +1,5 @@
 ghost use Rattle.std.specs.Prelude.{◌≡◌, ◌+◌, ◌<◌, ◌^◌, ◌↔◌, IsTrue, Some, option_copied, length};
-ghost use Rattle.journal_model.specs.State as words;
+ghost use Rattle.journal_model.specs.rules.State as words;
 ghost use Rattle.rules_apply.specs.Ready as facts;
 ghost use Rattle.rules_state.specs.rules_parts.Pins.{CanPin, HasPinsLeft};
 

@@ -1,7 +1,7 @@
 ghost use Rattle.std.specs.Prelude.{◌≡◌, IfOk, OnOk, OnErr, length};
 ghost use Rattle.ttm_base.specs.Placement.{forced_places};
-ghost use Rattle.journal_model.specs.Search as words;
-ghost use Rattle.journal_model.specs.ApplyVictims.{after_dry};
+ghost use Rattle.journal_model.specs.rules.Search as words;
+ghost use Rattle.journal_model.specs.rules.ApplyVictims.{after_dry};
 ghost use Rattle.rules_apply.specs.Ready.{CanGoDry};
 
 use journal_model::{Command, Course, Script, State};

@@ -1,6 +1,6 @@
 ghost use Rattle.std.specs.Prelude.{◌≡◌, IfOk, None, [], map, replicate};
-ghost use Rattle.journal_model.specs.State as words;
-ghost use Rattle.journal_model.specs.Legal as legal;
+ghost use Rattle.journal_model.specs.rules.State as words;
+ghost use Rattle.journal_model.specs.rules.Legal as legal;
 
 use journal_model::{
     BufIds, Buffers, Commands, Core, Courses, Decl, Ghosts, Jobs, Lists, Numbers, Reservations,

@@ -1,5 +1,5 @@
 ghost use Rattle.std.specs.Prelude.{◌≡◌, OnOk, OnErr};
-ghost use Rattle.journal_model.specs.ApplyCommands.{after_ticket, after_reserve, after_backoff, after_refusal};
+ghost use Rattle.journal_model.specs.rules.ApplyCommands.{after_ticket, after_reserve, after_backoff, after_refusal};
 ghost use Rattle.rules_apply.specs.Ready.{IsThread, CanAnswer};
 
 use journal_model::{BufIds, State};

@@ -1,5 +1,5 @@
 ghost use Rattle.std.specs.Prelude.{◌≡◌, OnOk, OnErr};
-ghost use Rattle.journal_model.specs.ApplyVictims.{after_no_pages, after_skip, after_catch, after_loose};
+ghost use Rattle.journal_model.specs.rules.ApplyVictims.{after_no_pages, after_skip, after_catch, after_loose};
 ghost use Rattle.rules_apply.specs.Ready.{IsThread};
 
 use journal_model::{Script, State, Why};

@@ -1,8 +1,8 @@
 ghost use Rattle.std.specs.Prelude.{◌≡◌, ◌<◌, ◌≤◌, ◌^◌, IfOk, length};
 ghost use Rattle.ttm_base.specs.Holes.{holes};
-ghost use Rattle.journal_model.specs.Commands.{decl};
-ghost use Rattle.journal_model.specs.Holds.{is_free_page, size_of};
-ghost use Rattle.journal_model.specs.Choice as words;
+ghost use Rattle.journal_model.specs.rules.Commands.{decl};
+ghost use Rattle.journal_model.specs.rules.Holds.{is_free_page, size_of};
+ghost use Rattle.journal_model.specs.rules.Choice as words;
 ghost use Rattle.rules_choice.specs.Marks.{IsMarked};
 
 use crate::buddy::buddy_choice;

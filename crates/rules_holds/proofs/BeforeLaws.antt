@@ -8,8 +8,8 @@ use Rattle.ttm_base.specs.declared.Fence.{Fence}
 use Rattle.ttm_base.specs.declared.Usage.{Usage}
 use Rattle.journal_model.specs.declared.fences.FenceRun.{FenceRun}
 use Rattle.journal_model.specs.declared.state.Buffer.{Buffer}
-use Rattle.journal_model.specs.JobRuns.{fences_of_run}
-use Rattle.journal_model.specs.Waits.{jobs_before_write, jobs_before_read}
+use Rattle.journal_model.specs.code.JobRuns.{fences_of_run}
+use Rattle.journal_model.specs.rules.Waits.{jobs_before_write, jobs_before_read}
 use Rattle.rules_holds.specs.declared.waits.Before.{Before}
 use Rattle.rules_holds.specs.declared.waits.Before.TheVariants.{Write, Read}
 use Rattle.rules_holds.specs.Before.{counts_by, jobs_before}

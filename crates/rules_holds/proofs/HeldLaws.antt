@@ -7,8 +7,8 @@ use Rattle.ttm_base.specs.declared.Mem.{Mem}
 use Rattle.journal_model.specs.declared.state.Core.{Core}
 use Rattle.journal_model.specs.declared.state.Buffer.{Buffer}
 use Rattle.journal_model.specs.declared.state.Ghost.{Ghost}
-use Rattle.journal_model.specs.Places.{frames_of, slots_of}
-use Rattle.journal_model.specs.Holds.{live_entry, buffer_holds, ghost_hold, ghost_spans, held_spans, live_frames, held_slots}
+use Rattle.journal_model.specs.rules.Places.{frames_of, slots_of}
+use Rattle.journal_model.specs.rules.Holds.{live_entry, buffer_holds, ghost_hold, ghost_spans, held_spans, live_frames, held_slots}
 use Rattle.rules_holds.specs.Held.{spans_of_slot, frames_of_slot, slots_of_slot}
 
 -- the spans of live buffers, numbered from n on

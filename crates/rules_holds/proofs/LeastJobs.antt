@@ -8,8 +8,8 @@ use Rattle.std.proofs.lemmas.List.{take_more}
 use Rattle.ttm_base.specs.declared.JobId.{JobId}
 use Rattle.journal_model.specs.declared.state.Core.{Core}
 use Rattle.journal_model.specs.declared.state.Job.{Job}
-use Rattle.journal_model.specs.JobNames.{same_job}
-use Rattle.journal_model.specs.Jobs.{ArePending}
+use Rattle.journal_model.specs.rules.JobNames.{same_job}
+use Rattle.journal_model.specs.code.Jobs.{ArePending}
 use Rattle.rules_holds.specs.Least.{is_from, is_counted, AreLeast}
 use Rattle.rules_state.proofs.PendingJobs.{unfinished_pending}
 

@@ -6,8 +6,8 @@ use Rattle.std.proofs.lemmas.Bool.Decides.{nat_tests}
 use Rattle.std.proofs.lemmas.Bool.{cases_eq}
 use Rattle.std.proofs.lemmas.List.{get_or-set_same, get_or-set_other}
 use Rattle.ttm_base.specs.ListWords.{count_from}
-use Rattle.journal_model.specs.Account.{count_free}
-use Rattle.journal_model.specs.Holds.{has_number, lowest_free}
+use Rattle.journal_model.specs.statements.Account.{count_free}
+use Rattle.journal_model.specs.rules.Holds.{has_number, lowest_free}
 use Rattle.rules_state.proofs.FindLaws.{find_none_more}
 use Rattle.rules_holds.specs.Marked.{AreMarked}
 

@@ -9,7 +9,7 @@ use Rattle.std.proofs.lemmas.List.Quantifiers.{position-Some}
 use Rattle.ttm_base.specs.declared.JobId.{JobId}
 use Rattle.journal_model.specs.declared.state.Core.{Core}
 use Rattle.journal_model.specs.declared.state.Job.{Job}
-use Rattle.journal_model.specs.Waits.{is_unfinished, unfinished}
+use Rattle.journal_model.specs.rules.Waits.{is_unfinished, unfinished}
 
 -- jobs may be looked through in two parts, in any order
 pub any_in_parts : (p : Job → Bool) (jobs : List Job) (n : ℕ) → (list_any p (drop n jobs) || list_any p (take n jobs)) ≡ list_any p jobs

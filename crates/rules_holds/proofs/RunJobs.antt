@@ -11,8 +11,8 @@ use Rattle.ttm_base.specs.Fences.{named_job, named_first}
 use Rattle.journal_model.specs.declared.job_ids.JobRun.{JobRun}
 use Rattle.journal_model.specs.declared.state.Core.{Core}
 use Rattle.journal_model.specs.declared.fences.FenceRun.{FenceRun}
-use Rattle.journal_model.specs.JobRuns.{jobs_of_run, fences_of_run, behind}
-use Rattle.journal_model.specs.Waits.{waited_for, unfinished, is_unfinished}
+use Rattle.journal_model.specs.code.JobRuns.{jobs_of_run, fences_of_run, behind}
+use Rattle.journal_model.specs.rules.Waits.{waited_for, unfinished, is_unfinished}
 use Rattle.journal_model.proofs.JobRunLaws.{joined_jobs}
 use Rattle.rules_holds.specs.Named.{named_last, named_of}
 use Rattle.rules_holds.specs.Least.{IsLeast}

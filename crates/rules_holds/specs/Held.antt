@@ -3,9 +3,9 @@ use Rattle.std.specs.Prelude.{ℕ, List, [], ◌++◌, Option, Some, None}
 use Rattle.ttm_base.specs.declared.Mem.{Mem}
 use Rattle.ttm_base.specs.declared.Span.{Span}
 use Rattle.journal_model.specs.declared.state.Buffer.{Buffer}
-use Rattle.journal_model.specs.State.{target_spans}
-use Rattle.journal_model.specs.Places.{frames_of, slots_of}
-use Rattle.journal_model.specs.Holds.{spans_in}
+use Rattle.journal_model.specs.rules.State.{target_spans}
+use Rattle.journal_model.specs.rules.Places.{frames_of, slots_of}
+use Rattle.journal_model.specs.rules.Holds.{spans_in}
 
 -- its spans in a memory type, and those of its target
 abbrev pub spans_of_slot : Mem → Option Buffer → List Span

@@ -3,7 +3,7 @@ use Rattle.std.specs.Prelude.{◌≡◌, ◌<◌, ℕ, Bool, false, List, Some, 
 use Rattle.ttm_base.specs.declared.JobId.{JobId}
 use Rattle.journal_model.specs.declared.state.Core.{Core}
 use Rattle.journal_model.specs.declared.state.Job.{Job}
-use Rattle.journal_model.specs.Waits.{is_unfinished}
+use Rattle.journal_model.specs.rules.Waits.{is_unfinished}
 use Rattle.rules_holds.specs.declared.least.Least.{Least}
 use Rattle.rules_holds.specs.declared.least.Look.{Look}
 

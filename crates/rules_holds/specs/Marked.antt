@@ -2,7 +2,7 @@
 use Rattle.std.specs.Prelude.{◌≡◌, ℕ, ◌<◌, ◌||◌, Bool, false, List, length, slice_index_or, replicate}
 use Rattle.journal_model.specs.declared.script.Script.{Script}
 use Rattle.journal_model.specs.declared.state.Core.{Core}
-use Rattle.journal_model.specs.Holds.{has_number, held_frames}
+use Rattle.journal_model.specs.rules.Holds.{has_number, held_frames}
 
 -- the marks of these numbers are set too, as far as there are marks
 pub record AreMarked (old : List Bool) (numbers : List ℕ) (new : List Bool) : Type 0 where

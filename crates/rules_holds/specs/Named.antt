@@ -1,7 +1,7 @@
 -- The job that is named among several, as a look from the front finds it.
 use Rattle.std.specs.Prelude.{Bool, List, Option, Some, None, ◌&&◌, not, if◌then◌else◌}
 use Rattle.std.specs.List.{list_any}
-use Rattle.journal_model.specs.JobNames.{same_job}
+use Rattle.journal_model.specs.rules.JobNames.{same_job}
 use Rattle.journal_model.specs.declared.state.Job.{Job}
 use Rattle.ttm_base.specs.declared.JobId.{JobId}
 use Rattle.ttm_base.specs.Fences.{is_named_before}

@@ -1,8 +1,8 @@
 ghost use Rattle.std.specs.Prelude.{◌≡◌, ℕ, ◌+◌, ◌<◌, ◌≤◌, ◌^◌, ◌∷◌, [], IfOk, filter, filter_map, find, flat_map, length, not, option_to_list, replicate, slice_index_or, false, true};
-ghost use Rattle.journal_model.specs.Account.{count_free};
+ghost use Rattle.journal_model.specs.statements.Account.{count_free};
 ghost use Rattle.ttm_base.specs.ListWords.{count_from};
-ghost use Rattle.journal_model.specs.Holds as words;
-ghost use Rattle.journal_model.specs.Places as places;
+ghost use Rattle.journal_model.specs.rules.Holds as words;
+ghost use Rattle.journal_model.specs.rules.Places as places;
 ghost use Rattle.rules_holds.specs.Held.{frames_of_slot, slots_of_slot};
 ghost use Rattle.rules_holds.specs.Marked.{AreFrames, AreMarked};
 

@@ -1,7 +1,7 @@
 ghost use Rattle.std.specs.Prelude.{◌≡◌, ◌++◌, IfOk, OnOk, flat_map};
 ghost use Rattle.std.specs.List.{list_any};
 ghost use Rattle.ttm_base.specs.Holes as pages;
-ghost use Rattle.journal_model.specs.Holds as words;
+ghost use Rattle.journal_model.specs.rules.Holds as words;
 ghost use Rattle.rules_holds.specs.Held.{spans_of_slot};
 
 use journal_model::{Buffer, Core, Ghost};

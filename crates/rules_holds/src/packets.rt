@@ -1,7 +1,7 @@
 ghost use Rattle.std.specs.Prelude.{◌≡◌, IfOk};
 ghost use Rattle.ttm_base.specs.Cutting as words;
-ghost use Rattle.journal_model.specs.State as states;
-ghost use Rattle.journal_model.specs.Places as places;
+ghost use Rattle.journal_model.specs.rules.State as states;
+ghost use Rattle.journal_model.specs.rules.Places as places;
 
 use journal_model::{Core, Packets};
 use op_cutting::{PageNames, cut};

@@ -1,9 +1,9 @@
 ghost use Rattle.std.specs.Prelude.{◌≡◌, ◌+◌, ◌<◌, ◌≤◌, ◌++◌, ◌&&◌, not, IfOk, OnOk, IsTrue};
 ghost use Rattle.std.specs.List.{position};
-ghost use Rattle.journal_model.specs.State.{new_buffer};
-ghost use Rattle.journal_model.specs.Waits as words;
-ghost use Rattle.journal_model.specs.JobRuns.{jobs_of_run, fits, behind, fences_of_run, is_whole};
-ghost use Rattle.journal_model.specs.JobNames.{same_job};
+ghost use Rattle.journal_model.specs.rules.State.{new_buffer};
+ghost use Rattle.journal_model.specs.rules.Waits as words;
+ghost use Rattle.journal_model.specs.code.JobRuns.{jobs_of_run, fits, behind, fences_of_run, is_whole};
+ghost use Rattle.journal_model.specs.rules.JobNames.{same_job};
 ghost use Rattle.rules_holds.specs.Named.{named_last, named_of, is_open};
 ghost use Rattle.rules_holds.specs.Least.{IsLeast, IsLook};
 ghost use Rattle.rules_holds.specs.Before.{counts_by, jobs_before};

@@ -2,10 +2,10 @@ ghost use Rattle.std.specs.Prelude.{◌≡◌, ◌+◌, ◌<◌, ◌^◌, ◌==�
 ghost use Rattle.journal_model.specs.declared.script.Command.TheVariants as command;
 ghost use Rattle.journal_model.specs.declared.entry.Kind.TheVariants as kind;
 ghost use Rattle.journal_model.specs.declared.entry.Shown.TheVariants as shown;
-ghost use Rattle.journal_model.specs.State.{buffer};
-ghost use Rattle.journal_model.specs.Waits.{waited_for, jobs_before_read};
-ghost use Rattle.journal_model.specs.PageSteps.{unless_waiting};
-ghost use Rattle.journal_model.specs.Next as words;
+ghost use Rattle.journal_model.specs.rules.State.{buffer};
+ghost use Rattle.journal_model.specs.rules.Waits.{waited_for, jobs_before_read};
+ghost use Rattle.journal_model.specs.rules.PageSteps.{unless_waiting};
+ghost use Rattle.journal_model.specs.rules.Next as words;
 ghost use Rattle.rules_holds.specs.Marked.{AreFrames};
 ghost use Rattle.rules_search.specs.Room.{HasRoom};
 

@@ -1,6 +1,6 @@
 ghost use Rattle.std.specs.Prelude.{◌≡◌, IfOk};
-ghost use Rattle.journal_model.specs.State.{new_buffer};
-ghost use Rattle.journal_model.specs.Ready as words;
+ghost use Rattle.journal_model.specs.rules.State.{new_buffer};
+ghost use Rattle.journal_model.specs.rules.Ready as words;
 
 use journal_model::{Buffer, Command, Script, State};
 use rules_state::{

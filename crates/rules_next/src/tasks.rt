@@ -1,7 +1,7 @@
 ghost use Rattle.std.specs.Prelude.{◌≡◌, IfOk, find, not};
 ghost use Rattle.ttm_base.specs.ListWords.{last_of};
-ghost use Rattle.journal_model.specs.State.{new_buffer, has_buffer};
-ghost use Rattle.journal_model.specs.Tasks as words;
+ghost use Rattle.journal_model.specs.rules.State.{new_buffer, has_buffer};
+ghost use Rattle.journal_model.specs.rules.Tasks as words;
 
 use crate::ready::{first_unready, has_all_frames, is_in_place};
 use journal_model::{

@@ -11,8 +11,8 @@ use Rattle.journal_model.specs.declared.script.Script.{Script}
 use Rattle.journal_model.specs.declared.state.Buffer.{Buffer}
 use Rattle.journal_model.specs.declared.state.Reservation.{Reservation}
 use Rattle.journal_model.specs.declared.entry.CauseRow.{CauseRow}
-use Rattle.journal_model.specs.Holds.{live_entry}
-use Rattle.journal_model.specs.Dry.{cause_row}
+use Rattle.journal_model.specs.rules.Holds.{live_entry}
+use Rattle.journal_model.specs.rules.Dry.{cause_row}
 
 enumerate_from-push : {X : Type 0} (n : ℕ) (xs : List X) (x : X) → enumerate_from n (xs ++ x ∷ []) ≡ enumerate_from n xs ++ (n + length xs, x) ∷ []
 enumerate_from-push n [] x = grind (arith, common_steps)

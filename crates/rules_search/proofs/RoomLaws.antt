@@ -6,8 +6,8 @@ use Rattle.std.proofs.lemmas.Grind.{common_steps}
 use Rattle.std.proofs.lemmas.Bool.Decides.{nat_tests}
 use Rattle.journal_model.specs.declared.script.Decl.{Decl}
 use Rattle.journal_model.specs.declared.state.Buffer.{Buffer}
-use Rattle.journal_model.specs.State.{new_buffer}
-use Rattle.journal_model.specs.Commands.{undeclared}
+use Rattle.journal_model.specs.rules.State.{new_buffer}
+use Rattle.journal_model.specs.rules.Commands.{undeclared}
 use Rattle.journal_model.specs.declared.script.Script.{Script}
 use Rattle.journal_model.specs.declared.state.State.{State}
 use Rattle.rules_search.specs.Room.{HasRoom, is_short, tests_room}

@@ -5,9 +5,9 @@ use Rattle.ttm_base.specs.declared.BufId.{BufId}
 use Rattle.journal_model.specs.declared.script.Script.{Script}
 use Rattle.journal_model.specs.declared.state.State.{State}
 use Rattle.journal_model.specs.declared.state.Buffer.{Buffer}
-use Rattle.journal_model.specs.State.{buffer}
-use Rattle.journal_model.specs.Commands.{decl}
-use Rattle.journal_model.specs.PageSteps.{next_job}
+use Rattle.journal_model.specs.rules.State.{buffer}
+use Rattle.journal_model.specs.rules.Commands.{decl}
+use Rattle.journal_model.specs.rules.PageSteps.{next_job}
 
 -- buffers have at most 65536 pages, page tables and lists are short, and no counter is at its end
 pub record HasRoom (script : Script) (s : State) : Type 0 where

@@ -3,8 +3,8 @@ use Rattle.std.specs.Prelude.{◌≡◌}
 use Rattle.ttm_base.specs.declared.BufId.{BufId}
 use Rattle.journal_model.specs.declared.script.Script.{Script}
 use Rattle.journal_model.specs.declared.state.State.{State}
-use Rattle.journal_model.specs.Search.{Step}
-use Rattle.journal_model.specs.PageSteps.{step_of_swap_out}
+use Rattle.journal_model.specs.rules.Search.{Step}
+use Rattle.journal_model.specs.rules.PageSteps.{step_of_swap_out}
 use Rattle.rules_search.specs.declared.pages.Swap.{Swap}
 use Rattle.rules_search.specs.declared.pages.Swap.TheVariants.{NoFrame, NoSlot, Page}
 

@@ -1,6 +1,6 @@
 ghost use Rattle.std.specs.Prelude.{◌≡◌, ◌≤◌, ◌^◌, ◌&&◌, IfOk, length, option_copied, option_and_then};
-ghost use Rattle.journal_model.specs.State.{buffer, reservation};
-ghost use Rattle.journal_model.specs.Dry as words;
+ghost use Rattle.journal_model.specs.rules.State.{buffer, reservation};
+ghost use Rattle.journal_model.specs.rules.Dry as words;
 
 use journal_model::{Buffer, Cause, CauseRow, Causes, Ghost, Reservation, Script, State};
 use rules_holds::ghost_spans;

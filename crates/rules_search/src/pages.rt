@@ -1,9 +1,9 @@
 ghost use Rattle.std.specs.Prelude.{◌≡◌, ◌+◌, ◌<◌, ◌≤◌, ◌^◌, IfOk, IfSome, None, Some, find, if◌then◌else◌, length, not, option_copied, position};
-ghost use Rattle.journal_model.specs.State as states;
-ghost use Rattle.journal_model.specs.Places.{is_frame, loc_of};
-ghost use Rattle.journal_model.specs.Dry.{has_frame};
-ghost use Rattle.journal_model.specs.Holds as holds;
-ghost use Rattle.journal_model.specs.PageSteps as words;
+ghost use Rattle.journal_model.specs.rules.State as states;
+ghost use Rattle.journal_model.specs.rules.Places.{is_frame, loc_of};
+ghost use Rattle.journal_model.specs.rules.Dry.{has_frame};
+ghost use Rattle.journal_model.specs.rules.Holds as holds;
+ghost use Rattle.journal_model.specs.rules.PageSteps as words;
 ghost use Rattle.rules_holds.specs.Marked.{AreFrames};
 ghost use Rattle.rules_search.specs.Room.{HasRoom};
 ghost use Rattle.rules_search.specs.Swaps.{IsSwap};

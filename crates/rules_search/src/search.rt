@@ -1,6 +1,6 @@
 ghost use Rattle.std.specs.Prelude.{◌≡◌, IfOk};
 ghost use Rattle.rules_state.specs.PlaceSearches.{place_search_of};
-ghost use Rattle.journal_model.specs.Search as words;
+ghost use Rattle.journal_model.specs.rules.Search as words;
 ghost use Rattle.rules_search.specs.Room.{HasRoom};
 
 use crate::Step;

@@ -5,8 +5,8 @@ use Rattle.std.specs.Prelude.{find, not, ◌&&◌, ◌==◌}
 use Rattle.std.specs.List.{list_all, list_any}
 use Rattle.ttm_base.specs.declared.JobId.{JobId}
 use Rattle.journal_model.specs.declared.state.Job.{Job}
-use Rattle.journal_model.specs.JobNames.{same_job}
-use Rattle.journal_model.specs.Jobs.{ArePending}
+use Rattle.journal_model.specs.rules.JobNames.{same_job}
+use Rattle.journal_model.specs.code.Jobs.{ArePending}
 
 none_unfinished : (p : Job → Bool) (jobs : List Job) → list_all (λ j. j.finished) jobs ≡ true → list_any (λ j. p j && not j.finished) jobs ≡ false
 none_unfinished p [] h = refl

@@ -1,5 +1,5 @@
 ghost use Rattle.std.specs.Prelude.{◌≡◌, IfOk, option_copied};
-ghost use Rattle.journal_model.specs.State as words;
+ghost use Rattle.journal_model.specs.rules.State as words;
 
 use journal_model::{BufIds, Buffer, Core, Course, Fences, Reservation, State, Table, Targets};
 use state_words::{same_buffer, target_of};

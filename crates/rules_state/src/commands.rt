@@ -1,6 +1,6 @@
 ghost use Rattle.std.specs.Prelude.{◌≡◌, IfOk, option_copied};
-ghost use Rattle.journal_model.specs.ApplyJobs as jobs;
-ghost use Rattle.journal_model.specs.Commands as words;
+ghost use Rattle.journal_model.specs.rules.ApplyJobs as jobs;
+ghost use Rattle.journal_model.specs.rules.Commands as words;
 
 use crate::buffers::course_of;
 use journal_model::{Command, Script, State};

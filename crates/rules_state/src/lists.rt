@@ -1,5 +1,5 @@
 ghost use Rattle.std.specs.Prelude.{◌≡◌, ◌*◌, ◌<◌, ◌^◌, IfOk};
-ghost use Rattle.journal_model.specs.Lists as words;
+ghost use Rattle.journal_model.specs.rules.Lists as words;
 
 use journal_model::{BufIds, Script, State};
 use place_list::rules_places::mem_number;

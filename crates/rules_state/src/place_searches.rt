@@ -1,7 +1,7 @@
 ghost use Rattle.std.specs.Prelude.{◌≡◌, IfOk};
-ghost use Rattle.journal_model.specs.State.{new_buffer};
-ghost use Rattle.journal_model.specs.Ready as ready;
-ghost use Rattle.journal_model.specs.Search as words;
+ghost use Rattle.journal_model.specs.rules.State.{new_buffer};
+ghost use Rattle.journal_model.specs.rules.Ready as ready;
+ghost use Rattle.journal_model.specs.rules.Search as words;
 ghost use Rattle.rules_state.specs.PlaceSearches.{place_search_of};
 
 use crate::buffers::{buffer_in, dead_buffer, has_target};

@@ -1,5 +1,5 @@
 ghost use Rattle.std.specs.Prelude.{◌≡◌, IfOk};
-ghost use Rattle.journal_model.specs.Places as words;
+ghost use Rattle.journal_model.specs.rules.Places as words;
 
 use journal_model::{Buffer, Frames};
 use state_words::{frame_of, name_in_spans};

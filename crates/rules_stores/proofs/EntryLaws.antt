@@ -8,7 +8,7 @@ use Rattle.journal_model.specs.declared.state.State.{State}
 use Rattle.journal_model.specs.declared.entry.Kind.{Kind}
 use Rattle.journal_model.specs.declared.entry.Kind.TheVariants as kind
 use Rattle.journal_model.specs.declared.entry.Shown.{Shown}
-use Rattle.journal_model.specs.Stores.{stores_after}
+use Rattle.journal_model.specs.rules.Stores.{stores_after}
 use Rattle.rules_stores.specs.Kept.{KeptBytes, BecomesBytes, bytes_of}
 use Rattle.rules_stores.proofs.KeptLaws.{becomes_cut}
 

@@ -6,7 +6,7 @@ use Rattle.std.proofs.lemmas.Bool.Decides.{nat_tests}
 use Rattle.std.proofs.lemmas.List.{get_or_past, get_or-replicate, length-replicate}
 use Rattle.journal_model.specs.declared.script.Sizes.{Sizes}
 use Rattle.ttm_base.specs.Pages.{Page, nowhere, vram, frame, slot, PageBytes, with_bytes}
-use Rattle.journal_model.specs.Stores.{zeros, is_there}
+use Rattle.journal_model.specs.rules.Stores.{zeros, is_there}
 use Rattle.rules_stores.specs.Room.{room_byte, byte_after}
 use Rattle.rules_stores.specs.Kept.{KeptBytes, BecomesBytes, HasSizes, bytes_of, bytes_in, within}
 

@@ -12,7 +12,7 @@ use Rattle.ttm_base.specs.ListWords.{count_from}
 use Rattle.ttm_base.specs.Reach.{length_of}
 use Rattle.journal_model.specs.declared.state.Buffer.{Buffer}
 use Rattle.journal_model.specs.declared.state.Core.{Core}
-use Rattle.journal_model.specs.Places.{pages_of, frame_of, mapped_in, aperture}
+use Rattle.journal_model.specs.rules.Places.{pages_of, frame_of, mapped_in, aperture}
 use Rattle.rules_stores.specs.Maps.{frame_beside, frame_in_table, frame_in_frames, at_span, live_mapped, ghost_mapped}
 
 -- among two lists

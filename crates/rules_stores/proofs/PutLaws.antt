@@ -7,9 +7,9 @@ use Rattle.std.proofs.lemmas.Bool.Decides.{nat_tests}
 use Rattle.journal_model.specs.declared.script.Sizes.{Sizes}
 use Rattle.journal_model.specs.declared.state.Buffer.{Buffer}
 use Rattle.ttm_base.specs.Pages.{Page, PageBytes, same_page, with_bytes}
-use Rattle.journal_model.specs.Places.{page_at}
-use Rattle.journal_model.specs.Stores.{put_bytes}
-use Rattle.journal_model.specs.Stores.{is_there}
+use Rattle.journal_model.specs.rules.Places.{page_at}
+use Rattle.journal_model.specs.rules.Stores.{put_bytes}
+use Rattle.journal_model.specs.rules.Stores.{is_there}
 use Rattle.rules_stores.specs.Kept.{KeptBytes, BecomesBytes, bytes_of, within}
 
 -- first some bytes, and then others after them

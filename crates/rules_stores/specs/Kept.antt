@@ -2,7 +2,7 @@
 use Rattle.std.specs.Prelude.{◌≡◌, ℕ, ◌*◌, Bool, false, List, length, ◌&&◌, nat_lt, if◌then◌else◌}
 use Rattle.journal_model.specs.declared.script.Sizes.{Sizes}
 use Rattle.ttm_base.specs.Pages.{Page, nowhere, vram, frame, slot, PageBytes}
-use Rattle.journal_model.specs.Stores.{is_there}
+use Rattle.journal_model.specs.rules.Stores.{is_there}
 use Rattle.rules_stores.specs.Room.{room_byte}
 
 -- these bytes where there are pages; elsewhere nothing changes

@@ -5,7 +5,7 @@ use Rattle.ttm_base.specs.declared.Loc.{Loc}
 use Rattle.ttm_base.specs.Holes.{has_page}
 use Rattle.journal_model.specs.declared.state.Buffer.{Buffer}
 use Rattle.journal_model.specs.declared.state.Ghost.{Ghost}
-use Rattle.journal_model.specs.Places.{pages_of, mapped_frame, mapped_in}
+use Rattle.journal_model.specs.rules.Places.{pages_of, mapped_frame, mapped_in}
 
 -- the frame that stands beside a page
 abbrev pub frame_beside : ℕ → List (ℕ × ℕ) → Option ℕ

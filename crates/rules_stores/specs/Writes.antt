@@ -7,8 +7,8 @@ use Rattle.journal_model.specs.declared.script.Command.TheVariants as command
 use Rattle.journal_model.specs.declared.state.State.{State}
 use Rattle.journal_model.specs.declared.entry.Kind.{Kind}
 use Rattle.journal_model.specs.declared.entry.Kind.TheVariants as kind
-use Rattle.journal_model.specs.Commands.{command_at_work}
-use Rattle.journal_model.specs.Apply.{thread_of}
+use Rattle.journal_model.specs.rules.Commands.{command_at_work}
+use Rattle.journal_model.specs.rules.Apply.{thread_of}
 
 -- the bytes of a write can be counted
 abbrev pub IsShortWrite : Option Command → Type 0

@@ -2,10 +2,10 @@ ghost use Rattle.std.specs.Prelude.{◌≡◌, ◌↔◌, IsTrue, Some, find, op
 ghost use Rattle.ttm_base.specs.Pages.{translated};
 ghost use Rattle.ttm_base.specs.Packets.{after_packet};
 ghost use Rattle.rules_stores.specs.StorePages.{page_of};
-ghost use Rattle.journal_model.specs.Places.{aperture};
-ghost use Rattle.journal_model.specs.Commands.{command_at_work};
-ghost use Rattle.journal_model.specs.Waits as waits;
-ghost use Rattle.journal_model.specs.Stores as words;
+ghost use Rattle.journal_model.specs.rules.Places.{aperture};
+ghost use Rattle.journal_model.specs.rules.Commands.{command_at_work};
+ghost use Rattle.journal_model.specs.rules.Waits as waits;
+ghost use Rattle.journal_model.specs.rules.Stores as words;
 ghost use Rattle.rules_stores.specs.Kept.{BecomesBytes, bytes_of};
 ghost use Rattle.rules_stores.specs.Writes.{CanStore, IsShortWrite};
 
@@ -112,7 +112,7 @@ fn whole(page: StorePage) -> PagePart
 
 impl PlainStores {
     ghost use Rattle.std.specs.Prelude.{◌≡◌, IfOk};
-    ghost use Rattle.journal_model.specs.Stores as words;
+    ghost use Rattle.journal_model.specs.rules.Stores as words;
     ghost use Rattle.rules_stores.specs.Kept.{BecomesBytes, bytes_of};
     ghost use Rattle.rules_stores.specs.Writes.{CanStore};
 

@@ -1,7 +1,7 @@
 ghost use Rattle.std.specs.Prelude.{◌≡◌, Some, drop, flat_map};
 ghost use Rattle.ttm_base.specs.Pages.{translated};
-ghost use Rattle.journal_model.specs.Places as words;
-ghost use Rattle.journal_model.specs.Places.{frame_of};
+ghost use Rattle.journal_model.specs.rules.Places as words;
+ghost use Rattle.journal_model.specs.rules.Places.{frame_of};
 ghost use Rattle.rules_stores.specs.Maps as maps;
 
 use journal_model::{Buffer, Core, Ghost};
@@ -20,7 +20,7 @@ pub enum StorePage {
 
 impl StorePage {
     ghost use Rattle.std.specs.Prelude.{◌≡◌};
-    ghost use Rattle.journal_model.specs.Places as words;
+    ghost use Rattle.journal_model.specs.rules.Places as words;
     ghost use Rattle.rules_stores.specs.StorePages.{page_of};
 
     /// Where the page table has a page.

@@ -1,7 +1,7 @@
 ghost use Rattle.std.specs.Prelude.{◌≡◌, ℕ, ◌+◌, ◌<◌, ◌^◌, bit_xor, length, min, slice_index};
 ghost use Rattle.ttm_base.specs.Pages.{with_bytes};
-ghost use Rattle.journal_model.specs.State.{buffer_in};
-ghost use Rattle.journal_model.specs.Stores as words;
+ghost use Rattle.journal_model.specs.rules.State.{buffer_in};
+ghost use Rattle.journal_model.specs.rules.Stores as words;
 ghost use Rattle.rules_stores.specs.StorePages.{page_of};
 ghost use Rattle.rules_stores.specs.Kept.{BecomesBytes, bytes_of};
 

@@ -2,10 +2,10 @@ ghost use Rattle.std.specs.Prelude.{◌≡◌, ◌+◌, IfOk, Some, option_copie
 ghost use Rattle.ttm_base.specs.Pages.{read_bytes};
 ghost use Rattle.ttm_base.specs.Packets.{probe_piece};
 ghost use Rattle.rules_stores.specs.StorePages.{page_of};
-ghost use Rattle.journal_model.specs.Places.{aperture};
-ghost use Rattle.journal_model.specs.State.{buffer_in};
-ghost use Rattle.journal_model.specs.Commands.{command_at_work};
-ghost use Rattle.journal_model.specs.Stores as words;
+ghost use Rattle.journal_model.specs.rules.Places.{aperture};
+ghost use Rattle.journal_model.specs.rules.State.{buffer_in};
+ghost use Rattle.journal_model.specs.rules.Commands.{command_at_work};
+ghost use Rattle.journal_model.specs.rules.Stores as words;
 ghost use Rattle.rules_stores.specs.Kept.{bytes_of};
 
 use crate::entries::job_packet;
@@ -128,7 +128,7 @@ fn shown_result(
 
 impl PlainStores {
     ghost use Rattle.std.specs.Prelude.{◌≡◌, IfOk};
-    ghost use Rattle.journal_model.specs.Stores as words;
+    ghost use Rattle.journal_model.specs.rules.Stores as words;
     ghost use Rattle.rules_stores.specs.Kept.{bytes_of};
 
     /// An entry that an actor makes next in this state, with the bytes that it shows: those of a read, or of a probe.

@@ -1,6 +1,6 @@
 ghost use Rattle.std.specs.Prelude.{◌≡◌, ℕ, ◌+◌, ◌<◌, Some, length, slice_index, IfOk};
 ghost use Rattle.ttm_base.specs.Pages.{with_bytes};
-ghost use Rattle.journal_model.specs.Stores.{zeros};
+ghost use Rattle.journal_model.specs.rules.Stores.{zeros};
 ghost use Rattle.rules_stores.specs.StorePages.{page_of};
 ghost use Rattle.rules_stores.specs.Kept.{BecomesBytes, bytes_of};
 

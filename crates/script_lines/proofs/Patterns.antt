@@ -5,9 +5,9 @@ use Rattle.journal_model.specs.declared.line.Access.{Access}
 use Rattle.journal_model.specs.declared.line.Line.{Line}
 use Rattle.journal_model.specs.declared.line.Line.TheVariants as line
 use Rattle.journal_model.specs.declared.line.BufferHead.{BufferHead}
-use Rattle.journal_model.specs.Words.{Text}
-use Rattle.journal_model.specs.LineWords.{read_line, read_parts, buffer_line_of, lists_line, has_head_words, buffer_head_of, vmap_line, vunmap_line, op_words_of, submit_of_ops, submit_line, vop_words_of, vsubmit_of_ops, vsubmit_line}
-use Rattle.journal_model.specs.Reading.{number_in, known, engine_word_of}
+use Rattle.journal_model.specs.scripts.Words.{Text}
+use Rattle.journal_model.specs.scripts.LineWords.{read_line, read_parts, buffer_line_of, lists_line, has_head_words, buffer_head_of, vmap_line, vunmap_line, op_words_of, submit_of_ops, submit_line, vop_words_of, vsubmit_of_ops, vsubmit_line}
+use Rattle.journal_model.specs.scripts.Reading.{number_in, known, engine_word_of}
 
 pub read_is : (how : Access) (names : List Text) (xs : List Text) (b off len : Text) → length xs ≡ 4 → b ≡ get_or xs 1 b → off ≡ get_or xs 2 off → len ≡ get_or xs 3 len
     → Some (read_parts how names b off len) ≡ read_line how names xs

@@ -5,9 +5,9 @@ use Rattle.std.proofs.Math.Seq.{drop-append-add}
 use Rattle.std.proofs.lemmas.List.{length-append}
 use Rattle.std.proofs.lemmas.List.Splits.{join_with_byte-slice_split}
 use Rattle.journal_model.specs.declared.line.Flags.{Flags}
-use Rattle.journal_model.specs.Words.{Text}
-use Rattle.journal_model.specs.Reading.{mem_of, based_place, at_place}
-use Rattle.journal_model.specs.Cut.{onto, cut_by, cut_at}
+use Rattle.journal_model.specs.scripts.Words.{Text}
+use Rattle.journal_model.specs.scripts.Reading.{mem_of, based_place, at_place}
+use Rattle.journal_model.specs.scripts.Cut.{onto, cut_by, cut_at}
 
 onto_is : {X : Type 0} (x : X) (parts : List (List X)) → onto x parts ≡ onto_first x parts
 onto_is x [] = refl

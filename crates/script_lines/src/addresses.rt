@@ -2,8 +2,8 @@
 
 ghost use Rattle.std.specs.Prelude.{◌≡◌, ◌≤◌, IfOk, length};
 ghost use Rattle.std.specs.List.{list_any};
-ghost use Rattle.journal_model.specs.Reading.{address_of, offset_of, byte_in_hex};
-ghost use Rattle.journal_model.specs.LineWords.{vmap_line, vunmap_line, vop_of, is_no_vop, vop_words_of, vsubmit_of_ops, vsubmit_line};
+ghost use Rattle.journal_model.specs.scripts.Reading.{address_of, offset_of, byte_in_hex};
+ghost use Rattle.journal_model.specs.scripts.LineWords.{vmap_line, vunmap_line, vop_of, is_no_vop, vop_words_of, vsubmit_of_ops, vsubmit_line};
 
 use journal_model::Bytes;
 use journal_model::line::{EngineWord, Line, VOpWord, VOpWords};

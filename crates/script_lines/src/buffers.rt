@@ -1,7 +1,7 @@
 //! Buffer lines by their words.
 
 ghost use Rattle.std.specs.Prelude.{◌≡◌, IfOk};
-ghost use Rattle.journal_model.specs.LineWords.{buffer_head_of, has_head_words, two_lists, list_of_version_two, lists_line, buffer_line_of};
+ghost use Rattle.journal_model.specs.scripts.LineWords.{buffer_head_of, has_head_words, two_lists, list_of_version_two, lists_line, buffer_line_of};
 
 use crate::places::places;
 use journal_model::Bytes;

@@ -2,8 +2,8 @@
 
 ghost use Rattle.std.specs.Prelude.{◌≡◌, ◌≤◌, IfOk, length};
 ghost use Rattle.std.specs.List.{list_any};
-ghost use Rattle.journal_model.specs.Reading.{known, offset_of, byte_in_hex};
-ghost use Rattle.journal_model.specs.LineWords.{op_of, is_no_op, op_words_of, submit_of_ops, submit_line};
+ghost use Rattle.journal_model.specs.scripts.Reading.{known, offset_of, byte_in_hex};
+ghost use Rattle.journal_model.specs.scripts.LineWords.{op_of, is_no_op, op_words_of, submit_of_ops, submit_line};
 
 use journal_model::Bytes;
 use journal_model::line::{EngineWord, Line, OpWord, OpWords};

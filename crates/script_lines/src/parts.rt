@@ -2,8 +2,8 @@
 
 ghost use Rattle.std.specs.Prelude.{◌≡◌, ◌≤◌, ◌==◌, IfOk, length, map};
 ghost use Rattle.std.specs.List.{list_any};
-ghost use Rattle.journal_model.specs.Reading.{names_of, actor_of};
-ghost use Rattle.journal_model.specs.LineWords.{version_line, vram_line, size_line, alone, is_no_actor, turn_of_actors, turn_line_of, plain_line, write_line, read_parts, read_line, move_line, touch_line, named_line, parts_of, is_empty, line_of};
+ghost use Rattle.journal_model.specs.scripts.Reading.{names_of, actor_of};
+ghost use Rattle.journal_model.specs.scripts.LineWords.{version_line, vram_line, size_line, alone, is_no_actor, turn_of_actors, turn_line_of, plain_line, write_line, read_parts, read_line, move_line, touch_line, named_line, parts_of, is_empty, line_of};
 
 use crate::addresses::{vmap, vsubmit, vunmap};
 use crate::buffers::buffer;

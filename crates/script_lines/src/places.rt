@@ -1,8 +1,8 @@
 //! Places and lists of places by their words.
 
 ghost use Rattle.std.specs.Prelude.{◌≡◌, ◌==◌, ◌≤◌, ◌+◌, length, drop, IfOk, map, option_map};
-ghost use Rattle.journal_model.specs.Cut.{cut_at};
-ghost use Rattle.journal_model.specs.Reading.{last_flags_of, contig_flags_of, flags_of, flagged, ranged, is_system, two_numbers_place, reach_place, based_place, at_place, plus_place, place_word_of, places_of};
+ghost use Rattle.journal_model.specs.scripts.Cut.{cut_at};
+ghost use Rattle.journal_model.specs.scripts.Reading.{last_flags_of, contig_flags_of, flags_of, flagged, ranged, is_system, two_numbers_place, reach_place, based_place, at_place, plus_place, place_word_of, places_of};
 
 use journal_model::Bytes;
 use journal_model::line::{Flags, PlaceWord, PlaceWords};

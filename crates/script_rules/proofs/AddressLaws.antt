@@ -6,14 +6,14 @@ use Rattle.std.proofs.lemmas.Bool.Decides.{nat_tests}
 use Rattle.ttm_base.specs.declared.Op.{Op}
 use Rattle.journal_model.specs.declared.line.VOpWord.{VOpWord}
 use Rattle.journal_model.specs.declared.line.VOpWord.TheVariants as vop_word
-use Rattle.journal_model.specs.Spaces.{Region}
-use Rattle.journal_model.specs.ByName.{job_by_name}
-use Rattle.journal_model.specs.MarkRules.{ThreadMappings, has_apart_ranges}
+use Rattle.journal_model.specs.marks.Spaces.{Region}
+use Rattle.journal_model.specs.marks.ByName.{job_by_name}
+use Rattle.journal_model.specs.scripts.MarkRules.{ThreadMappings, has_apart_ranges}
 use Rattle.journal_model.specs.declared.line.EngineWord.{EngineWord}
 use Rattle.journal_model.specs.declared.script.Script.{Script}
 use Rattle.journal_model.specs.declared.line.Line.{Line}
 use Rattle.journal_model.specs.declared.line.Line.TheVariants as line
-use Rattle.journal_model.specs.LineRules.{is_broken_engine, lacks_number, has_range_fault, lacks_number_in_vop, has_wrong_addresses, passes_in_vop, is_more_than, vop_in, has_buffer_twice, named_job, is_big_named_job, has_job_fault, lacks_page}
+use Rattle.journal_model.specs.scripts.LineRules.{is_broken_engine, lacks_number, has_range_fault, lacks_number_in_vop, has_wrong_addresses, passes_in_vop, is_more_than, vop_in, has_buffer_twice, named_job, is_big_named_job, has_job_fault, lacks_page}
 use Rattle.gpu_spaces.specs.Inside.{ends_inside, is_inside}
 use Rattle.script_rules.specs.script_mappings.ThreadMappingLists.{Seen, IsThreadMappings}
 use Rattle.script_rules.specs.Jobs.{names_many, breaks_job_at}

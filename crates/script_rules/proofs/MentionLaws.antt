@@ -3,8 +3,8 @@ use Rattle.std.proofs.Common.{◌≡◌, Bool, true, false, cond, List, [], ◌�
 use Rattle.std.specs.Prelude.{fold, ◌||◌}
 use Rattle.std.proofs.lemmas.List.{append-nil}
 use Rattle.ttm_base.specs.declared.BufId.{BufId}
-use Rattle.journal_model.specs.State.{has_buffer, same_buffer}
-use Rattle.journal_model.specs.Commands.{first_mentions}
+use Rattle.journal_model.specs.rules.State.{has_buffer, same_buffer}
+use Rattle.journal_model.specs.rules.Commands.{first_mentions}
 use Rattle.script_rules.specs.Mentions.{mentioned}
 
 -- both lists have the same buffers

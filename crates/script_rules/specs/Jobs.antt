@@ -4,11 +4,11 @@ use Rattle.std.specs.List.{list_any}
 use Rattle.ttm_base.specs.declared.Op.{Op}
 use Rattle.journal_model.specs.declared.space.VOp.{VOp}
 use Rattle.journal_model.specs.declared.line.VOpWord.{VOpWord}
-use Rattle.journal_model.specs.Commands.{buffers_of_op, first_mentions}
-use Rattle.journal_model.specs.Spaces.{Region}
-use Rattle.journal_model.specs.ByName.{job_by_name}
-use Rattle.journal_model.specs.MarkRules.{has_apart_ranges}
-use Rattle.journal_model.specs.LineRules.{vop_in, is_big_named_job}
+use Rattle.journal_model.specs.rules.Commands.{buffers_of_op, first_mentions}
+use Rattle.journal_model.specs.marks.Spaces.{Region}
+use Rattle.journal_model.specs.marks.ByName.{job_by_name}
+use Rattle.journal_model.specs.scripts.MarkRules.{has_apart_ranges}
+use Rattle.journal_model.specs.scripts.LineRules.{vop_in, is_big_named_job}
 
 -- the job has more than 16 buffers
 abbrev pub names_many : Option (List Op) → Bool

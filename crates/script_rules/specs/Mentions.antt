@@ -1,7 +1,7 @@
 -- The buffers of a job, gathered one by one.
 use Rattle.std.specs.Prelude.{List, [], ◌∷◌, ◌++◌, if◌then◌else◌}
 use Rattle.ttm_base.specs.declared.BufId.{BufId}
-use Rattle.journal_model.specs.State.{has_buffer}
+use Rattle.journal_model.specs.rules.State.{has_buffer}
 
 -- the buffers so far, with one more mention
 abbrev pub mentioned : List BufId → BufId → List BufId

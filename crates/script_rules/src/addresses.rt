@@ -2,15 +2,15 @@
 
 ghost use Rattle.std.specs.Prelude.{◌≡◌, [], true, false, not, Some, None, IfOk, OnOk, if◌then◌else◌, nat_lt, map, fold, flat_map, sum_by};
 ghost use Rattle.std.specs.List.{list_any, list_all};
-ghost use Rattle.journal_model.specs.Commands.{buffers_of_op, first_mentions};
-ghost use Rattle.journal_model.specs.ByName.{job_by_name};
-ghost use Rattle.journal_model.specs.MarkRules as marks;
-ghost use Rattle.journal_model.specs.MarkRules.{has_apart_ranges};
+ghost use Rattle.journal_model.specs.rules.Commands.{buffers_of_op, first_mentions};
+ghost use Rattle.journal_model.specs.marks.ByName.{job_by_name};
+ghost use Rattle.journal_model.specs.scripts.MarkRules as marks;
+ghost use Rattle.journal_model.specs.scripts.MarkRules.{has_apart_ranges};
 ghost use Rattle.gpu_spaces.specs.Inside.{is_inside};
 ghost use Rattle.script_rules.specs.script_mappings.ThreadMappingLists.{IsThreadMappings};
 ghost use Rattle.script_rules.specs.Jobs.{has_many, breaks_job_at};
 ghost use Rattle.script_rules.specs.Mentions.{mentioned};
-ghost use Rattle.journal_model.specs.LineRules.{lacks_number, has_range_fault, lacks_number_in_vop, passes_end, has_wrong_addresses, passes_in_vop, lacks_byte_in_vop, vop_in, is_big_named_job, len_of_vop_word, lacks_page};
+ghost use Rattle.journal_model.specs.scripts.LineRules.{lacks_number, has_range_fault, lacks_number_in_vop, passes_end, has_wrong_addresses, passes_in_vop, lacks_byte_in_vop, vop_in, is_big_named_job, len_of_vop_word, lacks_page};
 
 use crate::rules::{is_above, is_nothing, mention};
 use crate::script_mappings::ThreadMappings;

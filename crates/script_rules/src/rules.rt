@@ -2,14 +2,14 @@
 
 ghost use Rattle.std.specs.Prelude.{◌≡◌, ◌+◌, ◌*◌, ◌≤◌, [], ◌∷◌, ◌++◌, Some, None, false, OnOk, IfOk, if◌then◌else◌, length, is_none, sum_by, fold, map, flat_map, option_to_list, bytes_eq, nat_lt, unwrap_or};
 ghost use Rattle.std.specs.List.{list_any, list_all};
-ghost use Rattle.journal_model.specs.Commands.{decl, first_mentions};
-ghost use Rattle.journal_model.specs.Reading.{names_of};
-ghost use Rattle.journal_model.specs.ScriptRules.{is_name, is_letter, is_letter_or_digit};
-ghost use Rattle.journal_model.specs.State.{same_buffer};
+ghost use Rattle.journal_model.specs.rules.Commands.{decl, first_mentions};
+ghost use Rattle.journal_model.specs.scripts.Reading.{names_of};
+ghost use Rattle.journal_model.specs.scripts.ScriptRules.{is_name, is_letter, is_letter_or_digit};
+ghost use Rattle.journal_model.specs.rules.State.{same_buffer};
 ghost use Rattle.script_rules.specs.Mentions.{mentioned};
-ghost use Rattle.journal_model.specs.LineRules.{lacks_number_in_head, is_broken_place, is_broken_actor, is_broken_engine, lacks_number_in_op, lacks_number, lacks_name_in_op, has_wrong_name, lacks_name, is_no_place, may_force, is_no_list, lacks_place, is_zero, is_more_than, passes, has_wrong_range, passes_in_op, bytes_pass, has_range_fault, lacks_byte_in_op, are_wrong_bytes, has_byte_fault, same_known, names_one_twice, buffers_of_word, is_big_job, has_job_fault, is_missing_actor, is_missing_engine, lacks_actor, is_one_too_many, len_of_word, lens_of_line, is_too_long, passes_pages, passes_end, has_mapped, has_map_fault, rule_broken};
-ghost use Rattle.journal_model.specs.MarkRules as marks;
-ghost use Rattle.journal_model.specs.MarkRules.{thread_mappings_at_end};
+ghost use Rattle.journal_model.specs.scripts.LineRules.{lacks_number_in_head, is_broken_place, is_broken_actor, is_broken_engine, lacks_number_in_op, lacks_number, lacks_name_in_op, has_wrong_name, lacks_name, is_no_place, may_force, is_no_list, lacks_place, is_zero, is_more_than, passes, has_wrong_range, passes_in_op, bytes_pass, has_range_fault, lacks_byte_in_op, are_wrong_bytes, has_byte_fault, same_known, names_one_twice, buffers_of_word, is_big_job, has_job_fault, is_missing_actor, is_missing_engine, lacks_actor, is_one_too_many, len_of_word, lens_of_line, is_too_long, passes_pages, passes_end, has_mapped, has_map_fault, rule_broken};
+ghost use Rattle.journal_model.specs.scripts.MarkRules as marks;
+ghost use Rattle.journal_model.specs.scripts.MarkRules.{thread_mappings_at_end};
 ghost use Rattle.script_rules.specs.script_mappings.ThreadMappingLists.{IsThreadMappings};
 
 use crate::addresses::{

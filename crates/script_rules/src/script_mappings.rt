@@ -1,8 +1,8 @@
 //! What the thread at work has mapped at a line of its script: buffers for the CPU, and the pages of its address space.
 ghost use Rattle.std.specs.Prelude.{◌≡◌, ◌+◌, ◌≤◌, OnOk};
 ghost use Rattle.journal_model.specs.declared.script.MarkKind.TheVariants as mark;
-ghost use Rattle.journal_model.specs.MarkRules as marks;
-ghost use Rattle.journal_model.specs.MarkRules.{empty_thread_mappings, thread_mappings_after};
+ghost use Rattle.journal_model.specs.scripts.MarkRules as marks;
+ghost use Rattle.journal_model.specs.scripts.MarkRules.{empty_thread_mappings, thread_mappings_after};
 ghost use Rattle.gpu_spaces.specs.buffer_set.Members.{is_member};
 ghost use Rattle.script_rules.specs.script_mappings.ThreadMappingLists.{IsThreadMappings};
 

@@ -7,7 +7,7 @@ use Rattle.std.proofs.lemmas.Bool.Decides.{nat_tests}
 use Rattle.journal_model.specs.declared.script.Script.{Script}
 use Rattle.journal_model.specs.declared.script.Mark.{Mark}
 use Rattle.journal_model.specs.declared.script.Command.{Command}
-use Rattle.journal_model.specs.MarkRules.{is_above, are_in_order, is_in_thread}
+use Rattle.journal_model.specs.scripts.MarkRules.{is_above, are_in_order, is_in_thread}
 use Rattle.script_spelling.specs.Cursors.{is_at, is_from, marks_from, front_at}
 
 -- each stands at a place or farther behind

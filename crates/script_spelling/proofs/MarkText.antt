@@ -11,12 +11,12 @@ use Rattle.journal_model.specs.declared.script.Command.{Command}
 use Rattle.journal_model.specs.declared.script.Mark.{Mark}
 use Rattle.journal_model.specs.declared.script.MarkKind.{MarkKind}
 use Rattle.journal_model.specs.declared.space.VOp.{VOp}
-use Rattle.journal_model.specs.Words.{Text, line}
-use Rattle.journal_model.specs.Commands.{commands_of}
-use Rattle.journal_model.specs.CommandRules.{is_between}
-use Rattle.journal_model.specs.Marks.{addressed, is_mapped, marks_at}
-use Rattle.journal_model.specs.MarkRules.{is_in_thread}
-use Rattle.journal_model.specs.Spelling.{mark_line, mark_lines, command_lines, command_words, mapped_words, addressed_words, thread_lines}
+use Rattle.journal_model.specs.scripts.Words.{Text, line}
+use Rattle.journal_model.specs.rules.Commands.{commands_of}
+use Rattle.journal_model.specs.scripts.CommandRules.{is_between}
+use Rattle.journal_model.specs.marks.Marks.{addressed, is_mapped, marks_at}
+use Rattle.journal_model.specs.scripts.MarkRules.{is_in_thread}
+use Rattle.journal_model.specs.scripts.Spelling.{mark_line, mark_lines, command_lines, command_words, mapped_words, addressed_words, thread_lines}
 use Rattle.script_spelling.specs.Cursors.{is_from, marks_from}
 use Rattle.script_spelling.specs.Parts.{kinds, written}
 

@@ -7,8 +7,8 @@ use Rattle.std.proofs.lemmas.List.{take_more, map-append}
 use Rattle.std.proofs.lemmas.List.Elements.{filter-append}
 use Rattle.ttm_base.specs.declared.FlaggedPlace.{FlaggedPlace}
 use Rattle.ttm_base.specs.Placement.{first_places, forced_places}
-use Rattle.journal_model.specs.Words.{Text}
-use Rattle.journal_model.specs.Spelling.{flag, flagged_word, place_word, placement_words, words_of_places}
+use Rattle.journal_model.specs.scripts.Words.{Text}
+use Rattle.journal_model.specs.scripts.Spelling.{flag, flagged_word, place_word, placement_words, words_of_places}
 use Rattle.script_spelling.specs.Lists.{is_in, item_word, part_word, part_words}
 use Rattle.text_line.specs.Spaced.{spaced_out}
 use Rattle.script_spelling.specs.declared.places.Part.{Part}

@@ -3,8 +3,8 @@ use Rattle.std.proofs.Common.{◌≡◌, List, [], ◌∷◌, ◌++◌, map, ap,
 use Rattle.std.specs.Prelude.{codes}
 use Rattle.std.proofs.lemmas.List.Concat.{flat_map-cons}
 use Rattle.std.proofs.lemmas.Grind.{flat_map-append}
-use Rattle.journal_model.specs.Words.{Text, line, spaced}
-use Rattle.journal_model.specs.Spelling.{parted}
+use Rattle.journal_model.specs.scripts.Words.{Text, line, spaced}
+use Rattle.journal_model.specs.scripts.Spelling.{parted}
 use Rattle.script_spelling.specs.Parts.{parted_out}
 use Rattle.text_line.specs.Spaced.{spaced_out}
 use Rattle.text_line.proofs.SpacedLaws.{join_with_byte-cons}

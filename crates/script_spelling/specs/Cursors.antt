@@ -3,7 +3,7 @@ use Rattle.std.specs.Prelude.{◌≡◌, ℕ, ◌+◌, Bool, true, List, [], ◌
 use Rattle.std.specs.List.{list_all}
 use Rattle.journal_model.specs.declared.script.Script.{Script}
 use Rattle.journal_model.specs.declared.script.Mark.{Mark}
-use Rattle.journal_model.specs.MarkRules.{are_in_order, is_in_thread}
+use Rattle.journal_model.specs.scripts.MarkRules.{are_in_order, is_in_thread}
 
 -- the marks stand in the order of their lines, and each in a thread
 pub record ArePlaced (script : Script) : Type 0 where

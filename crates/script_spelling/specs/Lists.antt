@@ -1,8 +1,8 @@
 -- The places of a buffer that one word of its line names.
 use Rattle.std.specs.Prelude.{Bool, true, List, filter, map, not}
 use Rattle.ttm_base.specs.declared.FlaggedPlace.{FlaggedPlace}
-use Rattle.journal_model.specs.Words.{Text}
-use Rattle.journal_model.specs.Spelling.{place_word, flagged_word, words_of_places}
+use Rattle.journal_model.specs.scripts.Words.{Text}
+use Rattle.journal_model.specs.scripts.Spelling.{place_word, flagged_word, words_of_places}
 use Rattle.script_spelling.specs.declared.places.Part.{Part}
 use Rattle.script_spelling.specs.declared.places.Part.TheVariants as part
 

@@ -5,10 +5,10 @@ use Rattle.journal_model.specs.declared.script.Script.{Script}
 use Rattle.journal_model.specs.declared.script.Command.{Command}
 use Rattle.journal_model.specs.declared.script.Mark.{Mark}
 use Rattle.journal_model.specs.declared.script.MarkKind.{MarkKind}
-use Rattle.journal_model.specs.Marks.{addressed, is_mapped}
-use Rattle.journal_model.specs.Words.{Text, line}
+use Rattle.journal_model.specs.marks.Marks.{addressed, is_mapped}
+use Rattle.journal_model.specs.scripts.Words.{Text, line}
 use Rattle.journal_model.specs.declared.script.Decl.{Decl}
-use Rattle.journal_model.specs.Spelling.{addressed_words, command_words, group_word, mapped_words}
+use Rattle.journal_model.specs.scripts.Spelling.{addressed_words, command_words, group_word, mapped_words}
 
 -- the line of VRAM
 abbrev pub vram_line : Script → Text

@@ -1,6 +1,6 @@
 ghost use Rattle.std.specs.Prelude.{◌≡◌, ◌++◌, ◌∷◌, [], OnOk, codes, decimal, map};
-ghost use Rattle.journal_model.specs.Words.{hex, hex_byte, line, mem_word, name_of};
-ghost use Rattle.journal_model.specs.Spelling.{op_words, parted};
+ghost use Rattle.journal_model.specs.scripts.Words.{hex, hex_byte, line, mem_word, name_of};
+ghost use Rattle.journal_model.specs.scripts.Spelling.{op_words, parted};
 ghost use Rattle.script_spelling.specs.Parts.{command_text, parted_out};
 ghost use Rattle.text_line.specs.Spaced.{spaced_out};
 

@@ -1,11 +1,11 @@
 ghost use Rattle.std.specs.Prelude.{◌≡◌, ◌+◌, ◌++◌, ◌∷◌, [], true, OnOk, IfOk, codes, decimal, flat_map, map, option_map};
 ghost use Rattle.std.specs.List.{list_any};
 ghost use Rattle.std.specs.Prelude.{slice_get, filter_map};
-ghost use Rattle.journal_model.specs.Words.{line, name_of, hex_byte};
-ghost use Rattle.journal_model.specs.Marks as kinds_of;
-ghost use Rattle.journal_model.specs.Marks.{addressed, marks_at};
-ghost use Rattle.journal_model.specs.MarkRules.{are_in_order};
-ghost use Rattle.journal_model.specs.Spelling.{mark_line, mapped_words, addressed_words, vop_words, parted};
+ghost use Rattle.journal_model.specs.scripts.Words.{line, name_of, hex_byte};
+ghost use Rattle.journal_model.specs.marks.Marks as kinds_of;
+ghost use Rattle.journal_model.specs.marks.Marks.{addressed, marks_at};
+ghost use Rattle.journal_model.specs.scripts.MarkRules.{are_in_order};
+ghost use Rattle.journal_model.specs.scripts.Spelling.{mark_line, mapped_words, addressed_words, vop_words, parted};
 ghost use Rattle.script_spelling.specs.Cursors as cursors;
 ghost use Rattle.script_spelling.specs.Cursors.{front_at, marks_from};
 ghost use Rattle.script_spelling.specs.Parts.{kinds, written, parted_out};

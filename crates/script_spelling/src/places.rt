@@ -1,5 +1,5 @@
 ghost use Rattle.std.specs.Prelude.{◌≡◌, ◌++◌, ◌∷◌, [], OnOk};
-ghost use Rattle.journal_model.specs.Spelling.{flag, flagged_word, place_word, placement_words, reach_word};
+ghost use Rattle.journal_model.specs.scripts.Spelling.{flag, flagged_word, place_word, placement_words, reach_word};
 ghost use Rattle.script_spelling.specs.Lists.{is_in, item_word, part_word};
 ghost use Rattle.text_line.specs.Spaced.{spaced_out};
 

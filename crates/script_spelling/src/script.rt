@@ -1,9 +1,9 @@
 ghost use Rattle.std.specs.Prelude.{◌≡◌, ◌++◌, ◌∷◌, ◌+◌, [], true, IfOk, OnOk, codes, decimal, flat_map, length, map};
 ghost use Rattle.std.specs.List.{enumerate_from};
-ghost use Rattle.journal_model.specs.MarkRules.{are_in_order};
+ghost use Rattle.journal_model.specs.scripts.MarkRules.{are_in_order};
 ghost use Rattle.script_spelling.specs.Cursors.{ArePlaced, marks_from};
-ghost use Rattle.journal_model.specs.Words.{actor_word, line};
-ghost use Rattle.journal_model.specs.Spelling.{buffer_line, command_lines, group_word, spelling, thread_lines, turn_line};
+ghost use Rattle.journal_model.specs.scripts.Words.{actor_word, line};
+ghost use Rattle.journal_model.specs.scripts.Spelling.{buffer_line, command_lines, group_word, spelling, thread_lines, turn_line};
 ghost use Rattle.script_spelling.specs.Parts.{head_lines, shape_words, vram_line};
 ghost use Rattle.text_line.specs.Spaced.{spaced_out};
 

@@ -4,9 +4,9 @@ use Rattle.std.specs.Prelude.{IfOk, IsOk}
 use Rattle.journal_model.specs.declared.script.Script.{Script}
 use Rattle.script_text.specs.declared.ScriptFault.{ScriptFault}
 use Rattle.script_text.specs.declared.ScriptFault.TheVariants as fault
-use Rattle.journal_model.specs.Words.{Text}
-use Rattle.journal_model.specs.FirstFault.{script_of}
-use Rattle.journal_model.specs.ScriptRules.{IsScript}
+use Rattle.journal_model.specs.scripts.Words.{Text}
+use Rattle.journal_model.specs.scripts.FirstFault.{script_of}
+use Rattle.journal_model.specs.scripts.ScriptRules.{IsScript}
 use Rattle.law_legal.specs.law_addresses.Addressed.{JobsMeanAddresses}
 use Rattle.law_legal.proofs.law_addresses.Jobs.{jobs_mean}
 use Rattle.law_legal.proofs.law_script.TakesScript.{takes_scripts}

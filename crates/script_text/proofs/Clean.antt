@@ -2,8 +2,8 @@
 use Rattle.std.proofs.Common.{◌≡◌, ℕ, Bool, true, false, cond, Option, Some, None, refl}
 use Rattle.journal_model.specs.declared.line.Progress.{Progress}
 use Rattle.journal_model.specs.declared.line.Line.{Line}
-use Rattle.journal_model.specs.LineRules.{lacks_number, lacks_name, lacks_place, has_range_fault, has_byte_fault, has_job_fault, lacks_actor, is_one_too_many, is_too_long, has_map_fault, lacks_page, rule_broken}
-use Rattle.journal_model.specs.MarkRules.{thread_mappings_at_end}
+use Rattle.journal_model.specs.scripts.LineRules.{lacks_number, lacks_name, lacks_place, has_range_fault, has_byte_fault, has_job_fault, lacks_actor, is_one_too_many, is_too_long, has_map_fault, lacks_page, rule_broken}
+use Rattle.journal_model.specs.scripts.MarkRules.{thread_mappings_at_end}
 use Rattle.script_text.specs.Steps.{IsClean, HasRanges}
 
 abbrev none : Option ℕ

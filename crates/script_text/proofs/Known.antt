@@ -17,8 +17,8 @@ use Rattle.journal_model.specs.declared.line.BufferHead.{BufferHead}
 use Rattle.journal_model.specs.declared.line.Progress.{Progress}
 use Rattle.journal_model.specs.declared.line.Line.{Line}
 use Rattle.journal_model.specs.declared.line.Line.TheVariants as line
-use Rattle.journal_model.specs.MarkRules.{empty_thread_mappings, thread_mappings_after, thread_mappings_at_end}
-use Rattle.journal_model.specs.FirstFault.{or_zero, or_first, place_in, wanted, taken_under_pressure, decl_of, onto_last, mark_here, with_mark, with_mark_line, with_access, with_command, with_line}
+use Rattle.journal_model.specs.scripts.MarkRules.{empty_thread_mappings, thread_mappings_after, thread_mappings_at_end}
+use Rattle.journal_model.specs.scripts.FirstFault.{or_zero, or_first, place_in, wanted, taken_under_pressure, decl_of, onto_last, mark_here, with_mark, with_mark_line, with_access, with_command, with_line}
 use Rattle.script_rules.specs.script_mappings.ThreadMappingLists.{Seen, IsThreadMappings}
 use Rattle.script_text.specs.Steps.{IsKnown, IsClean, has_few_pages, is_up_to, thread_mappings_next}
 

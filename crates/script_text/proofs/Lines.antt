@@ -1,11 +1,11 @@
 -- The lines of a text, one by one.
 use Rattle.std.proofs.Common.{◌≡◌, ℕ, suc, ◌+◌, ◌≤◌, ◌<◌, Bool, true, false, cond, eqb, List, [], ◌∷◌, length, take, drop, Result, Ok, Err, refl, sym, ap, ◌∙◌, arith, add-one}
-use Rattle.journal_model.specs.Cut.{onto, lines_of}
+use Rattle.journal_model.specs.scripts.Cut.{onto, lines_of}
 use Rattle.script_words.specs.Lines.{line_len}
-use Rattle.journal_model.specs.Words.{Text}
+use Rattle.journal_model.specs.scripts.Words.{Text}
 use Rattle.journal_model.specs.declared.script.Script.{Script}
 use Rattle.journal_model.specs.declared.line.Progress.{Progress}
-use Rattle.journal_model.specs.FirstFault.{after_line, script_from}
+use Rattle.journal_model.specs.scripts.FirstFault.{after_line, script_from}
 
 within : (t : Bool) (n m : ℕ) → n ≤ m → cond t 1 (n + 1) ≤ suc m
 within true n m h = omega arith

@@ -10,9 +10,9 @@ use Rattle.journal_model.specs.declared.script.Decl.{Decl}
 use Rattle.journal_model.specs.declared.line.Progress.{Progress}
 use Rattle.journal_model.specs.declared.line.Line.{Line}
 use Rattle.journal_model.specs.declared.line.Line.TheVariants as line
-use Rattle.journal_model.specs.Commands.{decl, undeclared}
-use Rattle.journal_model.specs.LineRules.{lacks_number, lacks_name, has_range_fault, passes_end, passes_pages}
-use Rattle.journal_model.specs.MarkRules as words
+use Rattle.journal_model.specs.rules.Commands.{decl, undeclared}
+use Rattle.journal_model.specs.scripts.LineRules.{lacks_number, lacks_name, has_range_fault, passes_end, passes_pages}
+use Rattle.journal_model.specs.scripts.MarkRules as words
 use Rattle.script_rules.specs.script_mappings.ThreadMappingLists.{Seen, IsThreadMappings}
 use Rattle.script_text.specs.Steps.{IsClean, thread_mappings_next, has_few_pages}
 

@@ -12,11 +12,11 @@ use Rattle.journal_model.specs.declared.line.Keyword.{Keyword}
 use Rattle.journal_model.specs.declared.line.Keyword.TheVariants as key
 use Rattle.journal_model.specs.declared.line.Line.{Line}
 use Rattle.journal_model.specs.declared.line.Line.TheVariants as line
-use Rattle.journal_model.specs.Words.{Text}
-use Rattle.journal_model.specs.CommandRules.{is_between}
-use Rattle.journal_model.specs.Reading.{number_in, is_plain, read_on, names_of, mem_of, known, actor_of}
-use Rattle.journal_model.specs.LineWords.{is_empty, is_no_actor, is_no_op, is_no_vop, version_line, vram_line, size_line, has_head_words, buffer_head_of, two_lists, list_of_version_two, lists_line, buffer_line_of, alone, turn_of_actors, turn_line_of, plain_line, write_line, read_line, move_line, touch_line, op_words_of, submit_line, named_line, vmap_line, vunmap_line, vop_words_of, vsubmit_line, parts_of, line_of}
-use Rattle.journal_model.specs.FirstFault.{or_zero}
+use Rattle.journal_model.specs.scripts.Words.{Text}
+use Rattle.journal_model.specs.scripts.CommandRules.{is_between}
+use Rattle.journal_model.specs.scripts.Reading.{number_in, is_plain, read_on, names_of, mem_of, known, actor_of}
+use Rattle.journal_model.specs.scripts.LineWords.{is_empty, is_no_actor, is_no_op, is_no_vop, version_line, vram_line, size_line, has_head_words, buffer_head_of, two_lists, list_of_version_two, lists_line, buffer_line_of, alone, turn_of_actors, turn_line_of, plain_line, write_line, read_line, move_line, touch_line, op_words_of, submit_line, named_line, vmap_line, vunmap_line, vop_words_of, vsubmit_line, parts_of, line_of}
+use Rattle.journal_model.specs.scripts.FirstFault.{or_zero}
 use Rattle.script_text.specs.Steps.{HasRanges}
 
 -- ---- numbers

@@ -7,13 +7,13 @@ use Rattle.journal_model.specs.declared.script.Mark.{Mark}
 use Rattle.journal_model.specs.declared.line.Progress.{Progress}
 use Rattle.journal_model.specs.declared.line.Line.{Line}
 use Rattle.journal_model.specs.declared.line.Line.TheVariants as line
-use Rattle.journal_model.specs.Words.{Text}
-use Rattle.journal_model.specs.Commands.{commands_of}
-use Rattle.journal_model.specs.Reading.{names_of}
+use Rattle.journal_model.specs.scripts.Words.{Text}
+use Rattle.journal_model.specs.rules.Commands.{commands_of}
+use Rattle.journal_model.specs.scripts.Reading.{names_of}
 use Rattle.journal_model.specs.declared.script.MarkKind.TheVariants as mark
-use Rattle.journal_model.specs.MarkRules.{ThreadMappings, empty_thread_mappings, thread_mappings_after, thread_mappings_at_end}
-use Rattle.journal_model.specs.FirstFault.{or_first, or_zero}
-use Rattle.journal_model.specs.LineRules.{lacks_number, lacks_name, has_range_fault, is_one_too_many, is_too_long, lacks_page}
+use Rattle.journal_model.specs.scripts.MarkRules.{ThreadMappings, empty_thread_mappings, thread_mappings_after, thread_mappings_at_end}
+use Rattle.journal_model.specs.scripts.FirstFault.{or_first, or_zero}
+use Rattle.journal_model.specs.scripts.LineRules.{lacks_number, lacks_name, has_range_fault, is_one_too_many, is_too_long, lacks_page}
 use Rattle.script_rules.specs.script_mappings.ThreadMappingLists.{Seen, IsThreadMappings}
 use Rattle.script_text.specs.declared.ScriptFault.{ScriptFault}
 use Rattle.script_text.specs.declared.ScriptFault.TheVariants as fault

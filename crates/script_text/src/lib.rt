@@ -2,9 +2,9 @@
 #![tactic(auto)]
 
 ghost use Rattle.std.specs.Prelude.{◌≡◌, ◌≤◌, ℕ, ◌⊎◌, Some, None, Ok, Err, IfOk, IsOk, length};
-ghost use Rattle.journal_model.specs.FirstFault.{script_of, first_fault, script_from, nothing_read};
-ghost use Rattle.journal_model.specs.Cut.{lines_of};
-ghost use Rattle.journal_model.specs.ScriptRules.{IsScript};
+ghost use Rattle.journal_model.specs.scripts.FirstFault.{script_of, first_fault, script_from, nothing_read};
+ghost use Rattle.journal_model.specs.scripts.Cut.{lines_of};
+ghost use Rattle.journal_model.specs.scripts.ScriptRules.{IsScript};
 ghost use Rattle.law_legal.specs.law_addresses.Addressed.{JobsMeanAddresses};
 ghost use Rattle.script_text.specs.Steps.{Gives};
 

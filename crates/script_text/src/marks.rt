@@ -3,12 +3,12 @@
 ghost use Rattle.std.specs.Prelude.{◌≡◌, ◌≤◌, ◌<◌, ◌+◌, [], true, false, OnOk, IfOk, length, nat_lt, sum_by, unwrap_or};
 ghost use Rattle.std.specs.List.{list_any, list_all};
 ghost use Rattle.journal_model.specs.declared.script.MarkKind.TheVariants as mark;
-ghost use Rattle.journal_model.specs.Commands.{commands_of};
-ghost use Rattle.journal_model.specs.ByName.{job_by_name};
-ghost use Rattle.journal_model.specs.MarkRules as words;
-ghost use Rattle.journal_model.specs.MarkRules.{thread_mappings_at_end};
-ghost use Rattle.journal_model.specs.LineRules.{lacks_number, has_range_fault, is_too_long, lacks_page, len_of_vop_word};
-ghost use Rattle.journal_model.specs.FirstFault.{mark_here, with_access, with_mark, with_mark_line, with_line};
+ghost use Rattle.journal_model.specs.rules.Commands.{commands_of};
+ghost use Rattle.journal_model.specs.marks.ByName.{job_by_name};
+ghost use Rattle.journal_model.specs.scripts.MarkRules as words;
+ghost use Rattle.journal_model.specs.scripts.MarkRules.{thread_mappings_at_end};
+ghost use Rattle.journal_model.specs.scripts.LineRules.{lacks_number, has_range_fault, is_too_long, lacks_page, len_of_vop_word};
+ghost use Rattle.journal_model.specs.scripts.FirstFault.{mark_here, with_access, with_mark, with_mark_line, with_line};
 ghost use Rattle.gpu_spaces.specs.Inside.{is_inside};
 ghost use Rattle.script_rules.specs.script_mappings.ThreadMappingLists.{IsThreadMappings};
 ghost use Rattle.script_text.specs.Steps.{IsClean, thread_mappings_next, has_few_pages};

@@ -2,11 +2,11 @@
 
 ghost use Rattle.std.specs.Prelude.{◌≡◌, ◌≤◌, ◌<◌, ◌+◌, ◌-◌, bytes_eq, false, not, nat_lt, sum_by, ◌==◌, ◌++◌, ◌∷◌, [], IfOk, OnOk, length, take};
 ghost use Rattle.std.specs.List.{list_any};
-ghost use Rattle.journal_model.specs.LineWords.{keyword_of};
-ghost use Rattle.journal_model.specs.FirstFault.{with_sizes, with_buffer, with_command, with_submit, with_line, is_shown, without_end, ends_line, breaks_text, first_word, after_words, after_line, nothing_read, is_behind_end};
-ghost use Rattle.journal_model.specs.LineRules.{len_of_word, is_too_long};
-ghost use Rattle.journal_model.specs.Commands.{commands_of};
-ghost use Rattle.journal_model.specs.MarkRules.{thread_mappings_at_end};
+ghost use Rattle.journal_model.specs.scripts.LineWords.{keyword_of};
+ghost use Rattle.journal_model.specs.scripts.FirstFault.{with_sizes, with_buffer, with_command, with_submit, with_line, is_shown, without_end, ends_line, breaks_text, first_word, after_words, after_line, nothing_read, is_behind_end};
+ghost use Rattle.journal_model.specs.scripts.LineRules.{len_of_word, is_too_long};
+ghost use Rattle.journal_model.specs.rules.Commands.{commands_of};
+ghost use Rattle.journal_model.specs.scripts.MarkRules.{thread_mappings_at_end};
 ghost use Rattle.script_rules.specs.script_mappings.ThreadMappingLists.{IsThreadMappings};
 ghost use Rattle.script_text.specs.Steps.{IsSteady, IsKnown, IsClean, Leads, thread_mappings_next};
 

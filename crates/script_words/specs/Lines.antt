@@ -1,6 +1,6 @@
 -- The length of a line.
 use Rattle.std.specs.Prelude.{ℕ, ◌+◌, [], ◌∷◌, ◌==◌, if◌then◌else◌}
-use Rattle.journal_model.specs.Words.{Text}
+use Rattle.journal_model.specs.scripts.Words.{Text}
 
 -- how many bytes the first line has, with its line feed
 abbrev pub line_len : Text → ℕ

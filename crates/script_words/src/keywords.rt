@@ -1,7 +1,7 @@
 //! The first word of a line, and where a line may stand.
 
 ghost use Rattle.std.specs.Prelude.{◌≡◌};
-ghost use Rattle.journal_model.specs.LineWords.{verb_of, mapping_keyword_of, command_keyword_of, keyword_of, may_follow, needs_version_two, may_come};
+ghost use Rattle.journal_model.specs.scripts.LineWords.{verb_of, mapping_keyword_of, command_keyword_of, keyword_of, may_follow, needs_version_two, may_come};
 
 use crate::words::is;
 use journal_model::line::{Access, Keyword, Phase, Verb};

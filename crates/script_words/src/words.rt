@@ -2,8 +2,8 @@
 
 ghost use Rattle.std.specs.Prelude.{◌≡◌, ◌<◌, ◌^◌, ◌*◌, ◌+◌, ◌-◌, ◌==◌, min, IfOk, bytes_eq, length, Some, true, false};
 ghost use Rattle.std.specs.List.{list_all};
-ghost use Rattle.journal_model.specs.Cut.{is_semicolon};
-ghost use Rattle.journal_model.specs.Reading.{is_digit, has_no_leading_zero, is_plain, read_on, number_in, group_of, offset_of, address_of, is_hex, hex_value, bytes_in_hex, byte_in_hex, mem_of, engine_word_of, actor_of, thread_actor, engine_actor};
+ghost use Rattle.journal_model.specs.scripts.Cut.{is_semicolon};
+ghost use Rattle.journal_model.specs.scripts.Reading.{is_digit, has_no_leading_zero, is_plain, read_on, number_in, group_of, offset_of, address_of, is_hex, hex_value, bytes_in_hex, byte_in_hex, mem_of, engine_word_of, actor_of, thread_actor, engine_actor};
 
 use hex::FromHexError;
 use journal_model::Bytes;

@@ -5,10 +5,10 @@ use Rattle.ttm_base.specs.declared.Actor.{Actor}
 use Rattle.ttm_base.specs.declared.Need.{Need}
 use Rattle.journal_model.specs.declared.script.Script.{Script}
 use Rattle.journal_model.specs.declared.entry.Entry.{Entry}
-use Rattle.journal_model.specs.Complete.{is_complete}
-use Rattle.journal_model.specs.DeadEnd.{can_step}
-use Rattle.journal_model.specs.Legal.{World, world_of, state_of, next_entry}
-use Rattle.journal_model.specs.Scheduled.{Run, run_of, stepped, appended, scheduled, scheduled_actors, own_order, actor_of_turn}
+use Rattle.journal_model.specs.statements.Complete.{is_complete}
+use Rattle.journal_model.specs.statements.DeadEnd.{can_step}
+use Rattle.journal_model.specs.rules.Legal.{World, world_of, state_of, next_entry}
+use Rattle.journal_model.specs.statements.Scheduled.{Run, run_of, stepped, appended, scheduled, scheduled_actors, own_order, actor_of_turn}
 use Rattle.laws.proofs.law_state.Turns.{run_good}
 use Rattle.device_core.specs.Kept.{Kept, entry_of, after_step, after_turn, next_actor, after_found}
 

@@ -1,8 +1,8 @@
 -- After how many turns a run ends.
 use Rattle.std.specs.Prelude.{◌≡◌, ℕ, ◌<◌, ◌≤◌, true, false, ◌⊎◌}
 use Rattle.journal_model.specs.declared.script.Script.{Script}
-use Rattle.journal_model.specs.Complete.{is_complete}
-use Rattle.journal_model.specs.Scheduled.{scheduled}
+use Rattle.journal_model.specs.statements.Complete.{is_complete}
+use Rattle.journal_model.specs.statements.Scheduled.{scheduled}
 pub use Rattle.device_core.specs.Kept.{Kept}
 
 -- the journal isn't complete after any lesser number of turns

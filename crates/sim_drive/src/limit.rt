@@ -1,7 +1,7 @@
 //! After how many turns a run is over.
 
 ghost use Rattle.std.specs.Prelude.{◌≡◌, min, sum_by};
-ghost use Rattle.journal_model.specs.Scheduled.{packets_in, turn_limit as limit_of};
+ghost use Rattle.journal_model.specs.statements.Scheduled.{packets_in, turn_limit as limit_of};
 
 use journal_model::{Command, Script};
 use op_cutting::packet_count;

@@ -1,6 +1,6 @@
 ghost use Rattle.std.specs.Prelude.{◌≡◌, ◌+◌, [], OnOk, OnErr, IfOk, false, flat_map, slice_get};
-ghost use Rattle.journal_model.specs.Complete.{is_complete};
-ghost use Rattle.journal_model.specs.Scheduled.{scheduled, scheduled_actors};
+ghost use Rattle.journal_model.specs.statements.Complete.{is_complete};
+ghost use Rattle.journal_model.specs.statements.Scheduled.{scheduled, scheduled_actors};
 ghost use Rattle.sim_drive.specs.Ends.{EndsAfter, HasTaken};
 
 use device_core::Device;

@@ -2,9 +2,9 @@
 use Rattle.std.proofs.Common.{◌≡◌, ℕ, true, Some, Ok, Err, Result, Option, length, ap}
 use Rattle.std.specs.Prelude.{nat_lt, None, if◌then◌else◌}
 use Rattle.journal_model.specs.declared.script.Script.{Script}
-use Rattle.journal_model.specs.Words.{Text}
-use Rattle.journal_model.specs.Cut.{lines_of}
-use Rattle.journal_model.specs.FirstFault.{script_of, first_fault, script_from, nothing_read}
+use Rattle.journal_model.specs.scripts.Words.{Text}
+use Rattle.journal_model.specs.scripts.Cut.{lines_of}
+use Rattle.journal_model.specs.scripts.FirstFault.{script_of, first_fault, script_from, nothing_read}
 
 -- too many bytes have their fault as a whole
 pub too_long : (bytes : Text) → length bytes ≡ 1048577 → first_fault bytes ≡ Some (0, 1)

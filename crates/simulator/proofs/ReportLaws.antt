@@ -2,7 +2,7 @@
 use Rattle.std.proofs.Common.{◌≡◌, List, IsTrue, sym, subst}
 use Rattle.journal_model.specs.declared.script.Script.{Script}
 use Rattle.journal_model.specs.declared.entry.Entry.{Entry}
-use Rattle.journal_model.specs.Legal.{state_of}
+use Rattle.journal_model.specs.rules.Legal.{state_of}
 use Rattle.report_mappings.specs.Requests.{are_in_spaces}
 use Rattle.report_mappings.proofs.Fits.{fits_spaces}
 use Rattle.page_accounts.specs.declared.accounts.Accounts.{Accounts}

@@ -2,10 +2,10 @@
 use Rattle.std.proofs.Common.{◌≡◌, ℕ, ◌<◌, List, [], true, Option, Some, None, sym, ap, ◌∙◌, subst, arith, ⊎_elim}
 use Rattle.std.specs.Prelude.{if◌then◌else◌}
 use Rattle.journal_model.specs.declared.script.Script.{Script}
-use Rattle.journal_model.specs.ScriptRules.{IsScript}
-use Rattle.journal_model.specs.Complete.{is_complete}
-use Rattle.journal_model.specs.Legal.{IsLegal}
-use Rattle.journal_model.specs.Scheduled.{scheduled, turn_limit}
+use Rattle.journal_model.specs.scripts.ScriptRules.{IsScript}
+use Rattle.journal_model.specs.statements.Complete.{is_complete}
+use Rattle.journal_model.specs.rules.Legal.{IsLegal}
+use Rattle.journal_model.specs.statements.Scheduled.{scheduled, turn_limit}
 use Rattle.command_words.specs.declared.Form.{Form}
 use Rattle.command_words.specs.declared.Form.TheVariants as form
 use Rattle.sim_drive.specs.Ends.{Kept, EndsAfter}

@@ -1,9 +1,9 @@
 -- What the program promises of a run and of a verdict, for all words, sources and sinks.
 use Rattle.std.specs.Prelude.{◌≡◌, ℕ, true, Option, None, Some, min, unwrap_or}
 use Rattle.journal_model.specs.declared.script.Script.{Script}
-use Rattle.journal_model.specs.Legal.{IsLegal}
-use Rattle.journal_model.specs.Complete.{is_complete}
-use Rattle.journal_model.specs.Scheduled.{scheduled, turn_limit}
+use Rattle.journal_model.specs.rules.Legal.{IsLegal}
+use Rattle.journal_model.specs.statements.Complete.{is_complete}
+use Rattle.journal_model.specs.statements.Scheduled.{scheduled, turn_limit}
 use Rattle.command_words.specs.declared.Form.{Form}
 use Rattle.command_words.specs.declared.Form.TheVariants as form
 pub use Rattle.sim_drive.specs.Ends.{Kept}

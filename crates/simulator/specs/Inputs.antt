@@ -1,9 +1,9 @@
 -- What a source gives.
 use Rattle.std.specs.Prelude.{◌≡◌, ℕ, ◌⊎◌, Some, Ok, length}
 use Rattle.journal_model.specs.declared.script.Script.{Script}
-use Rattle.journal_model.specs.Words.{Text}
-use Rattle.journal_model.specs.FirstFault.{script_of, first_fault}
-use Rattle.journal_model.specs.ScriptRules.{IsScript}
+use Rattle.journal_model.specs.scripts.Words.{Text}
+use Rattle.journal_model.specs.scripts.FirstFault.{script_of, first_fault}
+use Rattle.journal_model.specs.scripts.ScriptRules.{IsScript}
 use Rattle.simulator.specs.declared.input.Input.{Input}
 use Rattle.simulator.specs.declared.input.Input.TheVariants as input
 use Rattle.program_edges.specs.Edges.{Edge, WasReadWhole, WasReadTo, WasCutOff}

@@ -1,7 +1,7 @@
 -- The bytes that a device keeps are those that its journal leads to.
-use Rattle.journal_model.specs.Holds.{held_slots}
-use Rattle.journal_model.specs.Legal.{state_of, stores_of}
-use Rattle.journal_model.specs.Places.{aperture}
+use Rattle.journal_model.specs.rules.Holds.{held_slots}
+use Rattle.journal_model.specs.rules.Legal.{state_of, stores_of}
+use Rattle.journal_model.specs.rules.Places.{aperture}
 use Rattle.room_representation.specs.declared.parts.Parts.{Parts}
 use Rattle.room_representation.specs.Pages.{AreSlots, AreStores}
 use Rattle.sim_drive.specs.Ends.{Kept}

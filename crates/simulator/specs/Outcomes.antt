@@ -1,8 +1,8 @@
 -- The text that is due for an outcome, and its status.
 use Rattle.std.specs.Prelude.{ℕ, [], ◌∷◌, ◌++◌, codes, decimal, if◌then◌else◌}
-use Rattle.journal_model.specs.Words.{Text, line}
-use Rattle.journal_model.specs.Complete.{is_complete}
-use Rattle.journal_model.specs.ReportText.{report}
+use Rattle.journal_model.specs.scripts.Words.{Text, line}
+use Rattle.journal_model.specs.statements.Complete.{is_complete}
+use Rattle.journal_model.specs.reports.ReportText.{report}
 use Rattle.sim_drive.specs.Ends.{Kept}
 use Rattle.program_edges.specs.declared.status.Status.{Status}
 use Rattle.program_edges.specs.declared.status.Status.TheVariants as status

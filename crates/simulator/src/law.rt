@@ -1,5 +1,5 @@
-ghost use Rattle.journal_model.specs.Legal.{IsLegal};
-ghost use Rattle.journal_model.specs.Transparent.{IsTransparent};
+ghost use Rattle.journal_model.specs.rules.Legal.{IsLegal};
+ghost use Rattle.journal_model.specs.rules.Transparent.{IsTransparent};
 ghost use Rattle.law_legal.specs.KeepsLaws.{KeepsLaws};
 ghost use Rattle.simulator.specs.Lawful.{HasItsBytes, HasItsSlots};
 

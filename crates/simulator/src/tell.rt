@@ -1,7 +1,7 @@
 ghost use Rattle.std.specs.Prelude.{◌≡◌, ◌++◌, ◌∷◌, [], IfOk, codes, decimal, string_bytes};
 ghost use Rattle.io_edge.specs.Written.{Writes};
-ghost use Rattle.journal_model.specs.Words.{line as line_of};
-ghost use Rattle.journal_model.specs.ReportText.{report};
+ghost use Rattle.journal_model.specs.scripts.Words.{line as line_of};
+ghost use Rattle.journal_model.specs.reports.ReportText.{report};
 ghost use Rattle.report_text.specs.WriteFault.{faults_after_writing};
 ghost use Rattle.simulator.specs.Outcomes.{help_text, run_text, text_of};
 

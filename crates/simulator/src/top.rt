@@ -1,5 +1,5 @@
 ghost use Rattle.std.specs.Prelude.{◌≡◌, IfOk, IsTrue, OnErr};
-ghost use Rattle.journal_model.specs.ScriptRules.{is_script};
+ghost use Rattle.journal_model.specs.scripts.ScriptRules.{is_script};
 ghost use Rattle.io_edge.specs.Written.{Writes};
 ghost use Rattle.command_words.specs.Forms.{form_of};
 ghost use Rattle.report_text.specs.WriteFault.{faults_after_writing};

@@ -6,7 +6,7 @@ use Rattle.std.proofs.lemmas.Bool.Decides.{nat_tests}
 use Rattle.ttm_base.specs.declared.Span.{Span}
 use Rattle.ttm_base.specs.ListWords.{count_from}
 use Rattle.ttm_base.specs.Reach.{length_of}
-use Rattle.journal_model.specs.Places.{pages_of}
+use Rattle.journal_model.specs.rules.Places.{pages_of}
 
 -- one number more
 pub count_from-push : (n start : ℕ) → count_from 1 (n + 1) start ≡ count_from 1 n start ++ (start + n) ∷ []

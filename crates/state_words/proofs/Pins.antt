@@ -4,8 +4,8 @@ use Rattle.std.specs.Prelude.{slice_get, slice_set, unwrap_or}
 use Rattle.ttm_base.specs.declared.BufId.{BufId}
 use Rattle.ttm_base.specs.declared.Stamp.{Stamp}
 use Rattle.journal_model.specs.declared.state.Reservation.{Reservation}
-use Rattle.journal_model.specs.ApplyCommands.{with_holder, released}
-use Rattle.journal_model.specs.State.{reservation_in, no_reservation, reservation_changed}
+use Rattle.journal_model.specs.rules.ApplyCommands.{with_holder, released}
+use Rattle.journal_model.specs.rules.State.{reservation_in, no_reservation, reservation_changed}
 
 -- another holder changes no pins
 pins-at : (holder : Option Stamp) (reservations : List Reservation) (i j : ℕ) →

@@ -1,5 +1,5 @@
 ghost use Rattle.std.specs.Prelude.{◌≡◌, option_copied};
-ghost use Rattle.journal_model.specs.State as words;
+ghost use Rattle.journal_model.specs.rules.State as words;
 
 use journal_model::{BufIds, Course, Targets, Victims};
 use std::alloc::Global;

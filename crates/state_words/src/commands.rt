@@ -1,5 +1,5 @@
 ghost use Rattle.std.specs.Prelude.{◌≡◌, ◌∷◌, [], IfOk, flat_map};
-ghost use Rattle.journal_model.specs.Commands as words;
+ghost use Rattle.journal_model.specs.rules.Commands as words;
 
 use crate::buffers::{has_buffer, same_buffer};
 use journal_model::{BufIds, Command, Script};

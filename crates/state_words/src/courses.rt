@@ -1,8 +1,8 @@
 ghost use Rattle.std.specs.Prelude.{◌≡◌, ◌+◌, ◌^◌, ◌<◌, filter, map, not, OnOk, OnErr};
-ghost use Rattle.journal_model.specs.Search as searches;
-ghost use Rattle.journal_model.specs.State as state;
-ghost use Rattle.journal_model.specs.ApplyPages.{search_over};
-ghost use Rattle.journal_model.specs.ApplyVictims.{failed_if, with_fail, no_longer_caught, with_victim, with_skip, forces, gone_dry};
+ghost use Rattle.journal_model.specs.rules.Search as searches;
+ghost use Rattle.journal_model.specs.rules.State as state;
+ghost use Rattle.journal_model.specs.rules.ApplyPages.{search_over};
+ghost use Rattle.journal_model.specs.rules.ApplyVictims.{failed_if, with_fail, no_longer_caught, with_victim, with_skip, forces, gone_dry};
 
 use crate::buffers::same_buffer;
 use journal_model::{Course, Victim, Victims, Why};

@@ -1,6 +1,6 @@
 ghost use Rattle.std.specs.Prelude.{◌≡◌};
-ghost use Rattle.journal_model.specs.Holds as holds;
-ghost use Rattle.journal_model.specs.Choice as choices;
+ghost use Rattle.journal_model.specs.rules.Holds as holds;
+ghost use Rattle.journal_model.specs.rules.Choice as choices;
 
 use journal_model::Script;
 use place_list::rules_places::reach;

@@ -1,5 +1,5 @@
 ghost use Rattle.std.specs.Prelude.{◌≡◌, slice_get};
-ghost use Rattle.journal_model.specs.Places as words;
+ghost use Rattle.journal_model.specs.rules.Places as words;
 
 use ttm_base::{Loc, Mem, PagePlace, Span};
 

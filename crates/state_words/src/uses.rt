@@ -1,5 +1,5 @@
 ghost use Rattle.std.specs.Prelude.{◌≡◌};
-ghost use Rattle.journal_model.specs.Waits as words;
+ghost use Rattle.journal_model.specs.rules.Waits as words;
 
 use crate::commands::writes;
 use ttm_base::{BufId, Op, Usage};

@@ -9,12 +9,12 @@ use Rattle.journal_model.specs.declared.state.Job.{Job}
 use Rattle.journal_model.specs.declared.state.Ghost as state
 use Rattle.journal_model.specs.declared.entry.Kind.TheVariants as kind
 use Rattle.journal_model.specs.declared.entry.Why.TheVariants as why
-use Rattle.journal_model.specs.State.{buffer}
-use Rattle.journal_model.specs.Dry.{ghost_with_frame, swap_victim}
-use Rattle.journal_model.specs.Holds.{free_frame, free_slot}
-use Rattle.journal_model.specs.PageSteps.{filled_by, page_to_fill, step_of_fill, step_without_victim}
-use Rattle.journal_model.specs.Places.{loc_of}
-use Rattle.journal_model.specs.Search.{Step}
+use Rattle.journal_model.specs.rules.State.{buffer}
+use Rattle.journal_model.specs.rules.Dry.{ghost_with_frame, swap_victim}
+use Rattle.journal_model.specs.rules.Holds.{free_frame, free_slot}
+use Rattle.journal_model.specs.rules.PageSteps.{filled_by, page_to_fill, step_of_fill, step_without_victim}
+use Rattle.journal_model.specs.rules.Places.{loc_of}
+use Rattle.journal_model.specs.rules.Search.{Step}
 use Rattle.room_representation.specs.declared.parts.Ghost.{Ghost}
 use Rattle.room_representation.specs.Ghosts.{AreGhosts}
 use Rattle.room_state.specs.room_turns.Acting.{made_unless}

@@ -10,8 +10,8 @@ use Rattle.journal_model.specs.declared.script.Script.{Script}
 use Rattle.journal_model.specs.declared.state.State.{State}
 use Rattle.journal_model.specs.declared.state.Buffer.{Buffer}
 use Rattle.journal_model.specs.declared.entry.Entry.{Entry}
-use Rattle.journal_model.specs.State.{buffer, reservation_in, new_buffer, no_reservation}
-use Rattle.journal_model.specs.Legal.{state_of}
+use Rattle.journal_model.specs.rules.State.{buffer, reservation_in, new_buffer, no_reservation}
+use Rattle.journal_model.specs.rules.Legal.{state_of}
 use Rattle.room_queries.proofs.Known.{past_end}
 use Rattle.laws.proofs.law_sound.Along.{sound_law}
 use Rattle.room_representation.specs.room_steps.Lent.{as_buffer}

@@ -19,17 +19,17 @@ use Rattle.journal_model.specs.declared.entry.Kind.{Kind}
 use Rattle.journal_model.specs.declared.entry.Kind.TheVariants as kind
 use Rattle.journal_model.specs.declared.entry.Why.{Why}
 use Rattle.journal_model.specs.declared.entry.Why.TheVariants as why
-use Rattle.journal_model.specs.State.{buffer, course, live_in, new_buffer}
-use Rattle.journal_model.specs.Commands.{command_at_work}
-use Rattle.journal_model.specs.Dry.{has_frame}
-use Rattle.journal_model.specs.Holds.{free_slot}
-use Rattle.journal_model.specs.Legal.{IsLegal, state_of}
-use Rattle.journal_model.specs.Next.{next, plain, step_of_act}
-use Rattle.journal_model.specs.PageSteps.{first_frame_page, once_idle, step_of_empty, step_of_swap_out, unless_waiting, why_caught}
-use Rattle.journal_model.specs.ScriptRules.{is_script}
-use Rattle.journal_model.specs.Search.{Step}
-use Rattle.journal_model.specs.Tasks.{stage_of, task_of}
-use Rattle.journal_model.specs.Waits.{waited_for, jobs_before_write}
+use Rattle.journal_model.specs.rules.State.{buffer, course, live_in, new_buffer}
+use Rattle.journal_model.specs.rules.Commands.{command_at_work}
+use Rattle.journal_model.specs.rules.Dry.{has_frame}
+use Rattle.journal_model.specs.rules.Holds.{free_slot}
+use Rattle.journal_model.specs.rules.Legal.{IsLegal, state_of}
+use Rattle.journal_model.specs.rules.Next.{next, plain, step_of_act}
+use Rattle.journal_model.specs.rules.PageSteps.{first_frame_page, once_idle, step_of_empty, step_of_swap_out, unless_waiting, why_caught}
+use Rattle.journal_model.specs.scripts.ScriptRules.{is_script}
+use Rattle.journal_model.specs.rules.Search.{Step}
+use Rattle.journal_model.specs.rules.Tasks.{stage_of, task_of}
+use Rattle.journal_model.specs.rules.Waits.{waited_for, jobs_before_write}
 use Rattle.laws.proofs.law_sound.Reservations.{live_within}
 use Rattle.laws.proofs.law_state.GoodStates.{good_law, table_pages}
 use Rattle.laws.proofs.law_state.Rules.{rules_of}

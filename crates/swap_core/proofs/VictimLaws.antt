@@ -7,9 +7,9 @@ use Rattle.ttm_base.specs.declared.BufId.{BufId}
 use Rattle.ttm_base.specs.declared.Mem.{Mem}
 use Rattle.ttm_base.specs.declared.Mem.TheVariants.{System, Tt}
 use Rattle.journal_model.specs.declared.state.State.{State}
-use Rattle.journal_model.specs.State.{buffer, reservation}
-use Rattle.journal_model.specs.Dry.{has_frame, is_loose, swap_victim}
-use Rattle.journal_model.specs.Lists as state
+use Rattle.journal_model.specs.rules.State.{buffer, reservation}
+use Rattle.journal_model.specs.rules.Dry.{has_frame, is_loose, swap_victim}
+use Rattle.journal_model.specs.rules.Lists as state
 use Rattle.swap_core.specs.Rests.{in_order}
 
 module _ {X : Type 0} (p : X → Bool) (left rest : List X) (x : X) (goes : left ≡ x ∷ rest) where

@@ -16,13 +16,13 @@ use Rattle.journal_model.specs.declared.state.Task.{Task}
 use Rattle.journal_model.specs.declared.state.Task.TheVariants as task
 use Rattle.journal_model.specs.declared.entry.Why.{Why}
 use Rattle.journal_model.specs.declared.entry.Why.TheVariants as why
-use Rattle.journal_model.specs.State.{buffer, course}
-use Rattle.journal_model.specs.Commands.{command_at_work}
-use Rattle.journal_model.specs.Dry.{ghost_with_frame, has_frame, swap_victim}
-use Rattle.journal_model.specs.Holds.{free_frame, free_slot}
-use Rattle.journal_model.specs.PageSteps.{why_caught}
-use Rattle.journal_model.specs.Tasks.{task_of}
-use Rattle.journal_model.specs.Waits.{waited_for, jobs_before_write}
+use Rattle.journal_model.specs.rules.State.{buffer, course}
+use Rattle.journal_model.specs.rules.Commands.{command_at_work}
+use Rattle.journal_model.specs.rules.Dry.{ghost_with_frame, has_frame, swap_victim}
+use Rattle.journal_model.specs.rules.Holds.{free_frame, free_slot}
+use Rattle.journal_model.specs.rules.PageSteps.{why_caught}
+use Rattle.journal_model.specs.rules.Tasks.{task_of}
+use Rattle.journal_model.specs.rules.Waits.{waited_for, jobs_before_write}
 
 -- ---- a page goes to a slot
 

@@ -2,8 +2,8 @@ ghost use Rattle.std.specs.Prelude.{◌≡◌, ◌&&◌, find, option_copied};
 ghost use Rattle.ttm_base.specs.declared.Mem.TheVariants.{Vram};
 ghost use Rattle.ttm_base.specs.Reach.{same_mem};
 ghost use Rattle.bo_table.specs.Seen.{reservation_of};
-ghost use Rattle.journal_model.specs.State.{buffer, reservation};
-ghost use Rattle.journal_model.specs.Dry as words;
+ghost use Rattle.journal_model.specs.rules.State.{buffer, reservation};
+ghost use Rattle.journal_model.specs.rules.Dry as words;
 ghost use Rattle.room_state.specs.room_turns.Turns.{state_behind};
 ghost use Rattle.swap_core.specs.Lent.{IsLent};
 

@@ -2,11 +2,11 @@ ghost use Rattle.std.specs.Prelude.{◌≡◌, ◌<◌, find, nat_lt, length, op
 ghost use Rattle.ttm_base.specs.declared.Actor.TheVariants as actor;
 ghost use Rattle.ttm_base.specs.declared.Loc.TheVariants as place;
 ghost use Rattle.journal_model.specs.declared.state.Stage.TheVariants as stage;
-ghost use Rattle.journal_model.specs.State.{buffer};
-ghost use Rattle.journal_model.specs.Dry as dry;
-ghost use Rattle.journal_model.specs.PageSteps as words;
-ghost use Rattle.journal_model.specs.Places.{loc_of};
-ghost use Rattle.journal_model.specs.Tasks.{stage_of, task_of};
+ghost use Rattle.journal_model.specs.rules.State.{buffer};
+ghost use Rattle.journal_model.specs.rules.Dry as dry;
+ghost use Rattle.journal_model.specs.rules.PageSteps as words;
+ghost use Rattle.journal_model.specs.rules.Places.{loc_of};
+ghost use Rattle.journal_model.specs.rules.Tasks.{stage_of, task_of};
 ghost use Rattle.room_state.specs.room_turns.Turns.{state_behind};
 ghost use Rattle.room_state.specs.room_turns.Acting.{made_unless};
 ghost use Rattle.room_state.specs.room_turns.Turns.{after_step, entry_of, step_of};

@@ -4,9 +4,9 @@ use Rattle.ttm_base.specs.declared.Actor.{Actor}
 use Rattle.journal_model.specs.declared.script.Script.{Script}
 use Rattle.journal_model.specs.declared.entry.Kind.{Kind}
 use Rattle.journal_model.specs.declared.state.State.{State}
-use Rattle.journal_model.specs.Legal.{World, state_of, stores_of, world_of, shown_step, next_entry}
-use Rattle.journal_model.specs.Next.{next}
-use Rattle.journal_model.specs.Stores.{Stores, showing}
+use Rattle.journal_model.specs.rules.Legal.{World, state_of, stores_of, world_of, shown_step, next_entry}
+use Rattle.journal_model.specs.rules.Next.{next}
+use Rattle.journal_model.specs.rules.Stores.{Stores, showing}
 use Rattle.plain_device.specs.Kept.{Kept, entry_of}
 
 module _ (d : Kept) (who : Actor) (script : Script) (state : State) (bytes : Stores) (same : script ≡ d.script) (state_is : state ≡ state_of d.script d.journal) (bytes_are : bytes ≡ stores_of d.script d.journal) where

@@ -4,8 +4,8 @@ use Rattle.std.proofs.lemmas.Grind.{common_steps}
 use Rattle.ttm_base.specs.ListWords.{count_from}
 use Rattle.journal_model.specs.declared.script.Script.{Script}
 use Rattle.journal_model.specs.declared.entry.Entry.{Entry}
-use Rattle.journal_model.specs.Legal.{world_of}
-use Rattle.journal_model.specs.Holds.{has_number, held_slots}
+use Rattle.journal_model.specs.rules.Legal.{world_of}
+use Rattle.journal_model.specs.rules.Holds.{has_number, held_slots}
 use Rattle.room_representation.specs.declared.parts.Parts.{Parts}
 use Rattle.room_representation.specs.Held.{AreHeld}
 

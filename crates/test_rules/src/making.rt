@@ -1,7 +1,7 @@
 //! Scripts, jobs and states for tests, with nothing in them but what is told.
 
 ghost use Rattle.std.specs.Prelude.{◌≡◌, true};
-ghost use Rattle.journal_model.specs.ScriptRules.{is_script};
+ghost use Rattle.journal_model.specs.scripts.ScriptRules.{is_script};
 
 use journal_model::{
     Buffer, Buffers, Core, Courses, Fences, Frames, Ghost, Ghosts, Job, JobIds, Jobs, Lists,

@@ -3,7 +3,7 @@ use Rattle.std.proofs.Common.{◌≡◌, ℕ, zero, suc, ◌/◌, ◌%◌, ◌<�
 use Rattle.std.proofs.lemmas.Bool.{and_parts, cases_lt, eqb-true}
 use Rattle.std.specs.Char.{digit_char}
 use Rattle.hex.specs.Hex.{encode_lower, encode_with, lower_digits}
-use Rattle.journal_model.specs.Words.{hex_byte}
+use Rattle.journal_model.specs.scripts.Words.{hex_byte}
 
 -- the first n digits of the table are those of the numbers
 abbrev are_digits : ℕ → Bool

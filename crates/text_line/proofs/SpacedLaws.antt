@@ -1,7 +1,7 @@
 -- Words with a separator between each two are the first, and each other one behind a separator.
 use Rattle.std.proofs.Common.{◌≡◌, ℕ, List, [], ◌∷◌, ◌++◌, ap, sym, append-nil}
 use Rattle.std.specs.List.{join_with_byte}
-use Rattle.journal_model.specs.Words.{Text}
+use Rattle.journal_model.specs.scripts.Words.{Text}
 use Rattle.text_line.specs.Spaced.{behind_each}
 
 pub join_with_byte-cons : (c : ℕ) (w : Text) (ws : List Text) → join_with_byte c (w ∷ ws) ≡ w ++ behind_each c ws

@@ -1,6 +1,6 @@
 -- Words of a line as they are put one behind the other.
 use Rattle.std.specs.Prelude.{ℕ, List, ◌∷◌, flat_map}
-use Rattle.journal_model.specs.Words.{Text}
+use Rattle.journal_model.specs.scripts.Words.{Text}
 
 -- each word behind a separator
 abbrev pub behind_each : ℕ → List Text → Text

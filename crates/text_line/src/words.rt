@@ -1,5 +1,5 @@
 ghost use Rattle.std.specs.Prelude.{◌≡◌, ◌++◌, ◌∷◌, OnOk, decimal};
-ghost use Rattle.journal_model.specs.Words.{actor_word, hex, hex_byte, mem_word, name_of};
+ghost use Rattle.journal_model.specs.scripts.Words.{actor_word, hex, hex_byte, mem_word, name_of};
 
 use crate::Line;
 use journal_model::Script;

@@ -11,7 +11,7 @@ use Rattle.journal_model.specs.declared.script.Script.{Script}
 use Rattle.journal_model.specs.declared.script.Command.{Command}
 use Rattle.journal_model.specs.declared.entry.Entry.{Entry}
 use Rattle.journal_model.specs.declared.entry.Kind.{Kind}
-use Rattle.journal_model.specs.Complete.{is_answer}
+use Rattle.journal_model.specs.statements.Complete.{is_answer}
 use Rattle.simulator.specs.Ends.{Kept}
 use Rattle.laws.proofs.law_over.Totals.{number_of, sum_same, all_answered}
 use Rattle.plain_memory.specs.Along as words

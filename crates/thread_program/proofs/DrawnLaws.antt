@@ -2,10 +2,10 @@
 use Rattle.std.proofs.Common.{◌≡◌, ℕ, List, Result, Ok, Err, ⊎_elim, subst, sym}
 use Rattle.std.specs.Prelude.{◌⊎◌, IsTrue}
 use Rattle.journal_model.specs.declared.script.Script.{Script}
-use Rattle.journal_model.specs.ScriptRules.{is_script}
+use Rattle.journal_model.specs.scripts.ScriptRules.{is_script}
 use Rattle.script_text.specs.declared.ScriptFault.{ScriptFault}
 use Rattle.script_text.specs.declared.ScriptFault.TheVariants as fault
-use Rattle.journal_model.specs.ScriptRules.{IsScript}
+use Rattle.journal_model.specs.scripts.ScriptRules.{IsScript}
 use Rattle.generated_load.specs.Loads.{IsLoad, load_script}
 
 pub read_is : (n : ℕ) (bytes : List ℕ) (r : Result Script ScriptFault) (s : Script) → ((t : Script) → IsScript bytes t → (r ≡ Ok t) ⊎ (r ≡ Err fault.NoMemory))

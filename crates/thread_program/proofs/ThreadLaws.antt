@@ -9,9 +9,9 @@ use Rattle.ttm_base.specs.declared.Actor.TheVariants as actor
 use Rattle.ttm_base.specs.ListWords.{count_from}
 use Rattle.journal_model.specs.declared.script.Script.{Script}
 use Rattle.journal_model.specs.declared.entry.Entry.{Entry}
-use Rattle.journal_model.specs.ScriptRules.{is_script}
-use Rattle.journal_model.specs.Complete.{is_complete, thread_numbers}
-use Rattle.journal_model.specs.Legal.{IsLegal}
+use Rattle.journal_model.specs.scripts.ScriptRules.{is_script}
+use Rattle.journal_model.specs.statements.Complete.{is_complete, thread_numbers}
+use Rattle.journal_model.specs.rules.Legal.{IsLegal}
 use Rattle.simulator.specs.Ends.{Kept}
 use Rattle.turn_lock.proofs.Prefixes.{prefix_trans}
 use Rattle.laws.proofs.law_over.Stops.{last}

@@ -4,7 +4,7 @@ use Rattle.ttm_base.specs.declared.Actor.{Actor}
 use Rattle.ttm_base.specs.declared.Actor.TheVariants as actor
 use Rattle.ttm_base.specs.ListWords.{count_from}
 use Rattle.journal_model.specs.declared.script.Script.{Script}
-use Rattle.journal_model.specs.Complete.{thread_numbers}
+use Rattle.journal_model.specs.statements.Complete.{thread_numbers}
 
 -- the threads by number, the engines by number, and the reaper
 abbrev pub all_actors : Script → List Actor

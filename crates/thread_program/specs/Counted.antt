@@ -1,6 +1,6 @@
 -- What is counted of a run of a script that was drawn from a number, and how such a run ends.
 use Rattle.std.specs.Prelude.{◌≡◌, ℕ, [], ◌∷◌, ◌++◌, codes, decimal}
-use Rattle.journal_model.specs.Words.{Text, line}
+use Rattle.journal_model.specs.scripts.Words.{Text, line}
 use Rattle.simulator.specs.Ends.{Kept}
 use Rattle.generated_load.specs.Loads.{IsLoad, load_script}
 use Rattle.program_edges.specs.declared.status.Status.{Status}

@@ -1,7 +1,7 @@
 -- The words that ask for threads.
 use Rattle.std.specs.Prelude.{List, [], ◌∷◌, Option, Some, None, option_map, bytes_eq, codes, if◌then◌else◌}
-use Rattle.journal_model.specs.Words.{Text}
-use Rattle.journal_model.specs.Reading.{number_in}
+use Rattle.journal_model.specs.scripts.Words.{Text}
+use Rattle.journal_model.specs.scripts.Reading.{number_in}
 use Rattle.thread_program.specs.declared.launch.Launch.{Launch}
 use Rattle.thread_program.specs.declared.launch.Launch.TheVariants as launch
 

@@ -1,8 +1,8 @@
 -- What the workers leave.
 use Rattle.std.specs.Prelude.{◌≡◌, true}
 use Rattle.journal_model.specs.declared.script.Script.{Script}
-use Rattle.journal_model.specs.Legal.{IsLegal}
-use Rattle.journal_model.specs.Complete.{is_complete}
+use Rattle.journal_model.specs.rules.Legal.{IsLegal}
+use Rattle.journal_model.specs.statements.Complete.{is_complete}
 use Rattle.simulator.specs.Ends.{KeepsLaws}
 use Rattle.simulator.specs.Ends.{Kept}
 

@@ -1,6 +1,6 @@
 ghost use Rattle.std.specs.Prelude.{◌≡◌, ◌++◌, ◌∷◌, [], IfOk, OnOk, decimal};
 ghost use Rattle.io_edge.specs.Written.{Writes};
-ghost use Rattle.journal_model.specs.Words.{line};
+ghost use Rattle.journal_model.specs.scripts.Words.{line};
 ghost use Rattle.report_text.specs.WriteFault.{faults_after_writing};
 ghost use Rattle.generated_load.specs.Loads.{IsLoad};
 ghost use Rattle.thread_program.specs.Counted.{HasRunLoad, counts_text, load_counts};

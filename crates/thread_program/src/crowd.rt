@@ -1,5 +1,5 @@
 ghost use Rattle.std.specs.Prelude.{◌≡◌, IfOk, IsTrue, true};
-ghost use Rattle.journal_model.specs.ScriptRules.{is_script};
+ghost use Rattle.journal_model.specs.scripts.ScriptRules.{is_script};
 ghost use Rattle.thread_program.specs.Ran.{IsThreaded};
 
 use crate::actors::actors_of;

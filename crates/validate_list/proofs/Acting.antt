@@ -2,10 +2,10 @@
 use Rattle.std.proofs.Common.{◌≡◌, ℕ, false, Some, IsTrue, sym, ◌∙◌, ap}
 use Rattle.journal_model.specs.declared.script.Command.{Command}
 use Rattle.journal_model.specs.declared.state.Task.TheVariants as task
-use Rattle.journal_model.specs.Commands.{command_at_work}
-use Rattle.journal_model.specs.Legal.{IsLegal}
-use Rattle.journal_model.specs.ScriptRules.{is_script}
-use Rattle.journal_model.specs.Tasks.{task_of}
+use Rattle.journal_model.specs.rules.Commands.{command_at_work}
+use Rattle.journal_model.specs.rules.Legal.{IsLegal}
+use Rattle.journal_model.specs.scripts.ScriptRules.{is_script}
+use Rattle.journal_model.specs.rules.Tasks.{task_of}
 use Rattle.laws.proofs.law_state.Rules.{at_work_rules, rules_of}
 use Rattle.room_state.specs.room_turns.Turns.{Kept, state_behind}
 use Rattle.room_state.specs.room_turns.Acting.{command_due, command_in, free_due, frees, swap_due, swaps}

@@ -17,17 +17,17 @@ use Rattle.journal_model.specs.declared.entry.Kind.{Kind}
 use Rattle.journal_model.specs.declared.entry.Kind.TheVariants as kind
 use Rattle.journal_model.specs.declared.entry.Shown.{Shown}
 use Rattle.journal_model.specs.declared.entry.Shown.TheVariants as shown
-use Rattle.journal_model.specs.State.{buffer, course}
-use Rattle.journal_model.specs.Commands.{command_at_work}
-use Rattle.journal_model.specs.Dry.{has_frame}
-use Rattle.journal_model.specs.Holds.{free_slot}
-use Rattle.journal_model.specs.Search.{Step}
-use Rattle.journal_model.specs.PageSteps.{first_frame_page, once_idle, unless_waiting}
-use Rattle.journal_model.specs.Next.{plain, step_of_act, step_of_task}
-use Rattle.journal_model.specs.Legal.{World, shown_step}
-use Rattle.journal_model.specs.Stores.{bytes_of, shown_by_read}
-use Rattle.journal_model.specs.Tasks.{task_of}
-use Rattle.journal_model.specs.Waits.{waited_for, jobs_before_read, jobs_before_write}
+use Rattle.journal_model.specs.rules.State.{buffer, course}
+use Rattle.journal_model.specs.rules.Commands.{command_at_work}
+use Rattle.journal_model.specs.rules.Dry.{has_frame}
+use Rattle.journal_model.specs.rules.Holds.{free_slot}
+use Rattle.journal_model.specs.rules.Search.{Step}
+use Rattle.journal_model.specs.rules.PageSteps.{first_frame_page, once_idle, unless_waiting}
+use Rattle.journal_model.specs.rules.Next.{plain, step_of_act, step_of_task}
+use Rattle.journal_model.specs.rules.Legal.{World, shown_step}
+use Rattle.journal_model.specs.rules.Stores.{bytes_of, shown_by_read}
+use Rattle.journal_model.specs.rules.Tasks.{task_of}
+use Rattle.journal_model.specs.rules.Waits.{waited_for, jobs_before_read, jobs_before_write}
 use Rattle.room_state.specs.room_turns.Turns.{Kept, state_behind, world_behind}
 use Rattle.room_state.specs.room_turns.Acting.{entry_by, swaps}
 use Rattle.room_state.specs.room_turns.Turns.{entry_of}

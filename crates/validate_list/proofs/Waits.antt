@@ -18,17 +18,17 @@ use Rattle.journal_model.specs.declared.state.Task.TheVariants as task
 use Rattle.journal_model.specs.declared.entry.Kind.{Kind}
 use Rattle.journal_model.specs.declared.entry.Kind.TheVariants as kind
 use Rattle.journal_model.specs.declared.entry.Shown.TheVariants as shown
-use Rattle.journal_model.specs.State.{buffer, course, reservation, is_live}
-use Rattle.journal_model.specs.Commands.{command_at_work}
-use Rattle.journal_model.specs.Dry.{has_frame}
-use Rattle.journal_model.specs.Legal.{IsLegal}
-use Rattle.journal_model.specs.ScriptRules.{is_script}
-use Rattle.journal_model.specs.Next.{backs_off, plain, step_of_holder, step_of_lock, step_of_task}
-use Rattle.journal_model.specs.PageSteps.{unless_waiting}
-use Rattle.journal_model.specs.Search.{Step}
-use Rattle.journal_model.specs.Stores.{bytes_of}
-use Rattle.journal_model.specs.Tasks.{task_of, stage_of}
-use Rattle.journal_model.specs.Waits.{waited_for, jobs_before_read, jobs_before_write}
+use Rattle.journal_model.specs.rules.State.{buffer, course, reservation, is_live}
+use Rattle.journal_model.specs.rules.Commands.{command_at_work}
+use Rattle.journal_model.specs.rules.Dry.{has_frame}
+use Rattle.journal_model.specs.rules.Legal.{IsLegal}
+use Rattle.journal_model.specs.scripts.ScriptRules.{is_script}
+use Rattle.journal_model.specs.rules.Next.{backs_off, plain, step_of_holder, step_of_lock, step_of_task}
+use Rattle.journal_model.specs.rules.PageSteps.{unless_waiting}
+use Rattle.journal_model.specs.rules.Search.{Step}
+use Rattle.journal_model.specs.rules.Stores.{bytes_of}
+use Rattle.journal_model.specs.rules.Tasks.{task_of, stage_of}
+use Rattle.journal_model.specs.rules.Waits.{waited_for, jobs_before_read, jobs_before_write}
 use Rattle.room_state.specs.room_turns.Turns.{Kept, state_behind, world_behind}
 use Rattle.room_state.specs.declared.room_turns.Step as answers
 use Rattle.room_state.specs.room_turns.Acting.{command_due, command_in, entry_by, holder_awaited, holder_before, holder_in, job_awaited, job_before, made_unless, swap_due, swaps}

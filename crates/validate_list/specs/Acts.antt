@@ -7,13 +7,13 @@ use Rattle.journal_model.specs.declared.script.Command.TheVariants as command
 use Rattle.journal_model.specs.declared.entry.Kind.{Kind}
 use Rattle.journal_model.specs.declared.entry.Kind.TheVariants as kind
 use Rattle.journal_model.specs.declared.entry.Shown.TheVariants as shown
-use Rattle.journal_model.specs.State.{buffer, has_buffer}
-use Rattle.journal_model.specs.Commands.{named}
-use Rattle.journal_model.specs.CommandRules.{is_command}
-use Rattle.journal_model.specs.Next.{step_of_act}
-use Rattle.journal_model.specs.PageSteps.{unless_waiting}
-use Rattle.journal_model.specs.Stores.{bytes_of}
-use Rattle.journal_model.specs.Waits.{waited_for, jobs_before_read}
+use Rattle.journal_model.specs.rules.State.{buffer, has_buffer}
+use Rattle.journal_model.specs.rules.Commands.{named}
+use Rattle.journal_model.specs.scripts.CommandRules.{is_command}
+use Rattle.journal_model.specs.rules.Next.{step_of_act}
+use Rattle.journal_model.specs.rules.PageSteps.{unless_waiting}
+use Rattle.journal_model.specs.rules.Stores.{bytes_of}
+use Rattle.journal_model.specs.rules.Waits.{waited_for, jobs_before_read}
 use Rattle.laws.specs.lemma_bytes_told.Told.{IsThere}
 use Rattle.room_state.specs.room_turns.Turns.{Kept, state_behind, world_behind}
 use Rattle.room_state.specs.room_turns.Acting.{frees, swaps}

@@ -1,5 +1,5 @@
 ghost use Rattle.std.specs.Prelude.{◌≡◌};
-ghost use Rattle.journal_model.specs.State as state;
+ghost use Rattle.journal_model.specs.rules.State as state;
 ghost use Rattle.laws.specs.lemma_bytes_told.Told.{IsThere};
 ghost use Rattle.room_state.specs.room_turns.Turns.{state_behind};
 ghost use Rattle.room_representation.specs.room_steps.Lent.{as_buffer};

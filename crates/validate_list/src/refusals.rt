@@ -1,6 +1,6 @@
 ghost use Rattle.std.specs.Prelude.{◌≡◌, true, IfOk, OnOk, OnErr};
 ghost use Rattle.ttm_base.specs.declared.Actor.TheVariants as actor;
-ghost use Rattle.journal_model.specs.Tasks.{task_of};
+ghost use Rattle.journal_model.specs.rules.Tasks.{task_of};
 ghost use Rattle.room_state.specs.room_turns.Turns.{state_behind};
 ghost use Rattle.room_state.specs.declared.room_turns.Step.TheVariants as answer;
 ghost use Rattle.room_state.specs.room_turns.Acting.{gives_up};

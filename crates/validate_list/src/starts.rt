@@ -1,8 +1,8 @@
 ghost use Rattle.std.specs.Prelude.{◌≡◌, Ok, IfOk, OnOk, OnErr};
 ghost use Rattle.ttm_base.specs.declared.Actor.TheVariants as actor;
 ghost use Rattle.journal_model.specs.declared.state.Stage.TheVariants as stage;
-ghost use Rattle.journal_model.specs.Next as words;
-ghost use Rattle.journal_model.specs.Tasks.{task_of, stage_of};
+ghost use Rattle.journal_model.specs.rules.Next as words;
+ghost use Rattle.journal_model.specs.rules.Tasks.{task_of, stage_of};
 ghost use Rattle.room_state.specs.room_turns.Turns.{state_behind};
 ghost use Rattle.room_state.specs.declared.room_turns.Step.TheVariants as answer;
 ghost use Rattle.room_state.specs.room_turns.Turns.{after_step, entry_of, step_of};

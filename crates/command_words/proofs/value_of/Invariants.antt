@@ -1,5 +1,5 @@
 use Rattle.std.proofs.Common.{◌≡◌, min, take}
-use Rattle.journal_model.specs.Reading.{read_on}
+use Rattle.journal_model.specs.scripts.Reading.{read_on}
 use Rattle.command_words.proofs.value_of.Given as goal
 
 abbrev pub invariant-loop-c : goal.invariant-loop-c

@@ -1,9 +1,9 @@
 ghost use Rattle.std.specs.Prelude.{◌≡◌, ◌-◌, ◌≤◌, ◌++◌, ◌∷◌, ◌&&◌, [], not, true, false, IsTrue, OnOk, OnErr, ◌+◌, find, length, take, drop, option_copied, if◌then◌else◌};
 ghost use Rattle.std.specs.List.{list_all, list_any};
-ghost use Rattle.journal_model.specs.Waits as waits;
-ghost use Rattle.journal_model.specs.ApplyJobs.{changed_job};
-ghost use Rattle.journal_model.specs.JobRuns.{jobs_of_run};
-ghost use Rattle.journal_model.specs.Jobs.{ArePending, IsRow, AreBounded, IsSplit, closes, has_packets_left, is_bounded, is_past};
+ghost use Rattle.journal_model.specs.rules.Waits as waits;
+ghost use Rattle.journal_model.specs.rules.ApplyJobs.{changed_job};
+ghost use Rattle.journal_model.specs.code.JobRuns.{jobs_of_run};
+ghost use Rattle.journal_model.specs.code.Jobs.{ArePending, IsRow, AreBounded, IsSplit, closes, has_packets_left, is_bounded, is_past};
 
 use crate::job_ids::JobRun;
 use crate::jobs::row::{NO_ROW, end_of, row_after, row_behind};

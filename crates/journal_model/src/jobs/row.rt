@@ -1,10 +1,10 @@
 ghost use Rattle.std.specs.Prelude.{◌≡◌, ◌≤◌, ◌++◌, ◌∷◌, [], List, IsTrue, false, true, length, drop};
 ghost use Rattle.std.specs.List.{list_any};
-ghost use Rattle.journal_model.specs.Waits.{same_job};
+ghost use Rattle.journal_model.specs.rules.Waits.{same_job};
 ghost use Rattle.journal_model.specs.declared.state.Job.{Job};
-ghost use Rattle.journal_model.specs.ApplyJobs.{changed_job};
-ghost use Rattle.journal_model.specs.JobRuns.{is_in, behind, fits};
-ghost use Rattle.journal_model.specs.Jobs.{IsRow};
+ghost use Rattle.journal_model.specs.rules.ApplyJobs.{changed_job};
+ghost use Rattle.journal_model.specs.code.JobRuns.{is_in, behind, fits};
+ghost use Rattle.journal_model.specs.code.Jobs.{IsRow};
 
 use crate::job_ids::{JobRun, joined};
 use crate::state::Job;

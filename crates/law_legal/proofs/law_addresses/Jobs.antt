@@ -7,13 +7,13 @@ use Rattle.journal_model.specs.declared.script.Script.{Script}
 use Rattle.journal_model.specs.declared.script.Mark.{Mark}
 use Rattle.journal_model.specs.declared.script.MarkKind.{MarkKind}
 use Rattle.journal_model.specs.declared.space.VOp.{VOp}
-use Rattle.journal_model.specs.ByName.{after_vops, job_by_name, vops_shown}
-use Rattle.journal_model.specs.Commands.{commands_of}
-use Rattle.journal_model.specs.Marks.{marks_of}
-use Rattle.journal_model.specs.MarkRules.{empty_thread_mappings, has_apart_ranges, have_marks}
-use Rattle.journal_model.specs.PlainMemory.{Memory}
-use Rattle.journal_model.specs.ScriptRules.{is_script}
-use Rattle.journal_model.specs.Spaces.{has_pages, regions_of, regions_space, space_of}
+use Rattle.journal_model.specs.marks.ByName.{after_vops, job_by_name, vops_shown}
+use Rattle.journal_model.specs.rules.Commands.{commands_of}
+use Rattle.journal_model.specs.marks.Marks.{marks_of}
+use Rattle.journal_model.specs.scripts.MarkRules.{empty_thread_mappings, has_apart_ranges, have_marks}
+use Rattle.journal_model.specs.rules.PlainMemory.{Memory}
+use Rattle.journal_model.specs.scripts.ScriptRules.{is_script}
+use Rattle.journal_model.specs.marks.Spaces.{has_pages, regions_of, regions_space, space_of}
 use Rattle.law_legal.specs.law_items.Items.{Item, items_fit, marks_in, numbered}
 use Rattle.law_legal.proofs.law_items.FromMarks.{items_of_marks}
 use Rattle.law_legal.proofs.law_items.Tests.{both}

@@ -11,12 +11,12 @@ use Rattle.journal_model.specs.declared.script.Mark.{Mark}
 use Rattle.journal_model.specs.declared.script.MarkKind.{MarkKind}
 use Rattle.journal_model.specs.declared.script.MarkKind.TheVariants as mark
 use Rattle.journal_model.specs.declared.space.VOp.{VOp}
-use Rattle.journal_model.specs.ByName.{job_by_name}
-use Rattle.journal_model.specs.CommandRules.{is_between, is_declared}
-use Rattle.journal_model.specs.Commands.{decl}
-use Rattle.journal_model.specs.Marks.{is_request}
-use Rattle.journal_model.specs.MarkRules.{ThreadMappings, thread_mappings_after, has_apart_ranges, is_job_of, is_mark, is_page_range, is_vop, is_vsubmit, is_way}
-use Rattle.journal_model.specs.Spaces.{Region, has_pages, regions_after}
+use Rattle.journal_model.specs.marks.ByName.{job_by_name}
+use Rattle.journal_model.specs.scripts.CommandRules.{is_between, is_declared}
+use Rattle.journal_model.specs.rules.Commands.{decl}
+use Rattle.journal_model.specs.marks.Marks.{is_request}
+use Rattle.journal_model.specs.scripts.MarkRules.{ThreadMappings, thread_mappings_after, has_apart_ranges, is_job_of, is_mark, is_page_range, is_vop, is_vsubmit, is_way}
+use Rattle.journal_model.specs.marks.Spaces.{Region, has_pages, regions_after}
 use Rattle.law_legal.specs.law_items.Items.{Item, Alone, Asks, all_along, commands_in, item_fits, mark_at, marks_in}
 use Rattle.law_legal.proofs.law_items.Tests.{both, joint}
 use Rattle.law_legal.proofs.law_script.NamedJobs.{same_are}

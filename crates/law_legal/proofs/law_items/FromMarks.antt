@@ -11,11 +11,11 @@ use Rattle.journal_model.specs.declared.script.Command.{Command}
 use Rattle.journal_model.specs.declared.script.Mark.{Mark}
 use Rattle.journal_model.specs.declared.script.MarkKind.{MarkKind}
 use Rattle.journal_model.specs.declared.script.MarkKind.TheVariants as mark
-use Rattle.journal_model.specs.Commands.{commands_of}
-use Rattle.journal_model.specs.CommandRules.{is_between}
-use Rattle.journal_model.specs.Complete.{thread_numbers}
-use Rattle.journal_model.specs.Marks.{marks_at}
-use Rattle.journal_model.specs.MarkRules.{ThreadMappings, empty_thread_mappings, thread_mappings_after, is_mark, is_way, are_marks, marks_fit, is_above, are_in_order, is_in_thread, is_line, has_few_lines, have_marks}
+use Rattle.journal_model.specs.rules.Commands.{commands_of}
+use Rattle.journal_model.specs.scripts.CommandRules.{is_between}
+use Rattle.journal_model.specs.statements.Complete.{thread_numbers}
+use Rattle.journal_model.specs.marks.Marks.{marks_at}
+use Rattle.journal_model.specs.scripts.MarkRules.{ThreadMappings, empty_thread_mappings, thread_mappings_after, is_mark, is_way, are_marks, marks_fit, is_above, are_in_order, is_in_thread, is_line, has_few_lines, have_marks}
 use Rattle.law_legal.specs.law_items.Items.{Item, Alone, Asks, commands_in, mark_at, marks_in, numbered, ComesFrom, item_fits, all_along, items_fit}
 use Rattle.law_legal.proofs.law_items.ListFacts.{has_few}
 use Rattle.law_legal.proofs.law_items.Tests.{both, joint, and_true, differ}

@@ -6,7 +6,7 @@ use Rattle.std.proofs.lemmas.List.{append-nil}
 use Rattle.std.proofs.lemmas.List.Concat.{flat_map-cons}
 use Rattle.std.proofs.lemmas.List.Sums.{sum_by-append, sum_by-cons}
 use Rattle.std.proofs.lemmas.Grind.{flat_map-append}
-use Rattle.journal_model.specs.FirstFault.{onto_last}
+use Rattle.journal_model.specs.scripts.FirstFault.{onto_last}
 use Rattle.law_legal.proofs.law_items.Tests.{both, joint, and_true, is_le}
 
 -- ---- one more at the end

@@ -10,8 +10,8 @@ use Rattle.journal_model.specs.declared.script.Script.{Script}
 use Rattle.journal_model.specs.declared.script.Command.{Command}
 use Rattle.journal_model.specs.declared.script.Mark.{Mark}
 use Rattle.journal_model.specs.declared.script.MarkKind.{MarkKind}
-use Rattle.journal_model.specs.Commands.{commands_of}
-use Rattle.journal_model.specs.Marks.{marks_of, marks_at}
+use Rattle.journal_model.specs.rules.Commands.{commands_of}
+use Rattle.journal_model.specs.marks.Marks.{marks_of, marks_at}
 use Rattle.law_legal.specs.law_items.Items.{Item, Alone, Asks, commands_in, mark_at, marks_in, numbered, ComesFrom}
 use Rattle.law_legal.proofs.law_items.Tests.{both, joint}
 

@@ -9,9 +9,9 @@ use Rattle.journal_model.specs.declared.script.Script.{Script}
 use Rattle.journal_model.specs.declared.script.Command.{Command}
 use Rattle.journal_model.specs.declared.script.Mark.{Mark}
 use Rattle.journal_model.specs.declared.script.MarkKind.{MarkKind}
-use Rattle.journal_model.specs.Commands.{commands_of}
-use Rattle.journal_model.specs.MarkRules.{ThreadMappings, empty_thread_mappings, thread_mappings_after, thread_mappings_at_end}
-use Rattle.journal_model.specs.FirstFault.{onto_last, mark_here}
+use Rattle.journal_model.specs.rules.Commands.{commands_of}
+use Rattle.journal_model.specs.scripts.MarkRules.{ThreadMappings, empty_thread_mappings, thread_mappings_after, thread_mappings_at_end}
+use Rattle.journal_model.specs.scripts.FirstFault.{onto_last, mark_here}
 use Rattle.law_legal.specs.law_items.Items.{Item, Alone, Asks, commands_in, kinds_in, mark_at, marks_in, numbered, ComesFrom, with_items, thread_mappings_behind, thread_mappings_of, item_fits, all_along, items_fit}
 use Rattle.law_legal.proofs.law_items.ListFacts.{length_map, put_last, put_end, onto_is, last_list, last_len, last_len_is, last_end}
 use Rattle.law_legal.proofs.law_items.Tests.{both, joint, and_true}

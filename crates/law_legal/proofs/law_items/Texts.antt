@@ -9,10 +9,10 @@ use Rattle.journal_model.specs.declared.script.Command.{Command}
 use Rattle.journal_model.specs.declared.script.MarkKind.{MarkKind}
 use Rattle.journal_model.specs.declared.script.MarkKind.TheVariants as mark
 use Rattle.journal_model.specs.declared.space.VOp.{VOp}
-use Rattle.journal_model.specs.Words.{Text, line}
-use Rattle.journal_model.specs.Marks.{addressed, is_mapped, marks_of}
-use Rattle.journal_model.specs.MarkRules.{ThreadMappings, empty_thread_mappings, is_mark, is_way, is_line}
-use Rattle.journal_model.specs.Spelling.{addressed_words, command_words, mapped_words, mark_line, command_lines, thread_lines}
+use Rattle.journal_model.specs.scripts.Words.{Text, line}
+use Rattle.journal_model.specs.marks.Marks.{addressed, is_mapped, marks_of}
+use Rattle.journal_model.specs.scripts.MarkRules.{ThreadMappings, empty_thread_mappings, is_mark, is_way, is_line}
+use Rattle.journal_model.specs.scripts.Spelling.{addressed_words, command_words, mapped_words, mark_line, command_lines, thread_lines}
 use Rattle.law_legal.specs.law_items.Items.{Item, Alone, Asks, commands_in, marks_in, ComesFrom, written, item_text, items_text, thread_mappings_behind, item_fits, all_along, items_fit}
 use Rattle.law_legal.proofs.law_items.Tests.{both, and_true}
 use Rattle.law_legal.proofs.law_items.Places.{Stand, stand_first, stand_alone, stand_next, stand_here, stand_last, HasThreads, has_threads, next_threads, first_marks, all_append}

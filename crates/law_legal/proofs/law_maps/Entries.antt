@@ -5,7 +5,7 @@ use Rattle.std.proofs.lemmas.Grind.{common_steps}
 use Rattle.std.proofs.lemmas.Bool.Decides.{nat_tests}
 use Rattle.ttm_base.specs.declared.BufId.{BufId}
 use Rattle.ttm_base.specs.declared.PagePlace.{PagePlace}
-use Rattle.journal_model.specs.State.{same_buffer}
+use Rattle.journal_model.specs.rules.State.{same_buffer}
 use Rattle.cpu_maps.specs.declared.area.Area.{Area}
 use Rattle.cpu_maps.specs.Areas.{entry_in, entry_of, is_of, with_entry, emptied, without_page, without_buffer, unmapped}
 

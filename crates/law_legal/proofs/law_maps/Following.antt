@@ -8,10 +8,10 @@ use Rattle.ttm_base.specs.Pages.{Page}
 use Rattle.journal_model.specs.declared.script.Script.{Script}
 use Rattle.journal_model.specs.declared.entry.Kind.{Kind}
 use Rattle.journal_model.specs.declared.entry.Kind.TheVariants as kind
-use Rattle.journal_model.specs.Legal.{Made}
-use Rattle.journal_model.specs.State.{same_buffer}
-use Rattle.journal_model.specs.Complete.{is_answer}
-use Rattle.journal_model.specs.Mapped.{Mapping, entry_after, count_answers, has_ended}
+use Rattle.journal_model.specs.rules.Legal.{Made}
+use Rattle.journal_model.specs.rules.State.{same_buffer}
+use Rattle.journal_model.specs.statements.Complete.{is_answer}
+use Rattle.journal_model.specs.marks.Mapped.{Mapping, entry_after, count_answers, has_ended}
 use Rattle.cpu_maps.specs.declared.area.Area.{Area}
 use Rattle.cpu_maps.specs.Areas.{entry_in, unmapped}
 use Rattle.law_legal.specs.law_maps.Following.{page_there, Follow, areas_behind}

@@ -13,22 +13,22 @@ use Rattle.journal_model.specs.declared.state.Buffer.{Buffer}
 use Rattle.journal_model.specs.declared.entry.Entry.{Entry}
 use Rattle.journal_model.specs.declared.entry.Kind.{Kind}
 use Rattle.journal_model.specs.declared.entry.Kind.TheVariants as kind
-use Rattle.journal_model.specs.State.{buffer, changed, course, live_in, new_buffer, same_buffer}
-use Rattle.journal_model.specs.Apply.{applied, thread_of}
-use Rattle.journal_model.specs.ApplyCommands.{named_in}
-use Rattle.journal_model.specs.ApplyJobs.{ops_of, with_use}
-use Rattle.journal_model.specs.ApplyPages.{bound, unbound, with_kernel_fences, with_loc, with_spans, without_frames}
-use Rattle.journal_model.specs.ApplyMoves.{moved}
-use Rattle.journal_model.specs.ApplyVictims.{leaves_tt}
-use Rattle.journal_model.specs.Commands.{command_at_work, decl}
-use Rattle.journal_model.specs.Complete.{is_by_thread}
-use Rattle.journal_model.specs.Legal.{World, first_state, first_world, world_after, world_along, state_of, IsLegalFrom, Made, made_along, made_of}
-use Rattle.journal_model.specs.Mapped.{Access, Mapping, access_at, answered_before, count_answers, entry_after, has_ended, is_through, meets_page, peek_or_poke, seen, unless_of}
-use Rattle.journal_model.specs.MarkLaws.{LegalMapsAreRight}
-use Rattle.journal_model.specs.Next.{next}
-use Rattle.journal_model.specs.Places.{page_at}
-use Rattle.journal_model.specs.Stores.{Stores, showing}
-use Rattle.journal_model.specs.Waits.{jobs_before_target}
+use Rattle.journal_model.specs.rules.State.{buffer, changed, course, live_in, new_buffer, same_buffer}
+use Rattle.journal_model.specs.rules.Apply.{applied, thread_of}
+use Rattle.journal_model.specs.rules.ApplyCommands.{named_in}
+use Rattle.journal_model.specs.rules.ApplyJobs.{ops_of, with_use}
+use Rattle.journal_model.specs.rules.ApplyPages.{bound, unbound, with_kernel_fences, with_loc, with_spans, without_frames}
+use Rattle.journal_model.specs.rules.ApplyMoves.{moved}
+use Rattle.journal_model.specs.rules.ApplyVictims.{leaves_tt}
+use Rattle.journal_model.specs.rules.Commands.{command_at_work, decl}
+use Rattle.journal_model.specs.statements.Complete.{is_by_thread}
+use Rattle.journal_model.specs.rules.Legal.{World, first_state, first_world, world_after, world_along, state_of, IsLegalFrom, Made, made_along, made_of}
+use Rattle.journal_model.specs.marks.Mapped.{Access, Mapping, access_at, answered_before, count_answers, entry_after, has_ended, is_through, meets_page, peek_or_poke, seen, unless_of}
+use Rattle.journal_model.specs.statements.MarkLaws.{LegalMapsAreRight}
+use Rattle.journal_model.specs.rules.Next.{next}
+use Rattle.journal_model.specs.rules.Places.{page_at}
+use Rattle.journal_model.specs.rules.Stores.{Stores, showing}
+use Rattle.journal_model.specs.rules.Waits.{jobs_before_target}
 use Rattle.laws.specs.law_state.Courses.{GoodCourses}
 use Rattle.laws.specs.law_state.GoodState.{GoodState}
 use Rattle.laws.proofs.law_state.GoodStates.{good_first, good_keeps}

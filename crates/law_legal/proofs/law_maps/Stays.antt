@@ -11,12 +11,12 @@ use Rattle.ttm_base.specs.declared.Mem.TheVariants.{System, Tt, Vram}
 use Rattle.ttm_base.specs.declared.Op.{Op}
 use Rattle.ttm_base.specs.declared.Usage.TheVariants as usage
 use Rattle.journal_model.specs.declared.state.Buffer.{Buffer}
-use Rattle.journal_model.specs.State.{changed, live_in, new_buffer}
-use Rattle.journal_model.specs.Places.{is_frame, loc_of, page_at, page_in, page_in_table, page_in_vram, pages_of}
-use Rattle.journal_model.specs.Waits.{use_of}
-use Rattle.journal_model.specs.ApplyJobs.{with_use}
-use Rattle.journal_model.specs.ApplyPages.{with_fence, with_kernel_fences, with_loc}
-use Rattle.journal_model.specs.ApplyVictims.{leaves_tt}
+use Rattle.journal_model.specs.rules.State.{changed, live_in, new_buffer}
+use Rattle.journal_model.specs.rules.Places.{is_frame, loc_of, page_at, page_in, page_in_table, page_in_vram, pages_of}
+use Rattle.journal_model.specs.rules.Waits.{use_of}
+use Rattle.journal_model.specs.rules.ApplyJobs.{with_use}
+use Rattle.journal_model.specs.rules.ApplyPages.{with_fence, with_kernel_fences, with_loc}
+use Rattle.journal_model.specs.rules.ApplyVictims.{leaves_tt}
 use Rattle.laws.proofs.law_state.Lists.{set_at}
 
 -- in SYSTEM the page has a frame

@@ -21,17 +21,17 @@ use Rattle.journal_model.specs.declared.state.Task.{Task}
 use Rattle.journal_model.specs.declared.state.Task.TheVariants as task
 use Rattle.journal_model.specs.declared.entry.Kind.{Kind}
 use Rattle.journal_model.specs.declared.entry.Kind.TheVariants as kind
-use Rattle.journal_model.specs.State.{buffer, course, has_buffer, is_live, live_in, new_buffer}
-use Rattle.journal_model.specs.Commands.{commands_of, decl, named}
-use Rattle.journal_model.specs.CommandRules.{is_between, is_byte, is_command, is_declared, is_range_of}
-use Rattle.journal_model.specs.Complete.{is_by_thread}
-use Rattle.journal_model.specs.Mapped.{Access, access_of, meets_page, peek_or_poke}
-use Rattle.journal_model.specs.Marks.{is_mapped_at}
-use Rattle.journal_model.specs.Next.{next}
-use Rattle.journal_model.specs.PageSteps.{page_to_fill}
-use Rattle.journal_model.specs.Places.{is_frame, loc_of}
-use Rattle.journal_model.specs.Search.{PlaceSearch}
-use Rattle.journal_model.specs.Ready.{first_unready, has_all_frames, is_in_place, is_ready, uses_bytes}
+use Rattle.journal_model.specs.rules.State.{buffer, course, has_buffer, is_live, live_in, new_buffer}
+use Rattle.journal_model.specs.rules.Commands.{commands_of, decl, named}
+use Rattle.journal_model.specs.scripts.CommandRules.{is_between, is_byte, is_command, is_declared, is_range_of}
+use Rattle.journal_model.specs.statements.Complete.{is_by_thread}
+use Rattle.journal_model.specs.marks.Mapped.{Access, access_of, meets_page, peek_or_poke}
+use Rattle.journal_model.specs.marks.Marks.{is_mapped_at}
+use Rattle.journal_model.specs.rules.Next.{next}
+use Rattle.journal_model.specs.rules.PageSteps.{page_to_fill}
+use Rattle.journal_model.specs.rules.Places.{is_frame, loc_of}
+use Rattle.journal_model.specs.rules.Search.{PlaceSearch}
+use Rattle.journal_model.specs.rules.Ready.{first_unready, has_all_frames, is_in_place, is_ready, uses_bytes}
 use Rattle.laws.specs.law_state.Courses.{GoodCourses, makes}
 use Rattle.laws.specs.law_state.GoodState.{GoodState, HasPages}
 use Rattle.laws.proofs.law_state.JournalCourses.{is_of_engine, is_of_reaper, of_engine, of_reaper}

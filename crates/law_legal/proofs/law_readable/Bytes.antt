@@ -22,14 +22,14 @@ use Rattle.journal_model.specs.declared.entry.Kind.{Kind}
 use Rattle.journal_model.specs.declared.entry.Kind.TheVariants as kind
 use Rattle.journal_model.specs.declared.entry.Shown.{Shown}
 use Rattle.journal_model.specs.declared.entry.Shown.TheVariants as shown
-use Rattle.journal_model.specs.State.{buffer}
-use Rattle.journal_model.specs.Commands.{command_at_work}
-use Rattle.journal_model.specs.CommandRules.{is_byte, is_command}
-use Rattle.journal_model.specs.Places.{page_at, aperture}
-use Rattle.journal_model.specs.Waits.{same_job}
-use Rattle.journal_model.specs.Apply.{thread_of, engine_of}
-use Rattle.journal_model.specs.Stores.{Stores, is_there, within, byte_of, put_bytes, no_packet, job_packet, written, stores_after, shown_by_read, shown_result, showing}
-use Rattle.journal_model.specs.Readable.{are_bytes, is_kind, is_shown, is_u32, is_u64}
+use Rattle.journal_model.specs.rules.State.{buffer}
+use Rattle.journal_model.specs.rules.Commands.{command_at_work}
+use Rattle.journal_model.specs.scripts.CommandRules.{is_byte, is_command}
+use Rattle.journal_model.specs.rules.Places.{page_at, aperture}
+use Rattle.journal_model.specs.rules.Waits.{same_job}
+use Rattle.journal_model.specs.rules.Apply.{thread_of, engine_of}
+use Rattle.journal_model.specs.rules.Stores.{Stores, is_there, within, byte_of, put_bytes, no_packet, job_packet, written, stores_after, shown_by_read, shown_result, showing}
+use Rattle.journal_model.specs.scripts.Readable.{are_bytes, is_kind, is_shown, is_u32, is_u64}
 use Rattle.laws.proofs.law_state.JobNames.{found_at}
 use Rattle.laws.proofs.law_state.Rules.{Rules, at_work_rules}
 use Rattle.law_legal.proofs.law_readable.Tests.{joint, byte, below_256, all_mapped, all_got}

@@ -32,19 +32,19 @@ use Rattle.journal_model.specs.declared.entry.Kind.TheVariants as kind
 use Rattle.journal_model.specs.declared.entry.Left.TheVariants as left
 use Rattle.journal_model.specs.declared.entry.Shown.{Shown}
 use Rattle.journal_model.specs.declared.entry.Shown.TheVariants as shown
-use Rattle.journal_model.specs.State.{buffer, reservation, course, is_live, live_in, new_buffer}
-use Rattle.journal_model.specs.Commands.{decl, named, command_at_work}
-use Rattle.journal_model.specs.CommandRules.{is_between, is_command, is_declared, is_op}
-use Rattle.journal_model.specs.ScriptRules.{is_script}
-use Rattle.journal_model.specs.Dry.{has_frame}
-use Rattle.journal_model.specs.Holds.{size_of, held_frames, held_slots, free_frame, free_slot}
-use Rattle.journal_model.specs.Places.{is_frame, loc_of}
-use Rattle.journal_model.specs.Ready.{is_ready, first_unready}
-use Rattle.journal_model.specs.Waits.{waited_for, jobs_before_read, jobs_before_write}
-use Rattle.journal_model.specs.Search.{Step, PlaceSearch, place_search, is_caught, through_tt, step_of_place_search}
-use Rattle.journal_model.specs.PageSteps.{unless_waiting, once_idle, page_to_fill, first_frame_page, next_job, next_ghost}
-use Rattle.journal_model.specs.Next.{next, head_of, step_of_act, step_of_job, step_of_task}
-use Rattle.journal_model.specs.Readable.{is_dry_why, is_kind, is_left, is_shown, is_some_actor, is_span, is_u32, is_u64}
+use Rattle.journal_model.specs.rules.State.{buffer, reservation, course, is_live, live_in, new_buffer}
+use Rattle.journal_model.specs.rules.Commands.{decl, named, command_at_work}
+use Rattle.journal_model.specs.scripts.CommandRules.{is_between, is_command, is_declared, is_op}
+use Rattle.journal_model.specs.scripts.ScriptRules.{is_script}
+use Rattle.journal_model.specs.rules.Dry.{has_frame}
+use Rattle.journal_model.specs.rules.Holds.{size_of, held_frames, held_slots, free_frame, free_slot}
+use Rattle.journal_model.specs.rules.Places.{is_frame, loc_of}
+use Rattle.journal_model.specs.rules.Ready.{is_ready, first_unready}
+use Rattle.journal_model.specs.rules.Waits.{waited_for, jobs_before_read, jobs_before_write}
+use Rattle.journal_model.specs.rules.Search.{Step, PlaceSearch, place_search, is_caught, through_tt, step_of_place_search}
+use Rattle.journal_model.specs.rules.PageSteps.{unless_waiting, once_idle, page_to_fill, first_frame_page, next_job, next_ghost}
+use Rattle.journal_model.specs.rules.Next.{next, head_of, step_of_act, step_of_job, step_of_task}
+use Rattle.journal_model.specs.scripts.Readable.{is_dry_why, is_kind, is_left, is_shown, is_some_actor, is_span, is_u32, is_u64}
 use Rattle.laws.proofs.law_state.JournalCourses.{thread_is_there}
 use Rattle.laws.specs.law_state.GoodState.{GoodState}
 use Rattle.laws.specs.law_state.Counters.{Below}

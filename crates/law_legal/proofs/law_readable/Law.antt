@@ -4,11 +4,11 @@ use Rattle.std.specs.List.{list_all}
 use Rattle.std.proofs.lemmas.List.{length-append}
 use Rattle.journal_model.specs.declared.script.Script.{Script}
 use Rattle.journal_model.specs.declared.entry.Entry.{Entry}
-use Rattle.journal_model.specs.ScriptRules.{is_script}
-use Rattle.journal_model.specs.Legal.{world_of, state_of, IsLegal, IsLegalFrom}
-use Rattle.journal_model.specs.Laws.{TextsDiffer}
-use Rattle.journal_model.specs.Stores.{showing}
-use Rattle.journal_model.specs.Readable.{is_kind, is_readable, is_some_actor}
+use Rattle.journal_model.specs.scripts.ScriptRules.{is_script}
+use Rattle.journal_model.specs.rules.Legal.{world_of, state_of, IsLegal, IsLegalFrom}
+use Rattle.journal_model.specs.statements.Laws.{TextsDiffer}
+use Rattle.journal_model.specs.rules.Stores.{showing}
+use Rattle.journal_model.specs.scripts.Readable.{is_kind, is_readable, is_some_actor}
 use Rattle.journal_model.proofs.JournalLaws.{IsLegal-append, world_of-append}
 use Rattle.laws.proofs.law_state.Shown.{legal_step}
 use Rattle.laws.proofs.law_state.Counters.{below_law, next_counted}

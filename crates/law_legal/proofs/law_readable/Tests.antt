@@ -4,8 +4,8 @@ use Rattle.std.specs.Prelude.{slice_get, slice_set, map, position, cond, unwrap_
 use Rattle.std.specs.List.{list_all, position_or_len}
 use Rattle.std.proofs.lemmas.Bool.{lt-ltb, ltb-true, and_parts}
 use Rattle.std.proofs.lemmas.Bool.Decides.{nat_tests}
-use Rattle.journal_model.specs.CommandRules.{is_byte}
-use Rattle.journal_model.specs.Readable.{is_u32, is_u64}
+use Rattle.journal_model.specs.scripts.CommandRules.{is_byte}
+use Rattle.journal_model.specs.scripts.Readable.{is_u32, is_u64}
 
 pub u32 : (n : ℕ) → n < 2 ^ 32 → is_u32 n ≡ true
 u32 n h = lt-ltb n (2 ^ 32) h

@@ -31,20 +31,20 @@ use Rattle.journal_model.specs.declared.entry.Kind.{Kind}
 use Rattle.journal_model.specs.declared.entry.Kind.TheVariants as kind
 use Rattle.journal_model.specs.declared.entry.Left.{Left}
 use Rattle.journal_model.specs.declared.entry.Left.TheVariants as left
-use Rattle.journal_model.specs.State.{buffer_in, live_in, changed, new_buffer, target_spans}
-use Rattle.journal_model.specs.Commands.{decl, command_at_work}
-use Rattle.journal_model.specs.CommandRules.{is_byte, is_command, is_op, is_between}
-use Rattle.journal_model.specs.Places.{name_in_spans, packet_place}
-use Rattle.journal_model.specs.Waits.{same_job, jobs_before_target}
-use Rattle.journal_model.specs.PageSteps.{next_ghost}
-use Rattle.journal_model.specs.Apply.{applied, thread_of}
-use Rattle.journal_model.specs.ApplyCommands.{named_in}
-use Rattle.journal_model.specs.ApplyPages.{with_fence, with_kernel_fences, with_spans, with_loc, without_frame, without_frames, bound, unbound}
-use Rattle.journal_model.specs.ApplyMoves.{copy_of_page, moved, table_left, move_packets, ghosts_left, last_ghost_left}
-use Rattle.journal_model.specs.ApplyVictims.{leaves_tt}
-use Rattle.journal_model.specs.ApplyJobs.{with_use, ops_of, changed_job}
-use Rattle.journal_model.specs.Legal.{first_state}
-use Rattle.journal_model.specs.Readable.{is_u32, is_span, is_kind}
+use Rattle.journal_model.specs.rules.State.{buffer_in, live_in, changed, new_buffer, target_spans}
+use Rattle.journal_model.specs.rules.Commands.{decl, command_at_work}
+use Rattle.journal_model.specs.scripts.CommandRules.{is_byte, is_command, is_op, is_between}
+use Rattle.journal_model.specs.rules.Places.{name_in_spans, packet_place}
+use Rattle.journal_model.specs.rules.Waits.{same_job, jobs_before_target}
+use Rattle.journal_model.specs.rules.PageSteps.{next_ghost}
+use Rattle.journal_model.specs.rules.Apply.{applied, thread_of}
+use Rattle.journal_model.specs.rules.ApplyCommands.{named_in}
+use Rattle.journal_model.specs.rules.ApplyPages.{with_fence, with_kernel_fences, with_spans, with_loc, without_frame, without_frames, bound, unbound}
+use Rattle.journal_model.specs.rules.ApplyMoves.{copy_of_page, moved, table_left, move_packets, ghosts_left, last_ghost_left}
+use Rattle.journal_model.specs.rules.ApplyVictims.{leaves_tt}
+use Rattle.journal_model.specs.rules.ApplyJobs.{with_use, ops_of, changed_job}
+use Rattle.journal_model.specs.rules.Legal.{first_state}
+use Rattle.journal_model.specs.scripts.Readable.{is_u32, is_span, is_kind}
 use Rattle.laws.proofs.law_state.Lists.{set_at, get_pushed, get_mapped}
 use Rattle.laws.proofs.law_state.Rules.{Rules, at_work_rules}
 use Rattle.laws.proofs.law_state.Counters as counters

@@ -22,14 +22,14 @@ use Rattle.journal_model.specs.declared.entry.Kind.TheVariants as kind
 use Rattle.journal_model.specs.declared.entry.DryWhy.TheVariants as dry
 use Rattle.journal_model.specs.declared.entry.CauseRow.{CauseRow}
 use Rattle.journal_model.specs.declared.entry.Cause.TheVariants as cause
-use Rattle.journal_model.specs.State.{reservation, reservation_in, has_target}
-use Rattle.journal_model.specs.Commands.{whole}
-use Rattle.journal_model.specs.CommandRules.{is_declared}
-use Rattle.journal_model.specs.Choice.{choice, reach_of}
-use Rattle.journal_model.specs.Holds.{live_entry}
-use Rattle.journal_model.specs.Dry.{is_long_enough, victim, ghost_in, cause_of, cause_row, causes}
-use Rattle.journal_model.specs.Search.{Step, PlaceSearch, why_of, step_of_crowded, step_of_forced_place, step_of_forced, first_choice, step_of_place_search}
-use Rattle.journal_model.specs.Readable.{is_cause, is_cause_row, is_dry_why, is_u64}
+use Rattle.journal_model.specs.rules.State.{reservation, reservation_in, has_target}
+use Rattle.journal_model.specs.rules.Commands.{whole}
+use Rattle.journal_model.specs.scripts.CommandRules.{is_declared}
+use Rattle.journal_model.specs.rules.Choice.{choice, reach_of}
+use Rattle.journal_model.specs.rules.Holds.{live_entry}
+use Rattle.journal_model.specs.rules.Dry.{is_long_enough, victim, ghost_in, cause_of, cause_row, causes}
+use Rattle.journal_model.specs.rules.Search.{Step, PlaceSearch, why_of, step_of_crowded, step_of_forced_place, step_of_forced, first_choice, step_of_place_search}
+use Rattle.journal_model.specs.scripts.Readable.{is_cause, is_cause_row, is_dry_why, is_u64}
 use Rattle.law_legal.proofs.law_readable.Tests.{joint}
 
 -- why a place is dry, where the entry says it

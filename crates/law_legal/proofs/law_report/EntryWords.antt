@@ -8,11 +8,11 @@ use Rattle.journal_model.specs.declared.entry.Kind.{Kind}
 use Rattle.journal_model.specs.declared.entry.Kind.TheVariants as kind
 use Rattle.journal_model.specs.declared.entry.DryWhy.{DryWhy}
 use Rattle.journal_model.specs.declared.entry.DryWhy.TheVariants as dry
-use Rattle.journal_model.specs.Words.{Text, listed, mem_word, name_of, spans_word}
-use Rattle.journal_model.specs.EntryText.{cause_row_word, deny_word, dry_word, kind_words, left_word, piece_words, why_word}
-use Rattle.journal_model.specs.ScriptRules.{is_script, same_text}
-use Rattle.journal_model.specs.CommandRules.{is_declared}
-use Rattle.journal_model.specs.Readable.{are_bytes, is_dry_why, is_kind, is_left, is_span, is_u32, is_u64}
+use Rattle.journal_model.specs.scripts.Words.{Text, listed, mem_word, name_of, spans_word}
+use Rattle.journal_model.specs.reports.EntryText.{cause_row_word, deny_word, dry_word, kind_words, left_word, piece_words, why_word}
+use Rattle.journal_model.specs.scripts.ScriptRules.{is_script, same_text}
+use Rattle.journal_model.specs.scripts.CommandRules.{is_declared}
+use Rattle.journal_model.specs.scripts.Readable.{are_bytes, is_dry_why, is_kind, is_left, is_span, is_u32, is_u64}
 use Rattle.law_legal.proofs.law_report.Cuts.{both, joint}
 use Rattle.law_legal.proofs.law_report.Numbers.{number_again, read_on}
 use Rattle.law_legal.proofs.law_report.Names.{name_again, un_name}

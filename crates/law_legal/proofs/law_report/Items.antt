@@ -7,10 +7,10 @@ use Rattle.std.proofs.lemmas.Bool.Decides.{nat_tests}
 use Rattle.std.proofs.lemmas.Str.{digit_value-digit_char}
 use Rattle.std.proofs.lemmas.List.Folds.{list_all-append}
 use Rattle.journal_model.specs.declared.script.Script.{Script}
-use Rattle.journal_model.specs.Words.{Text, hex, name_of}
-use Rattle.journal_model.specs.ScriptRules.{is_letter, is_letter_or_digit, is_name, is_script}
-use Rattle.journal_model.specs.CommandRules.{is_byte, is_declared}
-use Rattle.journal_model.specs.Readable.{are_bytes, is_u64}
+use Rattle.journal_model.specs.scripts.Words.{Text, hex, name_of}
+use Rattle.journal_model.specs.scripts.ScriptRules.{is_letter, is_letter_or_digit, is_name, is_script}
+use Rattle.journal_model.specs.scripts.CommandRules.{is_byte, is_declared}
+use Rattle.journal_model.specs.scripts.Readable.{are_bytes, is_u64}
 use Rattle.law_legal.proofs.law_report.Cuts.{both, joint, lacks}
 use Rattle.law_legal.proofs.law_report.Numbers.{digits_of, is_digit}
 use Rattle.law_legal.proofs.law_report.Names.{declared_name}

@@ -6,13 +6,13 @@ use Rattle.std.proofs.lemmas.Bool.Decides.{nat_tests}
 use Rattle.std.proofs.lemmas.Fmt.{decimal_injective}
 use Rattle.journal_model.specs.declared.script.Script.{Script}
 use Rattle.journal_model.specs.declared.entry.Entry.{Entry}
-use Rattle.journal_model.specs.Words.{Text, actor_word, line, spaced}
-use Rattle.journal_model.specs.EntryText.{entry_line, kind_words}
-use Rattle.journal_model.specs.Complete.{thread_numbers}
-use Rattle.journal_model.specs.Legal.{state_of}
-use Rattle.journal_model.specs.ReportText.{account_lines, maps_part, report, spaces_part, thread_results}
-use Rattle.journal_model.specs.ScriptRules.{is_script}
-use Rattle.journal_model.specs.Readable.{is_kind, is_readable, is_some_actor, is_u64}
+use Rattle.journal_model.specs.scripts.Words.{Text, actor_word, line, spaced}
+use Rattle.journal_model.specs.reports.EntryText.{entry_line, kind_words}
+use Rattle.journal_model.specs.statements.Complete.{thread_numbers}
+use Rattle.journal_model.specs.rules.Legal.{state_of}
+use Rattle.journal_model.specs.reports.ReportText.{account_lines, maps_part, report, spaces_part, thread_results}
+use Rattle.journal_model.specs.scripts.ScriptRules.{is_script}
+use Rattle.journal_model.specs.scripts.Readable.{is_kind, is_readable, is_some_actor, is_u64}
 use Rattle.law_legal.specs.law_report.ReportLaw.{OneJournal}
 use Rattle.law_legal.proofs.law_report.Cuts.{both, joint, cut_at, cut_again, front_again, lacks}
 use Rattle.law_legal.proofs.law_report.Items.{above, above_append, above_lower, lacks_it}

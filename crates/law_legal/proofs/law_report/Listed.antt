@@ -9,11 +9,11 @@ use Rattle.journal_model.specs.declared.script.Script.{Script}
 use Rattle.journal_model.specs.declared.entry.CauseRow.{CauseRow}
 use Rattle.journal_model.specs.declared.entry.Cause.{Cause}
 use Rattle.journal_model.specs.declared.entry.Cause.TheVariants as cause
-use Rattle.journal_model.specs.Words.{Text, listed, name_of, span_word, spans_word}
-use Rattle.journal_model.specs.EntryText.{cause_word, cause_row_word}
-use Rattle.journal_model.specs.ScriptRules.{is_letter, is_letter_or_digit, is_name, is_script, same_text}
-use Rattle.journal_model.specs.CommandRules.{is_declared}
-use Rattle.journal_model.specs.Readable.{is_cause, is_cause_row, is_span, is_u32, is_u64}
+use Rattle.journal_model.specs.scripts.Words.{Text, listed, name_of, span_word, spans_word}
+use Rattle.journal_model.specs.reports.EntryText.{cause_word, cause_row_word}
+use Rattle.journal_model.specs.scripts.ScriptRules.{is_letter, is_letter_or_digit, is_name, is_script, same_text}
+use Rattle.journal_model.specs.scripts.CommandRules.{is_declared}
+use Rattle.journal_model.specs.scripts.Readable.{is_cause, is_cause_row, is_span, is_u32, is_u64}
 use Rattle.law_legal.proofs.law_report.Cuts.{both, joint, cut_at, cut_again, lacks}
 use Rattle.law_legal.proofs.law_report.Numbers.{digits_of, is_digit, number_again, read_on}
 use Rattle.std.proofs.lemmas.Fmt.{decimal_nonempty}

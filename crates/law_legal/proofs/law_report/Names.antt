@@ -6,12 +6,12 @@ use Rattle.std.proofs.lemmas.Bool.Decides.{nat_tests}
 use Rattle.ttm_base.specs.declared.BufId.{BufId}
 use Rattle.journal_model.specs.declared.script.Script.{Script}
 use Rattle.journal_model.specs.declared.script.Decl.{Decl}
-use Rattle.journal_model.specs.Words.{Text, name_of}
-use Rattle.journal_model.specs.Commands.{undeclared}
-use Rattle.journal_model.specs.ScriptRules.{has_distinct_names, has_sizes, is_decl, is_group, is_name, is_place_list, is_script, is_turn_line, same_text}
-use Rattle.journal_model.specs.CommandRules.{is_between, is_command, command_len}
-use Rattle.journal_model.specs.MarkRules.{have_marks}
-use Rattle.journal_model.specs.CommandRules.{is_declared}
+use Rattle.journal_model.specs.scripts.Words.{Text, name_of}
+use Rattle.journal_model.specs.rules.Commands.{undeclared}
+use Rattle.journal_model.specs.scripts.ScriptRules.{has_distinct_names, has_sizes, is_decl, is_group, is_name, is_place_list, is_script, is_turn_line, same_text}
+use Rattle.journal_model.specs.scripts.CommandRules.{is_between, is_command, command_len}
+use Rattle.journal_model.specs.scripts.MarkRules.{have_marks}
+use Rattle.journal_model.specs.scripts.CommandRules.{is_declared}
 use Rattle.law_legal.proofs.law_report.Cuts.{both, joint}
 
 -- a text is the same as itself

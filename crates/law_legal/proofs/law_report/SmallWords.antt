@@ -16,10 +16,10 @@ use Rattle.journal_model.specs.declared.entry.Left.{Left}
 use Rattle.journal_model.specs.declared.entry.Left.TheVariants as left
 use Rattle.journal_model.specs.declared.entry.Shown.{Shown}
 use Rattle.journal_model.specs.declared.entry.Shown.TheVariants as shown
-use Rattle.journal_model.specs.Words.{Text, hex, mem_word, actor_word, spans_word}
-use Rattle.journal_model.specs.EntryText.{deny_word, left_word, piece_words, shown_words, why_word}
-use Rattle.journal_model.specs.ScriptRules.{same_text}
-use Rattle.journal_model.specs.Readable.{are_bytes, is_left, is_shown, is_some_actor, is_u64}
+use Rattle.journal_model.specs.scripts.Words.{Text, hex, mem_word, actor_word, spans_word}
+use Rattle.journal_model.specs.reports.EntryText.{deny_word, left_word, piece_words, shown_words, why_word}
+use Rattle.journal_model.specs.scripts.ScriptRules.{same_text}
+use Rattle.journal_model.specs.scripts.Readable.{are_bytes, is_left, is_shown, is_some_actor, is_u64}
 use Rattle.law_legal.proofs.law_report.Cuts.{both, joint}
 use Rattle.law_legal.proofs.law_report.Numbers.{digits_of, is_digit, number_again, read_on}
 use Rattle.law_legal.proofs.law_report.Items.{above, above_lower, hex_above, hex_again, number_above, un_hex}

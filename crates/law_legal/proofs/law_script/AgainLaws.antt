@@ -6,9 +6,9 @@ use Rattle.std.specs.Char.{digit_char}
 use Rattle.std.proofs.lemmas.Slice.Eq.{bytes_eq-Decides}
 use Rattle.std.proofs.lemmas.Bool.Decides.{nat_tests}
 use Rattle.std.proofs.lemmas.List.Concat.{flat_map-cons}
-use Rattle.journal_model.specs.Words.{Text, hex, hex_byte}
-use Rattle.journal_model.specs.CommandRules.{is_byte}
-use Rattle.journal_model.specs.Reading.{offset_of, bytes_in_hex, is_hex, hex_value}
+use Rattle.journal_model.specs.scripts.Words.{Text, hex, hex_byte}
+use Rattle.journal_model.specs.scripts.CommandRules.{is_byte}
+use Rattle.journal_model.specs.scripts.Reading.{offset_of, bytes_in_hex, is_hex, hex_value}
 use Rattle.law_legal.proofs.law_script.NumberLaws.{number_again}
 use Rattle.law_legal.proofs.law_items.Tests.{not_true, either, both, differ}
 

@@ -4,7 +4,7 @@ use Rattle.std.specs.Prelude.{sum_by}
 use Rattle.std.specs.List.{list_all}
 use Rattle.std.proofs.lemmas.List.Sums.{sum_by-cons}
 use Rattle.journal_model.specs.declared.script.Script.{Script}
-use Rattle.journal_model.specs.CommandRules.{is_command, command_len}
+use Rattle.journal_model.specs.scripts.CommandRules.{is_command, command_len}
 use Rattle.law_legal.specs.law_items.Items.{Item, Alone, Asks, commands_in}
 use Rattle.law_legal.proofs.law_script.Sound.{is_asked, item_len}
 use Rattle.law_legal.proofs.law_items.Tests.{both, joint}

@@ -15,14 +15,14 @@ use Rattle.journal_model.specs.declared.line.Keyword.TheVariants as key
 use Rattle.journal_model.specs.declared.line.Line.TheVariants as line_of
 use Rattle.journal_model.specs.declared.line.BufferHead.{BufferHead}
 use Rattle.journal_model.specs.declared.line.PlaceWord.{PlaceWord}
-use Rattle.journal_model.specs.Words.{Text, line}
-use Rattle.journal_model.specs.Spelling.{buffer_line, group_word, place_word, flagged_word, words_of_places}
-use Rattle.journal_model.specs.CommandRules.{is_between}
-use Rattle.journal_model.specs.ScriptRules.{is_name, is_group, is_decl, is_place, is_flagged, is_place_list, is_old_list, is_new_list}
-use Rattle.journal_model.specs.Reading.{names_of, number_in, group_of, places_of}
-use Rattle.journal_model.specs.LineWords.{buffer_line_of, two_lists, list_of_version_two, buffer_head_of}
-use Rattle.journal_model.specs.LineRules.{has_wrong_name, is_broken_place, is_no_list, is_no_place, may_force}
-use Rattle.journal_model.specs.FirstFault.{with_buffer, place_in, wanted, taken_under_pressure}
+use Rattle.journal_model.specs.scripts.Words.{Text, line}
+use Rattle.journal_model.specs.scripts.Spelling.{buffer_line, group_word, place_word, flagged_word, words_of_places}
+use Rattle.journal_model.specs.scripts.CommandRules.{is_between}
+use Rattle.journal_model.specs.scripts.ScriptRules.{is_name, is_group, is_decl, is_place, is_flagged, is_place_list, is_old_list, is_new_list}
+use Rattle.journal_model.specs.scripts.Reading.{names_of, number_in, group_of, places_of}
+use Rattle.journal_model.specs.scripts.LineWords.{buffer_line_of, two_lists, list_of_version_two, buffer_head_of}
+use Rattle.journal_model.specs.scripts.LineRules.{has_wrong_name, is_broken_place, is_no_list, is_no_place, may_force}
+use Rattle.journal_model.specs.scripts.FirstFault.{with_buffer, place_in, wanted, taken_under_pressure}
 use Rattle.law_legal.proofs.law_script.NumberLaws.{number_again, between}
 use Rattle.law_legal.proofs.law_script.LineLaws.{made, Breaks_none}
 use Rattle.law_legal.proofs.law_script.HeadSteps.{at}

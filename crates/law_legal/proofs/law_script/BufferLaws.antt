@@ -7,14 +7,14 @@ use Rattle.ttm_base.specs.declared.Mem.{Mem}
 use Rattle.ttm_base.specs.declared.FlaggedPlace.{FlaggedPlace}
 use Rattle.journal_model.specs.declared.line.Flags.{Flags}
 use Rattle.journal_model.specs.declared.line.PlaceWord.{PlaceWord}
-use Rattle.journal_model.specs.Words.{Text}
-use Rattle.journal_model.specs.Cut.{cut_at}
-use Rattle.journal_model.specs.Spelling.{flag, place_word, words_of_places, placement_words}
+use Rattle.journal_model.specs.scripts.Words.{Text}
+use Rattle.journal_model.specs.scripts.Cut.{cut_at}
+use Rattle.journal_model.specs.scripts.Spelling.{flag, place_word, words_of_places, placement_words}
 use Rattle.ttm_base.specs.declared.Place.{Place}
 use Rattle.ttm_base.specs.Placement.{first_places, forced_places}
-use Rattle.journal_model.specs.Reading.{number_in, mem_of, last_flags_of, contig_flags_of, flags_of, flagged, ranged, is_system, reach_place, based_place, reach_of, at_place, plus_place, place_word_of, places_of}
-use Rattle.journal_model.specs.LineRules.{is_no_place, is_broken_place}
-use Rattle.journal_model.specs.FirstFault.{place_in, wanted, taken_under_pressure}
+use Rattle.journal_model.specs.scripts.Reading.{number_in, mem_of, last_flags_of, contig_flags_of, flags_of, flagged, ranged, is_system, reach_place, based_place, reach_of, at_place, plus_place, place_word_of, places_of}
+use Rattle.journal_model.specs.scripts.LineRules.{is_no_place, is_broken_place}
+use Rattle.journal_model.specs.scripts.FirstFault.{place_in, wanted, taken_under_pressure}
 use Rattle.law_legal.proofs.law_script.CutLaws.{joined}
 use Rattle.law_legal.proofs.law_script.PlaceLaws.{is, some_flags, flag_made, chosen, unless, place_takes}
 use Rattle.law_legal.proofs.law_script.HeadLaws.{good_place}

@@ -14,14 +14,14 @@ use Rattle.journal_model.specs.declared.line.Phase.TheVariants as phase
 use Rattle.journal_model.specs.declared.line.Line.{Line}
 use Rattle.journal_model.specs.declared.line.Line.TheVariants as says
 use Rattle.journal_model.specs.declared.line.BufferHead.{BufferHead}
-use Rattle.journal_model.specs.Words.{Text, line}
-use Rattle.journal_model.specs.Spelling.{buffer_line, turn_line, group_word, placement_words}
-use Rattle.journal_model.specs.CommandRules.{is_between}
-use Rattle.journal_model.specs.ScriptRules.{is_name, same_text, has_distinct_names, is_group, is_decl, is_place_list, is_turn_line}
-use Rattle.journal_model.specs.Reading.{names_of, number_in, group_of, places_of}
-use Rattle.journal_model.specs.LineWords.{buffer_line_of, lists_line, two_lists, list_of_version_two, has_head_words, buffer_head_of}
-use Rattle.journal_model.specs.LineRules.{lacks_number_in_head, has_wrong_name, is_broken_place, is_no_list, may_force}
-use Rattle.journal_model.specs.FirstFault.{or_zero, first_word, with_line, with_buffer, decl_of, place_in, wanted, taken_under_pressure}
+use Rattle.journal_model.specs.scripts.Words.{Text, line}
+use Rattle.journal_model.specs.scripts.Spelling.{buffer_line, turn_line, group_word, placement_words}
+use Rattle.journal_model.specs.scripts.CommandRules.{is_between}
+use Rattle.journal_model.specs.scripts.ScriptRules.{is_name, same_text, has_distinct_names, is_group, is_decl, is_place_list, is_turn_line}
+use Rattle.journal_model.specs.scripts.Reading.{names_of, number_in, group_of, places_of}
+use Rattle.journal_model.specs.scripts.LineWords.{buffer_line_of, lists_line, two_lists, list_of_version_two, has_head_words, buffer_head_of}
+use Rattle.journal_model.specs.scripts.LineRules.{lacks_number_in_head, has_wrong_name, is_broken_place, is_no_list, may_force}
+use Rattle.journal_model.specs.scripts.FirstFault.{or_zero, first_word, with_line, with_buffer, decl_of, place_in, wanted, taken_under_pressure}
 use Rattle.law_legal.proofs.law_script.NumberLaws.{is_in}
 use Rattle.law_legal.proofs.law_script.WordLaws.{bytes_are}
 use Rattle.law_legal.proofs.law_script.LineLaws.{made, Breaks_none}

@@ -22,16 +22,16 @@ use Rattle.journal_model.specs.declared.line.Verb.TheVariants as verb
 use Rattle.journal_model.specs.declared.line.Access.{Access}
 use Rattle.journal_model.specs.declared.line.Access.TheVariants as access
 use Rattle.journal_model.specs.declared.line.EngineWord.TheVariants as engine_as
-use Rattle.journal_model.specs.Words.{Text, line, name_of, hex, mem_word}
-use Rattle.journal_model.specs.State.{has_buffer}
-use Rattle.journal_model.specs.Commands.{named, first_mentions}
-use Rattle.journal_model.specs.MarkRules.{thread_mappings_at_end}
-use Rattle.journal_model.specs.Spelling.{op_words, parted, command_words}
-use Rattle.journal_model.specs.CommandRules.{is_between, is_declared, is_command, is_op, is_byte, is_range_of, command_len}
-use Rattle.journal_model.specs.Reading.{known, names_of, offset_of, bytes_in_hex}
-use Rattle.journal_model.specs.LineWords.{keyword_of, may_come, is_no_op, op_words_of, submit_of_ops}
-use Rattle.journal_model.specs.LineRules.{lacks_number_in_op, lacks_name_in_op, lacks_byte_in_op, names_one_twice, is_big_job, buffers_of_word, len_of_word, has_wrong_range, has_map_fault}
-use Rattle.journal_model.specs.FirstFault.{with_line, with_submit, plain_command, after_words}
+use Rattle.journal_model.specs.scripts.Words.{Text, line, name_of, hex, mem_word}
+use Rattle.journal_model.specs.rules.State.{has_buffer}
+use Rattle.journal_model.specs.rules.Commands.{named, first_mentions}
+use Rattle.journal_model.specs.scripts.MarkRules.{thread_mappings_at_end}
+use Rattle.journal_model.specs.scripts.Spelling.{op_words, parted, command_words}
+use Rattle.journal_model.specs.scripts.CommandRules.{is_between, is_declared, is_command, is_op, is_byte, is_range_of, command_len}
+use Rattle.journal_model.specs.scripts.Reading.{known, names_of, offset_of, bytes_in_hex}
+use Rattle.journal_model.specs.scripts.LineWords.{keyword_of, may_come, is_no_op, op_words_of, submit_of_ops}
+use Rattle.journal_model.specs.scripts.LineRules.{lacks_number_in_op, lacks_name_in_op, lacks_byte_in_op, names_one_twice, is_big_job, buffers_of_word, len_of_word, has_wrong_range, has_map_fault}
+use Rattle.journal_model.specs.scripts.FirstFault.{with_line, with_submit, plain_command, after_words}
 use Rattle.law_legal.proofs.law_script.NumberLaws.{number_again, between, is_in}
 use Rattle.law_legal.proofs.law_script.WordLaws.{verb_word, keyword_again, mem_again}
 use Rattle.law_legal.proofs.law_script.LineLaws.{made, Breaks_none}

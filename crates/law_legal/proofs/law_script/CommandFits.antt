@@ -10,13 +10,13 @@ use Rattle.ttm_base.specs.Cutting.{op_len}
 use Rattle.journal_model.specs.declared.script.Script.{Script}
 use Rattle.journal_model.specs.declared.line.OpWord.{OpWord}
 use Rattle.journal_model.specs.declared.line.OpWord.TheVariants as op_word
-use Rattle.journal_model.specs.Words.{Text}
-use Rattle.journal_model.specs.Commands.{buffers_of_op}
-use Rattle.journal_model.specs.CommandRules.{is_between, is_declared, is_range_of, is_op, is_byte}
-use Rattle.journal_model.specs.Reading.{known, names_of, number_in, offset_of, bytes_in_hex, byte_in_hex, is_hex, hex_value, is_plain, read_on}
-use Rattle.journal_model.specs.LineWords.{op_of}
-use Rattle.journal_model.specs.LineRules.{has_wrong_range, passes, passes_in_op, is_more_than, names_one_twice, same_known, buffers_of_word, len_of_word}
-use Rattle.journal_model.specs.FirstFault.{or_zero, or_first, op_in}
+use Rattle.journal_model.specs.scripts.Words.{Text}
+use Rattle.journal_model.specs.rules.Commands.{buffers_of_op}
+use Rattle.journal_model.specs.scripts.CommandRules.{is_between, is_declared, is_range_of, is_op, is_byte}
+use Rattle.journal_model.specs.scripts.Reading.{known, names_of, number_in, offset_of, bytes_in_hex, byte_in_hex, is_hex, hex_value, is_plain, read_on}
+use Rattle.journal_model.specs.scripts.LineWords.{op_of}
+use Rattle.journal_model.specs.scripts.LineRules.{has_wrong_range, passes, passes_in_op, is_more_than, names_one_twice, same_known, buffers_of_word, len_of_word}
+use Rattle.journal_model.specs.scripts.FirstFault.{or_zero, or_first, op_in}
 use Rattle.law_legal.proofs.law_script.NumberLaws.{between, is_in}
 use Rattle.law_legal.proofs.law_script.WordLaws.{known_is}
 use Rattle.law_legal.proofs.law_script.SubmitLaws.{IsGood, AreGood, first_good, others_good}

@@ -21,18 +21,18 @@ use Rattle.journal_model.specs.declared.line.Verb.TheVariants as verb
 use Rattle.journal_model.specs.declared.line.Access.{Access}
 use Rattle.journal_model.specs.declared.line.Access.TheVariants as access
 use Rattle.journal_model.specs.declared.line.OpWord.{OpWord}
-use Rattle.journal_model.specs.Words.{Text, line, name_of, mem_word, hex}
-use Rattle.journal_model.specs.Cut.{cut_by, is_semicolon}
-use Rattle.journal_model.specs.State.{has_buffer}
-use Rattle.journal_model.specs.Commands.{first_mentions, buffers_of_op}
-use Rattle.journal_model.specs.Spelling.{buffer_line, turn_line}
-use Rattle.journal_model.specs.CommandRules.{is_between, is_declared, is_command, is_byte, command_len}
-use Rattle.journal_model.specs.MarkRules.{ThreadMappings, thread_mappings_at_end}
-use Rattle.journal_model.specs.ScriptRules.{is_turn_line}
-use Rattle.journal_model.specs.Reading.{known, names_of, number_in, offset_of, bytes_in_hex, mem_of, engine_word_of, is_plain, read_on}
-use Rattle.journal_model.specs.LineWords.{plain_line, write_line, read_line, move_line, touch_line, op_of, is_no_op, op_words_of, submit_line}
-use Rattle.journal_model.specs.LineRules.{lacks_number_in_op, is_broken_engine, is_missing_engine, are_wrong_bytes, bytes_pass, has_wrong_range, is_more_than, passes_in_op, names_one_twice, is_big_job, buffers_of_word, len_of_word, has_mapped, has_map_fault}
-use Rattle.journal_model.specs.FirstFault.{or_zero, or_first, plain_command, first_word, with_line, with_command, with_mark, with_mark_line, with_submit, onto_last, op_in, engine_in}
+use Rattle.journal_model.specs.scripts.Words.{Text, line, name_of, mem_word, hex}
+use Rattle.journal_model.specs.scripts.Cut.{cut_by, is_semicolon}
+use Rattle.journal_model.specs.rules.State.{has_buffer}
+use Rattle.journal_model.specs.rules.Commands.{first_mentions, buffers_of_op}
+use Rattle.journal_model.specs.scripts.Spelling.{buffer_line, turn_line}
+use Rattle.journal_model.specs.scripts.CommandRules.{is_between, is_declared, is_command, is_byte, command_len}
+use Rattle.journal_model.specs.scripts.MarkRules.{ThreadMappings, thread_mappings_at_end}
+use Rattle.journal_model.specs.scripts.ScriptRules.{is_turn_line}
+use Rattle.journal_model.specs.scripts.Reading.{known, names_of, number_in, offset_of, bytes_in_hex, mem_of, engine_word_of, is_plain, read_on}
+use Rattle.journal_model.specs.scripts.LineWords.{plain_line, write_line, read_line, move_line, touch_line, op_of, is_no_op, op_words_of, submit_line}
+use Rattle.journal_model.specs.scripts.LineRules.{lacks_number_in_op, is_broken_engine, is_missing_engine, are_wrong_bytes, bytes_pass, has_wrong_range, is_more_than, passes_in_op, names_one_twice, is_big_job, buffers_of_word, len_of_word, has_mapped, has_map_fault}
+use Rattle.journal_model.specs.scripts.FirstFault.{or_zero, or_first, plain_command, first_word, with_line, with_command, with_mark, with_mark_line, with_submit, onto_last, op_in, engine_in}
 use Rattle.law_legal.proofs.law_script.NumberLaws.{between, is_in}
 use Rattle.law_legal.proofs.law_script.CutLaws.{cut_some}
 use Rattle.law_legal.proofs.law_script.WordLaws.{verb_word, mem_is, IsMemOf}

@@ -4,8 +4,8 @@ use Rattle.std.specs.Prelude.{not}
 use Rattle.std.specs.List.{join_with_byte, list_any, list_all}
 use Rattle.std.proofs.lemmas.Bool.{eqb-true}
 use Rattle.std.proofs.lemmas.Bool.Decides.{nat_tests}
-use Rattle.journal_model.specs.Words.{Text}
-use Rattle.journal_model.specs.Cut.{onto, cut_by, cut_at}
+use Rattle.journal_model.specs.scripts.Words.{Text}
+use Rattle.journal_model.specs.scripts.Cut.{onto, cut_by, cut_at}
 use Rattle.law_legal.proofs.law_items.Tests.{not_true, either, both}
 
 onto_some : {X : Type 0} (x : X) (parts : List (List X)) → 0 < length (onto x parts)

@@ -8,9 +8,9 @@ use Rattle.journal_model.specs.declared.script.Script.{Script}
 use Rattle.journal_model.specs.declared.script.Command.{Command}
 use Rattle.journal_model.specs.declared.script.MarkKind.{MarkKind}
 use Rattle.journal_model.specs.declared.script.MarkKind.TheVariants as mark
-use Rattle.journal_model.specs.State.{has_buffer, same_buffer}
-use Rattle.journal_model.specs.CommandRules.{is_declared}
-use Rattle.journal_model.specs.MarkRules.{ThreadMappings, thread_mappings_after, is_mark, is_way}
+use Rattle.journal_model.specs.rules.State.{has_buffer, same_buffer}
+use Rattle.journal_model.specs.scripts.CommandRules.{is_declared}
+use Rattle.journal_model.specs.scripts.MarkRules.{ThreadMappings, thread_mappings_after, is_mark, is_way}
 use Rattle.law_legal.specs.law_items.Items.{Item, Alone, Asks, thread_mappings_behind, item_fits}
 use Rattle.law_legal.proofs.law_items.Tests.{both, joint}
 

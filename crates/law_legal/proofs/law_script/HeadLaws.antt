@@ -10,13 +10,13 @@ use Rattle.journal_model.specs.declared.line.ActorWord.{ActorWord}
 use Rattle.journal_model.specs.declared.line.ActorWord.TheVariants as read_as
 use Rattle.journal_model.specs.declared.line.PlaceWord.{PlaceWord}
 use Rattle.journal_model.specs.declared.line.PlaceWord.TheVariants as place_word
-use Rattle.journal_model.specs.Words.{Text, actor_word}
-use Rattle.journal_model.specs.Cut.{cut_at}
-use Rattle.journal_model.specs.CommandRules.{is_between}
-use Rattle.journal_model.specs.Spelling.{flagged_word, words_of_places}
-use Rattle.journal_model.specs.Reading.{is_plain, has_no_leading_zero, is_digit, read_on, actor_of, thread_actor, engine_actor, place_word_of, places_of}
-use Rattle.journal_model.specs.LineRules.{is_no_place, is_broken_place}
-use Rattle.journal_model.specs.FirstFault.{place_in}
+use Rattle.journal_model.specs.scripts.Words.{Text, actor_word}
+use Rattle.journal_model.specs.scripts.Cut.{cut_at}
+use Rattle.journal_model.specs.scripts.CommandRules.{is_between}
+use Rattle.journal_model.specs.scripts.Spelling.{flagged_word, words_of_places}
+use Rattle.journal_model.specs.scripts.Reading.{is_plain, has_no_leading_zero, is_digit, read_on, actor_of, thread_actor, engine_actor, place_word_of, places_of}
+use Rattle.journal_model.specs.scripts.LineRules.{is_no_place, is_broken_place}
+use Rattle.journal_model.specs.scripts.FirstFault.{place_in}
 use Rattle.law_legal.proofs.law_script.CutLaws.{joined}
 use Rattle.law_legal.proofs.law_script.NumberLaws.{own, lead, between}
 use Rattle.law_legal.proofs.law_script.LineLaws.{made}

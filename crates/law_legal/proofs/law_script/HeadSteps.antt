@@ -11,13 +11,13 @@ use Rattle.journal_model.specs.declared.line.Phase.{Phase}
 use Rattle.journal_model.specs.declared.line.Phase.TheVariants as phase
 use Rattle.journal_model.specs.declared.line.Line.{Line}
 use Rattle.journal_model.specs.declared.line.Line.TheVariants as says
-use Rattle.journal_model.specs.Words.{Text, line}
-use Rattle.journal_model.specs.Spelling.{buffer_line, turn_line}
-use Rattle.journal_model.specs.ScriptRules.{has_sizes, is_decl, is_turn_line}
-use Rattle.journal_model.specs.CommandRules.{is_between}
-use Rattle.journal_model.specs.Reading.{number_in}
-use Rattle.journal_model.specs.LineWords.{size_line, version_line, vram_line}
-use Rattle.journal_model.specs.FirstFault.{or_zero, first_word, with_line, with_sizes}
+use Rattle.journal_model.specs.scripts.Words.{Text, line}
+use Rattle.journal_model.specs.scripts.Spelling.{buffer_line, turn_line}
+use Rattle.journal_model.specs.scripts.ScriptRules.{has_sizes, is_decl, is_turn_line}
+use Rattle.journal_model.specs.scripts.CommandRules.{is_between}
+use Rattle.journal_model.specs.scripts.Reading.{number_in}
+use Rattle.journal_model.specs.scripts.LineWords.{size_line, version_line, vram_line}
+use Rattle.journal_model.specs.scripts.FirstFault.{or_zero, first_word, with_line, with_sizes}
 use Rattle.law_legal.proofs.law_script.NumberLaws.{number_takes}
 use Rattle.law_legal.proofs.law_script.WordLaws.{bytes_are}
 use Rattle.law_legal.proofs.law_script.LineLaws.{made, Breaks_none}

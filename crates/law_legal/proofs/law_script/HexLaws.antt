@@ -4,8 +4,8 @@ use Rattle.std.specs.Prelude.{◌&&◌, ◌/◌, ◌%◌, option_map}
 use Rattle.std.specs.Char.{digit_char}
 use Rattle.std.proofs.lemmas.Bool.Decides.{nat_tests}
 use Rattle.std.proofs.lemmas.List.Concat.{flat_map-cons}
-use Rattle.journal_model.specs.Words.{Text, hex, hex_byte}
-use Rattle.journal_model.specs.Reading.{is_hex, hex_value, bytes_in_hex}
+use Rattle.journal_model.specs.scripts.Words.{Text, hex, hex_byte}
+use Rattle.journal_model.specs.scripts.Reading.{is_hex, hex_value, bytes_in_hex}
 
 low_digit : (c : ℕ) → is_hex c ≡ true → (digit_char (hex_value c) ≡ c) × (hex_value c < 16)
 low_digit c h = (grind (arith, nat_tests, h), grind (arith, nat_tests, h))

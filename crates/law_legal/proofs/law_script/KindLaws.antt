@@ -7,13 +7,13 @@ use Rattle.journal_model.specs.declared.line.Line.TheVariants as line
 use Rattle.journal_model.specs.declared.line.ActorWord.{ActorWord}
 use Rattle.journal_model.specs.declared.line.ActorWord.TheVariants as read_as
 use Rattle.journal_model.specs.declared.line.EngineWord.TheVariants as engine_as
-use Rattle.journal_model.specs.Words.{Text, actor_word}
-use Rattle.journal_model.specs.CommandRules.{is_between}
-use Rattle.journal_model.specs.Spelling.{group_word}
-use Rattle.journal_model.specs.Reading.{number_in, group_of, is_plain, read_on, actor_of, engine_word_of}
-use Rattle.journal_model.specs.LineWords.{version_line, is_no_actor}
-use Rattle.journal_model.specs.LineRules.{is_broken_actor, is_missing_actor, is_broken_engine, is_missing_engine}
-use Rattle.journal_model.specs.FirstFault.{or_zero, first_word, actor_in, engine_in}
+use Rattle.journal_model.specs.scripts.Words.{Text, actor_word}
+use Rattle.journal_model.specs.scripts.CommandRules.{is_between}
+use Rattle.journal_model.specs.scripts.Spelling.{group_word}
+use Rattle.journal_model.specs.scripts.Reading.{number_in, group_of, is_plain, read_on, actor_of, engine_word_of}
+use Rattle.journal_model.specs.scripts.LineWords.{version_line, is_no_actor}
+use Rattle.journal_model.specs.scripts.LineRules.{is_broken_actor, is_missing_actor, is_broken_engine, is_missing_engine}
+use Rattle.journal_model.specs.scripts.FirstFault.{or_zero, first_word, actor_in, engine_in}
 use Rattle.law_legal.proofs.law_script.NumberLaws.{between}
 use Rattle.law_legal.proofs.law_script.WordLaws.{bytes_are}
 use Rattle.law_legal.proofs.law_script.LineLaws.{made, number_word}

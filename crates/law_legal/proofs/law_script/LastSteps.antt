@@ -15,14 +15,14 @@ use Rattle.journal_model.specs.declared.line.Line.{Line}
 use Rattle.journal_model.specs.declared.line.Line.TheVariants as says
 use Rattle.journal_model.specs.declared.line.ActorWord.{ActorWord}
 use Rattle.journal_model.specs.declared.line.ActorWord.TheVariants as read_as
-use Rattle.journal_model.specs.Words.{Text, line, actor_word}
-use Rattle.journal_model.specs.Spelling.{buffer_line, turn_line}
-use Rattle.journal_model.specs.CommandRules.{is_between}
-use Rattle.journal_model.specs.ScriptRules.{is_actor, is_turn_line}
-use Rattle.journal_model.specs.Reading.{is_plain, read_on, actor_of, thread_actor, engine_actor}
-use Rattle.journal_model.specs.LineWords.{alone, turn_line_of, is_no_actor}
-use Rattle.journal_model.specs.LineRules.{is_broken_actor, is_missing_actor}
-use Rattle.journal_model.specs.FirstFault.{first_word, with_line, actor_in}
+use Rattle.journal_model.specs.scripts.Words.{Text, line, actor_word}
+use Rattle.journal_model.specs.scripts.Spelling.{buffer_line, turn_line}
+use Rattle.journal_model.specs.scripts.CommandRules.{is_between}
+use Rattle.journal_model.specs.scripts.ScriptRules.{is_actor, is_turn_line}
+use Rattle.journal_model.specs.scripts.Reading.{is_plain, read_on, actor_of, thread_actor, engine_actor}
+use Rattle.journal_model.specs.scripts.LineWords.{alone, turn_line_of, is_no_actor}
+use Rattle.journal_model.specs.scripts.LineRules.{is_broken_actor, is_missing_actor}
+use Rattle.journal_model.specs.scripts.FirstFault.{first_word, with_line, actor_in}
 use Rattle.law_legal.proofs.law_script.NumberLaws.{between}
 use Rattle.law_legal.proofs.law_script.LineLaws.{made, Breaks_none}
 use Rattle.law_legal.proofs.law_script.HeadLaws.{an_actor, numbered}

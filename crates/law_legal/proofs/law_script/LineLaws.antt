@@ -7,12 +7,12 @@ use Rattle.journal_model.specs.declared.line.Progress.{Progress}
 use Rattle.journal_model.specs.declared.line.Line.{Line}
 use Rattle.journal_model.specs.declared.line.Verb.{Verb}
 use Rattle.journal_model.specs.declared.line.Verb.TheVariants as verb
-use Rattle.journal_model.specs.Words.{Text, name_of}
-use Rattle.journal_model.specs.Spelling.{command_words}
-use Rattle.journal_model.specs.Reading.{known, names_of, number_in, offset_of}
-use Rattle.journal_model.specs.LineRules.{lacks_number, lacks_name, lacks_place, has_range_fault, has_byte_fault, has_job_fault, lacks_actor, is_one_too_many, is_too_long, has_map_fault, lacks_page, rule_broken}
-use Rattle.journal_model.specs.MarkRules.{thread_mappings_at_end}
-use Rattle.journal_model.specs.FirstFault.{or_zero, or_first, plain_command}
+use Rattle.journal_model.specs.scripts.Words.{Text, name_of}
+use Rattle.journal_model.specs.scripts.Spelling.{command_words}
+use Rattle.journal_model.specs.scripts.Reading.{known, names_of, number_in, offset_of}
+use Rattle.journal_model.specs.scripts.LineRules.{lacks_number, lacks_name, lacks_place, has_range_fault, has_byte_fault, has_job_fault, lacks_actor, is_one_too_many, is_too_long, has_map_fault, lacks_page, rule_broken}
+use Rattle.journal_model.specs.scripts.MarkRules.{thread_mappings_at_end}
+use Rattle.journal_model.specs.scripts.FirstFault.{or_zero, or_first, plain_command}
 use Rattle.law_legal.proofs.law_script.NumberLaws.{number_takes}
 use Rattle.law_legal.proofs.law_script.WordLaws.{known_is, verb_word}
 

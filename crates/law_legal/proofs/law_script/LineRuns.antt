@@ -7,12 +7,12 @@ use Rattle.journal_model.specs.declared.script.Script.{Script}
 use Rattle.journal_model.specs.declared.line.Progress.{Progress}
 use Rattle.journal_model.specs.declared.line.Keyword.{Keyword}
 use Rattle.journal_model.specs.declared.line.Line.{Line}
-use Rattle.journal_model.specs.Words.{Text, spaced, line}
-use Rattle.journal_model.specs.Cut.{onto, cut_at, lines_of}
-use Rattle.journal_model.specs.LineWords.{keyword_of, may_come, parts_of, line_of}
-use Rattle.journal_model.specs.LineRules.{rule_broken, lacks_number, lacks_name, lacks_place, has_range_fault, has_byte_fault, has_job_fault, lacks_actor, is_one_too_many, is_too_long, has_map_fault, lacks_page}
-use Rattle.journal_model.specs.MarkRules.{thread_mappings_at_end}
-use Rattle.journal_model.specs.FirstFault.{first_word, with_line, unless_broken, fault_of_parts, after_words, after_line, breaks_text, ends_line, is_line_feed, is_shown, without_end, script_from}
+use Rattle.journal_model.specs.scripts.Words.{Text, spaced, line}
+use Rattle.journal_model.specs.scripts.Cut.{onto, cut_at, lines_of}
+use Rattle.journal_model.specs.scripts.LineWords.{keyword_of, may_come, parts_of, line_of}
+use Rattle.journal_model.specs.scripts.LineRules.{rule_broken, lacks_number, lacks_name, lacks_place, has_range_fault, has_byte_fault, has_job_fault, lacks_actor, is_one_too_many, is_too_long, has_map_fault, lacks_page}
+use Rattle.journal_model.specs.scripts.MarkRules.{thread_mappings_at_end}
+use Rattle.journal_model.specs.scripts.FirstFault.{first_word, with_line, unless_broken, fault_of_parts, after_words, after_line, breaks_text, ends_line, is_line_feed, is_shown, without_end, script_from}
 use Rattle.law_legal.proofs.law_script.CutLaws.{cut_again}
 use Rattle.law_legal.proofs.law_script.LineLaws.{made, Breaks_none}
 use Rattle.law_legal.proofs.law_script.Solid.{is_word, words_lack, none_empty, spaced_shown}

@@ -13,12 +13,12 @@ use Rattle.ttm_base.specs.declared.FlaggedPlace.{FlaggedPlace}
 use Rattle.journal_model.specs.declared.line.Flags.{Flags}
 use Rattle.journal_model.specs.declared.line.PlaceWord.{PlaceWord}
 use Rattle.journal_model.specs.declared.line.PlaceWord.TheVariants as read_as
-use Rattle.journal_model.specs.Words.{Text, mem_word}
-use Rattle.journal_model.specs.Cut.{cut_at}
-use Rattle.journal_model.specs.Spelling.{flag, reach_word, place_word, flagged_word, words_of_places}
-use Rattle.journal_model.specs.ScriptRules.{is_letter_or_digit, is_place_of, is_place, is_flagged}
-use Rattle.journal_model.specs.Reading.{number_in, flags_of, flagged, ranged, is_system, is_digit, reach_place, based_place, at_place, plus_place, place_word_of, places_of}
-use Rattle.journal_model.specs.LineWords.{is_empty}
+use Rattle.journal_model.specs.scripts.Words.{Text, mem_word}
+use Rattle.journal_model.specs.scripts.Cut.{cut_at}
+use Rattle.journal_model.specs.scripts.Spelling.{flag, reach_word, place_word, flagged_word, words_of_places}
+use Rattle.journal_model.specs.scripts.ScriptRules.{is_letter_or_digit, is_place_of, is_place, is_flagged}
+use Rattle.journal_model.specs.scripts.Reading.{number_in, flags_of, flagged, ranged, is_system, is_digit, reach_place, based_place, at_place, plus_place, place_word_of, places_of}
+use Rattle.journal_model.specs.scripts.LineWords.{is_empty}
 use Rattle.law_legal.proofs.law_script.CutLaws.{lacks, cut_free, cut_append, cut_again}
 use Rattle.law_legal.proofs.law_script.NumberLaws.{own, number_again}
 use Rattle.law_legal.proofs.law_script.WordLaws.{mem_again}

@@ -12,18 +12,18 @@ use Rattle.journal_model.specs.declared.script.MarkKind.TheVariants as mark
 use Rattle.journal_model.specs.declared.line.Phase.TheVariants as phase
 use Rattle.journal_model.specs.declared.line.Line.{Line}
 use Rattle.journal_model.specs.declared.line.Line.TheVariants as says
-use Rattle.journal_model.specs.Words.{Text, line, name_of}
-use Rattle.journal_model.specs.Cut.{cut_by, is_semicolon}
-use Rattle.journal_model.specs.State.{has_buffer}
-use Rattle.journal_model.specs.Commands.{decl, first_mentions, buffers_of_op}
-use Rattle.journal_model.specs.CommandRules.{is_between, is_declared, is_command}
-use Rattle.journal_model.specs.ByName.{job_by_name}
-use Rattle.journal_model.specs.MarkRules.{ThreadMappings, thread_mappings_at_end, is_vop, has_apart_ranges, is_job_of, is_page_range, is_vsubmit}
-use Rattle.journal_model.specs.ScriptRules.{is_decl}
-use Rattle.journal_model.specs.Reading.{known, names_of, number_in, engine_word_of}
-use Rattle.journal_model.specs.LineWords.{named_line, vmap_line, vunmap_line, is_no_vop, vop_of, vop_words_of, vsubmit_line}
-use Rattle.journal_model.specs.LineRules.{is_broken_engine, is_missing_engine, lacks_number_in_vop, passes_end, passes_pages, passes_in_vop, has_buffer_twice, has_mapped, vop_in, named_job, is_big_named_job, len_of_vop_word}
-use Rattle.journal_model.specs.FirstFault.{or_zero, or_first, first_word, with_mark, with_submit, engine_in, named_ops}
+use Rattle.journal_model.specs.scripts.Words.{Text, line, name_of}
+use Rattle.journal_model.specs.scripts.Cut.{cut_by, is_semicolon}
+use Rattle.journal_model.specs.rules.State.{has_buffer}
+use Rattle.journal_model.specs.rules.Commands.{decl, first_mentions, buffers_of_op}
+use Rattle.journal_model.specs.scripts.CommandRules.{is_between, is_declared, is_command}
+use Rattle.journal_model.specs.marks.ByName.{job_by_name}
+use Rattle.journal_model.specs.scripts.MarkRules.{ThreadMappings, thread_mappings_at_end, is_vop, has_apart_ranges, is_job_of, is_page_range, is_vsubmit}
+use Rattle.journal_model.specs.scripts.ScriptRules.{is_decl}
+use Rattle.journal_model.specs.scripts.Reading.{known, names_of, number_in, engine_word_of}
+use Rattle.journal_model.specs.scripts.LineWords.{named_line, vmap_line, vunmap_line, is_no_vop, vop_of, vop_words_of, vsubmit_line}
+use Rattle.journal_model.specs.scripts.LineRules.{is_broken_engine, is_missing_engine, lacks_number_in_vop, passes_end, passes_pages, passes_in_vop, has_buffer_twice, has_mapped, vop_in, named_job, is_big_named_job, len_of_vop_word}
+use Rattle.journal_model.specs.scripts.FirstFault.{or_zero, or_first, first_word, with_mark, with_submit, engine_in, named_ops}
 use Rattle.law_legal.specs.law_items.Items.{Alone, Asks}
 use Rattle.law_legal.proofs.law_items.ListFacts.{length_map}
 use Rattle.law_legal.proofs.law_script.NumberLaws.{is_in}

@@ -18,17 +18,17 @@ use Rattle.journal_model.specs.declared.line.Keyword.TheVariants as key
 use Rattle.journal_model.specs.declared.line.Line.TheVariants as line_of
 use Rattle.journal_model.specs.declared.line.Access.TheVariants as access
 use Rattle.journal_model.specs.declared.line.EngineWord.TheVariants as engine_as
-use Rattle.journal_model.specs.Words.{line, name_of}
-use Rattle.journal_model.specs.State.{has_buffer}
-use Rattle.journal_model.specs.Commands.{decl, named, first_mentions, buffers_of_op}
-use Rattle.journal_model.specs.Spelling.{vop_words, parted, addressed_words, mark_line}
-use Rattle.journal_model.specs.ByName.{job_by_name}
-use Rattle.journal_model.specs.CommandRules.{is_between, is_declared, is_command, is_op}
-use Rattle.journal_model.specs.MarkRules.{thread_mappings_at_end, is_vop, has_apart_ranges, is_job_of, is_page_range, is_mark, is_way, is_vsubmit}
-use Rattle.journal_model.specs.Reading.{known, names_of, number_in}
-use Rattle.journal_model.specs.LineWords.{is_no_vop, vop_words_of, vsubmit_of_ops}
-use Rattle.journal_model.specs.LineRules.{lacks_number_in_vop, lacks_byte_in_vop, has_buffer_twice, is_big_named_job, named_job, len_of_vop_word}
-use Rattle.journal_model.specs.FirstFault.{with_mark, with_mark_line, with_submit}
+use Rattle.journal_model.specs.scripts.Words.{line, name_of}
+use Rattle.journal_model.specs.rules.State.{has_buffer}
+use Rattle.journal_model.specs.rules.Commands.{decl, named, first_mentions, buffers_of_op}
+use Rattle.journal_model.specs.scripts.Spelling.{vop_words, parted, addressed_words, mark_line}
+use Rattle.journal_model.specs.marks.ByName.{job_by_name}
+use Rattle.journal_model.specs.scripts.CommandRules.{is_between, is_declared, is_command, is_op}
+use Rattle.journal_model.specs.scripts.MarkRules.{thread_mappings_at_end, is_vop, has_apart_ranges, is_job_of, is_page_range, is_mark, is_way, is_vsubmit}
+use Rattle.journal_model.specs.scripts.Reading.{known, names_of, number_in}
+use Rattle.journal_model.specs.scripts.LineWords.{is_no_vop, vop_words_of, vsubmit_of_ops}
+use Rattle.journal_model.specs.scripts.LineRules.{lacks_number_in_vop, lacks_byte_in_vop, has_buffer_twice, is_big_named_job, named_job, len_of_vop_word}
+use Rattle.journal_model.specs.scripts.FirstFault.{with_mark, with_mark_line, with_submit}
 use Rattle.law_legal.specs.law_items.Items.{Item, Alone, Asks, item_text, item_fits}
 use Rattle.law_legal.proofs.law_script.NumberLaws.{number_again, between}
 use Rattle.law_legal.proofs.law_script.LineLaws.{made, Breaks_none}

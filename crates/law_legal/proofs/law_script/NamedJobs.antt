@@ -18,13 +18,13 @@ use Rattle.journal_model.specs.declared.script.MarkKind.{MarkKind}
 use Rattle.journal_model.specs.declared.script.MarkKind.TheVariants as mark
 use Rattle.journal_model.specs.declared.space.VOp.{VOp}
 use Rattle.journal_model.specs.declared.space.VOp.TheVariants as vop
-use Rattle.journal_model.specs.State.{has_buffer}
-use Rattle.journal_model.specs.Commands.{decl, undeclared}
-use Rattle.journal_model.specs.Spaces.{Region, range_of, does_meet, part_before, part_after, part_of, parts_left, new_region, regions_after}
-use Rattle.journal_model.specs.ByName.{Spot, spot_in, spot_at, vop_len, first_address, second_address, op_by_name, ops_from, op_in_names, joined, job_by_name, has_byte_of, buffers_between}
-use Rattle.journal_model.specs.CommandRules.{is_between, is_declared, is_range_of, is_op, is_byte}
-use Rattle.journal_model.specs.MarkRules.{ThreadMappings, thread_mappings_after, is_addressed, is_vop, are_apart, has_apart_ranges, is_page_range, is_mark, same_op, same_ops}
-use Rattle.journal_model.specs.ScriptRules.{is_decl, is_name}
+use Rattle.journal_model.specs.rules.State.{has_buffer}
+use Rattle.journal_model.specs.rules.Commands.{decl, undeclared}
+use Rattle.journal_model.specs.marks.Spaces.{Region, range_of, does_meet, part_before, part_after, part_of, parts_left, new_region, regions_after}
+use Rattle.journal_model.specs.marks.ByName.{Spot, spot_in, spot_at, vop_len, first_address, second_address, op_by_name, ops_from, op_in_names, joined, job_by_name, has_byte_of, buffers_between}
+use Rattle.journal_model.specs.scripts.CommandRules.{is_between, is_declared, is_range_of, is_op, is_byte}
+use Rattle.journal_model.specs.scripts.MarkRules.{ThreadMappings, thread_mappings_after, is_addressed, is_vop, are_apart, has_apart_ranges, is_page_range, is_mark, same_op, same_ops}
+use Rattle.journal_model.specs.scripts.ScriptRules.{is_decl, is_name}
 use Rattle.law_legal.proofs.law_script.NumberLaws.{between, is_in}
 use Rattle.law_legal.proofs.law_items.Tests.{both, joint, three, three_facts, four, four_facts, le_is, is_le}
 

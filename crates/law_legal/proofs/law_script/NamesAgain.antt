@@ -11,13 +11,13 @@ use Rattle.journal_model.specs.declared.script.Script.{Script}
 use Rattle.journal_model.specs.declared.script.Decl.{Decl}
 use Rattle.journal_model.specs.declared.line.EngineWord.TheVariants as engine_as
 use Rattle.journal_model.specs.declared.line.ActorWord.TheVariants as read_as
-use Rattle.journal_model.specs.Words.{Text, name_of, actor_word}
-use Rattle.journal_model.specs.Commands.{undeclared}
-use Rattle.journal_model.specs.Spelling.{group_word}
-use Rattle.journal_model.specs.CommandRules.{is_between, is_declared}
-use Rattle.journal_model.specs.ScriptRules.{is_name, same_text, has_distinct_names, is_decl, is_group, is_actor}
-use Rattle.journal_model.specs.Reading.{known, names_of, number_in, group_of, engine_word_of, actor_of, thread_actor, engine_actor, is_plain, is_digit, read_on}
-use Rattle.journal_model.specs.LineWords.{is_empty}
+use Rattle.journal_model.specs.scripts.Words.{Text, name_of, actor_word}
+use Rattle.journal_model.specs.rules.Commands.{undeclared}
+use Rattle.journal_model.specs.scripts.Spelling.{group_word}
+use Rattle.journal_model.specs.scripts.CommandRules.{is_between, is_declared}
+use Rattle.journal_model.specs.scripts.ScriptRules.{is_name, same_text, has_distinct_names, is_decl, is_group, is_actor}
+use Rattle.journal_model.specs.scripts.Reading.{known, names_of, number_in, group_of, engine_word_of, actor_of, thread_actor, engine_actor, is_plain, is_digit, read_on}
+use Rattle.journal_model.specs.scripts.LineWords.{is_empty}
 use Rattle.law_legal.proofs.law_script.NumberLaws.{own, number_again, between}
 use Rattle.law_legal.proofs.law_script.WordLaws.{bytes_are}
 use Rattle.law_legal.proofs.law_script.AgainLaws.{distinct, place_of_name}

@@ -7,9 +7,9 @@ use Rattle.std.specs.Fmt.{digits}
 use Rattle.std.proofs.lemmas.Bool.Decides.{nat_tests}
 use Rattle.std.proofs.lemmas.Str.Parse.{IsNumeralModel, numerals_by_fold}
 use Rattle.std.proofs.lemmas.Fmt.{decimal-digits_value, digits_decimal, digits_value-decimal, decimal_nonempty, first_decimal}
-use Rattle.journal_model.specs.Words.{Text}
-use Rattle.journal_model.specs.Reading.{is_digit, is_plain, has_no_leading_zero, read_on, number_in}
-use Rattle.journal_model.specs.CommandRules.{is_between}
+use Rattle.journal_model.specs.scripts.Words.{Text}
+use Rattle.journal_model.specs.scripts.Reading.{is_digit, is_plain, has_no_leading_zero, read_on, number_in}
+use Rattle.journal_model.specs.scripts.CommandRules.{is_between}
 use Rattle.law_legal.proofs.law_items.Tests.{both}
 
 -- reading digits is a model of decimals

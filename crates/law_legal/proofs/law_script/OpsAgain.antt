@@ -14,15 +14,15 @@ use Rattle.ttm_base.specs.Cutting.{op_len}
 use Rattle.journal_model.specs.declared.script.Script.{Script}
 use Rattle.journal_model.specs.declared.line.OpWord.{OpWord}
 use Rattle.journal_model.specs.declared.line.OpWord.TheVariants as op_word
-use Rattle.journal_model.specs.Words.{Text, name_of, hex_byte}
-use Rattle.journal_model.specs.Cut.{cut_by, is_semicolon}
-use Rattle.journal_model.specs.Commands.{decl, buffers_of_op}
-use Rattle.journal_model.specs.Spelling.{op_words, parted}
-use Rattle.journal_model.specs.CommandRules.{is_between, is_declared, is_range_of, is_op, is_byte}
-use Rattle.journal_model.specs.Reading.{known, names_of, offset_of, byte_in_hex, is_hex, hex_value}
-use Rattle.journal_model.specs.LineWords.{op_of, op_words_of}
-use Rattle.journal_model.specs.LineRules.{buffers_of_word, len_of_word, has_wrong_range, passes, passes_in_op, names_one_twice}
-use Rattle.journal_model.specs.FirstFault.{op_in}
+use Rattle.journal_model.specs.scripts.Words.{Text, name_of, hex_byte}
+use Rattle.journal_model.specs.scripts.Cut.{cut_by, is_semicolon}
+use Rattle.journal_model.specs.rules.Commands.{decl, buffers_of_op}
+use Rattle.journal_model.specs.scripts.Spelling.{op_words, parted}
+use Rattle.journal_model.specs.scripts.CommandRules.{is_between, is_declared, is_range_of, is_op, is_byte}
+use Rattle.journal_model.specs.scripts.Reading.{known, names_of, offset_of, byte_in_hex, is_hex, hex_value}
+use Rattle.journal_model.specs.scripts.LineWords.{op_of, op_words_of}
+use Rattle.journal_model.specs.scripts.LineRules.{buffers_of_word, len_of_word, has_wrong_range, passes, passes_in_op, names_one_twice}
+use Rattle.journal_model.specs.scripts.FirstFault.{op_in}
 use Rattle.law_legal.proofs.law_script.CutLaws.{cut_free, cut_append}
 use Rattle.law_legal.proofs.law_script.NumberLaws.{between}
 use Rattle.law_legal.proofs.law_script.AgainLaws.{offset_again, digit_again}

@@ -23,12 +23,12 @@ use Rattle.journal_model.specs.declared.line.OpWord.TheVariants as op_word
 use Rattle.journal_model.specs.declared.line.VOpWord.{VOpWord}
 use Rattle.journal_model.specs.declared.line.VOpWord.TheVariants as vop_word
 use Rattle.journal_model.specs.declared.line.Access.{Access}
-use Rattle.journal_model.specs.Words.{Text}
-use Rattle.journal_model.specs.CommandRules.{is_between}
-use Rattle.journal_model.specs.Reading.{known, mem_of, names_of, actor_of, engine_word_of}
-use Rattle.journal_model.specs.LineWords.{keyword_of, version_line, vram_line, size_line, has_head_words, buffer_head_of, lists_line, buffer_line_of, alone, is_no_actor, turn_line_of, plain_line, write_line, read_line, move_line, touch_line, is_no_op, op_words_of, submit_line, named_line, vmap_line, vunmap_line, is_no_vop, vop_words_of, vsubmit_line, parts_of, is_empty, line_of}
-use Rattle.journal_model.specs.LineRules.{is_broken_place, is_no_place, is_no_list, may_force, is_broken_actor, is_missing_actor, is_broken_engine, is_missing_engine, lacks_number_in_head, lacks_number_in_op, lacks_name_in_op, lacks_byte_in_op, lacks_number_in_vop, lacks_byte_in_vop, are_wrong_bytes}
-use Rattle.journal_model.specs.FirstFault.{first_word}
+use Rattle.journal_model.specs.scripts.Words.{Text}
+use Rattle.journal_model.specs.scripts.CommandRules.{is_between}
+use Rattle.journal_model.specs.scripts.Reading.{known, mem_of, names_of, actor_of, engine_word_of}
+use Rattle.journal_model.specs.scripts.LineWords.{keyword_of, version_line, vram_line, size_line, has_head_words, buffer_head_of, lists_line, buffer_line_of, alone, is_no_actor, turn_line_of, plain_line, write_line, read_line, move_line, touch_line, is_no_op, op_words_of, submit_line, named_line, vmap_line, vunmap_line, is_no_vop, vop_words_of, vsubmit_line, parts_of, is_empty, line_of}
+use Rattle.journal_model.specs.scripts.LineRules.{is_broken_place, is_no_place, is_no_list, may_force, is_broken_actor, is_missing_actor, is_broken_engine, is_missing_engine, lacks_number_in_head, lacks_number_in_op, lacks_name_in_op, lacks_byte_in_op, lacks_number_in_vop, lacks_byte_in_vop, are_wrong_bytes}
+use Rattle.journal_model.specs.scripts.FirstFault.{first_word}
 use Rattle.law_legal.specs.law_script.LineParts.{says_place, says_actor, says_engine, has_head_parts, has_op_parts, has_vop_parts, has_all_parts, LinesHaveAllParts}
 use Rattle.law_legal.proofs.law_script.LineLaws.{made, Breaks_none, breaks_none}
 use Rattle.law_legal.proofs.law_script.SubmitLaws.{IsGood, AreGood, first_good, others_good}

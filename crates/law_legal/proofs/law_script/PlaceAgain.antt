@@ -4,9 +4,9 @@ use Rattle.std.specs.Prelude.{◌||◌, codes}
 use Rattle.std.specs.List.{list_all, list_any}
 use Rattle.std.proofs.lemmas.Bool.{eqb-true}
 use Rattle.journal_model.specs.declared.line.Flags.{Flags}
-use Rattle.journal_model.specs.Words.{Text}
-use Rattle.journal_model.specs.Cut.{cut_at}
-use Rattle.journal_model.specs.Reading.{flags_of}
+use Rattle.journal_model.specs.scripts.Words.{Text}
+use Rattle.journal_model.specs.scripts.Cut.{cut_at}
+use Rattle.journal_model.specs.scripts.Reading.{flags_of}
 use Rattle.law_legal.proofs.law_script.CutLaws.{lacks, cut_again}
 use Rattle.law_legal.proofs.law_script.PlaceLaws.{tail, join_tail, all_flags}
 use Rattle.law_legal.proofs.law_items.Tests.{both, joint, differ}

@@ -11,13 +11,13 @@ use Rattle.ttm_base.specs.Placement.{first_places, forced_places}
 use Rattle.journal_model.specs.declared.line.Flags.{Flags}
 use Rattle.journal_model.specs.declared.line.PlaceWord.{PlaceWord}
 use Rattle.journal_model.specs.declared.line.PlaceWord.TheVariants as read_as
-use Rattle.journal_model.specs.Words.{Text}
-use Rattle.journal_model.specs.Cut.{cut_at}
-use Rattle.journal_model.specs.CommandRules.{is_between}
-use Rattle.journal_model.specs.ScriptRules.{is_place_of, is_place, is_flagged, is_old_list, is_new_list, is_place_list}
-use Rattle.journal_model.specs.Reading.{number_in, mem_of, last_flags_of, contig_flags_of, flags_of, flagged, ranged, is_system, reach_place, based_place, reach_of, at_place, plus_place, place_word_of, places_of}
-use Rattle.journal_model.specs.LineRules.{is_no_place, is_broken_place, may_force, is_no_list}
-use Rattle.journal_model.specs.FirstFault.{or_zero, place_in, wanted, taken_under_pressure}
+use Rattle.journal_model.specs.scripts.Words.{Text}
+use Rattle.journal_model.specs.scripts.Cut.{cut_at}
+use Rattle.journal_model.specs.scripts.CommandRules.{is_between}
+use Rattle.journal_model.specs.scripts.ScriptRules.{is_place_of, is_place, is_flagged, is_old_list, is_new_list, is_place_list}
+use Rattle.journal_model.specs.scripts.Reading.{number_in, mem_of, last_flags_of, contig_flags_of, flags_of, flagged, ranged, is_system, reach_place, based_place, reach_of, at_place, plus_place, place_word_of, places_of}
+use Rattle.journal_model.specs.scripts.LineRules.{is_no_place, is_broken_place, may_force, is_no_list}
+use Rattle.journal_model.specs.scripts.FirstFault.{or_zero, place_in, wanted, taken_under_pressure}
 use Rattle.law_legal.proofs.law_script.PlaceLaws.{is, some_flags, flag_made, chosen}
 use Rattle.law_legal.proofs.law_script.HeadLaws.{good_place}
 use Rattle.law_legal.proofs.law_script.BufferLaws.{bare, first_of, forced_of}

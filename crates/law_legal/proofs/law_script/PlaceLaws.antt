@@ -9,10 +9,10 @@ use Rattle.ttm_base.specs.declared.FlaggedPlace.{FlaggedPlace}
 use Rattle.journal_model.specs.declared.line.Flags.{Flags}
 use Rattle.journal_model.specs.declared.line.PlaceWord.{PlaceWord}
 use Rattle.journal_model.specs.declared.line.PlaceWord.TheVariants as place_word
-use Rattle.journal_model.specs.Words.{Text, mem_word}
-use Rattle.journal_model.specs.Cut.{cut_at}
-use Rattle.journal_model.specs.Spelling.{flag, reach_word, flagged_word}
-use Rattle.journal_model.specs.Reading.{number_in, mem_of, last_flags_of, contig_flags_of, flags_of, flagged, ranged, is_system, reach_place, based_place, reach_of, at_place, plus_place, place_word_of}
+use Rattle.journal_model.specs.scripts.Words.{Text, mem_word}
+use Rattle.journal_model.specs.scripts.Cut.{cut_at}
+use Rattle.journal_model.specs.scripts.Spelling.{flag, reach_word, flagged_word}
+use Rattle.journal_model.specs.scripts.Reading.{number_in, mem_of, last_flags_of, contig_flags_of, flags_of, flagged, ranged, is_system, reach_place, based_place, reach_of, at_place, plus_place, place_word_of}
 use Rattle.law_legal.proofs.law_script.CutLaws.{joined}
 use Rattle.law_legal.proofs.law_script.NumberLaws.{number_takes}
 use Rattle.law_legal.proofs.law_script.WordLaws.{bytes_are, mem_is, IsMemOf}

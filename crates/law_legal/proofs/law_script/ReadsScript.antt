@@ -15,15 +15,15 @@ use Rattle.journal_model.specs.declared.line.Keyword.{Keyword}
 use Rattle.journal_model.specs.declared.line.Keyword.TheVariants as key
 use Rattle.journal_model.specs.declared.line.Line.{Line}
 use Rattle.journal_model.specs.declared.line.Line.TheVariants as line_of
-use Rattle.journal_model.specs.Words.{Text, line}
-use Rattle.journal_model.specs.Cut.{lines_of}
-use Rattle.journal_model.specs.Spelling.{buffer_line, turn_line}
-use Rattle.journal_model.specs.CommandRules.{is_between, is_command, command_len}
-use Rattle.journal_model.specs.MarkRules.{have_marks}
-use Rattle.journal_model.specs.ScriptRules.{has_sizes, is_decl, has_distinct_names, same_text, is_turn_line, is_script}
-use Rattle.journal_model.specs.Reading.{names_of, number_in}
-use Rattle.journal_model.specs.LineWords.{keyword_of, may_come, parts_of}
-use Rattle.journal_model.specs.FirstFault.{with_line, nothing_read, script_from}
+use Rattle.journal_model.specs.scripts.Words.{Text, line}
+use Rattle.journal_model.specs.scripts.Cut.{lines_of}
+use Rattle.journal_model.specs.scripts.Spelling.{buffer_line, turn_line}
+use Rattle.journal_model.specs.scripts.CommandRules.{is_between, is_command, command_len}
+use Rattle.journal_model.specs.scripts.MarkRules.{have_marks}
+use Rattle.journal_model.specs.scripts.ScriptRules.{has_sizes, is_decl, has_distinct_names, same_text, is_turn_line, is_script}
+use Rattle.journal_model.specs.scripts.Reading.{names_of, number_in}
+use Rattle.journal_model.specs.scripts.LineWords.{keyword_of, may_come, parts_of}
+use Rattle.journal_model.specs.scripts.FirstFault.{with_line, nothing_read, script_from}
 use Rattle.law_legal.specs.law_script.ScriptLaws.{ReadsScripts}
 use Rattle.law_legal.proofs.law_script.NumberLaws.{number_again}
 use Rattle.law_legal.proofs.law_script.LineLaws.{made, Breaks_none}

@@ -6,7 +6,7 @@ use Rattle.journal_model.specs.declared.script.Script.{Script}
 use Rattle.journal_model.specs.declared.script.Command.{Command}
 use Rattle.journal_model.specs.declared.script.MarkKind.{MarkKind}
 use Rattle.journal_model.specs.declared.script.MarkKind.TheVariants as mark
-use Rattle.journal_model.specs.MarkRules.{ThreadMappings, empty_thread_mappings, thread_mappings_after, thread_mappings_at_end, is_mark, is_way}
+use Rattle.journal_model.specs.scripts.MarkRules.{ThreadMappings, empty_thread_mappings, thread_mappings_after, thread_mappings_at_end, is_mark, is_way}
 use Rattle.law_legal.specs.law_items.Items.{Item, Alone, Asks, ComesFrom, thread_mappings_behind, item_fits, all_along, items_fit}
 use Rattle.law_legal.proofs.law_items.ListFacts.{last_list}
 use Rattle.law_legal.proofs.law_items.Puts.{thread_mappings_is}

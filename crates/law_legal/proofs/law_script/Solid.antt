@@ -7,13 +7,13 @@ use Rattle.std.proofs.lemmas.Bool.Decides.{nat_tests}
 use Rattle.std.proofs.lemmas.List.Folds.{list_all-append}
 use Rattle.std.proofs.lemmas.List.Concat.{flat_map-cons}
 use Rattle.std.proofs.lemmas.Fmt.{digits_decimal, decimal_nonempty}
-use Rattle.journal_model.specs.Words.{Text, hex, hex_byte}
-use Rattle.journal_model.specs.Cut.{is_semicolon}
-use Rattle.journal_model.specs.CommandRules.{is_between, is_byte}
-use Rattle.journal_model.specs.ScriptRules.{is_letter, is_letter_or_digit, is_name}
-use Rattle.journal_model.specs.Reading.{is_digit}
-use Rattle.journal_model.specs.LineWords.{is_empty}
-use Rattle.journal_model.specs.FirstFault.{is_shown}
+use Rattle.journal_model.specs.scripts.Words.{Text, hex, hex_byte}
+use Rattle.journal_model.specs.scripts.Cut.{is_semicolon}
+use Rattle.journal_model.specs.scripts.CommandRules.{is_between, is_byte}
+use Rattle.journal_model.specs.scripts.ScriptRules.{is_letter, is_letter_or_digit, is_name}
+use Rattle.journal_model.specs.scripts.Reading.{is_digit}
+use Rattle.journal_model.specs.scripts.LineWords.{is_empty}
+use Rattle.journal_model.specs.scripts.FirstFault.{is_shown}
 use Rattle.law_legal.proofs.law_script.CutLaws.{lacks}
 use Rattle.law_legal.proofs.law_script.NumberLaws.{own}
 use Rattle.law_legal.proofs.law_script.WordLaws.{bytes_are}

@@ -7,11 +7,11 @@ use Rattle.journal_model.specs.declared.line.Progress.{Progress}
 use Rattle.journal_model.specs.declared.line.Phase.{Phase}
 use Rattle.journal_model.specs.declared.line.Phase.TheVariants as phase
 use Rattle.journal_model.specs.declared.line.Line.{Line}
-use Rattle.journal_model.specs.Words.{Text, line}
-use Rattle.journal_model.specs.Spelling.{buffer_line, turn_line}
-use Rattle.journal_model.specs.CommandRules.{is_between, is_command, command_len}
-use Rattle.journal_model.specs.ScriptRules.{has_sizes, is_decl, has_distinct_names, is_turn_line}
-use Rattle.journal_model.specs.FirstFault.{with_line}
+use Rattle.journal_model.specs.scripts.Words.{Text, line}
+use Rattle.journal_model.specs.scripts.Spelling.{buffer_line, turn_line}
+use Rattle.journal_model.specs.scripts.CommandRules.{is_between, is_command, command_len}
+use Rattle.journal_model.specs.scripts.ScriptRules.{has_sizes, is_decl, has_distinct_names, is_turn_line}
+use Rattle.journal_model.specs.scripts.FirstFault.{with_line}
 use Rattle.law_legal.specs.law_items.Items.{Item, Alone, Asks, ComesFrom, items_text, items_fit}
 use Rattle.law_legal.proofs.law_items.ListFacts.{has_few, last_len}
 

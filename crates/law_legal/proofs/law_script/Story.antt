@@ -1,7 +1,7 @@
 -- What follows from the two laws on reading.
 use Rattle.std.proofs.Common.{◌≡◌, ℕ, Option, Some, None, Result, Ok, Err, refl, sym, ap, ◌∙◌}
 use Rattle.journal_model.specs.declared.script.Script.{Script}
-use Rattle.journal_model.specs.FirstFault.{script_of}
+use Rattle.journal_model.specs.scripts.FirstFault.{script_of}
 use Rattle.law_legal.specs.law_script.ScriptLaws.{OneSpelling, OneValue, FaultWhereNoScript}
 use Rattle.law_legal.proofs.law_script.TakesScript.{takes_scripts}
 use Rattle.law_legal.proofs.law_script.ReadsScript.{reads_scripts}

@@ -5,13 +5,13 @@ use Rattle.std.specs.List.{list_any}
 use Rattle.journal_model.specs.declared.script.Script.{Script}
 use Rattle.journal_model.specs.declared.line.OpWord.{OpWord}
 use Rattle.journal_model.specs.declared.line.OpWord.TheVariants as op_word
-use Rattle.journal_model.specs.Words.{Text, name_of, hex_byte}
-use Rattle.journal_model.specs.Cut.{onto, cut_by, is_semicolon}
-use Rattle.journal_model.specs.Spelling.{op_words, parted}
-use Rattle.journal_model.specs.Reading.{known, names_of, offset_of, byte_in_hex, is_hex, hex_value}
-use Rattle.journal_model.specs.LineWords.{op_of, is_no_op, op_words_of}
-use Rattle.journal_model.specs.LineRules.{lacks_number_in_op, lacks_name_in_op, lacks_byte_in_op}
-use Rattle.journal_model.specs.FirstFault.{or_zero, or_first, op_in}
+use Rattle.journal_model.specs.scripts.Words.{Text, name_of, hex_byte}
+use Rattle.journal_model.specs.scripts.Cut.{onto, cut_by, is_semicolon}
+use Rattle.journal_model.specs.scripts.Spelling.{op_words, parted}
+use Rattle.journal_model.specs.scripts.Reading.{known, names_of, offset_of, byte_in_hex, is_hex, hex_value}
+use Rattle.journal_model.specs.scripts.LineWords.{op_of, is_no_op, op_words_of}
+use Rattle.journal_model.specs.scripts.LineRules.{lacks_number_in_op, lacks_name_in_op, lacks_byte_in_op}
+use Rattle.journal_model.specs.scripts.FirstFault.{or_zero, or_first, op_in}
 use Rattle.law_legal.proofs.law_script.CutLaws.{cut_some}
 use Rattle.law_legal.proofs.law_script.WordLaws.{bytes_are}
 use Rattle.law_legal.proofs.law_script.HexLaws.{two_digits}

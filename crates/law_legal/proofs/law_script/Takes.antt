@@ -12,11 +12,11 @@ use Rattle.journal_model.specs.declared.line.Keyword.{Keyword}
 use Rattle.journal_model.specs.declared.line.Keyword.TheVariants as key
 use Rattle.journal_model.specs.declared.line.Line.{Line}
 use Rattle.journal_model.specs.declared.line.Access.TheVariants as access
-use Rattle.journal_model.specs.Words.{Text, line}
-use Rattle.journal_model.specs.Cut.{cut_at}
-use Rattle.journal_model.specs.LineWords.{keyword_of, may_come, parts_of, line_of, is_empty}
-use Rattle.journal_model.specs.LineRules.{rule_broken}
-use Rattle.journal_model.specs.FirstFault.{first_word, with_line, unless_broken, fault_of_parts, after_words, after_line, breaks_text, ends_line, without_end, is_behind_end, script_from}
+use Rattle.journal_model.specs.scripts.Words.{Text, line}
+use Rattle.journal_model.specs.scripts.Cut.{cut_at}
+use Rattle.journal_model.specs.scripts.LineWords.{keyword_of, may_come, parts_of, line_of, is_empty}
+use Rattle.journal_model.specs.scripts.LineRules.{rule_broken}
+use Rattle.journal_model.specs.scripts.FirstFault.{first_word, with_line, unless_broken, fault_of_parts, after_words, after_line, breaks_text, ends_line, without_end, is_behind_end, script_from}
 use Rattle.law_legal.proofs.law_script.WordLaws.{IsWordOf, keyword_is}
 use Rattle.law_legal.proofs.law_script.LineLaws.{made, breaks_none, Breaks_none}
 use Rattle.law_legal.proofs.law_script.TextLaws.{text_is_line}

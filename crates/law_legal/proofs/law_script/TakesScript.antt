@@ -7,13 +7,13 @@ use Rattle.journal_model.specs.declared.script.Script.{Script}
 use Rattle.journal_model.specs.declared.line.Progress.{Progress}
 use Rattle.journal_model.specs.declared.line.Phase.{Phase}
 use Rattle.journal_model.specs.declared.line.Phase.TheVariants as phase
-use Rattle.journal_model.specs.Words.{Text, line}
-use Rattle.journal_model.specs.Cut.{onto, lines_of}
-use Rattle.journal_model.specs.Spelling.{buffer_line, turn_line, spelling}
-use Rattle.journal_model.specs.CommandRules.{is_between, is_command, command_len}
-use Rattle.journal_model.specs.MarkRules.{have_marks}
-use Rattle.journal_model.specs.ScriptRules.{has_sizes, is_decl, has_distinct_names, is_turn_line, is_script, IsScript}
-use Rattle.journal_model.specs.FirstFault.{is_behind_end, nothing_read, script_from}
+use Rattle.journal_model.specs.scripts.Words.{Text, line}
+use Rattle.journal_model.specs.scripts.Cut.{onto, lines_of}
+use Rattle.journal_model.specs.scripts.Spelling.{buffer_line, turn_line, spelling}
+use Rattle.journal_model.specs.scripts.CommandRules.{is_between, is_command, command_len}
+use Rattle.journal_model.specs.scripts.MarkRules.{have_marks}
+use Rattle.journal_model.specs.scripts.ScriptRules.{has_sizes, is_decl, has_distinct_names, is_turn_line, is_script, IsScript}
+use Rattle.journal_model.specs.scripts.FirstFault.{is_behind_end, nothing_read, script_from}
 use Rattle.law_legal.specs.law_script.ScriptLaws.{TakesScripts}
 use Rattle.law_legal.specs.law_items.Items.{Item, ComesFrom, items_fit}
 use Rattle.law_legal.proofs.law_items.Texts.{threads_text}

@@ -2,9 +2,9 @@
 use Rattle.std.proofs.Common.{◌≡◌, ℕ, zero, suc, ◌+◌, ◌-◌, true, [], ◌∷◌, ◌++◌, length, take, Option, Some, None, sym, ap, ◌∙◌, arith}
 use Rattle.std.specs.Prelude.{slice_get}
 use Rattle.std.proofs.lemmas.Bool.{eqb-true}
-use Rattle.journal_model.specs.Words.{Text, line}
-use Rattle.journal_model.specs.Cut.{cut_at}
-use Rattle.journal_model.specs.FirstFault.{without_end, ends_line, is_line_feed}
+use Rattle.journal_model.specs.scripts.Words.{Text, line}
+use Rattle.journal_model.specs.scripts.Cut.{cut_at}
+use Rattle.journal_model.specs.scripts.FirstFault.{without_end, ends_line, is_line_feed}
 use Rattle.law_legal.proofs.law_script.CutLaws.{joined}
 
 feed : (o : Option ℕ) → is_line_feed o ≡ true → o ≡ Some 10

@@ -14,14 +14,14 @@ use Rattle.journal_model.specs.declared.line.Phase.TheVariants as phase
 use Rattle.journal_model.specs.declared.line.Keyword.TheVariants as key
 use Rattle.journal_model.specs.declared.line.Line.TheVariants as line_of
 use Rattle.journal_model.specs.declared.line.ActorWord.{ActorWord}
-use Rattle.journal_model.specs.Words.{Text, line, actor_word}
-use Rattle.journal_model.specs.Spelling.{turn_line}
-use Rattle.journal_model.specs.CommandRules.{is_between, is_declared, command_len}
-use Rattle.journal_model.specs.ScriptRules.{is_actor, is_turn_line}
-use Rattle.journal_model.specs.Reading.{actor_of}
-use Rattle.journal_model.specs.LineWords.{may_come, turn_of_actors, is_no_actor}
-use Rattle.journal_model.specs.LineRules.{is_broken_actor, is_missing_actor}
-use Rattle.journal_model.specs.FirstFault.{with_line, actor_in}
+use Rattle.journal_model.specs.scripts.Words.{Text, line, actor_word}
+use Rattle.journal_model.specs.scripts.Spelling.{turn_line}
+use Rattle.journal_model.specs.scripts.CommandRules.{is_between, is_declared, command_len}
+use Rattle.journal_model.specs.scripts.ScriptRules.{is_actor, is_turn_line}
+use Rattle.journal_model.specs.scripts.Reading.{actor_of}
+use Rattle.journal_model.specs.scripts.LineWords.{may_come, turn_of_actors, is_no_actor}
+use Rattle.journal_model.specs.scripts.LineRules.{is_broken_actor, is_missing_actor}
+use Rattle.journal_model.specs.scripts.FirstFault.{with_line, actor_in}
 use Rattle.law_legal.proofs.law_script.LineLaws.{made, Breaks_none}
 use Rattle.law_legal.proofs.law_script.HeadSteps.{at}
 use Rattle.law_legal.specs.law_items.Items.{Item, Alone, Asks, commands_in, with_items, thread_mappings_behind, thread_mappings_of, item_text, items_text, item_fits, all_along, items_fit}

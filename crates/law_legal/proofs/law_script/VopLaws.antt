@@ -6,16 +6,16 @@ use Rattle.std.proofs.lemmas.Bool.Decides.{nat_tests}
 use Rattle.std.proofs.lemmas.List.Sums.{sum_by-cons}
 use Rattle.journal_model.specs.declared.line.VOpWord.{VOpWord}
 use Rattle.journal_model.specs.declared.line.VOpWord.TheVariants as vop_word
-use Rattle.journal_model.specs.Words.{Text, hex_byte}
-use Rattle.journal_model.specs.Cut.{cut_by, is_semicolon}
-use Rattle.journal_model.specs.Spelling.{vop_words, parted}
-use Rattle.journal_model.specs.ByName.{vop_len}
-use Rattle.journal_model.specs.CommandRules.{is_between, is_byte}
-use Rattle.journal_model.specs.MarkRules.{ThreadMappings, is_addressed, is_vop, has_apart_ranges}
-use Rattle.journal_model.specs.Reading.{offset_of, address_of, byte_in_hex}
-use Rattle.journal_model.specs.LineWords.{vop_of, is_no_vop, vop_words_of}
-use Rattle.journal_model.specs.LineRules.{lacks_number_in_vop, lacks_byte_in_vop, has_wrong_addresses, passes_end, passes_in_vop, is_more_than, vop_in, has_buffer_twice, len_of_vop_word}
-use Rattle.journal_model.specs.FirstFault.{or_zero}
+use Rattle.journal_model.specs.scripts.Words.{Text, hex_byte}
+use Rattle.journal_model.specs.scripts.Cut.{cut_by, is_semicolon}
+use Rattle.journal_model.specs.scripts.Spelling.{vop_words, parted}
+use Rattle.journal_model.specs.marks.ByName.{vop_len}
+use Rattle.journal_model.specs.scripts.CommandRules.{is_between, is_byte}
+use Rattle.journal_model.specs.scripts.MarkRules.{ThreadMappings, is_addressed, is_vop, has_apart_ranges}
+use Rattle.journal_model.specs.scripts.Reading.{offset_of, address_of, byte_in_hex}
+use Rattle.journal_model.specs.scripts.LineWords.{vop_of, is_no_vop, vop_words_of}
+use Rattle.journal_model.specs.scripts.LineRules.{lacks_number_in_vop, lacks_byte_in_vop, has_wrong_addresses, passes_end, passes_in_vop, is_more_than, vop_in, has_buffer_twice, len_of_vop_word}
+use Rattle.journal_model.specs.scripts.FirstFault.{or_zero}
 use Rattle.law_legal.proofs.law_script.NumberLaws.{is_in}
 use Rattle.law_legal.proofs.law_script.WordLaws.{bytes_are}
 use Rattle.law_legal.proofs.law_script.LineLaws.{offset_word, number_word}

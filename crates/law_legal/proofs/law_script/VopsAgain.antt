@@ -8,14 +8,14 @@ use Rattle.journal_model.specs.declared.line.VOpWord.{VOpWord}
 use Rattle.journal_model.specs.declared.line.VOpWord.TheVariants as vop_word
 use Rattle.journal_model.specs.declared.space.VOp.{VOp}
 use Rattle.journal_model.specs.declared.space.VOp.TheVariants as vop
-use Rattle.journal_model.specs.Words.{Text, hex_byte}
-use Rattle.journal_model.specs.Spelling.{vop_words, parted}
-use Rattle.journal_model.specs.ByName.{vop_len}
-use Rattle.journal_model.specs.CommandRules.{is_between, is_byte}
-use Rattle.journal_model.specs.MarkRules.{ThreadMappings, is_addressed, is_vop, has_apart_ranges}
-use Rattle.journal_model.specs.Reading.{offset_of, address_of, byte_in_hex}
-use Rattle.journal_model.specs.LineWords.{vop_of, vop_words_of}
-use Rattle.journal_model.specs.LineRules.{has_wrong_addresses, passes_in_vop, vop_in, has_buffer_twice, len_of_vop_word}
+use Rattle.journal_model.specs.scripts.Words.{Text, hex_byte}
+use Rattle.journal_model.specs.scripts.Spelling.{vop_words, parted}
+use Rattle.journal_model.specs.marks.ByName.{vop_len}
+use Rattle.journal_model.specs.scripts.CommandRules.{is_between, is_byte}
+use Rattle.journal_model.specs.scripts.MarkRules.{ThreadMappings, is_addressed, is_vop, has_apart_ranges}
+use Rattle.journal_model.specs.scripts.Reading.{offset_of, address_of, byte_in_hex}
+use Rattle.journal_model.specs.scripts.LineWords.{vop_of, vop_words_of}
+use Rattle.journal_model.specs.scripts.LineRules.{has_wrong_addresses, passes_in_vop, vop_in, has_buffer_twice, len_of_vop_word}
 use Rattle.law_legal.proofs.law_script.NumberLaws.{number_again, between}
 use Rattle.law_legal.proofs.law_script.AgainLaws.{offset_again}
 use Rattle.law_legal.proofs.law_script.OpsAgain.{byte_again, parted_cut, parted_words}

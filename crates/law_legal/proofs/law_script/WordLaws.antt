@@ -13,10 +13,10 @@ use Rattle.journal_model.specs.declared.line.Keyword.{Keyword}
 use Rattle.journal_model.specs.declared.line.Keyword.TheVariants as key
 use Rattle.journal_model.specs.declared.line.Verb.{Verb}
 use Rattle.journal_model.specs.declared.line.Verb.TheVariants as verb
-use Rattle.journal_model.specs.Words.{Text, mem_word, name_of}
-use Rattle.journal_model.specs.Commands.{undeclared}
-use Rattle.journal_model.specs.Reading.{known, names_of, mem_of}
-use Rattle.journal_model.specs.LineWords.{keyword_of, command_keyword_of, mapping_keyword_of, verb_of, or_other}
+use Rattle.journal_model.specs.scripts.Words.{Text, mem_word, name_of}
+use Rattle.journal_model.specs.rules.Commands.{undeclared}
+use Rattle.journal_model.specs.scripts.Reading.{known, names_of, mem_of}
+use Rattle.journal_model.specs.scripts.LineWords.{keyword_of, command_keyword_of, mapping_keyword_of, verb_of, or_other}
 use Rattle.journal_model.specs.declared.line.Access.TheVariants as access
 use Rattle.law_legal.proofs.law_items.ListFacts.{length_map}
 

@@ -4,8 +4,8 @@ use Rattle.std.specs.Prelude.{find, option_map, nat_le, nat_lt}
 use Rattle.std.proofs.lemmas.Bool.{cases_Bool, and_parts, leb-true, ltb-true}
 use Rattle.ttm_base.specs.declared.Span.{Span}
 use Rattle.ttm_base.specs.Holes.{has_page}
-use Rattle.journal_model.specs.Spaces.{Region}
-use Rattle.journal_model.specs.ByName.{Spot, spot_in, spot_at}
+use Rattle.journal_model.specs.marks.Spaces.{Region}
+use Rattle.journal_model.specs.marks.ByName.{Spot, spot_in, spot_at}
 use Rattle.law_legal.specs.law_spaces.Rising.{IsPast}
 
 pub cases_option : {A : Type 0} (o : Option A) → (o ≡ None) ⊎ ((x : A) × (o ≡ Some x))

@@ -16,11 +16,11 @@ use Rattle.ttm_base.specs.ListWords.{count_from}
 use Rattle.ttm_base.specs.Cutting.{pieces_of}
 use Rattle.journal_model.specs.declared.space.VOp.{VOp}
 use Rattle.journal_model.specs.declared.space.VOp.TheVariants as vop
-use Rattle.journal_model.specs.PlainMemory.{Memory, with_range, after_op, after_ops, piece_shown, pieces_shown}
-use Rattle.journal_model.specs.State.{has_buffer}
-use Rattle.journal_model.specs.MarkRules.{are_apart, has_apart_ranges}
-use Rattle.journal_model.specs.Spaces.{Space, Region, regions_space}
-use Rattle.journal_model.specs.ByName.{Spot, spot_in, spot_at, vop_len, first_address, second_address, op_by_name, ops_from, op_in_names, joined, job_by_name, has_byte_of, buffers_between, with_byte_at, byte_there, after_byte, after_vop, after_vops, vop_shown, vops_shown}
+use Rattle.journal_model.specs.rules.PlainMemory.{Memory, with_range, after_op, after_ops, piece_shown, pieces_shown}
+use Rattle.journal_model.specs.rules.State.{has_buffer}
+use Rattle.journal_model.specs.scripts.MarkRules.{are_apart, has_apart_ranges}
+use Rattle.journal_model.specs.marks.Spaces.{Space, Region, regions_space}
+use Rattle.journal_model.specs.marks.ByName.{Spot, spot_in, spot_at, vop_len, first_address, second_address, op_by_name, ops_from, op_in_names, joined, job_by_name, has_byte_of, buffers_between, with_byte_at, byte_there, after_byte, after_vop, after_vops, vop_shown, vops_shown}
 use Rattle.laws.specs.law_cutting.Parts.{part_of}
 use Rattle.laws.proofs.law_cutting.Whole.{IsApart, shortened, after_none, after_more, after_ops-append, joined_is_shown, Each}
 use Rattle.law_legal.specs.law_spaces.Rising.{IsRising}

@@ -6,7 +6,7 @@ use Rattle.std.proofs.lemmas.Bool.{cases_Bool, and_parts, ltb-true, lt-leb, le-l
 use Rattle.ttm_base.specs.declared.Span.{Span}
 use Rattle.journal_model.specs.declared.script.MarkKind.{MarkKind}
 use Rattle.journal_model.specs.declared.script.MarkKind.TheVariants as mark
-use Rattle.journal_model.specs.Spaces.{Region, regions_after, regions_of, has_pages, are_disjoint}
+use Rattle.journal_model.specs.marks.Spaces.{Region, regions_after, regions_of, has_pages, are_disjoint}
 use Rattle.law_legal.specs.law_spaces.Rising.{IsRising, IsPast, EndsBy}
 use Rattle.law_legal.specs.law_spaces.Sides.{head_of, tail_of, sides}
 use Rattle.law_legal.proofs.law_spaces.Sides.{piece_of, is_below, is_past, HavePages, pages_of_rising, meets_not, after_is_sides}

@@ -12,7 +12,7 @@ use Rattle.ttm_base.specs.declared.BufId.{BufId}
 use Rattle.ttm_base.specs.Holes.{has_page}
 use Rattle.journal_model.specs.declared.script.MarkKind.{MarkKind}
 use Rattle.journal_model.specs.declared.script.MarkKind.TheVariants as mark
-use Rattle.journal_model.specs.Spaces.{Space, Region, has, after_request, space_of, new_region, regions_after, regions_of, regions_space, has_pages}
+use Rattle.journal_model.specs.marks.Spaces.{Space, Region, has, after_request, space_of, new_region, regions_after, regions_of, regions_space, has_pages}
 use Rattle.law_legal.specs.law_spaces.Rising.{IsRising}
 use Rattle.law_legal.specs.law_spaces.Sides.{head_of, tail_of, sides}
 use Rattle.law_legal.proofs.law_spaces.Sides.{cut, pages_of_rising, after_is_sides}

@@ -7,7 +7,7 @@ use Rattle.ttm_base.specs.declared.Span.{Span}
 use Rattle.ttm_base.specs.Reach.{is_inside}
 use Rattle.journal_model.specs.declared.script.MarkKind.{MarkKind}
 use Rattle.journal_model.specs.declared.space.VStep.{VStep}
-use Rattle.journal_model.specs.Spaces.{Region, range_of, new_region, does_meet, step_at, map_step, steps_of, is_remap}
+use Rattle.journal_model.specs.marks.Spaces.{Region, range_of, new_region, does_meet, step_at, map_step, steps_of, is_remap}
 use Rattle.law_legal.specs.law_spaces.Rising.{IsRising, IsPast}
 use Rattle.law_legal.proofs.law_spaces.Sides.{meets_not}
 use Rattle.law_legal.proofs.law_spaces.Order.{past_lower}

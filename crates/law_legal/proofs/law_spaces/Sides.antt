@@ -6,7 +6,7 @@ use Rattle.std.proofs.lemmas.List.{map-append}
 use Rattle.std.proofs.lemmas.List.Elements.{filter-append}
 use Rattle.ttm_base.specs.declared.Span.{Span}
 use Rattle.journal_model.specs.declared.script.MarkKind.{MarkKind}
-use Rattle.journal_model.specs.Spaces.{Region, range_of, new_region, does_meet, parts_left, part_of, part_before, part_after, regions_after}
+use Rattle.journal_model.specs.marks.Spaces.{Region, range_of, new_region, does_meet, parts_left, part_of, part_before, part_after, regions_after}
 use Rattle.law_legal.specs.law_spaces.Rising.{IsRising}
 use Rattle.law_legal.specs.law_spaces.Sides.{head_of, tail_of, sides}
 

@@ -16,14 +16,14 @@ use Rattle.journal_model.specs.declared.state.Course.{Course}
 use Rattle.journal_model.specs.declared.state.Job.{Job}
 use Rattle.journal_model.specs.declared.entry.Entry.{Entry}
 use Rattle.journal_model.specs.declared.entry.Kind.{Kind}
-use Rattle.journal_model.specs.State.{course_of}
-use Rattle.journal_model.specs.Commands.{commands_of, command_at_work}
-use Rattle.journal_model.specs.CommandRules.{is_between}
-use Rattle.journal_model.specs.ScriptRules.{is_script}
-use Rattle.journal_model.specs.Search.{Step}
-use Rattle.journal_model.specs.Next.{next, head_of, step_of_job}
-use Rattle.journal_model.specs.Legal.{IsLegal, IsLegalFrom, world_of}
-use Rattle.journal_model.specs.Verdict.{has_actor}
+use Rattle.journal_model.specs.rules.State.{course_of}
+use Rattle.journal_model.specs.rules.Commands.{commands_of, command_at_work}
+use Rattle.journal_model.specs.scripts.CommandRules.{is_between}
+use Rattle.journal_model.specs.scripts.ScriptRules.{is_script}
+use Rattle.journal_model.specs.rules.Search.{Step}
+use Rattle.journal_model.specs.rules.Next.{next, head_of, step_of_job}
+use Rattle.journal_model.specs.rules.Legal.{IsLegal, IsLegalFrom, world_of}
+use Rattle.journal_model.specs.reports.Verdict.{has_actor}
 use Rattle.journal_model.proofs.JournalLaws.{IsLegal-append, world_of-append}
 use Rattle.laws.specs.law_state.GoodState.{GoodState}
 use Rattle.laws.proofs.law_state.GoodStates.{good_law}

@@ -3,10 +3,10 @@ use Rattle.std.proofs.Common.{◌≡◌, ℕ, ◌+◌, ◌<◌, ◌≤◌, ◌^�
 use Rattle.std.proofs.lemmas.List.{append-nil, length-append}
 use Rattle.journal_model.specs.declared.script.Script.{Script}
 use Rattle.journal_model.specs.declared.entry.Entry.{Entry}
-use Rattle.journal_model.specs.Words.{Text}
-use Rattle.journal_model.specs.Legal.{World, first_world, world_after, world_along, world_of, IsLegal, IsLegalFrom, IsLegalNext}
-use Rattle.journal_model.specs.Readable.{is_u64}
-use Rattle.journal_model.specs.Verdict.{AreEntryTexts, IsEntryText, IsRightTo, TellsNext}
+use Rattle.journal_model.specs.scripts.Words.{Text}
+use Rattle.journal_model.specs.rules.Legal.{World, first_world, world_after, world_along, world_of, IsLegal, IsLegalFrom, IsLegalNext}
+use Rattle.journal_model.specs.scripts.Readable.{is_u64}
+use Rattle.journal_model.specs.reports.Verdict.{AreEntryTexts, IsEntryText, IsRightTo, TellsNext}
 use Rattle.law_legal.proofs.law_verdict.Heads.{fits, is_small, one_head}
 
 -- a line is the text of one entry

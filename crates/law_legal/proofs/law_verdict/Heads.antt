@@ -5,10 +5,10 @@ use Rattle.std.proofs.lemmas.Bool.Decides.{nat_tests}
 use Rattle.std.proofs.lemmas.Fmt.{decimal_injective}
 use Rattle.std.proofs.lemmas.List.{append_cancel_left, append_cancel_right}
 use Rattle.journal_model.specs.declared.script.Script.{Script}
-use Rattle.journal_model.specs.Words.{Text, line}
-use Rattle.journal_model.specs.Readable.{is_u64}
-use Rattle.journal_model.specs.ReportText.{report_head}
-use Rattle.journal_model.specs.Verdict.{HasHead}
+use Rattle.journal_model.specs.scripts.Words.{Text, line}
+use Rattle.journal_model.specs.scripts.Readable.{is_u64}
+use Rattle.journal_model.specs.reports.ReportText.{report_head}
+use Rattle.journal_model.specs.reports.Verdict.{HasHead}
 
 pub fits : (n : ℕ) → is_u64 n ≡ true → n < 2 ^ 64
 fits n h = grind (arith, nat_tests)

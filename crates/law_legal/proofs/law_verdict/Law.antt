@@ -1,11 +1,11 @@
 -- A report has one verdict.
 use Rattle.std.proofs.Common.{◌+◌, length, sym, subst, refl, arith}
 use Rattle.journal_model.specs.declared.script.Script.{Script}
-use Rattle.journal_model.specs.Words.{Text}
-use Rattle.journal_model.specs.Cut.{lines_of}
-use Rattle.journal_model.specs.ScriptRules.{IsScript}
-use Rattle.journal_model.specs.ReportText.{report}
-use Rattle.journal_model.specs.Verdict.{IsAccepted, IsRightTo}
+use Rattle.journal_model.specs.scripts.Words.{Text}
+use Rattle.journal_model.specs.scripts.Cut.{lines_of}
+use Rattle.journal_model.specs.scripts.ScriptRules.{IsScript}
+use Rattle.journal_model.specs.reports.ReportText.{report}
+use Rattle.journal_model.specs.reports.Verdict.{IsAccepted, IsRightTo}
 use Rattle.laws.proofs.law_limit.Limits.{limit_fits}
 use Rattle.law_legal.proofs.All.{keeps_laws}
 use Rattle.law_legal.specs.law_verdict.VerdictLaws.{AcceptedIsNotRejected, CutReportsAreAccepted, RejectedOnce, ReportsAreAccepted}

@@ -6,12 +6,12 @@ use Rattle.std.proofs.lemmas.Bool.Decides.{nat_tests}
 use Rattle.std.proofs.lemmas.List.{append_cancel_right}
 use Rattle.journal_model.specs.declared.script.Script.{Script}
 use Rattle.journal_model.specs.declared.entry.Entry.{Entry}
-use Rattle.journal_model.specs.Words.{Text, actor_word, line, spaced}
-use Rattle.journal_model.specs.Cut.{lines_of, onto}
-use Rattle.journal_model.specs.ScriptRules.{is_script}
-use Rattle.journal_model.specs.EntryText.{entry_line, kind_words}
-use Rattle.journal_model.specs.Readable.{is_kind, is_readable, is_some_actor, is_u64}
-use Rattle.journal_model.specs.Verdict.{IsEntryText}
+use Rattle.journal_model.specs.scripts.Words.{Text, actor_word, line, spaced}
+use Rattle.journal_model.specs.scripts.Cut.{lines_of, onto}
+use Rattle.journal_model.specs.scripts.ScriptRules.{is_script}
+use Rattle.journal_model.specs.reports.EntryText.{entry_line, kind_words}
+use Rattle.journal_model.specs.scripts.Readable.{is_kind, is_readable, is_some_actor, is_u64}
+use Rattle.journal_model.specs.reports.Verdict.{IsEntryText}
 use Rattle.law_legal.proofs.law_report.Cuts.{both, cut_again, cut_at, joint, lacks}
 use Rattle.law_legal.proofs.law_report.Items.{above, above_append, above_lower, lacks_it}
 use Rattle.law_legal.proofs.law_report.SmallWords.{actor_above, actor_again, un_actor, word_above, word_at}

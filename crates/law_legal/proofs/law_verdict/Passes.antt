@@ -2,9 +2,9 @@
 use Rattle.std.proofs.Common.{◌≡◌, ℕ, Bool, true, false, cond, eqb, List, [], ◌∷◌, ◌++◌, refl, ap, sym, subst, ◌∙◌, append_assoc}
 use Rattle.std.specs.Prelude.{flat_map}
 use Rattle.std.proofs.lemmas.List.Concat.{flat_map-cons}
-use Rattle.journal_model.specs.Words.{Text, line}
-use Rattle.journal_model.specs.Cut.{lines_of, onto}
-use Rattle.journal_model.specs.Verdict.{ends_script, report_lines, report_part, script_lines, script_part}
+use Rattle.journal_model.specs.scripts.Words.{Text, line}
+use Rattle.journal_model.specs.scripts.Cut.{lines_of, onto}
+use Rattle.journal_model.specs.reports.Verdict.{ends_script, report_lines, report_part, script_lines, script_part}
 use Rattle.law_legal.proofs.law_verdict.Lines.{line_of_words}
 use Rattle.law_legal.proofs.law_verdict.ScriptWords.{AreWords, all_above}
 

@@ -5,17 +5,17 @@ use Rattle.std.specs.List.{list_all, enumerate_from}
 use Rattle.std.proofs.lemmas.Bool.Decides.{nat_tests}
 use Rattle.journal_model.specs.declared.script.Script.{Script}
 use Rattle.journal_model.specs.declared.entry.Entry.{Entry}
-use Rattle.journal_model.specs.Words.{Text, line}
-use Rattle.journal_model.specs.Cut.{lines_of}
-use Rattle.journal_model.specs.CommandRules.{command_len, is_between, is_command}
-use Rattle.journal_model.specs.ScriptRules.{has_distinct_names, has_sizes, is_decl, is_script, is_turn_line}
-use Rattle.journal_model.specs.MarkRules.{have_marks}
-use Rattle.journal_model.specs.EntryText.{entry_line}
-use Rattle.journal_model.specs.Legal.{IsLegal, state_of}
-use Rattle.journal_model.specs.Complete.{thread_numbers}
-use Rattle.journal_model.specs.Readable.{is_readable, is_u64}
-use Rattle.journal_model.specs.ReportText.{account_lines, maps_part, report, report_head, spaces_part, thread_results}
-use Rattle.journal_model.specs.Verdict.{AreEntryTexts, IsRightTo}
+use Rattle.journal_model.specs.scripts.Words.{Text, line}
+use Rattle.journal_model.specs.scripts.Cut.{lines_of}
+use Rattle.journal_model.specs.scripts.CommandRules.{command_len, is_between, is_command}
+use Rattle.journal_model.specs.scripts.ScriptRules.{has_distinct_names, has_sizes, is_decl, is_script, is_turn_line}
+use Rattle.journal_model.specs.scripts.MarkRules.{have_marks}
+use Rattle.journal_model.specs.reports.EntryText.{entry_line}
+use Rattle.journal_model.specs.rules.Legal.{IsLegal, state_of}
+use Rattle.journal_model.specs.statements.Complete.{thread_numbers}
+use Rattle.journal_model.specs.scripts.Readable.{is_readable, is_u64}
+use Rattle.journal_model.specs.reports.ReportText.{account_lines, maps_part, report, report_head, spaces_part, thread_results}
+use Rattle.journal_model.specs.reports.Verdict.{AreEntryTexts, IsRightTo}
 use Rattle.law_legal.proofs.law_report.Cuts.{both}
 use Rattle.law_legal.proofs.law_verdict.Heads.{count_line, is_small}
 use Rattle.law_legal.proofs.law_verdict.Actors.{HaveActors}

@@ -12,11 +12,11 @@ use Rattle.journal_model.specs.declared.script.Command.TheVariants as command
 use Rattle.journal_model.specs.declared.script.MarkKind.{MarkKind}
 use Rattle.journal_model.specs.declared.script.MarkKind.TheVariants as mark
 use Rattle.journal_model.specs.declared.space.VOp.{VOp}
-use Rattle.journal_model.specs.Words.{Text, actor_word, hex, line, mem_word, name_of}
-use Rattle.journal_model.specs.Marks.{is_mapped_at, marks_at, vsubmit_at}
-use Rattle.journal_model.specs.ScriptRules.{is_decl, is_script}
-use Rattle.journal_model.specs.Spelling.{addressed_words, buffer_line, command_line, command_lines, command_words, group_word, mapped_words, mark_line, mark_lines, op_words, parted, placement_words, spelling, thread_lines, turn_line, vop_words}
-use Rattle.journal_model.specs.Verdict.{ends_script, report_part, script_part}
+use Rattle.journal_model.specs.scripts.Words.{Text, actor_word, hex, line, mem_word, name_of}
+use Rattle.journal_model.specs.marks.Marks.{is_mapped_at, marks_at, vsubmit_at}
+use Rattle.journal_model.specs.scripts.ScriptRules.{is_decl, is_script}
+use Rattle.journal_model.specs.scripts.Spelling.{addressed_words, buffer_line, command_line, command_lines, command_words, group_word, mapped_words, mark_line, mark_lines, op_words, parted, placement_words, spelling, thread_lines, turn_line, vop_words}
+use Rattle.journal_model.specs.reports.Verdict.{ends_script, report_part, script_part}
 use Rattle.law_legal.proofs.law_report.Cuts.{both}
 use Rattle.law_legal.proofs.law_report.Items.{above}
 use Rattle.law_legal.proofs.law_report.SmallWords.{hex_word, mem_above}

@@ -17,12 +17,12 @@ use Rattle.journal_model.specs.declared.script.Script.{Script}
 use Rattle.journal_model.specs.declared.script.Decl.{Decl}
 use Rattle.journal_model.specs.declared.space.VOp.{VOp}
 use Rattle.journal_model.specs.declared.space.VOp.TheVariants as vop
-use Rattle.journal_model.specs.Words.{Text, actor_word, hex_byte, mem_word, name_of}
-use Rattle.journal_model.specs.Commands.{undeclared}
-use Rattle.journal_model.specs.CommandRules.{command_len, is_between, is_command}
-use Rattle.journal_model.specs.MarkRules.{have_marks}
-use Rattle.journal_model.specs.ScriptRules.{has_distinct_names, has_sizes, is_decl, is_group, is_letter, is_letter_or_digit, is_name, is_place_list, is_script, is_turn_line}
-use Rattle.journal_model.specs.Spelling.{flag, flagged_word, group_word, op_words, parted, place_word, placement_words, reach_word, vop_words, words_of_places}
+use Rattle.journal_model.specs.scripts.Words.{Text, actor_word, hex_byte, mem_word, name_of}
+use Rattle.journal_model.specs.rules.Commands.{undeclared}
+use Rattle.journal_model.specs.scripts.CommandRules.{command_len, is_between, is_command}
+use Rattle.journal_model.specs.scripts.MarkRules.{have_marks}
+use Rattle.journal_model.specs.scripts.ScriptRules.{has_distinct_names, has_sizes, is_decl, is_group, is_letter, is_letter_or_digit, is_name, is_place_list, is_script, is_turn_line}
+use Rattle.journal_model.specs.scripts.Spelling.{flag, flagged_word, group_word, op_words, parted, place_word, placement_words, reach_word, vop_words, words_of_places}
 use Rattle.law_legal.proofs.law_report.Cuts.{both, joint}
 use Rattle.law_legal.proofs.law_report.Items.{above, above_append, weaker}
 use Rattle.law_legal.proofs.law_report.SmallWords.{mem_above}

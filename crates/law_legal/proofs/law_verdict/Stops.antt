@@ -7,12 +7,12 @@ use Rattle.journal_model.specs.declared.state.State.{State}
 use Rattle.journal_model.specs.declared.entry.Entry.{Entry}
 use Rattle.journal_model.specs.declared.entry.Kind.{Kind}
 use Rattle.journal_model.specs.declared.entry.Kind.TheVariants as kind
-use Rattle.journal_model.specs.Words.{Text}
-use Rattle.journal_model.specs.Stores.{Stores, showing}
-use Rattle.journal_model.specs.Legal.{World, IsLegalNext, world_of}
-use Rattle.journal_model.specs.Complete.{is_complete}
-use Rattle.journal_model.specs.ReportText.{report}
-use Rattle.journal_model.specs.Verdict.{HasHead, IsRejected, IsRightTo, IsStep, TellsNext, no_head, no_entry, no_step, not_shown, not_complete, no_end, unshown, unshown_step}
+use Rattle.journal_model.specs.scripts.Words.{Text}
+use Rattle.journal_model.specs.rules.Stores.{Stores, showing}
+use Rattle.journal_model.specs.rules.Legal.{World, IsLegalNext, world_of}
+use Rattle.journal_model.specs.statements.Complete.{is_complete}
+use Rattle.journal_model.specs.reports.ReportText.{report}
+use Rattle.journal_model.specs.reports.Verdict.{HasHead, IsRejected, IsRightTo, IsStep, TellsNext, no_head, no_entry, no_step, not_shown, not_complete, no_end, unshown, unshown_step}
 use Rattle.laws.proofs.law_state.Shown.{legal_step}
 use Rattle.law_legal.proofs.law_verdict.Heads.{one_head}
 use Rattle.law_legal.proofs.law_verdict.Fronts.{OneEntry, Goes, as_long, longer_goes, one_told}

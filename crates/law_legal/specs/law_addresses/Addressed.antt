@@ -7,12 +7,12 @@ use Rattle.journal_model.specs.declared.script.Mark.{Mark}
 use Rattle.journal_model.specs.declared.script.MarkKind.{MarkKind}
 use Rattle.journal_model.specs.declared.script.MarkKind.TheVariants as mark
 use Rattle.journal_model.specs.declared.space.VOp.{VOp}
-use Rattle.journal_model.specs.ByName.{after_vops, vops_shown}
-use Rattle.journal_model.specs.Commands.{commands_of}
-use Rattle.journal_model.specs.Marks.{is_request, marks_of}
-use Rattle.journal_model.specs.PlainMemory.{Memory, after_ops, pieces_shown}
-use Rattle.journal_model.specs.ScriptRules.{is_script}
-use Rattle.journal_model.specs.Spaces.{Space, space_of}
+use Rattle.journal_model.specs.marks.ByName.{after_vops, vops_shown}
+use Rattle.journal_model.specs.rules.Commands.{commands_of}
+use Rattle.journal_model.specs.marks.Marks.{is_request, marks_of}
+use Rattle.journal_model.specs.rules.PlainMemory.{Memory, after_ops, pieces_shown}
+use Rattle.journal_model.specs.scripts.ScriptRules.{is_script}
+use Rattle.journal_model.specs.marks.Spaces.{Space, space_of}
 
 -- the requests among these marks
 abbrev pub requests_among : List Mark → List MarkKind

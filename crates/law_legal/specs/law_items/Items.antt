@@ -5,10 +5,10 @@ use Rattle.journal_model.specs.declared.script.Script.{Script}
 use Rattle.journal_model.specs.declared.script.Command.{Command}
 use Rattle.journal_model.specs.declared.script.Mark.{Mark}
 use Rattle.journal_model.specs.declared.script.MarkKind.{MarkKind}
-use Rattle.journal_model.specs.Words.{Text, line}
-use Rattle.journal_model.specs.Marks.{addressed, is_mapped}
-use Rattle.journal_model.specs.MarkRules.{ThreadMappings, empty_thread_mappings, thread_mappings_after, is_mark, is_way}
-use Rattle.journal_model.specs.Spelling.{addressed_words, command_words, mapped_words, mark_line}
+use Rattle.journal_model.specs.scripts.Words.{Text, line}
+use Rattle.journal_model.specs.marks.Marks.{addressed, is_mapped}
+use Rattle.journal_model.specs.scripts.MarkRules.{ThreadMappings, empty_thread_mappings, thread_mappings_after, is_mark, is_way}
+use Rattle.journal_model.specs.scripts.Spelling.{addressed_words, command_words, mapped_words, mark_line}
 
 -- a line of a thread: a mark with a line of its own, or a command and the marks that say how it is written
 pub data Item : Type 0 where

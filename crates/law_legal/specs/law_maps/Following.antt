@@ -5,9 +5,9 @@ use Rattle.ttm_base.specs.Pages.{Page, translated}
 use Rattle.journal_model.specs.declared.script.Script.{Script}
 use Rattle.journal_model.specs.declared.entry.Kind.{Kind}
 use Rattle.journal_model.specs.declared.entry.Kind.TheVariants as kind
-use Rattle.journal_model.specs.Legal.{Made}
-use Rattle.journal_model.specs.Complete.{is_answer}
-use Rattle.journal_model.specs.Mapped.{Mapping, mapped_entry, has_ended, count_answers}
+use Rattle.journal_model.specs.rules.Legal.{Made}
+use Rattle.journal_model.specs.statements.Complete.{is_answer}
+use Rattle.journal_model.specs.marks.Mapped.{Mapping, mapped_entry, has_ended, count_answers}
 use Rattle.cpu_maps.specs.declared.area.Area.{Area}
 use Rattle.cpu_maps.specs.Areas.{entry_in, without_page, without_buffer, unmapped}
 

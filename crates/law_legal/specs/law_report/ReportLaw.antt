@@ -3,9 +3,9 @@ use Rattle.std.specs.Prelude.{◌≡◌, ◌^◌, ◌<◌, true, List, length}
 use Rattle.std.specs.List.{list_all}
 use Rattle.journal_model.specs.declared.script.Script.{Script}
 use Rattle.journal_model.specs.declared.entry.Entry.{Entry}
-use Rattle.journal_model.specs.ScriptRules.{is_script}
-use Rattle.journal_model.specs.ReportText.{report}
-use Rattle.journal_model.specs.Readable.{is_readable}
+use Rattle.journal_model.specs.scripts.ScriptRules.{is_script}
+use Rattle.journal_model.specs.reports.ReportText.{report}
+use Rattle.journal_model.specs.scripts.Readable.{is_readable}
 
 -- two journals of a script with one report are one
 abbrev pub OneJournal : Type 0

@@ -16,10 +16,10 @@ use Rattle.journal_model.specs.declared.line.OpWord.{OpWord}
 use Rattle.journal_model.specs.declared.line.OpWord.TheVariants as op_word
 use Rattle.journal_model.specs.declared.line.VOpWord.{VOpWord}
 use Rattle.journal_model.specs.declared.line.VOpWord.TheVariants as vop_word
-use Rattle.journal_model.specs.Words.{Text}
-use Rattle.journal_model.specs.LineWords.{keyword_of, line_of}
-use Rattle.journal_model.specs.LineRules.{rule_broken}
-use Rattle.journal_model.specs.FirstFault.{first_word}
+use Rattle.journal_model.specs.scripts.Words.{Text}
+use Rattle.journal_model.specs.scripts.LineWords.{keyword_of, line_of}
+use Rattle.journal_model.specs.scripts.LineRules.{rule_broken}
+use Rattle.journal_model.specs.scripts.FirstFault.{first_word}
 
 -- the word is a place
 abbrev pub says_place : PlaceWord → Bool

@@ -1,9 +1,9 @@
 -- The laws that make the spelling of a script and the first fault of its bytes one story.
 use Rattle.std.specs.Prelude.{◌≡◌, ◌↔◌, None, Ok}
 use Rattle.journal_model.specs.declared.script.Script.{Script}
-use Rattle.journal_model.specs.Words.{Text}
-use Rattle.journal_model.specs.ScriptRules.{IsScript}
-use Rattle.journal_model.specs.FirstFault.{script_of, first_fault}
+use Rattle.journal_model.specs.scripts.Words.{Text}
+use Rattle.journal_model.specs.scripts.ScriptRules.{IsScript}
+use Rattle.journal_model.specs.scripts.FirstFault.{script_of, first_fault}
 
 -- what the lines say is a script with these bytes
 abbrev pub TakesScripts : Type 0

@@ -1,6 +1,6 @@
 -- Mappings in rising order, of which no two have a page in common.
 use Rattle.std.specs.Prelude.{ℕ, ◌<◌, ◌≤◌, List, [], ◌∷◌}
-use Rattle.journal_model.specs.Spaces.{Region}
+use Rattle.journal_model.specs.marks.Spaces.{Region}
 
 -- each begins at or past a page
 abbrev pub IsPast : ℕ → List Region → Type 0

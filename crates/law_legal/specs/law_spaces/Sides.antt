@@ -1,7 +1,7 @@
 -- What a range leaves of mappings: those before it, cut at its start, and those behind it, cut at its end.
 use Rattle.std.specs.Prelude.{List, ◌++◌, map, flat_map, option_to_list}
 use Rattle.ttm_base.specs.declared.Span.{Span}
-use Rattle.journal_model.specs.Spaces.{Region, part_of, part_before, part_after}
+use Rattle.journal_model.specs.marks.Spaces.{Region, part_of, part_before, part_after}
 
 -- what stays of a mapping before a range
 abbrev pub head_of : Span → Region → List Region

@@ -2,12 +2,12 @@
 use Rattle.std.specs.Prelude.{◌≡◌, ℕ, List, ◌++◌, true, IsTrue}
 use Rattle.journal_model.specs.declared.script.Script.{Script}
 use Rattle.journal_model.specs.declared.entry.Entry.{Entry}
-use Rattle.journal_model.specs.Words.{Text}
-use Rattle.journal_model.specs.ScriptRules.{IsScript, is_script}
-use Rattle.journal_model.specs.Legal.{IsLegal}
-use Rattle.journal_model.specs.Complete.{is_complete}
-use Rattle.journal_model.specs.ReportText.{report}
-use Rattle.journal_model.specs.Verdict.{IsAccepted, IsRejected, report_part, script_part}
+use Rattle.journal_model.specs.scripts.Words.{Text}
+use Rattle.journal_model.specs.scripts.ScriptRules.{IsScript, is_script}
+use Rattle.journal_model.specs.rules.Legal.{IsLegal}
+use Rattle.journal_model.specs.statements.Complete.{is_complete}
+use Rattle.journal_model.specs.reports.ReportText.{report}
+use Rattle.journal_model.specs.reports.Verdict.{IsAccepted, IsRejected, report_part, script_part}
 
 -- what is accepted isn't rejected, at any entry or by any rule
 abbrev pub AcceptedIsNotRejected : Type 0

@@ -6,10 +6,10 @@ use Rattle.journal_model.specs.declared.script.Script.{Script}
 use Rattle.journal_model.specs.declared.entry.Entry.{Entry}
 use Rattle.journal_model.specs.declared.state.State.{State}
 use Rattle.journal_model.specs.declared.state.Victim.{Victim}
-use Rattle.journal_model.specs.State.{buffer, reservation, course}
-use Rattle.journal_model.specs.Ready.{has_some_target}
-use Rattle.journal_model.specs.ScriptRules.{is_script}
-use Rattle.journal_model.specs.Legal.{World, first_world, world_after, world_along, state_of, IsLegalFrom, IsLegal}
+use Rattle.journal_model.specs.rules.State.{buffer, reservation, course}
+use Rattle.journal_model.specs.rules.Ready.{has_some_target}
+use Rattle.journal_model.specs.scripts.ScriptRules.{is_script}
+use Rattle.journal_model.specs.rules.Legal.{World, first_world, world_after, world_along, state_of, IsLegalFrom, IsLegal}
 use Rattle.laws.proofs.law_state.Shown.{legal_step}
 use Rattle.laws.proofs.lemma_end_searches.Victims.{Caught}
 use Rattle.laws.proofs.law_end.Lasting.{Steady, steady_keeps, steady_first}

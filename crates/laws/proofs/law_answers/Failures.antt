@@ -28,18 +28,18 @@ use Rattle.journal_model.specs.declared.state.Buffer.{Buffer}
 use Rattle.journal_model.specs.declared.state.Victim.{Victim}
 use Rattle.journal_model.specs.declared.state.Task.{Task}
 use Rattle.journal_model.specs.declared.state.Task.TheVariants as task
-use Rattle.journal_model.specs.State.{new_buffer, buffer, reservation, course, course_of, changed, live_in, has_target, same_buffer, has_buffer, without_buffer}
-use Rattle.journal_model.specs.Commands.{named, commands_of, command_at_work}
-use Rattle.journal_model.specs.Dry.{has_frame}
-use Rattle.journal_model.specs.Ready.{has_all_frames, has_some_target, is_in_place, is_ready, is_filled, uses_bytes, meets, first_unready}
-use Rattle.journal_model.specs.Search.{is_caught, place_search, place_search_at_work}
-use Rattle.journal_model.specs.Tasks.{starts, first_missing, gives_back}
-use Rattle.journal_model.specs.PageSteps.{target_to_untake, next_job}
-use Rattle.journal_model.specs.ApplyCommands.{named_in, on_to_next}
-use Rattle.journal_model.specs.ApplyJobs.{ops_of}
-use Rattle.journal_model.specs.ApplyPages.{with_spans, with_loc, without_frames, bound, unbound, search_over}
-use Rattle.journal_model.specs.ApplyMoves.{moved}
-use Rattle.journal_model.specs.ApplyVictims.{failed_if, with_fail, with_victim, gone_dry, course_after_dry}
+use Rattle.journal_model.specs.rules.State.{new_buffer, buffer, reservation, course, course_of, changed, live_in, has_target, same_buffer, has_buffer, without_buffer}
+use Rattle.journal_model.specs.rules.Commands.{named, commands_of, command_at_work}
+use Rattle.journal_model.specs.rules.Dry.{has_frame}
+use Rattle.journal_model.specs.rules.Ready.{has_all_frames, has_some_target, is_in_place, is_ready, is_filled, uses_bytes, meets, first_unready}
+use Rattle.journal_model.specs.rules.Search.{is_caught, place_search, place_search_at_work}
+use Rattle.journal_model.specs.rules.Tasks.{starts, first_missing, gives_back}
+use Rattle.journal_model.specs.rules.PageSteps.{target_to_untake, next_job}
+use Rattle.journal_model.specs.rules.ApplyCommands.{named_in, on_to_next}
+use Rattle.journal_model.specs.rules.ApplyJobs.{ops_of}
+use Rattle.journal_model.specs.rules.ApplyPages.{with_spans, with_loc, without_frames, bound, unbound, search_over}
+use Rattle.journal_model.specs.rules.ApplyMoves.{moved}
+use Rattle.journal_model.specs.rules.ApplyVictims.{failed_if, with_fail, with_victim, gone_dry, course_after_dry}
 use Rattle.laws.specs.law_sound.Sound.{Carried, Fits, command_of, locks, system_tt, system_vram, system_both, tt_system, tt_tt, tt_vram, vram_vram, vram_tt, vram_system, vram_both}
 use Rattle.laws.proofs.law_sound.Turns.{Turn, Works, OnVictim, OnBuffer, OnCarried, start, lock, victim_unbind, victim_empty, victim_give, victim_skip, victim_move, victim_fill, victim_search, give, act, fill_in_place, ask, bind, fill_to_bind, hop_up, unbind, move_up, move_across, move_down, fill_to_move, hop_down}
 use Rattle.laws.proofs.law_sound.Gifts.{Gives, SearchOutcome, Filled, answers, makes, shifts, draws, reserves, backs, seeks, binds, unbinds, moves, fills, lets_go, empties, depopulates, untakes, skips, arms, frees, swaps, finds, evicts, dries, fresh, again, back, evicts_for_swap, nothing}

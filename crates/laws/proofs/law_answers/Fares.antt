@@ -14,13 +14,13 @@ use Rattle.journal_model.specs.declared.entry.Entry.{Entry}
 use Rattle.journal_model.specs.declared.entry.Kind.{Kind}
 use Rattle.journal_model.specs.declared.state.State.{State}
 use Rattle.journal_model.specs.declared.state.Course.{Course}
-use Rattle.journal_model.specs.State.{new_buffer, new_course, buffer, course, live_in, has_buffer}
-use Rattle.journal_model.specs.Commands.{decl, undeclared, asked_places}
-use Rattle.journal_model.specs.Ready.{has_some_target, is_in_place, is_filled}
-use Rattle.journal_model.specs.ScriptRules.{is_script}
-use Rattle.journal_model.specs.Next.{next}
-use Rattle.journal_model.specs.Apply.{applied}
-use Rattle.journal_model.specs.Legal.{World, first_state, first_world, world_after, world_along, state_of, IsLegalFrom, IsLegal}
+use Rattle.journal_model.specs.rules.State.{new_buffer, new_course, buffer, course, live_in, has_buffer}
+use Rattle.journal_model.specs.rules.Commands.{decl, undeclared, asked_places}
+use Rattle.journal_model.specs.rules.Ready.{has_some_target, is_in_place, is_filled}
+use Rattle.journal_model.specs.scripts.ScriptRules.{is_script}
+use Rattle.journal_model.specs.rules.Next.{next}
+use Rattle.journal_model.specs.rules.Apply.{applied}
+use Rattle.journal_model.specs.rules.Legal.{World, first_state, first_world, world_after, world_along, state_of, IsLegalFrom, IsLegal}
 use Rattle.laws.proofs.law_state.Shown.{legal_step}
 use Rattle.laws.proofs.law_state.JournalCourses.{is_of_engine, is_of_reaper, of_engine, of_reaper}
 use Rattle.laws.proofs.law_state.Lists.{get_within}

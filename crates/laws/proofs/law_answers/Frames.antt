@@ -24,19 +24,19 @@ use Rattle.journal_model.specs.declared.state.State.{State}
 use Rattle.journal_model.specs.declared.state.Buffer.{Buffer}
 use Rattle.journal_model.specs.declared.state.Victim.{Victim}
 use Rattle.journal_model.specs.declared.state.Task.{Task}
-use Rattle.journal_model.specs.State.{new_buffer, buffer, course, changed, live_in, has_target, same_buffer}
-use Rattle.journal_model.specs.Commands.{decl, command_at_work}
-use Rattle.journal_model.specs.Places.{is_frame}
-use Rattle.journal_model.specs.Ready.{has_all_frames, has_some_target, is_ready, is_filled, meets, first_unready}
-use Rattle.journal_model.specs.PageSteps.{why_caught}
-use Rattle.journal_model.specs.Search.{PlaceSearch}
-use Rattle.journal_model.specs.Waits.{use_of}
-use Rattle.journal_model.specs.ApplyCommands.{named_in}
-use Rattle.journal_model.specs.ApplyJobs.{ops_of, with_use}
-use Rattle.journal_model.specs.ApplyPages.{with_fence, with_loc, without_frames, bound, unbound}
-use Rattle.journal_model.specs.ApplyMoves.{table_left, moved}
-use Rattle.journal_model.specs.ApplyVictims.{leaves_tt}
-use Rattle.journal_model.specs.Legal.{first_state}
+use Rattle.journal_model.specs.rules.State.{new_buffer, buffer, course, changed, live_in, has_target, same_buffer}
+use Rattle.journal_model.specs.rules.Commands.{decl, command_at_work}
+use Rattle.journal_model.specs.rules.Places.{is_frame}
+use Rattle.journal_model.specs.rules.Ready.{has_all_frames, has_some_target, is_ready, is_filled, meets, first_unready}
+use Rattle.journal_model.specs.rules.PageSteps.{why_caught}
+use Rattle.journal_model.specs.rules.Search.{PlaceSearch}
+use Rattle.journal_model.specs.rules.Waits.{use_of}
+use Rattle.journal_model.specs.rules.ApplyCommands.{named_in}
+use Rattle.journal_model.specs.rules.ApplyJobs.{ops_of, with_use}
+use Rattle.journal_model.specs.rules.ApplyPages.{with_fence, with_loc, without_frames, bound, unbound}
+use Rattle.journal_model.specs.rules.ApplyMoves.{table_left, moved}
+use Rattle.journal_model.specs.rules.ApplyVictims.{leaves_tt}
+use Rattle.journal_model.specs.rules.Legal.{first_state}
 use Rattle.laws.proofs.law_state.Lists.{set_at}
 use Rattle.laws.specs.law_sound.Sound.{OnItsWay, in_vram, to_tt, out_of_vram, in_tt, in_system}
 use Rattle.laws.proofs.law_sound.Turns.{Turn, bind, victim_move, move_up, move_across, move_down, victim_empty, act}

@@ -9,12 +9,12 @@ use Rattle.ttm_base.specs.ListWords.{count_from}
 use Rattle.journal_model.specs.declared.script.Script.{Script}
 use Rattle.journal_model.specs.declared.script.Command.{Command}
 use Rattle.journal_model.specs.declared.entry.Entry.{Entry}
-use Rattle.journal_model.specs.State.{course}
-use Rattle.journal_model.specs.Commands.{commands_of, command_at_work}
-use Rattle.journal_model.specs.Complete.{is_answer, is_by_thread, answers_of, is_complete, thread_numbers}
-use Rattle.journal_model.specs.Next.{next}
-use Rattle.journal_model.specs.ScriptRules.{is_script}
-use Rattle.journal_model.specs.Legal.{World, first_world, world_after, world_along, state_of, IsLegalNext, IsLegalFrom, IsLegal}
+use Rattle.journal_model.specs.rules.State.{course}
+use Rattle.journal_model.specs.rules.Commands.{commands_of, command_at_work}
+use Rattle.journal_model.specs.statements.Complete.{is_answer, is_by_thread, answers_of, is_complete, thread_numbers}
+use Rattle.journal_model.specs.rules.Next.{next}
+use Rattle.journal_model.specs.scripts.ScriptRules.{is_script}
+use Rattle.journal_model.specs.rules.Legal.{World, first_world, world_after, world_along, state_of, IsLegalNext, IsLegalFrom, IsLegal}
 use Rattle.laws.proofs.law_state.Shown.{legal_step}
 use Rattle.laws.proofs.law_state.Counted.{counted_law}
 use Rattle.laws.proofs.law_state.Moves.{thread_step}

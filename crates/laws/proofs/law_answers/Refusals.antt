@@ -14,12 +14,12 @@ use Rattle.journal_model.specs.declared.state.State.{State}
 use Rattle.journal_model.specs.declared.state.Course.{Course}
 use Rattle.journal_model.specs.declared.state.Task.{Task}
 use Rattle.journal_model.specs.declared.state.Task.TheVariants as task
-use Rattle.journal_model.specs.State.{buffer, reservation, course}
-use Rattle.journal_model.specs.Commands.{named, command_at_work}
-use Rattle.journal_model.specs.Ready.{is_ready, first_unready}
-use Rattle.journal_model.specs.Tasks.{forbidden, task_of_victim, task_of_failed, task_of_unready, task_of_command}
-use Rattle.journal_model.specs.ScriptRules.{is_script}
-use Rattle.journal_model.specs.Legal.{first_world, world_along, state_of, IsLegal}
+use Rattle.journal_model.specs.rules.State.{buffer, reservation, course}
+use Rattle.journal_model.specs.rules.Commands.{named, command_at_work}
+use Rattle.journal_model.specs.rules.Ready.{is_ready, first_unready}
+use Rattle.journal_model.specs.rules.Tasks.{forbidden, task_of_victim, task_of_failed, task_of_unready, task_of_command}
+use Rattle.journal_model.specs.scripts.ScriptRules.{is_script}
+use Rattle.journal_model.specs.rules.Legal.{first_world, world_along, state_of, IsLegal}
 use Rattle.laws.proofs.law_state.Shown.{legal_plain}
 use Rattle.laws.proofs.law_sound.Along.{stepped_of}
 use Rattle.laws.proofs.law_sound.Turns.{Turn, OnNamed, ban, pinned, bare, ready, refuse, give_up}

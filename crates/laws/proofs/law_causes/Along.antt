@@ -14,14 +14,14 @@ use Rattle.journal_model.specs.declared.entry.Entry.{Entry}
 use Rattle.journal_model.specs.declared.entry.Kind.{Kind}
 use Rattle.journal_model.specs.declared.entry.Kind.TheVariants as kind
 use Rattle.journal_model.specs.declared.entry.Shown.{Shown}
-use Rattle.journal_model.specs.State.{new_buffer, buffer, course, has_buffer}
-use Rattle.journal_model.specs.Commands.{named}
-use Rattle.journal_model.specs.Stores.{Stores, showing}
-use Rattle.journal_model.specs.Next.{next}
-use Rattle.journal_model.specs.Apply.{applied, thread_of}
-use Rattle.journal_model.specs.Complete.{is_answer, is_by_thread}
-use Rattle.journal_model.specs.Causes.{is_take_of, dry_of, presses, is_no_pages_of, has_its_cause, have_causes}
-use Rattle.journal_model.specs.Legal.{World, Made, first_state, first_world, world_after, made_along, made_of, IsLegalFrom, IsLegal}
+use Rattle.journal_model.specs.rules.State.{new_buffer, buffer, course, has_buffer}
+use Rattle.journal_model.specs.rules.Commands.{named}
+use Rattle.journal_model.specs.rules.Stores.{Stores, showing}
+use Rattle.journal_model.specs.rules.Next.{next}
+use Rattle.journal_model.specs.rules.Apply.{applied, thread_of}
+use Rattle.journal_model.specs.statements.Complete.{is_answer, is_by_thread}
+use Rattle.journal_model.specs.statements.Causes.{is_take_of, dry_of, presses, is_no_pages_of, has_its_cause, have_causes}
+use Rattle.journal_model.specs.rules.Legal.{World, Made, first_state, first_world, world_after, made_along, made_of, IsLegalFrom, IsLegal}
 use Rattle.laws.proofs.law_state.Shown.{legal_step}
 use Rattle.laws.proofs.law_state.JournalCourses.{is_of_engine, is_of_reaper, of_engine, of_reaper}
 use Rattle.laws.specs.law_sound.Sound.{Owned, command_of}

@@ -23,18 +23,18 @@ use Rattle.journal_model.specs.declared.entry.Kind.TheVariants as kind
 use Rattle.journal_model.specs.declared.entry.Why.{Why}
 use Rattle.journal_model.specs.declared.entry.Why.TheVariants as why
 use Rattle.journal_model.specs.declared.entry.DryWhy.{DryWhy}
-use Rattle.journal_model.specs.State.{course, course_of, has_buffer}
-use Rattle.journal_model.specs.Commands.{named, commands_of, command_at_work}
-use Rattle.journal_model.specs.Ready.{is_ready, first_unready}
-use Rattle.journal_model.specs.Search.{Step, place_search, is_caught}
-use Rattle.journal_model.specs.Apply.{applied}
-use Rattle.journal_model.specs.ApplyCommands.{on_to_next}
-use Rattle.journal_model.specs.ApplyVictims.{failed_if}
-use Rattle.journal_model.specs.Legal.{Made}
-use Rattle.journal_model.specs.Next.{step_of_task}
-use Rattle.journal_model.specs.Tasks.{task_of_command}
-use Rattle.journal_model.specs.Complete.{is_answer}
-use Rattle.journal_model.specs.Causes.{dry_of, is_take_of, in_command, is_no_pages_of, search_of}
+use Rattle.journal_model.specs.rules.State.{course, course_of, has_buffer}
+use Rattle.journal_model.specs.rules.Commands.{named, commands_of, command_at_work}
+use Rattle.journal_model.specs.rules.Ready.{is_ready, first_unready}
+use Rattle.journal_model.specs.rules.Search.{Step, place_search, is_caught}
+use Rattle.journal_model.specs.rules.Apply.{applied}
+use Rattle.journal_model.specs.rules.ApplyCommands.{on_to_next}
+use Rattle.journal_model.specs.rules.ApplyVictims.{failed_if}
+use Rattle.journal_model.specs.rules.Legal.{Made}
+use Rattle.journal_model.specs.rules.Next.{step_of_task}
+use Rattle.journal_model.specs.rules.Tasks.{task_of_command}
+use Rattle.journal_model.specs.statements.Complete.{is_answer}
+use Rattle.journal_model.specs.statements.Causes.{dry_of, is_take_of, in_command, is_no_pages_of, search_of}
 use Rattle.laws.proofs.law_state.JournalCourses.{own_answered, one_more_if}
 use Rattle.laws.specs.law_sound.Sound.{Owned, command_of}
 use Rattle.laws.proofs.law_sound.Turns.{Turn, OnNamed}

@@ -9,17 +9,17 @@ use Rattle.journal_model.specs.declared.state.State.{State}
 use Rattle.journal_model.specs.declared.entry.Entry.{Entry}
 use Rattle.journal_model.specs.declared.entry.Kind.{Kind}
 use Rattle.journal_model.specs.declared.entry.Kind.TheVariants as kind
-use Rattle.journal_model.specs.ScriptRules.{is_script}
-use Rattle.journal_model.specs.Next.{next}
-use Rattle.journal_model.specs.Apply.{applied}
-use Rattle.journal_model.specs.Legal.{first_state, made_of, state_of, IsLegal}
+use Rattle.journal_model.specs.scripts.ScriptRules.{is_script}
+use Rattle.journal_model.specs.rules.Next.{next}
+use Rattle.journal_model.specs.rules.Apply.{applied}
+use Rattle.journal_model.specs.rules.Legal.{first_state, made_of, state_of, IsLegal}
 use Rattle.laws.proofs.law_state.JournalCourses.{is_of_engine, is_of_reaper, of_engine, of_reaper}
 use Rattle.laws.proofs.law_state.Rules.{rules_of}
 use Rattle.laws.proofs.law_sound.Along.{stepped_of, of_worker}
 use Rattle.laws.proofs.law_end.Lasting.{Steady, steady_keeps, steady_first}
 use Rattle.laws.proofs.law_lists.Keeps.{AreListed, listed_keeps, listed_stays}
 use Rattle.laws.proofs.law_lists.Law.{carried_law}
-use Rattle.journal_model.specs.Causes.{have_causes}
+use Rattle.journal_model.specs.statements.Causes.{have_causes}
 use Rattle.laws.specs.law_causes.Refused.{LeavesNothing}
 use Rattle.laws.proofs.law_causes.Refusals.{refusals_law}
 use Rattle.laws.proofs.lemma_causes_trail.Framed.{AreFramed, framed_stepped, framed_worker, framed_first}

@@ -31,20 +31,20 @@ use Rattle.journal_model.specs.declared.entry.DryWhy.TheVariants as dry
 use Rattle.journal_model.specs.declared.entry.Cause.{Cause}
 use Rattle.journal_model.specs.declared.entry.Cause.TheVariants as cause
 use Rattle.journal_model.specs.declared.entry.CauseRow.{CauseRow}
-use Rattle.journal_model.specs.State.{buffer, reservation, course, same_buffer, has_buffer}
-use Rattle.journal_model.specs.Commands.{named, command_at_work}
-use Rattle.journal_model.specs.Holds.{live_buffers, free_frame, free_slot}
-use Rattle.journal_model.specs.Dry.{has_frame, is_loose, is_dry, swap_victim, ghost_with_frame, dry_why, same_cause, same_rows, same_why}
-use Rattle.journal_model.specs.Ready.{is_in_place, first_unready}
+use Rattle.journal_model.specs.rules.State.{buffer, reservation, course, same_buffer, has_buffer}
+use Rattle.journal_model.specs.rules.Commands.{named, command_at_work}
+use Rattle.journal_model.specs.rules.Holds.{live_buffers, free_frame, free_slot}
+use Rattle.journal_model.specs.rules.Dry.{has_frame, is_loose, is_dry, swap_victim, ghost_with_frame, dry_why, same_cause, same_rows, same_why}
+use Rattle.journal_model.specs.rules.Ready.{is_in_place, first_unready}
 use Rattle.journal_model.specs.declared.state.SearchAim.TheVariants.{Asked, Hop}
-use Rattle.journal_model.specs.Ready.{has_some_target}
-use Rattle.journal_model.specs.Search.{place_search, is_caught}
-use Rattle.journal_model.specs.Tasks.{carried, task_of_misplaced, task_of_unready, task_of_failed, gives_back, forbidden, task_of_command, task_of_held, task_of_victim, first_missing, starts}
-use Rattle.journal_model.specs.Legal.{Made}
-use Rattle.journal_model.specs.Next.{next, step_of_task}
+use Rattle.journal_model.specs.rules.Ready.{has_some_target}
+use Rattle.journal_model.specs.rules.Search.{place_search, is_caught}
+use Rattle.journal_model.specs.rules.Tasks.{carried, task_of_misplaced, task_of_unready, task_of_failed, gives_back, forbidden, task_of_command, task_of_held, task_of_victim, first_missing, starts}
+use Rattle.journal_model.specs.rules.Legal.{Made}
+use Rattle.journal_model.specs.rules.Next.{next, step_of_task}
 use Rattle.laws.proofs.law_state.Moves.{thread_step}
 use Rattle.ttm_base.specs.declared.Actor.TheVariants as actor
-use Rattle.journal_model.specs.Causes.{is_out_of_frames, is_older, is_holder, wants_next, in_command, is_no_pages_of, places_sought, search_of, PressedSearch, pressed_by, no_first_had_room, all_went_dry, all_were_dry, is_search_over, is_out_of_space, has_its_cause}
+use Rattle.journal_model.specs.statements.Causes.{is_out_of_frames, is_older, is_holder, wants_next, in_command, is_no_pages_of, places_sought, search_of, PressedSearch, pressed_by, no_first_had_room, all_went_dry, all_were_dry, is_search_over, is_out_of_space, has_its_cause}
 use Rattle.laws.proofs.law_sound.Turns.{Turn, turn_of, lock, give_up}
 use Rattle.laws.proofs.law_sound.Gifts.{Gives, task_gives, seeks, fills, backs, exists, no_buffer, no_swap, gives_up, refuses}
 use Rattle.laws.proofs.law_sound.Bufs.{same_self, same_is, none_last, last_caught, clash}

@@ -19,17 +19,17 @@ use Rattle.journal_model.specs.declared.state.Task.TheVariants as task
 use Rattle.journal_model.specs.declared.entry.Entry.{Entry}
 use Rattle.journal_model.specs.declared.entry.Kind.{Kind}
 use Rattle.journal_model.specs.declared.entry.Kind.TheVariants as kind
-use Rattle.journal_model.specs.State.{course}
-use Rattle.journal_model.specs.Commands.{command_at_work}
-use Rattle.journal_model.specs.Search.{place_search_at_work, is_caught}
-use Rattle.journal_model.specs.Stores.{showing}
-use Rattle.journal_model.specs.Next.{next}
-use Rattle.journal_model.specs.Apply.{applied}
-use Rattle.journal_model.specs.ApplyVictims.{failed_if, with_fail, gone_dry, course_after_dry}
-use Rattle.journal_model.specs.Complete.{is_answer, is_by_thread}
-use Rattle.journal_model.specs.Causes.{in_command}
-use Rattle.journal_model.specs.PlainMemory.{Plain, plain_after_kind}
-use Rattle.journal_model.specs.Legal.{World, Made, first_state, first_world, world_after, world_along, made_along, made_of, state_of, IsLegalFrom, IsLegal}
+use Rattle.journal_model.specs.rules.State.{course}
+use Rattle.journal_model.specs.rules.Commands.{command_at_work}
+use Rattle.journal_model.specs.rules.Search.{place_search_at_work, is_caught}
+use Rattle.journal_model.specs.rules.Stores.{showing}
+use Rattle.journal_model.specs.rules.Next.{next}
+use Rattle.journal_model.specs.rules.Apply.{applied}
+use Rattle.journal_model.specs.rules.ApplyVictims.{failed_if, with_fail, gone_dry, course_after_dry}
+use Rattle.journal_model.specs.statements.Complete.{is_answer, is_by_thread}
+use Rattle.journal_model.specs.statements.Causes.{in_command}
+use Rattle.journal_model.specs.rules.PlainMemory.{Plain, plain_after_kind}
+use Rattle.journal_model.specs.rules.Legal.{World, Made, first_state, first_world, world_after, world_along, made_along, made_of, state_of, IsLegalFrom, IsLegal}
 use Rattle.laws.proofs.law_state.Shown.{legal_step}
 use Rattle.laws.proofs.law_state.JournalCourses.{is_of_engine, is_of_reaper, of_engine, of_reaper}
 use Rattle.std.proofs.lemmas.Bool.{or_left, or_right}

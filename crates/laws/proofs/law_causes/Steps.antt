@@ -20,17 +20,17 @@ use Rattle.journal_model.specs.declared.entry.Kind.{Kind}
 use Rattle.journal_model.specs.declared.entry.Kind.TheVariants as kind
 use Rattle.journal_model.specs.declared.entry.Why.{Why}
 use Rattle.journal_model.specs.declared.entry.DryWhy.{DryWhy}
-use Rattle.journal_model.specs.State.{new_buffer, buffer, course, reservation, same_buffer, has_buffer}
-use Rattle.journal_model.specs.Commands.{named, command_at_work}
-use Rattle.journal_model.specs.Dry.{is_dry}
-use Rattle.journal_model.specs.Ready.{is_ready, first_unready}
-use Rattle.journal_model.specs.Search.{place_search, place_search_at_work, is_caught, aim_of}
-use Rattle.journal_model.specs.Apply.{applied}
-use Rattle.journal_model.specs.ApplyCommands.{on_to_next}
-use Rattle.journal_model.specs.ApplyVictims.{with_fail, gone_dry, course_after_dry}
-use Rattle.journal_model.specs.Legal.{Made}
-use Rattle.journal_model.specs.Complete.{is_answer, is_by_thread}
-use Rattle.journal_model.specs.Causes.{is_take_of, dry_of, presses, is_at_work, places_sought, is_dry_place, was_dry, search_of, shows_pressure}
+use Rattle.journal_model.specs.rules.State.{new_buffer, buffer, course, reservation, same_buffer, has_buffer}
+use Rattle.journal_model.specs.rules.Commands.{named, command_at_work}
+use Rattle.journal_model.specs.rules.Dry.{is_dry}
+use Rattle.journal_model.specs.rules.Ready.{is_ready, first_unready}
+use Rattle.journal_model.specs.rules.Search.{place_search, place_search_at_work, is_caught, aim_of}
+use Rattle.journal_model.specs.rules.Apply.{applied}
+use Rattle.journal_model.specs.rules.ApplyCommands.{on_to_next}
+use Rattle.journal_model.specs.rules.ApplyVictims.{with_fail, gone_dry, course_after_dry}
+use Rattle.journal_model.specs.rules.Legal.{Made}
+use Rattle.journal_model.specs.statements.Complete.{is_answer, is_by_thread}
+use Rattle.journal_model.specs.statements.Causes.{is_take_of, dry_of, presses, is_at_work, places_sought, is_dry_place, was_dry, search_of, shows_pressure}
 use Rattle.laws.specs.law_sound.Sound.{Owned}
 use Rattle.laws.proofs.law_sound.Turns.{Works, OnNamed}
 use Rattle.laws.proofs.law_sound.Steadies.{next_course}

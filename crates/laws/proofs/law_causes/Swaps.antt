@@ -12,12 +12,12 @@ use Rattle.ttm_base.specs.Reach.{mem_number}
 use Rattle.journal_model.specs.declared.script.Script.{Script}
 use Rattle.journal_model.specs.declared.state.State.{State}
 use Rattle.journal_model.specs.declared.state.Buffer.{Buffer}
-use Rattle.journal_model.specs.State.{new_buffer, buffer, reservation, live_in, same_buffer, has_buffer, has_target}
-use Rattle.journal_model.specs.Commands.{decl}
-use Rattle.journal_model.specs.Lists.{list_number, in_order}
-use Rattle.journal_model.specs.Holds.{live_entry}
-use Rattle.journal_model.specs.Dry.{is_loose, has_frame, swap_victim}
-use Rattle.journal_model.specs.Ready.{has_some_target}
+use Rattle.journal_model.specs.rules.State.{new_buffer, buffer, reservation, live_in, same_buffer, has_buffer, has_target}
+use Rattle.journal_model.specs.rules.Commands.{decl}
+use Rattle.journal_model.specs.rules.Lists.{list_number, in_order}
+use Rattle.journal_model.specs.rules.Holds.{live_entry}
+use Rattle.journal_model.specs.rules.Dry.{is_loose, has_frame, swap_victim}
+use Rattle.journal_model.specs.rules.Ready.{has_some_target}
 use Rattle.laws.proofs.law_state.Rules.{Rules}
 use Rattle.laws.proofs.law_sound.Bufs.{none_found}
 use Rattle.laws.proofs.law_lists.OneList.{list_of, is_number}

@@ -7,12 +7,12 @@ use Rattle.journal_model.specs.declared.script.Script.{Script}
 use Rattle.journal_model.specs.declared.script.Command.TheVariants as command
 use Rattle.journal_model.specs.declared.entry.Kind.{Kind}
 use Rattle.journal_model.specs.declared.entry.Kind.TheVariants as kind
-use Rattle.journal_model.specs.Commands.{whole}
-use Rattle.journal_model.specs.Legal.{made_of}
-use Rattle.journal_model.specs.Complete.{is_complete}
-use Rattle.journal_model.specs.ScriptRules.{is_script}
-use Rattle.journal_model.specs.Scheduled.{scheduled}
-use Rattle.journal_model.specs.Causes.{have_causes}
+use Rattle.journal_model.specs.rules.Commands.{whole}
+use Rattle.journal_model.specs.rules.Legal.{made_of}
+use Rattle.journal_model.specs.statements.Complete.{is_complete}
+use Rattle.journal_model.specs.scripts.ScriptRules.{is_script}
+use Rattle.journal_model.specs.statements.Scheduled.{scheduled}
+use Rattle.journal_model.specs.statements.Causes.{have_causes}
 use Rattle.journal_model.proofs.Rows.{sizes, buf_named, buf_id, script_of, kinds_of_thread}
 
 abbrev pub victim_script : Script

@@ -10,8 +10,8 @@ use Rattle.ttm_base.specs.declared.Op.TheVariants as op
 use Rattle.ttm_base.specs.ListWords.{count_from}
 use Rattle.ttm_base.specs.Cutting.{to_border, room, op_len, pieces_from, pieces_of}
 use Rattle.journal_model.specs.declared.script.Script.{Script}
-use Rattle.journal_model.specs.PlainMemory.{Memory, after_op, after_ops, memory_range, piece_shown}
-use Rattle.journal_model.specs.CommandRules.{is_op}
+use Rattle.journal_model.specs.rules.PlainMemory.{Memory, after_op, after_ops, memory_range, piece_shown}
+use Rattle.journal_model.specs.scripts.CommandRules.{is_op}
 use Rattle.laws.specs.law_cutting.Parts.{part_of, IsOfPages, IsPiece}
 
 -- two buffers, where an operation reads beside what it writes

@@ -3,11 +3,11 @@ use Rattle.std.proofs.Common.{◌≡◌, ◌<◌, ◌+◌, ◌*◌, true, List, 
 use Rattle.std.specs.Prelude.{sum_by}
 use Rattle.journal_model.specs.declared.script.Script.{Script}
 use Rattle.journal_model.specs.declared.entry.Entry.{Entry}
-use Rattle.journal_model.specs.ScriptRules.{is_script}
-use Rattle.journal_model.specs.Legal.{IsLegal}
-use Rattle.journal_model.specs.Complete.{is_over, is_complete}
-use Rattle.journal_model.specs.DeadEnd.{can_step}
-use Rattle.journal_model.specs.Scheduled.{run_of, own_order, scheduled_actors, packets_in, scheduled, turn_limit}
+use Rattle.journal_model.specs.scripts.ScriptRules.{is_script}
+use Rattle.journal_model.specs.rules.Legal.{IsLegal}
+use Rattle.journal_model.specs.statements.Complete.{is_over, is_complete}
+use Rattle.journal_model.specs.statements.DeadEnd.{can_step}
+use Rattle.journal_model.specs.statements.Scheduled.{run_of, own_order, scheduled_actors, packets_in, scheduled, turn_limit}
 use Rattle.laws.proofs.law_state.Counted.{over_law}
 use Rattle.laws.proofs.law_state.Turns.{run_good}
 use Rattle.laws.proofs.law_sound.JournalEnds.{journal_ends, sim_ends}

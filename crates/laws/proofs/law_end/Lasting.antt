@@ -15,14 +15,14 @@ use Rattle.journal_model.specs.declared.state.Course.{Course}
 use Rattle.journal_model.specs.declared.state.Victim.{Victim}
 use Rattle.journal_model.specs.declared.state.Task.{Task}
 use Rattle.journal_model.specs.declared.entry.Kind.{Kind}
-use Rattle.journal_model.specs.State.{buffer, course, same_buffer}
-use Rattle.journal_model.specs.Commands.{decl, undeclared, asked_places}
-use Rattle.journal_model.specs.Ready.{has_some_target}
-use Rattle.journal_model.specs.Search.{PlaceSearch}
-use Rattle.journal_model.specs.ScriptRules.{is_script}
-use Rattle.journal_model.specs.Next.{next}
-use Rattle.journal_model.specs.Apply.{applied}
-use Rattle.journal_model.specs.Legal.{first_state}
+use Rattle.journal_model.specs.rules.State.{buffer, course, same_buffer}
+use Rattle.journal_model.specs.rules.Commands.{decl, undeclared, asked_places}
+use Rattle.journal_model.specs.rules.Ready.{has_some_target}
+use Rattle.journal_model.specs.rules.Search.{PlaceSearch}
+use Rattle.journal_model.specs.scripts.ScriptRules.{is_script}
+use Rattle.journal_model.specs.rules.Next.{next}
+use Rattle.journal_model.specs.rules.Apply.{applied}
+use Rattle.journal_model.specs.rules.Legal.{first_state}
 use Rattle.laws.proofs.law_state.JournalCourses.{is_of_engine, is_of_reaper, of_engine, of_reaper}
 use Rattle.laws.specs.law_state.GoodState.{GoodState}
 use Rattle.laws.specs.law_state.Courses.{GoodCourses}

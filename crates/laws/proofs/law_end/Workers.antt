@@ -12,12 +12,12 @@ use Rattle.journal_model.specs.declared.state.Job.{Job}
 use Rattle.journal_model.specs.declared.state.Ghost.{Ghost}
 use Rattle.journal_model.specs.declared.entry.Kind.{Kind}
 use Rattle.journal_model.specs.declared.entry.Kind.TheVariants as kind
-use Rattle.journal_model.specs.Waits.{waited_for}
-use Rattle.journal_model.specs.Search.{Step}
-use Rattle.journal_model.specs.PageSteps.{unless_waiting}
-use Rattle.journal_model.specs.Next.{head_of, step_of_job, next}
-use Rattle.journal_model.specs.Apply.{applied}
-use Rattle.journal_model.specs.ApplyJobs.{after_packet_run, after_done}
+use Rattle.journal_model.specs.rules.Waits.{waited_for}
+use Rattle.journal_model.specs.rules.Search.{Step}
+use Rattle.journal_model.specs.rules.PageSteps.{unless_waiting}
+use Rattle.journal_model.specs.rules.Next.{head_of, step_of_job, next}
+use Rattle.journal_model.specs.rules.Apply.{applied}
+use Rattle.journal_model.specs.rules.ApplyJobs.{after_packet_run, after_done}
 use Rattle.laws.proofs.law_sound.Measure.{measure}
 use Rattle.laws.proofs.law_sound.MeasureFalls.{reap_lowers, packet_lowers, done_lowers}
 use Rattle.laws.proofs.law_sound.Bufs.{found_passes}

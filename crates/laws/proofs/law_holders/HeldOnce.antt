@@ -12,9 +12,9 @@ use Rattle.journal_model.specs.declared.script.Script.{Script}
 use Rattle.journal_model.specs.declared.state.Core.{Core}
 use Rattle.journal_model.specs.declared.state.Buffer.{Buffer}
 use Rattle.journal_model.specs.declared.state.Ghost as ghosts
-use Rattle.journal_model.specs.State.{live_in, new_buffer, target_spans}
-use Rattle.journal_model.specs.Places.{pages_of, frame_of, slot_of, loc_of, page_in, page_in_vram, page_in_table}
-use Rattle.journal_model.specs.Holds.{spans_in}
+use Rattle.journal_model.specs.rules.State.{live_in, new_buffer, target_spans}
+use Rattle.journal_model.specs.rules.Places.{pages_of, frame_of, slot_of, loc_of, page_in, page_in_vram, page_in_table}
+use Rattle.journal_model.specs.rules.Holds.{spans_in}
 use Rattle.laws.specs.lemma_bytes_model.Memory.{Page, Nowhere, Vram, Frame, Slot, Own}
 use Rattle.laws.specs.lemma_bytes_model.View.{Owner, Idle, Free, Live, Kept, Target, Ghost}
 use Rattle.laws.proofs.law_owners.Counts.{one, times, stands, summed, weigh}

@@ -11,8 +11,8 @@ use Rattle.journal_model.specs.declared.script.Script.{Script}
 use Rattle.journal_model.specs.declared.state.Core.{Core}
 use Rattle.journal_model.specs.declared.state.Buffer.{Buffer}
 use Rattle.journal_model.specs.declared.state.Ghost.{Ghost}
-use Rattle.journal_model.specs.Places.{pages_of, frame_of, mapped_frame, mapped_in, mapped_pages, aperture}
-use Rattle.journal_model.specs.Holds.{spans_in}
+use Rattle.journal_model.specs.rules.Places.{pages_of, frame_of, mapped_frame, mapped_in, mapped_pages, aperture}
+use Rattle.journal_model.specs.rules.Holds.{spans_in}
 use Rattle.laws.proofs.law_owners.Counts.{one, times, stands, summed, weigh}
 use Rattle.laws.proofs.law_owners.Weights.{tt_pages, of_buffer, of_ghost, weight}
 use Rattle.laws.proofs.law_owners.Law.{AreHeldOnce}

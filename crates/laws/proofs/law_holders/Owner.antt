@@ -8,8 +8,8 @@ use Rattle.ttm_base.specs.declared.Loc.TheVariants as loc
 use Rattle.journal_model.specs.declared.state.Core.{Core}
 use Rattle.journal_model.specs.declared.state.Buffer.{Buffer}
 use Rattle.journal_model.specs.declared.state.Ghost as ghosts
-use Rattle.journal_model.specs.State.{new_buffer, target_spans}
-use Rattle.journal_model.specs.Places.{pages_of, page_in, page_in_vram, page_in_table, loc_of}
+use Rattle.journal_model.specs.rules.State.{new_buffer, target_spans}
+use Rattle.journal_model.specs.rules.Places.{pages_of, page_in, page_in_vram, page_in_table, loc_of}
 use Rattle.laws.specs.lemma_bytes_model.Memory.{Page, Nowhere, Vram, Frame, Slot, Own, same_page}
 use Rattle.laws.specs.lemma_bytes_model.View.{Owner, Idle, Free, Live, Kept, Target, Ghost}
 use Rattle.laws.proofs.lemma_bytes_model.Actions.{same_page-refl, same_page-true}

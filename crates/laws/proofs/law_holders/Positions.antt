@@ -3,7 +3,7 @@ use Rattle.std.proofs.Common.{◌≡◌, ℕ, ◌+◌, ◌≤◌, zero, suc, Boo
 use Rattle.std.specs.Prelude.{slice_get, nat_eq, filter_map, option_and_then, ◌||◌}
 use Rattle.std.proofs.lemmas.Bool.Decides.{nat_tests}
 use Rattle.ttm_base.specs.declared.Loc.{Loc}
-use Rattle.journal_model.specs.Holds.{has_number}
+use Rattle.journal_model.specs.rules.Holds.{has_number}
 use Rattle.laws.proofs.law_owners.Counts.{one, times, summed, weigh}
 use Rattle.laws.proofs.law_owners.Keeps.{in_loc, times-cons}
 

@@ -4,7 +4,7 @@ use Rattle.std.specs.Prelude.{nat_lt}
 use Rattle.ttm_base.specs.Pages as pages
 use Rattle.journal_model.specs.declared.script.Script.{Script}
 use Rattle.journal_model.specs.declared.state.Core.{Core}
-use Rattle.journal_model.specs.Stores.{is_there}
+use Rattle.journal_model.specs.rules.Stores.{is_there}
 use Rattle.laws.specs.lemma_bytes_model.Memory.{Page}
 use Rattle.laws.specs.lemma_bytes_model.View.{Owner}
 use Rattle.laws.proofs.law_owners.Counts.{one}

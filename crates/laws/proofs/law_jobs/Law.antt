@@ -17,15 +17,15 @@ use Rattle.journal_model.specs.declared.state.Task.TheVariants as task
 use Rattle.journal_model.specs.declared.entry.Entry.{Entry}
 use Rattle.journal_model.specs.declared.entry.Kind.{Kind}
 use Rattle.journal_model.specs.declared.entry.Kind.TheVariants as kind
-use Rattle.journal_model.specs.State.{course}
-use Rattle.journal_model.specs.ScriptRules.{is_script}
-use Rattle.journal_model.specs.Search.{Step}
-use Rattle.journal_model.specs.PageSteps.{next_job}
-use Rattle.journal_model.specs.Next.{next, head_of, step_of_job}
-use Rattle.journal_model.specs.Apply.{applied, engine_of}
-use Rattle.journal_model.specs.ApplyMoves.{with_job}
-use Rattle.journal_model.specs.ApplyJobs.{changed_job}
-use Rattle.journal_model.specs.Legal.{World, first_state, first_world, world_after, world_along, state_of, IsLegalFrom, IsLegal}
+use Rattle.journal_model.specs.rules.State.{course}
+use Rattle.journal_model.specs.scripts.ScriptRules.{is_script}
+use Rattle.journal_model.specs.rules.Search.{Step}
+use Rattle.journal_model.specs.rules.PageSteps.{next_job}
+use Rattle.journal_model.specs.rules.Next.{next, head_of, step_of_job}
+use Rattle.journal_model.specs.rules.Apply.{applied, engine_of}
+use Rattle.journal_model.specs.rules.ApplyMoves.{with_job}
+use Rattle.journal_model.specs.rules.ApplyJobs.{changed_job}
+use Rattle.journal_model.specs.rules.Legal.{World, first_state, first_world, world_after, world_along, state_of, IsLegalFrom, IsLegal}
 use Rattle.laws.proofs.law_state.Shown.{legal_step}
 use Rattle.laws.proofs.law_state.JournalCourses.{is_of_reaper, of_reaper}
 use Rattle.laws.specs.law_state.GoodState.{last_number, GoodState}

@@ -6,8 +6,8 @@ use Rattle.std.proofs.lemmas.Bool.Decides.{nat_tests}
 use Rattle.ttm_base.specs.ListWords.{count_from}
 use Rattle.ttm_base.specs.declared.JobId.{JobId}
 use Rattle.journal_model.specs.declared.state.Job.{Job}
-use Rattle.journal_model.specs.Waits.{same_job}
-use Rattle.journal_model.specs.ApplyJobs.{changed_job}
+use Rattle.journal_model.specs.rules.Waits.{same_job}
+use Rattle.journal_model.specs.rules.ApplyJobs.{changed_job}
 use Rattle.laws.specs.law_state.GoodState.{last_number, GoodJobs}
 use Rattle.laws.specs.law_jobs.JobLines.{done_of, HasJob, IsLine}
 use Rattle.laws.proofs.law_jobs.Lists.{count_more, count_without, length-count, passing, here_passes, here_fails, more_passing, more_failing, kept_passing, found_first, inside, rises, Passes, each, counted}

@@ -14,14 +14,14 @@ use Rattle.journal_model.specs.declared.script.Script.{Script}
 use Rattle.journal_model.specs.declared.script.Decl.{Decl}
 use Rattle.journal_model.specs.declared.script.Command.{Command}
 use Rattle.journal_model.specs.declared.script.Command.TheVariants as command
-use Rattle.journal_model.specs.Words.{Text, line, actor_word}
-use Rattle.journal_model.specs.Commands.{commands_of}
-use Rattle.journal_model.specs.CommandRules.{is_between, is_command, command_len}
-use Rattle.journal_model.specs.MarkRules.{empty_thread_mappings, marks_fit, are_in_order, is_in_thread, has_few_lines, have_marks}
-use Rattle.journal_model.specs.ScriptRules.{is_script, is_decl, has_sizes, has_distinct_names, is_turn_line, IsScript}
-use Rattle.journal_model.specs.Spelling.{buffer_line, thread_lines, turn_line, spelling}
-use Rattle.journal_model.specs.Complete.{thread_numbers}
-use Rattle.journal_model.specs.Scheduled.{scheduled_actors, packets_in, turn_limit}
+use Rattle.journal_model.specs.scripts.Words.{Text, line, actor_word}
+use Rattle.journal_model.specs.rules.Commands.{commands_of}
+use Rattle.journal_model.specs.scripts.CommandRules.{is_between, is_command, command_len}
+use Rattle.journal_model.specs.scripts.MarkRules.{empty_thread_mappings, marks_fit, are_in_order, is_in_thread, has_few_lines, have_marks}
+use Rattle.journal_model.specs.scripts.ScriptRules.{is_script, is_decl, has_sizes, has_distinct_names, is_turn_line, IsScript}
+use Rattle.journal_model.specs.scripts.Spelling.{buffer_line, thread_lines, turn_line, spelling}
+use Rattle.journal_model.specs.statements.Complete.{thread_numbers}
+use Rattle.journal_model.specs.statements.Scheduled.{scheduled_actors, packets_in, turn_limit}
 use Rattle.laws.proofs.law_state.JobsKeep.{few_packets}
 use Rattle.laws.proofs.law_sound.MeasureFalls.{sum_most}
 

@@ -8,9 +8,9 @@ use Rattle.std.proofs.lemmas.Bool.Decides.{nat_tests}
 use Rattle.std.proofs.lemmas.List.Folds.{list_any-append}
 use Rattle.ttm_base.specs.declared.BufId.{BufId}
 use Rattle.journal_model.specs.declared.script.Script.{Script}
-use Rattle.journal_model.specs.State.{same_buffer, has_buffer}
-use Rattle.journal_model.specs.Commands.{decl}
-use Rattle.journal_model.specs.Lists.{same_group, is_mate, one_further, behind_last, placed_in, is_member, members_last}
+use Rattle.journal_model.specs.rules.State.{same_buffer, has_buffer}
+use Rattle.journal_model.specs.rules.Commands.{decl}
+use Rattle.journal_model.specs.rules.Lists.{same_group, is_mate, one_further, behind_last, placed_in, is_member, members_last}
 use Rattle.laws.proofs.law_sound.Bufs.{same_self, same_is, other_is, clash}
 use Rattle.laws.specs.law_lists.GoodLists.{stand_once, SideBySide}
 

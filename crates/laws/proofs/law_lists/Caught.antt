@@ -24,19 +24,19 @@ use Rattle.journal_model.specs.declared.state.State.{State}
 use Rattle.journal_model.specs.declared.state.SearchAim.{SearchAim}
 use Rattle.journal_model.specs.declared.state.Task.{Task}
 use Rattle.journal_model.specs.declared.state.Task.TheVariants as task
-use Rattle.journal_model.specs.State.{buffer, course, reservation}
-use Rattle.journal_model.specs.Commands.{command_at_work, whole}
-use Rattle.journal_model.specs.Choice.{choice, choice_in}
-use Rattle.journal_model.specs.Dry.{is_evictable, is_loose, has_frame, victim}
-use Rattle.journal_model.specs.Holds.{free_frame}
-use Rattle.journal_model.specs.Lists.{in_order}
-use Rattle.journal_model.specs.Places.{loc_of}
-use Rattle.journal_model.specs.PageSteps.{filled_by, page_to_fill, step_of_fill, step_without_frame}
-use Rattle.journal_model.specs.Search.{Step, place_search, why_of}
-use Rattle.journal_model.specs.Stores.{Stores, showing}
-use Rattle.journal_model.specs.Tasks.{task_of, task_of_command}
-use Rattle.journal_model.specs.Next.{next, step_of_task}
-use Rattle.journal_model.specs.Legal.{World, Made, first_world, world_after, made_along, IsLegalFrom, IsLegal}
+use Rattle.journal_model.specs.rules.State.{buffer, course, reservation}
+use Rattle.journal_model.specs.rules.Commands.{command_at_work, whole}
+use Rattle.journal_model.specs.rules.Choice.{choice, choice_in}
+use Rattle.journal_model.specs.rules.Dry.{is_evictable, is_loose, has_frame, victim}
+use Rattle.journal_model.specs.rules.Holds.{free_frame}
+use Rattle.journal_model.specs.rules.Lists.{in_order}
+use Rattle.journal_model.specs.rules.Places.{loc_of}
+use Rattle.journal_model.specs.rules.PageSteps.{filled_by, page_to_fill, step_of_fill, step_without_frame}
+use Rattle.journal_model.specs.rules.Search.{Step, place_search, why_of}
+use Rattle.journal_model.specs.rules.Stores.{Stores, showing}
+use Rattle.journal_model.specs.rules.Tasks.{task_of, task_of_command}
+use Rattle.journal_model.specs.rules.Next.{next, step_of_task}
+use Rattle.journal_model.specs.rules.Legal.{World, Made, first_world, world_after, made_along, IsLegalFrom, IsLegal}
 use Rattle.laws.proofs.law_state.Shown.{legal_step}
 use Rattle.laws.proofs.law_state.Moves.{thread_step}
 use Rattle.laws.proofs.law_sound.Gifts.{Gives, seeks, fills, evicts, evicts_for_swap, task_gives}

@@ -23,17 +23,17 @@ use Rattle.journal_model.specs.declared.state.Task.TheVariants as task
 use Rattle.journal_model.specs.declared.entry.Kind.{Kind}
 use Rattle.journal_model.specs.declared.entry.Kind.TheVariants as kind
 use Rattle.journal_model.specs.declared.entry.Shown.{Shown}
-use Rattle.journal_model.specs.State.{new_buffer, reservation_in, no_reservation, reservation_changed, live_in, changed, has_buffer, same_buffer, course}
-use Rattle.journal_model.specs.Commands.{decl, named, command_at_work}
-use Rattle.journal_model.specs.CommandRules.{is_command}
-use Rattle.journal_model.specs.Lists.{taken_off, listed_as, touched}
-use Rattle.journal_model.specs.Waits.{use_of, jobs_before_target}
-use Rattle.journal_model.specs.Apply.{applied}
-use Rattle.journal_model.specs.ApplyCommands.{with_holder, released, with_pins, pinned_more, pinned_less, named_in, held_as_named}
-use Rattle.journal_model.specs.ApplyJobs.{ops_of, with_use}
-use Rattle.journal_model.specs.ApplyPages.{with_fence, with_spans, with_loc, without_frames, with_kernel_fences, bound, unbound}
-use Rattle.journal_model.specs.ApplyMoves.{moved}
-use Rattle.journal_model.specs.ApplyVictims.{leaves_tt}
+use Rattle.journal_model.specs.rules.State.{new_buffer, reservation_in, no_reservation, reservation_changed, live_in, changed, has_buffer, same_buffer, course}
+use Rattle.journal_model.specs.rules.Commands.{decl, named, command_at_work}
+use Rattle.journal_model.specs.scripts.CommandRules.{is_command}
+use Rattle.journal_model.specs.rules.Lists.{taken_off, listed_as, touched}
+use Rattle.journal_model.specs.rules.Waits.{use_of, jobs_before_target}
+use Rattle.journal_model.specs.rules.Apply.{applied}
+use Rattle.journal_model.specs.rules.ApplyCommands.{with_holder, released, with_pins, pinned_more, pinned_less, named_in, held_as_named}
+use Rattle.journal_model.specs.rules.ApplyJobs.{ops_of, with_use}
+use Rattle.journal_model.specs.rules.ApplyPages.{with_fence, with_spans, with_loc, without_frames, with_kernel_fences, bound, unbound}
+use Rattle.journal_model.specs.rules.ApplyMoves.{moved}
+use Rattle.journal_model.specs.rules.ApplyVictims.{leaves_tt}
 use Rattle.laws.specs.law_state.GoodState.{GoodState}
 use Rattle.laws.specs.law_state.Courses.{GoodCourses, makes as asks_to_make}
 use Rattle.laws.proofs.law_state.Rules.{Rules, at_work_rules}

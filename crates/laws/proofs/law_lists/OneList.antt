@@ -6,9 +6,9 @@ use Rattle.ttm_base.specs.declared.BufId.{BufId}
 use Rattle.journal_model.specs.declared.script.Script.{Script}
 use Rattle.journal_model.specs.declared.state.Buffer.{Buffer}
 use Rattle.journal_model.specs.declared.state.Reservation.{Reservation}
-use Rattle.journal_model.specs.State.{same_buffer, has_buffer, without_buffer, live_in, reservation_in}
-use Rattle.journal_model.specs.Commands.{decl}
-use Rattle.journal_model.specs.Lists.{list_number, is_mate, placed_in, is_member, members_last}
+use Rattle.journal_model.specs.rules.State.{same_buffer, has_buffer, without_buffer, live_in, reservation_in}
+use Rattle.journal_model.specs.rules.Commands.{decl}
+use Rattle.journal_model.specs.rules.Lists.{list_number, is_mate, placed_in, is_member, members_last}
 use Rattle.laws.proofs.law_sound.Bufs.{same_self, same_or_other, other_is, has_without, without_gone, without_kept, clash}
 use Rattle.laws.specs.law_lists.GoodLists.{stand_once}
 use Rattle.laws.proofs.law_lists.Bunches.{bunched, bunched_filter, once_filter, any_placed, once_placed, bunched_placed, bulk_has, bulk_once, bulk_bunched}

@@ -10,10 +10,10 @@ use Rattle.journal_model.specs.declared.script.Script.{Script}
 use Rattle.journal_model.specs.declared.script.Decl.{Decl}
 use Rattle.journal_model.specs.declared.state.Buffer.{Buffer}
 use Rattle.journal_model.specs.declared.state.Reservation.{Reservation}
-use Rattle.journal_model.specs.State.{same_buffer, has_buffer, without_buffer, live_in, reservation_in}
-use Rattle.journal_model.specs.Commands.{decl, undeclared}
-use Rattle.journal_model.specs.ScriptRules.{is_decl}
-use Rattle.journal_model.specs.Lists.{list_number, is_mate, placed_in, taken_off, put_on, listed_as, touched, is_member, members_last}
+use Rattle.journal_model.specs.rules.State.{same_buffer, has_buffer, without_buffer, live_in, reservation_in}
+use Rattle.journal_model.specs.rules.Commands.{decl, undeclared}
+use Rattle.journal_model.specs.scripts.ScriptRules.{is_decl}
+use Rattle.journal_model.specs.rules.Lists.{list_number, is_mate, placed_in, taken_off, put_on, listed_as, touched, is_member, members_last}
 use Rattle.laws.proofs.law_state.Lists.{get_mapped}
 use Rattle.laws.proofs.law_state.JobsKeep.{all_at}
 use Rattle.laws.proofs.law_state.Rules.{Rules}

@@ -1,6 +1,6 @@
 -- A script without its marks has the same legal journals.
 use Rattle.std.proofs.Common.{[]}
-use Rattle.journal_model.specs.MarkLaws.{MarksChangeNothing}
+use Rattle.journal_model.specs.statements.MarkLaws.{MarksChangeNothing}
 use Rattle.laws.proofs.law_search.Forms.{legal_alike}
 
 pub marks_alike : MarksChangeNothing

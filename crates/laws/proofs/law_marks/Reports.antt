@@ -12,15 +12,15 @@ use Rattle.journal_model.specs.declared.entry.Kind.{Kind}
 use Rattle.journal_model.specs.declared.entry.Kind.TheVariants as kind
 use Rattle.journal_model.specs.declared.entry.DryWhy.{DryWhy}
 use Rattle.journal_model.specs.declared.entry.DryWhy.TheVariants as dry
-use Rattle.journal_model.specs.Words.{Text, line, name_of, actor_word, thread_word}
-use Rattle.journal_model.specs.EntryText.{dry_word, kind_words, entry_line}
-use Rattle.journal_model.specs.Complete.{thread_numbers}
-use Rattle.journal_model.specs.Legal.{World, first_world, world_along, state_of, Made, made_along}
-use Rattle.journal_model.specs.Marks.{is_map, is_vmap, requests_of}
-use Rattle.journal_model.specs.Spaces.{steps_along}
-use Rattle.journal_model.specs.Mapped.{Mapping, Access, access_at, answered_before, count_answers, has_ended, entry_after, mapped_entry, mapping_at, pages_of_access, faulted}
-use Rattle.journal_model.specs.ReportText.{thread_results, account_lines, faults_line, fault_lines, thread_faults, maps_part, step_words, thread_steps, spaces_part, report_head}
-use Rattle.journal_model.specs.MarkLaws.{behind_head, ReportsAgree}
+use Rattle.journal_model.specs.scripts.Words.{Text, line, name_of, actor_word, thread_word}
+use Rattle.journal_model.specs.reports.EntryText.{dry_word, kind_words, entry_line}
+use Rattle.journal_model.specs.statements.Complete.{thread_numbers}
+use Rattle.journal_model.specs.rules.Legal.{World, first_world, world_along, state_of, Made, made_along}
+use Rattle.journal_model.specs.marks.Marks.{is_map, is_vmap, requests_of}
+use Rattle.journal_model.specs.marks.Spaces.{steps_along}
+use Rattle.journal_model.specs.marks.Mapped.{Mapping, Access, access_at, answered_before, count_answers, has_ended, entry_after, mapped_entry, mapping_at, pages_of_access, faulted}
+use Rattle.journal_model.specs.reports.ReportText.{thread_results, account_lines, faults_line, fault_lines, thread_faults, maps_part, step_words, thread_steps, spaces_part, report_head}
+use Rattle.journal_model.specs.statements.MarkLaws.{behind_head, ReportsAgree}
 use Rattle.laws.proofs.law_search.FormSearches.{in_form}
 use Rattle.laws.proofs.law_search.FormSteps.{world_same}
 

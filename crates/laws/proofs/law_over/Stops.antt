@@ -17,11 +17,11 @@ use Rattle.journal_model.specs.declared.state.Course.{Course}
 use Rattle.journal_model.specs.declared.state.Job.{Job}
 use Rattle.journal_model.specs.declared.entry.Entry.{Entry}
 use Rattle.journal_model.specs.declared.entry.Kind.{Kind}
-use Rattle.journal_model.specs.State.{course, course_of, new_course}
-use Rattle.journal_model.specs.Commands.{commands_of, command_at_work}
-use Rattle.journal_model.specs.Next.{next, head_of}
-use Rattle.journal_model.specs.Complete.{has_answered, is_complete, is_over, thread_numbers}
-use Rattle.journal_model.specs.Legal.{World, first_world, world_after, world_along, world_of, state_of, IsLegalFrom, IsLegal}
+use Rattle.journal_model.specs.rules.State.{course, course_of, new_course}
+use Rattle.journal_model.specs.rules.Commands.{commands_of, command_at_work}
+use Rattle.journal_model.specs.rules.Next.{next, head_of}
+use Rattle.journal_model.specs.statements.Complete.{has_answered, is_complete, is_over, thread_numbers}
+use Rattle.journal_model.specs.rules.Legal.{World, first_world, world_after, world_along, world_of, state_of, IsLegalFrom, IsLegal}
 use Rattle.laws.proofs.law_state.Counted.{over_law}
 use Rattle.laws.proofs.law_state.Shown.{legal_step}
 

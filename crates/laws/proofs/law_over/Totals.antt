@@ -17,12 +17,12 @@ use Rattle.journal_model.specs.declared.state.State.{State}
 use Rattle.journal_model.specs.declared.state.Course.{Course}
 use Rattle.journal_model.specs.declared.entry.Entry.{Entry}
 use Rattle.journal_model.specs.declared.entry.Kind.{Kind}
-use Rattle.journal_model.specs.State.{course_of}
-use Rattle.journal_model.specs.Stores.{Stores, showing}
-use Rattle.journal_model.specs.Commands.{commands_of, command_at_work}
-use Rattle.journal_model.specs.Next.{next}
-use Rattle.journal_model.specs.Complete.{is_answer, is_by_thread, answers_of, is_complete, thread_numbers}
-use Rattle.journal_model.specs.Legal.{World, first_world, world_after, IsLegalNext, IsLegalFrom, IsLegal, state_of}
+use Rattle.journal_model.specs.rules.State.{course_of}
+use Rattle.journal_model.specs.rules.Stores.{Stores, showing}
+use Rattle.journal_model.specs.rules.Commands.{commands_of, command_at_work}
+use Rattle.journal_model.specs.rules.Next.{next}
+use Rattle.journal_model.specs.statements.Complete.{is_answer, is_by_thread, answers_of, is_complete, thread_numbers}
+use Rattle.journal_model.specs.rules.Legal.{World, first_world, world_after, IsLegalNext, IsLegalFrom, IsLegal, state_of}
 use Rattle.laws.proofs.law_state.JournalCourses.{of_engine, of_reaper, is_of_engine, is_of_reaper}
 use Rattle.laws.proofs.law_state.Shown.{LegalStep, legal_step}
 use Rattle.laws.proofs.law_over.Stops.{no_commands, three}

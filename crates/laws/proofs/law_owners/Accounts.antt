@@ -13,12 +13,12 @@ use Rattle.ttm_base.specs.Holes.{has_page}
 use Rattle.journal_model.specs.declared.script.Script.{Script}
 use Rattle.journal_model.specs.declared.state.Core.{Core}
 use Rattle.journal_model.specs.declared.state.Buffer.{Buffer}
-use Rattle.journal_model.specs.State.{target_spans}
-use Rattle.journal_model.specs.Places.{pages_of, pages_of_span}
-use Rattle.journal_model.specs.Holds.{live_buffers, spans_in, ghost_spans, buffer_holds, ghost_hold, holds, held_spans, held_frames, held_slots, live_frames, ghost_frames, has_number, is_free_page, size_of}
-use Rattle.journal_model.specs.Account.{Account, count_spans, account_of, frame_account, slot_account, count_free, total, are_distinct, is_balanced, has_accounts}
-use Rattle.journal_model.specs.ScriptRules.{is_script}
-use Rattle.journal_model.specs.Legal.{state_of, IsLegal}
+use Rattle.journal_model.specs.rules.State.{target_spans}
+use Rattle.journal_model.specs.rules.Places.{pages_of, pages_of_span}
+use Rattle.journal_model.specs.rules.Holds.{live_buffers, spans_in, ghost_spans, buffer_holds, ghost_hold, holds, held_spans, held_frames, held_slots, live_frames, ghost_frames, has_number, is_free_page, size_of}
+use Rattle.journal_model.specs.statements.Account.{Account, count_spans, account_of, frame_account, slot_account, count_free, total, are_distinct, is_balanced, has_accounts}
+use Rattle.journal_model.specs.scripts.ScriptRules.{is_script}
+use Rattle.journal_model.specs.rules.Legal.{state_of, IsLegal}
 use Rattle.laws.specs.law_owners.OneOwner.{AreOwned, HaveOneOwner}
 use Rattle.laws.proofs.law_owners.Counts.{one, summed, length-append, length-flat_map, summed-sum_by, summed-append, summed-flat_map, summed-map, summed-add}
 use Rattle.laws.proofs.law_owners.Weights.{summed-same}

@@ -9,8 +9,8 @@ use Rattle.ttm_base.specs.ListWords.{count_from}
 use Rattle.ttm_base.specs.Reach.{length_of}
 use Rattle.ttm_base.specs.Holes.{has_page}
 use Rattle.journal_model.specs.declared.state.Buffer.{Buffer}
-use Rattle.journal_model.specs.Places.{pages_of, pages_of_span}
-use Rattle.journal_model.specs.Holds.{live_entry}
+use Rattle.journal_model.specs.rules.Places.{pages_of, pages_of_span}
+use Rattle.journal_model.specs.rules.Holds.{live_entry}
 
 -- one where the test passes
 abbrev pub one : Bool → ℕ

@@ -3,8 +3,8 @@ use Rattle.std.proofs.Common.{ℕ, zero, suc, List, [], ◌∷◌, take}
 use Rattle.std.specs.Prelude.{IsTrue}
 use Rattle.journal_model.specs.declared.script.Script.{Script}
 use Rattle.journal_model.specs.declared.entry.Entry.{Entry}
-use Rattle.journal_model.specs.ScriptRules.{is_script}
-use Rattle.journal_model.specs.Legal.{World, IsLegal, IsLegalFrom, first_world, world_after}
+use Rattle.journal_model.specs.scripts.ScriptRules.{is_script}
+use Rattle.journal_model.specs.rules.Legal.{World, IsLegal, IsLegalFrom, first_world, world_after}
 use Rattle.laws.specs.law_owners.Throughout.{HoldThroughout}
 use Rattle.laws.proofs.law_owners.Accounts.{account_law}
 

@@ -23,16 +23,16 @@ use Rattle.journal_model.specs.declared.entry.Why.TheVariants as why
 use Rattle.journal_model.specs.declared.entry.Kind.{Kind}
 use Rattle.journal_model.specs.declared.entry.Kind.TheVariants as kind
 use Rattle.std.specs.Prelude.{slice_get, unwrap_or}
-use Rattle.journal_model.specs.State.{buffer}
-use Rattle.journal_model.specs.Places.{loc_of}
-use Rattle.journal_model.specs.Commands.{whole}
-use Rattle.journal_model.specs.Holds.{free_frame, free_slot}
-use Rattle.journal_model.specs.Choice.{choice}
-use Rattle.journal_model.specs.Dry.{has_frame}
-use Rattle.journal_model.specs.Waits.{waited_for, jobs_before_write}
-use Rattle.journal_model.specs.Search.{Step, PlaceSearch, place_search, step_of_place_search, step_of_forced, step_of_forced_place, step_of_crowded, first_choice}
-use Rattle.journal_model.specs.PageSteps.{unless_waiting, once_idle, filled_by, page_to_fill, first_frame_page, step_of_fill, step_without_frame, step_of_swap_out, step_of_empty, why_caught}
-use Rattle.journal_model.specs.Next.{plain, step_of_act, step_of_task}
+use Rattle.journal_model.specs.rules.State.{buffer}
+use Rattle.journal_model.specs.rules.Places.{loc_of}
+use Rattle.journal_model.specs.rules.Commands.{whole}
+use Rattle.journal_model.specs.rules.Holds.{free_frame, free_slot}
+use Rattle.journal_model.specs.rules.Choice.{choice}
+use Rattle.journal_model.specs.rules.Dry.{has_frame}
+use Rattle.journal_model.specs.rules.Waits.{waited_for, jobs_before_write}
+use Rattle.journal_model.specs.rules.Search.{Step, PlaceSearch, place_search, step_of_place_search, step_of_forced, step_of_forced_place, step_of_crowded, first_choice}
+use Rattle.journal_model.specs.rules.PageSteps.{unless_waiting, once_idle, filled_by, page_to_fill, first_frame_page, step_of_fill, step_without_frame, step_of_swap_out, step_of_empty, why_caught}
+use Rattle.journal_model.specs.rules.Next.{plain, step_of_act, step_of_task}
 
 -- the kind takes free pages, a free frame or a free slot
 abbrev pub takes : Kind → Bool

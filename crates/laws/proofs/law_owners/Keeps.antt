@@ -16,15 +16,15 @@ use Rattle.journal_model.specs.declared.state.Buffer.{Buffer}
 use Rattle.journal_model.specs.declared.state.Ghost.{Ghost}
 use Rattle.journal_model.specs.declared.entry.Left.{Left}
 use Rattle.journal_model.specs.declared.entry.Left.TheVariants as left
-use Rattle.journal_model.specs.State.{live_in, buffer_in, changed, new_buffer}
-use Rattle.journal_model.specs.Places.{frame_of, slot_of, frames_of}
-use Rattle.journal_model.specs.Waits.{jobs_before_target}
-use Rattle.journal_model.specs.ApplyPages.{with_fence, with_kernel_fences, with_spans, with_loc, without_frame, without_frames, bound, unbound}
-use Rattle.journal_model.specs.ApplyMoves.{moved, table_left, frames_left, ghost_of_moved, core_after_move}
-use Rattle.journal_model.specs.ApplyVictims.{leaves_tt}
-use Rattle.journal_model.specs.ApplyJobs.{with_use}
-use Rattle.journal_model.specs.ApplyCommands.{ghost_of_freed}
-use Rattle.journal_model.specs.Waits.{use_of}
+use Rattle.journal_model.specs.rules.State.{live_in, buffer_in, changed, new_buffer}
+use Rattle.journal_model.specs.rules.Places.{frame_of, slot_of, frames_of}
+use Rattle.journal_model.specs.rules.Waits.{jobs_before_target}
+use Rattle.journal_model.specs.rules.ApplyPages.{with_fence, with_kernel_fences, with_spans, with_loc, without_frame, without_frames, bound, unbound}
+use Rattle.journal_model.specs.rules.ApplyMoves.{moved, table_left, frames_left, ghost_of_moved, core_after_move}
+use Rattle.journal_model.specs.rules.ApplyVictims.{leaves_tt}
+use Rattle.journal_model.specs.rules.ApplyJobs.{with_use}
+use Rattle.journal_model.specs.rules.ApplyCommands.{ghost_of_freed}
+use Rattle.journal_model.specs.rules.Waits.{use_of}
 use Rattle.laws.proofs.law_owners.Counts.{one, times, stands, weigh, summed-append, summed-filter, summed-set}
 use Rattle.laws.proofs.law_owners.Weights.{Room, vram_pages, tt_pages, frames, slots, of_buffer, of_ghost, in_buffers, in_ghosts, weight, changed_weight, left_weight, fences_weigh_none}
 

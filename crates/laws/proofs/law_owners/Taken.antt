@@ -14,9 +14,9 @@ use Rattle.ttm_base.specs.Holes.{has_page, holes}
 use Rattle.ttm_base.specs.RangeChoice.{range_choice}
 use Rattle.journal_model.specs.declared.script.Script.{Script}
 use Rattle.journal_model.specs.declared.state.Core.{Core}
-use Rattle.journal_model.specs.Commands.{decl}
-use Rattle.journal_model.specs.Holds.{size_of, is_free_page, held_spans, has_number, lowest_free}
-use Rattle.journal_model.specs.Choice.{choice, choice_in, range_at, blocks_at, reach_of}
+use Rattle.journal_model.specs.rules.Commands.{decl}
+use Rattle.journal_model.specs.rules.Holds.{size_of, is_free_page, held_spans, has_number, lowest_free}
+use Rattle.journal_model.specs.rules.Choice.{choice, choice_in, range_at, blocks_at, reach_of}
 use Rattle.laws.proofs.law_state.Rules.{Rules}
 use Rattle.laws.proofs.law_owners.Counts.{one, times, stands, stands-none}
 use Rattle.laws.proofs.law_owners.Choices.{range_is_clear}

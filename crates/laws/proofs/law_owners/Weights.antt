@@ -10,10 +10,10 @@ use Rattle.journal_model.specs.declared.script.Script.{Script}
 use Rattle.journal_model.specs.declared.state.Core.{Core}
 use Rattle.journal_model.specs.declared.state.Buffer.{Buffer}
 use Rattle.journal_model.specs.declared.state.Ghost.{Ghost}
-use Rattle.journal_model.specs.State.{live_in, buffer_in, changed, target_spans, new_buffer}
-use Rattle.journal_model.specs.Places.{pages_of, frames_of, slots_of}
-use Rattle.journal_model.specs.Holds.{live_buffers, spans_in, ghost_spans, buffer_holds, ghost_hold, holds, held_spans, held_frames, held_slots, live_frames, ghost_frames}
-use Rattle.journal_model.specs.ApplyPages.{with_fence, with_kernel_fences}
+use Rattle.journal_model.specs.rules.State.{live_in, buffer_in, changed, target_spans, new_buffer}
+use Rattle.journal_model.specs.rules.Places.{pages_of, frames_of, slots_of}
+use Rattle.journal_model.specs.rules.Holds.{live_buffers, spans_in, ghost_spans, buffer_holds, ghost_hold, holds, held_spans, held_frames, held_slots, live_frames, ghost_frames}
+use Rattle.journal_model.specs.rules.ApplyPages.{with_fence, with_kernel_fences}
 use Rattle.laws.proofs.law_owners.Counts.{times, stands, summed, weigh, times-append, times-flat_map, stands-flat_map, summed-append, summed-flat_map, summed-map, summed-live, summed-set}
 
 -- what is held

@@ -13,8 +13,8 @@ use Rattle.ttm_base.specs.Cutting as cutting
 use Rattle.ttm_base.specs.Cutting.{PageMap, pieces_of, packet_of, packets_of}
 use Rattle.ttm_base.specs.Pages as pages
 use Rattle.journal_model.specs.declared.script.Script.{Script}
-use Rattle.journal_model.specs.PlainMemory.{Memory, after_op, after_ops, piece_shown, pieces_shown}
-use Rattle.journal_model.specs.CommandRules.{is_op}
+use Rattle.journal_model.specs.rules.PlainMemory.{Memory, after_op, after_ops, piece_shown, pieces_shown}
+use Rattle.journal_model.specs.scripts.CommandRules.{is_op}
 use Rattle.laws.specs.law_cutting.Parts.{part_of, IsInPage, IsOfPages, IsPiece}
 use Rattle.laws.proofs.law_cutting.Whole.{Each, IsApart, pieces_are, op_is_apart, parts_are_whole}
 use Rattle.laws.specs.lemma_bytes_model.Memory.{Page, Nowhere, Vram, Frame, Slot, Own, Bytes, Stores, Step, Write, Show, put, run, shown}

@@ -16,13 +16,13 @@ use Rattle.journal_model.specs.declared.script.MarkKind.{MarkKind}
 use Rattle.journal_model.specs.declared.script.MarkKind.TheVariants as mark
 use Rattle.journal_model.specs.declared.script.Command.{Command}
 use Rattle.journal_model.specs.declared.script.Command.TheVariants as command
-use Rattle.journal_model.specs.Commands.{as_desired, as_fallback, commands_of, named}
-use Rattle.journal_model.specs.Complete.{thread_numbers}
-use Rattle.journal_model.specs.CommandRules.{is_between, is_op, is_command, command_len}
-use Rattle.journal_model.specs.MarkRules.{ThreadMappings, empty_thread_mappings, thread_mappings_after, is_mark, is_way, are_marks, marks_fit, are_in_order, is_in_thread, has_few_lines, have_marks}
-use Rattle.journal_model.specs.ScriptRules.{is_script, is_decl, is_name, is_group, is_flagged, is_old_list, is_new_list, is_place_list, is_actor, is_turn_line, has_sizes, has_distinct_names}
-use Rattle.journal_model.specs.OldSearch.{one_list}
-use Rattle.journal_model.specs.Marks.{marks_at}
+use Rattle.journal_model.specs.rules.Commands.{as_desired, as_fallback, commands_of, named}
+use Rattle.journal_model.specs.statements.Complete.{thread_numbers}
+use Rattle.journal_model.specs.scripts.CommandRules.{is_between, is_op, is_command, command_len}
+use Rattle.journal_model.specs.scripts.MarkRules.{ThreadMappings, empty_thread_mappings, thread_mappings_after, is_mark, is_way, are_marks, marks_fit, are_in_order, is_in_thread, has_few_lines, have_marks}
+use Rattle.journal_model.specs.scripts.ScriptRules.{is_script, is_decl, is_name, is_group, is_flagged, is_old_list, is_new_list, is_place_list, is_actor, is_turn_line, has_sizes, has_distinct_names}
+use Rattle.journal_model.specs.statements.OldSearch.{one_list}
+use Rattle.journal_model.specs.marks.Marks.{marks_at}
 use Rattle.laws.proofs.law_search.TwoLists.{two_lists}
 
 length-map : {X Y : Type 0} (f : X → Y) (xs : List X) → length (map f xs) ≡ length xs

@@ -28,14 +28,14 @@ use Rattle.journal_model.specs.declared.state.Core.{Core}
 use Rattle.journal_model.specs.declared.state.Course.{Course}
 use Rattle.journal_model.specs.declared.state.Buffer.{Buffer}
 use Rattle.journal_model.specs.declared.state.Reservation.{Reservation}
-use Rattle.journal_model.specs.State.{buffer, reservation, reservation_in, has_buffer, has_target}
-use Rattle.journal_model.specs.Commands.{decl, asked_places, whole}
-use Rattle.journal_model.specs.Holds.{size_of, is_free_page, ghost_spans, live_buffers}
-use Rattle.journal_model.specs.Choice.{choice, choice_in, reach_of}
-use Rattle.journal_model.specs.Dry.{is_long_enough, is_loose, victim, ghost_in, causes}
-use Rattle.journal_model.specs.Lists.{in_order}
-use Rattle.journal_model.specs.Ready.{meets}
-use Rattle.journal_model.specs.Search.{PlaceSearch, place_search, why_of, step_of_crowded, step_of_forced_place, step_of_forced, first_choice, step_of_place_search}
+use Rattle.journal_model.specs.rules.State.{buffer, reservation, reservation_in, has_buffer, has_target}
+use Rattle.journal_model.specs.rules.Commands.{decl, asked_places, whole}
+use Rattle.journal_model.specs.rules.Holds.{size_of, is_free_page, ghost_spans, live_buffers}
+use Rattle.journal_model.specs.rules.Choice.{choice, choice_in, reach_of}
+use Rattle.journal_model.specs.rules.Dry.{is_long_enough, is_loose, victim, ghost_in, causes}
+use Rattle.journal_model.specs.rules.Lists.{in_order}
+use Rattle.journal_model.specs.rules.Ready.{meets}
+use Rattle.journal_model.specs.rules.Search.{PlaceSearch, place_search, why_of, step_of_crowded, step_of_forced_place, step_of_forced, first_choice, step_of_place_search}
 
 -- a script in another version, with other marks
 abbrev pub in_form : ℕ → List Mark → Script → Script

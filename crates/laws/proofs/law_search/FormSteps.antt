@@ -23,20 +23,20 @@ use Rattle.journal_model.specs.declared.state.Buffer.{Buffer}
 use Rattle.journal_model.specs.declared.state.Reservation.{Reservation}
 use Rattle.journal_model.specs.declared.state.Task.{Task}
 use Rattle.journal_model.specs.declared.state.Task.TheVariants as task
-use Rattle.journal_model.specs.State.{buffer, reservation, reservation_in, live_in, course, changed, with_course, reservation_changed}
-use Rattle.journal_model.specs.Commands.{named, command_at_work}
-use Rattle.journal_model.specs.Lists.{listed_as, touched}
-use Rattle.journal_model.specs.Ready.{first_unready, has_some_target, is_filled}
-use Rattle.journal_model.specs.Search.{is_caught, aim_of}
-use Rattle.journal_model.specs.Tasks.{forbidden, gives_back, starts, first_missing, task_of_victim, task_of_misplaced, task_of_unready, task_of_failed, task_of_held, task_of_command}
-use Rattle.journal_model.specs.Next.{step_of_act, step_of_task, step_of_thread, next}
-use Rattle.journal_model.specs.ApplyCommands.{with_holder, released, with_pins, held_as_named}
-use Rattle.journal_model.specs.ApplyPages.{bound, unbound, with_changed}
-use Rattle.journal_model.specs.ApplyMoves.{moved}
-use Rattle.journal_model.specs.ApplyVictims.{with_fail, gone_dry, course_after_dry}
-use Rattle.journal_model.specs.Apply.{applied, thread_of}
-use Rattle.journal_model.specs.Stores.{Stores, stores_after, showing, within}
-use Rattle.journal_model.specs.Legal.{World, world_after, next_entry, shown_step}
+use Rattle.journal_model.specs.rules.State.{buffer, reservation, reservation_in, live_in, course, changed, with_course, reservation_changed}
+use Rattle.journal_model.specs.rules.Commands.{named, command_at_work}
+use Rattle.journal_model.specs.rules.Lists.{listed_as, touched}
+use Rattle.journal_model.specs.rules.Ready.{first_unready, has_some_target, is_filled}
+use Rattle.journal_model.specs.rules.Search.{is_caught, aim_of}
+use Rattle.journal_model.specs.rules.Tasks.{forbidden, gives_back, starts, first_missing, task_of_victim, task_of_misplaced, task_of_unready, task_of_failed, task_of_held, task_of_command}
+use Rattle.journal_model.specs.rules.Next.{step_of_act, step_of_task, step_of_thread, next}
+use Rattle.journal_model.specs.rules.ApplyCommands.{with_holder, released, with_pins, held_as_named}
+use Rattle.journal_model.specs.rules.ApplyPages.{bound, unbound, with_changed}
+use Rattle.journal_model.specs.rules.ApplyMoves.{moved}
+use Rattle.journal_model.specs.rules.ApplyVictims.{with_fail, gone_dry, course_after_dry}
+use Rattle.journal_model.specs.rules.Apply.{applied, thread_of}
+use Rattle.journal_model.specs.rules.Stores.{Stores, stores_after, showing, within}
+use Rattle.journal_model.specs.rules.Legal.{World, world_after, next_entry, shown_step}
 use Rattle.laws.proofs.law_search.FormSearches.{in_form, place_search_same, search_same, meets_same}
 
 module _ (v : ℕ) (ms : List Mark) (script : Script) where

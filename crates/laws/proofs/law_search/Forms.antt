@@ -7,9 +7,9 @@ use Rattle.journal_model.specs.declared.script.Script.{Script}
 use Rattle.journal_model.specs.declared.script.Mark.{Mark}
 use Rattle.journal_model.specs.declared.entry.Entry.{Entry}
 use Rattle.journal_model.specs.declared.state.State.{State}
-use Rattle.journal_model.specs.Legal.{World, first_world, IsLegalFrom, IsLegal}
-use Rattle.journal_model.specs.Scheduled.{Run, run_of, run_along, journal_along, stepped, appended, actor_of_turn, scheduled_actors, own_order, scheduled}
-use Rattle.journal_model.specs.Laws.{FormsAgree}
+use Rattle.journal_model.specs.rules.Legal.{World, first_world, IsLegalFrom, IsLegal}
+use Rattle.journal_model.specs.statements.Scheduled.{Run, run_of, run_along, journal_along, stepped, appended, actor_of_turn, scheduled_actors, own_order, scheduled}
+use Rattle.journal_model.specs.statements.Laws.{FormsAgree}
 use Rattle.laws.proofs.law_search.FormSearches.{in_form}
 use Rattle.laws.proofs.law_search.FormSteps.{next_same, next_entry_same, world_same}
 

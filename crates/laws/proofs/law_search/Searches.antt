@@ -2,8 +2,8 @@
 use Rattle.std.proofs.Common.{◌≡◌, List, [], ◌∷◌, refl, ap, ap₂}
 use Rattle.ttm_base.specs.declared.Place.{Place}
 use Rattle.ttm_base.specs.Placement.{first_places, forced_places}
-use Rattle.journal_model.specs.Commands.{as_fallback}
-use Rattle.journal_model.specs.OldSearch.{step_of_old_place_search, one_list, IsSameSearch}
+use Rattle.journal_model.specs.rules.Commands.{as_fallback}
+use Rattle.journal_model.specs.statements.OldSearch.{step_of_old_place_search, one_list, IsSameSearch}
 use Rattle.std.specs.Prelude.{map}
 
 no_fallback_first : (busy : List Place) → first_places (map as_fallback busy) ≡ []

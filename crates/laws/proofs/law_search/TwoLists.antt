@@ -9,10 +9,10 @@ use Rattle.ttm_base.specs.declared.FlaggedPlace.{FlaggedPlace}
 use Rattle.ttm_base.specs.Placement.{first_places, forced_places}
 use Rattle.journal_model.specs.declared.script.Script.{Script}
 use Rattle.journal_model.specs.declared.script.Decl.{Decl}
-use Rattle.journal_model.specs.Commands.{decl, undeclared, as_desired, as_fallback}
-use Rattle.journal_model.specs.OldSearch.{one_list}
-use Rattle.journal_model.specs.CommandRules.{is_between}
-use Rattle.journal_model.specs.ScriptRules.{is_script, is_decl, is_flagged, is_place, is_old_list, is_place_list}
+use Rattle.journal_model.specs.rules.Commands.{decl, undeclared, as_desired, as_fallback}
+use Rattle.journal_model.specs.statements.OldSearch.{one_list}
+use Rattle.journal_model.specs.scripts.CommandRules.{is_between}
+use Rattle.journal_model.specs.scripts.ScriptRules.{is_script, is_decl, is_flagged, is_place, is_old_list, is_place_list}
 use Rattle.laws.proofs.law_state.JobsKeep.{all_at}
 use Rattle.laws.proofs.law_state.Rules.{rules_of}
 use Rattle.laws.specs.law_search.TwoLists.{IsTwoLists}

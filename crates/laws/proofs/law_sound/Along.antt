@@ -10,17 +10,17 @@ use Rattle.journal_model.specs.declared.state.State.{State}
 use Rattle.journal_model.specs.declared.entry.Entry.{Entry}
 use Rattle.journal_model.specs.declared.entry.Kind.{Kind}
 use Rattle.journal_model.specs.declared.entry.Kind.TheVariants as kind
-use Rattle.journal_model.specs.State.{new_course, course, course_of, no_reservation, buffer_in, has_buffer}
-use Rattle.journal_model.specs.Search.{is_caught}
-use Rattle.journal_model.specs.Commands.{command_at_work}
-use Rattle.journal_model.specs.ScriptRules.{is_script}
-use Rattle.journal_model.specs.Waits.{jobs_before_write}
-use Rattle.journal_model.specs.Next.{next}
-use Rattle.journal_model.specs.Apply.{applied, engine_of}
-use Rattle.journal_model.specs.ApplyJobs.{ops_of}
-use Rattle.journal_model.specs.Complete.{is_complete}
-use Rattle.journal_model.specs.DeadEnd.{IsDeadEnd}
-use Rattle.journal_model.specs.Legal.{World, first_state, first_world, world_after, world_along, state_of, IsLegalFrom, IsLegal}
+use Rattle.journal_model.specs.rules.State.{new_course, course, course_of, no_reservation, buffer_in, has_buffer}
+use Rattle.journal_model.specs.rules.Search.{is_caught}
+use Rattle.journal_model.specs.rules.Commands.{command_at_work}
+use Rattle.journal_model.specs.scripts.ScriptRules.{is_script}
+use Rattle.journal_model.specs.rules.Waits.{jobs_before_write}
+use Rattle.journal_model.specs.rules.Next.{next}
+use Rattle.journal_model.specs.rules.Apply.{applied, engine_of}
+use Rattle.journal_model.specs.rules.ApplyJobs.{ops_of}
+use Rattle.journal_model.specs.statements.Complete.{is_complete}
+use Rattle.journal_model.specs.statements.DeadEnd.{IsDeadEnd}
+use Rattle.journal_model.specs.rules.Legal.{World, first_state, first_world, world_after, world_along, state_of, IsLegalFrom, IsLegal}
 use Rattle.laws.proofs.law_state.Shown.{legal_step}
 use Rattle.laws.proofs.law_state.Counted.{over_law}
 use Rattle.laws.proofs.law_state.JournalCourses.{is_of_engine, is_of_reaper, of_engine, of_reaper, thread_is_there}

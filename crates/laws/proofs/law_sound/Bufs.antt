@@ -10,11 +10,11 @@ use Rattle.ttm_base.specs.declared.Deny.{Deny}
 use Rattle.journal_model.specs.declared.script.Command.{Command}
 use Rattle.journal_model.specs.declared.state.Course.{Course}
 use Rattle.journal_model.specs.declared.state.Victim.{Victim}
-use Rattle.journal_model.specs.State.{same_buffer, has_buffer, without_buffer}
-use Rattle.journal_model.specs.Commands.{named}
-use Rattle.journal_model.specs.Search.{is_caught}
-use Rattle.journal_model.specs.Tasks.{first_missing}
-use Rattle.journal_model.specs.ApplyVictims.{failed_if}
+use Rattle.journal_model.specs.rules.State.{same_buffer, has_buffer, without_buffer}
+use Rattle.journal_model.specs.rules.Commands.{named}
+use Rattle.journal_model.specs.rules.Search.{is_caught}
+use Rattle.journal_model.specs.rules.Tasks.{first_missing}
+use Rattle.journal_model.specs.rules.ApplyVictims.{failed_if}
 
 pub same_self : (b : BufId) → same_buffer b b ≡ true
 same_self b = grind (arith, nat_tests)

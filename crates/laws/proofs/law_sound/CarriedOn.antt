@@ -8,9 +8,9 @@ use Rattle.journal_model.specs.declared.state.Course.{Course}
 use Rattle.journal_model.specs.declared.state.Buffer.{Buffer}
 use Rattle.journal_model.specs.declared.script.Command.{Command}
 use Rattle.journal_model.specs.declared.script.Command.TheVariants as command
-use Rattle.journal_model.specs.State.{has_target}
-use Rattle.journal_model.specs.Ready.{meets, has_some_target}
-use Rattle.journal_model.specs.ApplyPages.{bound}
+use Rattle.journal_model.specs.rules.State.{has_target}
+use Rattle.journal_model.specs.rules.Ready.{meets, has_some_target}
+use Rattle.journal_model.specs.rules.ApplyPages.{bound}
 use Rattle.laws.proofs.law_sound.Measure.{steps_left, carries_left}
 use Rattle.laws.specs.law_sound.Sound.{Carried, Fits, at_target, system_tt, system_vram, system_both, tt_system, tt_tt, tt_vram, vram_vram, vram_tt, vram_system, vram_both}
 

@@ -12,10 +12,10 @@ use Rattle.journal_model.specs.declared.state.State.{State}
 use Rattle.journal_model.specs.declared.state.Job.{Job}
 use Rattle.journal_model.specs.declared.state.Ghost.{Ghost}
 use Rattle.journal_model.specs.declared.script.Command.{Command}
-use Rattle.journal_model.specs.State.{course, course_of, new_course}
-use Rattle.journal_model.specs.Commands.{commands_of, command_at_work}
+use Rattle.journal_model.specs.rules.State.{course, course_of, new_course}
+use Rattle.journal_model.specs.rules.Commands.{commands_of, command_at_work}
 use Rattle.ttm_base.specs.Fences.{named_job}
-use Rattle.journal_model.specs.Complete.{is_over, has_answered, thread_numbers}
+use Rattle.journal_model.specs.statements.Complete.{is_over, has_answered, thread_numbers}
 use Rattle.laws.proofs.law_sound.EnginesGoOn.{engine_goes_on, reaper_goes_on, none_waited_for, open_job}
 use Rattle.laws.proofs.law_sound.ThreadsGoOn.{Quiet}
 use Rattle.laws.proofs.law_sound.NoDeadEnd.{Holding, some_thread_goes_on}

@@ -9,10 +9,10 @@ use Rattle.journal_model.specs.declared.script.Script.{Script}
 use Rattle.journal_model.specs.declared.state.State.{State}
 use Rattle.journal_model.specs.declared.state.Job.{Job}
 use Rattle.journal_model.specs.declared.state.Ghost.{Ghost}
-use Rattle.journal_model.specs.Waits.{same_job, is_unfinished, unfinished, waited_for}
+use Rattle.journal_model.specs.rules.Waits.{same_job, is_unfinished, unfinished, waited_for}
 use Rattle.ttm_base.specs.Fences.{named_job}
-use Rattle.journal_model.specs.Next.{head_of}
-use Rattle.journal_model.specs.DeadEnd.{can_step}
+use Rattle.journal_model.specs.rules.Next.{head_of}
+use Rattle.journal_model.specs.statements.DeadEnd.{can_step}
 use Rattle.laws.specs.law_sound.Sound.{WaitsGoBack}
 
 bool_cases : (b : Bool) → (b ≡ true) ⊎ (b ≡ false)

@@ -33,16 +33,16 @@ use Rattle.journal_model.specs.declared.entry.DryWhy.TheVariants as dry
 use Rattle.journal_model.specs.declared.entry.Left.TheVariants as left
 use Rattle.journal_model.specs.declared.entry.Shown.{Shown}
 use Rattle.journal_model.specs.declared.entry.Shown.TheVariants as shown
-use Rattle.journal_model.specs.State.{buffer, reservation, is_live}
-use Rattle.journal_model.specs.Commands.{whole}
-use Rattle.journal_model.specs.Choice.{choice}
-use Rattle.journal_model.specs.Places.{loc_of}
-use Rattle.journal_model.specs.Holds.{free_frame, free_slot}
-use Rattle.journal_model.specs.Dry.{is_long_enough, victim, ghost_in, has_frame, swap_victim, ghost_with_frame, causes}
-use Rattle.journal_model.specs.Waits.{waited_for, jobs_before_write, is_idle}
-use Rattle.journal_model.specs.Search.{Step, PlaceSearch, place_search, is_caught, why_of, step_of_crowded, step_of_forced, first_choice, step_of_place_search}
-use Rattle.journal_model.specs.PageSteps.{unless_waiting, once_idle, page_to_fill, filled_by, step_without_victim, step_without_frame, step_of_fill, first_frame_page, step_of_swap_out, why_caught, step_of_empty, next_job, next_ghost, target_to_untake, step_of_give_back}
-use Rattle.journal_model.specs.Next.{step_of_start, backs_off, step_of_holder, step_of_lock, step_of_act, step_of_task}
+use Rattle.journal_model.specs.rules.State.{buffer, reservation, is_live}
+use Rattle.journal_model.specs.rules.Commands.{whole}
+use Rattle.journal_model.specs.rules.Choice.{choice}
+use Rattle.journal_model.specs.rules.Places.{loc_of}
+use Rattle.journal_model.specs.rules.Holds.{free_frame, free_slot}
+use Rattle.journal_model.specs.rules.Dry.{is_long_enough, victim, ghost_in, has_frame, swap_victim, ghost_with_frame, causes}
+use Rattle.journal_model.specs.rules.Waits.{waited_for, jobs_before_write, is_idle}
+use Rattle.journal_model.specs.rules.Search.{Step, PlaceSearch, place_search, is_caught, why_of, step_of_crowded, step_of_forced, first_choice, step_of_place_search}
+use Rattle.journal_model.specs.rules.PageSteps.{unless_waiting, once_idle, page_to_fill, filled_by, step_without_victim, step_without_frame, step_of_fill, first_frame_page, step_of_swap_out, why_caught, step_of_empty, next_job, next_ghost, target_to_untake, step_of_give_back}
+use Rattle.journal_model.specs.rules.Next.{step_of_start, backs_off, step_of_holder, step_of_lock, step_of_act, step_of_task}
 use Rattle.laws.specs.law_sound.Sound.{locks}
 
 -- ---- what a search gives

@@ -11,8 +11,8 @@ use Rattle.ttm_base.specs.declared.Op.{Op}
 use Rattle.journal_model.specs.declared.script.Script.{Script}
 use Rattle.journal_model.specs.declared.state.Core.{Core}
 use Rattle.journal_model.specs.declared.state.Job.{Job}
-use Rattle.journal_model.specs.Waits.{same_job, is_unfinished, unfinished, jobs_before_use}
-use Rattle.journal_model.specs.ApplyJobs.{changed_job}
+use Rattle.journal_model.specs.rules.Waits.{same_job, is_unfinished, unfinished, jobs_before_use}
+use Rattle.journal_model.specs.rules.ApplyJobs.{changed_job}
 use Rattle.laws.specs.law_state.GoodState.{GoodJobs, last_number}
 use Rattle.laws.specs.law_sound.Sound.{SoundJobs, is_among, waits_for_some_of, WaitsGoBack}
 

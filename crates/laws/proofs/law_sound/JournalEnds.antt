@@ -7,13 +7,13 @@ use Rattle.journal_model.specs.declared.script.Script.{Script}
 use Rattle.journal_model.specs.declared.state.State.{State}
 use Rattle.journal_model.specs.declared.entry.Entry.{Entry}
 use Rattle.journal_model.specs.declared.entry.Kind.{Kind}
-use Rattle.journal_model.specs.Next.{next}
-use Rattle.journal_model.specs.Apply.{applied}
-use Rattle.journal_model.specs.Stores.{showing}
-use Rattle.journal_model.specs.Legal.{World, first_world, first_state, world_after, world_along, state_of, shown_step, IsLegalNext, IsLegalFrom, IsLegal}
-use Rattle.journal_model.specs.Complete.{is_over}
-use Rattle.journal_model.specs.DeadEnd.{can_step}
-use Rattle.journal_model.specs.Scheduled.{Run, run_of, stepped, appended, actor_of_turn, own_order, scheduled_actors}
+use Rattle.journal_model.specs.rules.Next.{next}
+use Rattle.journal_model.specs.rules.Apply.{applied}
+use Rattle.journal_model.specs.rules.Stores.{showing}
+use Rattle.journal_model.specs.rules.Legal.{World, first_world, first_state, world_after, world_along, state_of, shown_step, IsLegalNext, IsLegalFrom, IsLegal}
+use Rattle.journal_model.specs.statements.Complete.{is_over}
+use Rattle.journal_model.specs.statements.DeadEnd.{can_step}
+use Rattle.journal_model.specs.statements.Scheduled.{Run, run_of, stepped, appended, actor_of_turn, own_order, scheduled_actors}
 use Rattle.laws.proofs.law_state.Shown.{shown_alike}
 use Rattle.laws.proofs.law_sound.Measure.{measure}
 

@@ -18,15 +18,15 @@ use Rattle.journal_model.specs.declared.script.Command.TheVariants as command
 use Rattle.journal_model.specs.declared.state.State.{State}
 use Rattle.journal_model.specs.declared.state.Buffer.{Buffer}
 use Rattle.journal_model.specs.declared.state.Job.{Job}
-use Rattle.journal_model.specs.State.{buffer, reservation, course, has_buffer, same_buffer, has_target}
-use Rattle.journal_model.specs.Commands.{commands_of, command_at_work, named}
-use Rattle.journal_model.specs.Places.{is_frame}
-use Rattle.journal_model.specs.Holds.{free_slot}
-use Rattle.journal_model.specs.Dry.{has_frame}
-use Rattle.journal_model.specs.Ready.{has_some_target, is_in_place}
-use Rattle.journal_model.specs.Tasks.{first_missing}
-use Rattle.journal_model.specs.Complete.{thread_numbers}
-use Rattle.journal_model.specs.Scheduled.{Ticketed, ticketed}
+use Rattle.journal_model.specs.rules.State.{buffer, reservation, course, has_buffer, same_buffer, has_target}
+use Rattle.journal_model.specs.rules.Commands.{commands_of, command_at_work, named}
+use Rattle.journal_model.specs.rules.Places.{is_frame}
+use Rattle.journal_model.specs.rules.Holds.{free_slot}
+use Rattle.journal_model.specs.rules.Dry.{has_frame}
+use Rattle.journal_model.specs.rules.Ready.{has_some_target, is_in_place}
+use Rattle.journal_model.specs.rules.Tasks.{first_missing}
+use Rattle.journal_model.specs.statements.Complete.{thread_numbers}
+use Rattle.journal_model.specs.statements.Scheduled.{Ticketed, ticketed}
 
 abbrev pub one_if : Bool → ℕ
 one_if b = if b then 1 else 0

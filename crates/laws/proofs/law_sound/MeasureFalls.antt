@@ -9,9 +9,9 @@ use Rattle.journal_model.specs.declared.script.Script.{Script}
 use Rattle.journal_model.specs.declared.state.State.{State}
 use Rattle.journal_model.specs.declared.state.Job.{Job}
 use Rattle.journal_model.specs.declared.state.Ghost.{Ghost}
-use Rattle.journal_model.specs.Waits.{same_job}
-use Rattle.journal_model.specs.Next.{head_of}
-use Rattle.journal_model.specs.ApplyJobs.{after_reap, after_packet_run, after_done, changed_job}
+use Rattle.journal_model.specs.rules.Waits.{same_job}
+use Rattle.journal_model.specs.rules.Next.{head_of}
+use Rattle.journal_model.specs.rules.ApplyJobs.{after_reap, after_packet_run, after_done, changed_job}
 use Rattle.laws.proofs.law_sound.Measure.{measure, job_left}
 
 bool_cases : (b : Bool) → (b ≡ true) ⊎ (b ≡ false)

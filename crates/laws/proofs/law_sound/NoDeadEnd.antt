@@ -10,12 +10,12 @@ use Rattle.journal_model.specs.declared.script.Script.{Script}
 use Rattle.journal_model.specs.declared.state.State.{State}
 use Rattle.journal_model.specs.declared.state.Course.{Course}
 use Rattle.journal_model.specs.declared.script.Command.{Command}
-use Rattle.journal_model.specs.State.{course, reservation, has_buffer}
-use Rattle.journal_model.specs.Commands.{command_at_work, named}
-use Rattle.journal_model.specs.Tasks.{first_missing, starts}
-use Rattle.journal_model.specs.Search.{is_caught}
-use Rattle.journal_model.specs.Next.{backs_off}
-use Rattle.journal_model.specs.DeadEnd.{can_step}
+use Rattle.journal_model.specs.rules.State.{course, reservation, has_buffer}
+use Rattle.journal_model.specs.rules.Commands.{command_at_work, named}
+use Rattle.journal_model.specs.rules.Tasks.{first_missing, starts}
+use Rattle.journal_model.specs.rules.Search.{is_caught}
+use Rattle.journal_model.specs.rules.Next.{backs_off}
+use Rattle.journal_model.specs.statements.DeadEnd.{can_step}
 use Rattle.laws.proofs.law_sound.ThreadsGoOn.{Quiet, thread_goes_on, locking_goes_on}
 use Rattle.laws.specs.law_sound.Sound.{wants, wanted, Has}
 

@@ -18,18 +18,18 @@ use Rattle.journal_model.specs.declared.state.Course.{Course}
 use Rattle.journal_model.specs.declared.entry.Kind.{Kind}
 use Rattle.journal_model.specs.declared.entry.Kind.TheVariants as kind
 use Rattle.journal_model.specs.declared.entry.Entry.{Entry}
-use Rattle.journal_model.specs.State.{course, course_of}
-use Rattle.journal_model.specs.Commands.{commands_of, command_at_work}
-use Rattle.journal_model.specs.ScriptRules.{is_script}
-use Rattle.journal_model.specs.Search.{Step}
-use Rattle.journal_model.specs.PageSteps.{unless_waiting}
-use Rattle.journal_model.specs.Waits.{waited_for}
-use Rattle.journal_model.specs.Next.{next, head_of, step_of_job, step_of_engine, step_of_task}
-use Rattle.journal_model.specs.Tasks.{task_of}
-use Rattle.journal_model.specs.Complete.{is_over, is_complete, has_answered, thread_numbers}
-use Rattle.journal_model.specs.DeadEnd.{can_step}
-use Rattle.journal_model.specs.Legal.{IsLegal, state_of}
-use Rattle.journal_model.specs.Scheduled.{Ticketed, ticketed, by_stamp, sorted_by_stamp, own_order}
+use Rattle.journal_model.specs.rules.State.{course, course_of}
+use Rattle.journal_model.specs.rules.Commands.{commands_of, command_at_work}
+use Rattle.journal_model.specs.scripts.ScriptRules.{is_script}
+use Rattle.journal_model.specs.rules.Search.{Step}
+use Rattle.journal_model.specs.rules.PageSteps.{unless_waiting}
+use Rattle.journal_model.specs.rules.Waits.{waited_for}
+use Rattle.journal_model.specs.rules.Next.{next, head_of, step_of_job, step_of_engine, step_of_task}
+use Rattle.journal_model.specs.rules.Tasks.{task_of}
+use Rattle.journal_model.specs.statements.Complete.{is_over, is_complete, has_answered, thread_numbers}
+use Rattle.journal_model.specs.statements.DeadEnd.{can_step}
+use Rattle.journal_model.specs.rules.Legal.{IsLegal, state_of}
+use Rattle.journal_model.specs.statements.Scheduled.{Ticketed, ticketed, by_stamp, sorted_by_stamp, own_order}
 use Rattle.laws.proofs.law_state.Counted.{over_law}
 use Rattle.laws.proofs.law_state.JournalCourses.{thread_is_there}
 use Rattle.laws.specs.law_sound.Sound.{Sound, SomeGoesOn, command_of}

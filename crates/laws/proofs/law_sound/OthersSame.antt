@@ -13,10 +13,10 @@ use Rattle.journal_model.specs.declared.script.Decl.{Decl}
 use Rattle.journal_model.specs.declared.state.Course.{Course}
 use Rattle.journal_model.specs.declared.state.Victim.{Victim}
 use Rattle.journal_model.specs.declared.script.Command.{Command}
-use Rattle.journal_model.specs.State.{new_course, buffer, course_of, has_buffer, same_buffer}
-use Rattle.journal_model.specs.Commands.{named, commands_of}
-use Rattle.journal_model.specs.Search.{is_caught}
-use Rattle.journal_model.specs.Tasks.{first_missing}
+use Rattle.journal_model.specs.rules.State.{new_course, buffer, course_of, has_buffer, same_buffer}
+use Rattle.journal_model.specs.rules.Commands.{named, commands_of}
+use Rattle.journal_model.specs.rules.Search.{is_caught}
+use Rattle.journal_model.specs.rules.Tasks.{first_missing}
 use Rattle.laws.proofs.law_sound.Measure.{thread_left, command_left, held_left, search_left, search_share, named_left, if_named, not_skipped, victim_left, to_give_back, packet_count, room_for_victims, whole_command, locking_left, later_commands, steps_left, slots_to_fill}
 
 -- the buffers that a working thread has are the same in both states

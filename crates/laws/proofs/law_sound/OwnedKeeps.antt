@@ -23,17 +23,17 @@ use Rattle.journal_model.specs.declared.entry.Shown.{Shown}
 use Rattle.journal_model.specs.declared.entry.Shown.TheVariants as shown
 use Rattle.journal_model.specs.declared.entry.Kind.{Kind}
 use Rattle.journal_model.specs.declared.entry.Kind.TheVariants as kind
-use Rattle.journal_model.specs.State.{course, course_of, reservation, reservation_in, no_reservation, is_live, has_buffer, same_buffer, without_buffer}
-use Rattle.journal_model.specs.Commands.{named, command_at_work}
-use Rattle.journal_model.specs.Search.{PlaceSearch, is_caught, place_search_at_work}
-use Rattle.journal_model.specs.Tasks.{starts, first_missing}
-use Rattle.journal_model.specs.Apply.{applied}
-use Rattle.journal_model.specs.ApplyCommands.{with_holder, released, on_to_next}
-use Rattle.journal_model.specs.PageSteps.{next_job}
-use Rattle.journal_model.specs.ApplyJobs.{ops_of}
-use Rattle.journal_model.specs.ApplyCommands.{named_in}
-use Rattle.journal_model.specs.ApplyPages.{search_over}
-use Rattle.journal_model.specs.ApplyVictims.{failed_if, with_fail, with_victim, no_longer_caught, gone_dry, course_after_dry}
+use Rattle.journal_model.specs.rules.State.{course, course_of, reservation, reservation_in, no_reservation, is_live, has_buffer, same_buffer, without_buffer}
+use Rattle.journal_model.specs.rules.Commands.{named, command_at_work}
+use Rattle.journal_model.specs.rules.Search.{PlaceSearch, is_caught, place_search_at_work}
+use Rattle.journal_model.specs.rules.Tasks.{starts, first_missing}
+use Rattle.journal_model.specs.rules.Apply.{applied}
+use Rattle.journal_model.specs.rules.ApplyCommands.{with_holder, released, on_to_next}
+use Rattle.journal_model.specs.rules.PageSteps.{next_job}
+use Rattle.journal_model.specs.rules.ApplyJobs.{ops_of}
+use Rattle.journal_model.specs.rules.ApplyCommands.{named_in}
+use Rattle.journal_model.specs.rules.ApplyPages.{search_over}
+use Rattle.journal_model.specs.rules.ApplyVictims.{failed_if, with_fail, with_victim, no_longer_caught, gone_dry, course_after_dry}
 use Rattle.laws.specs.law_sound.Sound.{Has, Steady, Owned, command_of, locks}
 use Rattle.laws.proofs.law_sound.Turns.{Turn, Works, OnVictim, OnNamed, answer, start, lock, victim_empty, victim_skip, victim_fill, victim_search, refuse, give_up, act, fill_in_place, ask, fill_to_bind, hop_up, fill_to_move, hop_down, OnBuffer}
 use Rattle.laws.proofs.law_sound.Gifts.{Gives, SearchOutcome, Filled, answers, makes, exists, shifts, draws, no_buffer, reserves, backs, seeks, binds, unbinds, moves, fills, lets_go, empties, depopulates, untakes, skips, gives_up, refuses, arms, frees, swaps, no_swap, acts, finds, evicts, dries, fresh, again, back, evicts_for_swap, nothing}

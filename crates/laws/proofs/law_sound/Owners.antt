@@ -5,8 +5,8 @@ use Rattle.ttm_base.specs.declared.BufId.{BufId}
 use Rattle.ttm_base.specs.declared.Stamp.{Stamp}
 use Rattle.journal_model.specs.declared.script.Script.{Script}
 use Rattle.journal_model.specs.declared.state.State.{State}
-use Rattle.journal_model.specs.State.{course, reservation, is_live, has_buffer}
-use Rattle.journal_model.specs.Search.{is_caught}
+use Rattle.journal_model.specs.rules.State.{course, reservation, is_live, has_buffer}
+use Rattle.journal_model.specs.rules.Search.{is_caught}
 use Rattle.laws.specs.law_sound.Sound.{Has, Steady, Owned}
 use Rattle.laws.proofs.law_sound.Bufs.{same_or_other}
 

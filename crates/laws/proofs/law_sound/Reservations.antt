@@ -20,14 +20,14 @@ use Rattle.journal_model.specs.declared.state.Buffer.{Buffer}
 use Rattle.journal_model.specs.declared.entry.Kind.{Kind}
 use Rattle.journal_model.specs.declared.entry.Kind.TheVariants as kind
 use Rattle.journal_model.specs.declared.state.Course.{Course}
-use Rattle.journal_model.specs.State.{new_buffer, same_buffer, has_buffer, live_in, is_live, buffer, changed, no_reservation, reservation_in, reservation, reservation_changed, course, course_of}
-use Rattle.journal_model.specs.Commands.{command_at_work}
-use Rattle.journal_model.specs.Dry.{is_loose, is_evictable, victim, swap_victim, has_frame}
-use Rattle.journal_model.specs.Lists.{in_order}
-use Rattle.journal_model.specs.Choice.{reach_of}
-use Rattle.journal_model.specs.Apply.{applied}
-use Rattle.journal_model.specs.ApplyCommands.{with_holder, released, with_pins, pinned_more, pinned_less}
-use Rattle.journal_model.specs.ApplyJobs.{with_use}
+use Rattle.journal_model.specs.rules.State.{new_buffer, same_buffer, has_buffer, live_in, is_live, buffer, changed, no_reservation, reservation_in, reservation, reservation_changed, course, course_of}
+use Rattle.journal_model.specs.rules.Commands.{command_at_work}
+use Rattle.journal_model.specs.rules.Dry.{is_loose, is_evictable, victim, swap_victim, has_frame}
+use Rattle.journal_model.specs.rules.Lists.{in_order}
+use Rattle.journal_model.specs.rules.Choice.{reach_of}
+use Rattle.journal_model.specs.rules.Apply.{applied}
+use Rattle.journal_model.specs.rules.ApplyCommands.{with_holder, released, with_pins, pinned_more, pinned_less}
+use Rattle.journal_model.specs.rules.ApplyJobs.{with_use}
 use Rattle.journal_model.proofs.KeptLengths.{length-applied}
 use Rattle.laws.proofs.law_state.JournalCourses.{next_course, others_kept, courses_after}
 use Rattle.laws.proofs.law_state.Lists.{set_at, live_changed}

@@ -12,13 +12,13 @@ use Rattle.journal_model.specs.declared.script.Command.TheVariants as command
 use Rattle.journal_model.specs.declared.state.State.{State}
 use Rattle.journal_model.specs.declared.state.Course.{Course}
 use Rattle.journal_model.specs.declared.entry.Why.{Why}
-use Rattle.journal_model.specs.State.{new_course, has_buffer}
-use Rattle.journal_model.specs.Commands.{commands_of, named}
-use Rattle.journal_model.specs.Search.{is_caught, place_search_at_work}
-use Rattle.journal_model.specs.Tasks.{starts, first_missing}
-use Rattle.journal_model.specs.ApplyCommands.{has_made, on_to_next}
-use Rattle.journal_model.specs.ApplyPages.{search_over}
-use Rattle.journal_model.specs.ApplyVictims.{failed_if, with_fail, no_longer_caught, with_victim, gone_dry, course_after_dry}
+use Rattle.journal_model.specs.rules.State.{new_course, has_buffer}
+use Rattle.journal_model.specs.rules.Commands.{commands_of, named}
+use Rattle.journal_model.specs.rules.Search.{is_caught, place_search_at_work}
+use Rattle.journal_model.specs.rules.Tasks.{starts, first_missing}
+use Rattle.journal_model.specs.rules.ApplyCommands.{has_made, on_to_next}
+use Rattle.journal_model.specs.rules.ApplyPages.{search_over}
+use Rattle.journal_model.specs.rules.ApplyVictims.{failed_if, with_fail, no_longer_caught, with_victim, gone_dry, course_after_dry}
 pub use Rattle.laws.proofs.law_state.JournalCourses.{next_course, own_course}
 use Rattle.laws.specs.law_sound.Sound.{Steady, command_of, wanted, wants, locks}
 use Rattle.laws.proofs.law_sound.Turns.{Works}

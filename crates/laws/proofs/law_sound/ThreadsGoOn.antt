@@ -26,16 +26,16 @@ use Rattle.journal_model.specs.declared.script.Command.{Command}
 use Rattle.journal_model.specs.declared.script.Command.TheVariants as command
 use Rattle.journal_model.specs.declared.state.Task.{Task}
 use Rattle.journal_model.specs.declared.state.Task.TheVariants as task
-use Rattle.journal_model.specs.State.{course, buffer, reservation, is_live}
-use Rattle.journal_model.specs.Commands.{command_at_work}
-use Rattle.journal_model.specs.Waits.{waited_for, jobs_before_write, jobs_before_read}
-use Rattle.journal_model.specs.Dry.{ghost_in, ghost_with_frame}
-use Rattle.journal_model.specs.Ready.{is_in_place, first_unready}
-use Rattle.journal_model.specs.Tasks.{carried, task_of_misplaced, task_of_unready, task_of_failed, gives_back, forbidden, task_of_command, task_of_held, task_of_victim, first_missing, starts}
-use Rattle.journal_model.specs.Search.{Step, PlaceSearch, place_search, step_of_place_search, step_of_forced, step_of_forced_place, step_of_crowded}
-use Rattle.journal_model.specs.PageSteps.{step_of_fill, step_without_frame, step_without_victim, step_of_empty, step_of_swap_out, once_idle}
-use Rattle.journal_model.specs.Next.{step_of_task, step_of_act, step_of_start, step_of_lock, step_of_holder, backs_off}
-use Rattle.journal_model.specs.DeadEnd.{can_step}
+use Rattle.journal_model.specs.rules.State.{course, buffer, reservation, is_live}
+use Rattle.journal_model.specs.rules.Commands.{command_at_work}
+use Rattle.journal_model.specs.rules.Waits.{waited_for, jobs_before_write, jobs_before_read}
+use Rattle.journal_model.specs.rules.Dry.{ghost_in, ghost_with_frame}
+use Rattle.journal_model.specs.rules.Ready.{is_in_place, first_unready}
+use Rattle.journal_model.specs.rules.Tasks.{carried, task_of_misplaced, task_of_unready, task_of_failed, gives_back, forbidden, task_of_command, task_of_held, task_of_victim, first_missing, starts}
+use Rattle.journal_model.specs.rules.Search.{Step, PlaceSearch, place_search, step_of_place_search, step_of_forced, step_of_forced_place, step_of_crowded}
+use Rattle.journal_model.specs.rules.PageSteps.{step_of_fill, step_without_frame, step_without_victim, step_of_empty, step_of_swap_out, once_idle}
+use Rattle.journal_model.specs.rules.Next.{step_of_task, step_of_act, step_of_start, step_of_lock, step_of_holder, backs_off}
+use Rattle.journal_model.specs.statements.DeadEnd.{can_step}
 use Rattle.laws.specs.law_sound.Sound.{wants, wanted}
 
 -- all jobs are done and all ghosts are gone

@@ -20,9 +20,9 @@ use Rattle.journal_model.specs.declared.state.SearchAim.TheVariants.{Asked, Hop}
 use Rattle.journal_model.specs.declared.entry.Why.{Why}
 use Rattle.journal_model.specs.declared.entry.Why.TheVariants as why
 use Rattle.ttm_base.specs.Reach.{same_mem}
-use Rattle.journal_model.specs.State.{buffer, reservation, has_target}
-use Rattle.journal_model.specs.Ready.{has_all_frames, has_some_target, is_in_place, first_unready}
-use Rattle.journal_model.specs.Tasks.{starts, first_missing, filled_then, gives_back, task_in_vram, task_of_victim, forbidden, task_of_failed, carried, task_of_misplaced, task_of_unready, task_of_held, task_of_command}
+use Rattle.journal_model.specs.rules.State.{buffer, reservation, has_target}
+use Rattle.journal_model.specs.rules.Ready.{has_all_frames, has_some_target, is_in_place, first_unready}
+use Rattle.journal_model.specs.rules.Tasks.{starts, first_missing, filled_then, gives_back, task_in_vram, task_of_victim, forbidden, task_of_failed, carried, task_of_misplaced, task_of_unready, task_of_held, task_of_command}
 
 -- the command works: each buffer that it names is held
 pub record Works (c : Course) (cmd : Command) : Type 0 where

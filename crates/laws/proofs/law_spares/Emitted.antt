@@ -23,14 +23,14 @@ use Rattle.journal_model.specs.declared.entry.Left.TheVariants as left
 use Rattle.journal_model.specs.declared.state.Core.{Core}
 use Rattle.journal_model.specs.declared.state.Buffer.{Buffer}
 use Rattle.journal_model.specs.declared.state.Job.{Job}
-use Rattle.journal_model.specs.State.{new_buffer, live_in, buffer_in, has_buffer, changed, target_spans}
-use Rattle.journal_model.specs.Commands.{decl, buffers_of_op, first_mentions}
-use Rattle.journal_model.specs.CommandRules.{is_op}
-use Rattle.journal_model.specs.Places.{pages_of, page_of_spans, name_in_spans, name_in, packet_place}
-use Rattle.journal_model.specs.Holds.{spans_in, has_number}
-use Rattle.journal_model.specs.Waits.{same_job, unfinished, jobs_before_write, jobs_before_use}
-use Rattle.journal_model.specs.ApplyMoves.{copy_of_page, move_packets, moved, ghost_of_moved, core_after_move}
-use Rattle.journal_model.specs.ApplyJobs.{with_use, core_after_arm}
+use Rattle.journal_model.specs.rules.State.{new_buffer, live_in, buffer_in, has_buffer, changed, target_spans}
+use Rattle.journal_model.specs.rules.Commands.{decl, buffers_of_op, first_mentions}
+use Rattle.journal_model.specs.scripts.CommandRules.{is_op}
+use Rattle.journal_model.specs.rules.Places.{pages_of, page_of_spans, name_in_spans, name_in, packet_place}
+use Rattle.journal_model.specs.rules.Holds.{spans_in, has_number}
+use Rattle.journal_model.specs.rules.Waits.{same_job, unfinished, jobs_before_write, jobs_before_use}
+use Rattle.journal_model.specs.rules.ApplyMoves.{copy_of_page, move_packets, moved, ghost_of_moved, core_after_move}
+use Rattle.journal_model.specs.rules.ApplyJobs.{with_use, core_after_arm}
 use Rattle.laws.proofs.law_state.Lists.{get_pushed, get_within}
 use Rattle.laws.proofs.lemma_bytes_model.Actions.{or_first, or_second}
 use Rattle.laws.proofs.lemma_bytes_view.Jobs.{same_job-refl}

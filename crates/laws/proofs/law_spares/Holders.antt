@@ -18,13 +18,13 @@ use Rattle.journal_model.specs.declared.state.Core.{Core}
 use Rattle.journal_model.specs.declared.state.Buffer.{Buffer}
 use Rattle.journal_model.specs.declared.state.Ghost.{Ghost}
 use Rattle.journal_model.specs.declared.state.Job.{Job}
-use Rattle.journal_model.specs.State.{live_in, changed}
-use Rattle.journal_model.specs.Places.{pages_of}
-use Rattle.journal_model.specs.Holds.{spans_in, has_number}
-use Rattle.journal_model.specs.Waits.{same_job, use_of, jobs_before_write}
-use Rattle.journal_model.specs.ApplyPages.{with_fence, with_kernel_fences, with_spans}
-use Rattle.journal_model.specs.ApplyVictims.{leaves_tt}
-use Rattle.journal_model.specs.ApplyJobs.{with_use}
+use Rattle.journal_model.specs.rules.State.{live_in, changed}
+use Rattle.journal_model.specs.rules.Places.{pages_of}
+use Rattle.journal_model.specs.rules.Holds.{spans_in, has_number}
+use Rattle.journal_model.specs.rules.Waits.{same_job, use_of, jobs_before_write}
+use Rattle.journal_model.specs.rules.ApplyPages.{with_fence, with_kernel_fences, with_spans}
+use Rattle.journal_model.specs.rules.ApplyVictims.{leaves_tt}
+use Rattle.journal_model.specs.rules.ApplyJobs.{with_use}
 use Rattle.laws.proofs.law_state.Lists.{set_at}
 use Rattle.laws.proofs.lemma_bytes_model.Actions.{or_first, or_second}
 use Rattle.laws.proofs.lemma_bytes_view.Jobs.{same_job-refl}

@@ -21,19 +21,19 @@ use Rattle.journal_model.specs.declared.state.Ghost.{Ghost}
 use Rattle.journal_model.specs.declared.state.Job.{Job}
 use Rattle.journal_model.specs.declared.entry.Kind.{Kind}
 use Rattle.journal_model.specs.declared.entry.Kind.TheVariants as kind
-use Rattle.journal_model.specs.State.{buffer, live_in, new_buffer, changed, has_target, target_spans}
-use Rattle.journal_model.specs.Commands.{decl}
-use Rattle.journal_model.specs.CommandRules.{is_op, is_command}
-use Rattle.journal_model.specs.Places.{pages_of}
-use Rattle.journal_model.specs.Waits.{same_job, waited_for, jobs_before_write, jobs_before_target}
-use Rattle.journal_model.specs.Search.{Step}
-use Rattle.journal_model.specs.PageSteps.{unless_waiting, page_to_fill, first_frame_page, next_job}
-use Rattle.journal_model.specs.Next.{next}
-use Rattle.journal_model.specs.Apply.{applied}
-use Rattle.journal_model.specs.ApplyCommands.{named_in, ghost_of_freed}
-use Rattle.journal_model.specs.ApplyPages.{with_kernel_fences, with_spans, with_loc, without_frames, bound, unbound}
-use Rattle.journal_model.specs.ApplyVictims.{leaves_tt}
-use Rattle.journal_model.specs.ApplyJobs.{ops_of, changed_job, core_after_arm}
+use Rattle.journal_model.specs.rules.State.{buffer, live_in, new_buffer, changed, has_target, target_spans}
+use Rattle.journal_model.specs.rules.Commands.{decl}
+use Rattle.journal_model.specs.scripts.CommandRules.{is_op, is_command}
+use Rattle.journal_model.specs.rules.Places.{pages_of}
+use Rattle.journal_model.specs.rules.Waits.{same_job, waited_for, jobs_before_write, jobs_before_target}
+use Rattle.journal_model.specs.rules.Search.{Step}
+use Rattle.journal_model.specs.rules.PageSteps.{unless_waiting, page_to_fill, first_frame_page, next_job}
+use Rattle.journal_model.specs.rules.Next.{next}
+use Rattle.journal_model.specs.rules.Apply.{applied}
+use Rattle.journal_model.specs.rules.ApplyCommands.{named_in, ghost_of_freed}
+use Rattle.journal_model.specs.rules.ApplyPages.{with_kernel_fences, with_spans, with_loc, without_frames, bound, unbound}
+use Rattle.journal_model.specs.rules.ApplyVictims.{leaves_tt}
+use Rattle.journal_model.specs.rules.ApplyJobs.{ops_of, changed_job, core_after_arm}
 use Rattle.laws.proofs.law_state.JournalCourses.{is_of_engine, is_of_reaper, of_engine, of_reaper}
 use Rattle.laws.specs.law_state.GoodState.{HasPages, GoodState}
 use Rattle.laws.proofs.law_state.Rules.{Rules, at_work_rules}

@@ -17,17 +17,17 @@ use Rattle.journal_model.specs.declared.state.Job.{Job}
 use Rattle.journal_model.specs.declared.entry.Entry.{Entry}
 use Rattle.journal_model.specs.declared.entry.Kind.{Kind}
 use Rattle.journal_model.specs.declared.entry.Kind.TheVariants as kind
-use Rattle.journal_model.specs.State.{new_buffer, buffer_in, live_in, target_spans}
-use Rattle.journal_model.specs.ScriptRules.{is_script}
-use Rattle.journal_model.specs.Places.{pages_of}
-use Rattle.journal_model.specs.Holds.{spans_in, has_number}
-use Rattle.journal_model.specs.Next.{next}
-use Rattle.journal_model.specs.Apply.{applied}
-use Rattle.journal_model.specs.ApplyCommands.{ghost_of_freed}
-use Rattle.journal_model.specs.Stores.{Stores, showing}
-use Rattle.journal_model.specs.Spares.{tt_of_ghosts, pages_taken, pages_given, job_names, are_unnamed, spares_jobs}
-use Rattle.journal_model.specs.Legal.{World, Made, first_world, world_after, world_of, made_along, state_of, IsLegalNext, IsLegalFrom, IsLegal}
-use Rattle.journal_model.specs.Laws.{SparesJobs}
+use Rattle.journal_model.specs.rules.State.{new_buffer, buffer_in, live_in, target_spans}
+use Rattle.journal_model.specs.scripts.ScriptRules.{is_script}
+use Rattle.journal_model.specs.rules.Places.{pages_of}
+use Rattle.journal_model.specs.rules.Holds.{spans_in, has_number}
+use Rattle.journal_model.specs.rules.Next.{next}
+use Rattle.journal_model.specs.rules.Apply.{applied}
+use Rattle.journal_model.specs.rules.ApplyCommands.{ghost_of_freed}
+use Rattle.journal_model.specs.rules.Stores.{Stores, showing}
+use Rattle.journal_model.specs.statements.Spares.{tt_of_ghosts, pages_taken, pages_given, job_names, are_unnamed, spares_jobs}
+use Rattle.journal_model.specs.rules.Legal.{World, Made, first_world, world_after, world_of, made_along, state_of, IsLegalNext, IsLegalFrom, IsLegal}
+use Rattle.journal_model.specs.statements.Laws.{SparesJobs}
 use Rattle.laws.proofs.law_state.Shown.{legal_step}
 use Rattle.laws.proofs.law_state.JournalCourses.{is_of_engine, is_of_reaper, of_engine}
 use Rattle.laws.proofs.law_state.Rules.{rules_of}

@@ -12,13 +12,13 @@ use Rattle.journal_model.specs.declared.state.State.{State}
 use Rattle.journal_model.specs.declared.entry.Entry.{Entry}
 use Rattle.journal_model.specs.declared.entry.Kind.{Kind}
 use Rattle.journal_model.specs.declared.entry.Kind.TheVariants as kind
-use Rattle.journal_model.specs.State.{course, course_of, new_course}
-use Rattle.journal_model.specs.Stores.{Stores, showing}
-use Rattle.journal_model.specs.Next.{next}
-use Rattle.journal_model.specs.Apply.{applied}
-use Rattle.journal_model.specs.Complete.{is_answer, is_by_thread, answers_of, is_over, is_complete, thread_numbers, has_answered}
-use Rattle.journal_model.specs.Commands.{commands_of}
-use Rattle.journal_model.specs.Legal.{World, first_world, world_after, world_along, state_of, IsLegalNext, IsLegalFrom, IsLegal}
+use Rattle.journal_model.specs.rules.State.{course, course_of, new_course}
+use Rattle.journal_model.specs.rules.Stores.{Stores, showing}
+use Rattle.journal_model.specs.rules.Next.{next}
+use Rattle.journal_model.specs.rules.Apply.{applied}
+use Rattle.journal_model.specs.statements.Complete.{is_answer, is_by_thread, answers_of, is_over, is_complete, thread_numbers, has_answered}
+use Rattle.journal_model.specs.rules.Commands.{commands_of}
+use Rattle.journal_model.specs.rules.Legal.{World, first_world, world_after, world_along, state_of, IsLegalNext, IsLegalFrom, IsLegal}
 use Rattle.laws.proofs.law_state.Shown.{legal_step}
 use Rattle.laws.proofs.law_state.JournalCourses.{of_engine, of_reaper, thread_is_there, one_more_if, own_answered, others_kept, engine_keeps, reaper_keeps, course_in}
 

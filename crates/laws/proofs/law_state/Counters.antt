@@ -17,12 +17,12 @@ use Rattle.journal_model.specs.declared.entry.Left.{Left}
 use Rattle.journal_model.specs.declared.entry.Left.TheVariants as left
 use Rattle.journal_model.specs.declared.entry.Kind.{Kind}
 use Rattle.journal_model.specs.declared.entry.Kind.TheVariants as kind
-use Rattle.journal_model.specs.State.{course}
-use Rattle.journal_model.specs.PageSteps.{next_job, next_ghost}
-use Rattle.journal_model.specs.Next.{next, step_of_task, step_of_act, step_of_start}
-use Rattle.journal_model.specs.Apply.{applied}
-use Rattle.journal_model.specs.ApplyMoves.{last_ghost_left}
-use Rattle.journal_model.specs.Legal.{World, first_world, world_after, world_along, state_of, IsLegalFrom, IsLegal}
+use Rattle.journal_model.specs.rules.State.{course}
+use Rattle.journal_model.specs.rules.PageSteps.{next_job, next_ghost}
+use Rattle.journal_model.specs.rules.Next.{next, step_of_task, step_of_act, step_of_start}
+use Rattle.journal_model.specs.rules.Apply.{applied}
+use Rattle.journal_model.specs.rules.ApplyMoves.{last_ghost_left}
+use Rattle.journal_model.specs.rules.Legal.{World, first_world, world_after, world_along, state_of, IsLegalFrom, IsLegal}
 use Rattle.laws.proofs.law_state.Shown.{legal_step}
 use Rattle.laws.proofs.law_state.JournalCourses.{is_of_engine, is_of_reaper, of_engine, of_reaper}
 use Rattle.laws.specs.law_state.GoodState.{last_number}

@@ -24,13 +24,13 @@ use Rattle.journal_model.specs.declared.state.Task.{Task}
 use Rattle.journal_model.specs.declared.state.Task.TheVariants as task
 use Rattle.journal_model.specs.declared.entry.Kind.{Kind}
 use Rattle.journal_model.specs.declared.entry.Kind.TheVariants as kind
-use Rattle.journal_model.specs.State.{buffer, reservation}
-use Rattle.journal_model.specs.Commands.{whole}
-use Rattle.journal_model.specs.Choice.{choice}
-use Rattle.journal_model.specs.Ready.{is_in_place, first_unready}
-use Rattle.journal_model.specs.Tasks.{carried, task_of_misplaced, task_of_unready, task_of_failed, gives_back, forbidden, task_of_command, task_of_held, task_of_victim, first_missing, starts}
-use Rattle.journal_model.specs.Search.{Step, PlaceSearch, step_of_place_search, step_of_forced, step_of_forced_place, step_of_crowded, first_choice}
-use Rattle.journal_model.specs.Next.{step_of_task, step_of_act, step_of_start}
+use Rattle.journal_model.specs.rules.State.{buffer, reservation}
+use Rattle.journal_model.specs.rules.Commands.{whole}
+use Rattle.journal_model.specs.rules.Choice.{choice}
+use Rattle.journal_model.specs.rules.Ready.{is_in_place, first_unready}
+use Rattle.journal_model.specs.rules.Tasks.{carried, task_of_misplaced, task_of_unready, task_of_failed, gives_back, forbidden, task_of_command, task_of_held, task_of_victim, first_missing, starts}
+use Rattle.journal_model.specs.rules.Search.{Step, PlaceSearch, step_of_place_search, step_of_forced, step_of_forced_place, step_of_crowded, first_choice}
+use Rattle.journal_model.specs.rules.Next.{step_of_task, step_of_act, step_of_start}
 use Rattle.laws.specs.law_state.Courses.{makes}
 use Rattle.laws.proofs.law_state.Lists.{get_within}
 

@@ -28,19 +28,19 @@ use Rattle.journal_model.specs.declared.entry.Entry.{Entry}
 use Rattle.journal_model.specs.declared.entry.Left.{Left}
 use Rattle.journal_model.specs.declared.entry.Kind.{Kind}
 use Rattle.journal_model.specs.declared.entry.Kind.TheVariants as kind
-use Rattle.journal_model.specs.Places.{packet_place}
-use Rattle.journal_model.specs.State.{buffer_in, buffer, course, live_in, new_buffer}
-use Rattle.journal_model.specs.Commands.{command_at_work, decl}
-use Rattle.journal_model.specs.CommandRules.{is_command, is_op}
-use Rattle.journal_model.specs.ScriptRules.{is_script}
-use Rattle.journal_model.specs.Waits.{same_job}
-use Rattle.journal_model.specs.PageSteps.{next_job}
-use Rattle.journal_model.specs.Search.{Step}
-use Rattle.journal_model.specs.Next.{next, head_of, step_of_job}
-use Rattle.journal_model.specs.Apply.{applied}
-use Rattle.journal_model.specs.ApplyMoves.{with_job, move_packets}
-use Rattle.journal_model.specs.ApplyJobs.{ops_of, changed_job}
-use Rattle.journal_model.specs.Legal.{World, first_state, first_world, world_after, world_along, state_of, IsLegalFrom, IsLegal}
+use Rattle.journal_model.specs.rules.Places.{packet_place}
+use Rattle.journal_model.specs.rules.State.{buffer_in, buffer, course, live_in, new_buffer}
+use Rattle.journal_model.specs.rules.Commands.{command_at_work, decl}
+use Rattle.journal_model.specs.scripts.CommandRules.{is_command, is_op}
+use Rattle.journal_model.specs.scripts.ScriptRules.{is_script}
+use Rattle.journal_model.specs.rules.Waits.{same_job}
+use Rattle.journal_model.specs.rules.PageSteps.{next_job}
+use Rattle.journal_model.specs.rules.Search.{Step}
+use Rattle.journal_model.specs.rules.Next.{next, head_of, step_of_job}
+use Rattle.journal_model.specs.rules.Apply.{applied}
+use Rattle.journal_model.specs.rules.ApplyMoves.{with_job, move_packets}
+use Rattle.journal_model.specs.rules.ApplyJobs.{ops_of, changed_job}
+use Rattle.journal_model.specs.rules.Legal.{World, first_state, first_world, world_after, world_along, state_of, IsLegalFrom, IsLegal}
 use Rattle.journal_model.proofs.KeptLengths.{length-applied}
 use Rattle.laws.proofs.law_state.Shown.{legal_step}
 use Rattle.laws.proofs.law_state.JournalCourses.{is_of_engine, is_of_reaper, of_engine, of_reaper}

@@ -6,8 +6,8 @@ use Rattle.std.proofs.lemmas.Bool.Decides.{nat_tests}
 use Rattle.std.proofs.lemmas.Bool.{cases_Bool, cases_eq}
 use Rattle.ttm_base.specs.declared.JobId.{JobId}
 use Rattle.journal_model.specs.declared.state.Job.{Job}
-use Rattle.journal_model.specs.Waits.{same_job}
-use Rattle.journal_model.specs.ApplyJobs.{changed_job}
+use Rattle.journal_model.specs.rules.Waits.{same_job}
+use Rattle.journal_model.specs.rules.ApplyJobs.{changed_job}
 use Rattle.laws.specs.law_state.GoodState.{last_number, GoodJobs}
 use Rattle.laws.proofs.law_state.Lists.{set_at, get_pushed, get_mapped}
 

@@ -8,7 +8,7 @@ use Rattle.ttm_base.specs.declared.Op.{Op}
 use Rattle.ttm_base.specs.declared.Op.TheVariants as op
 use Rattle.ttm_base.specs.Cutting.{PageMap, pieces_from, pieces_of, packet_of, packets_of, room, op_len}
 use Rattle.journal_model.specs.declared.script.Script.{Script}
-use Rattle.journal_model.specs.CommandRules.{is_op}
+use Rattle.journal_model.specs.scripts.CommandRules.{is_op}
 
 -- ---- how many packets
 

@@ -14,15 +14,15 @@ use Rattle.journal_model.specs.declared.state.State.{State}
 use Rattle.journal_model.specs.declared.state.Course.{Course}
 use Rattle.journal_model.specs.declared.entry.Kind.{Kind}
 use Rattle.journal_model.specs.declared.entry.Kind.TheVariants as kind
-use Rattle.journal_model.specs.State.{course, course_of, new_course, with_course, without_buffer}
-use Rattle.journal_model.specs.Commands.{command_at_work}
-use Rattle.journal_model.specs.Search.{is_caught}
-use Rattle.journal_model.specs.Next.{next}
-use Rattle.journal_model.specs.Apply.{applied}
-use Rattle.journal_model.specs.ApplyCommands.{has_made, on_to_next}
-use Rattle.journal_model.specs.ApplyPages.{search_over}
-use Rattle.journal_model.specs.ApplyVictims.{with_fail, no_longer_caught, with_victim, with_skip, course_after_dry}
-use Rattle.journal_model.specs.Complete.{is_answer}
+use Rattle.journal_model.specs.rules.State.{course, course_of, new_course, with_course, without_buffer}
+use Rattle.journal_model.specs.rules.Commands.{command_at_work}
+use Rattle.journal_model.specs.rules.Search.{is_caught}
+use Rattle.journal_model.specs.rules.Next.{next}
+use Rattle.journal_model.specs.rules.Apply.{applied}
+use Rattle.journal_model.specs.rules.ApplyCommands.{has_made, on_to_next}
+use Rattle.journal_model.specs.rules.ApplyPages.{search_over}
+use Rattle.journal_model.specs.rules.ApplyVictims.{with_fail, no_longer_caught, with_victim, with_skip, course_after_dry}
+use Rattle.journal_model.specs.statements.Complete.{is_answer}
 
 -- ---- who makes which kinds
 

@@ -3,7 +3,7 @@ use Rattle.std.proofs.Common.{◌≡◌, ℕ, ◌<◌, zero, suc, List, [], ◌�
 use Rattle.std.specs.Prelude.{slice_get, slice_set, map, option_map, option_and_then}
 use Rattle.ttm_base.specs.declared.BufId.{BufId}
 use Rattle.journal_model.specs.declared.state.Buffer.{Buffer}
-use Rattle.journal_model.specs.State.{live_in, changed}
+use Rattle.journal_model.specs.rules.State.{live_in, changed}
 
 pub set_at : {X : Type 0} (xs : List X) (i j : ℕ) (v : X) → (slice_get (slice_set xs i v) j ≡ slice_get xs j) ⊎ ((i ≡ j) × (slice_get (slice_set xs i v) j ≡ Some v))
 set_at [] i j v = inl refl

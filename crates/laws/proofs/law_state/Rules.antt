@@ -10,10 +10,10 @@ use Rattle.journal_model.specs.declared.script.Decl.{Decl}
 use Rattle.journal_model.specs.declared.script.Command.{Command}
 use Rattle.journal_model.specs.declared.state.State.{State}
 use Rattle.journal_model.specs.declared.state.Course.{Course}
-use Rattle.journal_model.specs.State.{course_of}
-use Rattle.journal_model.specs.Commands.{commands_of, command_at_work, decl, undeclared}
-use Rattle.journal_model.specs.CommandRules.{is_command, command_len}
-use Rattle.journal_model.specs.ScriptRules.{is_script, is_decl}
+use Rattle.journal_model.specs.rules.State.{course_of}
+use Rattle.journal_model.specs.rules.Commands.{commands_of, command_at_work, decl, undeclared}
+use Rattle.journal_model.specs.scripts.CommandRules.{is_command, command_len}
+use Rattle.journal_model.specs.scripts.ScriptRules.{is_script, is_decl}
 use Rattle.laws.proofs.law_state.JobsKeep.{all_at}
 
 pub record Rules (script : Script) : Type 0 where

@@ -7,10 +7,10 @@ use Rattle.journal_model.specs.declared.state.State.{State}
 use Rattle.journal_model.specs.declared.entry.Entry.{Entry}
 use Rattle.journal_model.specs.declared.entry.Kind.{Kind}
 use Rattle.journal_model.specs.declared.entry.Kind.TheVariants as kind
-use Rattle.journal_model.specs.Next.{next}
-use Rattle.journal_model.specs.Apply.{applied}
-use Rattle.journal_model.specs.Stores.{Stores, showing}
-use Rattle.journal_model.specs.Legal.{World, world_after, shown_step, IsLegalNext}
+use Rattle.journal_model.specs.rules.Next.{next}
+use Rattle.journal_model.specs.rules.Apply.{applied}
+use Rattle.journal_model.specs.rules.Stores.{Stores, showing}
+use Rattle.journal_model.specs.rules.Legal.{World, world_after, shown_step, IsLegalNext}
 
 -- the state doesn't depend on what is shown
 pub shown_alike : (script : Script) (stores : Stores) (s z : State) (who : Actor) (k : Kind) → applied script s who (showing script stores z who k) ≡ applied script s who k

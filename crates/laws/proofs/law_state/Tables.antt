@@ -16,15 +16,15 @@ use Rattle.journal_model.specs.declared.state.State.{State}
 use Rattle.journal_model.specs.declared.state.Buffer.{Buffer}
 use Rattle.journal_model.specs.declared.entry.Kind.{Kind}
 use Rattle.journal_model.specs.declared.entry.Kind.TheVariants as kind
-use Rattle.journal_model.specs.State.{live_in, changed, new_buffer}
-use Rattle.journal_model.specs.Commands.{decl, command_at_work}
-use Rattle.journal_model.specs.Waits.{jobs_before_target}
-use Rattle.journal_model.specs.Apply.{applied, thread_of}
-use Rattle.journal_model.specs.ApplyPages.{with_spans, with_kernel_fences, with_fence, without_frame, bound, unbound}
-use Rattle.journal_model.specs.ApplyMoves.{moved, table_left}
-use Rattle.journal_model.specs.ApplyVictims.{leaves_tt}
-use Rattle.journal_model.specs.ApplyJobs.{with_use, ops_of}
-use Rattle.journal_model.specs.ApplyCommands.{named_in}
+use Rattle.journal_model.specs.rules.State.{live_in, changed, new_buffer}
+use Rattle.journal_model.specs.rules.Commands.{decl, command_at_work}
+use Rattle.journal_model.specs.rules.Waits.{jobs_before_target}
+use Rattle.journal_model.specs.rules.Apply.{applied, thread_of}
+use Rattle.journal_model.specs.rules.ApplyPages.{with_spans, with_kernel_fences, with_fence, without_frame, bound, unbound}
+use Rattle.journal_model.specs.rules.ApplyMoves.{moved, table_left}
+use Rattle.journal_model.specs.rules.ApplyVictims.{leaves_tt}
+use Rattle.journal_model.specs.rules.ApplyJobs.{with_use, ops_of}
+use Rattle.journal_model.specs.rules.ApplyCommands.{named_in}
 use Rattle.laws.specs.law_state.GoodState.{HasPages, HaveTables}
 use Rattle.laws.proofs.law_state.Lists.{set_at, live_changed}
 

@@ -4,11 +4,11 @@ use Rattle.ttm_base.specs.declared.Actor.{Actor}
 use Rattle.ttm_base.specs.declared.Need.{Need}
 use Rattle.journal_model.specs.declared.script.Script.{Script}
 use Rattle.journal_model.specs.declared.entry.Entry.{Entry}
-use Rattle.journal_model.specs.Stores.{showing}
-use Rattle.journal_model.specs.Next.{next}
+use Rattle.journal_model.specs.rules.Stores.{showing}
+use Rattle.journal_model.specs.rules.Next.{next}
 use Rattle.journal_model.specs.declared.entry.Kind.{Kind}
-use Rattle.journal_model.specs.Legal.{World, world_of, world_after, next_entry, shown_step, IsLegalNext, IsLegal}
-use Rattle.journal_model.specs.Scheduled.{Run, run_of, stepped, appended, actor_of_turn, scheduled}
+use Rattle.journal_model.specs.rules.Legal.{World, world_of, world_after, next_entry, shown_step, IsLegalNext, IsLegal}
+use Rattle.journal_model.specs.statements.Scheduled.{Run, run_of, stepped, appended, actor_of_turn, scheduled}
 use Rattle.journal_model.proofs.JournalLaws.{world_of-append, IsLegal-append}
 
 -- a run whose world is that of its journal, which is legal

@@ -28,15 +28,15 @@ use Rattle.journal_model.specs.declared.entry.Kind.{Kind}
 use Rattle.journal_model.specs.declared.entry.Kind.TheVariants as kind
 use Rattle.journal_model.specs.declared.entry.Why.{Why}
 use Rattle.journal_model.specs.declared.entry.Why.TheVariants as why
-use Rattle.journal_model.specs.State.{buffer, course}
-use Rattle.journal_model.specs.Holds.{free_slot}
-use Rattle.journal_model.specs.Dry.{has_frame}
-use Rattle.journal_model.specs.Waits.{waited_for, jobs_before_write, is_idle}
-use Rattle.journal_model.specs.Choice.{choice}
-use Rattle.journal_model.specs.Commands.{whole}
-use Rattle.journal_model.specs.Search.{Step, PlaceSearch, place_search, is_caught, step_of_place_search, step_of_forced, step_of_forced_place, step_of_crowded, first_choice}
-use Rattle.journal_model.specs.PageSteps.{unless_waiting, next_job, next_ghost, step_of_move, step_of_give_back, step_of_swap_out, step_of_empty, first_frame_page, why_caught, target_to_untake}
-use Rattle.journal_model.specs.Next.{next, step_of_task, step_of_act, step_of_start}
+use Rattle.journal_model.specs.rules.State.{buffer, course}
+use Rattle.journal_model.specs.rules.Holds.{free_slot}
+use Rattle.journal_model.specs.rules.Dry.{has_frame}
+use Rattle.journal_model.specs.rules.Waits.{waited_for, jobs_before_write, is_idle}
+use Rattle.journal_model.specs.rules.Choice.{choice}
+use Rattle.journal_model.specs.rules.Commands.{whole}
+use Rattle.journal_model.specs.rules.Search.{Step, PlaceSearch, place_search, is_caught, step_of_place_search, step_of_forced, step_of_forced_place, step_of_crowded, first_choice}
+use Rattle.journal_model.specs.rules.PageSteps.{unless_waiting, next_job, next_ghost, step_of_move, step_of_give_back, step_of_swap_out, step_of_empty, first_frame_page, why_caught, target_to_untake}
+use Rattle.journal_model.specs.rules.Next.{next, step_of_task, step_of_act, step_of_start}
 use Rattle.laws.proofs.law_state.Moves.{ThreadStep, thread_step}
 use Rattle.laws.proofs.law_state.Courses.{may, command_may}
 use Rattle.laws.specs.law_step.Due.{is_over, is_due}

@@ -17,16 +17,16 @@ use Rattle.journal_model.specs.declared.script.Command.TheVariants as command
 use Rattle.journal_model.specs.declared.state.State.{State}
 use Rattle.journal_model.specs.declared.state.Core.{Core}
 use Rattle.journal_model.specs.declared.state.Job.{Job}
-use Rattle.journal_model.specs.State.{buffer, buffer_in, live_in, has_buffer}
-use Rattle.journal_model.specs.Commands.{decl, named}
-use Rattle.journal_model.specs.CommandRules.{is_op, is_command, is_declared, is_between, is_byte}
-use Rattle.journal_model.specs.Places.{aperture, pages_of, page_in, page_in_vram, page_in_table, packet_place, name_in, frame_of}
-use Rattle.journal_model.specs.Ready.{has_all_frames, is_filled, is_in_place, is_ready, uses_bytes}
-use Rattle.journal_model.specs.Waits.{same_job, waited_for, jobs_before_write}
-use Rattle.journal_model.specs.PageSteps.{next_job}
-use Rattle.journal_model.specs.Stores.{within, put_bytes}
-use Rattle.journal_model.specs.PlainMemory.{Memory, OwedProbes, after_ops, pieces_shown, with_owed_probes, with_range}
-use Rattle.journal_model.specs.ApplyJobs.{core_after_arm}
+use Rattle.journal_model.specs.rules.State.{buffer, buffer_in, live_in, has_buffer}
+use Rattle.journal_model.specs.rules.Commands.{decl, named}
+use Rattle.journal_model.specs.scripts.CommandRules.{is_op, is_command, is_declared, is_between, is_byte}
+use Rattle.journal_model.specs.rules.Places.{aperture, pages_of, page_in, page_in_vram, page_in_table, packet_place, name_in, frame_of}
+use Rattle.journal_model.specs.rules.Ready.{has_all_frames, is_filled, is_in_place, is_ready, uses_bytes}
+use Rattle.journal_model.specs.rules.Waits.{same_job, waited_for, jobs_before_write}
+use Rattle.journal_model.specs.rules.PageSteps.{next_job}
+use Rattle.journal_model.specs.rules.Stores.{within, put_bytes}
+use Rattle.journal_model.specs.rules.PlainMemory.{Memory, OwedProbes, after_ops, pieces_shown, with_owed_probes, with_range}
+use Rattle.journal_model.specs.rules.ApplyJobs.{core_after_arm}
 use Rattle.laws.specs.law_state.GoodState.{GoodState, HasPages, last_number}
 use Rattle.laws.proofs.law_owners.Law.{AreHeldOnce}
 use Rattle.laws.specs.lemma_bytes_model.Memory.{Nowhere, Vram, Frame, Slot}

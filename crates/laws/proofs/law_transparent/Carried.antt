@@ -7,11 +7,11 @@ use Rattle.journal_model.specs.declared.script.Script.{Script}
 use Rattle.journal_model.specs.declared.state.State.{State}
 use Rattle.journal_model.specs.declared.entry.Entry.{Entry}
 use Rattle.journal_model.specs.declared.entry.Kind.{Kind}
-use Rattle.journal_model.specs.ScriptRules.{is_script}
-use Rattle.journal_model.specs.Next.{next}
-use Rattle.journal_model.specs.Apply.{applied}
-use Rattle.journal_model.specs.PlainMemory.{Plain, first_plain, plain_after, plain_of}
-use Rattle.journal_model.specs.Legal.{World, first_state, first_world, world_after, world_along, world_of, state_of, stores_of, IsLegalFrom, IsLegal}
+use Rattle.journal_model.specs.scripts.ScriptRules.{is_script}
+use Rattle.journal_model.specs.rules.Next.{next}
+use Rattle.journal_model.specs.rules.Apply.{applied}
+use Rattle.journal_model.specs.rules.PlainMemory.{Plain, first_plain, plain_after, plain_of}
+use Rattle.journal_model.specs.rules.Legal.{World, first_state, first_world, world_after, world_along, world_of, state_of, stores_of, IsLegalFrom, IsLegal}
 use Rattle.laws.proofs.law_state.Shown.{legal_step}
 use Rattle.laws.proofs.law_state.Rules.{rules_of}
 use Rattle.laws.specs.lemma_bytes_told.Told.{Told}

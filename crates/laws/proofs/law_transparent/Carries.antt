@@ -8,10 +8,10 @@ use Rattle.ttm_base.specs.Pages as pages
 use Rattle.journal_model.specs.declared.script.Script.{Script}
 use Rattle.journal_model.specs.declared.state.Core.{Core}
 use Rattle.journal_model.specs.declared.state.Buffer.{Buffer}
-use Rattle.journal_model.specs.State.{has_target}
-use Rattle.journal_model.specs.PlainMemory.{Memory, OwedProbes}
-use Rattle.journal_model.specs.Ready.{has_all_frames}
-use Rattle.journal_model.specs.ApplyMoves.{ghost_of_moved}
+use Rattle.journal_model.specs.rules.State.{has_target}
+use Rattle.journal_model.specs.rules.PlainMemory.{Memory, OwedProbes}
+use Rattle.journal_model.specs.rules.Ready.{has_all_frames}
+use Rattle.journal_model.specs.rules.ApplyMoves.{ghost_of_moved}
 use Rattle.laws.proofs.law_owners.Law.{AreHeldOnce}
 use Rattle.laws.proofs.lemma_bytes_view.Binds.{IsAt}
 use Rattle.laws.proofs.lemma_bytes_view.Moving.{moved_core}

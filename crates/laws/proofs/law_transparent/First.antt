@@ -3,10 +3,10 @@ use Rattle.std.proofs.Common.{◌≡◌, ℕ, zero, suc, Bool, true, false, List
 use Rattle.std.specs.Prelude.{slice_get, map, nat_lt, option_and_then, unwrap_or, if◌then◌else◌}
 use Rattle.journal_model.specs.declared.script.Script.{Script}
 use Rattle.journal_model.specs.declared.state.Core.{Core}
-use Rattle.journal_model.specs.State.{new_buffer}
-use Rattle.journal_model.specs.Stores.{zeros}
-use Rattle.journal_model.specs.PlainMemory.{first_plain}
-use Rattle.journal_model.specs.Legal.{first_state}
+use Rattle.journal_model.specs.rules.State.{new_buffer}
+use Rattle.journal_model.specs.rules.Stores.{zeros}
+use Rattle.journal_model.specs.rules.PlainMemory.{first_plain}
+use Rattle.journal_model.specs.rules.Legal.{first_state}
 use Rattle.laws.specs.lemma_bytes_model.Memory.{Nowhere}
 use Rattle.laws.specs.lemma_bytes_model.View.{View, Good}
 use Rattle.laws.specs.law_holders.Holding.{seen, live_at, buffer_at}

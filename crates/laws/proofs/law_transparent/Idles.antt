@@ -9,11 +9,11 @@ use Rattle.ttm_base.specs.declared.Place.{Place}
 use Rattle.ttm_base.specs.Pages as pages
 use Rattle.journal_model.specs.declared.script.Script.{Script}
 use Rattle.journal_model.specs.declared.state.Core.{Core}
-use Rattle.journal_model.specs.Places.{pages_of}
-use Rattle.journal_model.specs.Holds.{size_of, is_free_page, held_frames, held_slots, free_frame, free_slot}
-use Rattle.journal_model.specs.Choice.{choice}
-use Rattle.journal_model.specs.Stores.{is_there, within}
-use Rattle.journal_model.specs.PlainMemory.{Memory, OwedProbes}
+use Rattle.journal_model.specs.rules.Places.{pages_of}
+use Rattle.journal_model.specs.rules.Holds.{size_of, is_free_page, held_frames, held_slots, free_frame, free_slot}
+use Rattle.journal_model.specs.rules.Choice.{choice}
+use Rattle.journal_model.specs.rules.Stores.{is_there, within}
+use Rattle.journal_model.specs.rules.PlainMemory.{Memory, OwedProbes}
 use Rattle.laws.proofs.law_state.Rules.{Rules}
 use Rattle.laws.proofs.law_owners.Counts.{one, stands}
 use Rattle.laws.proofs.law_owners.Weights.{weight, vram_pages, frames, slots, in_buffers, in_ghosts, times-held}

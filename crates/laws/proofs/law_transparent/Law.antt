@@ -8,13 +8,13 @@ use Rattle.journal_model.specs.declared.state.Victim.{Victim}
 use Rattle.journal_model.specs.declared.entry.Entry.{Entry}
 use Rattle.journal_model.specs.declared.entry.Kind.{Kind}
 use Rattle.journal_model.specs.declared.entry.Kind.TheVariants as kind
-use Rattle.journal_model.specs.State.{buffer, course}
-use Rattle.journal_model.specs.ScriptRules.{is_script}
-use Rattle.journal_model.specs.Apply.{applied, thread_of}
-use Rattle.journal_model.specs.Stores.{Stores, within, stores_after, showing}
-use Rattle.journal_model.specs.Legal.{World, first_world, world_after, world_along, world_of, state_of, IsLegalNext, IsLegalFrom, IsLegal}
-use Rattle.journal_model.specs.PlainMemory.{Plain, first_plain, plain_after, plain_after_kind}
-use Rattle.journal_model.specs.Transparent.{IsKindPlain, IsTransparentFrom, IsTransparent}
+use Rattle.journal_model.specs.rules.State.{buffer, course}
+use Rattle.journal_model.specs.scripts.ScriptRules.{is_script}
+use Rattle.journal_model.specs.rules.Apply.{applied, thread_of}
+use Rattle.journal_model.specs.rules.Stores.{Stores, within, stores_after, showing}
+use Rattle.journal_model.specs.rules.Legal.{World, first_world, world_after, world_along, world_of, state_of, IsLegalNext, IsLegalFrom, IsLegal}
+use Rattle.journal_model.specs.rules.PlainMemory.{Plain, first_plain, plain_after, plain_after_kind}
+use Rattle.journal_model.specs.rules.Transparent.{IsKindPlain, IsTransparentFrom, IsTransparent}
 use Rattle.laws.proofs.law_state.Shown.{legal_step, shown_alike}
 use Rattle.laws.proofs.law_state.Rules.{rules_of}
 use Rattle.laws.proofs.law_state.GoodStates.{good_law}

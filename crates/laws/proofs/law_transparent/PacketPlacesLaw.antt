@@ -14,13 +14,13 @@ use Rattle.journal_model.specs.declared.script.Script.{Script}
 use Rattle.journal_model.specs.declared.entry.Entry.{Entry}
 use Rattle.journal_model.specs.declared.state.Core.{Core}
 use Rattle.journal_model.specs.declared.state.Buffer.{Buffer}
-use Rattle.journal_model.specs.ScriptRules.{is_script}
-use Rattle.journal_model.specs.Places.{pages_of, aperture}
-use Rattle.journal_model.specs.Holds.{spans_in}
-use Rattle.journal_model.specs.Stores.{is_there}
-use Rattle.journal_model.specs.PlainMemory.{Memory, OwedProbes}
-use Rattle.journal_model.specs.Spares.{remaining}
-use Rattle.journal_model.specs.Legal.{state_of, stores_of, IsLegal}
+use Rattle.journal_model.specs.scripts.ScriptRules.{is_script}
+use Rattle.journal_model.specs.rules.Places.{pages_of, aperture}
+use Rattle.journal_model.specs.rules.Holds.{spans_in}
+use Rattle.journal_model.specs.rules.Stores.{is_there}
+use Rattle.journal_model.specs.rules.PlainMemory.{Memory, OwedProbes}
+use Rattle.journal_model.specs.statements.Spares.{remaining}
+use Rattle.journal_model.specs.rules.Legal.{state_of, stores_of, IsLegal}
 use Rattle.laws.proofs.law_owners.Counts.{one, stands, weigh}
 use Rattle.laws.proofs.law_owners.Weights.{tt_pages, of_buffer, of_ghost, in_buffers, in_ghosts}
 use Rattle.laws.proofs.law_owners.Law.{AreHeldOnce, once_law}

@@ -10,14 +10,14 @@ use Rattle.ttm_base.specs.Pages as pages
 use Rattle.journal_model.specs.declared.script.Script.{Script}
 use Rattle.journal_model.specs.declared.state.Core.{Core}
 use Rattle.journal_model.specs.declared.state.Buffer.{Buffer}
-use Rattle.journal_model.specs.State.{changed}
-use Rattle.journal_model.specs.Holds.{free_frame, free_slot}
-use Rattle.journal_model.specs.Places.{page_at, page_in_table, loc_of}
-use Rattle.journal_model.specs.Waits.{waited_for, jobs_before_write}
-use Rattle.journal_model.specs.Stores.{is_there, within}
-use Rattle.journal_model.specs.Stores as stores
-use Rattle.journal_model.specs.PlainMemory.{Memory, OwedProbes}
-use Rattle.journal_model.specs.ApplyPages.{with_loc}
+use Rattle.journal_model.specs.rules.State.{changed}
+use Rattle.journal_model.specs.rules.Holds.{free_frame, free_slot}
+use Rattle.journal_model.specs.rules.Places.{page_at, page_in_table, loc_of}
+use Rattle.journal_model.specs.rules.Waits.{waited_for, jobs_before_write}
+use Rattle.journal_model.specs.rules.Stores.{is_there, within}
+use Rattle.journal_model.specs.rules.Stores as stores
+use Rattle.journal_model.specs.rules.PlainMemory.{Memory, OwedProbes}
+use Rattle.journal_model.specs.rules.ApplyPages.{with_loc}
 use Rattle.laws.proofs.law_owners.Law.{AreHeldOnce}
 use Rattle.laws.specs.lemma_bytes_model.Memory.{Nowhere, Frame, Slot, touched}
 use Rattle.laws.specs.lemma_bytes_model.View.{Idle}

@@ -10,15 +10,15 @@ use Rattle.ttm_base.specs.Pages as pages
 use Rattle.journal_model.specs.declared.script.Script.{Script}
 use Rattle.journal_model.specs.declared.state.Core.{Core}
 use Rattle.journal_model.specs.declared.state.Buffer.{Buffer}
-use Rattle.journal_model.specs.State.{live_in, changed, new_buffer, has_target, target_of, target_spans}
-use Rattle.journal_model.specs.Places.{aperture, mapped_in, page_at}
-use Rattle.journal_model.specs.Choice.{choice}
-use Rattle.journal_model.specs.Ready.{has_some_target}
-use Rattle.journal_model.specs.Waits.{waited_for, jobs_before_write, jobs_before_target}
-use Rattle.journal_model.specs.PlainMemory.{Memory, OwedProbes, with_zeros}
-use Rattle.journal_model.specs.ApplyCommands.{ghost_of_freed}
-use Rattle.journal_model.specs.ApplyPages.{with_kernel_fences, with_spans, without_frames, bound, unbound}
-use Rattle.journal_model.specs.ApplyVictims.{leaves_tt}
+use Rattle.journal_model.specs.rules.State.{live_in, changed, new_buffer, has_target, target_of, target_spans}
+use Rattle.journal_model.specs.rules.Places.{aperture, mapped_in, page_at}
+use Rattle.journal_model.specs.rules.Choice.{choice}
+use Rattle.journal_model.specs.rules.Ready.{has_some_target}
+use Rattle.journal_model.specs.rules.Waits.{waited_for, jobs_before_write, jobs_before_target}
+use Rattle.journal_model.specs.rules.PlainMemory.{Memory, OwedProbes, with_zeros}
+use Rattle.journal_model.specs.rules.ApplyCommands.{ghost_of_freed}
+use Rattle.journal_model.specs.rules.ApplyPages.{with_kernel_fences, with_spans, without_frames, bound, unbound}
+use Rattle.journal_model.specs.rules.ApplyVictims.{leaves_tt}
 use Rattle.laws.proofs.law_state.Rules.{Rules}
 use Rattle.laws.proofs.law_owners.Law.{AreHeldOnce}
 use Rattle.laws.specs.lemma_bytes_model.Memory.{touched}

@@ -22,16 +22,16 @@ use Rattle.journal_model.specs.declared.state.Job.{Job}
 use Rattle.journal_model.specs.declared.entry.Entry.{Entry}
 use Rattle.journal_model.specs.declared.entry.Kind.{Kind}
 use Rattle.journal_model.specs.declared.entry.Kind.TheVariants as kind
-use Rattle.journal_model.specs.State.{buffer_in}
-use Rattle.journal_model.specs.Commands.{command_at_work}
-use Rattle.journal_model.specs.CommandRules.{is_op, is_command}
-use Rattle.journal_model.specs.ScriptRules.{is_script}
-use Rattle.journal_model.specs.Places.{packet_place}
-use Rattle.journal_model.specs.Waits.{same_job}
-use Rattle.journal_model.specs.Apply.{applied, thread_of}
-use Rattle.journal_model.specs.ApplyMoves.{move_packets}
-use Rattle.journal_model.specs.ApplyJobs.{ops_of, changed_job}
-use Rattle.journal_model.specs.Legal.{World, first_world, world_after, world_along, state_of, IsLegalFrom, IsLegal}
+use Rattle.journal_model.specs.rules.State.{buffer_in}
+use Rattle.journal_model.specs.rules.Commands.{command_at_work}
+use Rattle.journal_model.specs.scripts.CommandRules.{is_op, is_command}
+use Rattle.journal_model.specs.scripts.ScriptRules.{is_script}
+use Rattle.journal_model.specs.rules.Places.{packet_place}
+use Rattle.journal_model.specs.rules.Waits.{same_job}
+use Rattle.journal_model.specs.rules.Apply.{applied, thread_of}
+use Rattle.journal_model.specs.rules.ApplyMoves.{move_packets}
+use Rattle.journal_model.specs.rules.ApplyJobs.{ops_of, changed_job}
+use Rattle.journal_model.specs.rules.Legal.{World, first_world, world_after, world_along, state_of, IsLegalFrom, IsLegal}
 use Rattle.laws.proofs.law_state.Shown.{legal_step}
 use Rattle.laws.proofs.law_state.Lists.{get_pushed, get_mapped}
 use Rattle.laws.proofs.law_state.Rules.{Rules, rules_of, at_work_rules}

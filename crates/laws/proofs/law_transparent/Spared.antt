@@ -21,17 +21,17 @@ use Rattle.journal_model.specs.declared.state.Job.{Job}
 use Rattle.journal_model.specs.declared.entry.Entry.{Entry}
 use Rattle.journal_model.specs.declared.entry.Kind.{Kind}
 use Rattle.journal_model.specs.declared.entry.Kind.TheVariants as kind
-use Rattle.journal_model.specs.State.{new_buffer, buffer_in, live_in, changed, target_spans}
-use Rattle.journal_model.specs.ScriptRules.{is_script}
-use Rattle.journal_model.specs.Places.{pages_of}
-use Rattle.journal_model.specs.Holds.{spans_in, has_number}
-use Rattle.journal_model.specs.Next.{next}
-use Rattle.journal_model.specs.Apply.{applied}
-use Rattle.journal_model.specs.ApplyCommands.{ghost_of_freed}
-use Rattle.journal_model.specs.ApplyPages.{unbound}
-use Rattle.journal_model.specs.Stores.{showing}
-use Rattle.journal_model.specs.Spares.{remaining, tt_of_ghosts}
-use Rattle.journal_model.specs.Legal.{World, first_world, world_of, state_of, shown_step, IsLegal}
+use Rattle.journal_model.specs.rules.State.{new_buffer, buffer_in, live_in, changed, target_spans}
+use Rattle.journal_model.specs.scripts.ScriptRules.{is_script}
+use Rattle.journal_model.specs.rules.Places.{pages_of}
+use Rattle.journal_model.specs.rules.Holds.{spans_in, has_number}
+use Rattle.journal_model.specs.rules.Next.{next}
+use Rattle.journal_model.specs.rules.Apply.{applied}
+use Rattle.journal_model.specs.rules.ApplyCommands.{ghost_of_freed}
+use Rattle.journal_model.specs.rules.ApplyPages.{unbound}
+use Rattle.journal_model.specs.rules.Stores.{showing}
+use Rattle.journal_model.specs.statements.Spares.{remaining, tt_of_ghosts}
+use Rattle.journal_model.specs.rules.Legal.{World, first_world, world_of, state_of, shown_step, IsLegal}
 use Rattle.laws.proofs.law_state.Shown.{shown_alike}
 use Rattle.laws.proofs.law_owners.Counts.{one, times, times-append, stands, summed, weigh, summed-set}
 use Rattle.laws.proofs.law_owners.Weights.{tt_pages, of_buffer, of_ghost, in_buffers, in_ghosts, weight, left_weight}

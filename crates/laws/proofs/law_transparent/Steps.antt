@@ -20,18 +20,18 @@ use Rattle.journal_model.specs.declared.entry.Kind.{Kind}
 use Rattle.journal_model.specs.declared.entry.Kind.TheVariants as kind
 use Rattle.journal_model.specs.declared.entry.Shown.{Shown}
 use Rattle.journal_model.specs.declared.entry.Shown.TheVariants as shown
-use Rattle.journal_model.specs.State.{buffer, course, course_of, live_in}
-use Rattle.journal_model.specs.Commands.{decl, named, commands_of, command_at_work}
-use Rattle.journal_model.specs.Complete.{is_answer}
-use Rattle.journal_model.specs.Next.{next}
-use Rattle.journal_model.specs.Apply.{applied, thread_of}
-use Rattle.journal_model.specs.ApplyCommands.{named_in}
-use Rattle.journal_model.specs.ApplyJobs.{ops_of, core_after_arm}
-use Rattle.journal_model.specs.PageSteps.{page_to_fill, first_frame_page, next_job, next_ghost}
-use Rattle.journal_model.specs.Stores.{Stores, within, written, stores_after, showing, shown_by_read}
-use Rattle.journal_model.specs.Waits.{waited_for, jobs_before_read}
-use Rattle.journal_model.specs.PlainMemory.{Memory, OwedProbes, Plain, command_of, memory_after_result, plain_after_kind, after_ops, pieces_shown, with_owed_probes}
-use Rattle.journal_model.specs.Transparent.{IsKindPlain, bytes_owed}
+use Rattle.journal_model.specs.rules.State.{buffer, course, course_of, live_in}
+use Rattle.journal_model.specs.rules.Commands.{decl, named, commands_of, command_at_work}
+use Rattle.journal_model.specs.statements.Complete.{is_answer}
+use Rattle.journal_model.specs.rules.Next.{next}
+use Rattle.journal_model.specs.rules.Apply.{applied, thread_of}
+use Rattle.journal_model.specs.rules.ApplyCommands.{named_in}
+use Rattle.journal_model.specs.rules.ApplyJobs.{ops_of, core_after_arm}
+use Rattle.journal_model.specs.rules.PageSteps.{page_to_fill, first_frame_page, next_job, next_ghost}
+use Rattle.journal_model.specs.rules.Stores.{Stores, within, written, stores_after, showing, shown_by_read}
+use Rattle.journal_model.specs.rules.Waits.{waited_for, jobs_before_read}
+use Rattle.journal_model.specs.rules.PlainMemory.{Memory, OwedProbes, Plain, command_of, memory_after_result, plain_after_kind, after_ops, pieces_shown, with_owed_probes}
+use Rattle.journal_model.specs.rules.Transparent.{IsKindPlain, bytes_owed}
 use Rattle.laws.proofs.law_state.JournalCourses.{one_more_if, own_answered, others_kept, thread_is_there, of_engine, of_reaper, is_of_engine, is_of_reaper}
 use Rattle.laws.specs.law_state.GoodState.{GoodState}
 use Rattle.laws.specs.law_state.Courses.{GoodCourses}

@@ -10,12 +10,12 @@ use Rattle.journal_model.specs.declared.entry.Entry.{Entry}
 use Rattle.journal_model.specs.declared.entry.Kind.{Kind}
 use Rattle.journal_model.specs.declared.entry.Kind.TheVariants as kind
 use Rattle.journal_model.specs.declared.entry.Left.TheVariants as left
-use Rattle.journal_model.specs.Commands.{whole}
-use Rattle.journal_model.specs.Complete.{is_complete}
-use Rattle.journal_model.specs.Legal.{IsLegal}
-use Rattle.journal_model.specs.ScriptRules.{is_script}
-use Rattle.journal_model.specs.Scheduled.{scheduled}
-use Rattle.journal_model.specs.Transparent.{IsTransparent}
+use Rattle.journal_model.specs.rules.Commands.{whole}
+use Rattle.journal_model.specs.statements.Complete.{is_complete}
+use Rattle.journal_model.specs.rules.Legal.{IsLegal}
+use Rattle.journal_model.specs.scripts.ScriptRules.{is_script}
+use Rattle.journal_model.specs.statements.Scheduled.{scheduled}
+use Rattle.journal_model.specs.rules.Transparent.{IsTransparent}
 use Rattle.journal_model.proofs.Rows.{sizes, buf_named, buf_id}
 use Rattle.laws.proofs.law_state.Turns.{scheduled_legal}
 use Rattle.laws.proofs.law_transparent.Law.{transparent_given}

@@ -4,9 +4,9 @@ use Rattle.ttm_base.specs.Pages as pages
 use Rattle.journal_model.specs.declared.script.Script.{Script}
 use Rattle.journal_model.specs.declared.state.Core.{Core}
 use Rattle.journal_model.specs.declared.entry.Entry.{Entry}
-use Rattle.journal_model.specs.ScriptRules.{is_script}
-use Rattle.journal_model.specs.PlainMemory.{Memory, OwedProbes, plain_of}
-use Rattle.journal_model.specs.Legal.{state_of, stores_of, IsLegal}
+use Rattle.journal_model.specs.scripts.ScriptRules.{is_script}
+use Rattle.journal_model.specs.rules.PlainMemory.{Memory, OwedProbes, plain_of}
+use Rattle.journal_model.specs.rules.Legal.{state_of, stores_of, IsLegal}
 use Rattle.laws.specs.lemma_bytes_model.Memory as memory
 use Rattle.laws.specs.lemma_bytes_model.Memory.{Page, Nowhere}
 use Rattle.laws.proofs.law_holders.Owner.{owner_of, owning}

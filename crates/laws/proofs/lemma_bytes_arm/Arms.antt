@@ -16,15 +16,15 @@ use Rattle.journal_model.specs.declared.script.Script.{Script}
 use Rattle.journal_model.specs.declared.state.Core.{Core}
 use Rattle.journal_model.specs.declared.state.Buffer.{Buffer}
 use Rattle.journal_model.specs.declared.state.Job.{Job}
-use Rattle.journal_model.specs.State.{buffer_in, has_buffer}
-use Rattle.journal_model.specs.Commands.{decl, buffers_of_op, first_mentions}
-use Rattle.journal_model.specs.CommandRules.{is_op}
-use Rattle.journal_model.specs.Places.{aperture, page_in, packet_place}
-use Rattle.journal_model.specs.Waits.{same_job, changes, is_written, unfinished, jobs_before_read, jobs_before_write, jobs_before_use}
-use Rattle.journal_model.specs.Stores.{is_there}
-use Rattle.journal_model.specs.PlainMemory.{Memory, OwedProbes, after_ops, pieces_shown, with_owed_probes}
-use Rattle.journal_model.specs.ApplyPages.{with_fence}
-use Rattle.journal_model.specs.ApplyJobs.{with_use, core_after_arm}
+use Rattle.journal_model.specs.rules.State.{buffer_in, has_buffer}
+use Rattle.journal_model.specs.rules.Commands.{decl, buffers_of_op, first_mentions}
+use Rattle.journal_model.specs.scripts.CommandRules.{is_op}
+use Rattle.journal_model.specs.rules.Places.{aperture, page_in, packet_place}
+use Rattle.journal_model.specs.rules.Waits.{same_job, changes, is_written, unfinished, jobs_before_read, jobs_before_write, jobs_before_use}
+use Rattle.journal_model.specs.rules.Stores.{is_there}
+use Rattle.journal_model.specs.rules.PlainMemory.{Memory, OwedProbes, after_ops, pieces_shown, with_owed_probes}
+use Rattle.journal_model.specs.rules.ApplyPages.{with_fence}
+use Rattle.journal_model.specs.rules.ApplyJobs.{with_use, core_after_arm}
 use Rattle.laws.proofs.law_state.Lists.{get_within}
 use Rattle.laws.proofs.law_owners.Law.{AreHeldOnce}
 use Rattle.laws.specs.lemma_bytes_model.Memory.{Page, Nowhere, Slot, Own, Step, touched}

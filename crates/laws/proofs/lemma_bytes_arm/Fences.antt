@@ -13,11 +13,11 @@ use Rattle.ttm_base.specs.declared.Op.{Op}
 use Rattle.journal_model.specs.declared.state.Core.{Core}
 use Rattle.journal_model.specs.declared.state.Buffer.{Buffer}
 use Rattle.ttm_base.specs.declared.Fence.{Fence}
-use Rattle.journal_model.specs.State.{live_in, new_buffer, same_buffer, has_buffer}
-use Rattle.journal_model.specs.Places.{aperture, mapped_in}
-use Rattle.journal_model.specs.Waits.{same_job, changes, is_written, use_of, jobs_before_read, jobs_before_write}
-use Rattle.journal_model.specs.ApplyPages.{with_fence}
-use Rattle.journal_model.specs.ApplyJobs.{with_use}
+use Rattle.journal_model.specs.rules.State.{live_in, new_buffer, same_buffer, has_buffer}
+use Rattle.journal_model.specs.rules.Places.{aperture, mapped_in}
+use Rattle.journal_model.specs.rules.Waits.{same_job, changes, is_written, use_of, jobs_before_read, jobs_before_write}
+use Rattle.journal_model.specs.rules.ApplyPages.{with_fence}
+use Rattle.journal_model.specs.rules.ApplyJobs.{with_use}
 use Rattle.laws.proofs.law_state.Lists.{set_at}
 use Rattle.laws.proofs.lemma_bytes_model.Actions.{or_first, or_second}
 use Rattle.laws.specs.law_holders.Holding.{buffer_at}

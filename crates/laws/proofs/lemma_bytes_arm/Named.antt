@@ -9,10 +9,10 @@ use Rattle.ttm_base.specs.declared.Op.TheVariants as op
 use Rattle.ttm_base.specs.Cutting as cutting
 use Rattle.ttm_base.specs.Cutting.{op_len, pieces_of}
 use Rattle.journal_model.specs.declared.script.Script.{Script}
-use Rattle.journal_model.specs.State.{same_buffer, has_buffer}
-use Rattle.journal_model.specs.Commands.{decl, buffers_of_op, writes, first_mentions}
-use Rattle.journal_model.specs.CommandRules.{is_op, is_range_of, is_declared, is_between}
-use Rattle.journal_model.specs.Waits.{is_written}
+use Rattle.journal_model.specs.rules.State.{same_buffer, has_buffer}
+use Rattle.journal_model.specs.rules.Commands.{decl, buffers_of_op, writes, first_mentions}
+use Rattle.journal_model.specs.scripts.CommandRules.{is_op, is_range_of, is_declared, is_between}
+use Rattle.journal_model.specs.rules.Waits.{is_written}
 use Rattle.laws.specs.law_cutting.Parts.{IsPiece}
 use Rattle.laws.proofs.law_cutting.Whole.{Each, pieces_are}
 use Rattle.laws.specs.lemma_bytes_model.Memory as memory

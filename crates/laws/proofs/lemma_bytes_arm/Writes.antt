@@ -12,11 +12,11 @@ use Rattle.journal_model.specs.declared.script.Script.{Script}
 use Rattle.journal_model.specs.declared.script.Sizes.{Sizes}
 use Rattle.journal_model.specs.declared.state.Core.{Core}
 use Rattle.journal_model.specs.declared.state.Buffer.{Buffer}
-use Rattle.journal_model.specs.State.{buffer_in}
-use Rattle.journal_model.specs.Places.{page_at}
-use Rattle.journal_model.specs.Waits.{waited_for, jobs_before_write}
-use Rattle.journal_model.specs.Stores.{is_there, within, put_bytes}
-use Rattle.journal_model.specs.PlainMemory.{Memory, OwedProbes, with_range}
+use Rattle.journal_model.specs.rules.State.{buffer_in}
+use Rattle.journal_model.specs.rules.Places.{page_at}
+use Rattle.journal_model.specs.rules.Waits.{waited_for, jobs_before_write}
+use Rattle.journal_model.specs.rules.Stores.{is_there, within, put_bytes}
+use Rattle.journal_model.specs.rules.PlainMemory.{Memory, OwedProbes, with_range}
 use Rattle.laws.proofs.law_owners.Law.{AreHeldOnce}
 use Rattle.laws.specs.lemma_bytes_model.Memory as memory
 use Rattle.laws.specs.lemma_bytes_model.Memory.{Page, Nowhere, Own, Write, put, run, run_all}

@@ -17,10 +17,10 @@ use Rattle.ttm_base.proofs.OrderLaws.{log2_fits}
 use Rattle.ttm_base.specs.BuddyChoice.{Candidate, candidate, log2, order_of, first_candidate, taken_after, scattered, contiguous, buddy_choice}
 use Rattle.journal_model.specs.declared.script.Script.{Script}
 use Rattle.journal_model.specs.declared.state.Core.{Core}
-use Rattle.journal_model.specs.Commands.{decl}
-use Rattle.journal_model.specs.Holds.{size_of, is_free_page}
-use Rattle.journal_model.specs.Places.{pages_of, pages_of_span}
-use Rattle.journal_model.specs.Choice.{choice, choice_in, range_at, blocks_at, reach_of}
+use Rattle.journal_model.specs.rules.Commands.{decl}
+use Rattle.journal_model.specs.rules.Holds.{size_of, is_free_page}
+use Rattle.journal_model.specs.rules.Places.{pages_of, pages_of_span}
+use Rattle.journal_model.specs.rules.Choice.{choice, choice_in, range_at, blocks_at, reach_of}
 use Rattle.laws.proofs.law_owners.Choices.{Each, least_is, first_is, last_is, each_given}
 use Rattle.laws.proofs.law_owners.Blocks.{IsBlock, chosen_is_block}
 

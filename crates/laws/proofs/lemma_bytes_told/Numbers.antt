@@ -9,7 +9,7 @@ use Rattle.journal_model.specs.declared.state.State.{State}
 use Rattle.journal_model.specs.declared.state.Core.{Core}
 use Rattle.journal_model.specs.declared.state.Ghost.{Ghost}
 use Rattle.journal_model.specs.declared.entry.Kind.{Kind}
-use Rattle.journal_model.specs.Apply.{applied}
+use Rattle.journal_model.specs.rules.Apply.{applied}
 use Rattle.laws.proofs.law_state.Lists.{get_pushed}
 use Rattle.laws.specs.lemma_bytes_told.Told.{Told, still, leaves, moves_up, moves_across, moves_down, evicts}
 use Rattle.laws.proofs.lemma_bytes_told.Shapes.{still_core, still_ghosts}

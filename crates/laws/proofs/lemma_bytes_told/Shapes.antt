@@ -19,17 +19,17 @@ use Rattle.journal_model.specs.declared.state.Core.{Core}
 use Rattle.journal_model.specs.declared.state.Buffer.{Buffer}
 use Rattle.journal_model.specs.declared.entry.Kind.{Kind}
 use Rattle.journal_model.specs.declared.entry.Kind.TheVariants as kind
-use Rattle.journal_model.specs.State.{buffer, live_in, changed, new_buffer, has_target, target_spans}
-use Rattle.journal_model.specs.Commands.{decl, command_at_work}
-use Rattle.journal_model.specs.Places.{pages_of}
-use Rattle.journal_model.specs.Ready.{has_all_frames}
-use Rattle.journal_model.specs.Waits.{jobs_before_target}
-use Rattle.journal_model.specs.Apply.{applied}
-use Rattle.journal_model.specs.ApplyCommands.{named_in}
-use Rattle.journal_model.specs.ApplyPages.{with_fence, with_kernel_fences, with_spans, with_loc, without_frame, without_frames, bound, unbound}
-use Rattle.journal_model.specs.ApplyMoves.{moved, table_left}
-use Rattle.journal_model.specs.ApplyVictims.{leaves_tt}
-use Rattle.journal_model.specs.ApplyJobs.{with_use, ops_of}
+use Rattle.journal_model.specs.rules.State.{buffer, live_in, changed, new_buffer, has_target, target_spans}
+use Rattle.journal_model.specs.rules.Commands.{decl, command_at_work}
+use Rattle.journal_model.specs.rules.Places.{pages_of}
+use Rattle.journal_model.specs.rules.Ready.{has_all_frames}
+use Rattle.journal_model.specs.rules.Waits.{jobs_before_target}
+use Rattle.journal_model.specs.rules.Apply.{applied}
+use Rattle.journal_model.specs.rules.ApplyCommands.{named_in}
+use Rattle.journal_model.specs.rules.ApplyPages.{with_fence, with_kernel_fences, with_spans, with_loc, without_frame, without_frames, bound, unbound}
+use Rattle.journal_model.specs.rules.ApplyMoves.{moved, table_left}
+use Rattle.journal_model.specs.rules.ApplyVictims.{leaves_tt}
+use Rattle.journal_model.specs.rules.ApplyJobs.{with_use, ops_of}
 use Rattle.laws.specs.law_state.GoodState.{HasPages, HaveTables}
 use Rattle.laws.proofs.law_state.Lists.{set_at, get_mapped}
 use Rattle.laws.proofs.lemma_bytes_view.Tables.{AllFrames, full_is, zero_loc}

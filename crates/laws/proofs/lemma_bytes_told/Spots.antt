@@ -6,10 +6,10 @@ use Rattle.std.proofs.lemmas.Bool.{lt-ltb}
 use Rattle.ttm_base.specs.declared.Loc.{Loc}
 use Rattle.ttm_base.specs.declared.Loc.TheVariants as loc
 use Rattle.journal_model.specs.declared.state.Buffer.{Buffer}
-use Rattle.journal_model.specs.Places.{is_frame, loc_of}
-use Rattle.journal_model.specs.Dry.{has_frame}
-use Rattle.journal_model.specs.Ready.{has_all_frames}
-use Rattle.journal_model.specs.PageSteps.{page_to_fill, first_frame_page}
+use Rattle.journal_model.specs.rules.Places.{is_frame, loc_of}
+use Rattle.journal_model.specs.rules.Dry.{has_frame}
+use Rattle.journal_model.specs.rules.Ready.{has_all_frames}
+use Rattle.journal_model.specs.rules.PageSteps.{page_to_fill, first_frame_page}
 
 -- an element that passes, at its place
 pub record Passes {X : Type 0} (p : X → Bool) (xs : List X) (i : ℕ) : Type 0 where

@@ -28,15 +28,15 @@ use Rattle.journal_model.specs.declared.entry.Left.TheVariants as left
 use Rattle.journal_model.specs.declared.entry.Why.TheVariants as why
 use Rattle.journal_model.specs.declared.entry.Shown.{Shown}
 use Rattle.journal_model.specs.declared.entry.Shown.TheVariants as shown
-use Rattle.journal_model.specs.State.{buffer, course, is_live, live_in, new_buffer, same_buffer, has_buffer, has_target}
-use Rattle.journal_model.specs.Commands.{named, command_at_work, whole}
-use Rattle.journal_model.specs.Dry.{has_frame}
-use Rattle.journal_model.specs.Holds.{free_slot}
-use Rattle.journal_model.specs.Ready.{has_all_frames, has_some_target, is_in_place, is_filled, is_ready, first_unready, uses_bytes}
-use Rattle.journal_model.specs.Waits.{waited_for, jobs_before_read, jobs_before_write, is_idle}
-use Rattle.journal_model.specs.Search.{Step, PlaceSearch, place_search, through_tt, is_caught}
-use Rattle.journal_model.specs.PageSteps.{unless_waiting, first_frame_page, next_job, next_ghost, why_caught}
-use Rattle.journal_model.specs.Next.{step_of_act, step_of_task}
+use Rattle.journal_model.specs.rules.State.{buffer, course, is_live, live_in, new_buffer, same_buffer, has_buffer, has_target}
+use Rattle.journal_model.specs.rules.Commands.{named, command_at_work, whole}
+use Rattle.journal_model.specs.rules.Dry.{has_frame}
+use Rattle.journal_model.specs.rules.Holds.{free_slot}
+use Rattle.journal_model.specs.rules.Ready.{has_all_frames, has_some_target, is_in_place, is_filled, is_ready, first_unready, uses_bytes}
+use Rattle.journal_model.specs.rules.Waits.{waited_for, jobs_before_read, jobs_before_write, is_idle}
+use Rattle.journal_model.specs.rules.Search.{Step, PlaceSearch, place_search, through_tt, is_caught}
+use Rattle.journal_model.specs.rules.PageSteps.{unless_waiting, first_frame_page, next_job, next_ghost, why_caught}
+use Rattle.journal_model.specs.rules.Next.{step_of_act, step_of_task}
 use Rattle.laws.specs.law_state.Courses as courses
 use Rattle.laws.proofs.law_state.JobNames.{found_at}
 use Rattle.laws.specs.law_step.Due.{is_due}

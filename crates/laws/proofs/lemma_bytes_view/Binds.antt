@@ -13,11 +13,11 @@ use Rattle.journal_model.specs.declared.script.Script.{Script}
 use Rattle.journal_model.specs.declared.state.Core.{Core}
 use Rattle.journal_model.specs.declared.state.Buffer.{Buffer}
 use Rattle.ttm_base.specs.declared.Fence.{Fence}
-use Rattle.journal_model.specs.State.{live_in, changed, new_buffer}
-use Rattle.journal_model.specs.Places.{aperture, page_at, page_in, page_in_table, loc_of}
-use Rattle.journal_model.specs.Waits.{same_job, changes, waited_for, jobs_before_read, jobs_before_write}
-use Rattle.journal_model.specs.PlainMemory.{Memory, OwedProbes}
-use Rattle.journal_model.specs.ApplyPages.{bound, unbound}
+use Rattle.journal_model.specs.rules.State.{live_in, changed, new_buffer}
+use Rattle.journal_model.specs.rules.Places.{aperture, page_at, page_in, page_in_table, loc_of}
+use Rattle.journal_model.specs.rules.Waits.{same_job, changes, waited_for, jobs_before_read, jobs_before_write}
+use Rattle.journal_model.specs.rules.PlainMemory.{Memory, OwedProbes}
+use Rattle.journal_model.specs.rules.ApplyPages.{bound, unbound}
 use Rattle.laws.proofs.law_state.Lists.{set_at}
 use Rattle.laws.proofs.law_owners.Law.{AreHeldOnce}
 use Rattle.laws.specs.lemma_bytes_model.Memory.{Nowhere, Frame, touched}

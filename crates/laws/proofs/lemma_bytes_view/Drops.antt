@@ -12,11 +12,11 @@ use Rattle.journal_model.specs.declared.script.Script.{Script}
 use Rattle.journal_model.specs.declared.state.Core.{Core}
 use Rattle.journal_model.specs.declared.state.Buffer.{Buffer}
 use Rattle.ttm_base.specs.declared.Fence.{Fence}
-use Rattle.journal_model.specs.State.{changed, new_buffer, target_spans}
-use Rattle.journal_model.specs.Places.{pages_of, aperture, page_at, page_in, page_in_table, loc_of}
-use Rattle.journal_model.specs.Waits.{same_job, changes, jobs_before_read, jobs_before_write}
-use Rattle.journal_model.specs.PlainMemory.{Memory, OwedProbes}
-use Rattle.journal_model.specs.ApplyPages.{with_spans, without_frame, without_frames}
+use Rattle.journal_model.specs.rules.State.{changed, new_buffer, target_spans}
+use Rattle.journal_model.specs.rules.Places.{pages_of, aperture, page_at, page_in, page_in_table, loc_of}
+use Rattle.journal_model.specs.rules.Waits.{same_job, changes, jobs_before_read, jobs_before_write}
+use Rattle.journal_model.specs.rules.PlainMemory.{Memory, OwedProbes}
+use Rattle.journal_model.specs.rules.ApplyPages.{with_spans, without_frame, without_frames}
 use Rattle.laws.proofs.law_owners.Law.{AreHeldOnce}
 use Rattle.laws.specs.lemma_bytes_model.Memory as memory
 use Rattle.laws.specs.lemma_bytes_model.Memory.{Page, Nowhere, touched}

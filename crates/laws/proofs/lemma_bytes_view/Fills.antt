@@ -15,13 +15,13 @@ use Rattle.journal_model.specs.declared.state.Core.{Core}
 use Rattle.journal_model.specs.declared.state.Buffer.{Buffer}
 use Rattle.journal_model.specs.declared.state.Targets.{Targets}
 use Rattle.ttm_base.specs.declared.Fence.{Fence}
-use Rattle.journal_model.specs.State.{live_in, changed, new_buffer}
-use Rattle.journal_model.specs.Places.{aperture, page_in_table}
-use Rattle.journal_model.specs.Waits.{same_job, jobs_before_read, jobs_before_write}
-use Rattle.journal_model.specs.Stores.{is_there, within}
-use Rattle.journal_model.specs.Stores as stores
-use Rattle.journal_model.specs.PlainMemory.{Memory, OwedProbes}
-use Rattle.journal_model.specs.ApplyPages.{with_loc}
+use Rattle.journal_model.specs.rules.State.{live_in, changed, new_buffer}
+use Rattle.journal_model.specs.rules.Places.{aperture, page_in_table}
+use Rattle.journal_model.specs.rules.Waits.{same_job, jobs_before_read, jobs_before_write}
+use Rattle.journal_model.specs.rules.Stores.{is_there, within}
+use Rattle.journal_model.specs.rules.Stores as stores
+use Rattle.journal_model.specs.rules.PlainMemory.{Memory, OwedProbes}
+use Rattle.journal_model.specs.rules.ApplyPages.{with_loc}
 use Rattle.laws.proofs.law_owners.Law.{AreHeldOnce}
 use Rattle.laws.specs.lemma_bytes_model.Memory.{Page, Nowhere, Vram, Frame, Slot, Own, same_page, touched}
 use Rattle.laws.specs.lemma_bytes_model.View.{View, Good, Owner, Idle, Free, Live, Kept, Target, Ghost, Guarded}

@@ -14,12 +14,12 @@ use Rattle.journal_model.specs.declared.state.State.{State}
 use Rattle.journal_model.specs.declared.state.Core.{Core}
 use Rattle.journal_model.specs.declared.state.Job.{Job}
 use Rattle.journal_model.specs.declared.entry.Kind.TheVariants as kind
-use Rattle.journal_model.specs.Waits.{same_job, is_unfinished, unfinished, waited_for}
+use Rattle.journal_model.specs.rules.Waits.{same_job, is_unfinished, unfinished, waited_for}
 use Rattle.ttm_base.specs.Fences.{named_job}
-use Rattle.journal_model.specs.Search.{Step}
-use Rattle.journal_model.specs.Stores.{job_packet, no_packet}
-use Rattle.journal_model.specs.Next.{next, head_of, step_of_job}
-use Rattle.journal_model.specs.ApplyJobs.{changed_job}
+use Rattle.journal_model.specs.rules.Search.{Step}
+use Rattle.journal_model.specs.rules.Stores.{job_packet, no_packet}
+use Rattle.journal_model.specs.rules.Next.{next, head_of, step_of_job}
+use Rattle.journal_model.specs.rules.ApplyJobs.{changed_job}
 use Rattle.laws.specs.law_state.GoodState.{GoodJobs}
 
 pub same_job-true : (i j : JobId) → same_job i j ≡ true → i ≡ j

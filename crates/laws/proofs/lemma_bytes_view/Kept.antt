@@ -5,8 +5,8 @@ use Rattle.std.specs.List.{list_any}
 use Rattle.ttm_base.specs.declared.JobId.{JobId}
 use Rattle.journal_model.specs.declared.state.Core.{Core}
 use Rattle.journal_model.specs.declared.state.Job.{Job}
-use Rattle.journal_model.specs.Waits.{same_job, jobs_before_read, jobs_before_write}
-use Rattle.journal_model.specs.ApplyJobs.{changed_job}
+use Rattle.journal_model.specs.rules.Waits.{same_job, jobs_before_read, jobs_before_write}
+use Rattle.journal_model.specs.rules.ApplyJobs.{changed_job}
 use Rattle.laws.specs.law_holders.Holding.{buffer_at}
 use Rattle.laws.proofs.lemma_bytes_view.World.{Before, IsChanging, IsUsing, IsGhostly, IsMover}
 use Rattle.laws.proofs.lemma_bytes_view.Jobs.{changed_there}

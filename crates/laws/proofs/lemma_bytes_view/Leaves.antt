@@ -16,12 +16,12 @@ use Rattle.journal_model.specs.declared.state.Core.{Core}
 use Rattle.journal_model.specs.declared.state.Buffer.{Buffer}
 use Rattle.journal_model.specs.declared.state.Job.{Job}
 use Rattle.journal_model.specs.declared.state.Ghost as ghosts
-use Rattle.journal_model.specs.State.{live_in, new_buffer, target_spans}
-use Rattle.journal_model.specs.Places.{pages_of, aperture, place_of, page_at, page_in, page_in_table, loc_of}
-use Rattle.journal_model.specs.Holds.{has_number}
-use Rattle.journal_model.specs.Waits.{same_job, changes, unfinished, jobs_before_read, jobs_before_write}
-use Rattle.journal_model.specs.PlainMemory.{Memory, OwedProbes, with_zeros}
-use Rattle.journal_model.specs.ApplyCommands.{ghost_of_freed}
+use Rattle.journal_model.specs.rules.State.{live_in, new_buffer, target_spans}
+use Rattle.journal_model.specs.rules.Places.{pages_of, aperture, place_of, page_at, page_in, page_in_table, loc_of}
+use Rattle.journal_model.specs.rules.Holds.{has_number}
+use Rattle.journal_model.specs.rules.Waits.{same_job, changes, unfinished, jobs_before_read, jobs_before_write}
+use Rattle.journal_model.specs.rules.PlainMemory.{Memory, OwedProbes, with_zeros}
+use Rattle.journal_model.specs.rules.ApplyCommands.{ghost_of_freed}
 use Rattle.laws.proofs.law_state.Lists.{set_at, get_pushed}
 use Rattle.laws.proofs.law_owners.Law.{AreHeldOnce}
 use Rattle.laws.specs.lemma_bytes_model.Memory.{Page, Nowhere, Vram, Frame, Slot, Own, touched}

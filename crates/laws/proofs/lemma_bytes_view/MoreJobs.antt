@@ -10,10 +10,10 @@ use Rattle.journal_model.specs.declared.state.Core.{Core}
 use Rattle.journal_model.specs.declared.state.Buffer.{Buffer}
 use Rattle.journal_model.specs.declared.state.Job.{Job}
 use Rattle.journal_model.specs.declared.state.Ghost as ghosts
-use Rattle.journal_model.specs.Places.{aperture, place_of}
-use Rattle.journal_model.specs.Waits.{same_job, is_unfinished, unfinished}
-use Rattle.journal_model.specs.Stores.{is_there}
-use Rattle.journal_model.specs.PlainMemory.{Memory, OwedProbes}
+use Rattle.journal_model.specs.rules.Places.{aperture, place_of}
+use Rattle.journal_model.specs.rules.Waits.{same_job, is_unfinished, unfinished}
+use Rattle.journal_model.specs.rules.Stores.{is_there}
+use Rattle.journal_model.specs.rules.PlainMemory.{Memory, OwedProbes}
 use Rattle.laws.proofs.law_state.Lists.{get_pushed, get_within}
 use Rattle.laws.specs.lemma_bytes_model.Memory.{Page, Own, Stores, Step, touched}
 use Rattle.laws.specs.lemma_bytes_model.View.{View, Good, Fences, at_job}

@@ -15,12 +15,12 @@ use Rattle.journal_model.specs.declared.state.Core.{Core}
 use Rattle.journal_model.specs.declared.state.Buffer.{Buffer}
 use Rattle.journal_model.specs.declared.state.Job.{Job}
 use Rattle.journal_model.specs.declared.state.Ghost as ghosts
-use Rattle.journal_model.specs.State.{changed, new_buffer, target_spans, with_target}
-use Rattle.journal_model.specs.Places.{aperture, place_of, packet_place, name_in_spans}
-use Rattle.journal_model.specs.Waits.{same_job, changes, unfinished, jobs_before_read, jobs_before_write}
-use Rattle.journal_model.specs.Stores.{is_there}
-use Rattle.journal_model.specs.PlainMemory.{Memory, OwedProbes}
-use Rattle.journal_model.specs.ApplyMoves.{moved, move_packets, copy_of_page, table_left}
+use Rattle.journal_model.specs.rules.State.{changed, new_buffer, target_spans, with_target}
+use Rattle.journal_model.specs.rules.Places.{aperture, place_of, packet_place, name_in_spans}
+use Rattle.journal_model.specs.rules.Waits.{same_job, changes, unfinished, jobs_before_read, jobs_before_write}
+use Rattle.journal_model.specs.rules.Stores.{is_there}
+use Rattle.journal_model.specs.rules.PlainMemory.{Memory, OwedProbes}
+use Rattle.journal_model.specs.rules.ApplyMoves.{moved, move_packets, copy_of_page, table_left}
 use Rattle.laws.proofs.law_owners.Law.{AreHeldOnce}
 use Rattle.laws.specs.lemma_bytes_model.Memory as memory
 use Rattle.laws.specs.lemma_bytes_model.Memory.{Page, Bytes, Nowhere, Slot, Own, Step, Write, touched}

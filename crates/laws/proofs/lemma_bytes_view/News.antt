@@ -9,10 +9,10 @@ use Rattle.ttm_base.specs.Pages as pages
 use Rattle.journal_model.specs.declared.script.Script.{Script}
 use Rattle.journal_model.specs.declared.state.Core.{Core}
 use Rattle.journal_model.specs.declared.state.Buffer.{Buffer}
-use Rattle.journal_model.specs.State.{live_in, new_buffer}
-use Rattle.journal_model.specs.Places.{aperture, page_at, page_in_table}
-use Rattle.journal_model.specs.Waits.{same_job, jobs_before_read, jobs_before_write}
-use Rattle.journal_model.specs.PlainMemory.{Memory, OwedProbes, with_zeros}
+use Rattle.journal_model.specs.rules.State.{live_in, new_buffer}
+use Rattle.journal_model.specs.rules.Places.{aperture, page_at, page_in_table}
+use Rattle.journal_model.specs.rules.Waits.{same_job, jobs_before_read, jobs_before_write}
+use Rattle.journal_model.specs.rules.PlainMemory.{Memory, OwedProbes, with_zeros}
 use Rattle.laws.proofs.law_state.Lists.{set_at}
 use Rattle.laws.proofs.law_owners.Law.{AreHeldOnce}
 use Rattle.laws.specs.lemma_bytes_model.Memory.{Nowhere, Own, Bytes, touched}

@@ -11,12 +11,12 @@ use Rattle.journal_model.specs.declared.script.Script.{Script}
 use Rattle.journal_model.specs.declared.state.Core.{Core}
 use Rattle.journal_model.specs.declared.state.Buffer.{Buffer}
 use Rattle.journal_model.specs.declared.state.Targets.{Targets}
-use Rattle.journal_model.specs.State.{changed, with_target}
-use Rattle.journal_model.specs.Places.{pages_of, aperture, mapped_in, page_in, page_at}
-use Rattle.journal_model.specs.Waits.{same_job, jobs_before_read, jobs_before_write, jobs_before_target}
-use Rattle.journal_model.specs.PlainMemory.{Memory, OwedProbes}
-use Rattle.journal_model.specs.ApplyPages.{with_spans, with_kernel_fences}
-use Rattle.journal_model.specs.ApplyVictims.{leaves_tt}
+use Rattle.journal_model.specs.rules.State.{changed, with_target}
+use Rattle.journal_model.specs.rules.Places.{pages_of, aperture, mapped_in, page_in, page_at}
+use Rattle.journal_model.specs.rules.Waits.{same_job, jobs_before_read, jobs_before_write, jobs_before_target}
+use Rattle.journal_model.specs.rules.PlainMemory.{Memory, OwedProbes}
+use Rattle.journal_model.specs.rules.ApplyPages.{with_spans, with_kernel_fences}
+use Rattle.journal_model.specs.rules.ApplyVictims.{leaves_tt}
 use Rattle.laws.specs.lemma_bytes_model.View.{View, Good}
 use Rattle.laws.specs.lemma_bytes_model.Entries.{retitled}
 use Rattle.laws.proofs.lemma_bytes_model.Owners.{untake_keeps}

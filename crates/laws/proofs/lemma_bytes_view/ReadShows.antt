@@ -8,11 +8,11 @@ use Rattle.ttm_base.specs.ListWords.{count_from}
 use Rattle.ttm_base.specs.Pages as pages
 use Rattle.journal_model.specs.declared.script.Script.{Script}
 use Rattle.journal_model.specs.declared.state.Core.{Core}
-use Rattle.journal_model.specs.State.{buffer_in}
-use Rattle.journal_model.specs.Places.{page_at}
-use Rattle.journal_model.specs.Waits.{waited_for, jobs_before_read}
-use Rattle.journal_model.specs.Stores.{byte_of, bytes_of}
-use Rattle.journal_model.specs.PlainMemory.{Memory, OwedProbes, memory_range}
+use Rattle.journal_model.specs.rules.State.{buffer_in}
+use Rattle.journal_model.specs.rules.Places.{page_at}
+use Rattle.journal_model.specs.rules.Waits.{waited_for, jobs_before_read}
+use Rattle.journal_model.specs.rules.Stores.{byte_of, bytes_of}
+use Rattle.journal_model.specs.rules.PlainMemory.{Memory, OwedProbes, memory_range}
 use Rattle.laws.specs.lemma_bytes_model.View.{View, Good, is_fence}
 use Rattle.laws.proofs.lemma_bytes_model.Cpu.{cpu_reads}
 use Rattle.laws.proofs.lemma_bytes_view.World.{Seen}

@@ -7,10 +7,10 @@ use Rattle.ttm_base.specs.Pages as pages
 use Rattle.journal_model.specs.declared.script.Script.{Script}
 use Rattle.journal_model.specs.declared.state.Core.{Core}
 use Rattle.journal_model.specs.declared.state.Ghost as ghosts
-use Rattle.journal_model.specs.Places.{aperture}
-use Rattle.journal_model.specs.Holds.{has_number}
-use Rattle.journal_model.specs.Waits.{same_job, waited_for}
-use Rattle.journal_model.specs.PlainMemory.{Memory, OwedProbes}
+use Rattle.journal_model.specs.rules.Places.{aperture}
+use Rattle.journal_model.specs.rules.Holds.{has_number}
+use Rattle.journal_model.specs.rules.Waits.{same_job, waited_for}
+use Rattle.journal_model.specs.rules.PlainMemory.{Memory, OwedProbes}
 use Rattle.laws.proofs.law_owners.Law.{AreHeldOnce}
 use Rattle.laws.specs.lemma_bytes_model.Memory as memory
 use Rattle.laws.specs.lemma_bytes_model.Memory.{Page, Nowhere, Frame, touched, written}

@@ -5,8 +5,8 @@ use Rattle.std.specs.List.{list_all}
 use Rattle.std.proofs.lemmas.Bool.{eqb-true, eq-eqb}
 use Rattle.ttm_base.specs.declared.Loc.{Loc}
 use Rattle.ttm_base.specs.declared.Loc.TheVariants as loc
-use Rattle.journal_model.specs.Places.{frame_of, is_frame}
-use Rattle.journal_model.specs.Holds.{has_number}
+use Rattle.journal_model.specs.rules.Places.{frame_of, is_frame}
+use Rattle.journal_model.specs.rules.Holds.{has_number}
 use Rattle.laws.proofs.lemma_bytes_model.Actions.{or_first, or_second}
 
 pub get_at : {X : Type 0} (xs : List X) (i : ℕ) → i < length xs → (x : X) × (slice_get xs i ≡ Some x)

@@ -15,11 +15,11 @@ use Rattle.journal_model.specs.declared.state.Core.{Core}
 use Rattle.journal_model.specs.declared.state.Buffer.{Buffer}
 use Rattle.ttm_base.specs.declared.Fence.{Fence}
 use Rattle.journal_model.specs.declared.state.Job.{Job}
-use Rattle.journal_model.specs.State.{changed, new_buffer, target_spans}
-use Rattle.journal_model.specs.Places.{pages_of, aperture, mapped_in, page_at, page_in, page_in_vram}
-use Rattle.journal_model.specs.Waits.{same_job, changes, is_unfinished, unfinished, jobs_before_read, jobs_before_write, jobs_before_target}
-use Rattle.journal_model.specs.PlainMemory.{Memory, OwedProbes}
-use Rattle.journal_model.specs.ApplyPages.{with_fence, with_kernel_fences, with_spans}
+use Rattle.journal_model.specs.rules.State.{changed, new_buffer, target_spans}
+use Rattle.journal_model.specs.rules.Places.{pages_of, aperture, mapped_in, page_at, page_in, page_in_vram}
+use Rattle.journal_model.specs.rules.Waits.{same_job, changes, is_unfinished, unfinished, jobs_before_read, jobs_before_write, jobs_before_target}
+use Rattle.journal_model.specs.rules.PlainMemory.{Memory, OwedProbes}
+use Rattle.journal_model.specs.rules.ApplyPages.{with_fence, with_kernel_fences, with_spans}
 use Rattle.laws.proofs.law_owners.Law.{AreHeldOnce}
 use Rattle.laws.specs.lemma_bytes_model.Memory as memory
 use Rattle.laws.specs.lemma_bytes_model.Memory.{Page, Nowhere, Vram, touched}

@@ -7,9 +7,9 @@ use Rattle.journal_model.specs.declared.script.Script.{Script}
 use Rattle.journal_model.specs.declared.state.Core.{Core}
 use Rattle.journal_model.specs.declared.state.Buffer.{Buffer}
 use Rattle.journal_model.specs.declared.state.Ghost as ghosts
-use Rattle.journal_model.specs.State.{live_in, changed, new_buffer}
-use Rattle.journal_model.specs.Places.{aperture, place_of}
-use Rattle.journal_model.specs.PlainMemory.{Memory, OwedProbes}
+use Rattle.journal_model.specs.rules.State.{live_in, changed, new_buffer}
+use Rattle.journal_model.specs.rules.Places.{aperture, place_of}
+use Rattle.journal_model.specs.rules.PlainMemory.{Memory, OwedProbes}
 use Rattle.laws.proofs.law_state.Lists.{live_changed}
 use Rattle.laws.specs.lemma_bytes_model.Memory as memory
 use Rattle.laws.specs.lemma_bytes_model.Memory.{Page, Nowhere, touched}

@@ -14,10 +14,10 @@ use Rattle.journal_model.specs.declared.state.Buffer.{Buffer}
 use Rattle.journal_model.specs.declared.state.Targets.{Targets}
 use Rattle.ttm_base.specs.declared.Fence.{Fence}
 use Rattle.journal_model.specs.declared.state.Ghost as ghosts
-use Rattle.journal_model.specs.State.{target_spans, live_in}
-use Rattle.journal_model.specs.Places.{pages_of, aperture, page_in_table, page_in_vram}
-use Rattle.journal_model.specs.PlainMemory.{Memory, OwedProbes}
-use Rattle.journal_model.specs.ApplyMoves.{moved, ghost_of_moved}
+use Rattle.journal_model.specs.rules.State.{target_spans, live_in}
+use Rattle.journal_model.specs.rules.Places.{pages_of, aperture, page_in_table, page_in_vram}
+use Rattle.journal_model.specs.rules.PlainMemory.{Memory, OwedProbes}
+use Rattle.journal_model.specs.rules.ApplyMoves.{moved, ghost_of_moved}
 use Rattle.laws.proofs.law_state.Lists.{get_pushed}
 use Rattle.laws.proofs.law_owners.Law.{AreHeldOnce}
 use Rattle.laws.specs.lemma_bytes_model.Memory.{Page, Nowhere, Vram, Frame, Slot, Own}

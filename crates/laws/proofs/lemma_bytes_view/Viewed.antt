@@ -2,7 +2,7 @@
 use Rattle.journal_model.specs.declared.script.Script.{Script}
 use Rattle.journal_model.specs.declared.state.Core.{Core}
 use Rattle.ttm_base.specs.Pages as pages
-use Rattle.journal_model.specs.PlainMemory.{Memory, OwedProbes}
+use Rattle.journal_model.specs.rules.PlainMemory.{Memory, OwedProbes}
 use Rattle.laws.specs.lemma_bytes_model.View.{View, Good}
 use Rattle.laws.proofs.lemma_bytes_view.World.{Seen}
 use Rattle.laws.proofs.lemma_bytes_view.PacketStep.{no_bytes}

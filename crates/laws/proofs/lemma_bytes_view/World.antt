@@ -3,7 +3,7 @@ use Rattle.std.proofs.Common.{◌≡◌, [], None}
 use Rattle.ttm_base.specs.Pages as pages
 use Rattle.journal_model.specs.declared.script.Script.{Script}
 use Rattle.journal_model.specs.declared.state.Core.{Core}
-use Rattle.journal_model.specs.PlainMemory.{Memory, OwedProbes}
+use Rattle.journal_model.specs.rules.PlainMemory.{Memory, OwedProbes}
 use Rattle.laws.specs.lemma_bytes_model.View.{View}
 pub use Rattle.laws.specs.lemma_bytes_view.World.{Before, IsChanging, IsUsing, IsGhostly, IsMover}
 use Rattle.laws.specs.lemma_bytes_view.World.{SeenBy}

@@ -23,15 +23,15 @@ use Rattle.journal_model.specs.declared.entry.DryWhy.{DryWhy}
 use Rattle.journal_model.specs.declared.entry.DryWhy.TheVariants as dry
 use Rattle.ttm_base.specs.declared.Loc.{Loc}
 use Rattle.ttm_base.specs.declared.Loc.TheVariants as loc
-use Rattle.journal_model.specs.State.{buffer}
-use Rattle.journal_model.specs.Commands.{whole}
-use Rattle.journal_model.specs.Places.{loc_of}
-use Rattle.journal_model.specs.Holds.{free_frame, free_slot}
-use Rattle.journal_model.specs.Choice.{choice, choice_in}
-use Rattle.journal_model.specs.Dry.{is_long_enough, victim, ghost_in, is_dry, causes, dry_why, swap_victim, ghost_with_frame}
-use Rattle.journal_model.specs.Search.{Step, PlaceSearch, why_of, step_of_crowded, step_of_forced_place, step_of_forced, first_choice, step_of_place_search}
-use Rattle.journal_model.specs.PageSteps.{page_to_fill, filled_by, step_without_victim, step_without_frame, step_of_fill}
-use Rattle.journal_model.specs.Causes.{presses}
+use Rattle.journal_model.specs.rules.State.{buffer}
+use Rattle.journal_model.specs.rules.Commands.{whole}
+use Rattle.journal_model.specs.rules.Places.{loc_of}
+use Rattle.journal_model.specs.rules.Holds.{free_frame, free_slot}
+use Rattle.journal_model.specs.rules.Choice.{choice, choice_in}
+use Rattle.journal_model.specs.rules.Dry.{is_long_enough, victim, ghost_in, is_dry, causes, dry_why, swap_victim, ghost_with_frame}
+use Rattle.journal_model.specs.rules.Search.{Step, PlaceSearch, why_of, step_of_crowded, step_of_forced_place, step_of_forced, first_choice, step_of_place_search}
+use Rattle.journal_model.specs.rules.PageSteps.{page_to_fill, filled_by, step_without_victim, step_without_frame, step_of_fill}
+use Rattle.journal_model.specs.statements.Causes.{presses}
 use Rattle.laws.proofs.law_sound.Reservations.{IsFree, victim_free}
 
 -- no place that is tried first has a choice

@@ -23,19 +23,19 @@ use Rattle.journal_model.specs.declared.state.Task.{Task}
 use Rattle.journal_model.specs.declared.state.Task.TheVariants as task
 use Rattle.journal_model.specs.declared.entry.Kind.{Kind}
 use Rattle.journal_model.specs.declared.entry.Kind.TheVariants as kind
-use Rattle.journal_model.specs.State.{new_buffer, buffer, course, live_in, changed, has_target}
-use Rattle.journal_model.specs.Commands.{decl, named, command_at_work}
-use Rattle.journal_model.specs.Places.{is_frame}
-use Rattle.journal_model.specs.Dry.{has_frame}
-use Rattle.journal_model.specs.Ready.{has_all_frames, is_in_place, is_filled, is_ready, uses_bytes, first_unready}
-use Rattle.journal_model.specs.Search.{PlaceSearch}
-use Rattle.journal_model.specs.Apply.{applied, thread_of}
-use Rattle.journal_model.specs.ApplyCommands.{named_in}
-use Rattle.journal_model.specs.ApplyJobs.{with_use, ops_of}
-use Rattle.journal_model.specs.ApplyMoves.{moved, table_left}
-use Rattle.journal_model.specs.ApplyPages.{with_spans, without_frame}
-use Rattle.journal_model.specs.ApplyVictims.{leaves_tt}
-use Rattle.journal_model.specs.Legal.{first_state}
+use Rattle.journal_model.specs.rules.State.{new_buffer, buffer, course, live_in, changed, has_target}
+use Rattle.journal_model.specs.rules.Commands.{decl, named, command_at_work}
+use Rattle.journal_model.specs.rules.Places.{is_frame}
+use Rattle.journal_model.specs.rules.Dry.{has_frame}
+use Rattle.journal_model.specs.rules.Ready.{has_all_frames, is_in_place, is_filled, is_ready, uses_bytes, first_unready}
+use Rattle.journal_model.specs.rules.Search.{PlaceSearch}
+use Rattle.journal_model.specs.rules.Apply.{applied, thread_of}
+use Rattle.journal_model.specs.rules.ApplyCommands.{named_in}
+use Rattle.journal_model.specs.rules.ApplyJobs.{with_use, ops_of}
+use Rattle.journal_model.specs.rules.ApplyMoves.{moved, table_left}
+use Rattle.journal_model.specs.rules.ApplyPages.{with_spans, without_frame}
+use Rattle.journal_model.specs.rules.ApplyVictims.{leaves_tt}
+use Rattle.journal_model.specs.rules.Legal.{first_state}
 use Rattle.laws.proofs.law_state.Lists.{set_at, live_changed}
 use Rattle.laws.proofs.law_sound.Along.{Stepped, OfWorker, packet, done, reap}
 use Rattle.laws.proofs.law_sound.Turns.{Turn, victim_move, victim_fill, fill_in_place, fill_to_bind, fill_to_move, move_up, move_across, move_down}

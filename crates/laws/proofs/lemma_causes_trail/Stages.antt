@@ -22,14 +22,14 @@ use Rattle.journal_model.specs.declared.entry.Shown.{Shown}
 use Rattle.journal_model.specs.declared.entry.Why.{Why}
 use Rattle.journal_model.specs.declared.entry.Why.TheVariants as why
 use Rattle.journal_model.specs.declared.entry.DryWhy.{DryWhy}
-use Rattle.journal_model.specs.State.{course, same_buffer, has_buffer}
-use Rattle.journal_model.specs.Commands.{named, command_at_work}
-use Rattle.journal_model.specs.Search.{place_search_at_work, is_caught}
-use Rattle.journal_model.specs.ApplyPages.{search_over}
-use Rattle.journal_model.specs.ApplyVictims.{failed_if, with_fail, gone_dry, course_after_dry, with_victim}
-use Rattle.journal_model.specs.Legal.{Made}
-use Rattle.journal_model.specs.Complete.{is_answer}
-use Rattle.journal_model.specs.Causes.{in_command, is_no_pages_of, is_take_of, dry_of, presses, search_of}
+use Rattle.journal_model.specs.rules.State.{course, same_buffer, has_buffer}
+use Rattle.journal_model.specs.rules.Commands.{named, command_at_work}
+use Rattle.journal_model.specs.rules.Search.{place_search_at_work, is_caught}
+use Rattle.journal_model.specs.rules.ApplyPages.{search_over}
+use Rattle.journal_model.specs.rules.ApplyVictims.{failed_if, with_fail, gone_dry, course_after_dry, with_victim}
+use Rattle.journal_model.specs.rules.Legal.{Made}
+use Rattle.journal_model.specs.statements.Complete.{is_answer}
+use Rattle.journal_model.specs.statements.Causes.{in_command, is_no_pages_of, is_take_of, dry_of, presses, search_of}
 use Rattle.laws.proofs.law_sound.Turns.{Works}
 use Rattle.laws.proofs.law_sound.Steadies.{next_course}
 use Rattle.laws.proofs.law_sound.Bufs.{same_is, other_is, victims_of, clash}

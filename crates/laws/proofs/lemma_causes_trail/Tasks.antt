@@ -23,12 +23,12 @@ use Rattle.journal_model.specs.declared.entry.Why.{Why}
 use Rattle.journal_model.specs.declared.entry.Why.TheVariants as why
 use Rattle.journal_model.specs.declared.entry.Kind.{Kind}
 use Rattle.journal_model.specs.declared.entry.Kind.TheVariants as kind
-use Rattle.journal_model.specs.State.{buffer, reservation, same_buffer, has_buffer, has_target}
-use Rattle.journal_model.specs.Commands.{named, asked_places}
-use Rattle.journal_model.specs.Ready.{has_some_target, is_in_place, is_filled, is_ready, first_unready}
-use Rattle.journal_model.specs.Search.{PlaceSearch, place_search, is_caught, through_tt, aim_of}
-use Rattle.journal_model.specs.Tasks.{starts, first_missing, filled_then, gives_back, forbidden, carried, task_of_failed, task_of_misplaced, task_of_unready, task_of_held, task_of_victim, task_of_command}
-use Rattle.journal_model.specs.Next.{step_of_task}
+use Rattle.journal_model.specs.rules.State.{buffer, reservation, same_buffer, has_buffer, has_target}
+use Rattle.journal_model.specs.rules.Commands.{named, asked_places}
+use Rattle.journal_model.specs.rules.Ready.{has_some_target, is_in_place, is_filled, is_ready, first_unready}
+use Rattle.journal_model.specs.rules.Search.{PlaceSearch, place_search, is_caught, through_tt, aim_of}
+use Rattle.journal_model.specs.rules.Tasks.{starts, first_missing, filled_then, gives_back, forbidden, carried, task_of_failed, task_of_misplaced, task_of_unready, task_of_held, task_of_victim, task_of_command}
+use Rattle.journal_model.specs.rules.Next.{step_of_task}
 use Rattle.laws.proofs.law_sound.Turns.{Turn, Works, OnVictim, OnNamed, OnBuffer, OnMisplaced, OnCarried, answer, start, lock, victim_unbind, victim_empty, victim_give, victim_skip, victim_move, victim_fill, victim_search, refuse, give, give_up, act, fill_in_place, ask, bind, fill_to_bind, hop_up, unbind, move_up, move_across, move_down, fill_to_move, hop_down}
 use Rattle.laws.proofs.law_sound.Gifts.{Gives, SearchOutcome, Filled, task_gives, answers, makes, exists, shifts, draws, no_buffer, reserves, backs, seeks, binds, unbinds, moves, fills, lets_go, empties, depopulates, untakes, skips, gives_up, refuses, arms, frees, swaps, no_swap, acts, finds, evicts, dries, fresh, again, back, evicts_for_swap, nothing}
 use Rattle.laws.proofs.law_sound.Bufs.{same_self, has_found, clash}

@@ -11,9 +11,9 @@ use Rattle.ttm_base.specs.declared.FlaggedPlace.{FlaggedPlace}
 use Rattle.ttm_base.specs.ListWords.{count_from}
 use Rattle.ttm_base.specs.Placement.{forced_places}
 use Rattle.journal_model.specs.declared.script.Script.{Script}
-use Rattle.journal_model.specs.Legal.{Made}
-use Rattle.journal_model.specs.Complete.{is_answer, is_by_thread}
-use Rattle.journal_model.specs.Causes.{since_last, in_command, is_take_of, dry_of, presses, is_at_work, places_sought, is_dry_place, was_dry, search_of, shows_pressure}
+use Rattle.journal_model.specs.rules.Legal.{Made}
+use Rattle.journal_model.specs.statements.Complete.{is_answer, is_by_thread}
+use Rattle.journal_model.specs.statements.Causes.{since_last, in_command, is_take_of, dry_of, presses, is_at_work, places_sought, is_dry_place, was_dry, search_of, shows_pressure}
 use Rattle.laws.proofs.lemma_causes_trail.Found.{no_first}
 
 -- ---- one entry more

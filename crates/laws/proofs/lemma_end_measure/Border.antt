@@ -14,14 +14,14 @@ use Rattle.journal_model.specs.declared.state.State.{State}
 use Rattle.journal_model.specs.declared.state.Course.{Course}
 use Rattle.journal_model.specs.declared.entry.Kind.{Kind}
 use Rattle.journal_model.specs.declared.entry.Kind.TheVariants as kind
-use Rattle.journal_model.specs.State.{new_buffer, new_course, buffer, buffer_in, live_in, course, without_buffer}
-use Rattle.journal_model.specs.Commands.{commands_of, command_at_work, decl}
-use Rattle.journal_model.specs.Places.{packet_place}
-use Rattle.journal_model.specs.Tasks.{first_missing}
-use Rattle.journal_model.specs.Waits.{jobs_before_use}
-use Rattle.journal_model.specs.Apply.{applied}
-use Rattle.journal_model.specs.ApplyCommands.{on_to_next, named_in, ghost_of_freed}
-use Rattle.journal_model.specs.ApplyJobs.{ops_of}
+use Rattle.journal_model.specs.rules.State.{new_buffer, new_course, buffer, buffer_in, live_in, course, without_buffer}
+use Rattle.journal_model.specs.rules.Commands.{commands_of, command_at_work, decl}
+use Rattle.journal_model.specs.rules.Places.{packet_place}
+use Rattle.journal_model.specs.rules.Tasks.{first_missing}
+use Rattle.journal_model.specs.rules.Waits.{jobs_before_use}
+use Rattle.journal_model.specs.rules.Apply.{applied}
+use Rattle.journal_model.specs.rules.ApplyCommands.{on_to_next, named_in, ghost_of_freed}
+use Rattle.journal_model.specs.rules.ApplyJobs.{ops_of}
 use Rattle.laws.specs.law_state.GoodState.{GoodState}
 use Rattle.laws.proofs.law_state.Rules.{Rules}
 use Rattle.laws.specs.law_sound.Sound.{Has, Owned}

@@ -13,16 +13,16 @@ use Rattle.journal_model.specs.declared.state.Task.{Task}
 use Rattle.journal_model.specs.declared.state.Task.TheVariants as task
 use Rattle.journal_model.specs.declared.entry.Kind.{Kind}
 use Rattle.journal_model.specs.declared.entry.Kind.TheVariants as kind
-use Rattle.journal_model.specs.State.{new_buffer, buffer, course, has_buffer, has_target, live_in}
-use Rattle.journal_model.specs.Tasks.{starts, first_missing}
-use Rattle.journal_model.specs.PageSteps.{next_job, target_to_untake}
+use Rattle.journal_model.specs.rules.State.{new_buffer, buffer, course, has_buffer, has_target, live_in}
+use Rattle.journal_model.specs.rules.Tasks.{starts, first_missing}
+use Rattle.journal_model.specs.rules.PageSteps.{next_job, target_to_untake}
 use Rattle.ttm_base.specs.declared.Mem.TheVariants.{Vram}
-use Rattle.journal_model.specs.Commands.{decl, named}
-use Rattle.journal_model.specs.Dry.{has_frame}
-use Rattle.journal_model.specs.Ready.{first_unready, is_ready}
-use Rattle.journal_model.specs.Places.{slots_of}
-use Rattle.journal_model.specs.Holds.{has_number}
-use Rattle.journal_model.specs.Apply.{applied}
+use Rattle.journal_model.specs.rules.Commands.{decl, named}
+use Rattle.journal_model.specs.rules.Dry.{has_frame}
+use Rattle.journal_model.specs.rules.Ready.{first_unready, is_ready}
+use Rattle.journal_model.specs.rules.Places.{slots_of}
+use Rattle.journal_model.specs.rules.Holds.{has_number}
+use Rattle.journal_model.specs.rules.Apply.{applied}
 use Rattle.laws.specs.law_sound.Sound.{locks}
 use Rattle.laws.proofs.law_sound.Measure.{measure}
 use Rattle.laws.proofs.law_sound.Along.{Stepped}

@@ -17,14 +17,14 @@ use Rattle.journal_model.specs.declared.state.Task.{Task}
 use Rattle.journal_model.specs.declared.state.Task.TheVariants as task
 use Rattle.journal_model.specs.declared.entry.Kind.{Kind}
 use Rattle.journal_model.specs.declared.entry.Kind.TheVariants as kind
-use Rattle.journal_model.specs.State.{new_buffer, same_buffer, has_buffer, live_in, is_live, buffer, changed, reservation, course}
-use Rattle.journal_model.specs.Commands.{named, command_at_work}
-use Rattle.journal_model.specs.Search.{is_caught, PlaceSearch}
-use Rattle.journal_model.specs.Tasks.{first_missing}
-use Rattle.journal_model.specs.Ready.{first_unready, is_ready}
-use Rattle.journal_model.specs.Apply.{applied}
-use Rattle.journal_model.specs.ApplyJobs.{with_use, ops_of}
-use Rattle.journal_model.specs.ApplyCommands.{named_in}
+use Rattle.journal_model.specs.rules.State.{new_buffer, same_buffer, has_buffer, live_in, is_live, buffer, changed, reservation, course}
+use Rattle.journal_model.specs.rules.Commands.{named, command_at_work}
+use Rattle.journal_model.specs.rules.Search.{is_caught, PlaceSearch}
+use Rattle.journal_model.specs.rules.Tasks.{first_missing}
+use Rattle.journal_model.specs.rules.Ready.{first_unready, is_ready}
+use Rattle.journal_model.specs.rules.Apply.{applied}
+use Rattle.journal_model.specs.rules.ApplyJobs.{with_use, ops_of}
+use Rattle.journal_model.specs.rules.ApplyCommands.{named_in}
 use Rattle.laws.specs.law_sound.Sound.{Has, Owned, command_of}
 use Rattle.laws.proofs.law_sound.DeadEnds.{command_is}
 use Rattle.laws.proofs.law_sound.Measure.{command_left, later_commands, thread_left}

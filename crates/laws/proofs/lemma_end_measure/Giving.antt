@@ -20,16 +20,16 @@ use Rattle.journal_model.specs.declared.state.State.{State}
 use Rattle.journal_model.specs.declared.state.Buffer.{Buffer}
 use Rattle.journal_model.specs.declared.entry.Kind.{Kind}
 use Rattle.journal_model.specs.declared.entry.Kind.TheVariants as kind
-use Rattle.journal_model.specs.State.{new_buffer, buffer, course, same_buffer, has_buffer, has_target, live_in, changed}
-use Rattle.journal_model.specs.Commands.{named}
-use Rattle.journal_model.specs.Places.{is_frame, slot_of}
-use Rattle.journal_model.specs.Holds.{has_number}
-use Rattle.journal_model.specs.Dry.{has_frame}
-use Rattle.journal_model.specs.Ready.{has_some_target}
-use Rattle.journal_model.specs.Tasks.{gives_back}
-use Rattle.journal_model.specs.PageSteps.{target_to_untake}
-use Rattle.journal_model.specs.Apply.{applied}
-use Rattle.journal_model.specs.ApplyPages.{with_spans, without_frame, without_frames}
+use Rattle.journal_model.specs.rules.State.{new_buffer, buffer, course, same_buffer, has_buffer, has_target, live_in, changed}
+use Rattle.journal_model.specs.rules.Commands.{named}
+use Rattle.journal_model.specs.rules.Places.{is_frame, slot_of}
+use Rattle.journal_model.specs.rules.Holds.{has_number}
+use Rattle.journal_model.specs.rules.Dry.{has_frame}
+use Rattle.journal_model.specs.rules.Ready.{has_some_target}
+use Rattle.journal_model.specs.rules.Tasks.{gives_back}
+use Rattle.journal_model.specs.rules.PageSteps.{target_to_untake}
+use Rattle.journal_model.specs.rules.Apply.{applied}
+use Rattle.journal_model.specs.rules.ApplyPages.{with_spans, without_frame, without_frames}
 use Rattle.laws.proofs.law_sound.Measure.{one_if, packet_count, frame_count, target_count, to_give_back, if_named, search_left, later_commands, left_of_buffer, job_left, page_left, thread_left, slot_debts, locks_left, measure}
 use Rattle.laws.proofs.law_sound.MeasureFalls.{sum_set, sum_most}
 use Rattle.laws.proofs.law_state.Lists.{get_within}

@@ -15,13 +15,13 @@ use Rattle.journal_model.specs.declared.state.State.{State}
 use Rattle.journal_model.specs.declared.state.Course.{Course}
 use Rattle.journal_model.specs.declared.entry.Kind.{Kind}
 use Rattle.journal_model.specs.declared.entry.Kind.TheVariants as kind
-use Rattle.journal_model.specs.State.{new_buffer, course, reservation, is_live, same_buffer, has_buffer}
-use Rattle.journal_model.specs.Commands.{named}
-use Rattle.journal_model.specs.Tasks.{first_missing}
-use Rattle.journal_model.specs.Next.{backs_off}
-use Rattle.journal_model.specs.Apply.{applied}
-use Rattle.journal_model.specs.Complete.{thread_numbers}
-use Rattle.journal_model.specs.Scheduled.{Ticketed, ticketed}
+use Rattle.journal_model.specs.rules.State.{new_buffer, course, reservation, is_live, same_buffer, has_buffer}
+use Rattle.journal_model.specs.rules.Commands.{named}
+use Rattle.journal_model.specs.rules.Tasks.{first_missing}
+use Rattle.journal_model.specs.rules.Next.{backs_off}
+use Rattle.journal_model.specs.rules.Apply.{applied}
+use Rattle.journal_model.specs.statements.Complete.{thread_numbers}
+use Rattle.journal_model.specs.statements.Scheduled.{Ticketed, ticketed}
 use Rattle.laws.specs.law_sound.Sound.{command_of}
 use Rattle.laws.proofs.law_sound.DeadEnds.{command_is}
 use Rattle.laws.proofs.law_sound.Measure.{left_of_buffer, job_left, is_elder, number_of, waits_for_elder, missing_of, missing, locks_left, locking_left, command_left, thread_left, slot_debts, measure}

@@ -10,12 +10,12 @@ use Rattle.journal_model.specs.declared.script.Script.{Script}
 use Rattle.journal_model.specs.declared.script.Command.{Command}
 use Rattle.journal_model.specs.declared.script.Command.TheVariants as command
 use Rattle.journal_model.specs.declared.state.State.{State}
-use Rattle.journal_model.specs.State.{course, has_buffer}
-use Rattle.journal_model.specs.Commands.{command_at_work, named}
-use Rattle.journal_model.specs.CommandRules.{is_command}
-use Rattle.journal_model.specs.ScriptRules.{is_script}
-use Rattle.journal_model.specs.Complete.{thread_numbers}
-use Rattle.journal_model.specs.Scheduled.{Ticketed, ticketed}
+use Rattle.journal_model.specs.rules.State.{course, has_buffer}
+use Rattle.journal_model.specs.rules.Commands.{command_at_work, named}
+use Rattle.journal_model.specs.scripts.CommandRules.{is_command}
+use Rattle.journal_model.specs.scripts.ScriptRules.{is_script}
+use Rattle.journal_model.specs.statements.Complete.{thread_numbers}
+use Rattle.journal_model.specs.statements.Scheduled.{Ticketed, ticketed}
 use Rattle.laws.proofs.law_state.Rules.{Rules, at_work_rules}
 use Rattle.laws.proofs.law_sound.Measure.{waits_for_elder, put_by_age, by_age, binary, may_lock, missing_of, missing, locks_left}
 use Rattle.laws.proofs.law_sound.MeasureFalls.{sum_most, sum_but_one}

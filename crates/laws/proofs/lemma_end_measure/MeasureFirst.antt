@@ -9,11 +9,11 @@ use Rattle.journal_model.specs.declared.script.Script.{Script}
 use Rattle.journal_model.specs.declared.script.Command.{Command}
 use Rattle.journal_model.specs.declared.script.Command.TheVariants as command
 use Rattle.journal_model.specs.declared.state.Course.{Course}
-use Rattle.journal_model.specs.State.{course, new_course}
-use Rattle.journal_model.specs.Commands.{commands_of, command_at_work}
-use Rattle.journal_model.specs.Complete.{thread_numbers}
-use Rattle.journal_model.specs.Legal.{first_state}
-use Rattle.journal_model.specs.Scheduled.{ticketed, packets_in, turn_limit, scheduled_actors}
+use Rattle.journal_model.specs.rules.State.{course, new_course}
+use Rattle.journal_model.specs.rules.Commands.{commands_of, command_at_work}
+use Rattle.journal_model.specs.statements.Complete.{thread_numbers}
+use Rattle.journal_model.specs.rules.Legal.{first_state}
+use Rattle.journal_model.specs.statements.Scheduled.{ticketed, packets_in, turn_limit, scheduled_actors}
 use Rattle.laws.proofs.law_sound.DeadEnds.{command_is}
 use Rattle.laws.proofs.law_sound.OthersSame.{sum_same}
 use Rattle.laws.proofs.law_sound.Measure.{all_pages, packet_count, whole_command, command_left, thread_left, slot_debts, left_of_buffer, missing, binary, by_age, may_lock, measure, missing_of, waits_for_elder}

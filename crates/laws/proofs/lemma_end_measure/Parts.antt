@@ -11,10 +11,10 @@ use Rattle.journal_model.specs.declared.script.Script.{Script}
 use Rattle.journal_model.specs.declared.state.State.{State}
 use Rattle.journal_model.specs.declared.state.Course.{Course}
 use Rattle.journal_model.specs.declared.entry.Kind.{Kind}
-use Rattle.journal_model.specs.State.{new_buffer, buffer, course, reservation}
-use Rattle.journal_model.specs.Tasks.{first_missing}
-use Rattle.journal_model.specs.Apply.{applied}
-use Rattle.journal_model.specs.Scheduled.{Ticketed}
+use Rattle.journal_model.specs.rules.State.{new_buffer, buffer, course, reservation}
+use Rattle.journal_model.specs.rules.Tasks.{first_missing}
+use Rattle.journal_model.specs.rules.Apply.{applied}
+use Rattle.journal_model.specs.statements.Scheduled.{Ticketed}
 use Rattle.laws.proofs.law_sound.Measure.{is_elder, number_of, waits_for_elder, missing, packet_count, to_give_back, if_named, search_left, later_commands, thread_left, slot_debts, locks_left, measure}
 use Rattle.laws.proofs.law_sound.Along.{Stepped}
 use Rattle.laws.proofs.law_sound.Steadies.{next_course, own_course}

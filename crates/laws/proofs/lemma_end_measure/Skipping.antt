@@ -20,11 +20,11 @@ use Rattle.journal_model.specs.declared.entry.Why.{Why}
 use Rattle.journal_model.specs.declared.entry.Why.TheVariants as why
 use Rattle.journal_model.specs.declared.entry.Kind.{Kind}
 use Rattle.journal_model.specs.declared.entry.Kind.TheVariants as kind
-use Rattle.journal_model.specs.State.{new_buffer, buffer, course, same_buffer, has_buffer, has_target}
-use Rattle.journal_model.specs.Tasks.{first_missing}
-use Rattle.journal_model.specs.Holds.{free_slot}
-use Rattle.journal_model.specs.Apply.{applied}
-use Rattle.journal_model.specs.ApplyVictims.{no_longer_caught, with_skip}
+use Rattle.journal_model.specs.rules.State.{new_buffer, buffer, course, same_buffer, has_buffer, has_target}
+use Rattle.journal_model.specs.rules.Tasks.{first_missing}
+use Rattle.journal_model.specs.rules.Holds.{free_slot}
+use Rattle.journal_model.specs.rules.Apply.{applied}
+use Rattle.journal_model.specs.rules.ApplyVictims.{no_longer_caught, with_skip}
 use Rattle.laws.proofs.law_sound.Measure.{one_if, packet_count, to_give_back, victim_left, has_failed, not_skipped, room_for_victims, if_named, search_share, search_left, later_commands, thread_left, slot_debt, slot_debts, measure}
 use Rattle.laws.proofs.law_sound.MeasureFalls.{sum_most}
 use Rattle.laws.proofs.law_sound.Along.{Stepped}

@@ -15,11 +15,11 @@ use Rattle.journal_model.specs.declared.entry.Why.TheVariants as why
 use Rattle.journal_model.specs.declared.entry.Why.{Why}
 use Rattle.ttm_base.specs.declared.Mem.TheVariants.{System}
 use Rattle.ttm_base.specs.declared.BufId.{BufId}
-use Rattle.journal_model.specs.Search.{is_caught}
-use Rattle.journal_model.specs.State.{buffer, has_target, has_buffer, same_buffer, course}
-use Rattle.journal_model.specs.Places.{slots_of}
-use Rattle.journal_model.specs.Dry.{has_frame}
-use Rattle.journal_model.specs.Holds.{live_entry, held_slots, has_number, free_slot}
+use Rattle.journal_model.specs.rules.Search.{is_caught}
+use Rattle.journal_model.specs.rules.State.{buffer, has_target, has_buffer, same_buffer, course}
+use Rattle.journal_model.specs.rules.Places.{slots_of}
+use Rattle.journal_model.specs.rules.Dry.{has_frame}
+use Rattle.journal_model.specs.rules.Holds.{live_entry, held_slots, has_number, free_slot}
 use Rattle.laws.proofs.law_sound.Measure.{slot_debt, slot_debts}
 use Rattle.laws.proofs.law_sound.Bufs.{victims_of, same_self}
 

@@ -12,10 +12,10 @@ use Rattle.ttm_base.specs.Cutting.{PageMap, pieces_of, packet_of, packets_of}
 use Rattle.journal_model.specs.declared.script.Script.{Script}
 use Rattle.journal_model.specs.declared.script.Decl.{Decl}
 use Rattle.journal_model.specs.declared.state.Buffer.{Buffer}
-use Rattle.journal_model.specs.Commands.{decl, undeclared}
-use Rattle.journal_model.specs.Waits.{use_of}
-use Rattle.journal_model.specs.ApplyPages.{with_fence}
-use Rattle.journal_model.specs.ApplyJobs.{with_use}
+use Rattle.journal_model.specs.rules.Commands.{decl, undeclared}
+use Rattle.journal_model.specs.rules.Waits.{use_of}
+use Rattle.journal_model.specs.rules.ApplyPages.{with_fence}
+use Rattle.journal_model.specs.rules.ApplyJobs.{with_use}
 use Rattle.laws.proofs.law_sound.Measure.{all_pages, page_left, left_of_buffer}
 use Rattle.laws.proofs.lemma_end_measure.Slots.{OneFewer, Fewer, same_one, same_all, through_all}
 

@@ -15,11 +15,11 @@ use Rattle.journal_model.specs.declared.script.Command.TheVariants as command
 use Rattle.journal_model.specs.declared.state.State.{State}
 use Rattle.journal_model.specs.declared.state.Course.{Course}
 use Rattle.journal_model.specs.declared.state.Buffer.{Buffer}
-use Rattle.journal_model.specs.State.{new_buffer, live_in, buffer, has_target, has_buffer}
-use Rattle.journal_model.specs.Commands.{decl, undeclared, named}
-use Rattle.journal_model.specs.Places.{is_frame}
-use Rattle.journal_model.specs.Ready.{is_in_place, has_some_target}
-use Rattle.journal_model.specs.Tasks.{first_missing}
+use Rattle.journal_model.specs.rules.State.{new_buffer, live_in, buffer, has_target, has_buffer}
+use Rattle.journal_model.specs.rules.Commands.{decl, undeclared, named}
+use Rattle.journal_model.specs.rules.Places.{is_frame}
+use Rattle.journal_model.specs.rules.Ready.{is_in_place, has_some_target}
+use Rattle.journal_model.specs.rules.Tasks.{first_missing}
 use Rattle.laws.specs.law_state.GoodState.{GoodState, HasPages}
 use Rattle.laws.proofs.law_sound.Measure.{one_if, all_pages, packet_count, frame_count, to_give_back, carries_left, steps_left, is_slot, slots_to_fill, named_left, victim_left, has_failed, not_skipped, room_for_victims, if_named, search_share, search_left, held_left, whole_command, locking_left, command_left}
 use Rattle.laws.proofs.lemma_end_measure.Locks.{count_most}

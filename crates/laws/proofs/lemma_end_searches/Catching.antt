@@ -23,14 +23,14 @@ use Rattle.journal_model.specs.declared.state.SearchAim.TheVariants.{Hop}
 use Rattle.journal_model.specs.declared.entry.Why.{Why}
 use Rattle.journal_model.specs.declared.entry.Why.TheVariants as why
 use Rattle.journal_model.specs.declared.entry.Kind.TheVariants as kind
-use Rattle.journal_model.specs.State.{new_buffer, buffer, course, reservation, live_in, same_buffer, has_buffer, has_target}
-use Rattle.journal_model.specs.Commands.{whole}
-use Rattle.journal_model.specs.Choice.{choice, choice_in}
-use Rattle.journal_model.specs.Holds.{free_slot}
-use Rattle.journal_model.specs.Dry.{has_frame, victim}
-use Rattle.journal_model.specs.Search.{PlaceSearch, place_search, through_tt, why_of, is_caught}
-use Rattle.journal_model.specs.ApplyCommands.{with_holder}
-use Rattle.journal_model.specs.ApplyVictims.{leaves_tt, with_victim}
+use Rattle.journal_model.specs.rules.State.{new_buffer, buffer, course, reservation, live_in, same_buffer, has_buffer, has_target}
+use Rattle.journal_model.specs.rules.Commands.{whole}
+use Rattle.journal_model.specs.rules.Choice.{choice, choice_in}
+use Rattle.journal_model.specs.rules.Holds.{free_slot}
+use Rattle.journal_model.specs.rules.Dry.{has_frame, victim}
+use Rattle.journal_model.specs.rules.Search.{PlaceSearch, place_search, through_tt, why_of, is_caught}
+use Rattle.journal_model.specs.rules.ApplyCommands.{with_holder}
+use Rattle.journal_model.specs.rules.ApplyVictims.{leaves_tt, with_victim}
 use Rattle.laws.proofs.law_sound.Measure.{one_if, victim_left, has_failed, not_skipped, room_for_victims, search_share, search_left, left_of_buffer, slot_debt, measure}
 use Rattle.laws.proofs.law_sound.MeasureFalls.{sum_most}
 use Rattle.laws.proofs.law_sound.Along.{Stepped}

@@ -22,16 +22,16 @@ use Rattle.journal_model.specs.declared.entry.Why.{Why}
 use Rattle.journal_model.specs.declared.entry.DryWhy.{DryWhy}
 use Rattle.journal_model.specs.declared.entry.Kind.{Kind}
 use Rattle.journal_model.specs.declared.entry.Kind.TheVariants as kind
-use Rattle.journal_model.specs.State.{new_buffer, buffer, course, reservation, same_buffer, has_buffer, without_buffer}
-use Rattle.journal_model.specs.Commands.{commands_of, named, command_at_work, asked_places}
-use Rattle.journal_model.specs.Choice.{choice}
-use Rattle.journal_model.specs.Ready.{has_some_target, is_in_place, is_filled, is_ready, first_unready}
-use Rattle.journal_model.specs.Search.{PlaceSearch, place_search, place_search_at_work, is_caught}
-use Rattle.journal_model.specs.Tasks.{starts, first_missing}
-use Rattle.journal_model.specs.Legal.{first_state}
-use Rattle.journal_model.specs.Apply.{applied}
-use Rattle.journal_model.specs.ApplyCommands.{on_to_next, has_made}
-use Rattle.journal_model.specs.ApplyVictims.{failed_if, with_fail, gone_dry, course_after_dry, with_victim, no_longer_caught}
+use Rattle.journal_model.specs.rules.State.{new_buffer, buffer, course, reservation, same_buffer, has_buffer, without_buffer}
+use Rattle.journal_model.specs.rules.Commands.{commands_of, named, command_at_work, asked_places}
+use Rattle.journal_model.specs.rules.Choice.{choice}
+use Rattle.journal_model.specs.rules.Ready.{has_some_target, is_in_place, is_filled, is_ready, first_unready}
+use Rattle.journal_model.specs.rules.Search.{PlaceSearch, place_search, place_search_at_work, is_caught}
+use Rattle.journal_model.specs.rules.Tasks.{starts, first_missing}
+use Rattle.journal_model.specs.rules.Legal.{first_state}
+use Rattle.journal_model.specs.rules.Apply.{applied}
+use Rattle.journal_model.specs.rules.ApplyCommands.{on_to_next, has_made}
+use Rattle.journal_model.specs.rules.ApplyVictims.{failed_if, with_fail, gone_dry, course_after_dry, with_victim, no_longer_caught}
 use Rattle.laws.specs.law_sound.Sound.{command_of}
 use Rattle.laws.proofs.law_sound.Along.{Stepped, OfWorker, packet, done, reap, first_course}
 use Rattle.laws.proofs.law_sound.Turns.{Turn, Works, OnMisplaced, OnCarried, answer, start, lock, victim_unbind, victim_empty, victim_give, victim_skip, victim_move, victim_fill, victim_search, refuse, give, give_up, act, fill_in_place, ask, bind, fill_to_bind, hop_up, unbind, move_up, move_across, move_down, fill_to_move, hop_down}

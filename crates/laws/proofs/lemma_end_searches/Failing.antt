@@ -18,11 +18,11 @@ use Rattle.journal_model.specs.declared.state.Victim.{Victim}
 use Rattle.journal_model.specs.declared.state.Buffer.{Buffer}
 use Rattle.journal_model.specs.declared.entry.Why.TheVariants as why
 use Rattle.journal_model.specs.declared.entry.Kind.{Kind}
-use Rattle.journal_model.specs.State.{new_buffer, buffer, course, reservation_in, live_in, same_buffer, has_buffer, has_target}
-use Rattle.journal_model.specs.Commands.{decl, undeclared, named}
-use Rattle.journal_model.specs.Holds.{free_slot}
-use Rattle.journal_model.specs.Dry.{has_frame}
-use Rattle.journal_model.specs.ApplyVictims.{failed_if}
+use Rattle.journal_model.specs.rules.State.{new_buffer, buffer, course, reservation_in, live_in, same_buffer, has_buffer, has_target}
+use Rattle.journal_model.specs.rules.Commands.{decl, undeclared, named}
+use Rattle.journal_model.specs.rules.Holds.{free_slot}
+use Rattle.journal_model.specs.rules.Dry.{has_frame}
+use Rattle.journal_model.specs.rules.ApplyVictims.{failed_if}
 use Rattle.laws.specs.law_state.GoodState.{HasPages}
 use Rattle.laws.proofs.law_state.Lists.{get_within}
 use Rattle.laws.proofs.law_sound.Measure.{steps_left, named_left, to_give_back, victim_left, has_failed, not_skipped, room_for_victims, if_named, search_share, search_left, slot_debt, slot_debts, locks_left, measure}

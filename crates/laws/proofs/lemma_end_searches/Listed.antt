@@ -19,18 +19,18 @@ use Rattle.journal_model.specs.declared.state.Buffer.{Buffer}
 use Rattle.journal_model.specs.declared.state.Reservation.{Reservation}
 use Rattle.journal_model.specs.declared.entry.Kind.{Kind}
 use Rattle.journal_model.specs.declared.entry.Kind.TheVariants as kind
-use Rattle.journal_model.specs.State.{new_buffer, buffer, reservation, reservation_in, no_reservation, live_in, changed, same_buffer, has_buffer, without_buffer, course}
-use Rattle.journal_model.specs.Commands.{decl, command_at_work}
-use Rattle.journal_model.specs.Lists.{in_order, list_number, behind_last, placed_in, is_mate, taken_off, put_on, listed_as, touched, is_member, members_last}
-use Rattle.journal_model.specs.Dry.{has_frame, is_loose}
-use Rattle.journal_model.specs.Waits.{use_of, jobs_before_target}
-use Rattle.journal_model.specs.Legal.{first_state}
-use Rattle.journal_model.specs.Apply.{applied}
-use Rattle.journal_model.specs.ApplyCommands.{named_in, held_as_named}
-use Rattle.journal_model.specs.ApplyJobs.{ops_of, with_use}
-use Rattle.journal_model.specs.ApplyPages.{with_fence, with_spans, with_loc, without_frames, with_kernel_fences, bound, unbound}
-use Rattle.journal_model.specs.ApplyMoves.{moved}
-use Rattle.journal_model.specs.ApplyVictims.{leaves_tt}
+use Rattle.journal_model.specs.rules.State.{new_buffer, buffer, reservation, reservation_in, no_reservation, live_in, changed, same_buffer, has_buffer, without_buffer, course}
+use Rattle.journal_model.specs.rules.Commands.{decl, command_at_work}
+use Rattle.journal_model.specs.rules.Lists.{in_order, list_number, behind_last, placed_in, is_mate, taken_off, put_on, listed_as, touched, is_member, members_last}
+use Rattle.journal_model.specs.rules.Dry.{has_frame, is_loose}
+use Rattle.journal_model.specs.rules.Waits.{use_of, jobs_before_target}
+use Rattle.journal_model.specs.rules.Legal.{first_state}
+use Rattle.journal_model.specs.rules.Apply.{applied}
+use Rattle.journal_model.specs.rules.ApplyCommands.{named_in, held_as_named}
+use Rattle.journal_model.specs.rules.ApplyJobs.{ops_of, with_use}
+use Rattle.journal_model.specs.rules.ApplyPages.{with_fence, with_spans, with_loc, without_frames, with_kernel_fences, bound, unbound}
+use Rattle.journal_model.specs.rules.ApplyMoves.{moved}
+use Rattle.journal_model.specs.rules.ApplyVictims.{leaves_tt}
 use Rattle.laws.proofs.law_state.Lists.{set_at, get_mapped, live_changed}
 use Rattle.laws.proofs.law_sound.Along.{OfWorker, packet, done, reap}
 use Rattle.laws.proofs.law_sound.Bufs.{same_is, has_found, has_without, without_gone, clash}

@@ -14,13 +14,13 @@ use Rattle.journal_model.specs.declared.state.Victim.{Victim}
 use Rattle.journal_model.specs.declared.entry.Why.{Why}
 use Rattle.journal_model.specs.declared.entry.Why.TheVariants as why
 use Rattle.journal_model.specs.declared.entry.Kind.TheVariants as kind
-use Rattle.journal_model.specs.State.{buffer, course, has_buffer, has_target}
-use Rattle.journal_model.specs.Holds.{free_slot}
-use Rattle.journal_model.specs.Dry.{has_frame}
-use Rattle.journal_model.specs.Waits.{waited_for, jobs_before_write}
-use Rattle.journal_model.specs.Search.{Step}
-use Rattle.journal_model.specs.PageSteps.{unless_waiting, once_idle, first_frame_page, why_caught, step_of_swap_out, step_of_empty}
-use Rattle.journal_model.specs.ApplyVictims.{no_longer_caught}
+use Rattle.journal_model.specs.rules.State.{buffer, course, has_buffer, has_target}
+use Rattle.journal_model.specs.rules.Holds.{free_slot}
+use Rattle.journal_model.specs.rules.Dry.{has_frame}
+use Rattle.journal_model.specs.rules.Waits.{waited_for, jobs_before_write}
+use Rattle.journal_model.specs.rules.Search.{Step}
+use Rattle.journal_model.specs.rules.PageSteps.{unless_waiting, once_idle, first_frame_page, why_caught, step_of_swap_out, step_of_empty}
+use Rattle.journal_model.specs.rules.ApplyVictims.{no_longer_caught}
 use Rattle.laws.proofs.law_sound.Measure.{one_if, to_give_back, victim_left, not_skipped, search_share, search_left, slot_debt, measure}
 use Rattle.laws.proofs.law_sound.MeasureFalls.{sum_most}
 use Rattle.laws.proofs.law_sound.Along.{Stepped}

@@ -22,16 +22,16 @@ use Rattle.journal_model.specs.declared.entry.Why.{Why}
 use Rattle.journal_model.specs.declared.entry.Why.TheVariants as why
 use Rattle.journal_model.specs.declared.entry.Kind.{Kind}
 use Rattle.journal_model.specs.declared.entry.Kind.TheVariants as kind
-use Rattle.journal_model.specs.State.{new_buffer, buffer, course, live_in, changed, same_buffer, has_buffer, has_target}
-use Rattle.journal_model.specs.Commands.{named}
-use Rattle.journal_model.specs.Complete.{thread_numbers}
-use Rattle.journal_model.specs.Places.{is_frame, loc_of}
-use Rattle.journal_model.specs.Holds.{free_slot}
-use Rattle.journal_model.specs.Dry.{has_frame}
-use Rattle.journal_model.specs.Ready.{has_all_frames}
-use Rattle.journal_model.specs.Search.{is_caught}
-use Rattle.journal_model.specs.PageSteps.{page_to_fill, first_frame_page}
-use Rattle.journal_model.specs.ApplyPages.{with_loc}
+use Rattle.journal_model.specs.rules.State.{new_buffer, buffer, course, live_in, changed, same_buffer, has_buffer, has_target}
+use Rattle.journal_model.specs.rules.Commands.{named}
+use Rattle.journal_model.specs.statements.Complete.{thread_numbers}
+use Rattle.journal_model.specs.rules.Places.{is_frame, loc_of}
+use Rattle.journal_model.specs.rules.Holds.{free_slot}
+use Rattle.journal_model.specs.rules.Dry.{has_frame}
+use Rattle.journal_model.specs.rules.Ready.{has_all_frames}
+use Rattle.journal_model.specs.rules.Search.{is_caught}
+use Rattle.journal_model.specs.rules.PageSteps.{page_to_fill, first_frame_page}
+use Rattle.journal_model.specs.rules.ApplyPages.{with_loc}
 use Rattle.laws.proofs.law_sound.Measure.{one_if, to_give_back, is_slot, slots_to_fill, steps_left, named_left, victim_left, not_skipped, search_share, slot_debt, slot_debts, left_of_buffer, job_left, page_left, thread_left, locks_left, measure}
 use Rattle.laws.proofs.law_sound.MeasureFalls.{sum_set, sum_most}
 use Rattle.laws.proofs.law_sound.Along.{Stepped}

@@ -32,18 +32,18 @@ use Rattle.journal_model.specs.declared.entry.Why.{Why}
 use Rattle.journal_model.specs.declared.entry.Why.TheVariants as why
 use Rattle.journal_model.specs.declared.entry.Kind.{Kind}
 use Rattle.journal_model.specs.declared.entry.Kind.TheVariants as kind
-use Rattle.journal_model.specs.State.{new_buffer, buffer, course, is_live, live_in, same_buffer, has_buffer, has_target}
-use Rattle.journal_model.specs.Commands.{decl, undeclared, named, command_at_work, asked_places, whole}
-use Rattle.journal_model.specs.ScriptRules.{is_decl, is_place_list, is_old_list, is_new_list, is_flagged, is_name, is_group}
-use Rattle.journal_model.specs.CommandRules.{is_between}
-use Rattle.journal_model.specs.Choice.{choice}
-use Rattle.journal_model.specs.Places.{is_frame}
-use Rattle.journal_model.specs.Dry.{has_frame}
-use Rattle.journal_model.specs.Ready.{meets, has_all_frames, has_some_target, is_in_place, is_filled, is_ready, uses_bytes, first_unready}
-use Rattle.journal_model.specs.Search.{PlaceSearch, place_search, place_search_at_work, why_of, is_caught}
-use Rattle.journal_model.specs.Tasks.{starts}
-use Rattle.journal_model.specs.Next.{step_of_task}
-use Rattle.journal_model.specs.ApplyVictims.{failed_if, with_fail, gone_dry, course_after_dry}
+use Rattle.journal_model.specs.rules.State.{new_buffer, buffer, course, is_live, live_in, same_buffer, has_buffer, has_target}
+use Rattle.journal_model.specs.rules.Commands.{decl, undeclared, named, command_at_work, asked_places, whole}
+use Rattle.journal_model.specs.scripts.ScriptRules.{is_decl, is_place_list, is_old_list, is_new_list, is_flagged, is_name, is_group}
+use Rattle.journal_model.specs.scripts.CommandRules.{is_between}
+use Rattle.journal_model.specs.rules.Choice.{choice}
+use Rattle.journal_model.specs.rules.Places.{is_frame}
+use Rattle.journal_model.specs.rules.Dry.{has_frame}
+use Rattle.journal_model.specs.rules.Ready.{meets, has_all_frames, has_some_target, is_in_place, is_filled, is_ready, uses_bytes, first_unready}
+use Rattle.journal_model.specs.rules.Search.{PlaceSearch, place_search, place_search_at_work, why_of, is_caught}
+use Rattle.journal_model.specs.rules.Tasks.{starts}
+use Rattle.journal_model.specs.rules.Next.{step_of_task}
+use Rattle.journal_model.specs.rules.ApplyVictims.{failed_if, with_fail, gone_dry, course_after_dry}
 use Rattle.laws.proofs.law_state.Rules.{Rules}
 use Rattle.laws.proofs.law_state.JobsKeep.{all_at}
 use Rattle.laws.proofs.law_state.Lists.{get_within}

@@ -14,11 +14,11 @@ use Rattle.journal_model.specs.declared.script.Script.{Script}
 use Rattle.journal_model.specs.declared.script.Command.{Command}
 use Rattle.journal_model.specs.declared.script.Command.TheVariants as command
 use Rattle.journal_model.specs.declared.state.Buffer.{Buffer}
-use Rattle.journal_model.specs.Places.{is_frame, slot_of}
-use Rattle.journal_model.specs.Holds.{has_number}
-use Rattle.journal_model.specs.Ready.{meets, has_some_target, has_all_frames}
-use Rattle.journal_model.specs.PageSteps.{page_to_fill, first_frame_page}
-use Rattle.journal_model.specs.ApplyPages.{with_loc}
+use Rattle.journal_model.specs.rules.Places.{is_frame, slot_of}
+use Rattle.journal_model.specs.rules.Holds.{has_number}
+use Rattle.journal_model.specs.rules.Ready.{meets, has_some_target, has_all_frames}
+use Rattle.journal_model.specs.rules.PageSteps.{page_to_fill, first_frame_page}
+use Rattle.journal_model.specs.rules.ApplyPages.{with_loc}
 use Rattle.laws.proofs.law_sound.Measure.{carries_left, steps_left, is_slot, slots_to_fill, page_left, left_of_buffer}
 use Rattle.laws.proofs.law_sound.MeasureFalls.{sum_set}
 use Rattle.laws.proofs.lemma_end_measure.Giving.{vram_left}

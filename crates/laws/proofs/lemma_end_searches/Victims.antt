@@ -8,8 +8,8 @@ use Rattle.ttm_base.specs.declared.BufId.{BufId}
 use Rattle.ttm_base.specs.declared.Deny.{Deny}
 use Rattle.journal_model.specs.declared.state.Victim.{Victim}
 use Rattle.journal_model.specs.declared.entry.Why.TheVariants as why
-use Rattle.journal_model.specs.State.{same_buffer}
-use Rattle.journal_model.specs.ApplyVictims.{failed_if}
+use Rattle.journal_model.specs.rules.State.{same_buffer}
+use Rattle.journal_model.specs.rules.ApplyVictims.{failed_if}
 use Rattle.laws.proofs.law_sound.Measure.{has_failed}
 use Rattle.laws.proofs.law_sound.Bufs.{same_self, same_is, let_go}
 

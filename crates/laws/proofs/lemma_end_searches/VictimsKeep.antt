@@ -25,22 +25,22 @@ use Rattle.journal_model.specs.declared.entry.Left.{Left}
 use Rattle.journal_model.specs.declared.entry.Left.TheVariants as left
 use Rattle.journal_model.specs.declared.entry.Kind.{Kind}
 use Rattle.journal_model.specs.declared.entry.Kind.TheVariants as kind
-use Rattle.journal_model.specs.State.{new_buffer, buffer, course, course_of, reservation, live_in, changed, same_buffer, has_buffer, has_target}
-use Rattle.journal_model.specs.Commands.{command_at_work}
+use Rattle.journal_model.specs.rules.State.{new_buffer, buffer, course, course_of, reservation, live_in, changed, same_buffer, has_buffer, has_target}
+use Rattle.journal_model.specs.rules.Commands.{command_at_work}
 use Rattle.ttm_base.specs.Reach.{same_mem, intersects}
-use Rattle.journal_model.specs.Choice.{choice, choice_in, reach_of}
-use Rattle.journal_model.specs.Holds.{free_slot}
-use Rattle.journal_model.specs.Legal.{first_state}
-use Rattle.journal_model.specs.Dry.{has_frame, victim, swap_victim, is_loose}
-use Rattle.journal_model.specs.Ready.{has_some_target}
-use Rattle.journal_model.specs.Search.{PlaceSearch, place_search_at_work, why_of, is_caught}
-use Rattle.journal_model.specs.Tasks.{starts, first_missing}
-use Rattle.journal_model.specs.Apply.{applied}
-use Rattle.journal_model.specs.PageSteps.{target_to_untake, next_job, next_ghost}
-use Rattle.journal_model.specs.ApplyPages.{with_spans, with_loc, without_frames, with_kernel_fences, unbound}
-use Rattle.journal_model.specs.ApplyMoves.{moved}
-use Rattle.journal_model.specs.ApplyVictims.{failed_if, with_fail, gone_dry, course_after_dry, no_longer_caught, leaves_tt}
-use Rattle.journal_model.specs.Waits.{jobs_before_target}
+use Rattle.journal_model.specs.rules.Choice.{choice, choice_in, reach_of}
+use Rattle.journal_model.specs.rules.Holds.{free_slot}
+use Rattle.journal_model.specs.rules.Legal.{first_state}
+use Rattle.journal_model.specs.rules.Dry.{has_frame, victim, swap_victim, is_loose}
+use Rattle.journal_model.specs.rules.Ready.{has_some_target}
+use Rattle.journal_model.specs.rules.Search.{PlaceSearch, place_search_at_work, why_of, is_caught}
+use Rattle.journal_model.specs.rules.Tasks.{starts, first_missing}
+use Rattle.journal_model.specs.rules.Apply.{applied}
+use Rattle.journal_model.specs.rules.PageSteps.{target_to_untake, next_job, next_ghost}
+use Rattle.journal_model.specs.rules.ApplyPages.{with_spans, with_loc, without_frames, with_kernel_fences, unbound}
+use Rattle.journal_model.specs.rules.ApplyMoves.{moved}
+use Rattle.journal_model.specs.rules.ApplyVictims.{failed_if, with_fail, gone_dry, course_after_dry, no_longer_caught, leaves_tt}
+use Rattle.journal_model.specs.rules.Waits.{jobs_before_target}
 use Rattle.laws.specs.law_sound.Sound.{OnItsWay, locks, command_of}
 use Rattle.laws.proofs.law_sound.Along.{Stepped, OfWorker, packet, done, reap, first_course}
 use Rattle.laws.proofs.law_sound.Turns.{Turn, InVram, answer, start, lock, victim_unbind, victim_empty, victim_give, victim_skip, victim_move, victim_fill, victim_search, refuse, give, give_up, act, fill_in_place, ask, bind, fill_to_bind, hop_up, unbind, move_up, move_across, move_down, fill_to_move, hop_down}

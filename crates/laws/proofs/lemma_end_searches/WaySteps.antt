@@ -16,12 +16,12 @@ use Rattle.journal_model.specs.declared.state.Course.{Course}
 use Rattle.journal_model.specs.declared.state.Buffer.{Buffer}
 use Rattle.journal_model.specs.declared.entry.Why.{Why}
 use Rattle.journal_model.specs.declared.entry.Why.TheVariants as why
-use Rattle.journal_model.specs.State.{buffer, has_target}
-use Rattle.journal_model.specs.Ready.{has_some_target}
-use Rattle.journal_model.specs.PageSteps.{target_to_untake}
-use Rattle.journal_model.specs.ApplyPages.{with_fence, with_spans, with_kernel_fences, unbound}
-use Rattle.journal_model.specs.ApplyMoves.{moved}
-use Rattle.journal_model.specs.ApplyVictims.{leaves_tt}
+use Rattle.journal_model.specs.rules.State.{buffer, has_target}
+use Rattle.journal_model.specs.rules.Ready.{has_some_target}
+use Rattle.journal_model.specs.rules.PageSteps.{target_to_untake}
+use Rattle.journal_model.specs.rules.ApplyPages.{with_fence, with_spans, with_kernel_fences, unbound}
+use Rattle.journal_model.specs.rules.ApplyMoves.{moved}
+use Rattle.journal_model.specs.rules.ApplyVictims.{leaves_tt}
 use Rattle.laws.specs.law_sound.Sound.{Targeted, OnItsWay, in_vram, to_tt, out_of_vram, in_tt, in_system}
 use Rattle.laws.proofs.law_sound.Gifts.{PlaceOf, first, forced}
 use Rattle.laws.proofs.lemma_end_searches.Ways.{way_alike}

@@ -12,7 +12,7 @@ use Rattle.journal_model.specs.declared.state.Victim.{Victim}
 use Rattle.journal_model.specs.declared.state.Buffer.{Buffer}
 use Rattle.journal_model.specs.declared.entry.Why.{Why}
 use Rattle.journal_model.specs.declared.entry.Why.TheVariants as why
-use Rattle.journal_model.specs.State.{buffer, same_buffer, has_buffer, has_target}
+use Rattle.journal_model.specs.rules.State.{buffer, same_buffer, has_buffer, has_target}
 use Rattle.laws.specs.law_sound.Sound.{Targeted, OnItsWay, in_vram, to_tt, out_of_vram, in_tt, in_system}
 use Rattle.laws.proofs.law_sound.Turns.{Emptied, for_tt, for_swap, left_vram}
 use Rattle.laws.proofs.law_sound.Bufs.{same_self, same_is, victims_of, let_go}

@@ -14,13 +14,13 @@ use Rattle.journal_model.specs.declared.state.Buffer.{Buffer}
 use Rattle.journal_model.specs.declared.entry.Left.{Left}
 use Rattle.journal_model.specs.declared.entry.Kind.{Kind}
 use Rattle.journal_model.specs.declared.entry.Kind.TheVariants as kind
-use Rattle.journal_model.specs.State.{new_buffer, buffer, course, same_buffer, has_buffer, has_target, live_in, is_live, changed}
-use Rattle.journal_model.specs.Commands.{named}
-use Rattle.journal_model.specs.Waits.{unfinished, jobs_before_write}
-use Rattle.journal_model.specs.Ready.{has_all_frames, is_ready}
-use Rattle.journal_model.specs.Apply.{applied}
-use Rattle.journal_model.specs.ApplyPages.{bound, unbound}
-use Rattle.journal_model.specs.ApplyMoves.{moved}
+use Rattle.journal_model.specs.rules.State.{new_buffer, buffer, course, same_buffer, has_buffer, has_target, live_in, is_live, changed}
+use Rattle.journal_model.specs.rules.Commands.{named}
+use Rattle.journal_model.specs.rules.Waits.{unfinished, jobs_before_write}
+use Rattle.journal_model.specs.rules.Ready.{has_all_frames, is_ready}
+use Rattle.journal_model.specs.rules.Apply.{applied}
+use Rattle.journal_model.specs.rules.ApplyPages.{bound, unbound}
+use Rattle.journal_model.specs.rules.ApplyMoves.{moved}
 use Rattle.laws.specs.law_sound.Sound.{Carried, Fits}
 use Rattle.laws.proofs.law_sound.Measure.{steps_left, slots_to_fill, named_left, victim_left, left_of_buffer, locks_left, measure}
 use Rattle.laws.proofs.law_sound.CarriedOn.{step_worth}

@@ -12,9 +12,9 @@ use Rattle.journal_model.specs.declared.state.State.{State}
 use Rattle.journal_model.specs.declared.state.Course.{Course}
 use Rattle.journal_model.specs.declared.state.Buffer.{Buffer}
 use Rattle.journal_model.specs.declared.entry.Kind.{Kind}
-use Rattle.journal_model.specs.State.{buffer, course, same_buffer, has_buffer, live_in, changed}
-use Rattle.journal_model.specs.Commands.{decl, undeclared, named}
-use Rattle.journal_model.specs.Apply.{applied}
+use Rattle.journal_model.specs.rules.State.{buffer, course, same_buffer, has_buffer, live_in, changed}
+use Rattle.journal_model.specs.rules.Commands.{decl, undeclared, named}
+use Rattle.journal_model.specs.rules.Apply.{applied}
 use Rattle.laws.proofs.law_sound.Measure.{steps_left, slots_to_fill, not_skipped, if_named, named_left, search_share, slot_debts, left_of_buffer, locks_left, measure}
 use Rattle.laws.proofs.law_sound.MeasureFalls.{sum_set, sum_most}
 use Rattle.laws.specs.law_state.GoodState.{HasPages}

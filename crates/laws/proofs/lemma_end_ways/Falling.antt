@@ -21,11 +21,11 @@ use Rattle.journal_model.specs.declared.state.SearchAim.TheVariants.{Hop}
 use Rattle.journal_model.specs.declared.entry.Why.{Why}
 use Rattle.journal_model.specs.declared.entry.Kind.{Kind}
 use Rattle.journal_model.specs.declared.entry.Kind.TheVariants as kind
-use Rattle.journal_model.specs.State.{buffer, course, has_buffer, has_target, live_in}
-use Rattle.journal_model.specs.Commands.{named}
-use Rattle.journal_model.specs.Ready.{is_in_place, is_ready, first_unready, has_some_target}
-use Rattle.journal_model.specs.Search.{place_search, is_caught}
-use Rattle.journal_model.specs.PageSteps.{target_to_untake}
+use Rattle.journal_model.specs.rules.State.{buffer, course, has_buffer, has_target, live_in}
+use Rattle.journal_model.specs.rules.Commands.{named}
+use Rattle.journal_model.specs.rules.Ready.{is_in_place, is_ready, first_unready, has_some_target}
+use Rattle.journal_model.specs.rules.Search.{place_search, is_caught}
+use Rattle.journal_model.specs.rules.PageSteps.{target_to_untake}
 use Rattle.laws.specs.law_sound.Sound.{Carried, Fits, OnItsWay, in_vram, to_tt, out_of_vram, in_tt, in_system}
 use Rattle.laws.proofs.law_sound.Measure.{measure}
 use Rattle.laws.proofs.law_sound.Along.{Stepped}

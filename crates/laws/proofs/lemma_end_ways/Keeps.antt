@@ -31,18 +31,18 @@ use Rattle.journal_model.specs.declared.entry.Why.TheVariants as why
 use Rattle.journal_model.specs.declared.entry.Left.{Left}
 use Rattle.journal_model.specs.declared.entry.Kind.{Kind}
 use Rattle.journal_model.specs.declared.entry.Kind.TheVariants as kind
-use Rattle.journal_model.specs.State.{new_buffer, buffer, reservation, course, course_of, has_buffer, same_buffer, without_buffer, live_in, changed}
-use Rattle.journal_model.specs.Commands.{commands_of, named, asked_places, command_at_work}
-use Rattle.journal_model.specs.Choice.{choice}
-use Rattle.journal_model.specs.Ready.{meets, is_in_place, is_filled, is_ready, first_unready, has_some_target}
-use Rattle.journal_model.specs.Search.{place_search}
-use Rattle.journal_model.specs.Tasks.{first_missing}
-use Rattle.journal_model.specs.PageSteps.{target_to_untake, next_job}
-use Rattle.journal_model.specs.ApplyCommands.{named_in, on_to_next}
-use Rattle.journal_model.specs.ApplyJobs.{with_use, ops_of}
-use Rattle.journal_model.specs.ApplyPages.{bound, unbound, with_spans, with_loc, without_frames, search_over}
-use Rattle.journal_model.specs.ApplyMoves.{moved}
-use Rattle.journal_model.specs.ApplyVictims.{with_fail, with_victim, course_after_dry}
+use Rattle.journal_model.specs.rules.State.{new_buffer, buffer, reservation, course, course_of, has_buffer, same_buffer, without_buffer, live_in, changed}
+use Rattle.journal_model.specs.rules.Commands.{commands_of, named, asked_places, command_at_work}
+use Rattle.journal_model.specs.rules.Choice.{choice}
+use Rattle.journal_model.specs.rules.Ready.{meets, is_in_place, is_filled, is_ready, first_unready, has_some_target}
+use Rattle.journal_model.specs.rules.Search.{place_search}
+use Rattle.journal_model.specs.rules.Tasks.{first_missing}
+use Rattle.journal_model.specs.rules.PageSteps.{target_to_untake, next_job}
+use Rattle.journal_model.specs.rules.ApplyCommands.{named_in, on_to_next}
+use Rattle.journal_model.specs.rules.ApplyJobs.{with_use, ops_of}
+use Rattle.journal_model.specs.rules.ApplyPages.{bound, unbound, with_spans, with_loc, without_frames, search_over}
+use Rattle.journal_model.specs.rules.ApplyMoves.{moved}
+use Rattle.journal_model.specs.rules.ApplyVictims.{with_fail, with_victim, course_after_dry}
 use Rattle.laws.proofs.law_state.Lists.{get_within, live_changed}
 use Rattle.laws.specs.law_sound.Sound.{Carried, Fits, asks, command_of, locks, at_target}
 use Rattle.laws.proofs.law_sound.Turns.{Turn, Works, OnVictim, OnNamed, OnBuffer, OnMisplaced, start, lock, victim_unbind, victim_empty, victim_give, victim_skip, victim_move, victim_fill, victim_search, give, act, fill_in_place, ask, bind, fill_to_bind, hop_up, unbind, move_up, move_across, move_down, fill_to_move, hop_down}

@@ -17,14 +17,14 @@ use Rattle.journal_model.specs.declared.state.Task.TheVariants as task
 use Rattle.journal_model.specs.declared.entry.Kind.{Kind}
 use Rattle.journal_model.specs.declared.entry.Kind.TheVariants as kind
 use Rattle.journal_model.specs.declared.entry.Shown.{Shown}
-use Rattle.journal_model.specs.State.{new_buffer, buffer, reservation, reservation_in, no_reservation, reservation_changed, course, has_buffer, same_buffer}
-use Rattle.journal_model.specs.Commands.{named, command_at_work}
-use Rattle.journal_model.specs.Ready.{is_in_place, is_filled, is_ready, first_unready, has_some_target}
-use Rattle.journal_model.specs.Search.{is_caught, place_search_at_work}
-use Rattle.journal_model.specs.Tasks.{starts}
-use Rattle.journal_model.specs.ApplyCommands.{with_holder, released, with_pins, pinned_more, pinned_less}
-use Rattle.journal_model.specs.ApplyPages.{search_over}
-use Rattle.journal_model.specs.ApplyVictims.{failed_if, with_fail, gone_dry, course_after_dry}
+use Rattle.journal_model.specs.rules.State.{new_buffer, buffer, reservation, reservation_in, no_reservation, reservation_changed, course, has_buffer, same_buffer}
+use Rattle.journal_model.specs.rules.Commands.{named, command_at_work}
+use Rattle.journal_model.specs.rules.Ready.{is_in_place, is_filled, is_ready, first_unready, has_some_target}
+use Rattle.journal_model.specs.rules.Search.{is_caught, place_search_at_work}
+use Rattle.journal_model.specs.rules.Tasks.{starts}
+use Rattle.journal_model.specs.rules.ApplyCommands.{with_holder, released, with_pins, pinned_more, pinned_less}
+use Rattle.journal_model.specs.rules.ApplyPages.{search_over}
+use Rattle.journal_model.specs.rules.ApplyVictims.{failed_if, with_fail, gone_dry, course_after_dry}
 use Rattle.laws.specs.law_state.Courses.{GoodCourses, makes}
 use Rattle.laws.proofs.law_state.Lists.{set_at}
 use Rattle.laws.specs.law_sound.Sound.{Has, Owned, Carried, Fits, asks, command_of}

@@ -18,11 +18,11 @@ use Rattle.journal_model.specs.declared.state.Job.{Job}
 use Rattle.journal_model.specs.declared.state.Ghost.{Ghost}
 use Rattle.journal_model.specs.declared.entry.Left.{Left}
 use Rattle.journal_model.specs.declared.entry.Left.TheVariants as left
-use Rattle.journal_model.specs.State.{changed, target_spans}
-use Rattle.journal_model.specs.Places.{is_frame, slot_of, packet_place, name_in_spans}
-use Rattle.journal_model.specs.Holds.{has_number}
-use Rattle.journal_model.specs.ApplyPages.{bound, unbound}
-use Rattle.journal_model.specs.ApplyMoves.{with_job, copy_of_page, move_packets, table_left, moved, ghosts_left, ghost_of_moved}
+use Rattle.journal_model.specs.rules.State.{changed, target_spans}
+use Rattle.journal_model.specs.rules.Places.{is_frame, slot_of, packet_place, name_in_spans}
+use Rattle.journal_model.specs.rules.Holds.{has_number}
+use Rattle.journal_model.specs.rules.ApplyPages.{bound, unbound}
+use Rattle.journal_model.specs.rules.ApplyMoves.{with_job, copy_of_page, move_packets, table_left, moved, ghosts_left, ghost_of_moved}
 use Rattle.laws.proofs.law_sound.Measure.{is_slot, slots_to_fill, page_left, left_of_buffer, job_left}
 use Rattle.laws.proofs.lemma_end_measure.Slots.{OneFewer, Fewer}
 use Rattle.laws.proofs.lemma_end_measure.Sums.{sum_pushed, fewer_kept}

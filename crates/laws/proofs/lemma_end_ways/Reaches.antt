@@ -26,13 +26,13 @@ use Rattle.journal_model.specs.declared.script.Command.{Command}
 use Rattle.journal_model.specs.declared.script.Command.TheVariants as command
 use Rattle.journal_model.specs.declared.state.Core.{Core}
 use Rattle.journal_model.specs.declared.state.Buffer.{Buffer}
-use Rattle.journal_model.specs.Commands.{decl, undeclared, asked_places, whole, unflagged}
-use Rattle.journal_model.specs.CommandRules.{is_between}
-use Rattle.journal_model.specs.ScriptRules.{is_name, is_group, is_flagged, is_old_list, is_new_list, is_place_list, is_decl}
-use Rattle.journal_model.specs.Holds.{size_of, is_free_page}
-use Rattle.journal_model.specs.Choice.{choice, choice_in, range_at, blocks_at, reach_of}
-use Rattle.journal_model.specs.Ready.{meets}
-use Rattle.journal_model.specs.Search.{PlaceSearch}
+use Rattle.journal_model.specs.rules.Commands.{decl, undeclared, asked_places, whole, unflagged}
+use Rattle.journal_model.specs.scripts.CommandRules.{is_between}
+use Rattle.journal_model.specs.scripts.ScriptRules.{is_name, is_group, is_flagged, is_old_list, is_new_list, is_place_list, is_decl}
+use Rattle.journal_model.specs.rules.Holds.{size_of, is_free_page}
+use Rattle.journal_model.specs.rules.Choice.{choice, choice_in, range_at, blocks_at, reach_of}
+use Rattle.journal_model.specs.rules.Ready.{meets}
+use Rattle.journal_model.specs.rules.Search.{PlaceSearch}
 use Rattle.laws.proofs.law_state.JobsKeep.{all_at}
 use Rattle.laws.proofs.law_state.Rules.{Rules}
 use Rattle.laws.proofs.law_sound.Gifts.{PlaceOf, first, forced}

@@ -16,12 +16,12 @@ use Rattle.journal_model.specs.declared.script.Command.{Command}
 use Rattle.journal_model.specs.declared.script.Command.TheVariants as command
 use Rattle.journal_model.specs.declared.state.Course.{Course}
 use Rattle.journal_model.specs.declared.state.Buffer.{Buffer}
-use Rattle.journal_model.specs.State.{has_target, target_of}
-use Rattle.journal_model.specs.Commands.{decl}
-use Rattle.journal_model.specs.Holds.{size_of}
-use Rattle.journal_model.specs.Ready.{is_well_placed, meets, has_some_target}
-use Rattle.journal_model.specs.ApplyPages.{bound, unbound}
-use Rattle.journal_model.specs.ApplyMoves.{moved}
+use Rattle.journal_model.specs.rules.State.{has_target, target_of}
+use Rattle.journal_model.specs.rules.Commands.{decl}
+use Rattle.journal_model.specs.rules.Holds.{size_of}
+use Rattle.journal_model.specs.rules.Ready.{is_well_placed, meets, has_some_target}
+use Rattle.journal_model.specs.rules.ApplyPages.{bound, unbound}
+use Rattle.journal_model.specs.rules.ApplyMoves.{moved}
 use Rattle.laws.proofs.law_sound.Measure.{carries_left, steps_left}
 use Rattle.laws.specs.law_sound.Sound.{Targeted, Carried, Fits, at_target, system_tt, system_vram, system_both, tt_system, tt_tt, tt_vram, vram_vram, vram_tt, vram_system, vram_both}
 use Rattle.laws.proofs.law_sound.Bufs.{clash}

@@ -19,13 +19,13 @@ use Rattle.journal_model.specs.declared.state.Task.TheVariants as task
 use Rattle.journal_model.specs.declared.entry.Left.{Left}
 use Rattle.journal_model.specs.declared.entry.Kind.{Kind}
 use Rattle.journal_model.specs.declared.entry.Kind.TheVariants as kind
-use Rattle.journal_model.specs.State.{new_buffer, buffer, course, live_in, changed}
-use Rattle.journal_model.specs.Commands.{decl, command_at_work}
-use Rattle.journal_model.specs.Apply.{applied, thread_of}
-use Rattle.journal_model.specs.ApplyCommands.{named_in}
-use Rattle.journal_model.specs.ApplyJobs.{with_use, ops_of}
-use Rattle.journal_model.specs.ApplyVictims.{leaves_tt}
-use Rattle.journal_model.specs.Legal.{first_state}
+use Rattle.journal_model.specs.rules.State.{new_buffer, buffer, course, live_in, changed}
+use Rattle.journal_model.specs.rules.Commands.{decl, command_at_work}
+use Rattle.journal_model.specs.rules.Apply.{applied, thread_of}
+use Rattle.journal_model.specs.rules.ApplyCommands.{named_in}
+use Rattle.journal_model.specs.rules.ApplyJobs.{with_use, ops_of}
+use Rattle.journal_model.specs.rules.ApplyVictims.{leaves_tt}
+use Rattle.journal_model.specs.rules.Legal.{first_state}
 use Rattle.laws.proofs.law_state.Lists.{set_at, live_changed}
 use Rattle.laws.proofs.law_sound.Along.{Stepped, OfWorker, packet, done, reap}
 use Rattle.laws.proofs.law_sound.Turns.{Turn, victim_move, move_up, move_across, move_down}

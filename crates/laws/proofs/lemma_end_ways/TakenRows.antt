@@ -9,10 +9,10 @@ use Rattle.ttm_base.specs.Reach.{same_mem}
 use Rattle.journal_model.specs.declared.script.Script.{Script}
 use Rattle.journal_model.specs.declared.script.Command.{Command}
 use Rattle.journal_model.specs.declared.state.Buffer.{Buffer}
-use Rattle.journal_model.specs.State.{has_target, target_of, with_target}
-use Rattle.journal_model.specs.Ready.{has_some_target}
-use Rattle.journal_model.specs.PageSteps.{target_to_untake}
-use Rattle.journal_model.specs.ApplyPages.{with_spans}
+use Rattle.journal_model.specs.rules.State.{has_target, target_of, with_target}
+use Rattle.journal_model.specs.rules.Ready.{has_some_target}
+use Rattle.journal_model.specs.rules.PageSteps.{target_to_untake}
+use Rattle.journal_model.specs.rules.ApplyPages.{with_spans}
 use Rattle.laws.specs.law_sound.Sound.{Targeted, Carried, system_tt, system_vram, system_both, tt_system, tt_tt, tt_vram, vram_vram, vram_tt, vram_system, vram_both}
 use Rattle.laws.proofs.law_sound.Bufs.{clash}
 use Rattle.laws.proofs.lemma_end_ways.Rows.{MeetsAt, meets_at, some_is}

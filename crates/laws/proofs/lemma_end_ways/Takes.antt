@@ -18,16 +18,16 @@ use Rattle.journal_model.specs.declared.state.Victim.{Victim}
 use Rattle.journal_model.specs.declared.state.Buffer.{Buffer}
 use Rattle.journal_model.specs.declared.state.SearchAim.TheVariants.{Hop}
 use Rattle.journal_model.specs.declared.entry.Kind.TheVariants as kind
-use Rattle.journal_model.specs.State.{new_buffer, buffer, course, has_buffer, has_target, with_target, changed}
-use Rattle.journal_model.specs.Commands.{whole}
-use Rattle.journal_model.specs.Places.{is_frame, slot_of}
-use Rattle.journal_model.specs.Holds.{has_number}
-use Rattle.journal_model.specs.Waits.{jobs_before_target}
-use Rattle.journal_model.specs.Ready.{has_some_target, is_in_place}
+use Rattle.journal_model.specs.rules.State.{new_buffer, buffer, course, has_buffer, has_target, with_target, changed}
+use Rattle.journal_model.specs.rules.Commands.{whole}
+use Rattle.journal_model.specs.rules.Places.{is_frame, slot_of}
+use Rattle.journal_model.specs.rules.Holds.{has_number}
+use Rattle.journal_model.specs.rules.Waits.{jobs_before_target}
+use Rattle.journal_model.specs.rules.Ready.{has_some_target, is_in_place}
 use Rattle.ttm_base.specs.Placement.{forced_places}
-use Rattle.journal_model.specs.Search.{place_search, is_caught, through_tt}
-use Rattle.journal_model.specs.Apply.{applied}
-use Rattle.journal_model.specs.ApplyPages.{with_fence, with_spans, with_kernel_fences}
+use Rattle.journal_model.specs.rules.Search.{place_search, is_caught, through_tt}
+use Rattle.journal_model.specs.rules.Apply.{applied}
+use Rattle.journal_model.specs.rules.ApplyPages.{with_fence, with_spans, with_kernel_fences}
 use Rattle.laws.proofs.law_sound.Measure.{carries_left, steps_left, slots_to_fill, named_left, not_skipped, victim_left, page_left, left_of_buffer, measure}
 use Rattle.laws.proofs.law_sound.Along.{Stepped}
 use Rattle.laws.proofs.law_sound.Turns.{InVram}

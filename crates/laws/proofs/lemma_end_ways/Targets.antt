@@ -23,15 +23,15 @@ use Rattle.journal_model.specs.declared.entry.Why.{Why}
 use Rattle.journal_model.specs.declared.entry.Why.TheVariants as why
 use Rattle.journal_model.specs.declared.entry.Kind.{Kind}
 use Rattle.journal_model.specs.declared.entry.Kind.TheVariants as kind
-use Rattle.journal_model.specs.State.{new_buffer, buffer, reservation, reservation_in, no_reservation, course, course_of, has_buffer, has_target, same_buffer, live_in, is_live}
-use Rattle.journal_model.specs.Commands.{named, command_at_work}
-use Rattle.journal_model.specs.Dry.{has_frame}
-use Rattle.journal_model.specs.Ready.{is_ready, first_unready, has_some_target}
-use Rattle.journal_model.specs.Search.{place_search}
-use Rattle.journal_model.specs.Tasks.{forbidden}
-use Rattle.journal_model.specs.ApplyCommands.{named_in, released, with_holder}
-use Rattle.journal_model.specs.Apply.{applied}
-use Rattle.journal_model.specs.Legal.{first_state}
+use Rattle.journal_model.specs.rules.State.{new_buffer, buffer, reservation, reservation_in, no_reservation, course, course_of, has_buffer, has_target, same_buffer, live_in, is_live}
+use Rattle.journal_model.specs.rules.Commands.{named, command_at_work}
+use Rattle.journal_model.specs.rules.Dry.{has_frame}
+use Rattle.journal_model.specs.rules.Ready.{is_ready, first_unready, has_some_target}
+use Rattle.journal_model.specs.rules.Search.{place_search}
+use Rattle.journal_model.specs.rules.Tasks.{forbidden}
+use Rattle.journal_model.specs.rules.ApplyCommands.{named_in, released, with_holder}
+use Rattle.journal_model.specs.rules.Apply.{applied}
+use Rattle.journal_model.specs.rules.Legal.{first_state}
 use Rattle.laws.specs.law_state.Courses.{GoodCourses}
 use Rattle.laws.proofs.law_state.Lists.{set_at}
 use Rattle.laws.specs.law_sound.Sound.{asks, command_of, locks, OnItsWay, in_vram, to_tt, out_of_vram, in_tt, in_system}

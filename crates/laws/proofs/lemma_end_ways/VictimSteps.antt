@@ -19,14 +19,14 @@ use Rattle.journal_model.specs.declared.entry.Why.TheVariants as why
 use Rattle.journal_model.specs.declared.entry.Left.{Left}
 use Rattle.journal_model.specs.declared.entry.Kind.{Kind}
 use Rattle.journal_model.specs.declared.entry.Kind.TheVariants as kind
-use Rattle.journal_model.specs.State.{new_buffer, buffer, course, same_buffer, has_buffer, has_target, live_in}
-use Rattle.journal_model.specs.Commands.{named}
-use Rattle.journal_model.specs.Holds.{free_slot}
-use Rattle.journal_model.specs.Dry.{has_frame}
-use Rattle.journal_model.specs.Search.{is_caught}
-use Rattle.journal_model.specs.Apply.{applied}
-use Rattle.journal_model.specs.ApplyPages.{with_spans, without_frames, unbound}
-use Rattle.journal_model.specs.ApplyMoves.{moved}
+use Rattle.journal_model.specs.rules.State.{new_buffer, buffer, course, same_buffer, has_buffer, has_target, live_in}
+use Rattle.journal_model.specs.rules.Commands.{named}
+use Rattle.journal_model.specs.rules.Holds.{free_slot}
+use Rattle.journal_model.specs.rules.Dry.{has_frame}
+use Rattle.journal_model.specs.rules.Search.{is_caught}
+use Rattle.journal_model.specs.rules.Apply.{applied}
+use Rattle.journal_model.specs.rules.ApplyPages.{with_spans, without_frames, unbound}
+use Rattle.journal_model.specs.rules.ApplyMoves.{moved}
 use Rattle.laws.proofs.law_sound.Measure.{one_if, to_give_back, victim_left, slot_debt, slot_debts, locks_left, measure}
 use Rattle.laws.proofs.law_sound.Along.{Stepped}
 use Rattle.laws.proofs.law_sound.Turns.{Works, OnVictim, InVram}

@@ -4,8 +4,8 @@ use Rattle.ttm_base.specs.declared.BufId.{BufId}
 use Rattle.ttm_base.specs.declared.Stamp.{Stamp}
 use Rattle.journal_model.specs.declared.state.State.{State}
 use Rattle.journal_model.specs.declared.state.Job.{Job}
-use Rattle.journal_model.specs.State.{buffer, reservation, course}
-use Rattle.journal_model.specs.Ready.{has_some_target}
+use Rattle.journal_model.specs.rules.State.{buffer, reservation, course}
+use Rattle.journal_model.specs.rules.Ready.{has_some_target}
 use Rattle.laws.specs.law_sound.Sound.{Has}
 
 -- the buffer's holder is the stamp of a thread that has it, as a named one or as a victim

@@ -3,9 +3,9 @@ use Rattle.std.specs.Prelude.{◌≡◌, ℕ, ◌<◌, ◌≤◌, true, List, So
 use Rattle.journal_model.specs.declared.script.Script.{Script}
 use Rattle.journal_model.specs.declared.script.Command.{Command}
 use Rattle.journal_model.specs.declared.entry.Entry.{Entry}
-use Rattle.journal_model.specs.Commands.{commands_of, command_at_work}
-use Rattle.journal_model.specs.Complete.{is_answer, is_by_thread, answers_of, is_complete}
-use Rattle.journal_model.specs.Legal.{state_of}
+use Rattle.journal_model.specs.rules.Commands.{commands_of, command_at_work}
+use Rattle.journal_model.specs.statements.Complete.{is_answer, is_by_thread, answers_of, is_complete}
+use Rattle.journal_model.specs.rules.Legal.{state_of}
 
 -- the entry at a place of the journal is a result or refusal of the thread, behind so many others
 pub record AnswersAt (journal : List Entry) (t n i : ℕ) : Type 0 where

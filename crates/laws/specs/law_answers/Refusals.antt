@@ -9,9 +9,9 @@ use Rattle.journal_model.specs.declared.script.Command.{Command}
 use Rattle.journal_model.specs.declared.entry.Entry.{Entry}
 use Rattle.journal_model.specs.declared.entry.Kind.TheVariants as kind
 use Rattle.journal_model.specs.declared.state.State.{State}
-use Rattle.journal_model.specs.Commands.{command_at_work}
-use Rattle.journal_model.specs.Ready.{first_unready}
-use Rattle.journal_model.specs.Legal.{state_of}
+use Rattle.journal_model.specs.rules.Commands.{command_at_work}
+use Rattle.journal_model.specs.rules.Ready.{first_unready}
+use Rattle.journal_model.specs.rules.Legal.{state_of}
 
 -- the thread's command has a buffer at work: one that isn't in place or isn't filled
 pub record HasBufferAtWork (script : Script) (s : State) (t : ℕ) : Type 0 where

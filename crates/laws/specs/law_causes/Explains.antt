@@ -6,9 +6,9 @@ use Rattle.ttm_base.specs.Placement.{forced_places}
 use Rattle.journal_model.specs.declared.script.Script.{Script}
 use Rattle.journal_model.specs.declared.state.State.{State}
 use Rattle.journal_model.specs.declared.entry.DryWhy.{DryWhy}
-use Rattle.journal_model.specs.State.{course}
-use Rattle.journal_model.specs.Dry.{is_dry, dry_why}
-use Rattle.journal_model.specs.Causes.{places_sought}
+use Rattle.journal_model.specs.rules.State.{course}
+use Rattle.journal_model.specs.rules.Dry.{is_dry, dry_why}
+use Rattle.journal_model.specs.statements.Causes.{places_sought}
 
 -- the place is the k-th forced one of the search, it is dry, and the entry names `short` or each live buffer's first cause
 pub record Explains (script : Script) (s : State) (t : ℕ) (b : BufId) (k : ℕ) (w : DryWhy) : Type 0 where

@@ -7,11 +7,11 @@ use Rattle.ttm_base.specs.declared.Actor.TheVariants as actor
 use Rattle.journal_model.specs.declared.script.Script.{Script}
 use Rattle.journal_model.specs.declared.state.State.{State}
 use Rattle.journal_model.specs.declared.entry.Kind.TheVariants as kind
-use Rattle.journal_model.specs.State.{course, reservation}
-use Rattle.journal_model.specs.Apply.{applied}
-use Rattle.journal_model.specs.Legal.{Made}
-use Rattle.journal_model.specs.PlainMemory.{Plain, plain_after, plain_after_kind}
-use Rattle.journal_model.specs.Causes.{in_command}
+use Rattle.journal_model.specs.rules.State.{course, reservation}
+use Rattle.journal_model.specs.rules.Apply.{applied}
+use Rattle.journal_model.specs.rules.Legal.{Made}
+use Rattle.journal_model.specs.rules.PlainMemory.{Plain, plain_after, plain_after_kind}
+use Rattle.journal_model.specs.statements.Causes.{in_command}
 
 -- no entry of the command changes a byte of the plain memory, nor does the refusal; and no buffer is held by its ticket any more
 pub record LeavesNothing (script : Script) (before : List Made) (s : State) (t : ℕ) (d : Deny) : Type 0 where

@@ -6,9 +6,9 @@ use Rattle.ttm_base.specs.Pages as pages
 use Rattle.journal_model.specs.declared.state.Core.{Core}
 use Rattle.journal_model.specs.declared.state.Buffer.{Buffer}
 use Rattle.journal_model.specs.declared.state.Ghost as ghosts
-use Rattle.journal_model.specs.State.{buffer_in, target_spans}
-use Rattle.journal_model.specs.Places.{pages_of, loc_of, page_in_vram, page_in_table, page_at}
-use Rattle.journal_model.specs.Holds.{has_number}
+use Rattle.journal_model.specs.rules.State.{buffer_in, target_spans}
+use Rattle.journal_model.specs.rules.Places.{pages_of, loc_of, page_in_vram, page_in_table, page_at}
+use Rattle.journal_model.specs.rules.Holds.{has_number}
 use Rattle.laws.specs.lemma_bytes_model.Memory.{Page, Nowhere, Vram, Frame, Slot}
 use Rattle.laws.specs.lemma_bytes_model.View.{Owner, Idle, Free, Live, Kept, Target, Ghost}
 

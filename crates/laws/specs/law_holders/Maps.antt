@@ -6,8 +6,8 @@ use Rattle.ttm_base.specs.declared.Loc.TheVariants as loc
 use Rattle.journal_model.specs.declared.state.Core.{Core}
 use Rattle.journal_model.specs.declared.state.Buffer.{Buffer}
 use Rattle.journal_model.specs.declared.state.Ghost.{Ghost}
-use Rattle.journal_model.specs.State.{live_in}
-use Rattle.journal_model.specs.Places.{pages_of}
+use Rattle.journal_model.specs.rules.State.{live_in}
+use Rattle.journal_model.specs.rules.Places.{pages_of}
 
 -- a page of a live buffer in TT, and the frame at the same place of its table
 pub record BufferMaps (c : Core) (page frame : ℕ) : Type 0 where

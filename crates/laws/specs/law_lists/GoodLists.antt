@@ -5,9 +5,9 @@ use Rattle.ttm_base.specs.declared.BufId.{BufId}
 use Rattle.journal_model.specs.declared.script.Script.{Script}
 use Rattle.journal_model.specs.declared.state.State.{State}
 use Rattle.journal_model.specs.declared.state.Buffer.{Buffer}
-use Rattle.journal_model.specs.State.{reservation, live_in, has_buffer}
-use Rattle.journal_model.specs.Commands.{decl}
-use Rattle.journal_model.specs.Lists.{list_number, is_member}
+use Rattle.journal_model.specs.rules.State.{reservation, live_in, has_buffer}
+use Rattle.journal_model.specs.rules.Commands.{decl}
+use Rattle.journal_model.specs.rules.Lists.{list_number, is_member}
 
 -- the list of a number has the buffer
 abbrev pub IsOn : State → ℕ → BufId → Type 0

@@ -15,15 +15,15 @@ use Rattle.journal_model.specs.declared.entry.Why.TheVariants as why
 use Rattle.journal_model.specs.declared.state.State.{State}
 use Rattle.journal_model.specs.declared.state.SearchAim.{SearchAim}
 use Rattle.journal_model.specs.declared.state.Task.TheVariants as task
-use Rattle.journal_model.specs.State.{buffer, course, reservation}
-use Rattle.journal_model.specs.Commands.{command_at_work}
-use Rattle.journal_model.specs.Choice.{choice}
-use Rattle.journal_model.specs.Dry.{is_evictable, is_loose, has_frame}
-use Rattle.journal_model.specs.Holds.{free_frame}
-use Rattle.journal_model.specs.Lists.{in_order}
-use Rattle.journal_model.specs.Search.{place_search, why_of}
-use Rattle.journal_model.specs.Tasks.{task_of}
-use Rattle.journal_model.specs.Legal.{Made, made_of}
+use Rattle.journal_model.specs.rules.State.{buffer, course, reservation}
+use Rattle.journal_model.specs.rules.Commands.{command_at_work}
+use Rattle.journal_model.specs.rules.Choice.{choice}
+use Rattle.journal_model.specs.rules.Dry.{is_evictable, is_loose, has_frame}
+use Rattle.journal_model.specs.rules.Holds.{free_frame}
+use Rattle.journal_model.specs.rules.Lists.{in_order}
+use Rattle.journal_model.specs.rules.Search.{place_search, why_of}
+use Rattle.journal_model.specs.rules.Tasks.{task_of}
+use Rattle.journal_model.specs.rules.Legal.{Made, made_of}
 
 -- the buffer stands on the list and passes, and none that stands before it does
 pub record IsFirst (test : BufId → Bool) (b : BufId) (l : List BufId) : Type 0 where

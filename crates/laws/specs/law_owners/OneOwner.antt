@@ -4,9 +4,9 @@ use Rattle.std.specs.List.{list_all}
 use Rattle.ttm_base.specs.declared.Mem.TheVariants.{Tt, Vram}
 use Rattle.journal_model.specs.declared.script.Script.{Script}
 use Rattle.journal_model.specs.declared.state.Core.{Core}
-use Rattle.journal_model.specs.Places.{pages_of}
-use Rattle.journal_model.specs.Holds.{held_spans, held_frames, held_slots}
-use Rattle.journal_model.specs.Account.{are_distinct}
+use Rattle.journal_model.specs.rules.Places.{pages_of}
+use Rattle.journal_model.specs.rules.Holds.{held_spans, held_frames, held_slots}
+use Rattle.journal_model.specs.statements.Account.{are_distinct}
 
 -- no number stands twice, and each is below the size
 pub record AreOwned (size : ℕ) (held : List ℕ) : Type 0 where

@@ -2,8 +2,8 @@
 use Rattle.std.specs.Prelude.{◌≡◌, ℕ, true, List, take}
 use Rattle.journal_model.specs.declared.script.Script.{Script}
 use Rattle.journal_model.specs.declared.entry.Entry.{Entry}
-use Rattle.journal_model.specs.Account.{has_accounts}
-use Rattle.journal_model.specs.Legal.{state_of}
+use Rattle.journal_model.specs.statements.Account.{has_accounts}
+use Rattle.journal_model.specs.rules.Legal.{state_of}
 
 -- behind each number of entries, live, target and ghost pages never overlap, and with the free ones make each size
 abbrev pub HoldThroughout : Script → List Entry → Type 0

@@ -8,7 +8,7 @@ use Rattle.ttm_base.specs.ListWords.{count_from}
 use Rattle.ttm_base.specs.Cutting as cutting
 use Rattle.ttm_base.specs.Cutting.{PageMap, pieces_of}
 use Rattle.ttm_base.specs.Pages as pages
-use Rattle.journal_model.specs.PlainMemory.{Memory}
+use Rattle.journal_model.specs.rules.PlainMemory.{Memory}
 use Rattle.laws.specs.lemma_bytes_model.Memory.{Page, Own, Stores, Step}
 use Rattle.laws.specs.lemma_bytes_model.Entries.{Piece, Change, Probe}
 use Rattle.laws.specs.law_holders.Holding.{seen}

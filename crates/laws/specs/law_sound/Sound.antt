@@ -18,15 +18,15 @@ use Rattle.journal_model.specs.declared.entry.Why.{Why}
 use Rattle.journal_model.specs.declared.entry.Why.TheVariants as why
 use Rattle.journal_model.specs.declared.script.Command.{Command}
 use Rattle.journal_model.specs.declared.script.Command.TheVariants as command
-use Rattle.journal_model.specs.State.{buffer, reservation, is_live, live_in, course, has_buffer, has_target, target_of}
-use Rattle.journal_model.specs.Commands.{commands_of, command_at_work, named, decl, asked_places}
+use Rattle.journal_model.specs.rules.State.{buffer, reservation, is_live, live_in, course, has_buffer, has_target, target_of}
+use Rattle.journal_model.specs.rules.Commands.{commands_of, command_at_work, named, decl, asked_places}
 use Rattle.ttm_base.specs.Placement.{forced_places}
-use Rattle.journal_model.specs.Waits.{same_job}
-use Rattle.journal_model.specs.Lists.{in_order}
-use Rattle.journal_model.specs.Ready.{meets, is_in_place, has_some_target, first_unready}
-use Rattle.journal_model.specs.Search.{is_caught}
-use Rattle.journal_model.specs.Tasks.{first_missing, starts}
-use Rattle.journal_model.specs.DeadEnd.{can_step}
+use Rattle.journal_model.specs.rules.Waits.{same_job}
+use Rattle.journal_model.specs.rules.Lists.{in_order}
+use Rattle.journal_model.specs.rules.Ready.{meets, is_in_place, has_some_target, first_unready}
+use Rattle.journal_model.specs.rules.Search.{is_caught}
+use Rattle.journal_model.specs.rules.Tasks.{first_missing, starts}
+use Rattle.journal_model.specs.statements.DeadEnd.{can_step}
 use Rattle.ttm_base.specs.declared.Actor.{Actor}
 
 -- what a command waits for, if it waits for a holder

@@ -6,8 +6,8 @@ use Rattle.journal_model.specs.declared.script.Command.{Command}
 use Rattle.journal_model.specs.declared.script.Command.TheVariants as command
 use Rattle.journal_model.specs.declared.state.State.{State}
 use Rattle.journal_model.specs.declared.state.Reservation.{Reservation}
-use Rattle.journal_model.specs.State.{course, reservation_in}
-use Rattle.journal_model.specs.Commands.{commands_of}
+use Rattle.journal_model.specs.rules.State.{course, reservation_in}
+use Rattle.journal_model.specs.rules.Commands.{commands_of}
 
 -- the command has an entry of its own before its result
 abbrev pub makes : Command → Bool

@@ -5,9 +5,9 @@ use Rattle.journal_model.specs.declared.script.Script.{Script}
 use Rattle.journal_model.specs.declared.state.State.{State}
 use Rattle.journal_model.specs.declared.state.Job.{Job}
 use Rattle.journal_model.specs.declared.state.Buffer.{Buffer}
-use Rattle.journal_model.specs.State.{live_in}
-use Rattle.journal_model.specs.Commands.{decl}
-use Rattle.journal_model.specs.Waits.{same_job}
+use Rattle.journal_model.specs.rules.State.{live_in}
+use Rattle.journal_model.specs.rules.Commands.{decl}
+use Rattle.journal_model.specs.rules.Waits.{same_job}
 
 -- as many pages as declared
 abbrev pub HasPages : Script → BufId → Option Buffer → Type 0

@@ -7,8 +7,8 @@ use Rattle.journal_model.specs.declared.state.State.{State}
 use Rattle.journal_model.specs.declared.state.Ghost.{Ghost}
 use Rattle.journal_model.specs.declared.entry.Kind.{Kind}
 use Rattle.journal_model.specs.declared.entry.Kind.TheVariants as kind
-use Rattle.journal_model.specs.State.{buffer, is_live}
-use Rattle.journal_model.specs.Waits.{waited_for, jobs_before_write}
+use Rattle.journal_model.specs.rules.State.{buffer, is_live}
+use Rattle.journal_model.specs.rules.Waits.{waited_for, jobs_before_write}
 
 -- no job of the buffer is waited for
 abbrev pub is_quiet : State → BufId → Bool

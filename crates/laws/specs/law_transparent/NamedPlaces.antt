@@ -7,8 +7,8 @@ use Rattle.ttm_base.specs.declared.PagePlace.TheVariants as place
 use Rattle.journal_model.specs.declared.script.Script.{Script}
 use Rattle.journal_model.specs.declared.state.Core.{Core}
 use Rattle.journal_model.specs.declared.state.Job.{Job}
-use Rattle.journal_model.specs.Places.{aperture}
-use Rattle.journal_model.specs.Spares.{remaining}
+use Rattle.journal_model.specs.rules.Places.{aperture}
+use Rattle.journal_model.specs.statements.Spares.{remaining}
 
 -- an aperture page of TT, mapped to a frame that there is
 pub record IsMapped (script : Script) (c : Core) (page : ℕ) : Type 0 where

@@ -5,8 +5,8 @@ use Rattle.ttm_base.specs.Packets.{packet_names}
 use Rattle.journal_model.specs.declared.entry.Kind.{Kind}
 use Rattle.journal_model.specs.declared.state.Core.{Core}
 use Rattle.journal_model.specs.declared.state.Job.{Job}
-use Rattle.journal_model.specs.Holds.{has_number}
-use Rattle.journal_model.specs.Spares.{remaining, pages_taken, pages_given}
+use Rattle.journal_model.specs.rules.Holds.{has_number}
+use Rattle.journal_model.specs.statements.Spares.{remaining, pages_taken, pages_given}
 
 -- no packet that hasn't run names one of them
 abbrev pub SparesPackets : Core → Kind → Type 0

@@ -4,7 +4,7 @@ use Rattle.std.specs.Prelude.{◌≡◌, ◌⊎◌}
 use Rattle.ttm_base.specs.Pages as pages
 use Rattle.journal_model.specs.declared.script.Script.{Script}
 use Rattle.journal_model.specs.declared.state.Core.{Core}
-use Rattle.journal_model.specs.PlainMemory.{Memory, OwedProbes}
+use Rattle.journal_model.specs.rules.PlainMemory.{Memory, OwedProbes}
 use Rattle.laws.specs.lemma_bytes_model.Memory.{Page, Nowhere}
 use Rattle.laws.specs.lemma_bytes_model.View.{Owner, Idle, View, Good}
 use Rattle.laws.specs.law_holders.Holding.{Holds, unheld}

@@ -19,15 +19,15 @@ use Rattle.journal_model.specs.declared.entry.Why.{Why}
 use Rattle.journal_model.specs.declared.entry.Why.TheVariants as why
 use Rattle.journal_model.specs.declared.entry.Shown.{Shown}
 use Rattle.journal_model.specs.declared.entry.Shown.TheVariants as shown
-use Rattle.journal_model.specs.State.{buffer, live_in, has_buffer, has_target}
-use Rattle.journal_model.specs.Commands.{named, command_at_work}
-use Rattle.journal_model.specs.Choice.{choice}
-use Rattle.journal_model.specs.Dry.{has_frame}
-use Rattle.journal_model.specs.Holds.{free_frame, free_slot}
-use Rattle.journal_model.specs.Places.{loc_of}
-use Rattle.journal_model.specs.Ready.{has_all_frames, has_some_target, is_ready}
-use Rattle.journal_model.specs.Waits.{waited_for, jobs_before_read, jobs_before_write}
-use Rattle.journal_model.specs.PageSteps.{page_to_fill, first_frame_page, next_job, next_ghost}
+use Rattle.journal_model.specs.rules.State.{buffer, live_in, has_buffer, has_target}
+use Rattle.journal_model.specs.rules.Commands.{named, command_at_work}
+use Rattle.journal_model.specs.rules.Choice.{choice}
+use Rattle.journal_model.specs.rules.Dry.{has_frame}
+use Rattle.journal_model.specs.rules.Holds.{free_frame, free_slot}
+use Rattle.journal_model.specs.rules.Places.{loc_of}
+use Rattle.journal_model.specs.rules.Ready.{has_all_frames, has_some_target, is_ready}
+use Rattle.journal_model.specs.rules.Waits.{waited_for, jobs_before_read, jobs_before_write}
+use Rattle.journal_model.specs.rules.PageSteps.{page_to_fill, first_frame_page, next_job, next_ghost}
 
 -- the kind leaves core and bytes alone
 abbrev pub is_still : Kind → Bool

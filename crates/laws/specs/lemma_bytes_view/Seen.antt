@@ -5,7 +5,7 @@ use Rattle.ttm_base.specs.declared.Packet.TheVariants as packet
 use Rattle.ttm_base.specs.ListWords.{count_from}
 use Rattle.ttm_base.specs.Pages as pages
 use Rattle.journal_model.specs.declared.state.Job.{Job}
-use Rattle.journal_model.specs.PlainMemory.{OwedProbes}
+use Rattle.journal_model.specs.rules.PlainMemory.{OwedProbes}
 use Rattle.laws.specs.lemma_bytes_model.Memory as memory
 use Rattle.laws.specs.lemma_bytes_model.Memory.{Bytes, Step, Write, Show}
 use Rattle.laws.specs.law_holders.Holding.{seen}

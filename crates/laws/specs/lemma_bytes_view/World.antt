@@ -6,10 +6,10 @@ use Rattle.journal_model.specs.declared.script.Script.{Script}
 use Rattle.journal_model.specs.declared.state.Core.{Core}
 use Rattle.journal_model.specs.declared.state.Job.{Job}
 use Rattle.journal_model.specs.declared.state.Ghost as ghosts
-use Rattle.journal_model.specs.Places.{aperture, place_of}
-use Rattle.journal_model.specs.Waits.{same_job, jobs_before_read, jobs_before_write}
-use Rattle.journal_model.specs.Stores.{is_there}
-use Rattle.journal_model.specs.PlainMemory.{Memory, OwedProbes}
+use Rattle.journal_model.specs.rules.Places.{aperture, place_of}
+use Rattle.journal_model.specs.rules.Waits.{same_job, jobs_before_read, jobs_before_write}
+use Rattle.journal_model.specs.rules.Stores.{is_there}
+use Rattle.journal_model.specs.rules.PlainMemory.{Memory, OwedProbes}
 use Rattle.laws.specs.lemma_bytes_model.Memory.{Page, Own, touched}
 use Rattle.laws.specs.lemma_bytes_model.View.{Owner, View}
 use Rattle.laws.specs.law_holders.Holding.{seen, buffer_at}

@@ -5,7 +5,7 @@ use Rattle.ttm_base.specs.declared.Owner.{Owner}
 use Rattle.ttm_base.specs.declared.Span.{Span}
 use Rattle.resource_core.specs.Resources.{Resources, holds, kept_by, renamed, some_spans, spans_at, without_owner}
 use Rattle.resource_core.proofs.OwnedLaws.{kept_some}
-use Rattle.journal_model.specs.Places.{pages_of}
+use Rattle.journal_model.specs.rules.Places.{pages_of}
 use Rattle.room_representation.specs.lemma_room_spans.Calls.{given, passed_on}
 use Rattle.room_pages.specs.room_binds.Apertures.{AreBelow}
 

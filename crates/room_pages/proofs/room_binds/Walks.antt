@@ -3,7 +3,7 @@ use Rattle.std.proofs.Common.{◌≡◌, ℕ, suc, ◌+◌, ◌<◌, ◌≤◌, 
 use Rattle.std.specs.Prelude.{drop, slice_get, slice_set}
 use Rattle.std.proofs.lemmas.List.{drop_more, drop_all}
 use Rattle.ttm_base.specs.declared.Loc.{Loc}
-use Rattle.journal_model.specs.Places.{frame_of}
+use Rattle.journal_model.specs.rules.Places.{frame_of}
 use Rattle.room_representation.specs.lemma_room_bytes.Mapped.{mapped_to, cleared}
 use Rattle.room_pages.specs.room_binds.Apertures.{AreBelow}
 

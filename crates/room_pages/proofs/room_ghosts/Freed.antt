@@ -24,14 +24,14 @@ use Rattle.journal_model.specs.declared.state.Ghost as state
 use Rattle.journal_model.specs.declared.state.Reservation.{Reservation}
 use Rattle.journal_model.specs.declared.entry.Entry.{Entry}
 use Rattle.journal_model.specs.declared.entry.Kind.TheVariants as kind
-use Rattle.journal_model.specs.ApplyCommands.{after_free, ghost_of_freed}
-use Rattle.journal_model.specs.Holds.{held_frames, held_slots, size_of, spans_in}
-use Rattle.journal_model.specs.Next.{next}
-use Rattle.journal_model.specs.PageSteps.{next_ghost}
-use Rattle.journal_model.specs.Places.{frame_of, slot_of, frames_of, slots_of, pages_of}
-use Rattle.journal_model.specs.State.{buffer, no_reservation}
-use Rattle.journal_model.specs.Stores.{stores_after}
-use Rattle.journal_model.specs.Legal.{IsLegalNext, state_of, world_of, world_after}
+use Rattle.journal_model.specs.rules.ApplyCommands.{after_free, ghost_of_freed}
+use Rattle.journal_model.specs.rules.Holds.{held_frames, held_slots, size_of, spans_in}
+use Rattle.journal_model.specs.rules.Next.{next}
+use Rattle.journal_model.specs.rules.PageSteps.{next_ghost}
+use Rattle.journal_model.specs.rules.Places.{frame_of, slot_of, frames_of, slots_of, pages_of}
+use Rattle.journal_model.specs.rules.State.{buffer, no_reservation}
+use Rattle.journal_model.specs.rules.Stores.{stores_after}
+use Rattle.journal_model.specs.rules.Legal.{IsLegalNext, state_of, world_of, world_after}
 use Rattle.laws.specs.law_owners.OneOwner.{HaveOneOwner}
 use Rattle.laws.proofs.law_owners.Law.{owner_law, once_law}
 use Rattle.laws.specs.law_transparent.OwnPages.{GoodGhosts}

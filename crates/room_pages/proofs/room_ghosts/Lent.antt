@@ -13,11 +13,11 @@ use Rattle.bo_table.specs.Seen.{IsBo}
 use Rattle.journal_model.specs.declared.script.Script.{Script}
 use Rattle.journal_model.specs.declared.state.Buffer.{Buffer}
 use Rattle.journal_model.specs.declared.entry.Entry.{Entry}
-use Rattle.journal_model.specs.ApplyCommands.{ghost_of_freed}
-use Rattle.journal_model.specs.Holds.{spans_in}
-use Rattle.journal_model.specs.Legal.{state_of}
-use Rattle.journal_model.specs.Places.{frame_of}
-use Rattle.journal_model.specs.State.{buffer}
+use Rattle.journal_model.specs.rules.ApplyCommands.{ghost_of_freed}
+use Rattle.journal_model.specs.rules.Holds.{spans_in}
+use Rattle.journal_model.specs.rules.Legal.{state_of}
+use Rattle.journal_model.specs.rules.Places.{frame_of}
+use Rattle.journal_model.specs.rules.State.{buffer}
 use Rattle.laws.specs.lemma_bytes_told.Told.{IsThere}
 use Rattle.room_representation.proofs.lemma_room_jobs.Needs.{set_is}
 use Rattle.room_representation.proofs.lemma_room_jobs.Sets.{set_length}

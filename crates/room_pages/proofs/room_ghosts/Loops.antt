@@ -4,7 +4,7 @@ use Rattle.std.specs.Prelude.{filter_map, slice_get}
 use Rattle.ttm_base.specs.declared.Loc.{Loc}
 use Rattle.ttm_base.specs.declared.Loc.TheVariants as loc
 use Rattle.swap_store.specs.Slots.{SwapSlots}
-use Rattle.journal_model.specs.Places.{slot_of}
+use Rattle.journal_model.specs.rules.Places.{slot_of}
 use Rattle.room_representation.specs.lemma_room_bytes.GivenBack.{given, given_back}
 use Rattle.room_representation.proofs.lemma_room_bytes.Walks.{passed, table_given}
 

@@ -11,11 +11,11 @@ use Rattle.journal_model.specs.declared.state.State.{State}
 use Rattle.journal_model.specs.declared.state.Ghost as state
 use Rattle.journal_model.specs.declared.entry.Entry.{Entry}
 use Rattle.journal_model.specs.declared.entry.Kind.TheVariants as kind
-use Rattle.journal_model.specs.ApplyJobs.{after_reap}
-use Rattle.journal_model.specs.Holds.{held_frames}
-use Rattle.journal_model.specs.Places.{pages_of}
-use Rattle.journal_model.specs.Stores.{stores_after}
-use Rattle.journal_model.specs.Legal.{IsLegalNext, state_of, world_of, world_after}
+use Rattle.journal_model.specs.rules.ApplyJobs.{after_reap}
+use Rattle.journal_model.specs.rules.Holds.{held_frames}
+use Rattle.journal_model.specs.rules.Places.{pages_of}
+use Rattle.journal_model.specs.rules.Stores.{stores_after}
+use Rattle.journal_model.specs.rules.Legal.{IsLegalNext, state_of, world_of, world_after}
 use Rattle.laws.proofs.law_owners.Law.{owner_law, once_law}
 use Rattle.laws.specs.law_transparent.OwnPages.{GoodGhosts}
 use Rattle.laws.proofs.law_transparent.PagesLaw.{ghosts_law}

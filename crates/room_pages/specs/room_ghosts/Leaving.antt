@@ -12,9 +12,9 @@ use Rattle.lru_bulk.specs.declared.nodes.Listing.{Listing}
 use Rattle.lru_bulk.specs.Lists.{Order, listing_of, removed}
 use Rattle.bo_table.specs.declared.bo.Bo.{Bo}
 use Rattle.journal_model.specs.declared.state.Course.{Course}
-use Rattle.journal_model.specs.ApplyCommands.{has_made}
-use Rattle.journal_model.specs.Places.{frame_of}
-use Rattle.journal_model.specs.State.{without_buffer}
+use Rattle.journal_model.specs.rules.ApplyCommands.{has_made}
+use Rattle.journal_model.specs.rules.Places.{frame_of}
+use Rattle.journal_model.specs.rules.State.{without_buffer}
 use Rattle.room_representation.specs.declared.parts.Ghost.{Ghost}
 
 -- spans of one memory type, as another sees them

@@ -1,6 +1,6 @@
 ghost use Rattle.std.specs.Prelude.{◌≡◌, ◌<◌, false, length, slice_set};
 ghost use Rattle.ttm_base.specs.declared.Owner.TheVariants as owner;
-ghost use Rattle.journal_model.specs.Places.{frame_of, pages_of};
+ghost use Rattle.journal_model.specs.rules.Places.{frame_of, pages_of};
 ghost use Rattle.resource_core.specs.Resources.{holds, spans_at};
 ghost use Rattle.room_representation.specs.lemma_room_bytes.Mapped.{mapped_to, cleared};
 ghost use Rattle.room_representation.specs.lemma_room_spans.Calls.{given, passed_on};

@@ -1,5 +1,5 @@
 ghost use Rattle.std.specs.Prelude.{◌≡◌, IfOk, filter_map};
-ghost use Rattle.journal_model.specs.Places as words;
+ghost use Rattle.journal_model.specs.rules.Places as words;
 
 use journal_model::Frames;
 use state_words::frame_of;

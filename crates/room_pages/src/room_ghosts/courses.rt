@@ -1,5 +1,5 @@
 ghost use Rattle.std.specs.Prelude.{◌≡◌, IsSome};
-ghost use Rattle.journal_model.specs.State.{without_buffer};
+ghost use Rattle.journal_model.specs.rules.State.{without_buffer};
 ghost use Rattle.room_representation.specs.room_steps.Courses.{course_at, with_course_by};
 ghost use Rattle.room_pages.specs.room_ghosts.Leaving.{freeing};
 

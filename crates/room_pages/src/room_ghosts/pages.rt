@@ -1,5 +1,5 @@
 ghost use Rattle.std.specs.Prelude.{◌≡◌, filter_map};
-ghost use Rattle.journal_model.specs.Places.{slot_of};
+ghost use Rattle.journal_model.specs.rules.Places.{slot_of};
 ghost use Rattle.room_representation.specs.lemma_room_bytes.GivenBack.{given_back};
 ghost use Rattle.room_pages.specs.room_ghosts.InTurn.{AreHeldInTurn, AreHeldAlong};
 

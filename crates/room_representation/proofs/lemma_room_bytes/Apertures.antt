@@ -11,9 +11,9 @@ use Rattle.journal_model.specs.declared.script.Script.{Script}
 use Rattle.journal_model.specs.declared.state.Buffer.{Buffer}
 use Rattle.journal_model.specs.declared.state.Core.{Core}
 use Rattle.journal_model.specs.declared.state.Ghost.{Ghost}
-use Rattle.journal_model.specs.State.{live_in}
-use Rattle.journal_model.specs.Places.{pages_of, frame_of, frames_of, aperture}
-use Rattle.journal_model.specs.Holds.{spans_in}
+use Rattle.journal_model.specs.rules.State.{live_in}
+use Rattle.journal_model.specs.rules.Places.{pages_of, frame_of, frames_of, aperture}
+use Rattle.journal_model.specs.rules.Holds.{spans_in}
 use Rattle.laws.proofs.law_state.Lists.{set_at, get_pushed, get_within}
 use Rattle.laws.proofs.law_owners.Law.{AreHeldOnce}
 use Rattle.laws.specs.law_holders.Maps.{BufferMaps, GhostMaps, Maps}

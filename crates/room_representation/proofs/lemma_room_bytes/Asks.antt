@@ -8,9 +8,9 @@ use Rattle.ttm_base.specs.Pages.{PageBytes, frame}
 use Rattle.journal_model.specs.declared.script.Script.{Script}
 use Rattle.journal_model.specs.declared.state.Ghost.{Ghost}
 use Rattle.journal_model.specs.declared.state.State.{State}
-use Rattle.journal_model.specs.State.{buffer}
-use Rattle.journal_model.specs.Holds.{free_frame, free_slot, held_frames, held_slots}
-use Rattle.journal_model.specs.Places.{frame_of, page_at, page_in, page_in_table, slot_of}
+use Rattle.journal_model.specs.rules.State.{buffer}
+use Rattle.journal_model.specs.rules.Holds.{free_frame, free_slot, held_frames, held_slots}
+use Rattle.journal_model.specs.rules.Places.{frame_of, page_at, page_in, page_in_table, slot_of}
 use Rattle.swap_store.specs.Slots.{SwapSlots}
 use Rattle.laws.specs.law_owners.OneOwner.{HaveOneOwner}
 use Rattle.room_representation.specs.Pages.{ArePooled, AreSlots}

@@ -14,13 +14,13 @@ use Rattle.journal_model.specs.declared.entry.Left.TheVariants as left
 use Rattle.journal_model.specs.declared.script.Script.{Script}
 use Rattle.journal_model.specs.declared.state.Ghost.{Ghost}
 use Rattle.journal_model.specs.declared.state.State.{State}
-use Rattle.journal_model.specs.State.{buffer}
-use Rattle.journal_model.specs.Apply.{applied, thread_of}
-use Rattle.journal_model.specs.ApplyCommands.{after_free}
-use Rattle.journal_model.specs.ApplyMoves.{after_move, frames_left}
-use Rattle.journal_model.specs.Holds.{held_frames, held_slots}
-use Rattle.journal_model.specs.Places.{frames_of}
-use Rattle.journal_model.specs.Stores.{stores_after, within}
+use Rattle.journal_model.specs.rules.State.{buffer}
+use Rattle.journal_model.specs.rules.Apply.{applied, thread_of}
+use Rattle.journal_model.specs.rules.ApplyCommands.{after_free}
+use Rattle.journal_model.specs.rules.ApplyMoves.{after_move, frames_left}
+use Rattle.journal_model.specs.rules.Holds.{held_frames, held_slots}
+use Rattle.journal_model.specs.rules.Places.{frames_of}
+use Rattle.journal_model.specs.rules.Stores.{stores_after, within}
 use Rattle.swap_store.specs.Slots.{SwapSlots}
 use Rattle.laws.specs.law_owners.OneOwner.{HaveOneOwner}
 use Rattle.laws.specs.lemma_bytes_told.Told.{IsThere}

@@ -12,8 +12,8 @@ use Rattle.copy_packet.proofs.SpotLaws.{page_written}
 use Rattle.journal_model.specs.declared.script.Script.{Script}
 use Rattle.journal_model.specs.declared.script.Sizes.{Sizes}
 use Rattle.journal_model.specs.declared.entry.Entry.{Entry}
-use Rattle.journal_model.specs.Legal.{World, first_world, world_after}
-use Rattle.journal_model.specs.Stores.{is_there, within, stores_after}
+use Rattle.journal_model.specs.rules.Legal.{World, first_world, world_after}
+use Rattle.journal_model.specs.rules.Stores.{is_there, within, stores_after}
 use Rattle.room_representation.specs.Pages.{AreStores, HasNoMore}
 
 -- ---- no bytes beyond the pages that there are

@@ -18,13 +18,13 @@ use Rattle.journal_model.specs.declared.state.Buffer.{Buffer}
 use Rattle.journal_model.specs.declared.state.Core.{Core}
 use Rattle.journal_model.specs.declared.state.Ghost.{Ghost}
 use Rattle.journal_model.specs.declared.state.State.{State}
-use Rattle.journal_model.specs.State.{buffer, live_in, changed, target_spans}
-use Rattle.journal_model.specs.Places.{pages_of, aperture}
-use Rattle.journal_model.specs.Holds.{spans_in}
-use Rattle.journal_model.specs.Apply.{applied}
-use Rattle.journal_model.specs.ApplyCommands.{ghost_of_freed}
-use Rattle.journal_model.specs.ApplyPages.{bound, unbound}
-use Rattle.journal_model.specs.ApplyMoves.{moved, table_left, frames_left, ghost_of_moved}
+use Rattle.journal_model.specs.rules.State.{buffer, live_in, changed, target_spans}
+use Rattle.journal_model.specs.rules.Places.{pages_of, aperture}
+use Rattle.journal_model.specs.rules.Holds.{spans_in}
+use Rattle.journal_model.specs.rules.Apply.{applied}
+use Rattle.journal_model.specs.rules.ApplyCommands.{ghost_of_freed}
+use Rattle.journal_model.specs.rules.ApplyPages.{bound, unbound}
+use Rattle.journal_model.specs.rules.ApplyMoves.{moved, table_left, frames_left, ghost_of_moved}
 use Rattle.laws.proofs.law_owners.Law.{AreHeldOnce}
 use Rattle.laws.specs.law_holders.Maps.{GhostMaps}
 use Rattle.room_representation.specs.Pages.{AreStores}

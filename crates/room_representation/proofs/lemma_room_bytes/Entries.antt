@@ -18,12 +18,12 @@ use Rattle.journal_model.specs.declared.entry.Left.TheVariants as left
 use Rattle.journal_model.specs.declared.state.Buffer.{Buffer}
 use Rattle.journal_model.specs.declared.state.Ghost.{Ghost}
 use Rattle.journal_model.specs.declared.state.State.{State}
-use Rattle.journal_model.specs.State.{buffer, live_in, target_spans}
-use Rattle.journal_model.specs.Apply.{applied}
-use Rattle.journal_model.specs.Holds.{spans_in}
-use Rattle.journal_model.specs.Legal.{IsLegal, IsLegalNext, state_of, stores_of, world_of}
-use Rattle.journal_model.specs.Places.{pages_of}
-use Rattle.journal_model.specs.ScriptRules.{is_script}
+use Rattle.journal_model.specs.rules.State.{buffer, live_in, target_spans}
+use Rattle.journal_model.specs.rules.Apply.{applied}
+use Rattle.journal_model.specs.rules.Holds.{spans_in}
+use Rattle.journal_model.specs.rules.Legal.{IsLegal, IsLegalNext, state_of, stores_of, world_of}
+use Rattle.journal_model.specs.rules.Places.{pages_of}
+use Rattle.journal_model.specs.scripts.ScriptRules.{is_script}
 use Rattle.laws.proofs.law_owners.Law.{AreHeldOnce, once_law}
 use Rattle.room_representation.specs.Pages.{AreSlots}
 use Rattle.room_representation.specs.lemma_room_bytes.Mapped.{HasStores, HasStoresAfter, mapped_to, cleared}

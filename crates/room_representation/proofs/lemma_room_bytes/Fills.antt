@@ -25,16 +25,16 @@ use Rattle.journal_model.specs.declared.entry.Why.{Why}
 use Rattle.journal_model.specs.declared.state.Buffer.{Buffer}
 use Rattle.journal_model.specs.declared.state.Core.{Core}
 use Rattle.journal_model.specs.declared.state.State.{State}
-use Rattle.journal_model.specs.State.{buffer, live_in, changed, new_buffer}
-use Rattle.journal_model.specs.Commands.{decl, command_at_work}
-use Rattle.journal_model.specs.Places.{pages_of, page_at, mapped_in, aperture}
-use Rattle.journal_model.specs.Stores.{with_page_bytes}
-use Rattle.journal_model.specs.Waits.{jobs_before_target}
-use Rattle.journal_model.specs.Apply.{applied, thread_of}
-use Rattle.journal_model.specs.ApplyCommands.{named_in}
-use Rattle.journal_model.specs.ApplyPages.{with_fence, with_kernel_fences, with_spans, with_loc, without_frames}
-use Rattle.journal_model.specs.ApplyVictims.{leaves_tt}
-use Rattle.journal_model.specs.ApplyJobs.{with_use, ops_of}
+use Rattle.journal_model.specs.rules.State.{buffer, live_in, changed, new_buffer}
+use Rattle.journal_model.specs.rules.Commands.{decl, command_at_work}
+use Rattle.journal_model.specs.rules.Places.{pages_of, page_at, mapped_in, aperture}
+use Rattle.journal_model.specs.rules.Stores.{with_page_bytes}
+use Rattle.journal_model.specs.rules.Waits.{jobs_before_target}
+use Rattle.journal_model.specs.rules.Apply.{applied, thread_of}
+use Rattle.journal_model.specs.rules.ApplyCommands.{named_in}
+use Rattle.journal_model.specs.rules.ApplyPages.{with_fence, with_kernel_fences, with_spans, with_loc, without_frames}
+use Rattle.journal_model.specs.rules.ApplyVictims.{leaves_tt}
+use Rattle.journal_model.specs.rules.ApplyJobs.{with_use, ops_of}
 use Rattle.room_representation.specs.Pages.{AreStores, AreSlots}
 use Rattle.room_representation.specs.lemma_room_bytes.Mapped.{HasStores, HasStoresAfter, leaves_stores}
 use Rattle.room_representation.proofs.lemma_room_bytes.Bytes.{stores_within, same_aperture, frame_there, stores_written}

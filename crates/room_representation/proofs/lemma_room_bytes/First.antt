@@ -5,10 +5,10 @@ use Rattle.ttm_base.specs.ListWords.{count_from}
 use Rattle.copy_packet.specs.StoreBytes.{byte_at}
 use Rattle.journal_model.specs.declared.script.Script.{Script}
 use Rattle.journal_model.specs.declared.state.Buffer.{Buffer}
-use Rattle.journal_model.specs.Holds.{has_number, held_frames, held_slots}
-use Rattle.journal_model.specs.Legal.{first_state}
-use Rattle.journal_model.specs.Places.{frames_of, slots_of}
-use Rattle.journal_model.specs.Stores.{zeros}
+use Rattle.journal_model.specs.rules.Holds.{has_number, held_frames, held_slots}
+use Rattle.journal_model.specs.rules.Legal.{first_state}
+use Rattle.journal_model.specs.rules.Places.{frames_of, slots_of}
+use Rattle.journal_model.specs.rules.Stores.{zeros}
 use Rattle.room_representation.specs.Pages.{ArePooled, AreSlots, marks}
 use Rattle.room_representation.proofs.lemma_room_bytes.Held.{of_live}
 

@@ -7,10 +7,10 @@ use Rattle.ttm_base.specs.declared.Loc.{Loc}
 use Rattle.ttm_base.specs.declared.Loc.TheVariants as loc
 use Rattle.journal_model.specs.declared.state.Buffer.{Buffer}
 use Rattle.journal_model.specs.declared.state.Core.{Core}
-use Rattle.journal_model.specs.State.{changed, live_in, with_buffers}
-use Rattle.journal_model.specs.Holds.{held_frames, held_slots, live_entry}
-use Rattle.journal_model.specs.Places.{frame_of, frames_of, slot_of, slots_of}
-use Rattle.journal_model.specs.ApplyPages.{without_frame}
+use Rattle.journal_model.specs.rules.State.{changed, live_in, with_buffers}
+use Rattle.journal_model.specs.rules.Holds.{held_frames, held_slots, live_entry}
+use Rattle.journal_model.specs.rules.Places.{frame_of, frames_of, slot_of, slots_of}
+use Rattle.journal_model.specs.rules.ApplyPages.{without_frame}
 use Rattle.laws.proofs.law_owners.Counts.{times, summed, weigh}
 use Rattle.laws.proofs.law_owners.Weights.{Room, frames, slots, of_buffer, weight, times-held}
 use Rattle.laws.proofs.law_owners.Keeps.{in_loc, times-cons}

@@ -12,12 +12,12 @@ use Rattle.journal_model.specs.declared.entry.Entry.{Entry}
 use Rattle.journal_model.specs.declared.state.Buffer.{Buffer}
 use Rattle.journal_model.specs.declared.state.Core.{Core}
 use Rattle.journal_model.specs.declared.state.Ghost.{Ghost}
-use Rattle.journal_model.specs.State.{live_in, target_spans}
-use Rattle.journal_model.specs.Apply.{apply}
-use Rattle.journal_model.specs.Legal.{World, IsLegal, IsLegalNext, state_of, world_of}
-use Rattle.journal_model.specs.Places.{pages_of}
-use Rattle.journal_model.specs.Holds.{spans_in}
-use Rattle.journal_model.specs.ScriptRules.{is_script}
+use Rattle.journal_model.specs.rules.State.{live_in, target_spans}
+use Rattle.journal_model.specs.rules.Apply.{apply}
+use Rattle.journal_model.specs.rules.Legal.{World, IsLegal, IsLegalNext, state_of, world_of}
+use Rattle.journal_model.specs.rules.Places.{pages_of}
+use Rattle.journal_model.specs.rules.Holds.{spans_in}
+use Rattle.journal_model.specs.scripts.ScriptRules.{is_script}
 use Rattle.journal_model.proofs.JournalLaws.{world_of-append, IsLegal-append}
 use Rattle.laws.proofs.law_owners.Counts.{one, stands, summed, weigh}
 use Rattle.laws.proofs.law_owners.Weights.{tt_pages, of_buffer, of_ghost, weight}

@@ -14,14 +14,14 @@ use Rattle.journal_model.specs.declared.entry.Kind.TheVariants as kind
 use Rattle.journal_model.specs.declared.state.Buffer.{Buffer}
 use Rattle.journal_model.specs.declared.state.Ghost.{Ghost}
 use Rattle.journal_model.specs.declared.state.State.{State}
-use Rattle.journal_model.specs.State.{buffer, live_in}
-use Rattle.journal_model.specs.Holds.{held_frames}
-use Rattle.journal_model.specs.Next.{next}
-use Rattle.journal_model.specs.PageSteps.{unless_waiting}
-use Rattle.journal_model.specs.ScriptRules.{is_script}
-use Rattle.journal_model.specs.Search.{Step}
-use Rattle.journal_model.specs.Waits.{waited_for}
-use Rattle.journal_model.specs.Legal.{World, IsLegal, IsLegalNext, state_of, world_of}
+use Rattle.journal_model.specs.rules.State.{buffer, live_in}
+use Rattle.journal_model.specs.rules.Holds.{held_frames}
+use Rattle.journal_model.specs.rules.Next.{next}
+use Rattle.journal_model.specs.rules.PageSteps.{unless_waiting}
+use Rattle.journal_model.specs.scripts.ScriptRules.{is_script}
+use Rattle.journal_model.specs.rules.Search.{Step}
+use Rattle.journal_model.specs.rules.Waits.{waited_for}
+use Rattle.journal_model.specs.rules.Legal.{World, IsLegal, IsLegalNext, state_of, world_of}
 use Rattle.laws.proofs.law_state.Shown.{shows, shown_plain, legal_step}
 use Rattle.laws.proofs.law_owners.Taken.{lowest_is_free}
 use Rattle.laws.proofs.law_transparent.PagesLaw.{ghosts_law}

@@ -11,12 +11,12 @@ use Rattle.journal_model.specs.declared.entry.Kind.{Kind}
 use Rattle.journal_model.specs.declared.entry.Kind.TheVariants as kind
 use Rattle.journal_model.specs.declared.script.Script.{Script}
 use Rattle.journal_model.specs.declared.state.State.{State}
-use Rattle.journal_model.specs.Apply.{applied}
-use Rattle.journal_model.specs.Holds.{held_frames, held_slots}
-use Rattle.journal_model.specs.Legal.{World, first_world, world_after, world_of, state_of, stores_of, IsLegal, IsLegalNext}
-use Rattle.journal_model.specs.Next.{next}
-use Rattle.journal_model.specs.ScriptRules.{is_script}
-use Rattle.journal_model.specs.Stores.{showing, stores_after, within}
+use Rattle.journal_model.specs.rules.Apply.{applied}
+use Rattle.journal_model.specs.rules.Holds.{held_frames, held_slots}
+use Rattle.journal_model.specs.rules.Legal.{World, first_world, world_after, world_of, state_of, stores_of, IsLegal, IsLegalNext}
+use Rattle.journal_model.specs.rules.Next.{next}
+use Rattle.journal_model.specs.scripts.ScriptRules.{is_script}
+use Rattle.journal_model.specs.rules.Stores.{showing, stores_after, within}
 use Rattle.swap_store.specs.Slots.{SwapSlots}
 use Rattle.laws.proofs.law_state.Shown.{legal_step}
 use Rattle.laws.proofs.law_owners.Law.{owner_law}

@@ -6,7 +6,7 @@ use Rattle.ttm_base.specs.Pages.{PageBytes}
 use Rattle.free_map.proofs.FoundLaws.{lowest_found}
 use Rattle.journal_model.specs.declared.script.Script.{Script}
 use Rattle.journal_model.specs.declared.state.Core.{Core}
-use Rattle.journal_model.specs.Holds.{free_frame, free_slot, has_number, held_frames, held_slots, lowest_free}
+use Rattle.journal_model.specs.rules.Holds.{free_frame, free_slot, has_number, held_frames, held_slots, lowest_free}
 use Rattle.swap_store.specs.Slots.{SwapSlots}
 use Rattle.room_representation.specs.Pages.{ArePooled, AreSlots, marks}
 use Rattle.room_representation.proofs.lemma_room_bytes.Marks.{length-marks, mark_at}

@@ -6,7 +6,7 @@ use Rattle.std.proofs.lemmas.List.{length-set, take_all}
 use Rattle.ttm_base.specs.declared.Loc.{Loc}
 use Rattle.ttm_base.specs.declared.Loc.TheVariants as loc
 use Rattle.aperture_table.specs.Translation.{frame_at}
-use Rattle.journal_model.specs.Places.{frame_of}
+use Rattle.journal_model.specs.rules.Places.{frame_of}
 use Rattle.room_representation.specs.lemma_room_bytes.Mapped.{mapped_to, cleared, IsFull}
 
 -- ---- one page of the list

@@ -5,8 +5,8 @@ use Rattle.std.specs.List.{list_all}
 use Rattle.std.proofs.lemmas.Bool.{and_parts, ne_eqb, eq-eqb, lt-ltb, ltb-true}
 use Rattle.std.proofs.lemmas.Bool.Decides.{nat_tests}
 use Rattle.ttm_base.specs.ListWords.{count_from}
-use Rattle.journal_model.specs.Account.{are_distinct}
-use Rattle.journal_model.specs.Holds.{has_number}
+use Rattle.journal_model.specs.statements.Account.{are_distinct}
+use Rattle.journal_model.specs.rules.Holds.{has_number}
 use Rattle.laws.proofs.law_owners.Counts.{one, times}
 use Rattle.laws.specs.law_owners.OneOwner.{AreOwned}
 use Rattle.room_representation.specs.Pages.{marks}

@@ -26,18 +26,18 @@ use Rattle.journal_model.specs.declared.script.Script.{Script}
 use Rattle.journal_model.specs.declared.state.Buffer.{Buffer}
 use Rattle.journal_model.specs.declared.state.Core.{Core}
 use Rattle.journal_model.specs.declared.state.State.{State}
-use Rattle.journal_model.specs.State.{buffer, changed, live_in, new_buffer, with_buffers}
-use Rattle.journal_model.specs.Apply.{applied, engine_of, thread_of}
-use Rattle.journal_model.specs.ApplyCommands.{after_new, named_in}
-use Rattle.journal_model.specs.ApplyJobs.{ops_of, with_use}
-use Rattle.journal_model.specs.ApplyPages.{bound, unbound, with_fence, with_kernel_fences, with_spans}
-use Rattle.journal_model.specs.ApplyVictims.{leaves_tt}
-use Rattle.journal_model.specs.Commands.{command_at_work, decl}
-use Rattle.journal_model.specs.Holds.{ghost_frames, held_frames, held_slots}
-use Rattle.journal_model.specs.Places.{aperture, frame_of, frames_of, page_at, page_in, page_in_table, page_in_vram, pages_of, slot_of, slots_of, is_frame}
-use Rattle.journal_model.specs.Ready.{has_all_frames}
-use Rattle.journal_model.specs.Stores.{job_packet, put_bytes, stores_after, within, written}
-use Rattle.journal_model.specs.Waits.{jobs_before_target, use_of}
+use Rattle.journal_model.specs.rules.State.{buffer, changed, live_in, new_buffer, with_buffers}
+use Rattle.journal_model.specs.rules.Apply.{applied, engine_of, thread_of}
+use Rattle.journal_model.specs.rules.ApplyCommands.{after_new, named_in}
+use Rattle.journal_model.specs.rules.ApplyJobs.{ops_of, with_use}
+use Rattle.journal_model.specs.rules.ApplyPages.{bound, unbound, with_fence, with_kernel_fences, with_spans}
+use Rattle.journal_model.specs.rules.ApplyVictims.{leaves_tt}
+use Rattle.journal_model.specs.rules.Commands.{command_at_work, decl}
+use Rattle.journal_model.specs.rules.Holds.{ghost_frames, held_frames, held_slots}
+use Rattle.journal_model.specs.rules.Places.{aperture, frame_of, frames_of, page_at, page_in, page_in_table, page_in_vram, pages_of, slot_of, slots_of, is_frame}
+use Rattle.journal_model.specs.rules.Ready.{has_all_frames}
+use Rattle.journal_model.specs.rules.Stores.{job_packet, put_bytes, stores_after, within, written}
+use Rattle.journal_model.specs.rules.Waits.{jobs_before_target, use_of}
 use Rattle.swap_store.specs.Slots.{SwapSlots}
 use Rattle.laws.proofs.law_owners.Counts.{times}
 use Rattle.room_representation.specs.Pages.{ArePooled, AreSlots}

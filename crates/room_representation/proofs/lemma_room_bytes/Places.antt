@@ -12,9 +12,9 @@ use Rattle.copy_packet.specs.declared.stores.Stores.{Stores}
 use Rattle.journal_model.specs.declared.script.Script.{Script}
 use Rattle.journal_model.specs.declared.state.Buffer.{Buffer}
 use Rattle.journal_model.specs.declared.state.Core.{Core}
-use Rattle.journal_model.specs.State.{buffer_in}
-use Rattle.journal_model.specs.Places.{pages_of, page_at, page_in, page_in_vram, page_in_table}
-use Rattle.journal_model.specs.Stores.{is_there}
+use Rattle.journal_model.specs.rules.State.{buffer_in}
+use Rattle.journal_model.specs.rules.Places.{pages_of, page_at, page_in, page_in_vram, page_in_table}
+use Rattle.journal_model.specs.rules.Stores.{is_there}
 use Rattle.laws.proofs.law_owners.Law.{AreHeldOnce}
 use Rattle.laws.specs.lemma_bytes_model.View.{Live}
 use Rattle.laws.specs.law_holders.Holding.{seen}

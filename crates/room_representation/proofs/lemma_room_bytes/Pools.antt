@@ -13,13 +13,13 @@ use Rattle.journal_model.specs.declared.script.Script.{Script}
 use Rattle.journal_model.specs.declared.state.Buffer.{Buffer}
 use Rattle.journal_model.specs.declared.state.Ghost.{Ghost}
 use Rattle.journal_model.specs.declared.state.State.{State}
-use Rattle.journal_model.specs.State.{buffer, changed, with_buffers}
-use Rattle.journal_model.specs.Holds.{held_frames}
-use Rattle.journal_model.specs.Places.{frame_of, frames_of}
-use Rattle.journal_model.specs.ApplyPages.{after_populate, after_swap_in, after_swap_out, after_depopulate, with_loc, without_frames}
-use Rattle.journal_model.specs.ApplyMoves.{frames_left, table_left, ghost_of_moved, moved, after_move_job}
-use Rattle.journal_model.specs.ApplyCommands.{after_free, ghost_of_freed}
-use Rattle.journal_model.specs.ApplyJobs.{after_reap}
+use Rattle.journal_model.specs.rules.State.{buffer, changed, with_buffers}
+use Rattle.journal_model.specs.rules.Holds.{held_frames}
+use Rattle.journal_model.specs.rules.Places.{frame_of, frames_of}
+use Rattle.journal_model.specs.rules.ApplyPages.{after_populate, after_swap_in, after_swap_out, after_depopulate, with_loc, without_frames}
+use Rattle.journal_model.specs.rules.ApplyMoves.{frames_left, table_left, ghost_of_moved, moved, after_move_job}
+use Rattle.journal_model.specs.rules.ApplyCommands.{after_free, ghost_of_freed}
+use Rattle.journal_model.specs.rules.ApplyJobs.{after_reap}
 use Rattle.laws.proofs.law_owners.Counts.{one, times, summed, summed-append}
 use Rattle.laws.proofs.law_owners.Weights.{frames, of_ghost, times-held}
 use Rattle.laws.proofs.law_owners.Keeps.{in_loc}

@@ -13,14 +13,14 @@ use Rattle.journal_model.specs.declared.entry.Kind.{Kind}
 use Rattle.journal_model.specs.declared.entry.Kind.TheVariants as kind
 use Rattle.journal_model.specs.declared.entry.Shown.{Shown}
 use Rattle.journal_model.specs.declared.state.State.{State}
-use Rattle.journal_model.specs.State.{buffer, live_in}
-use Rattle.journal_model.specs.Commands.{command_at_work}
-use Rattle.journal_model.specs.Legal.{World, IsLegal, IsLegalNext, state_of, world_of}
-use Rattle.journal_model.specs.Next.{next}
-use Rattle.journal_model.specs.Places.{page_at}
-use Rattle.journal_model.specs.Ready.{is_ready}
-use Rattle.journal_model.specs.ScriptRules.{is_script}
-use Rattle.journal_model.specs.Stores.{showing}
+use Rattle.journal_model.specs.rules.State.{buffer, live_in}
+use Rattle.journal_model.specs.rules.Commands.{command_at_work}
+use Rattle.journal_model.specs.rules.Legal.{World, IsLegal, IsLegalNext, state_of, world_of}
+use Rattle.journal_model.specs.rules.Next.{next}
+use Rattle.journal_model.specs.rules.Places.{page_at}
+use Rattle.journal_model.specs.rules.Ready.{is_ready}
+use Rattle.journal_model.specs.scripts.ScriptRules.{is_script}
+use Rattle.journal_model.specs.rules.Stores.{showing}
 use Rattle.laws.proofs.law_state.Shown.{legal_step}
 use Rattle.laws.proofs.law_transparent.Acts.{ready_filled}
 use Rattle.laws.proofs.law_transparent.Carried.{clear_law, told_law}

@@ -19,12 +19,12 @@ use Rattle.journal_model.specs.declared.entry.Kind.TheVariants as kind
 use Rattle.journal_model.specs.declared.entry.Shown.TheVariants as shown
 use Rattle.journal_model.specs.declared.state.Buffer.{Buffer}
 use Rattle.journal_model.specs.declared.state.State.{State}
-use Rattle.journal_model.specs.State.{buffer}
-use Rattle.journal_model.specs.Commands.{command_at_work}
-use Rattle.journal_model.specs.Places.{page_at}
-use Rattle.journal_model.specs.Stores as model
-use Rattle.journal_model.specs.Stores.{byte_of, showing, shown_by_read}
-use Rattle.journal_model.specs.Apply.{thread_of}
+use Rattle.journal_model.specs.rules.State.{buffer}
+use Rattle.journal_model.specs.rules.Commands.{command_at_work}
+use Rattle.journal_model.specs.rules.Places.{page_at}
+use Rattle.journal_model.specs.rules.Stores as model
+use Rattle.journal_model.specs.rules.Stores.{byte_of, showing, shown_by_read}
+use Rattle.journal_model.specs.rules.Apply.{thread_of}
 use Rattle.room_representation.specs.Pages.{AreStores, AreSlots, HasNoMore}
 use Rattle.room_representation.specs.lemma_room_bytes.Shown.{is_in_stores}
 use Rattle.room_representation.proofs.lemma_room_bytes.Bytes.{frame_there}

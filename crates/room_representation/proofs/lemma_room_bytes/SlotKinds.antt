@@ -14,14 +14,14 @@ use Rattle.journal_model.specs.declared.entry.Left.{Left}
 use Rattle.journal_model.specs.declared.script.Script.{Script}
 use Rattle.journal_model.specs.declared.state.Buffer.{Buffer}
 use Rattle.journal_model.specs.declared.state.State.{State}
-use Rattle.journal_model.specs.State.{buffer, changed, with_buffers}
-use Rattle.journal_model.specs.Holds.{free_slot, held_slots}
-use Rattle.journal_model.specs.Places.{page_at, slot_of, slots_of}
-use Rattle.journal_model.specs.ApplyPages.{after_populate, after_swap_in, after_swap_out, after_depopulate, with_loc, without_frames}
-use Rattle.journal_model.specs.ApplyMoves.{after_move, moved, table_left}
-use Rattle.journal_model.specs.ApplyCommands.{after_free}
-use Rattle.journal_model.specs.ApplyJobs.{after_reap}
-use Rattle.journal_model.specs.Stores.{within, stores_after}
+use Rattle.journal_model.specs.rules.State.{buffer, changed, with_buffers}
+use Rattle.journal_model.specs.rules.Holds.{free_slot, held_slots}
+use Rattle.journal_model.specs.rules.Places.{page_at, slot_of, slots_of}
+use Rattle.journal_model.specs.rules.ApplyPages.{after_populate, after_swap_in, after_swap_out, after_depopulate, with_loc, without_frames}
+use Rattle.journal_model.specs.rules.ApplyMoves.{after_move, moved, table_left}
+use Rattle.journal_model.specs.rules.ApplyCommands.{after_free}
+use Rattle.journal_model.specs.rules.ApplyJobs.{after_reap}
+use Rattle.journal_model.specs.rules.Stores.{within, stores_after}
 use Rattle.swap_store.specs.Slots.{SwapSlots}
 use Rattle.laws.proofs.law_owners.Counts.{times}
 use Rattle.laws.proofs.law_owners.Keeps.{in_loc}

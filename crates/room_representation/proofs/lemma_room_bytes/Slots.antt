@@ -10,7 +10,7 @@ use Rattle.byte_store.proofs.PartLaws.{get_or-overwritten_below, get_or-overwrit
 use Rattle.copy_packet.specs.StoreBytes.{byte_at}
 use Rattle.journal_model.specs.declared.script.Script.{Script}
 use Rattle.journal_model.specs.declared.script.Sizes.{Sizes}
-use Rattle.journal_model.specs.Stores.{within, with_page_bytes}
+use Rattle.journal_model.specs.rules.Stores.{within, with_page_bytes}
 use Rattle.swap_store.specs.Slots.{SwapSlots}
 use Rattle.laws.proofs.law_owners.Counts.{one, times}
 use Rattle.laws.specs.law_owners.OneOwner.{AreOwned}

@@ -4,7 +4,7 @@ use Rattle.std.specs.Prelude.{slice_get}
 use Rattle.ttm_base.specs.declared.Span.{Span}
 use Rattle.ttm_base.specs.ListWords.{count_from}
 use Rattle.ttm_base.specs.Reach.{length_of}
-use Rattle.journal_model.specs.Places.{pages_of, pages_of_span}
+use Rattle.journal_model.specs.rules.Places.{pages_of, pages_of_span}
 
 length-count_from : (n start : ℕ) → length (count_from 1 n start) ≡ n
 length-count_from zero start = refl

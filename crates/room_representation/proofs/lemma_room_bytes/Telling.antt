@@ -22,14 +22,14 @@ use Rattle.journal_model.specs.declared.state.Buffer.{Buffer}
 use Rattle.journal_model.specs.declared.state.Ghost.{Ghost}
 use Rattle.journal_model.specs.declared.state.Job.{Job}
 use Rattle.journal_model.specs.declared.state.State.{State}
-use Rattle.journal_model.specs.State.{buffer}
-use Rattle.journal_model.specs.Dry.{has_frame}
-use Rattle.journal_model.specs.Next.{next, head_of, step_of_job}
-use Rattle.journal_model.specs.PageSteps.{page_to_fill, first_frame_page, unless_waiting}
-use Rattle.journal_model.specs.Places.{frame_of, is_frame, loc_of, page_in, page_in_table, page_in_vram, pages_of}
-use Rattle.journal_model.specs.Ready.{has_all_frames, is_in_place, is_filled, is_ready}
-use Rattle.journal_model.specs.Search.{Step}
-use Rattle.journal_model.specs.Waits.{waited_for}
+use Rattle.journal_model.specs.rules.State.{buffer}
+use Rattle.journal_model.specs.rules.Dry.{has_frame}
+use Rattle.journal_model.specs.rules.Next.{next, head_of, step_of_job}
+use Rattle.journal_model.specs.rules.PageSteps.{page_to_fill, first_frame_page, unless_waiting}
+use Rattle.journal_model.specs.rules.Places.{frame_of, is_frame, loc_of, page_in, page_in_table, page_in_vram, pages_of}
+use Rattle.journal_model.specs.rules.Ready.{has_all_frames, is_in_place, is_filled, is_ready}
+use Rattle.journal_model.specs.rules.Search.{Step}
+use Rattle.journal_model.specs.rules.Waits.{waited_for}
 use Rattle.laws.specs.lemma_bytes_told.Told.{is_still, is_write, IsThere, Told, still, makes, frees, leaves, takes, untakes, populates, swaps_in, depopulates, binds, unbinds, moves_up, moves_across, moves_down, evicts, catches, swaps_out, arms, reads, writes, results}
 use Rattle.laws.proofs.lemma_bytes_told.Spots.{fill_spot, frame_spot}
 use Rattle.room_representation.specs.lemma_room_bytes.Tables.{IsOffSlots}

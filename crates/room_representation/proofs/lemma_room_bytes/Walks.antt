@@ -8,9 +8,9 @@ use Rattle.ttm_base.specs.declared.Loc.{Loc}
 use Rattle.journal_model.specs.declared.state.Buffer.{Buffer}
 use Rattle.journal_model.specs.declared.state.Core.{Core}
 use Rattle.journal_model.specs.declared.state.Ghost.{Ghost}
-use Rattle.journal_model.specs.State.{live_in}
-use Rattle.journal_model.specs.Holds.{held_frames, held_slots}
-use Rattle.journal_model.specs.Places.{frames_of, slots_of}
+use Rattle.journal_model.specs.rules.State.{live_in}
+use Rattle.journal_model.specs.rules.Holds.{held_frames, held_slots}
+use Rattle.journal_model.specs.rules.Places.{frames_of, slots_of}
 use Rattle.laws.proofs.law_owners.Counts.{one, times, summed, weigh}
 use Rattle.laws.proofs.law_owners.Weights.{frames, of_ghost, times-held}
 use Rattle.laws.proofs.law_owners.Keeps.{in_loc, times-cons}

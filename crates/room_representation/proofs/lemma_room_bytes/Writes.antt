@@ -17,11 +17,11 @@ use Rattle.journal_model.specs.declared.entry.Kind.TheVariants as kind
 use Rattle.journal_model.specs.declared.entry.Shown.{Shown}
 use Rattle.journal_model.specs.declared.state.Buffer.{Buffer}
 use Rattle.journal_model.specs.declared.state.State.{State}
-use Rattle.journal_model.specs.State.{buffer}
-use Rattle.journal_model.specs.Commands.{command_at_work}
-use Rattle.journal_model.specs.Places.{page_at, aperture}
-use Rattle.journal_model.specs.Stores.{put_bytes, written}
-use Rattle.journal_model.specs.Apply.{thread_of}
+use Rattle.journal_model.specs.rules.State.{buffer}
+use Rattle.journal_model.specs.rules.Commands.{command_at_work}
+use Rattle.journal_model.specs.rules.Places.{page_at, aperture}
+use Rattle.journal_model.specs.rules.Stores.{put_bytes, written}
+use Rattle.journal_model.specs.rules.Apply.{thread_of}
 use Rattle.room_representation.specs.Pages.{AreStores}
 use Rattle.room_representation.specs.lemma_room_bytes.Mapped.{HasStores, HasStoresAfter}
 use Rattle.room_representation.proofs.lemma_room_bytes.Bytes.{stores_within, stores_written}

@@ -15,13 +15,13 @@ use Rattle.journal_model.specs.declared.state.Course.{Course}
 use Rattle.journal_model.specs.declared.state.Ghost.{Ghost}
 use Rattle.journal_model.specs.declared.state.Job.{Job}
 use Rattle.journal_model.specs.declared.state.State.{State}
-use Rattle.journal_model.specs.ApplyCommands.{has_made}
-use Rattle.journal_model.specs.ApplyJobs.{after_submit, with_use}
-use Rattle.journal_model.specs.ApplyPages.{with_fence}
-use Rattle.journal_model.specs.Holds.{ghost_frames}
-use Rattle.journal_model.specs.Places.{pages_of, packet_place}
-use Rattle.journal_model.specs.State.{buffer_in, course, with_course}
-use Rattle.journal_model.specs.Waits.{jobs_before_use, use_of}
+use Rattle.journal_model.specs.rules.ApplyCommands.{has_made}
+use Rattle.journal_model.specs.rules.ApplyJobs.{after_submit, with_use}
+use Rattle.journal_model.specs.rules.ApplyPages.{with_fence}
+use Rattle.journal_model.specs.rules.Holds.{ghost_frames}
+use Rattle.journal_model.specs.rules.Places.{pages_of, packet_place}
+use Rattle.journal_model.specs.rules.State.{buffer_in, course, with_course}
+use Rattle.journal_model.specs.rules.Waits.{jobs_before_use, use_of}
 use Rattle.journal_model.specs.declared.state.Buffer.{Buffer}
 use Rattle.journal_model.specs.declared.state.Reservation.{Reservation}
 use Rattle.lru_bulk.specs.Lists.{Order}

@@ -16,14 +16,14 @@ use Rattle.fence_core.specs.Timelines.{is_signalled}
 use Rattle.journal_model.specs.declared.state.Buffer.{Buffer}
 use Rattle.journal_model.specs.declared.state.Job.{Job}
 use Rattle.journal_model.specs.declared.state.State.{State}
-use Rattle.journal_model.specs.ApplyCommands.{ghost_of_freed}
-use Rattle.journal_model.specs.ApplyJobs.{with_use}
-use Rattle.journal_model.specs.ApplyMoves.{moved, move_packets, frames_left, ghost_of_moved}
-use Rattle.journal_model.specs.ApplyPages.{with_spans, with_kernel_fences}
-use Rattle.journal_model.specs.Holds.{spans_in}
-use Rattle.journal_model.specs.Places.{frames_of}
-use Rattle.journal_model.specs.State.{buffer_in, changed, live_in}
-use Rattle.journal_model.specs.Waits.{unfinished, use_of, jobs_before_write, jobs_before_use}
+use Rattle.journal_model.specs.rules.ApplyCommands.{ghost_of_freed}
+use Rattle.journal_model.specs.rules.ApplyJobs.{with_use}
+use Rattle.journal_model.specs.rules.ApplyMoves.{moved, move_packets, frames_left, ghost_of_moved}
+use Rattle.journal_model.specs.rules.ApplyPages.{with_spans, with_kernel_fences}
+use Rattle.journal_model.specs.rules.Holds.{spans_in}
+use Rattle.journal_model.specs.rules.Places.{frames_of}
+use Rattle.journal_model.specs.rules.State.{buffer_in, changed, live_in}
+use Rattle.journal_model.specs.rules.Waits.{unfinished, use_of, jobs_before_write, jobs_before_use}
 use Rattle.laws.specs.law_state.GoodState.{last_number}
 use Rattle.room_representation.specs.declared.parts.Ghost.{Ghost}
 use Rattle.room_representation.specs.Fences.{WaitsFor, AreFences, set_at, with_use_in}

@@ -9,8 +9,8 @@ use Rattle.fence_core.specs.declared.timeline.Progress.{Progress}
 use Rattle.fence_core.specs.Timelines.{no_jobs, progress_of, with_done}
 use Rattle.copy_engine.specs.Pushes.{Pushed, ring_of, head_ran, with_ran, without_head}
 use Rattle.journal_model.specs.declared.state.Job.{Job}
-use Rattle.journal_model.specs.ApplyJobs.{changed_job}
-use Rattle.journal_model.specs.Waits.{same_job}
+use Rattle.journal_model.specs.rules.ApplyJobs.{changed_job}
+use Rattle.journal_model.specs.rules.Waits.{same_job}
 use Rattle.laws.specs.law_state.GoodState.{last_number}
 use Rattle.laws.specs.law_jobs.JobLines.{jobs_of, unfinished_of, numbers_of, done_of}
 use Rattle.laws.proofs.law_jobs.Lists.{kept_passing, counted}

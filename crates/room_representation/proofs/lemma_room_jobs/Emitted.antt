@@ -11,7 +11,7 @@ use Rattle.fence_core.specs.declared.fence_set.Latest.{Latest}
 use Rattle.fence_core.specs.Timelines.{no_jobs, progress_of, with_emitted}
 use Rattle.copy_engine.specs.Pushes.{Pushed, ring_of, with_pushed}
 use Rattle.journal_model.specs.declared.state.Job.{Job}
-use Rattle.journal_model.specs.Waits.{same_job}
+use Rattle.journal_model.specs.rules.Waits.{same_job}
 use Rattle.laws.specs.law_state.GoodState.{last_number}
 use Rattle.laws.specs.law_jobs.JobLines.{jobs_of, unfinished_of, numbers_of, done_of}
 use Rattle.laws.proofs.law_jobs.Lists.{counted}

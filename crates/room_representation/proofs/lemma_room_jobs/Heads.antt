@@ -13,10 +13,10 @@ use Rattle.journal_model.specs.declared.entry.Kind.{Kind}
 use Rattle.journal_model.specs.declared.entry.Kind.TheVariants as kind
 use Rattle.journal_model.specs.declared.state.Job.{Job}
 use Rattle.journal_model.specs.declared.state.State.{State}
-use Rattle.journal_model.specs.Next.{next, head_of, step_of_job}
-use Rattle.journal_model.specs.PageSteps.{unless_waiting}
-use Rattle.journal_model.specs.Search.{Step}
-use Rattle.journal_model.specs.Waits.{waited_for}
+use Rattle.journal_model.specs.rules.Next.{next, head_of, step_of_job}
+use Rattle.journal_model.specs.rules.PageSteps.{unless_waiting}
+use Rattle.journal_model.specs.rules.Search.{Step}
+use Rattle.journal_model.specs.rules.Waits.{waited_for}
 use Rattle.laws.specs.law_jobs.JobLines.{unfinished_of}
 use Rattle.room_representation.specs.RingJobs.{IsPushed, IsRing, AreRings}
 use Rattle.room_representation.proofs.lemma_room_jobs.Lists.{find_is}

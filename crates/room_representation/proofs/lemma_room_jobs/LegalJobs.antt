@@ -13,12 +13,12 @@ use Rattle.journal_model.specs.declared.entry.Kind.{Kind}
 use Rattle.journal_model.specs.declared.entry.Kind.TheVariants as kind
 use Rattle.journal_model.specs.declared.entry.Left.{Left}
 use Rattle.journal_model.specs.declared.state.State.{State}
-use Rattle.journal_model.specs.Next.{next}
-use Rattle.journal_model.specs.PageSteps.{next_job}
-use Rattle.journal_model.specs.ScriptRules.{is_script}
-use Rattle.journal_model.specs.Legal.{World, IsLegal, IsLegalNext, state_of}
-use Rattle.journal_model.specs.Places.{aperture}
-use Rattle.journal_model.specs.Stores.{showing, job_packet}
+use Rattle.journal_model.specs.rules.Next.{next}
+use Rattle.journal_model.specs.rules.PageSteps.{next_job}
+use Rattle.journal_model.specs.scripts.ScriptRules.{is_script}
+use Rattle.journal_model.specs.rules.Legal.{World, IsLegal, IsLegalNext, state_of}
+use Rattle.journal_model.specs.rules.Places.{aperture}
+use Rattle.journal_model.specs.rules.Stores.{showing, job_packet}
 use Rattle.laws.proofs.law_state.Shown.{legal_step}
 use Rattle.laws.specs.law_state.GoodState.{last_number}
 use Rattle.laws.proofs.law_state.Counters.{is_left, next_counted}

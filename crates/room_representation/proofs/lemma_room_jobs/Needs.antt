@@ -22,8 +22,8 @@ use Rattle.journal_model.specs.declared.state.Buffer.{Buffer}
 use Rattle.journal_model.specs.declared.state.Core.{Core}
 use Rattle.journal_model.specs.declared.state.Ghost as state
 use Rattle.journal_model.specs.declared.state.Job.{Job}
-use Rattle.journal_model.specs.State.{buffer_in, new_buffer}
-use Rattle.journal_model.specs.Waits.{same_job, changes, waited_for, jobs_before_read, jobs_before_write}
+use Rattle.journal_model.specs.rules.State.{buffer_in, new_buffer}
+use Rattle.journal_model.specs.rules.Waits.{same_job, changes, waited_for, jobs_before_read, jobs_before_write}
 use Rattle.laws.specs.law_state.GoodState.{last_number}
 use Rattle.laws.specs.law_jobs.JobLines.{unfinished_of, numbers_of, done_of}
 use Rattle.room_representation.specs.declared.parts.Ghost.{Ghost}

@@ -19,8 +19,8 @@ use Rattle.swap_store.specs.Slots.{SwapSlots}
 use Rattle.journal_model.specs.declared.script.Script.{Script}
 use Rattle.journal_model.specs.declared.script.Sizes.{Sizes}
 use Rattle.journal_model.specs.declared.state.Core.{Core}
-use Rattle.journal_model.specs.Places.{aperture}
-use Rattle.journal_model.specs.Stores.{is_there, within}
+use Rattle.journal_model.specs.rules.Places.{aperture}
+use Rattle.journal_model.specs.rules.Stores.{is_there, within}
 use Rattle.laws.specs.law_transparent.NamedPlaces as named
 use Rattle.laws.specs.law_transparent.NamedPlaces.{IsRunnable}
 use Rattle.room_representation.specs.Pages.{AreSlots, AreStores, HasNoMore}

@@ -11,10 +11,10 @@ use Rattle.copy_packet.specs.Runs.{CanRun}
 use Rattle.copy_packet.specs.declared.stores.Stores.{Stores}
 use Rattle.journal_model.specs.declared.script.Script.{Script}
 use Rattle.journal_model.specs.declared.state.State.{State}
-use Rattle.journal_model.specs.ApplyJobs.{after_done, after_packet_run}
-use Rattle.journal_model.specs.Holds.{held_slots}
-use Rattle.journal_model.specs.Places.{aperture}
-use Rattle.journal_model.specs.Stores.{job_packet, within}
+use Rattle.journal_model.specs.rules.ApplyJobs.{after_done, after_packet_run}
+use Rattle.journal_model.specs.rules.Holds.{held_slots}
+use Rattle.journal_model.specs.rules.Places.{aperture}
+use Rattle.journal_model.specs.rules.Stores.{job_packet, within}
 use Rattle.laws.specs.law_transparent.NamedPlaces.{NameWhatIsThere}
 use Rattle.room_representation.specs.declared.parts.Parts.{Parts}
 use Rattle.room_representation.specs.Lines.{AreInLine}

@@ -6,8 +6,8 @@ use Rattle.ttm_base.specs.declared.JobId.{JobId}
 use Rattle.ttm_base.specs.declared.Packet.{Packet}
 use Rattle.journal_model.specs.declared.state.Core.{Core}
 use Rattle.journal_model.specs.declared.state.Job.{Job}
-use Rattle.journal_model.specs.Stores.{job_packet, no_packet}
-use Rattle.journal_model.specs.Waits.{same_job}
+use Rattle.journal_model.specs.rules.Stores.{job_packet, no_packet}
+use Rattle.journal_model.specs.rules.Waits.{same_job}
 use Rattle.laws.specs.law_state.GoodState.{last_number}
 use Rattle.laws.specs.law_jobs.JobLines.{unfinished_of, numbers_of, done_of}
 use Rattle.laws.proofs.law_jobs.Lists.{length-count}

@@ -17,10 +17,10 @@ use Rattle.fence_core.proofs.AddLaws.{set_of_both, set_of_more, length-after}
 use Rattle.journal_model.specs.declared.state.Buffer.{Buffer}
 use Rattle.journal_model.specs.declared.state.Core.{Core}
 use Rattle.journal_model.specs.declared.state.Job.{Job}
-use Rattle.journal_model.specs.State.{buffer_in, live_in, changed}
-use Rattle.journal_model.specs.Waits.{changes, unfinished, is_written, use_of, jobs_before_read, jobs_before_write, jobs_before_use}
-use Rattle.journal_model.specs.ApplyPages.{with_fence}
-use Rattle.journal_model.specs.ApplyJobs.{with_use}
+use Rattle.journal_model.specs.rules.State.{buffer_in, live_in, changed}
+use Rattle.journal_model.specs.rules.Waits.{changes, unfinished, is_written, use_of, jobs_before_read, jobs_before_write, jobs_before_use}
+use Rattle.journal_model.specs.rules.ApplyPages.{with_fence}
+use Rattle.journal_model.specs.rules.ApplyJobs.{with_use}
 use Rattle.room_representation.specs.Fences.{fences_of, jobs_in, is_unfinished_in, unfinished_in, is_emitted, are_emitted, WaitsFor, AreFences, set_at, with_use_in, without_jobs_in}
 use Rattle.room_representation.proofs.lemma_room_jobs.Lists.{both, all_append, all_filter, all_set, filter_append, filter_again, map_append, map_set, is_there, unseen, still_there}
 use Rattle.room_representation.proofs.lemma_room_jobs.Needs.{covered_all, changes_covered, known_of, set_is, fences_known, fences_in}

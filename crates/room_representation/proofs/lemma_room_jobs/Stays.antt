@@ -8,12 +8,12 @@ use Rattle.ttm_base.specs.declared.Mem.{Mem}
 use Rattle.ttm_base.specs.declared.Mem.TheVariants.{System, Tt, Vram}
 use Rattle.ttm_base.specs.declared.Op.{Op}
 use Rattle.journal_model.specs.declared.state.Buffer.{Buffer}
-use Rattle.journal_model.specs.State.{changed}
-use Rattle.journal_model.specs.Holds.{live_entry}
-use Rattle.journal_model.specs.Places.{pages_of, frame_of, frames_of, slot_of, slots_of, mapped_frame, mapped_in}
-use Rattle.journal_model.specs.Waits.{use_of}
-use Rattle.journal_model.specs.ApplyPages.{with_fence}
-use Rattle.journal_model.specs.ApplyJobs.{with_use}
+use Rattle.journal_model.specs.rules.State.{changed}
+use Rattle.journal_model.specs.rules.Holds.{live_entry}
+use Rattle.journal_model.specs.rules.Places.{pages_of, frame_of, frames_of, slot_of, slots_of, mapped_frame, mapped_in}
+use Rattle.journal_model.specs.rules.Waits.{use_of}
+use Rattle.journal_model.specs.rules.ApplyPages.{with_fence}
+use Rattle.journal_model.specs.rules.ApplyJobs.{with_use}
 use Rattle.room_representation.proofs.lemma_room_jobs.Lists.{there}
 
 -- the change leaves a buffer where it stands

@@ -6,10 +6,10 @@ use Rattle.ttm_base.specs.declared.BufId.{BufId}
 use Rattle.ttm_base.specs.declared.JobId.{JobId}
 use Rattle.ttm_base.specs.declared.Op.{Op}
 use Rattle.journal_model.specs.declared.state.Buffer.{Buffer}
-use Rattle.journal_model.specs.State.{changed}
-use Rattle.journal_model.specs.Waits.{use_of}
-use Rattle.journal_model.specs.ApplyPages.{with_fence}
-use Rattle.journal_model.specs.ApplyJobs.{with_use}
+use Rattle.journal_model.specs.rules.State.{changed}
+use Rattle.journal_model.specs.rules.Waits.{use_of}
+use Rattle.journal_model.specs.rules.ApplyPages.{with_fence}
+use Rattle.journal_model.specs.rules.ApplyJobs.{with_use}
 use Rattle.room_representation.specs.Bos.{unfenced}
 use Rattle.room_representation.proofs.lemma_room_jobs.Lists.{there}
 

@@ -8,8 +8,8 @@ use Rattle.lru_bulk.specs.declared.nodes.Listing.{Listing}
 use Rattle.journal_model.specs.declared.script.Script.{Script}
 use Rattle.journal_model.specs.declared.state.Buffer.{Buffer}
 use Rattle.journal_model.specs.declared.state.Reservation.{Reservation}
-use Rattle.journal_model.specs.State.{live_in, reservation_in, no_reservation, changed, reservation_changed}
-use Rattle.journal_model.specs.Commands.{decl}
+use Rattle.journal_model.specs.rules.State.{live_in, reservation_in, no_reservation, changed, reservation_changed}
+use Rattle.journal_model.specs.rules.Commands.{decl}
 use Rattle.room_representation.specs.lemma_room_lists.Listed.{listing_as, listing_due}
 
 -- a listing has the group that is declared

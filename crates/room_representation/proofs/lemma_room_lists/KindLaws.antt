@@ -15,13 +15,13 @@ use Rattle.journal_model.specs.declared.entry.Left.{Left}
 use Rattle.journal_model.specs.declared.state.State.{State}
 use Rattle.journal_model.specs.declared.state.Buffer.{Buffer}
 use Rattle.journal_model.specs.declared.state.Reservation.{Reservation}
-use Rattle.journal_model.specs.State.{live_in, reservation_in, no_reservation, new_buffer, changed, reservation_changed}
-use Rattle.journal_model.specs.Commands.{decl}
-use Rattle.journal_model.specs.Lists as state
-use Rattle.journal_model.specs.ApplyCommands.{with_holder, released, after_new, after_free, after_bulk, pinned_more, pinned_less}
-use Rattle.journal_model.specs.ApplyPages.{bound, unbound, after_bind, after_unbind}
-use Rattle.journal_model.specs.ApplyMoves.{moved, after_move_job}
-use Rattle.journal_model.specs.ApplyVictims.{after_loose}
+use Rattle.journal_model.specs.rules.State.{live_in, reservation_in, no_reservation, new_buffer, changed, reservation_changed}
+use Rattle.journal_model.specs.rules.Commands.{decl}
+use Rattle.journal_model.specs.rules.Lists as state
+use Rattle.journal_model.specs.rules.ApplyCommands.{with_holder, released, after_new, after_free, after_bulk, pinned_more, pinned_less}
+use Rattle.journal_model.specs.rules.ApplyPages.{bound, unbound, after_bind, after_unbind}
+use Rattle.journal_model.specs.rules.ApplyMoves.{moved, after_move_job}
+use Rattle.journal_model.specs.rules.ApplyVictims.{after_loose}
 use Rattle.room_representation.specs.lemma_room_lists.Listed.{listing_as, listing_due, AreListed, HasLists}
 use Rattle.room_representation.proofs.lemma_room_lists.Due.{listing_as_moved, live_other, reservation_other, due_other, changed_here, changed_due, reservation_changed_due}
 use Rattle.room_representation.proofs.lemma_room_lists.Represents.{touched_representation, relisted_representation, added_representation, removed_representation, untouched_representation, bulk_representation, unseen_representation}

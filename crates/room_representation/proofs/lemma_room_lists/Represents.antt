@@ -15,9 +15,9 @@ use Rattle.lru_bulk.proofs.OtherTests.{bulk_moved-same, touched-same, added-same
 use Rattle.journal_model.specs.declared.script.Script.{Script}
 use Rattle.journal_model.specs.declared.state.Buffer.{Buffer}
 use Rattle.journal_model.specs.declared.state.Reservation.{Reservation}
-use Rattle.journal_model.specs.State.{live_in, reservation_in}
-use Rattle.journal_model.specs.Commands.{decl}
-use Rattle.journal_model.specs.Lists as state
+use Rattle.journal_model.specs.rules.State.{live_in, reservation_in}
+use Rattle.journal_model.specs.rules.Commands.{decl}
+use Rattle.journal_model.specs.rules.Lists as state
 use Rattle.room_representation.specs.lemma_room_lists.Listed.{listing_as, listing_due, AreListed}
 use Rattle.room_representation.proofs.lemma_room_lists.Due.{group_due, other_number}
 

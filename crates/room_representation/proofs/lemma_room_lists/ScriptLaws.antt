@@ -10,10 +10,10 @@ use Rattle.lru_bulk.specs.Lists.{IsGroup, nothing_listed}
 use Rattle.journal_model.specs.declared.script.Script.{Script}
 use Rattle.journal_model.specs.declared.script.Decl.{Decl}
 use Rattle.journal_model.specs.declared.state.Buffer.{Buffer}
-use Rattle.journal_model.specs.State.{reservation_in}
-use Rattle.journal_model.specs.Commands.{decl, undeclared}
-use Rattle.journal_model.specs.ScriptRules.{is_script, is_decl}
-use Rattle.journal_model.specs.Legal.{first_state}
+use Rattle.journal_model.specs.rules.State.{reservation_in}
+use Rattle.journal_model.specs.rules.Commands.{decl, undeclared}
+use Rattle.journal_model.specs.scripts.ScriptRules.{is_script, is_decl}
+use Rattle.journal_model.specs.rules.Legal.{first_state}
 use Rattle.room_representation.specs.lemma_room_lists.Listed.{listing_as, HasLists}
 
 -- what is declared may be listed

@@ -17,12 +17,12 @@ use Rattle.journal_model.specs.declared.entry.Left.TheVariants as left
 use Rattle.journal_model.specs.declared.state.State.{State}
 use Rattle.journal_model.specs.declared.state.Buffer.{Buffer}
 use Rattle.journal_model.specs.declared.state.Ghost.{Ghost}
-use Rattle.journal_model.specs.State.{live_in, buffer, changed, target_spans}
-use Rattle.journal_model.specs.Holds.{spans_in, ghost_spans}
-use Rattle.journal_model.specs.ApplyCommands.{after_free, ghost_of_freed}
-use Rattle.journal_model.specs.ApplyPages.{with_spans, bound, unbound, after_bind, after_unbind}
-use Rattle.journal_model.specs.ApplyMoves.{moved, ghost_of_moved, ghosts_left, after_move_job}
-use Rattle.journal_model.specs.ApplyJobs.{after_reap}
+use Rattle.journal_model.specs.rules.State.{live_in, buffer, changed, target_spans}
+use Rattle.journal_model.specs.rules.Holds.{spans_in, ghost_spans}
+use Rattle.journal_model.specs.rules.ApplyCommands.{after_free, ghost_of_freed}
+use Rattle.journal_model.specs.rules.ApplyPages.{with_spans, bound, unbound, after_bind, after_unbind}
+use Rattle.journal_model.specs.rules.ApplyMoves.{moved, ghost_of_moved, ghosts_left, after_move_job}
+use Rattle.journal_model.specs.rules.ApplyJobs.{after_reap}
 use Rattle.room_representation.specs.lemma_room_spans.Owned.{owned, with_owner, HoldsAs, HoldsAsIn}
 use Rattle.room_representation.specs.lemma_room_spans.Calls.{given, passed_on, arrived, left_by, carried, freed}
 use Rattle.room_representation.proofs.lemma_room_spans.Held.{told_as, is_fresh, given_representation, passed_representation}

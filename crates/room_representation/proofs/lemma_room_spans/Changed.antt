@@ -11,8 +11,8 @@ use Rattle.resource_core.specs.Resources.{same_owner}
 use Rattle.resource_core.proofs.OwnerLaws.{owner_is}
 use Rattle.journal_model.specs.declared.state.Buffer.{Buffer}
 use Rattle.journal_model.specs.declared.state.Ghost.{Ghost}
-use Rattle.journal_model.specs.State.{live_in, changed, target_spans}
-use Rattle.journal_model.specs.Holds.{spans_in, ghost_spans}
+use Rattle.journal_model.specs.rules.State.{live_in, changed, target_spans}
+use Rattle.journal_model.specs.rules.Holds.{spans_in, ghost_spans}
 use Rattle.room_representation.specs.lemma_room_spans.Owned.{owned, with_owner}
 
 -- ---- spans by owner

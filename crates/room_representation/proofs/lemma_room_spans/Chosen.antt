@@ -19,9 +19,9 @@ use Rattle.resource_core.specs.BuddyTaken.{buddy_takes_free, buddy_takes_some}
 use Rattle.resource_core.specs.RangeTaken.{range_takes_free, range_takes_some}
 use Rattle.journal_model.specs.declared.script.Script.{Script}
 use Rattle.journal_model.specs.declared.state.Core.{Core}
-use Rattle.journal_model.specs.Commands.{decl}
-use Rattle.journal_model.specs.Choice.{choice, choice_in, range_at, blocks_at}
-use Rattle.journal_model.specs.Holds.{size_of, is_free_page}
+use Rattle.journal_model.specs.rules.Commands.{decl}
+use Rattle.journal_model.specs.rules.Choice.{choice, choice_in, range_at, blocks_at}
+use Rattle.journal_model.specs.rules.Holds.{size_of, is_free_page}
 use Rattle.room_representation.specs.lemma_room_spans.Owned.{FirstOfNumber, HoldsAsOwned, HoldsVram, kind_of}
 use Rattle.room_representation.proofs.lemma_room_spans.Free.{free_same}
 

@@ -18,14 +18,14 @@ use Rattle.journal_model.specs.declared.entry.Left.{Left}
 use Rattle.journal_model.specs.declared.entry.Left.TheVariants as left
 use Rattle.journal_model.specs.declared.state.State.{State}
 use Rattle.journal_model.specs.declared.state.Ghost.{Ghost}
-use Rattle.journal_model.specs.State.{live_in, buffer, target_spans}
-use Rattle.journal_model.specs.Holds.{size_of}
-use Rattle.journal_model.specs.Next.{next}
-use Rattle.journal_model.specs.PageSteps.{next_ghost}
-use Rattle.journal_model.specs.Apply.{applied}
-use Rattle.journal_model.specs.ApplyPages.{after_unbind}
-use Rattle.journal_model.specs.ScriptRules.{is_script}
-use Rattle.journal_model.specs.Legal.{IsLegal, state_of}
+use Rattle.journal_model.specs.rules.State.{live_in, buffer, target_spans}
+use Rattle.journal_model.specs.rules.Holds.{size_of}
+use Rattle.journal_model.specs.rules.Next.{next}
+use Rattle.journal_model.specs.rules.PageSteps.{next_ghost}
+use Rattle.journal_model.specs.rules.Apply.{applied}
+use Rattle.journal_model.specs.rules.ApplyPages.{after_unbind}
+use Rattle.journal_model.specs.scripts.ScriptRules.{is_script}
+use Rattle.journal_model.specs.rules.Legal.{IsLegal, state_of}
 use Rattle.laws.proofs.law_sound.Along.{OfWorker, packet, done, reap}
 use Rattle.laws.specs.lemma_bytes_told.Told.{is_still, IsThere, Told, still, makes, frees, leaves, takes, untakes, populates, swaps_in, depopulates, binds, unbinds, moves_up, moves_across, moves_down, evicts, catches, swaps_out, arms, reads, writes, results}
 use Rattle.room_representation.specs.lemma_room_spans.Owned.{FirstOfNumber, HoldsAsIn}

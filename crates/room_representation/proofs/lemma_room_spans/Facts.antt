@@ -8,9 +8,9 @@ use Rattle.ttm_base.specs.declared.Span.{Span}
 use Rattle.ttm_base.specs.Reach.{same_mem}
 use Rattle.journal_model.specs.declared.state.Buffer.{Buffer}
 use Rattle.journal_model.specs.declared.state.Ghost.{Ghost}
-use Rattle.journal_model.specs.State.{has_target, target_of, target_spans}
-use Rattle.journal_model.specs.Holds.{spans_in}
-use Rattle.journal_model.specs.Ready.{has_some_target}
+use Rattle.journal_model.specs.rules.State.{has_target, target_of, target_spans}
+use Rattle.journal_model.specs.rules.Holds.{spans_in}
+use Rattle.journal_model.specs.rules.Ready.{has_some_target}
 
 -- ---- spans and targets of a buffer
 

@@ -18,9 +18,9 @@ use Rattle.resource_core.proofs.OwnedLaws.{kept_some}
 use Rattle.journal_model.specs.declared.state.Core.{Core}
 use Rattle.journal_model.specs.declared.state.Buffer.{Buffer}
 use Rattle.journal_model.specs.declared.state.Ghost.{Ghost}
-use Rattle.journal_model.specs.State.{live_in, target_spans}
-use Rattle.journal_model.specs.Holds as state
-use Rattle.journal_model.specs.Holds.{Hold, held_spans, is_free_page, live_entry, live_buffers, buffer_holds, ghost_hold, spans_in, ghost_spans}
+use Rattle.journal_model.specs.rules.State.{live_in, target_spans}
+use Rattle.journal_model.specs.rules.Holds as state
+use Rattle.journal_model.specs.rules.Holds.{Hold, held_spans, is_free_page, live_entry, live_buffers, buffer_holds, ghost_hold, spans_in, ghost_spans}
 use Rattle.room_representation.specs.lemma_room_spans.Owned.{owned, FirstOfNumber, HoldsAsOwned}
 
 -- ---- some of a list

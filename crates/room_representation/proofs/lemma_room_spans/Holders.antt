@@ -7,8 +7,8 @@ use Rattle.ttm_base.specs.declared.Owner.TheVariants as owner
 use Rattle.resource_core.specs.Resources.{Resources, holds, kept_by, some_spans}
 use Rattle.journal_model.specs.declared.state.State.{State}
 use Rattle.journal_model.specs.declared.state.Ghost.{Ghost}
-use Rattle.journal_model.specs.State.{live_in, buffer, target_spans}
-use Rattle.journal_model.specs.Holds.{spans_in, ghost_spans}
+use Rattle.journal_model.specs.rules.State.{live_in, buffer, target_spans}
+use Rattle.journal_model.specs.rules.Holds.{spans_in, ghost_spans}
 use Rattle.room_representation.specs.lemma_room_spans.Owned.{FirstOfNumber, HoldsAsIn}
 use Rattle.room_representation.proofs.lemma_room_spans.Held.{holds_is, is_fresh}
 

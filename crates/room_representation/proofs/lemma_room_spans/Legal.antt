@@ -21,14 +21,14 @@ use Rattle.journal_model.specs.declared.state.Task.TheVariants as task
 use Rattle.journal_model.specs.declared.entry.Entry.{Entry}
 use Rattle.journal_model.specs.declared.entry.Kind.{Kind}
 use Rattle.journal_model.specs.declared.entry.Kind.TheVariants as kind
-use Rattle.journal_model.specs.State.{buffer, course, has_buffer, has_target}
-use Rattle.journal_model.specs.Choice.{choice}
-use Rattle.journal_model.specs.Commands.{named, whole}
-use Rattle.journal_model.specs.Next.{next}
-use Rattle.journal_model.specs.Ready.{has_some_target, is_in_place, is_filled, is_ready, meets, first_unready}
-use Rattle.journal_model.specs.Search.{PlaceSearch, place_search, through_tt, is_caught}
-use Rattle.journal_model.specs.ScriptRules.{is_script}
-use Rattle.journal_model.specs.Legal.{IsLegal, state_of}
+use Rattle.journal_model.specs.rules.State.{buffer, course, has_buffer, has_target}
+use Rattle.journal_model.specs.rules.Choice.{choice}
+use Rattle.journal_model.specs.rules.Commands.{named, whole}
+use Rattle.journal_model.specs.rules.Next.{next}
+use Rattle.journal_model.specs.rules.Ready.{has_some_target, is_in_place, is_filled, is_ready, meets, first_unready}
+use Rattle.journal_model.specs.rules.Search.{PlaceSearch, place_search, through_tt, is_caught}
+use Rattle.journal_model.specs.scripts.ScriptRules.{is_script}
+use Rattle.journal_model.specs.rules.Legal.{IsLegal, state_of}
 use Rattle.laws.proofs.law_sound.Along.{stepped_of, sound_law}
 use Rattle.laws.proofs.law_sound.Bufs.{same_self, none_found}
 use Rattle.laws.proofs.law_sound.Gifts as gifts

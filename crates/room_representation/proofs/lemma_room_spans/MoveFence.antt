@@ -17,7 +17,7 @@ use Rattle.journal_model.specs.declared.entry.Kind.TheVariants as kind
 use Rattle.journal_model.specs.declared.entry.Left.{Left}
 use Rattle.journal_model.specs.declared.entry.Left.TheVariants as left
 use Rattle.journal_model.specs.declared.state.State.{State}
-use Rattle.journal_model.specs.Apply.{applied}
+use Rattle.journal_model.specs.rules.Apply.{applied}
 use Rattle.room_representation.specs.lemma_room_spans.Owned.{HoldsAs}
 use Rattle.room_representation.specs.lemma_room_spans.Calls.{held_by, given, passed_on, taken, untaken, arrived, left_by, carried, freed, unbound_in, behind, fence_behind}
 

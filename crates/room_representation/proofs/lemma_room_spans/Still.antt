@@ -13,13 +13,13 @@ use Rattle.journal_model.specs.declared.state.Core.{Core}
 use Rattle.journal_model.specs.declared.state.State.{State}
 use Rattle.journal_model.specs.declared.state.Buffer.{Buffer}
 use Rattle.journal_model.specs.declared.state.Ghost.{Ghost}
-use Rattle.journal_model.specs.State.{live_in, changed, new_buffer, target_spans}
-use Rattle.journal_model.specs.Commands.{decl, command_at_work}
-use Rattle.journal_model.specs.Holds.{spans_in}
-use Rattle.journal_model.specs.ApplyCommands.{after_new, named_in}
-use Rattle.journal_model.specs.ApplyPages.{after_populate, after_swap_in, after_swap_out, after_depopulate}
-use Rattle.journal_model.specs.ApplyVictims.{leaves_tt, after_catch}
-use Rattle.journal_model.specs.ApplyJobs.{with_use, ops_of, after_arm, after_packet_run, after_done}
+use Rattle.journal_model.specs.rules.State.{live_in, changed, new_buffer, target_spans}
+use Rattle.journal_model.specs.rules.Commands.{decl, command_at_work}
+use Rattle.journal_model.specs.rules.Holds.{spans_in}
+use Rattle.journal_model.specs.rules.ApplyCommands.{after_new, named_in}
+use Rattle.journal_model.specs.rules.ApplyPages.{after_populate, after_swap_in, after_swap_out, after_depopulate}
+use Rattle.journal_model.specs.rules.ApplyVictims.{leaves_tt, after_catch}
+use Rattle.journal_model.specs.rules.ApplyJobs.{with_use, ops_of, after_arm, after_packet_run, after_done}
 use Rattle.room_representation.specs.lemma_room_spans.Owned.{HoldsAsOwned, HoldsAsIn}
 use Rattle.room_representation.proofs.lemma_room_spans.Held.{told_as}
 use Rattle.room_representation.proofs.lemma_room_spans.Changed.{told_kept, told_made, same_owned}

@@ -13,11 +13,11 @@ use Rattle.journal_model.specs.declared.script.Script.{Script}
 use Rattle.journal_model.specs.declared.entry.Entry.{Entry}
 use Rattle.journal_model.specs.declared.entry.Kind.TheVariants as kind
 use Rattle.journal_model.specs.declared.state.State.{State}
-use Rattle.journal_model.specs.State.{live_in, buffer}
-use Rattle.journal_model.specs.Holds.{size_of}
-use Rattle.journal_model.specs.Next.{next}
-use Rattle.journal_model.specs.ScriptRules.{is_script}
-use Rattle.journal_model.specs.Legal.{IsLegal, state_of}
+use Rattle.journal_model.specs.rules.State.{live_in, buffer}
+use Rattle.journal_model.specs.rules.Holds.{size_of}
+use Rattle.journal_model.specs.rules.Next.{next}
+use Rattle.journal_model.specs.scripts.ScriptRules.{is_script}
+use Rattle.journal_model.specs.rules.Legal.{IsLegal, state_of}
 use Rattle.room_representation.specs.lemma_room_spans.Owned.{FirstOfNumber, HoldsAsIn}
 use Rattle.room_representation.proofs.lemma_room_spans.Chosen.{tt_free, tt_some, vram_free, vram_some}
 use Rattle.room_representation.proofs.lemma_room_spans.Declared.{live_asks}

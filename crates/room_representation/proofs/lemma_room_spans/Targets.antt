@@ -13,10 +13,10 @@ use Rattle.ttm_base.specs.Reach.{same_mem}
 use Rattle.resource_core.specs.Resources.{Resources}
 use Rattle.journal_model.specs.declared.state.State.{State}
 use Rattle.journal_model.specs.declared.state.Buffer.{Buffer}
-use Rattle.journal_model.specs.State.{live_in, buffer, changed, target_spans}
-use Rattle.journal_model.specs.Holds.{spans_in}
-use Rattle.journal_model.specs.Waits.{jobs_before_target}
-use Rattle.journal_model.specs.ApplyPages.{with_fence, with_spans, with_kernel_fences, after_take, after_untake}
+use Rattle.journal_model.specs.rules.State.{live_in, buffer, changed, target_spans}
+use Rattle.journal_model.specs.rules.Holds.{spans_in}
+use Rattle.journal_model.specs.rules.Waits.{jobs_before_target}
+use Rattle.journal_model.specs.rules.ApplyPages.{with_fence, with_spans, with_kernel_fences, after_take, after_untake}
 use Rattle.room_representation.specs.lemma_room_spans.Owned.{owned, with_owner, HoldsAsIn}
 use Rattle.room_representation.specs.lemma_room_spans.Calls.{held_by, given, taken, untaken}
 use Rattle.room_representation.proofs.lemma_room_spans.Held.{told_as, held_representation, given_representation}

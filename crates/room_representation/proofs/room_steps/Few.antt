@@ -16,20 +16,20 @@ use Rattle.journal_model.specs.declared.script.Decl.{Decl}
 use Rattle.journal_model.specs.declared.state.SearchAim.{SearchAim}
 use Rattle.journal_model.specs.declared.state.SearchAim.TheVariants.{Asked, Hop}
 use Rattle.journal_model.specs.declared.state.Course.{Course}
-use Rattle.journal_model.specs.Commands.{commands_of, decl, undeclared, asked_places}
-use Rattle.journal_model.specs.CommandRules.{is_between, is_command, command_len}
-use Rattle.journal_model.specs.MarkRules.{has_few_lines, have_marks, are_in_order, is_in_thread, marks_fit, empty_thread_mappings}
-use Rattle.journal_model.specs.ScriptRules.{is_script, has_sizes, is_decl, has_distinct_names, is_turn_line, is_place_list}
-use Rattle.journal_model.specs.Complete.{thread_numbers}
+use Rattle.journal_model.specs.rules.Commands.{commands_of, decl, undeclared, asked_places}
+use Rattle.journal_model.specs.scripts.CommandRules.{is_between, is_command, command_len}
+use Rattle.journal_model.specs.scripts.MarkRules.{has_few_lines, have_marks, are_in_order, is_in_thread, marks_fit, empty_thread_mappings}
+use Rattle.journal_model.specs.scripts.ScriptRules.{is_script, has_sizes, is_decl, has_distinct_names, is_turn_line, is_place_list}
+use Rattle.journal_model.specs.statements.Complete.{thread_numbers}
 use Rattle.journal_model.specs.declared.state.State.{State}
 use Rattle.journal_model.specs.declared.state.Task.{Task}
 use Rattle.journal_model.specs.declared.state.Task.TheVariants as task
 use Rattle.journal_model.specs.declared.entry.DryWhy.{DryWhy}
 use Rattle.journal_model.specs.declared.entry.Kind.TheVariants as kind
-use Rattle.journal_model.specs.Next.{step_of_task}
+use Rattle.journal_model.specs.rules.Next.{step_of_task}
 use Rattle.laws.proofs.law_sound.Gifts.{Gives, seeks, fills}
 use Rattle.laws.proofs.law_state.Courses.{is_dry_below, place_search_dry}
-use Rattle.journal_model.specs.Search.{PlaceSearch, place_search, is_caught, through_tt}
+use Rattle.journal_model.specs.rules.Search.{PlaceSearch, place_search, is_caught, through_tt}
 use Rattle.laws.proofs.law_state.JobsKeep.{all_at}
 use Rattle.laws.proofs.law_state.Lists.{get_within}
 use Rattle.laws.proofs.law_state.Rules.{Rules}

@@ -14,10 +14,10 @@ use Rattle.journal_model.specs.declared.state.Buffer.{Buffer}
 use Rattle.journal_model.specs.declared.state.Course.{Course}
 use Rattle.journal_model.specs.declared.state.Ghost.{Ghost}
 use Rattle.journal_model.specs.declared.state.Reservation.{Reservation}
-use Rattle.journal_model.specs.State.{changed}
-use Rattle.journal_model.specs.ApplyPages as pages
-use Rattle.journal_model.specs.Holds.{ghost_frames}
-use Rattle.journal_model.specs.Places.{pages_of}
+use Rattle.journal_model.specs.rules.State.{changed}
+use Rattle.journal_model.specs.rules.ApplyPages as pages
+use Rattle.journal_model.specs.rules.Holds.{ghost_frames}
+use Rattle.journal_model.specs.rules.Places.{pages_of}
 use Rattle.room_representation.specs.lemma_room_lists.Listed.{AreListed}
 use Rattle.room_representation.proofs.lemma_room_lists.KindLaws.{changed_unseen}
 use Rattle.room_representation.specs.declared.parts.Parts.{Parts}

@@ -9,8 +9,8 @@ use Rattle.journal_model.specs.declared.script.Script.{Script}
 use Rattle.journal_model.specs.declared.state.State.{State}
 use Rattle.journal_model.specs.declared.state.Buffer.{Buffer}
 use Rattle.journal_model.specs.declared.entry.Entry.{Entry}
-use Rattle.journal_model.specs.State.{buffer, is_live, live_in, new_buffer}
-use Rattle.journal_model.specs.Legal.{state_of}
+use Rattle.journal_model.specs.rules.State.{buffer, is_live, live_in, new_buffer}
+use Rattle.journal_model.specs.rules.Legal.{state_of}
 use Rattle.laws.proofs.law_sound.Along.{sound_law}
 use Rattle.laws.specs.lemma_bytes_told.Told.{IsThere}
 use Rattle.room_representation.specs.declared.parts.Parts.{Parts}

@@ -9,10 +9,10 @@ use Rattle.journal_model.specs.declared.state.Course.{Course}
 use Rattle.journal_model.specs.declared.entry.Entry.{Entry}
 use Rattle.journal_model.specs.declared.entry.Kind.{Kind}
 use Rattle.journal_model.specs.declared.entry.Kind.TheVariants as kind
-use Rattle.journal_model.specs.Next.{next}
-use Rattle.journal_model.specs.Apply.{apply}
-use Rattle.journal_model.specs.Stores.{Stores, within, showing, stores_after}
-use Rattle.journal_model.specs.Legal.{World, IsLegalNext, state_of, stores_of, world_of, world_after}
+use Rattle.journal_model.specs.rules.Next.{next}
+use Rattle.journal_model.specs.rules.Apply.{apply}
+use Rattle.journal_model.specs.rules.Stores.{Stores, within, showing, stores_after}
+use Rattle.journal_model.specs.rules.Legal.{World, IsLegalNext, state_of, stores_of, world_of, world_after}
 use Rattle.journal_model.proofs.JournalLaws.{world_of-append, IsLegal-append}
 use Rattle.laws.proofs.law_state.Shown.{legal_step}
 use Rattle.laws.proofs.law_sound.Along.{Stepped, stepped_of, sound_law}

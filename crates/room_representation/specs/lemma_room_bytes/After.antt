@@ -16,9 +16,9 @@ use Rattle.journal_model.specs.declared.state.Buffer.{Buffer}
 use Rattle.journal_model.specs.declared.state.Core.{Core}
 use Rattle.journal_model.specs.declared.state.Ghost.{Ghost}
 use Rattle.journal_model.specs.declared.state.State.{State}
-use Rattle.journal_model.specs.State.{buffer, live_in}
-use Rattle.journal_model.specs.Holds.{free_frame, free_slot}
-use Rattle.journal_model.specs.Places.{frame_of, frames_of, loc_of, page_at, slots_of}
+use Rattle.journal_model.specs.rules.State.{buffer, live_in}
+use Rattle.journal_model.specs.rules.Holds.{free_frame, free_slot}
+use Rattle.journal_model.specs.rules.Places.{frame_of, frames_of, loc_of, page_at, slots_of}
 use Rattle.laws.specs.lemma_bytes_told.Told.{IsThere}
 use Rattle.room_representation.specs.lemma_room_bytes.GivenBack.{given, given_back, taken}
 use Rattle.room_representation.specs.lemma_room_bytes.Tables.{SparesSlots}

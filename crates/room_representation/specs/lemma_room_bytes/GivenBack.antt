@@ -3,7 +3,7 @@ use Rattle.std.specs.Prelude.{ℕ, Bool, true, false, List, [], fold, slice_set}
 use Rattle.ttm_base.specs.declared.Mem.{Mem}
 use Rattle.ttm_base.specs.declared.Mem.TheVariants.{System, Tt, Vram}
 use Rattle.journal_model.specs.declared.state.Buffer.{Buffer}
-use Rattle.journal_model.specs.Places.{slots_of}
+use Rattle.journal_model.specs.rules.Places.{slots_of}
 
 -- the number is held
 abbrev pub taken : List Bool → ℕ → List Bool

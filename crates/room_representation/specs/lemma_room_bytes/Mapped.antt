@@ -9,9 +9,9 @@ use Rattle.journal_model.specs.declared.script.Script.{Script}
 use Rattle.journal_model.specs.declared.entry.Kind.{Kind}
 use Rattle.journal_model.specs.declared.entry.Kind.TheVariants as kind
 use Rattle.journal_model.specs.declared.state.State.{State}
-use Rattle.journal_model.specs.Places.{frame_of, aperture}
-use Rattle.journal_model.specs.Stores.{within, stores_after}
-use Rattle.journal_model.specs.Apply.{applied}
+use Rattle.journal_model.specs.rules.Places.{frame_of, aperture}
+use Rattle.journal_model.specs.rules.Stores.{within, stores_after}
+use Rattle.journal_model.specs.rules.Apply.{applied}
 use Rattle.room_representation.specs.Pages.{AreStores}
 
 -- the stores have the bytes and the aperture of a state

@@ -10,11 +10,11 @@ use Rattle.journal_model.specs.declared.script.Script.{Script}
 use Rattle.journal_model.specs.declared.state.Buffer.{Buffer}
 use Rattle.journal_model.specs.declared.state.Core.{Core}
 use Rattle.journal_model.specs.declared.state.State.{State}
-use Rattle.journal_model.specs.State.{buffer}
-use Rattle.journal_model.specs.Apply.{thread_of}
-use Rattle.journal_model.specs.Commands.{command_at_work}
-use Rattle.journal_model.specs.Holds.{held_frames, held_slots}
-use Rattle.journal_model.specs.Places.{page_at}
+use Rattle.journal_model.specs.rules.State.{buffer}
+use Rattle.journal_model.specs.rules.Apply.{thread_of}
+use Rattle.journal_model.specs.rules.Commands.{command_at_work}
+use Rattle.journal_model.specs.rules.Holds.{held_frames, held_slots}
+use Rattle.journal_model.specs.rules.Places.{page_at}
 
 -- it neither makes nor frees a buffer, nor changes a table, nor moves frames to a ghost or from one
 abbrev pub keeps_tables : Kind → Bool

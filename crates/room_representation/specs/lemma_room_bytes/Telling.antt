@@ -10,8 +10,8 @@ use Rattle.journal_model.specs.declared.entry.Kind.TheVariants as kind
 use Rattle.journal_model.specs.declared.entry.Left.{Left}
 use Rattle.journal_model.specs.declared.entry.Left.TheVariants as left
 use Rattle.journal_model.specs.declared.state.State.{State}
-use Rattle.journal_model.specs.State.{buffer, live_in}
-use Rattle.journal_model.specs.Places.{loc_of}
+use Rattle.journal_model.specs.rules.State.{buffer, live_in}
+use Rattle.journal_model.specs.rules.Places.{loc_of}
 use Rattle.room_representation.specs.lemma_room_bytes.Mapped.{IsFull}
 
 -- a live buffer out of TT

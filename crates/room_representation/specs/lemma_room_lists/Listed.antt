@@ -7,8 +7,8 @@ use Rattle.journal_model.specs.declared.script.Script.{Script}
 use Rattle.journal_model.specs.declared.state.Buffer.{Buffer}
 use Rattle.journal_model.specs.declared.state.Reservation.{Reservation}
 use Rattle.journal_model.specs.declared.state.State.{State}
-use Rattle.journal_model.specs.State.{live_in, reservation_in}
-use Rattle.journal_model.specs.Commands.{decl}
+use Rattle.journal_model.specs.rules.State.{live_in, reservation_in}
+use Rattle.journal_model.specs.rules.Commands.{decl}
 
 -- a live buffer without pins is listed, by its memory type and what is declared of it
 abbrev pub listing_as : Script → BufId → ℕ → Option Buffer → Option Listing

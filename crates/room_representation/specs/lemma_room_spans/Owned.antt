@@ -12,8 +12,8 @@ use Rattle.resource_core.specs.Vram.{Vram}
 use Rattle.journal_model.specs.declared.state.Buffer.{Buffer}
 use Rattle.journal_model.specs.declared.state.Ghost.{Ghost}
 use Rattle.journal_model.specs.declared.state.State.{State}
-use Rattle.journal_model.specs.State.{live_in, target_spans}
-use Rattle.journal_model.specs.Holds.{spans_in, ghost_spans}
+use Rattle.journal_model.specs.rules.State.{live_in, target_spans}
+use Rattle.journal_model.specs.rules.Holds.{spans_in, ghost_spans}
 
 -- what an owner holds of a memory type: a live buffer its own spans, a target those that wait for its buffer, a ghost what was left
 abbrev pub owned : Mem → List (Option Buffer) → List Ghost → Owner → List Span

@@ -5,8 +5,8 @@ use Rattle.ttm_base.specs.declared.Stamp.{Stamp}
 use Rattle.journal_model.specs.declared.script.Script.{Script}
 use Rattle.journal_model.specs.declared.script.Command.{Command}
 use Rattle.journal_model.specs.declared.state.Course.{Course}
-use Rattle.journal_model.specs.State.{new_course, with_course}
-use Rattle.journal_model.specs.Commands.{commands_of}
+use Rattle.journal_model.specs.rules.State.{new_course, with_course}
+use Rattle.journal_model.specs.rules.Commands.{commands_of}
 
 -- the thread's course, if the thread is there
 abbrev pub course_at : List Course → ℕ → Option Course

@@ -1,7 +1,7 @@
 ghost use Rattle.std.specs.Prelude.{◌≡◌, ◌+◌, ◌^◌, ◌<◌, IsSome, Some, OnOk, OnErr};
-ghost use Rattle.journal_model.specs.ApplyCommands as rows;
-ghost use Rattle.journal_model.specs.ApplyPages.{search_over};
-ghost use Rattle.journal_model.specs.ApplyVictims.{with_victim, with_skip, no_longer_caught, with_fail, gone_dry};
+ghost use Rattle.journal_model.specs.rules.ApplyCommands as rows;
+ghost use Rattle.journal_model.specs.rules.ApplyPages.{search_over};
+ghost use Rattle.journal_model.specs.rules.ApplyVictims.{with_victim, with_skip, no_longer_caught, with_fail, gone_dry};
 ghost use Rattle.room_representation.specs.room_steps.Courses.{command_in, course_at, course_in, with_course_by, stamped, with_held, begun_anew};
 
 use journal_model::{Command, Courses, Script, Why};

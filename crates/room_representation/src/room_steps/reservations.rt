@@ -1,6 +1,6 @@
 ghost use Rattle.std.specs.Prelude.{◌≡◌, None};
-ghost use Rattle.journal_model.specs.State.{reservation_in};
-ghost use Rattle.journal_model.specs.ApplyCommands.{with_holder, released};
+ghost use Rattle.journal_model.specs.rules.State.{reservation_in};
+ghost use Rattle.journal_model.specs.rules.ApplyCommands.{with_holder, released};
 ghost use Rattle.bo_table.specs.Seen.{with_reservation};
 
 use bo_table::BoTable;

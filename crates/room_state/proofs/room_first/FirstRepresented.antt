@@ -11,10 +11,10 @@ use Rattle.journal_model.specs.declared.script.Script.{Script}
 use Rattle.journal_model.specs.declared.script.Decl.{Decl}
 use Rattle.journal_model.specs.declared.state.Buffer.{Buffer}
 use Rattle.journal_model.specs.declared.state.State.{State}
-use Rattle.journal_model.specs.ScriptRules.{is_script}
-use Rattle.journal_model.specs.Places.{mapped_in, aperture}
-use Rattle.journal_model.specs.Legal.{first_state}
-use Rattle.journal_model.specs.Stores.{zeros}
+use Rattle.journal_model.specs.scripts.ScriptRules.{is_script}
+use Rattle.journal_model.specs.rules.Places.{mapped_in, aperture}
+use Rattle.journal_model.specs.rules.Legal.{first_state}
+use Rattle.journal_model.specs.rules.Stores.{zeros}
 use Rattle.room_representation.proofs.lemma_room_lists.ScriptLaws.{first_lists}
 use Rattle.room_representation.specs.lemma_room_spans.Owned.{kind_of}
 use Rattle.room_representation.proofs.lemma_room_spans.First.{first_spans}

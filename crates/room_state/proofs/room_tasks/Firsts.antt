@@ -5,8 +5,8 @@ use Rattle.ttm_base.specs.declared.BufId.{BufId}
 use Rattle.ttm_base.specs.declared.Op.{Op}
 use Rattle.journal_model.specs.declared.script.Command.{Command}
 use Rattle.journal_model.specs.declared.script.Command.TheVariants as command
-use Rattle.journal_model.specs.State.{same_buffer, has_buffer}
-use Rattle.journal_model.specs.Commands.{buffers_of_op, first_mentions, named}
+use Rattle.journal_model.specs.rules.State.{same_buffer, has_buffer}
+use Rattle.journal_model.specs.rules.Commands.{buffers_of_op, first_mentions, named}
 use Rattle.laws.proofs.law_sound.Bufs.{same_is}
 use Rattle.room_state.specs.room_tasks.Mentions.{mentioned, mentioned_by}
 

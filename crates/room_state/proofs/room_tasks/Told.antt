@@ -19,11 +19,11 @@ use Rattle.journal_model.specs.declared.state.State.{State}
 use Rattle.journal_model.specs.declared.state.Task.{Task}
 use Rattle.journal_model.specs.declared.state.Task.TheVariants as task
 use Rattle.journal_model.specs.declared.state.Victim.{Victim}
-use Rattle.journal_model.specs.Commands.{commands_of, named}
-use Rattle.journal_model.specs.Legal.{state_of}
-use Rattle.journal_model.specs.Ready.{is_in_place, is_filled, is_ready, first_unready}
-use Rattle.journal_model.specs.State.{buffer, reservation, reservation_in, live_in, new_buffer, new_course}
-use Rattle.journal_model.specs.Tasks.{starts, first_missing, forbidden, gives_back, task_of_victim, task_of_failed, task_of_misplaced, task_of_unready, task_of_held, task_of_command, task_of}
+use Rattle.journal_model.specs.rules.Commands.{commands_of, named}
+use Rattle.journal_model.specs.rules.Legal.{state_of}
+use Rattle.journal_model.specs.rules.Ready.{is_in_place, is_filled, is_ready, first_unready}
+use Rattle.journal_model.specs.rules.State.{buffer, reservation, reservation_in, live_in, new_buffer, new_course}
+use Rattle.journal_model.specs.rules.Tasks.{starts, first_missing, forbidden, gives_back, task_of_victim, task_of_failed, task_of_misplaced, task_of_unready, task_of_held, task_of_command, task_of}
 use Rattle.laws.proofs.law_sound.Along.{sound_law}
 use Rattle.room_representation.specs.declared.parts.Parts.{Parts}
 use Rattle.room_representation.specs.Bos.{AreBos, unfenced}

@@ -13,8 +13,8 @@ use Rattle.journal_model.specs.declared.state.Reservation.{Reservation}
 use Rattle.journal_model.specs.declared.state.Victim.{Victim}
 use Rattle.journal_model.specs.declared.state.SearchAim.TheVariants.{Asked}
 use Rattle.journal_model.specs.declared.state.Task.TheVariants as task
-use Rattle.journal_model.specs.Ready.{has_some_target, meets, is_in_place, is_filled}
-use Rattle.journal_model.specs.Tasks.{task_of_victim, carried, task_of_misplaced}
+use Rattle.journal_model.specs.rules.Ready.{has_some_target, meets, is_in_place, is_filled}
+use Rattle.journal_model.specs.rules.Tasks.{task_of_victim, carried, task_of_misplaced}
 use Rattle.room_representation.specs.Bos.{unfenced}
 
 meets_same : (script : Script) (cmd : Command) (b : BufId) (x : Buffer) → meets script cmd b (unfenced x) ≡ meets script cmd b x

@@ -16,19 +16,19 @@ use Rattle.journal_model.specs.declared.state.Stage.TheVariants as stage
 use Rattle.journal_model.specs.declared.state.Task.{Task}
 use Rattle.journal_model.specs.declared.state.Task.TheVariants as task
 use Rattle.journal_model.specs.declared.entry.Entry.{Entry}
-use Rattle.journal_model.specs.State.{course, has_buffer}
-use Rattle.journal_model.specs.Commands.{asked_places, command_at_work}
-use Rattle.journal_model.specs.Ready.{is_ready}
-use Rattle.journal_model.specs.ScriptRules.{is_script}
-use Rattle.journal_model.specs.Search.{is_caught, place_search, step_of_place_search}
-use Rattle.journal_model.specs.Next.{next}
-use Rattle.journal_model.specs.Tasks.{task_of, stage_of}
-use Rattle.journal_model.specs.Legal.{IsLegal, state_of}
+use Rattle.journal_model.specs.rules.State.{course, has_buffer}
+use Rattle.journal_model.specs.rules.Commands.{asked_places, command_at_work}
+use Rattle.journal_model.specs.rules.Ready.{is_ready}
+use Rattle.journal_model.specs.scripts.ScriptRules.{is_script}
+use Rattle.journal_model.specs.rules.Search.{is_caught, place_search, step_of_place_search}
+use Rattle.journal_model.specs.rules.Next.{next}
+use Rattle.journal_model.specs.rules.Tasks.{task_of, stage_of}
+use Rattle.journal_model.specs.rules.Legal.{IsLegal, state_of}
 use Rattle.laws.proofs.law_state.GoodStates.{good_law}
 use Rattle.laws.proofs.law_sound.Along.{sound_law}
 use Rattle.laws.proofs.law_sound.Bufs.{has_found, last_caught, none_missing}
 use Rattle.laws.proofs.law_sound.Turns.{Turn, OnBuffer, turn_of, victim_search, ask, hop_up, hop_down}
-use Rattle.journal_model.specs.Commands.{named}
+use Rattle.journal_model.specs.rules.Commands.{named}
 use Rattle.room_state.specs.room_turns.Searching.{buffer_search_in, buffer_search_of}
 use Rattle.room_state.specs.room_turns.Searching as searching
 use Rattle.room_state.proofs.room_turns.Threads.{command_at, next_at, task_at}

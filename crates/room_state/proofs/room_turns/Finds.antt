@@ -9,10 +9,10 @@ use Rattle.journal_model.specs.declared.script.Script.{Script}
 use Rattle.journal_model.specs.declared.state.Course.{Course}
 use Rattle.journal_model.specs.declared.state.State.{State}
 use Rattle.journal_model.specs.declared.entry.Kind.TheVariants as kind
-use Rattle.journal_model.specs.State.{course}
-use Rattle.journal_model.specs.Choice.{choice}
-use Rattle.journal_model.specs.Search.{Step, first_choice, step_of_crowded, step_of_place_search}
-use Rattle.journal_model.specs.Next.{next}
+use Rattle.journal_model.specs.rules.State.{course}
+use Rattle.journal_model.specs.rules.Choice.{choice}
+use Rattle.journal_model.specs.rules.Search.{Step, first_choice, step_of_crowded, step_of_place_search}
+use Rattle.journal_model.specs.rules.Next.{next}
 use Rattle.room_state.specs.room_turns.Searching.{BufferSearch, finds_choice, has_choice, buffer_search_of, place_at_work}
 use Rattle.room_state.proofs.room_turns.BufferSearched.{buffer_searcher_next}
 

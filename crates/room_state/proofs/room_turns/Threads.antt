@@ -14,11 +14,11 @@ use Rattle.journal_model.specs.declared.state.Task.{Task}
 use Rattle.journal_model.specs.declared.state.Task.TheVariants as task
 use Rattle.journal_model.specs.declared.entry.Kind.{Kind}
 use Rattle.journal_model.specs.declared.entry.Kind.TheVariants as kind
-use Rattle.journal_model.specs.State.{course, course_of}
-use Rattle.journal_model.specs.Commands.{command_at_work, commands_of}
-use Rattle.journal_model.specs.Next.{next, step_of_task}
-use Rattle.journal_model.specs.Tasks.{task_of, task_of_command, stage_of}
-use Rattle.journal_model.specs.Legal.{World, shown_step}
+use Rattle.journal_model.specs.rules.State.{course, course_of}
+use Rattle.journal_model.specs.rules.Commands.{command_at_work, commands_of}
+use Rattle.journal_model.specs.rules.Next.{next, step_of_task}
+use Rattle.journal_model.specs.rules.Tasks.{task_of, task_of_command, stage_of}
+use Rattle.journal_model.specs.rules.Legal.{World, shown_step}
 use Rattle.room_state.specs.Kept.{Kept, state_behind, world_behind}
 use Rattle.room_state.specs.room_turns.Turns.{entry_of}
 

@@ -3,9 +3,9 @@ use Rattle.std.proofs.Common.{◌≡◌, Bool, true, Ok, Err, refl, ◌∙◌, a
 use Rattle.ttm_base.specs.declared.Actor.{Actor}
 use Rattle.journal_model.specs.declared.entry.Kind.{Kind}
 use Rattle.journal_model.specs.declared.entry.Kind.TheVariants as kind
-use Rattle.journal_model.specs.Search.{Step}
-use Rattle.journal_model.specs.Next.{next}
-use Rattle.journal_model.specs.Legal.{shown_step}
+use Rattle.journal_model.specs.rules.Search.{Step}
+use Rattle.journal_model.specs.rules.Next.{next}
+use Rattle.journal_model.specs.rules.Legal.{shown_step}
 use Rattle.room_state.specs.Kept.{Kept, state_behind, world_behind}
 use Rattle.room_state.specs.room_turns.Turns.{entry_by, entry_of}
 use Rattle.room_state.proofs.room_turns.Threads.{is_quiet}

@@ -10,12 +10,12 @@ use Rattle.journal_model.specs.declared.state.State.{State}
 use Rattle.journal_model.specs.declared.state.Task.{Task}
 use Rattle.journal_model.specs.declared.state.Task.TheVariants as task
 use Rattle.journal_model.specs.declared.entry.Entry.{Entry}
-use Rattle.journal_model.specs.State.{course, course_of, reservation, has_buffer, new_course}
-use Rattle.journal_model.specs.Commands.{command_at_work, commands_of, named}
-use Rattle.journal_model.specs.Legal.{IsLegal, state_of}
-use Rattle.journal_model.specs.Ready.{is_ready}
-use Rattle.journal_model.specs.ScriptRules.{is_script}
-use Rattle.journal_model.specs.Tasks.{task_of}
+use Rattle.journal_model.specs.rules.State.{course, course_of, reservation, has_buffer, new_course}
+use Rattle.journal_model.specs.rules.Commands.{command_at_work, commands_of, named}
+use Rattle.journal_model.specs.rules.Legal.{IsLegal, state_of}
+use Rattle.journal_model.specs.rules.Ready.{is_ready}
+use Rattle.journal_model.specs.scripts.ScriptRules.{is_script}
+use Rattle.journal_model.specs.rules.Tasks.{task_of}
 use Rattle.laws.proofs.law_state.GoodStates.{good_law}
 use Rattle.laws.specs.law_sound.Sound.{Has, Owned, command_of}
 use Rattle.laws.proofs.law_sound.Along.{sound_law}

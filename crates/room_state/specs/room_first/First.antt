@@ -8,7 +8,7 @@ use Rattle.resource_core.specs.Resources.{Resources}
 use Rattle.bo_table.specs.Seen.{first_bos}
 use Rattle.journal_model.specs.declared.script.Script.{Script}
 use Rattle.journal_model.specs.declared.script.Sizes.{Sizes}
-use Rattle.journal_model.specs.State.{new_course}
+use Rattle.journal_model.specs.rules.State.{new_course}
 use Rattle.room_representation.specs.lemma_room_spans.Owned.{kind_of}
 use Rattle.room_state.specs.declared.room_first.first.Buffers.{Buffers}
 use Rattle.room_state.specs.declared.room_first.first.Memory.{Memory}

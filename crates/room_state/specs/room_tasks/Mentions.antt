@@ -4,7 +4,7 @@ use Rattle.ttm_base.specs.declared.BufId.{BufId}
 use Rattle.ttm_base.specs.declared.Op.{Op}
 use Rattle.journal_model.specs.declared.script.Command.{Command}
 use Rattle.journal_model.specs.declared.script.Command.TheVariants as command
-use Rattle.journal_model.specs.Commands.{buffers_of_op, named}
+use Rattle.journal_model.specs.rules.Commands.{buffers_of_op, named}
 
 -- one, and those of operations
 abbrev pub mentioned : Option BufId → List Op → List BufId

@@ -7,8 +7,8 @@ use Rattle.journal_model.specs.declared.script.Script.{Script}
 use Rattle.journal_model.specs.declared.script.Command.{Command}
 use Rattle.journal_model.specs.declared.state.Buffer.{Buffer}
 use Rattle.journal_model.specs.declared.state.State.{State}
-use Rattle.journal_model.specs.Ready.{is_ready}
-use Rattle.journal_model.specs.State.{new_buffer}
+use Rattle.journal_model.specs.rules.Ready.{is_ready}
+use Rattle.journal_model.specs.rules.State.{new_buffer}
 use Rattle.room_representation.specs.room_steps.Lent.{as_buffer}
 
 -- a state with the buffers of a table, without their fences, and with their reservations: no more is read

@@ -15,13 +15,13 @@ use Rattle.journal_model.specs.declared.state.Task.{Task}
 use Rattle.journal_model.specs.declared.state.Task.TheVariants as task
 use Rattle.journal_model.specs.declared.entry.Entry.{Entry}
 use Rattle.journal_model.specs.declared.entry.Kind.{Kind}
-use Rattle.journal_model.specs.State.{buffer, course, reservation, is_live}
-use Rattle.journal_model.specs.Commands.{command_at_work}
-use Rattle.journal_model.specs.Dry.{has_frame}
-use Rattle.journal_model.specs.Holds.{free_slot}
-use Rattle.journal_model.specs.Next.{backs_off}
-use Rattle.journal_model.specs.Tasks.{task_of}
-use Rattle.journal_model.specs.Waits.{waited_for, jobs_before_read, jobs_before_write}
+use Rattle.journal_model.specs.rules.State.{buffer, course, reservation, is_live}
+use Rattle.journal_model.specs.rules.Commands.{command_at_work}
+use Rattle.journal_model.specs.rules.Dry.{has_frame}
+use Rattle.journal_model.specs.rules.Holds.{free_slot}
+use Rattle.journal_model.specs.rules.Next.{backs_off}
+use Rattle.journal_model.specs.rules.Tasks.{task_of}
+use Rattle.journal_model.specs.rules.Waits.{waited_for, jobs_before_read, jobs_before_write}
 use Rattle.room_state.specs.declared.room_turns.Step.{Step}
 use Rattle.room_state.specs.declared.room_turns.Step.TheVariants as step
 

@@ -9,8 +9,8 @@ use Rattle.journal_model.specs.declared.script.Command.TheVariants as command
 use Rattle.journal_model.specs.declared.state.Course.{Course}
 use Rattle.journal_model.specs.declared.state.SearchAim.{SearchAim}
 use Rattle.journal_model.specs.declared.state.SearchAim.TheVariants.{Asked, Hop}
-use Rattle.journal_model.specs.Commands.{as_fallback, decl, unflagged, whole}
-use Rattle.journal_model.specs.Search.{PlaceSearch, is_caught}
+use Rattle.journal_model.specs.rules.Commands.{as_fallback, decl, unflagged, whole}
+use Rattle.journal_model.specs.rules.Search.{PlaceSearch, is_caught}
 use Rattle.room_state.specs.room_turns.Searching as searching
 use Rattle.room_state.specs.declared.room_turns.buffer_searches.SearchPlaces.{SearchPlaces}
 use Rattle.room_state.specs.declared.room_turns.buffer_searches.SearchPlaces.TheVariants.{One, Declared}

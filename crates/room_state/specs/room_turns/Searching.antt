@@ -9,12 +9,12 @@ use Rattle.journal_model.specs.declared.script.Command.{Command}
 use Rattle.journal_model.specs.declared.state.State.{State}
 use Rattle.journal_model.specs.declared.state.Task.{Task}
 use Rattle.journal_model.specs.declared.state.Task.TheVariants as task
-use Rattle.journal_model.specs.State.{course}
-use Rattle.journal_model.specs.Commands.{command_at_work, whole}
-use Rattle.journal_model.specs.Choice.{choice}
-use Rattle.journal_model.specs.Dry.{is_long_enough, victim}
-use Rattle.journal_model.specs.Search.{PlaceSearch, place_search, first_choice}
-use Rattle.journal_model.specs.Tasks.{task_of}
+use Rattle.journal_model.specs.rules.State.{course}
+use Rattle.journal_model.specs.rules.Commands.{command_at_work, whole}
+use Rattle.journal_model.specs.rules.Choice.{choice}
+use Rattle.journal_model.specs.rules.Dry.{is_long_enough, victim}
+use Rattle.journal_model.specs.rules.Search.{PlaceSearch, place_search, first_choice}
+use Rattle.journal_model.specs.rules.Tasks.{task_of}
 
 -- pages are searched for a buffer
 pub record BufferSearch : Type 0 where

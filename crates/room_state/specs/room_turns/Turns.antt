@@ -4,7 +4,7 @@ use Rattle.ttm_base.specs.declared.Actor.{Actor}
 use Rattle.ttm_base.specs.declared.Need.{Need}
 use Rattle.journal_model.specs.declared.entry.Entry.{Entry}
 use Rattle.journal_model.specs.declared.entry.Kind.{Kind}
-use Rattle.journal_model.specs.Legal.{next_entry}
+use Rattle.journal_model.specs.rules.Legal.{next_entry}
 pub use Rattle.room_state.specs.Kept.{Kept, state_behind, with_entry, world_behind}
 use Rattle.room_state.specs.declared.room_turns.Step.{Step}
 use Rattle.room_state.specs.declared.room_turns.Step.TheVariants as step

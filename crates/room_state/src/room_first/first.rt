@@ -1,7 +1,7 @@
 ghost use Rattle.std.specs.Prelude.{◌≡◌, ◌≤◌, IfOk, IsTrue, [], length, map};
 ghost use Rattle.room_representation.specs.lemma_room_spans.Owned.{kind_of};
-ghost use Rattle.journal_model.specs.State as words;
-ghost use Rattle.journal_model.specs.ScriptRules.{is_script};
+ghost use Rattle.journal_model.specs.rules.State as words;
+ghost use Rattle.journal_model.specs.scripts.ScriptRules.{is_script};
 ghost use Rattle.room_representation.specs.Held.{AreHeld};
 ghost use Rattle.room_state.specs.room_first.First as first;
 

@@ -1,7 +1,7 @@
 ghost use Rattle.std.specs.Prelude.{◌≡◌, ◌∷◌, ◌++◌, find, flat_map, not, option_to_list};
-ghost use Rattle.journal_model.specs.Commands.{buffers_of_op, named};
-ghost use Rattle.journal_model.specs.State as state;
-ghost use Rattle.journal_model.specs.Tasks as words;
+ghost use Rattle.journal_model.specs.rules.Commands.{buffers_of_op, named};
+ghost use Rattle.journal_model.specs.rules.State as state;
+ghost use Rattle.journal_model.specs.rules.Tasks as words;
 ghost use Rattle.room_state.specs.room_tasks.Mentions.{mentioned, mentioned_by};
 
 use journal_model::{Command, Course};

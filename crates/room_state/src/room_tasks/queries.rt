@@ -1,10 +1,10 @@
 ghost use Rattle.std.specs.Prelude.{◌≡◌, slice_get};
 ghost use Rattle.std.specs.Option.{option_copied};
-ghost use Rattle.journal_model.specs.Commands as commands;
-ghost use Rattle.journal_model.specs.Legal.{state_of};
-ghost use Rattle.journal_model.specs.Ready as ready;
-ghost use Rattle.journal_model.specs.State.{buffer};
-ghost use Rattle.journal_model.specs.Tasks as words;
+ghost use Rattle.journal_model.specs.rules.Commands as commands;
+ghost use Rattle.journal_model.specs.rules.Legal.{state_of};
+ghost use Rattle.journal_model.specs.rules.Ready as ready;
+ghost use Rattle.journal_model.specs.rules.State.{buffer};
+ghost use Rattle.journal_model.specs.rules.Tasks as words;
 ghost use Rattle.room_representation.specs.Held.{AreHeld};
 ghost use Rattle.room_representation.specs.room_steps.Courses.{course_at};
 

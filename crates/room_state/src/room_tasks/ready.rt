@@ -1,7 +1,7 @@
 ghost use Rattle.std.specs.Prelude.{◌≡◌, find, flat_map};
 ghost use Rattle.std.specs.Option.{option_copied};
-ghost use Rattle.journal_model.specs.Commands.{buffers_of_op};
-ghost use Rattle.journal_model.specs.Ready as words;
+ghost use Rattle.journal_model.specs.rules.Commands.{buffers_of_op};
+ghost use Rattle.journal_model.specs.rules.Ready as words;
 ghost use Rattle.room_state.specs.room_tasks.Seen.{is_unready, seen, standing, HasReservations};
 
 use crate::room_tasks::mentions::{buffers_of, mentions_of};

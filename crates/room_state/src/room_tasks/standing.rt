@@ -1,8 +1,8 @@
 ghost use Rattle.std.specs.Prelude.{◌≡◌, length};
 ghost use Rattle.std.specs.Option.{option_copied};
-ghost use Rattle.journal_model.specs.Dry as dry;
-ghost use Rattle.journal_model.specs.Ready as words;
-ghost use Rattle.journal_model.specs.State as state;
+ghost use Rattle.journal_model.specs.rules.Dry as dry;
+ghost use Rattle.journal_model.specs.rules.Ready as words;
+ghost use Rattle.journal_model.specs.rules.State as state;
 ghost use Rattle.room_state.specs.room_tasks.Seen.{seen, standing, HasReservations};
 
 use bo_table::{Bo, BoTable};

@@ -1,8 +1,8 @@
 ghost use Rattle.std.specs.Prelude.{◌≡◌};
 ghost use Rattle.std.specs.Option.{option_copied};
 ghost use Rattle.ttm_base.specs.ListWords.{last_of};
-ghost use Rattle.journal_model.specs.State.{reservation};
-ghost use Rattle.journal_model.specs.Tasks as words;
+ghost use Rattle.journal_model.specs.rules.State.{reservation};
+ghost use Rattle.journal_model.specs.rules.Tasks as words;
 ghost use Rattle.room_state.specs.room_tasks.Seen.{seen, standing, HasReservations};
 
 use crate::room_tasks::mentions::first_missing;

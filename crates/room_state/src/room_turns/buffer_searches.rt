@@ -3,8 +3,8 @@
 ghost use Rattle.std.specs.Prelude.{◌≡◌, ◌<◌, Some, length, slice_get, unwrap_or};
 ghost use Rattle.ttm_base.specs.Placement.{forced_places};
 ghost use Rattle.ttm_base.specs.declared.Mem.TheVariants.{System};
-ghost use Rattle.journal_model.specs.Commands.{whole as all_of};
-ghost use Rattle.journal_model.specs.Tasks.{stage_of, task_of};
+ghost use Rattle.journal_model.specs.rules.Commands.{whole as all_of};
+ghost use Rattle.journal_model.specs.rules.Tasks.{stage_of, task_of};
 ghost use Rattle.journal_model.specs.declared.state.Stage.TheVariants as stage;
 ghost use Rattle.journal_model.specs.declared.state.Task.TheVariants as task;
 ghost use Rattle.room_state.specs.Kept.{state_behind};

@@ -7,9 +7,9 @@ use Rattle.journal_model.specs.declared.script.Script.{Script}
 use Rattle.journal_model.specs.declared.state.Buffer.{Buffer}
 use Rattle.journal_model.specs.declared.state.Reservation.{Reservation}
 use Rattle.ttm_base.specs.declared.Stamp.{Stamp}
-use Rattle.journal_model.specs.ApplyCommands.{with_holder}
-use Rattle.journal_model.specs.State.{live_in, changed, reservation_in, reservation_changed}
-use Rattle.journal_model.specs.Lists.{listed_as, put_on, taken_off, touched}
+use Rattle.journal_model.specs.rules.ApplyCommands.{with_holder}
+use Rattle.journal_model.specs.rules.State.{live_in, changed, reservation_in, reservation_changed}
+use Rattle.journal_model.specs.rules.Lists.{listed_as, put_on, taken_off, touched}
 use Rattle.state_words.proofs.Pins.{pins-reservation_changed}
 use Rattle.rules_state.specs.rules_parts.Listing.{listed_mem, listed_in, relisted}
 

@@ -4,7 +4,7 @@ use Rattle.std.specs.Prelude.{unwrap_or}
 use Rattle.std.proofs.lemmas.Grind.{common_steps}
 use Rattle.std.proofs.lemmas.List.{take_more}
 use Rattle.ttm_base.specs.declared.BufId.{BufId}
-use Rattle.journal_model.specs.Lists.{behind_last}
+use Rattle.journal_model.specs.rules.Lists.{behind_last}
 
 -- the last that passes, of a list and one more
 behind_last-append : (test : BufId → Bool) (xs : List BufId) (x : BufId) → behind_last test (xs ++ x ∷ []) ≡ (if test x then Some (length xs + 1) else behind_last test xs)

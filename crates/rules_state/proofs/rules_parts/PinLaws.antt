@@ -4,7 +4,7 @@ use Rattle.ttm_base.specs.declared.BufId.{BufId}
 use Rattle.journal_model.specs.declared.script.Command.{Command}
 use Rattle.journal_model.specs.declared.script.Command.TheVariants as command
 use Rattle.journal_model.specs.declared.state.Reservation.{Reservation}
-use Rattle.journal_model.specs.ApplyCommands.{released}
+use Rattle.journal_model.specs.rules.ApplyCommands.{released}
 use Rattle.state_words.proofs.Pins.{pins-released}
 use Rattle.rules_state.specs.rules_parts.Pins.{HasPinsLeft}
 

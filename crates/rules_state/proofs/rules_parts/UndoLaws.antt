@@ -7,8 +7,8 @@ use Rattle.ttm_base.specs.declared.JobId.{JobId}
 use Rattle.ttm_base.specs.declared.Usage.{Usage}
 use Rattle.journal_model.specs.declared.state.Buffer.{Buffer}
 use Rattle.ttm_base.specs.declared.Fence.{Fence}
-use Rattle.journal_model.specs.State.{changed}
-use Rattle.journal_model.specs.ApplyPages.{with_fence}
+use Rattle.journal_model.specs.rules.State.{changed}
+use Rattle.journal_model.specs.rules.ApplyPages.{with_fence}
 use Rattle.rules_state.specs.rules_parts.Undo.{without_last, without_last_fence}
 
 -- one more element at the end

@@ -5,8 +5,8 @@ use Rattle.ttm_base.specs.declared.BufId.{BufId}
 use Rattle.journal_model.specs.declared.script.Script.{Script}
 use Rattle.journal_model.specs.declared.state.Buffer.{Buffer}
 use Rattle.journal_model.specs.declared.state.Reservation.{Reservation}
-use Rattle.journal_model.specs.State.{live_in, reservation_in}
-use Rattle.journal_model.specs.Lists.{taken_off, put_on}
+use Rattle.journal_model.specs.rules.State.{live_in, reservation_in}
+use Rattle.journal_model.specs.rules.Lists.{taken_off, put_on}
 
 -- the memory type in whose lists a buffer stands: that of a live buffer without pins
 abbrev pub listed_mem : Reservation → Option Buffer → Option Mem

@@ -4,7 +4,7 @@ use Rattle.ttm_base.specs.declared.BufId.{BufId}
 use Rattle.journal_model.specs.declared.script.Command.{Command}
 use Rattle.journal_model.specs.declared.script.Command.TheVariants as command
 use Rattle.journal_model.specs.declared.state.Reservation.{Reservation}
-use Rattle.journal_model.specs.State.{reservation_in}
+use Rattle.journal_model.specs.rules.State.{reservation_in}
 
 -- the buffer can be pinned once more
 abbrev pub CanPin : List Reservation → BufId → Type 0

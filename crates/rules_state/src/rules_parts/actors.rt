@@ -1,5 +1,5 @@
 ghost use Rattle.std.specs.Prelude.{◌≡◌};
-ghost use Rattle.journal_model.specs.Apply as words;
+ghost use Rattle.journal_model.specs.rules.Apply as words;
 
 use ttm_base::Actor;
 

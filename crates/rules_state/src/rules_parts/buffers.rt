@@ -2,10 +2,10 @@
 
 ghost use Rattle.std.specs.Prelude.{◌≡◌, [], Some, None, unwrap_or, OnOk, OnErr, map, option_to_list, slice_set};
 ghost use Rattle.ttm_base.specs.declared.Usage.TheVariants as usage;
-ghost use Rattle.journal_model.specs.State.{changed, target_of, with_target};
-ghost use Rattle.journal_model.specs.ApplyPages.{with_loc, with_spans, with_kernel_fences, with_fence, without_frame, without_frames, bound, unbound};
-ghost use Rattle.journal_model.specs.ApplyVictims.{leaves_tt};
-ghost use Rattle.journal_model.specs.ApplyMoves.{moved, table_left};
+ghost use Rattle.journal_model.specs.rules.State.{changed, target_of, with_target};
+ghost use Rattle.journal_model.specs.rules.ApplyPages.{with_loc, with_spans, with_kernel_fences, with_fence, without_frame, without_frames, bound, unbound};
+ghost use Rattle.journal_model.specs.rules.ApplyVictims.{leaves_tt};
+ghost use Rattle.journal_model.specs.rules.ApplyMoves.{moved, table_left};
 ghost use Rattle.rules_state.specs.rules_parts.Undo.{without_last_fence};
 
 use journal_model::{Buffers, Table, Targets};

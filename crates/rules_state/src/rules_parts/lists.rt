@@ -1,5 +1,5 @@
 ghost use Rattle.std.specs.Prelude.{◌≡◌, IfOk, OnOk, fold, length, map, option_copied, unwrap_or};
-ghost use Rattle.journal_model.specs.Lists as words;
+ghost use Rattle.journal_model.specs.rules.Lists as words;
 ghost use Rattle.rules_state.specs.rules_parts.Listing as listing;
 
 use crate::{

@@ -1,6 +1,6 @@
 ghost use Rattle.std.specs.Prelude.{◌≡◌, Some};
-ghost use Rattle.journal_model.specs.State.{reservation_changed};
-ghost use Rattle.journal_model.specs.ApplyCommands.{with_holder, released, pinned_more, pinned_less, with_pins};
+ghost use Rattle.journal_model.specs.rules.State.{reservation_changed};
+ghost use Rattle.journal_model.specs.rules.ApplyCommands.{with_holder, released, pinned_more, pinned_less, with_pins};
 ghost use Rattle.rules_state.specs.rules_parts.Pins.{CanPin, HasPinsLeft};
 
 use journal_model::{Command, Reservations};

@@ -4,10 +4,10 @@ use Rattle.std.specs.Prelude.{◌||◌, ◌==◌, not, filter, if◌then◌else�
 use Rattle.std.proofs.lemmas.Bool.{cases_Bool, eqb-true, eqb-false, eq-eqb, ne_eqb}
 use Rattle.ttm_base.specs.declared.BufId.{BufId}
 use Rattle.journal_model.specs.declared.script.MarkKind.TheVariants as mark
-use Rattle.journal_model.specs.Spaces.{regions_after}
-use Rattle.journal_model.specs.MarkRules.{ThreadMappings, empty_thread_mappings, thread_mappings_after}
+use Rattle.journal_model.specs.marks.Spaces.{regions_after}
+use Rattle.journal_model.specs.scripts.MarkRules.{ThreadMappings, empty_thread_mappings, thread_mappings_after}
 use Rattle.script_rules.specs.script_mappings.ThreadMappingLists.{Seen, IsThreadMappings}
-use Rattle.journal_model.specs.State.{has_buffer, without_buffer}
+use Rattle.journal_model.specs.rules.State.{has_buffer, without_buffer}
 use Rattle.gpu_spaces.specs.Sets.{IsSetOf}
 use Rattle.gpu_spaces.specs.buffer_set.Members.{is_member}
 

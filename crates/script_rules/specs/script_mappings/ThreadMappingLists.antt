@@ -1,7 +1,7 @@
 -- What a thread has mapped, as the code keeps it and as the definitions have it.
 use Rattle.std.specs.Prelude.{◌≡◌, ℕ, List}
-use Rattle.journal_model.specs.Spaces.{Region}
-use Rattle.journal_model.specs.MarkRules.{ThreadMappings}
+use Rattle.journal_model.specs.marks.Spaces.{Region}
+use Rattle.journal_model.specs.scripts.MarkRules.{ThreadMappings}
 use Rattle.gpu_spaces.specs.Sets.{IsSetOf}
 
 -- which buffers are mapped, by their numbers, and the mappings of the space

@@ -1,5 +1,5 @@
 ghost use Rattle.std.specs.Prelude.{◌≡◌, OnOk, OnErr, IfOk, IfSome, IsTrue};
-ghost use Rattle.journal_model.specs.ScriptRules.{is_script};
+ghost use Rattle.journal_model.specs.scripts.ScriptRules.{is_script};
 ghost use Rattle.plain_device.specs.Kept.{entry_of, turn_of, after_turn};
 ghost use Rattle.test_device.specs.Steps.{AreInStep};
 

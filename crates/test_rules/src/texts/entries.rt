@@ -1,6 +1,6 @@
 ghost use Rattle.std.specs.Prelude.{◌≡◌, true};
-ghost use Rattle.journal_model.specs.Reading.{names_of};
-ghost use Rattle.journal_model.specs.ScriptRules.{is_script};
+ghost use Rattle.journal_model.specs.scripts.Reading.{names_of};
+ghost use Rattle.journal_model.specs.scripts.ScriptRules.{is_script};
 
 use entry_reader::{names_of_script, read_entry};
 use journal_model::Script;

@@ -1,5 +1,5 @@
 ghost use Rattle.std.specs.Prelude.{◌≡◌, true};
-ghost use Rattle.journal_model.specs.ScriptRules.{is_script};
+ghost use Rattle.journal_model.specs.scripts.ScriptRules.{is_script};
 
 use journal_model::Script;
 use report_text::{Rule, read_report};

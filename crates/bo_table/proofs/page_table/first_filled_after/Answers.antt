@@ -1,7 +1,7 @@
 use Rattle.std.proofs.Common.{◌≡◌, ◌+◌, ap, drop, List, false, sym, slice_set, ◌∙◌}
 use Rattle.std.proofs.lemmas.List.{take_rest}
 use Rattle.ttm_base.specs.declared.Loc.{Loc}
-use Rattle.journal_model.specs.Places.{is_frame}
+use Rattle.journal_model.specs.rules.Places.{is_frame}
 use Rattle.bo_table.specs.Pages.{first_filled}
 use Rattle.bo_table.proofs.PageLaws.{first_raised, none_filled}
 use Rattle.bo_table.proofs.Setting.{length_set}

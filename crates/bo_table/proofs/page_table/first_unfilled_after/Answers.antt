@@ -2,7 +2,7 @@ use Rattle.std.proofs.Common.{◌≡◌, ◌+◌, ap, drop, List, true, sym, ◌
 use Rattle.std.specs.Prelude.{not}
 use Rattle.std.proofs.lemmas.List.{take_rest}
 use Rattle.ttm_base.specs.declared.Loc.{Loc}
-use Rattle.journal_model.specs.Places.{is_frame}
+use Rattle.journal_model.specs.rules.Places.{is_frame}
 use Rattle.bo_table.specs.Pages.{first_unfilled, has_no_frame}
 use Rattle.bo_table.proofs.PageLaws.{first_raised}
 use Rattle.bo_table.proofs.page_table.first_unfilled_after.Goals as goal

@@ -1,5 +1,5 @@
 use Rattle.std.proofs.Common.{◌≡◌, List, [], sym, subst, ◌∙◌}
-use Rattle.journal_model.specs.Legal.{state_of}
+use Rattle.journal_model.specs.rules.Legal.{state_of}
 use Rattle.cpu_maps.specs.declared.area.Area.{Area}
 use Rattle.map_follow.specs.Laws.{areas_after}
 use Rattle.device_core.proofs.Empty.{empty_is, none_after}

@@ -1,7 +1,7 @@
 use Rattle.std.proofs.Common.{◌-◌, fold, sym, ap, ◌∙◌}
 use Rattle.journal_model.specs.declared.script.Script.{Script}
 use Rattle.journal_model.specs.declared.state.Course.{Course}
-use Rattle.journal_model.specs.Legal.{state_of}
+use Rattle.journal_model.specs.rules.Legal.{state_of}
 use Rattle.map_follow.specs.Ends.{with_end}
 use Rattle.map_follow.specs.Founds.{found_by, with_found}
 use Rattle.device_core.proofs.Behind.{after_none, after_some, fits_pages, is_there, known_reservation, some_answered}

@@ -1,7 +1,7 @@
 use Rattle.std.proofs.Common.{◌≡◌, ◌<◌, ◌∙◌, true, ap, length, get_or, arith, bytes_eq}
 use Rattle.std.specs.List.{list_any}
 use Rattle.journal_model.specs.declared.script.Decl.{Decl}
-use Rattle.journal_model.specs.ScriptRules.{has_distinct_names}
+use Rattle.journal_model.specs.scripts.ScriptRules.{has_distinct_names}
 use Rattle.entry_reader.proofs.ScriptFacts.{script_named}
 use Rattle.entry_reader.proofs.Walks.{fresh_name}
 use Rattle.entry_reader.proofs.entry.names_of_script.Goals as goal

@@ -1,6 +1,6 @@
 use Rattle.std.proofs.Common.{◌≡◌, ◌+◌, ◌<◌, [], ◌∷◌, Option, ap, refl, sym, subst, length, arith, length-append}
 use Rattle.journal_model.specs.declared.entry.Entry.{Entry}
-use Rattle.journal_model.specs.Verdict.{IsEntryText}
+use Rattle.journal_model.specs.reports.Verdict.{IsEntryText}
 use Rattle.entry_reader.specs.Read.{IsRead}
 use Rattle.entry_reader.proofs.ReportSteps.{entry_found, entry_missing, line_fits, no_entries, whole_here}
 use Rattle.entry_reader.proofs.report.read_entries.Goals as goal

@@ -1,6 +1,6 @@
 use Rattle.std.proofs.Common.{◌≡◌, false, true, sym, ◌∙◌, ap}
 use Rattle.journal_model.specs.declared.script.Script.{Script}
-use Rattle.journal_model.specs.Dry.{is_long_enough}
+use Rattle.journal_model.specs.rules.Dry.{is_long_enough}
 use Rattle.room_state.specs.room_turns.Searching.{place_at_work}
 use Rattle.room_state.specs.room_turns.Turns.{after_step, step_of}
 use Rattle.room_state.specs.room_turns.BufferSearches.{place_search_of, seen}

@@ -1,7 +1,7 @@
 use Rattle.std.proofs.Common.{◌≡◌, ◌<◌, sym, ◌∙◌, ap, subst, length}
 use Rattle.std.specs.Prelude.{find}
 use Rattle.lru_bulk.specs.Lists.{list_at, list_number}
-use Rattle.journal_model.specs.Dry.{is_evictable}
+use Rattle.journal_model.specs.rules.Dry.{is_evictable}
 use Rattle.laws.proofs.law_lists.Law.{lists_law}
 use Rattle.room_state.specs.room_turns.Turns.{state_behind}
 use Rattle.evict_core.specs.Walks.{left_from}

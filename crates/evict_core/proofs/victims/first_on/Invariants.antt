@@ -2,8 +2,8 @@ use Rattle.std.proofs.Common.{◌≡◌, length, true, Some}
 use Rattle.std.specs.Prelude.{find}
 use Rattle.ttm_base.specs.declared.BufId.{BufId}
 use Rattle.lru_bulk.specs.Lists.{list_at, list_number}
-use Rattle.journal_model.specs.State.{has_buffer}
-use Rattle.journal_model.specs.Dry.{is_evictable}
+use Rattle.journal_model.specs.rules.State.{has_buffer}
+use Rattle.journal_model.specs.rules.Dry.{is_evictable}
 use Rattle.room_state.specs.room_turns.Turns.{state_behind}
 use Rattle.evict_core.specs.Walks.{left_from}
 use Rattle.evict_core.proofs.victims.first_on.Given as goal

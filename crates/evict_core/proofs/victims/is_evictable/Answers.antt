@@ -2,8 +2,8 @@ use Rattle.std.proofs.Common.{◌≡◌, sym, ◌∙◌, ap, arith, length, ◌�
 use Rattle.std.specs.Prelude.{◌&&◌, not}
 use Rattle.laws.proofs.law_sound.Along.{sound_law}
 use Rattle.journal_model.specs.declared.script.Script.{Script}
-use Rattle.journal_model.specs.Choice.{reach_of}
-use Rattle.journal_model.specs.Dry.{is_loose}
+use Rattle.journal_model.specs.rules.Choice.{reach_of}
+use Rattle.journal_model.specs.rules.Dry.{is_loose}
 use Rattle.bo_table.specs.Seen.{reservation_of}
 use Rattle.room_state.specs.room_turns.Turns.{state_behind}
 use Rattle.evict_core.specs.Walks.{stands_in}

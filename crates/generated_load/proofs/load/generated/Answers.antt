@@ -1,7 +1,7 @@
 use Rattle.std.proofs.Common.{◌≡◌, [], ap, ◌∙◌}
 use Rattle.std.specs.List.{list_all}
 use Rattle.journal_model.specs.declared.script.Script.{Script}
-use Rattle.journal_model.specs.MarkRules.{are_in_order, is_in_thread}
+use Rattle.journal_model.specs.scripts.MarkRules.{are_in_order, is_in_thread}
 use Rattle.generated_load.proofs.LoadLaws.{is_load}
 use Rattle.generated_load.proofs.load.generated.Goals as goal
 

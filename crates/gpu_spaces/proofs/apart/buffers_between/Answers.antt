@@ -1,7 +1,7 @@
 use Rattle.std.proofs.Common.{◌≡◌, ◌∙◌, [], ap, sym}
 use Rattle.std.specs.Prelude.{map}
-use Rattle.journal_model.specs.Spaces.{Region}
-use Rattle.journal_model.specs.ByName as name
+use Rattle.journal_model.specs.marks.Spaces.{Region}
+use Rattle.journal_model.specs.marks.ByName as name
 use Rattle.gpu_spaces.specs.Kept.{regions_in}
 use Rattle.gpu_spaces.proofs.Buffers.{none_between}
 use Rattle.gpu_spaces.proofs.apart.buffers_between.Goals as goal

@@ -1,6 +1,6 @@
 use Rattle.std.proofs.Common.{◌≡◌, ◌++◌}
 use Rattle.std.specs.Prelude.{map, filter}
-use Rattle.journal_model.specs.Spaces.{does_meet}
+use Rattle.journal_model.specs.marks.Spaces.{does_meet}
 use Rattle.gpu_spaces.specs.Kept.{regions_in}
 use Rattle.gpu_spaces.proofs.apart.push_buffers.Given as goal
 

@@ -1,7 +1,7 @@
 use Rattle.std.proofs.Common.{◌≡◌, drop}
 use Rattle.std.specs.Prelude.{◌||◌}
 use Rattle.ttm_base.specs.declared.BufId.{BufId}
-use Rattle.journal_model.specs.State.{has_buffer}
+use Rattle.journal_model.specs.rules.State.{has_buffer}
 use Rattle.gpu_spaces.specs.buffer_set.Members.{is_member}
 use Rattle.gpu_spaces.proofs.apart.set_of.Given as goal
 

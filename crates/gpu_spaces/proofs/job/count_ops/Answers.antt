@@ -1,5 +1,5 @@
 use Rattle.std.proofs.Common.{◌≡◌, ◌+◌, ◌-◌, ℕ, min, sym, arith}
-use Rattle.journal_model.specs.ByName.{first_address, second_address}
+use Rattle.journal_model.specs.marks.ByName.{first_address, second_address}
 use Rattle.gpu_spaces.specs.Kept.{regions_in}
 use Rattle.gpu_spaces.specs.Spots.{spot_of}
 use Rattle.gpu_spaces.proofs.Cutting.{counts_go_on}

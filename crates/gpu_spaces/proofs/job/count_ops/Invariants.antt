@@ -1,6 +1,6 @@
 use Rattle.std.proofs.Common.{◌≡◌, ◌-◌, ◌+◌, ◌≤◌, min, length}
 use Rattle.std.specs.Prelude.{option_map}
-use Rattle.journal_model.specs.ByName.{op_in_names, ops_from}
+use Rattle.journal_model.specs.marks.ByName.{op_in_names, ops_from}
 use Rattle.gpu_spaces.specs.Kept.{regions_in}
 use Rattle.gpu_spaces.proofs.job.count_ops.Given as goal
 

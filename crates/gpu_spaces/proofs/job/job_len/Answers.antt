@@ -2,7 +2,7 @@ use Rattle.std.proofs.Common.{◌≡◌, ◌+◌, ◌∷◌, ◌∙◌, ℕ, min
 use Rattle.std.specs.Prelude.{option_map}
 use Rattle.journal_model.specs.declared.space.VOp.{VOp}
 use Rattle.journal_model.specs.declared.space.VOp.TheVariants as vop
-use Rattle.journal_model.specs.ByName.{job_by_name}
+use Rattle.journal_model.specs.marks.ByName.{job_by_name}
 use Rattle.gpu_spaces.specs.Kept.{regions_in}
 use Rattle.gpu_spaces.proofs.Cutting.{job_counts_go_on, counted_few}
 use Rattle.gpu_spaces.proofs.job.job_len.Goals as goal

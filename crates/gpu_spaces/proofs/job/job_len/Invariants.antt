@@ -1,6 +1,6 @@
 use Rattle.std.proofs.Common.{◌≡◌, ◌+◌, ◌≤◌, min, drop, length}
 use Rattle.std.specs.Prelude.{option_map}
-use Rattle.journal_model.specs.ByName.{job_by_name}
+use Rattle.journal_model.specs.marks.ByName.{job_by_name}
 use Rattle.gpu_spaces.specs.Kept.{regions_in}
 use Rattle.gpu_spaces.proofs.job.job_len.Given as goal
 

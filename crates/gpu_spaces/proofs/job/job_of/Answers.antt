@@ -2,7 +2,7 @@ use Rattle.std.proofs.Common.{◌≡◌, ◌+◌, ◌∷◌, ◌∙◌, ap, drop
 use Rattle.std.specs.Prelude.{if◌then◌else◌}
 use Rattle.journal_model.specs.declared.space.VOp.{VOp}
 use Rattle.journal_model.specs.declared.space.VOp.TheVariants as vop
-use Rattle.journal_model.specs.ByName.{job_by_name, joined}
+use Rattle.journal_model.specs.marks.ByName.{job_by_name, joined}
 use Rattle.gpu_spaces.specs.Kept.{regions_in}
 use Rattle.gpu_spaces.proofs.Cutting.{jobs_go_on}
 use Rattle.gpu_spaces.proofs.job.job_of.Goals as goal

@@ -1,5 +1,5 @@
 use Rattle.std.proofs.Common.{◌≡◌, Some, drop}
-use Rattle.journal_model.specs.ByName.{job_by_name, joined}
+use Rattle.journal_model.specs.marks.ByName.{job_by_name, joined}
 use Rattle.gpu_spaces.specs.Kept.{regions_in}
 use Rattle.gpu_spaces.proofs.job.job_of.Given as goal
 

@@ -1,6 +1,6 @@
 use Rattle.std.proofs.Common.{◌≡◌, ◌+◌, ◌-◌, ◌≤◌, ◌++◌}
 use Rattle.std.specs.Prelude.{option_map, map}
-use Rattle.journal_model.specs.ByName.{parts_of_range, parts_from}
+use Rattle.journal_model.specs.marks.ByName.{parts_of_range, parts_from}
 use Rattle.gpu_spaces.specs.Kept.{regions_in}
 use Rattle.gpu_spaces.specs.Spots.{part_of}
 use Rattle.gpu_spaces.proofs.pieces.pieces_of.Given as goal

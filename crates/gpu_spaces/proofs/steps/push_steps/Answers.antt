@@ -1,6 +1,6 @@
 use Rattle.std.proofs.Common.{◌≡◌, ◌++◌, ◌∙◌, ap, sym, arith, Some, None}
 use Rattle.std.specs.Prelude.{map, filter, option_map}
-use Rattle.journal_model.specs.Spaces.{does_meet}
+use Rattle.journal_model.specs.marks.Spaces.{does_meet}
 use Rattle.gpu_spaces.specs.Kept.{regions_in, region_at, region_of}
 use Rattle.gpu_spaces.proofs.Changing.{having}
 use Rattle.gpu_spaces.proofs.Meeting.{around_parts, not_gt, meeting_from, meeting_at, steps_met, is_within}

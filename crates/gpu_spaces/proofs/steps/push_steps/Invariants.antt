@@ -1,6 +1,6 @@
 use Rattle.std.proofs.Common.{◌≡◌, ◌++◌}
 use Rattle.std.specs.Prelude.{map, filter}
-use Rattle.journal_model.specs.Spaces.{does_meet, step_at}
+use Rattle.journal_model.specs.marks.Spaces.{does_meet, step_at}
 use Rattle.gpu_spaces.specs.Kept.{regions_in, region_at}
 use Rattle.gpu_spaces.proofs.steps.push_steps.Given as goal
 

@@ -1,6 +1,6 @@
 use Rattle.std.proofs.Common.{◌≡◌, ap, ◌∙◌}
-use Rattle.journal_model.specs.Spaces.{regions_of, regions_space, space_of}
-use Rattle.journal_model.specs.ByName.{after_vops, vops_shown}
+use Rattle.journal_model.specs.marks.Spaces.{regions_of, regions_space, space_of}
+use Rattle.journal_model.specs.marks.ByName.{after_vops, vops_shown}
 use Rattle.law_legal.proofs.law_spaces.Order.{rising_of}
 use Rattle.law_legal.proofs.law_spaces.Points.{regions_are_the_space}
 use Rattle.law_legal.proofs.law_spaces.Names.{IsMeant, job_is_meant}

@@ -1,4 +1,4 @@
-use Rattle.journal_model.specs.Spaces.{regions_of}
+use Rattle.journal_model.specs.marks.Spaces.{regions_of}
 use Rattle.law_legal.proofs.law_spaces.Order.{rising_of}
 use Rattle.law_legal.proofs.law_spaces.Remaps as few
 use Rattle.law_legal.proofs.law_spaces.remaps_are_few.Goals as goal

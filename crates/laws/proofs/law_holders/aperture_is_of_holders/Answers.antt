@@ -1,5 +1,5 @@
 use Rattle.laws.proofs.law_holders.Mapped.{aperture_maps}
-use Rattle.journal_model.specs.Legal.{state_of}
+use Rattle.journal_model.specs.rules.Legal.{state_of}
 use Rattle.laws.proofs.law_holders.aperture_is_of_holders.Goals as goal
 
 pub returns : goal.returns

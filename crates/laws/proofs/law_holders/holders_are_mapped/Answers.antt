@@ -1,6 +1,6 @@
 use Rattle.laws.proofs.law_holders.Mapped.{maps_aperture}
 use Rattle.laws.proofs.law_owners.Law.{once_law}
-use Rattle.journal_model.specs.Legal.{state_of}
+use Rattle.journal_model.specs.rules.Legal.{state_of}
 use Rattle.laws.proofs.law_holders.holders_are_mapped.Goals as goal
 
 pub returns : goal.returns

@@ -1,5 +1,5 @@
 use Rattle.laws.proofs.law_state.Turns.{scheduled_legal}
-use Rattle.journal_model.specs.Scheduled.{scheduled}
+use Rattle.journal_model.specs.statements.Scheduled.{scheduled}
 use Rattle.laws.proofs.law_transparent.Law.{transparent_given}
 use Rattle.laws.proofs.law_transparent.Ways.{have_ways}
 use Rattle.laws.proofs.law_transparent.schedules_are_transparent.Goals as goal

@@ -1,5 +1,5 @@
 use Rattle.std.proofs.Common.{◌∙◌, sym, ap}
-use Rattle.journal_model.specs.PageSteps.{target_to_untake}
+use Rattle.journal_model.specs.rules.PageSteps.{target_to_untake}
 use Rattle.room_state.specs.room_turns.Turns.{state_behind}
 use Rattle.room_state.specs.room_turns.Acting.{is_untake}
 use Rattle.move_pipeline.proofs.Carried.{given_there, untake_entry}

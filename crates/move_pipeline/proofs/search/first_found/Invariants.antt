@@ -1,6 +1,6 @@
 use Rattle.std.proofs.Common.{◌≡◌, drop}
 use Rattle.ttm_base.specs.Placement.{first_places}
-use Rattle.journal_model.specs.Search.{first_choice}
+use Rattle.journal_model.specs.rules.Search.{first_choice}
 use Rattle.room_state.specs.room_turns.Turns.{state_behind}
 use Rattle.room_state.specs.room_turns.BufferSearches.{list_of}
 use Rattle.move_pipeline.proofs.search.first_found.Given as goal

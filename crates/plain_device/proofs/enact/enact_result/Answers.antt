@@ -1,6 +1,6 @@
 use Rattle.std.proofs.Common.{Some, subst, ◌≡◌}
-use Rattle.journal_model.specs.Commands.{command_at_work}
-use Rattle.journal_model.specs.Apply.{thread_of}
+use Rattle.journal_model.specs.rules.Commands.{command_at_work}
+use Rattle.journal_model.specs.rules.Apply.{thread_of}
 use Rattle.rules_stores.specs.Kept.{BecomesBytes, bytes_of}
 use Rattle.plain_device.proofs.EnactLaws.{answered_write}
 use Rattle.plain_device.proofs.enact.enact_result.Goals as goal

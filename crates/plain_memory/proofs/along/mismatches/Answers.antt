@@ -1,8 +1,8 @@
 use Rattle.std.proofs.Common.{◌≡◌, ℕ, ◌+◌, ◌≤◌, Bool, List, ◌∙◌, ap, get_or, length, sym, subst, take, arith, if◌then◌else◌}
 use Rattle.std.proofs.lemmas.List.{take_all}
 use Rattle.journal_model.specs.declared.entry.Entry.{Entry}
-use Rattle.journal_model.specs.Apply.{thread_of}
-use Rattle.journal_model.specs.PlainMemory.{Plain, plain_of}
+use Rattle.journal_model.specs.rules.Apply.{thread_of}
+use Rattle.journal_model.specs.rules.PlainMemory.{Plain, plain_of}
 use Rattle.plain_memory.specs.Along.{IsPlain, is_answer}
 use Rattle.plain_memory.specs.Mismatches.{mismatch_at, mismatches_of}
 use Rattle.plain_memory.proofs.AlongLaws.{fits_along, passed, mismatch_same, mismatches_more, plain_more, risen_if, transparent_has_none}

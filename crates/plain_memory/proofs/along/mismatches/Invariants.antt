@@ -1,5 +1,5 @@
 use Rattle.std.proofs.Common.{◌≡◌, ℕ, ◌≤◌, take, get_or}
-use Rattle.journal_model.specs.PlainMemory.{plain_of}
+use Rattle.journal_model.specs.rules.PlainMemory.{plain_of}
 use Rattle.plain_memory.specs.Along.{IsPlain}
 use Rattle.plain_memory.specs.Mismatches.{mismatches_of}
 use Rattle.plain_memory.proofs.along.mismatches.Given as goal

@@ -2,7 +2,7 @@ use Rattle.std.proofs.Common.{◌≡◌, ◌∙◌, ◌^◌, ◌<◌, length, So
 use Rattle.std.specs.Prelude.{IfSome, slice_get, take}
 use Rattle.std.proofs.lemmas.Option.{slice_get_read}
 use Rattle.laws.proofs.law_state.Rules.{rules_of}
-use Rattle.journal_model.specs.Legal.{World}
+use Rattle.journal_model.specs.rules.Legal.{World}
 use Rattle.rules_holds.specs.Marked.{AreFrames}
 use Rattle.rules_stores.specs.Kept.{bytes_of}
 use Rattle.plain_device.specs.Held.{IsHeld}

@@ -2,7 +2,7 @@ use Rattle.std.proofs.Common.{◌≡◌, ◌^◌, ◌<◌, length, Some, refl, s
 use Rattle.std.specs.Prelude.{IfOk, slice_get, take}
 use Rattle.std.proofs.lemmas.Option.{slice_get_read}
 use Rattle.journal_model.specs.declared.state.State.{State}
-use Rattle.journal_model.specs.Legal.{stores_of}
+use Rattle.journal_model.specs.rules.Legal.{stores_of}
 use Rattle.page_accounts.specs.Accounts.{AreAccountsOf}
 use Rattle.plain_device.specs.Held.{IsHeld}
 use Rattle.report_check.proofs.ReplayLaws.{entry_ready, leads_first, leads_on, leads_to}

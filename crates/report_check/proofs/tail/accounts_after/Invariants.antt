@@ -1,5 +1,5 @@
 use Rattle.std.specs.Prelude.{take}
-use Rattle.journal_model.specs.Legal.{stores_of}
+use Rattle.journal_model.specs.rules.Legal.{stores_of}
 use Rattle.plain_device.specs.Held.{IsHeld}
 use Rattle.report_check.proofs.tail.accounts_after.Given as goal
 

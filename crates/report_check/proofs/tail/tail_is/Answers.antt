@@ -1,6 +1,6 @@
 use Rattle.std.proofs.Common.{◌++◌, ◌∙◌, ap}
-use Rattle.journal_model.specs.Words.{Text}
-use Rattle.journal_model.specs.ReportText.{report}
+use Rattle.journal_model.specs.scripts.Words.{Text}
+use Rattle.journal_model.specs.reports.ReportText.{report}
 use Rattle.report_text.specs.Parts.{journal_part}
 use Rattle.report_mappings.proofs.Fits.{fits_spaces}
 use Rattle.report_check.proofs.TailLaws.{same_tail}

@@ -1,6 +1,6 @@
 use Rattle.std.proofs.Common.{[], ◌∷◌, ◌++◌}
 use Rattle.std.specs.Prelude.{codes}
-use Rattle.journal_model.specs.Words.{line}
+use Rattle.journal_model.specs.scripts.Words.{line}
 use Rattle.report_text.specs.Parts.{mappings_part, outcome_part}
 use Rattle.report_text.proofs.Parts.{first_of_three, second_of_three, third_of_three, wrote_two}
 use Rattle.report_check.proofs.tail.write_tail.Goals as goal

@@ -1,6 +1,6 @@
 use Rattle.std.proofs.Common.{[], arith}
-use Rattle.journal_model.specs.Legal.{made_of}
-use Rattle.journal_model.specs.ReportText.{thread_faults}
+use Rattle.journal_model.specs.rules.Legal.{made_of}
+use Rattle.journal_model.specs.reports.ReportText.{thread_faults}
 use Rattle.report_mappings.proofs.Threads.{thread_on, threads_done}
 use Rattle.report_mappings.proofs.faults.put_all_faults.Goals as goal
 

@@ -1,8 +1,8 @@
 use Rattle.std.proofs.Common.{◌≡◌, [], ◌++◌, take}
 use Rattle.std.specs.Prelude.{flat_map}
-use Rattle.journal_model.specs.Complete.{thread_numbers}
-use Rattle.journal_model.specs.Legal.{IsLegal, made_of}
-use Rattle.journal_model.specs.ReportText.{thread_faults}
+use Rattle.journal_model.specs.statements.Complete.{thread_numbers}
+use Rattle.journal_model.specs.rules.Legal.{IsLegal, made_of}
+use Rattle.journal_model.specs.reports.ReportText.{thread_faults}
 use Rattle.report_mappings.proofs.faults.put_all_faults.Given as goal
 
 abbrev pub invariant-loop-index : goal.invariant-loop-index

@@ -1,9 +1,9 @@
 use Rattle.std.proofs.Common.{◌≡◌, ℕ, ◌+◌, Bool, cond, List, [], ◌++◌, length, Some, ap, refl, sym, ◌∙◌, subst, arith}
 use Rattle.std.specs.Prelude.{◌&&◌, slice_get}
 use Rattle.std.proofs.lemmas.Option.{slice_get_read}
-use Rattle.journal_model.specs.Complete.{is_answer, is_by_thread}
-use Rattle.journal_model.specs.Legal.{made_of}
-use Rattle.journal_model.specs.ReportText.{thread_faults}
+use Rattle.journal_model.specs.statements.Complete.{is_answer, is_by_thread}
+use Rattle.journal_model.specs.rules.Legal.{made_of}
+use Rattle.journal_model.specs.reports.ReportText.{thread_faults}
 use Rattle.report_mappings.proofs.Following.{Follows, follows_first, follows_on, one_or_none, text_done, text_on}
 use Rattle.report_mappings.proofs.faults.put_thread_faults.Goals as goal
 use Rattle.report_mappings.proofs.faults.put_thread_faults.Goals.{then-answers, else-answers}

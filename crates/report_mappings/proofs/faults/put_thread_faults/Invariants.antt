@@ -1,6 +1,6 @@
 use Rattle.std.proofs.Common.{◌≡◌, ◌≤◌, [], ◌++◌}
-use Rattle.journal_model.specs.Legal.{IsLegal, made_of}
-use Rattle.journal_model.specs.ReportText.{thread_faults}
+use Rattle.journal_model.specs.rules.Legal.{IsLegal, made_of}
+use Rattle.journal_model.specs.reports.ReportText.{thread_faults}
 use Rattle.report_mappings.proofs.Following.{Follows, front, text_from}
 use Rattle.report_mappings.proofs.faults.put_thread_faults.Given as goal
 

@@ -1,5 +1,5 @@
 use Rattle.std.proofs.Common.{arith}
-use Rattle.journal_model.specs.ReportText.{thread_steps}
+use Rattle.journal_model.specs.reports.ReportText.{thread_steps}
 use Rattle.report_mappings.proofs.Threads.{thread_on, threads_done}
 use Rattle.report_mappings.proofs.spaces.put_all_steps.Goals as goal
 

@@ -1,5 +1,5 @@
 use Rattle.std.proofs.Common.{◌≡◌, ◌++◌, take}
-use Rattle.journal_model.specs.ReportText.{request_lines}
+use Rattle.journal_model.specs.reports.ReportText.{request_lines}
 use Rattle.report_mappings.proofs.spaces.put_request.Given as goal
 
 abbrev pub invariant-loop-step : goal.invariant-loop-step

@@ -1,5 +1,5 @@
 use Rattle.std.proofs.Common.{◌≡◌, ◌≤◌, ◌+◌, ◌++◌, drop}
-use Rattle.journal_model.specs.ReportText.{thread_steps}
+use Rattle.journal_model.specs.reports.ReportText.{thread_steps}
 use Rattle.report_mappings.proofs.Requests.{text_from}
 use Rattle.report_mappings.proofs.spaces.put_thread_steps.Given as goal
 

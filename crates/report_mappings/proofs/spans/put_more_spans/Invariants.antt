@@ -1,5 +1,5 @@
 use Rattle.std.proofs.Common.{◌≡◌, ◌++◌, map, take}
-use Rattle.journal_model.specs.Words.{span_word}
+use Rattle.journal_model.specs.scripts.Words.{span_word}
 use Rattle.text_line.specs.Spaced.{behind_each}
 use Rattle.report_mappings.proofs.spans.put_more_spans.Given as goal
 

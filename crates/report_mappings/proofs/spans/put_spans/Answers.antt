@@ -1,5 +1,5 @@
 use Rattle.std.proofs.lemmas.Result.{on_ok_weaker}
-use Rattle.journal_model.specs.Words.{span_word}
+use Rattle.journal_model.specs.scripts.Words.{span_word}
 use Rattle.report_mappings.proofs.SpacedLaws.{listed_after}
 use Rattle.report_mappings.proofs.spans.put_spans.Goals as goal
 

@@ -1,8 +1,8 @@
 use Rattle.std.proofs.Common.{decimal, arith}
 use Rattle.std.proofs.lemmas.Result.{on_ok_weaker}
 use Rattle.std.proofs.lemmas.Grind.{common_steps}
-use Rattle.journal_model.specs.Words.{actor_word}
-use Rattle.journal_model.specs.EntryText.{kind_words}
+use Rattle.journal_model.specs.scripts.Words.{actor_word}
+use Rattle.journal_model.specs.reports.EntryText.{kind_words}
 use Rattle.report_text.proofs.SpacedLaws.{line_of_two}
 use Rattle.report_text.proofs.entry.make_entry_line.Goals as goal
 

@@ -1,5 +1,5 @@
 use Rattle.std.proofs.lemmas.Result.{on_ok_weaker}
-use Rattle.journal_model.specs.EntryText.{cause_row_word}
+use Rattle.journal_model.specs.reports.EntryText.{cause_row_word}
 use Rattle.report_mappings.proofs.SpacedLaws.{listed_after}
 use Rattle.report_text.proofs.entry.put_causes.Goals as goal
 

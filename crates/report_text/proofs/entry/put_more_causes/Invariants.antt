@@ -1,5 +1,5 @@
 use Rattle.std.proofs.Common.{◌≡◌, ◌++◌, map, take}
-use Rattle.journal_model.specs.EntryText.{cause_row_word}
+use Rattle.journal_model.specs.reports.EntryText.{cause_row_word}
 use Rattle.text_line.specs.Spaced.{behind_each}
 use Rattle.report_text.proofs.entry.put_more_causes.Given as goal
 

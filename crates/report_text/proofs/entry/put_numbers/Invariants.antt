@@ -1,5 +1,5 @@
 use Rattle.std.proofs.Common.{◌≡◌, ◌++◌, ◌∷◌, map, take, decimal}
-use Rattle.journal_model.specs.Words.{name_of}
+use Rattle.journal_model.specs.scripts.Words.{name_of}
 use Rattle.text_line.specs.Spaced.{spaced_out}
 use Rattle.report_text.proofs.entry.put_numbers.Given as goal
 

@@ -1,5 +1,5 @@
 use Rattle.std.specs.Prelude.{codes}
-use Rattle.journal_model.specs.ReportText.{account_line}
+use Rattle.journal_model.specs.reports.ReportText.{account_line}
 use Rattle.page_accounts.specs.Accounts.{told}
 use Rattle.report_text.proofs.Parts.{first_of_four, second_of_four, third_of_four, last_of_four}
 use Rattle.report_text.proofs.report.write_accounts.Goals as goal

@@ -1,7 +1,7 @@
 use Rattle.std.proofs.Common.{◌∙◌, [], ◌∷◌, decimal}
 use Rattle.std.specs.Prelude.{unwrap_or}
-use Rattle.journal_model.specs.Words.{thread_word}
-use Rattle.journal_model.specs.ReportText.{answer_words}
+use Rattle.journal_model.specs.scripts.Words.{thread_word}
+use Rattle.journal_model.specs.reports.ReportText.{answer_words}
 use Rattle.report_text.proofs.LineLaws.{so_are_lines}
 use Rattle.report_text.proofs.report.write_answer.Goals as goal
 

@@ -1,7 +1,7 @@
 use Rattle.std.proofs.Common.{◌+◌, arith}
 use Rattle.std.specs.List.{enumerate_from}
 use Rattle.std.proofs.lemmas.List.FromFn.{length-enumerate_from}
-use Rattle.journal_model.specs.EntryText.{entry_line}
+use Rattle.journal_model.specs.reports.EntryText.{entry_line}
 use Rattle.report_text.proofs.WrittenLines.{loop_ends, loop_goes_on, loop_stops, read_numbered}
 use Rattle.report_text.proofs.report.write_entries.Goals as goal
 

@@ -2,7 +2,7 @@ use Rattle.std.proofs.Common.{◌≡◌, take}
 use Rattle.std.specs.Prelude.{flat_map}
 use Rattle.std.specs.List.{enumerate_from}
 use Rattle.std.specs.Io.KnownBytes.{append_known}
-use Rattle.journal_model.specs.EntryText.{entry_line}
+use Rattle.journal_model.specs.reports.EntryText.{entry_line}
 use Rattle.report_text.proofs.report.write_entries.Given as goal
 
 -- the lines so far were written

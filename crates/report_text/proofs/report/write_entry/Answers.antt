@@ -1,6 +1,6 @@
 use Rattle.std.proofs.Common.{◌∙◌, ◌∷◌, decimal}
-use Rattle.journal_model.specs.Words.{actor_word}
-use Rattle.journal_model.specs.EntryText.{kind_words}
+use Rattle.journal_model.specs.scripts.Words.{actor_word}
+use Rattle.journal_model.specs.reports.EntryText.{kind_words}
 use Rattle.report_text.proofs.WrittenLines.{line_is_not_made}
 use Rattle.report_text.proofs.LineLaws.{so_are_lines}
 use Rattle.report_text.proofs.report.write_entry.Goals as goal

@@ -1,8 +1,8 @@
 use Rattle.std.proofs.Common.{[], ◌∷◌, length, decimal}
 use Rattle.std.specs.Prelude.{codes, flat_map}
 use Rattle.std.specs.List.{enumerate_from}
-use Rattle.journal_model.specs.Words.{line}
-use Rattle.journal_model.specs.EntryText.{entry_line}
+use Rattle.journal_model.specs.scripts.Words.{line}
+use Rattle.journal_model.specs.reports.EntryText.{entry_line}
 use Rattle.report_text.proofs.Parts.{first_of_three, second_of_three, last_of_three}
 use Rattle.report_text.proofs.report.write_journal.Goals as goal
 

@@ -3,7 +3,7 @@ use Rattle.std.specs.Prelude.{◌||◌}
 use Rattle.std.specs.List.{list_any}
 use Rattle.std.specs.Io.KnownBytes.{append_known}
 use Rattle.io_edge.proofs.Told.{append_known-nil, front_is_nothing, writes_refused}
-use Rattle.journal_model.specs.Marks.{is_map, is_vmap}
+use Rattle.journal_model.specs.marks.Marks.{is_map, is_vmap}
 use Rattle.report_text.specs.Parts.{mappings_part}
 use Rattle.report_text.proofs.Parts.{no_mappings, some_mappings}
 use Rattle.report_text.proofs.LineLaws.{mappings_are}

@@ -1,8 +1,8 @@
 use Rattle.std.proofs.Common.{[], ◌∷◌}
 use Rattle.std.specs.Prelude.{codes, flat_map}
-use Rattle.journal_model.specs.Complete.{thread_numbers}
-use Rattle.journal_model.specs.Words.{line}
-use Rattle.journal_model.specs.ReportText.{thread_results}
+use Rattle.journal_model.specs.statements.Complete.{thread_numbers}
+use Rattle.journal_model.specs.scripts.Words.{line}
+use Rattle.journal_model.specs.reports.ReportText.{thread_results}
 use Rattle.report_text.specs.Parts.{four_lines}
 use Rattle.report_text.proofs.Parts.{first_of_four, second_of_four, third_of_four, last_of_four}
 use Rattle.report_text.proofs.report.write_outcome.Goals as goal

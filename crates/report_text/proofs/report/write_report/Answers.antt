@@ -1,7 +1,7 @@
 use Rattle.std.proofs.Common.{[], ◌∷◌, sym, subst}
 use Rattle.std.specs.Prelude.{codes}
 use Rattle.io_edge.specs.Written.{Writes}
-use Rattle.journal_model.specs.Words.{Text, line}
+use Rattle.journal_model.specs.scripts.Words.{Text, line}
 use Rattle.report_text.specs.Parts.{journal_part, mappings_part, outcome_part}
 use Rattle.report_text.proofs.Parts.{first_of_four, second_of_four, third_of_four, last_of_four, report_by_parts}
 use Rattle.report_text.proofs.report.write_report.Goals as goal

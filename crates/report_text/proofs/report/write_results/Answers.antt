@@ -1,8 +1,8 @@
 use Rattle.std.proofs.Common.{◌≡◌, ℕ, zero, suc, ◌+◌, ◌<◌, ◌∙◌, length, Some, ap, refl, arith}
 use Rattle.std.specs.Prelude.{slice_get}
 use Rattle.ttm_base.specs.ListWords.{count_from}
-use Rattle.journal_model.specs.Complete.{thread_numbers}
-use Rattle.journal_model.specs.ReportText.{thread_results}
+use Rattle.journal_model.specs.statements.Complete.{thread_numbers}
+use Rattle.journal_model.specs.reports.ReportText.{thread_results}
 use Rattle.report_text.proofs.WrittenLines.{loop_ends, loop_goes_on, loop_stops}
 use Rattle.report_text.proofs.report.write_results.Goals as goal
 

@@ -6,9 +6,9 @@ use Rattle.std.proofs.lemmas.List.{take_all}
 use Rattle.std.specs.Io.KnownBytes.{append_known}
 use Rattle.std.proofs.lemmas.Option.{slice_get_read}
 use Rattle.journal_model.specs.declared.entry.Entry.{Entry}
-use Rattle.journal_model.specs.Words.{Text}
-use Rattle.journal_model.specs.ReportText.{answer_line, answer_of, answer_words}
-use Rattle.journal_model.specs.Complete.{is_by_thread}
+use Rattle.journal_model.specs.scripts.Words.{Text}
+use Rattle.journal_model.specs.reports.ReportText.{answer_line, answer_of, answer_words}
+use Rattle.journal_model.specs.statements.Complete.{is_by_thread}
 use Rattle.report_text.proofs.Kept.{kept_before, kept_before-dropped, kept_before-kept, kept_before-le, kept_at}
 use Rattle.report_text.proofs.WrittenLines.{loop_ends, loop_goes_on, loop_stops, numbered_at}
 use Rattle.report_text.proofs.report.write_thread_results.Goals as goal

@@ -2,7 +2,7 @@ use Rattle.std.proofs.Common.{◌≡◌, ◌+◌, take}
 use Rattle.std.specs.Prelude.{filter_map, flat_map}
 use Rattle.std.specs.List.{enumerate_from}
 use Rattle.std.specs.Io.KnownBytes.{append_known}
-use Rattle.journal_model.specs.ReportText.{answer_line, answer_of}
+use Rattle.journal_model.specs.reports.ReportText.{answer_line, answer_of}
 use Rattle.report_text.proofs.Kept.{kept_before}
 use Rattle.report_text.proofs.report.write_thread_results.Given as goal
 

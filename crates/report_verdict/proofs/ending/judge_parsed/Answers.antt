@@ -1,11 +1,11 @@
 use Rattle.std.proofs.Common.{◌≡◌, ◌++◌, List, Option, true, false, sym, subst}
 use Rattle.std.specs.Prelude.{drop, length, ◌+◌}
 use Rattle.journal_model.specs.declared.entry.Entry.{Entry}
-use Rattle.journal_model.specs.Words.{Text}
-use Rattle.journal_model.specs.Complete.{is_complete}
-use Rattle.journal_model.specs.Legal.{IsLegal}
-use Rattle.journal_model.specs.ReportText.{report}
-use Rattle.journal_model.specs.Verdict.{IsRejected}
+use Rattle.journal_model.specs.scripts.Words.{Text}
+use Rattle.journal_model.specs.statements.Complete.{is_complete}
+use Rattle.journal_model.specs.rules.Legal.{IsLegal}
+use Rattle.journal_model.specs.reports.ReportText.{report}
+use Rattle.journal_model.specs.reports.Verdict.{IsRejected}
 use Rattle.entry_reader.specs.declared.report.ReportBad.{ReportBad}
 use Rattle.entry_reader.specs.Parsing.{IsReadTo}
 use Rattle.entry_reader.specs.Rules.{number_of}

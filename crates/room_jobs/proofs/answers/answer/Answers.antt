@@ -1,6 +1,6 @@
 use Rattle.std.proofs.Common.{Some, ◌∙◌, ap, subst}
 use Rattle.bo_table.specs.Seen.{Bos}
-use Rattle.journal_model.specs.ApplyCommands.{released, with_pins}
+use Rattle.journal_model.specs.rules.ApplyCommands.{released, with_pins}
 use Rattle.room_jobs.specs.Listings.{AreRelisted}
 use Rattle.room_jobs.proofs.Answered.{answer_there, answer_command, answer_room, answer_relists, answer_writes, answer_pins, answer_held}
 use Rattle.room_jobs.proofs.answers.answer.Goals as goal

@@ -1,6 +1,6 @@
 use Rattle.std.proofs.Common.{◌∙◌, subst, sym, take_all}
 use Rattle.std.specs.Prelude.{filter}
-use Rattle.journal_model.specs.State.{has_buffer}
+use Rattle.journal_model.specs.rules.State.{has_buffer}
 use Rattle.room_jobs.specs.Listings.{AreTouched}
 use Rattle.room_jobs.proofs.Relisted.{touched_less, touched_more}
 use Rattle.room_jobs.proofs.listings.touch_held.Goals as goal

@@ -1,6 +1,6 @@
 use Rattle.std.proofs.Common.{sym, ◌∙◌, ap, []}
 use Rattle.std.specs.Prelude.{slice_get, unwrap_or}
-use Rattle.journal_model.specs.Places.{pages_of}
+use Rattle.journal_model.specs.rules.Places.{pages_of}
 use Rattle.room_moves.proofs.mappings.map_target.Goals as goal
 
 pub map_pages-requires : goal.map_pages-requires

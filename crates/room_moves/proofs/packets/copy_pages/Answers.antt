@@ -1,7 +1,7 @@
 use Rattle.std.proofs.Common.{◌≡◌, ◌∙◌, ap, ap₂, drop, arith}
 use Rattle.std.specs.Prelude.{slice_get, unwrap_or}
 use Rattle.place_list.specs.SpanPages.{pages_of}
-use Rattle.journal_model.specs.ApplyMoves.{copy_of_page}
+use Rattle.journal_model.specs.rules.ApplyMoves.{copy_of_page}
 use Rattle.room_moves.specs.Copies.{copies, named}
 use Rattle.room_moves.proofs.Walks.{passed_more, next_named, pushed_more}
 use Rattle.room_moves.proofs.packets.copy_pages.Goals as goal

@@ -1,5 +1,5 @@
 use Rattle.std.proofs.Common.{◌∙◌, ap}
-use Rattle.journal_model.specs.ApplyCommands.{released}
+use Rattle.journal_model.specs.rules.ApplyCommands.{released}
 use Rattle.room_parts.proofs.Ticketed.{backoff_there, backoff_held}
 use Rattle.room_parts.proofs.tickets.back_off.Goals as goal
 

@@ -1,5 +1,5 @@
 use Rattle.std.proofs.Common.{◌∙◌, ap}
-use Rattle.journal_model.specs.ApplyCommands.{released}
+use Rattle.journal_model.specs.rules.ApplyCommands.{released}
 use Rattle.room_parts.proofs.Ticketed.{refuse_there, refuse_room, refuse_held}
 use Rattle.room_parts.proofs.tickets.refuse.Goals as goal
 

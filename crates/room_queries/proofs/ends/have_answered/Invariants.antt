@@ -1,7 +1,7 @@
 use Rattle.std.proofs.Common.{◌≡◌, ◌+◌, ◌-◌, length}
 use Rattle.std.specs.List.{list_all}
 use Rattle.ttm_base.specs.ListWords.{count_from}
-use Rattle.journal_model.specs.Complete.{thread_numbers}
+use Rattle.journal_model.specs.statements.Complete.{thread_numbers}
 use Rattle.room_queries.specs.Ends.{answered_in}
 use Rattle.room_queries.proofs.ends.have_answered.Given as goal
 

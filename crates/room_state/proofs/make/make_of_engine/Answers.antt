@@ -1,4 +1,4 @@
-use Rattle.journal_model.specs.Legal.{world_of}
+use Rattle.journal_model.specs.rules.Legal.{world_of}
 use Rattle.room_state.proofs.WhoLaws.{engine_has, engine_makes}
 use Rattle.room_state.proofs.make.make_of_engine.Goals as goal
 

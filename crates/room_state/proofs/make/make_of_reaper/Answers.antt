@@ -1,4 +1,4 @@
-use Rattle.journal_model.specs.Legal.{world_of}
+use Rattle.journal_model.specs.rules.Legal.{world_of}
 use Rattle.room_state.proofs.WhoLaws.{reaper_has, reaper_makes}
 use Rattle.room_state.proofs.make.make_of_reaper.Goals as goal
 

@@ -1,5 +1,5 @@
 use Rattle.std.proofs.Common.{sym, ◌∙◌}
-use Rattle.journal_model.specs.Legal.{world_of}
+use Rattle.journal_model.specs.rules.Legal.{world_of}
 use Rattle.room_state.proofs.WhoLaws.{thread_makes, thread_works}
 use Rattle.room_state.proofs.threads.make_of_thread.Goals as goal
 

@@ -1,6 +1,6 @@
 use Rattle.std.proofs.Common.{◌≡◌, take}
 use Rattle.std.specs.Prelude.{filter}
-use Rattle.journal_model.specs.State.{has_buffer}
+use Rattle.journal_model.specs.rules.State.{has_buffer}
 use Rattle.rules_apply.proofs.commands.held_among.Given as goal
 
 abbrev pub invariant-loop-b : goal.invariant-loop-b

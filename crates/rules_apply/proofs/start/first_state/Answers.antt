@@ -6,8 +6,8 @@ use Rattle.journal_model.specs.declared.state.Job.{Job}
 use Rattle.journal_model.specs.declared.state.Ghost.{Ghost}
 use Rattle.journal_model.specs.declared.state.Reservation.{Reservation}
 use Rattle.journal_model.specs.declared.state.Course.{Course}
-use Rattle.journal_model.specs.State as words
-use Rattle.journal_model.specs.Legal as legal
+use Rattle.journal_model.specs.rules.State as words
+use Rattle.journal_model.specs.rules.Legal as legal
 use Rattle.rules_apply.proofs.start.first_state.Goals as goal
 
 -- of the parts

@@ -1,6 +1,6 @@
 use Rattle.std.proofs.Common.{◌≡◌, take}
 use Rattle.std.specs.Prelude.{map}
-use Rattle.journal_model.specs.State.{no_reservation}
+use Rattle.journal_model.specs.rules.State.{no_reservation}
 use Rattle.rules_apply.proofs.start.no_reservations.Given as goal
 
 abbrev pub invariant-loop-decl : goal.invariant-loop-decl

@@ -1,6 +1,6 @@
-use Rattle.journal_model.specs.Holds.{is_free_page, size_of}
-use Rattle.journal_model.specs.Choice.{reach_of}
-use Rattle.journal_model.specs.Commands.{decl}
+use Rattle.journal_model.specs.rules.Holds.{is_free_page, size_of}
+use Rattle.journal_model.specs.rules.Choice.{reach_of}
+use Rattle.journal_model.specs.rules.Commands.{decl}
 use Rattle.rules_choice.proofs.BelowLaws.{buddy_choice_below}
 use Rattle.rules_choice.proofs.choices.blocks_at.Goals as goal
 

@@ -1,5 +1,5 @@
 use Rattle.std.proofs.Common.{◌∙◌}
-use Rattle.journal_model.specs.Holds.{held_slots}
+use Rattle.journal_model.specs.rules.Holds.{held_slots}
 use Rattle.rules_holds.proofs.MarkLaws.{count_of}
 use Rattle.rules_holds.proofs.free.count_free_slots.Goals as goal
 

@@ -1,5 +1,5 @@
 use Rattle.std.proofs.Common.{◌∙◌}
-use Rattle.journal_model.specs.Holds.{held_slots}
+use Rattle.journal_model.specs.rules.Holds.{held_slots}
 use Rattle.rules_holds.proofs.MarkLaws.{lowest_of}
 use Rattle.rules_holds.proofs.free.free_slot.Goals as goal
 

@@ -1,7 +1,7 @@
 use Rattle.std.proofs.Common.{take}
 use Rattle.std.specs.Prelude.{filter_map}
 use Rattle.ttm_base.specs.declared.Loc.TheVariants.{Zero}
-use Rattle.journal_model.specs.Places.{slot_of}
+use Rattle.journal_model.specs.rules.Places.{slot_of}
 use Rattle.state_words.proofs.ListSteps.{filter_map_more}
 use Rattle.rules_holds.proofs.MarkLaws.{marked_then}
 use Rattle.rules_holds.proofs.free.mark_slots.Goals as goal

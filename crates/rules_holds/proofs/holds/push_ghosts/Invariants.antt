@@ -1,6 +1,6 @@
 use Rattle.std.proofs.Common.{◌≡◌, ◌++◌, take}
 use Rattle.std.specs.Prelude.{flat_map}
-use Rattle.journal_model.specs.Holds.{ghost_spans}
+use Rattle.journal_model.specs.rules.Holds.{ghost_spans}
 use Rattle.rules_holds.proofs.holds.push_ghosts.Given as goal
 
 abbrev pub invariant-loop-g : goal.invariant-loop-g

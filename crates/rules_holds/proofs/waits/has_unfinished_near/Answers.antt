@@ -2,7 +2,7 @@ use Rattle.std.proofs.Common.{◌∙◌, sym, arith}
 use Rattle.std.specs.Prelude.{◌&&◌, not}
 use Rattle.std.proofs.lemmas.Grind.{common_steps}
 use Rattle.journal_model.specs.declared.state.Job.{Job}
-use Rattle.journal_model.specs.JobNames.{same_job}
+use Rattle.journal_model.specs.rules.JobNames.{same_job}
 use Rattle.rules_holds.proofs.OpenJobs.{any_in_parts, found, none_found}
 use Rattle.rules_holds.proofs.waits.has_unfinished_near.Goals as goal
 

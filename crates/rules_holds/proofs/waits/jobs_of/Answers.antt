@@ -1,5 +1,5 @@
 use Rattle.std.proofs.Common.{◌∙◌, sym}
-use Rattle.journal_model.specs.JobRuns.{jobs_of_run}
+use Rattle.journal_model.specs.code.JobRuns.{jobs_of_run}
 use Rattle.rules_holds.proofs.BeforeLaws.{all_of_run, none_of_run}
 use Rattle.rules_holds.proofs.waits.jobs_of.Goals as goal
 

@@ -1,8 +1,8 @@
 use Rattle.std.proofs.Common.{◌≡◌, ◌∙◌, ◌<◌, Some, ap, sym, subst, arith}
 use Rattle.std.proofs.lemmas.Bool.Decides.{nat_tests}
 use Rattle.journal_model.specs.declared.job_ids.JobRun.{JobRun}
-use Rattle.journal_model.specs.JobRuns.{jobs_of_run}
-use Rattle.journal_model.specs.Waits.{unfinished}
+use Rattle.journal_model.specs.code.JobRuns.{jobs_of_run}
+use Rattle.journal_model.specs.rules.Waits.{unfinished}
 use Rattle.rules_holds.proofs.RunJobs.{last_named_behind}
 use Rattle.rules_holds.proofs.waits.last_open.Goals as goal
 

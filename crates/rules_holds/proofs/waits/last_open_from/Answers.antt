@@ -3,8 +3,8 @@ use Rattle.std.specs.Prelude.{filter}
 use Rattle.std.proofs.lemmas.Grind.{common_steps}
 use Rattle.std.proofs.lemmas.Bool.Decides.{nat_tests}
 use Rattle.ttm_base.specs.Fences.{named_job}
-use Rattle.journal_model.specs.JobRuns.{jobs_of_run}
-use Rattle.journal_model.specs.Waits.{is_unfinished}
+use Rattle.journal_model.specs.code.JobRuns.{jobs_of_run}
+use Rattle.journal_model.specs.rules.Waits.{is_unfinished}
 use Rattle.rules_holds.proofs.RunJobs.{last_named, last_passed_over, none_open}
 use Rattle.rules_holds.proofs.waits.last_open_from.Goals as goal
 

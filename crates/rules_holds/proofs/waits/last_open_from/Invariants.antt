@@ -1,6 +1,6 @@
 use Rattle.std.proofs.Common.{◌≡◌, ◌≤◌}
-use Rattle.journal_model.specs.JobRuns.{jobs_of_run}
-use Rattle.journal_model.specs.Waits.{waited_for}
+use Rattle.journal_model.specs.code.JobRuns.{jobs_of_run}
+use Rattle.journal_model.specs.rules.Waits.{waited_for}
 use Rattle.rules_holds.proofs.waits.last_open_from.Given as goal
 
 abbrev pub invariant-loop-left : goal.invariant-loop-left

@@ -1,6 +1,6 @@
 use Rattle.std.proofs.Common.{◌≡◌, ◌++◌}
-use Rattle.journal_model.specs.JobRuns.{jobs_of_run}
-use Rattle.journal_model.specs.Waits.{unfinished}
+use Rattle.journal_model.specs.code.JobRuns.{jobs_of_run}
+use Rattle.journal_model.specs.rules.Waits.{unfinished}
 use Rattle.rules_holds.proofs.waits.push_each_open.Given as goal
 
 abbrev pub invariant-loop-at : goal.invariant-loop-at

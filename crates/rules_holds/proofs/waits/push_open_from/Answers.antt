@@ -2,8 +2,8 @@ use Rattle.std.proofs.Common.{◌≡◌, ◌∙◌, ◌++◌, ◌-◌, ◌≤◌
 use Rattle.std.specs.Prelude.{OnOk}
 use Rattle.std.proofs.lemmas.Grind.{common_steps}
 use Rattle.std.proofs.lemmas.Bool.Decides.{nat_tests}
-use Rattle.journal_model.specs.JobRuns.{jobs_of_run, behind}
-use Rattle.journal_model.specs.Waits.{unfinished}
+use Rattle.journal_model.specs.code.JobRuns.{jobs_of_run, behind}
+use Rattle.journal_model.specs.rules.Waits.{unfinished}
 use Rattle.rules_holds.proofs.RunJobs.{none_open, open_behind}
 use Rattle.rules_holds.proofs.waits.push_open_from.Goals as goal
 

@@ -1,7 +1,7 @@
 use Rattle.std.proofs.Common.{◌≡◌, take}
 use Rattle.std.specs.Prelude.{flat_map}
-use Rattle.journal_model.specs.JobRuns.{fences_of_run}
-use Rattle.journal_model.specs.Waits.{unfinished}
+use Rattle.journal_model.specs.code.JobRuns.{fences_of_run}
+use Rattle.journal_model.specs.rules.Waits.{unfinished}
 use Rattle.rules_holds.specs.Before.{jobs_before}
 use Rattle.rules_holds.specs.Least.{IsLook}
 use Rattle.rules_holds.proofs.waits.unfinished_before.Given as goal

@@ -1,7 +1,7 @@
 use Rattle.std.proofs.Common.{◌≡◌, take}
 use Rattle.std.specs.Prelude.{flat_map}
-use Rattle.journal_model.specs.JobRuns.{jobs_of_run}
-use Rattle.journal_model.specs.Waits.{waited_for}
+use Rattle.journal_model.specs.code.JobRuns.{jobs_of_run}
+use Rattle.journal_model.specs.rules.Waits.{waited_for}
 use Rattle.rules_holds.specs.Least.{IsLook}
 use Rattle.rules_holds.proofs.waits.waited_for.Given as goal
 

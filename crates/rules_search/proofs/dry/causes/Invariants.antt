@@ -1,8 +1,8 @@
 use Rattle.std.proofs.Common.{◌≡◌, take}
 use Rattle.std.specs.Prelude.{filter_map}
 use Rattle.std.specs.List.{enumerate_from}
-use Rattle.journal_model.specs.Holds.{live_entry}
-use Rattle.journal_model.specs.Dry.{cause_row}
+use Rattle.journal_model.specs.rules.Holds.{live_entry}
+use Rattle.journal_model.specs.rules.Dry.{cause_row}
 use Rattle.rules_search.proofs.dry.causes.Given as goal
 
 abbrev pub invariant-loop-i : goal.invariant-loop-i

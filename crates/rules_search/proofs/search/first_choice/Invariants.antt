@@ -1,5 +1,5 @@
 use Rattle.std.proofs.Common.{◌≡◌, drop}
-use Rattle.journal_model.specs.Search.{first_choice}
+use Rattle.journal_model.specs.rules.Search.{first_choice}
 use Rattle.rules_search.proofs.search.first_choice.Given as goal
 
 abbrev pub invariant-loop-place : goal.invariant-loop-place

@@ -1,5 +1,5 @@
 use Rattle.std.proofs.Common.{◌≡◌}
-use Rattle.journal_model.specs.State.{new_buffer}
+use Rattle.journal_model.specs.rules.State.{new_buffer}
 use Rattle.rules_state.proofs.buffers.new_buffer.Given as goal
 
 abbrev pub invariant-loop-page : goal.invariant-loop-page

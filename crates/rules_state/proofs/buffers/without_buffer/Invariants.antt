@@ -1,5 +1,5 @@
 use Rattle.std.proofs.Common.{◌≡◌, take}
-use Rattle.journal_model.specs.State.{without_buffer}
+use Rattle.journal_model.specs.rules.State.{without_buffer}
 use Rattle.rules_state.proofs.buffers.without_buffer.Given as goal
 
 abbrev pub invariant-loop-c : goal.invariant-loop-c

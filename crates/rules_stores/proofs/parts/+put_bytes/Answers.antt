@@ -1,4 +1,4 @@
-use Rattle.journal_model.specs.State.{buffer_in}
+use Rattle.journal_model.specs.rules.State.{buffer_in}
 use Rattle.rules_stores.proofs.PutLaws.{put_whole, put_parts}
 use Rattle.rules_stores.proofs.parts.+put_bytes.Goals as goal
 

@@ -1,6 +1,6 @@
 use Rattle.std.proofs.Common.{◌≡◌}
-use Rattle.journal_model.specs.State.{buffer_in}
-use Rattle.journal_model.specs.Stores as words
+use Rattle.journal_model.specs.rules.State.{buffer_in}
+use Rattle.journal_model.specs.rules.Stores as words
 use Rattle.rules_stores.specs.Kept.{bytes_of}
 use Rattle.rules_stores.proofs.shown.buffer_bytes.Given as goal
 

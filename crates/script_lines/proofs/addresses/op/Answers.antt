@@ -1,5 +1,5 @@
 use Rattle.std.proofs.Common.{◌≡◌, [], ◌∷◌, true, false, bytes_eq, codes, length, refl, arith, ap, sym, ◌∙◌}
-use Rattle.journal_model.specs.LineWords.{vop_of}
+use Rattle.journal_model.specs.scripts.LineWords.{vop_of}
 use Rattle.script_lines.proofs.Fronts.{three_are, four_are}
 use Rattle.script_lines.proofs.addresses.op.Goals as goal
 

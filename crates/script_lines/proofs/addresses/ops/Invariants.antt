@@ -1,6 +1,6 @@
 use Rattle.std.proofs.Common.{◌≡◌, ◌≤◌, ◌-◌, ◌++◌, map, take, drop, length}
-use Rattle.journal_model.specs.Cut.{cut_by, is_semicolon}
-use Rattle.journal_model.specs.LineWords.{vop_of, vop_words_of}
+use Rattle.journal_model.specs.scripts.Cut.{cut_by, is_semicolon}
+use Rattle.journal_model.specs.scripts.LineWords.{vop_of, vop_words_of}
 use Rattle.script_words.proofs.Cuts.{behind}
 use Rattle.script_lines.proofs.addresses.ops.Given as goal
 

@@ -1,7 +1,7 @@
 use Rattle.std.proofs.Common.{◌≡◌, ap, ◌∙◌, subst, refl, Option}
 use Rattle.std.specs.Prelude.{IfOk}
 use Rattle.journal_model.specs.declared.line.Line.{Line}
-use Rattle.journal_model.specs.LineWords.{has_head_words, buffer_head_of, lists_line}
+use Rattle.journal_model.specs.scripts.LineWords.{has_head_words, buffer_head_of, lists_line}
 use Rattle.script_lines.proofs.Patterns.{buffer_is, rest_whole}
 use Rattle.script_lines.proofs.buffers.buffer.Goals as goal
 

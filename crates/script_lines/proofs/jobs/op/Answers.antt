@@ -1,5 +1,5 @@
 use Rattle.std.proofs.Common.{◌≡◌, [], ◌∷◌, true, false, bytes_eq, codes, length, refl, arith, ap, sym, ◌∙◌}
-use Rattle.journal_model.specs.LineWords.{op_of}
+use Rattle.journal_model.specs.scripts.LineWords.{op_of}
 use Rattle.script_lines.proofs.Fronts.{four_are, five_are, six_are}
 use Rattle.script_lines.proofs.jobs.op.Goals as goal
 

@@ -1,6 +1,6 @@
 use Rattle.std.proofs.Common.{◌≡◌, ◌<◌, true, false, length, get_or, sym, ap, ◌∙◌, map, arith}
-use Rattle.journal_model.specs.Cut.{is_semicolon}
-use Rattle.journal_model.specs.LineWords.{op_of}
+use Rattle.journal_model.specs.scripts.Cut.{is_semicolon}
+use Rattle.journal_model.specs.scripts.LineWords.{op_of}
 use Rattle.script_words.proofs.Cuts.{behind-nil, group_hit, group_miss}
 use Rattle.script_lines.proofs.jobs.ops.Goals as goal
 use Rattle.script_lines.proofs.jobs.ops.Goals.{then-is_lone_semicolon+in_ok-push, else-is_lone_semicolon}

@@ -1,6 +1,6 @@
 use Rattle.std.proofs.Common.{◌≡◌, ◌≤◌, ◌-◌, ◌++◌, map, take, drop, length}
-use Rattle.journal_model.specs.Cut.{cut_by, is_semicolon}
-use Rattle.journal_model.specs.LineWords.{op_of, op_words_of}
+use Rattle.journal_model.specs.scripts.Cut.{cut_by, is_semicolon}
+use Rattle.journal_model.specs.scripts.LineWords.{op_of, op_words_of}
 use Rattle.script_words.proofs.Cuts.{behind}
 use Rattle.script_lines.proofs.jobs.ops.Given as goal
 

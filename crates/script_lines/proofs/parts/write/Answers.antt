@@ -1,5 +1,5 @@
 use Rattle.std.proofs.Common.{◌≡◌, length, get_or, arith, ap}
-use Rattle.journal_model.specs.LineWords.{write_line}
+use Rattle.journal_model.specs.scripts.LineWords.{write_line}
 use Rattle.script_lines.proofs.Fronts.{first_again, four_are}
 use Rattle.script_lines.proofs.parts.write.Goals as goal
 

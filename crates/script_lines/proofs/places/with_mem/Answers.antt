@@ -1,5 +1,5 @@
 use Rattle.std.proofs.Common.{◌≡◌, ◌+◌, ◌≤◌, length, drop, get_or, Some, sym, ap, subst, ◌∙◌, IfOk}
-use Rattle.journal_model.specs.Reading.{mem_of, based_place}
+use Rattle.journal_model.specs.scripts.Reading.{mem_of, based_place}
 use Rattle.script_lines.proofs.Reach.{first_in, at_first}
 use Rattle.script_lines.proofs.places.with_mem.Goals as goal
 

@@ -1,7 +1,7 @@
 use Rattle.std.proofs.Common.{◌≡◌, take, []}
 use Rattle.std.specs.Prelude.{fold, flat_map}
 use Rattle.script_rules.specs.Mentions.{mentioned}
-use Rattle.journal_model.specs.Commands.{buffers_of_op}
+use Rattle.journal_model.specs.rules.Commands.{buffers_of_op}
 use Rattle.script_rules.proofs.addresses.mentioned_by.Given as goal
 
 abbrev pub invariant-loop-op : goal.invariant-loop-op

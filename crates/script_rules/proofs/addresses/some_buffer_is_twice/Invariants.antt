@@ -1,7 +1,7 @@
 use Rattle.std.proofs.Common.{◌≡◌, drop}
 use Rattle.std.specs.Prelude.{not}
 use Rattle.std.specs.List.{list_any}
-use Rattle.journal_model.specs.MarkRules.{has_apart_ranges}
+use Rattle.journal_model.specs.scripts.MarkRules.{has_apart_ranges}
 use Rattle.script_rules.proofs.addresses.some_buffer_is_twice.Given as goal
 
 abbrev pub invariant-loop-op : goal.invariant-loop-op

@@ -1,5 +1,5 @@
 use Rattle.std.proofs.Common.{◌≡◌, map, take}
-use Rattle.journal_model.specs.LineRules.{vop_in}
+use Rattle.journal_model.specs.scripts.LineRules.{vop_in}
 use Rattle.script_rules.proofs.addresses.vops_of.Given as goal
 
 abbrev pub invariant-loop-word : goal.invariant-loop-word

@@ -1,6 +1,6 @@
 use Rattle.std.proofs.Common.{◌≡◌, ◌≤◌, take}
 use Rattle.std.specs.Prelude.{sum_by}
-use Rattle.journal_model.specs.LineRules.{len_of_word}
+use Rattle.journal_model.specs.scripts.LineRules.{len_of_word}
 use Rattle.script_rules.proofs.rules.lens_within.Given as goal
 
 abbrev pub invariant-loop-op : goal.invariant-loop-op

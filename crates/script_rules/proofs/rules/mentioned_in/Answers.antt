@@ -2,7 +2,7 @@ use Rattle.std.proofs.Common.{ap, ◌∙◌, arith, []}
 use Rattle.std.proofs.lemmas.List.{take_all}
 use Rattle.std.specs.Prelude.{fold, flat_map}
 use Rattle.script_rules.specs.Mentions.{mentioned}
-use Rattle.journal_model.specs.LineRules.{buffers_of_word}
+use Rattle.journal_model.specs.scripts.LineRules.{buffers_of_word}
 use Rattle.script_rules.proofs.MentionLaws.{gathered_all}
 use Rattle.script_rules.proofs.rules.mentioned_in.Goals as goal
 

@@ -1,7 +1,7 @@
 use Rattle.std.proofs.Common.{◌≡◌, take, []}
 use Rattle.std.specs.Prelude.{fold, flat_map}
 use Rattle.script_rules.specs.Mentions.{mentioned}
-use Rattle.journal_model.specs.LineRules.{buffers_of_word}
+use Rattle.journal_model.specs.scripts.LineRules.{buffers_of_word}
 use Rattle.script_rules.proofs.rules.mentioned_in.Given as goal
 
 abbrev pub invariant-loop-op : goal.invariant-loop-op

@@ -1,5 +1,5 @@
 use Rattle.std.proofs.Common.{◌≡◌, ◌++◌, map, take}
-use Rattle.journal_model.specs.Spelling.{op_words}
+use Rattle.journal_model.specs.scripts.Spelling.{op_words}
 use Rattle.script_spelling.specs.Parts.{parted_out}
 use Rattle.text_line.specs.Spaced.{spaced_out}
 use Rattle.script_spelling.proofs.commands.put_more_ops.Given as goal

@@ -1,6 +1,6 @@
 use Rattle.std.proofs.Common.{◌≡◌, drop}
 use Rattle.std.specs.Prelude.{filter_map, slice_get}
-use Rattle.journal_model.specs.Marks.{addressed}
+use Rattle.journal_model.specs.marks.Marks.{addressed}
 use Rattle.script_spelling.specs.Parts.{kinds}
 use Rattle.script_spelling.proofs.marks.addressed_in.Given as goal
 

@@ -1,5 +1,5 @@
 use Rattle.std.proofs.lemmas.Result.{on_ok_weaker}
-use Rattle.journal_model.specs.Spelling.{vop_words}
+use Rattle.journal_model.specs.scripts.Spelling.{vop_words}
 use Rattle.script_spelling.proofs.SpacedLaws.{ops_grow}
 use Rattle.script_spelling.proofs.marks.put_ops.Goals as goal
 

@@ -1,7 +1,7 @@
 use Rattle.std.proofs.Common.{◌∷◌, decimal, map}
 use Rattle.std.specs.Prelude.{codes}
 use Rattle.std.proofs.lemmas.Result.{on_ok_weaker}
-use Rattle.journal_model.specs.Spelling.{vop_words, parted}
+use Rattle.journal_model.specs.scripts.Spelling.{vop_words, parted}
 use Rattle.script_spelling.proofs.SpacedLaws.{line_grows, words_grow}
 use Rattle.script_spelling.proofs.marks.put_vsubmit.Goals as goal
 

@@ -2,7 +2,7 @@ use Rattle.std.proofs.Common.{◌≡◌, ◌++◌, ◌∙◌, ap, sym, true, fal
 use Rattle.std.specs.Prelude.{filter_map, slice_get}
 use Rattle.std.specs.List.{list_any}
 use Rattle.std.proofs.lemmas.Result.{on_ok_weaker}
-use Rattle.journal_model.specs.Marks.{addressed, is_mapped}
+use Rattle.journal_model.specs.marks.Marks.{addressed, is_mapped}
 use Rattle.script_spelling.specs.Parts.{kinds}
 use Rattle.script_spelling.proofs.MarkText.{as_mapped, as_command, mapped_kinds}
 use Rattle.script_spelling.proofs.marks.put_written.Goals as goal

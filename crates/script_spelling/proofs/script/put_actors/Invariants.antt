@@ -1,5 +1,5 @@
 use Rattle.std.proofs.Common.{◌≡◌, ◌++◌, map, take}
-use Rattle.journal_model.specs.Words.{actor_word}
+use Rattle.journal_model.specs.scripts.Words.{actor_word}
 use Rattle.text_line.specs.Spaced.{spaced_out}
 use Rattle.script_spelling.proofs.script.put_actors.Given as goal
 

@@ -1,7 +1,7 @@
 use Rattle.std.proofs.Common.{◌++◌}
 use Rattle.std.specs.Prelude.{codes}
 use Rattle.std.proofs.lemmas.Result.{on_ok_weaker}
-use Rattle.journal_model.specs.Spelling.{placement_words}
+use Rattle.journal_model.specs.scripts.Spelling.{placement_words}
 use Rattle.script_spelling.specs.Parts.{shape_words}
 use Rattle.script_spelling.proofs.SpacedLaws.{line_grows, words_join}
 use Rattle.script_spelling.proofs.script.put_buffer.Goals as goal

@@ -1,6 +1,6 @@
 use Rattle.std.proofs.Common.{◌≡◌, ◌++◌, take}
 use Rattle.std.specs.Prelude.{flat_map}
-use Rattle.journal_model.specs.Spelling.{buffer_line}
+use Rattle.journal_model.specs.scripts.Spelling.{buffer_line}
 use Rattle.script_spelling.proofs.script.put_buffers.Given as goal
 
 abbrev pub invariant-loop-decl : goal.invariant-loop-decl

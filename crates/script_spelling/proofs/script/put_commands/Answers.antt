@@ -1,5 +1,5 @@
 use Rattle.std.proofs.Common.{◌≡◌, [], ℕ, ◌+◌, ◌<◌, ◌≤◌, ◌∷◌, ◌++◌, ◌∙◌, length, drop, get_or, ap, sym, arith, add-one, drop-cons}
-use Rattle.journal_model.specs.Spelling.{command_lines}
+use Rattle.journal_model.specs.scripts.Spelling.{command_lines}
 use Rattle.script_spelling.proofs.MarkText.{one_command, last_marks, all_dropped}
 use Rattle.script_spelling.proofs.script.put_commands.Goals as goal
 

@@ -1,5 +1,5 @@
 use Rattle.std.proofs.Common.{◌≡◌, ◌≤◌, ◌++◌, drop, length}
-use Rattle.journal_model.specs.Spelling.{command_lines}
+use Rattle.journal_model.specs.scripts.Spelling.{command_lines}
 use Rattle.script_spelling.specs.Cursors.{marks_from}
 use Rattle.script_spelling.proofs.script.put_commands.Given as goal
 

@@ -1,7 +1,7 @@
 use Rattle.std.proofs.Common.{decimal}
 use Rattle.std.specs.Prelude.{codes}
 use Rattle.std.proofs.lemmas.Result.{on_ok_weaker}
-use Rattle.journal_model.specs.Spelling.{group_word}
+use Rattle.journal_model.specs.scripts.Spelling.{group_word}
 use Rattle.script_spelling.proofs.SpacedLaws.{eight_words}
 use Rattle.script_spelling.proofs.script.put_shape.Goals as goal
 

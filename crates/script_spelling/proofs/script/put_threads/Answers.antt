@@ -1,8 +1,8 @@
 use Rattle.std.proofs.Common.{◌≡◌, ℕ, ◌+◌, ◌<◌, ◌≤◌, ◌∷◌, ◌++◌, ◌∙◌, length, drop, get_or, refl, ap, sym, arith, add-one, drop-cons}
 use Rattle.std.specs.Prelude.{flat_map}
 use Rattle.std.specs.List.{enumerate_from}
-use Rattle.journal_model.specs.Commands.{commands_of}
-use Rattle.journal_model.specs.Spelling.{thread_lines}
+use Rattle.journal_model.specs.rules.Commands.{commands_of}
+use Rattle.journal_model.specs.scripts.Spelling.{thread_lines}
 use Rattle.script_spelling.specs.Cursors.{marks_from}
 use Rattle.script_spelling.proofs.MarkText.{one_thread, next_thread, first_thread, thread_at}
 use Rattle.script_spelling.proofs.script.put_threads.Goals as goal

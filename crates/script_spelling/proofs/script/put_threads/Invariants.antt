@@ -1,7 +1,7 @@
 use Rattle.std.proofs.Common.{◌≡◌, ◌+◌, ◌≤◌, ◌++◌, drop, length}
 use Rattle.std.specs.Prelude.{flat_map}
 use Rattle.std.specs.List.{enumerate_from}
-use Rattle.journal_model.specs.Spelling.{thread_lines}
+use Rattle.journal_model.specs.scripts.Spelling.{thread_lines}
 use Rattle.script_spelling.specs.Cursors.{marks_from}
 use Rattle.script_spelling.proofs.script.put_threads.Given as goal
 

@@ -1,7 +1,7 @@
 use Rattle.std.proofs.Common.{map}
 use Rattle.std.specs.Prelude.{codes}
 use Rattle.std.proofs.lemmas.Result.{on_ok_weaker}
-use Rattle.journal_model.specs.Words.{actor_word}
+use Rattle.journal_model.specs.scripts.Words.{actor_word}
 use Rattle.script_spelling.proofs.SpacedLaws.{line_grows}
 use Rattle.script_spelling.proofs.script.put_turn_line.Goals as goal
 

@@ -1,7 +1,7 @@
 use Rattle.std.proofs.Common.{subst}
 use Rattle.journal_model.specs.declared.line.Line.TheVariants as line
 use Rattle.journal_model.specs.declared.script.MarkKind.TheVariants as mark
-use Rattle.journal_model.specs.MarkRules.{thread_mappings_after}
+use Rattle.journal_model.specs.scripts.MarkRules.{thread_mappings_after}
 use Rattle.script_rules.specs.script_mappings.ThreadMappingLists.{IsThreadMappings}
 use Rattle.script_text.proofs.Mapped.{vmap_pages, next_of}
 use Rattle.script_text.proofs.marks.follow.Goals as goal

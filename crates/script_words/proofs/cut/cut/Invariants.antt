@@ -1,5 +1,5 @@
 use Rattle.std.proofs.Common.{◌≡◌, ◌++◌, drop}
-use Rattle.journal_model.specs.Cut.{cut_at}
+use Rattle.journal_model.specs.scripts.Cut.{cut_at}
 use Rattle.script_words.proofs.Cuts.{behind}
 use Rattle.script_words.proofs.cut.cut.Given as goal
 

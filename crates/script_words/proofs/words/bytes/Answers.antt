@@ -1,7 +1,7 @@
 use Rattle.std.proofs.Common.{◌≡◌, false, true, sym, ap, ◌∙◌, ℕ, List, Some, inl, inr, arith}
 use Rattle.std.specs.List.{list_all}
 use Rattle.std.proofs.lemmas.Grind.{common_steps}
-use Rattle.journal_model.specs.Reading.{is_hex}
+use Rattle.journal_model.specs.scripts.Reading.{is_hex}
 use Rattle.script_words.proofs.Hex.{bytes_of-not_hex, hex_reads}
 use Rattle.script_words.proofs.words.bytes.Goals as goal
 

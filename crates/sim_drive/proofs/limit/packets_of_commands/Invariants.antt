@@ -1,5 +1,5 @@
 use Rattle.std.proofs.Common.{◌≡◌, min, take, length, sum_by, flat_map}
-use Rattle.journal_model.specs.Scheduled.{packets_in}
+use Rattle.journal_model.specs.statements.Scheduled.{packets_in}
 use Rattle.sim_drive.proofs.limit.packets_of_commands.Given as goal
 
 abbrev pub invariant-loop-command : goal.invariant-loop-command

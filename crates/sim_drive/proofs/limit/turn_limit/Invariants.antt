@@ -1,6 +1,6 @@
 use Rattle.std.proofs.Common.{◌≡◌, length, min, take}
 use Rattle.std.specs.Prelude.{flat_map, sum_by}
-use Rattle.journal_model.specs.Scheduled.{packets_in}
+use Rattle.journal_model.specs.statements.Scheduled.{packets_in}
 use Rattle.sim_drive.proofs.limit.turn_limit.Given as goal
 
 abbrev pub invariant-loop-line : goal.invariant-loop-line

@@ -1,6 +1,6 @@
 use Rattle.std.proofs.Common.{◌≡◌, ◌+◌, ◌≤◌, false, ap, ◌∙◌, subst, arith}
-use Rattle.journal_model.specs.Complete.{is_complete}
-use Rattle.journal_model.specs.Scheduled.{scheduled}
+use Rattle.journal_model.specs.statements.Complete.{is_complete}
+use Rattle.journal_model.specs.statements.Scheduled.{scheduled}
 use Rattle.device_core.specs.Kept.{Kept}
 use Rattle.sim_drive.proofs.Earlier.{not_before_more}
 use Rattle.sim_drive.proofs.turns.drive.Goals as goal

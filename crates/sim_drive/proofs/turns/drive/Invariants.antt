@@ -1,5 +1,5 @@
 use Rattle.std.proofs.Common.{◌≡◌, ◌≤◌, ◌-◌}
-use Rattle.journal_model.specs.Scheduled.{scheduled, scheduled_actors}
+use Rattle.journal_model.specs.statements.Scheduled.{scheduled, scheduled_actors}
 use Rattle.sim_drive.specs.Ends.{NotBefore}
 use Rattle.sim_drive.proofs.turns.drive.Given as goal
 

@@ -1,6 +1,6 @@
 use Rattle.std.proofs.Common.{◌≡◌, Some, None, ◌∙◌, sym, subst}
 use Rattle.std.specs.Prelude.{slice_get}
-use Rattle.journal_model.specs.Scheduled.{scheduled_actors}
+use Rattle.journal_model.specs.statements.Scheduled.{scheduled_actors}
 use Rattle.sim_drive.proofs.TurnLaws.{scheduled_moves, first_moves}
 use Rattle.sim_drive.proofs.turns.take_turn.Goals as goal
 

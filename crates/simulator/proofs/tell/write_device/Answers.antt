@@ -2,8 +2,8 @@ use Rattle.std.proofs.Common.{List, sym, subst}
 use Rattle.io_edge.specs.Written.{Writes}
 use Rattle.journal_model.specs.declared.script.Script.{Script}
 use Rattle.journal_model.specs.declared.entry.Entry.{Entry}
-use Rattle.journal_model.specs.Legal.{IsLegal}
-use Rattle.journal_model.specs.ReportText.{report}
+use Rattle.journal_model.specs.rules.Legal.{IsLegal}
+use Rattle.journal_model.specs.reports.ReportText.{report}
 use Rattle.simulator.proofs.ReportLaws.{answerable, same_accounts}
 use Rattle.simulator.proofs.tell.write_device.Goals as goal
 

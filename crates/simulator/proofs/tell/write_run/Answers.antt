@@ -1,9 +1,9 @@
 use Rattle.std.proofs.Common.{◌≡◌, ◌++◌, ◌∷◌, [], Bool, false, sym, subst, arith}
 use Rattle.std.specs.Prelude.{codes, decimal, if◌then◌else◌}
 use Rattle.io_edge.specs.Written.{Writes}
-use Rattle.journal_model.specs.Words.{line}
-use Rattle.journal_model.specs.Complete.{is_complete}
-use Rattle.journal_model.specs.ReportText.{report}
+use Rattle.journal_model.specs.scripts.Words.{line}
+use Rattle.journal_model.specs.statements.Complete.{is_complete}
+use Rattle.journal_model.specs.reports.ReportText.{report}
 use Rattle.simulator.proofs.tell.write_run.Goals as goal
 
 pub returns-else-over-clause-text : goal.returns-else-over-clause-text

@@ -1,8 +1,8 @@
 use Rattle.std.proofs.Common.{[], ◌∷◌, ◌++◌}
 use Rattle.std.specs.Prelude.{codes, decimal}
 use Rattle.io_edge.proofs.Told.{front_of_first, writes_next, writes_refused}
-use Rattle.journal_model.specs.Words.{line}
-use Rattle.journal_model.specs.ReportText.{report}
+use Rattle.journal_model.specs.scripts.Words.{line}
+use Rattle.journal_model.specs.reports.ReportText.{report}
 use Rattle.simulator.proofs.tell.write_unfinished_run.Goals as goal
 
 pub returns-in_err-write_unfinished-clause-text : goal.returns-in_err-write_unfinished-clause-text

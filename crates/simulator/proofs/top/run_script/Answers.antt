@@ -1,6 +1,6 @@
 use Rattle.std.proofs.Common.{min, ap, ◌∙◌}
 use Rattle.std.specs.Prelude.{unwrap_or}
-use Rattle.journal_model.specs.Scheduled.{turn_limit}
+use Rattle.journal_model.specs.statements.Scheduled.{turn_limit}
 use Rattle.sim_drive.specs.Ends.{Kept}
 use Rattle.simulator.proofs.RunLaws.{is_run}
 use Rattle.simulator.proofs.top.run_script.Goals as goal

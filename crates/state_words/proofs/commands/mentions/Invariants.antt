@@ -1,6 +1,6 @@
 use Rattle.std.proofs.Common.{◌≡◌, take}
 use Rattle.std.specs.Prelude.{flat_map}
-use Rattle.journal_model.specs.Commands.{buffers_of_op}
+use Rattle.journal_model.specs.rules.Commands.{buffers_of_op}
 use Rattle.state_words.proofs.commands.mentions.Given as goal
 
 abbrev pub invariant-loop-op : goal.invariant-loop-op

@@ -1,6 +1,6 @@
 use Rattle.std.proofs.Common.{◌<◌, length, arith, ◌∙◌}
 use Rattle.std.proofs.Math.ListN.{length-set}
-use Rattle.journal_model.specs.ApplyVictims.{failed_if}
+use Rattle.journal_model.specs.rules.ApplyVictims.{failed_if}
 use Rattle.journal_model.proofs.ListSteps.{map_over_step}
 use Rattle.state_words.proofs.courses.fail_victim.Goals as goal
 

@@ -1,6 +1,6 @@
 use Rattle.std.proofs.Common.{◌≡◌, ◌++◌, take, drop, length}
 use Rattle.std.specs.Prelude.{map}
-use Rattle.journal_model.specs.ApplyVictims.{failed_if}
+use Rattle.journal_model.specs.rules.ApplyVictims.{failed_if}
 use Rattle.state_words.proofs.courses.fail_victim.Given as goal
 
 abbrev pub invariant-loop-i : goal.invariant-loop-i

@@ -2,7 +2,7 @@ use Rattle.std.proofs.Common.{◌-◌, length, Bool}
 use Rattle.std.specs.Prelude.{not}
 use Rattle.ttm_base.specs.declared.BufId.{BufId}
 use Rattle.journal_model.specs.declared.state.Victim.{Victim}
-use Rattle.journal_model.specs.State.{same_buffer}
+use Rattle.journal_model.specs.rules.State.{same_buffer}
 use Rattle.state_words.proofs.ListLaws.{Keeps}
 use Rattle.state_words.proofs.courses.remove_victim.Given as goal
 

@@ -1,6 +1,6 @@
 use Rattle.std.proofs.Common.{◌≡◌, drop}
 use Rattle.std.specs.Prelude.{slice_get}
-use Rattle.journal_model.specs.Places.{pages_of}
+use Rattle.journal_model.specs.rules.Places.{pages_of}
 use Rattle.state_words.proofs.places.page_at.Given as goal
 
 abbrev pub invariant-loop-span : goal.invariant-loop-span

@@ -1,8 +1,8 @@
 use Rattle.std.proofs.Common.{sym, ◌∙◌, ap}
 use Rattle.std.specs.Prelude.{◌&&◌, find}
 use Rattle.ttm_base.specs.declared.BufId.{BufId}
-use Rattle.journal_model.specs.State.{buffer, reservation}
-use Rattle.journal_model.specs.Dry.{has_frame, is_loose}
+use Rattle.journal_model.specs.rules.State.{buffer, reservation}
+use Rattle.journal_model.specs.rules.Dry.{has_frame, is_loose}
 use Rattle.room_state.specs.room_turns.Turns.{state_behind}
 use Rattle.swap_core.proofs.VictimLaws.{find_here, find_past}
 use Rattle.swap_core.proofs.buffers.first_swappable.Goals as goal

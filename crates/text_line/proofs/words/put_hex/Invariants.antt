@@ -1,5 +1,5 @@
 use Rattle.std.proofs.Common.{◌≡◌, ◌++◌, take}
-use Rattle.journal_model.specs.Words.{hex}
+use Rattle.journal_model.specs.scripts.Words.{hex}
 use Rattle.text_line.proofs.words.put_hex.Given as goal
 
 abbrev pub invariant-loop-byte : goal.invariant-loop-byte

@@ -1,7 +1,7 @@
 use Rattle.std.proofs.Common.{sym, subst}
 use Rattle.std.specs.Prelude.{IsTrue}
 use Rattle.journal_model.specs.declared.script.Script.{Script}
-use Rattle.journal_model.specs.ScriptRules.{is_script}
+use Rattle.journal_model.specs.scripts.ScriptRules.{is_script}
 use Rattle.thread_program.proofs.CountLaws.{counts_are}
 use Rattle.thread_program.proofs.counts.counts_of.Goals as goal
 

@@ -1,5 +1,5 @@
 use Rattle.std.proofs.Common.{subst}
-use Rattle.journal_model.specs.Transparent.{IsTransparent}
+use Rattle.journal_model.specs.rules.Transparent.{IsTransparent}
 use Rattle.laws.proofs.law_transparent.Law.{transparent_given}
 use Rattle.laws.proofs.law_transparent.Ways.{have_ways}
 use Rattle.device_core.specs.Kept.{Kept}

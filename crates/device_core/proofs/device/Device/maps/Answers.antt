@@ -1,5 +1,5 @@
 use Rattle.std.proofs.Common.{subst}
-use Rattle.journal_model.specs.Legal.{made_of}
+use Rattle.journal_model.specs.rules.Legal.{made_of}
 use Rattle.map_follow.specs.Follows.{KnowExactly}
 use Rattle.device_core.specs.Kept.{Kept}
 use Rattle.device_core.specs.Mapped.{NamePlaces}

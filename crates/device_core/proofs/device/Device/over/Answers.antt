@@ -1,6 +1,6 @@
 use Rattle.std.proofs.Common.{◌≡◌, false, sym, subst}
 use Rattle.std.specs.Prelude.{Bool, ◌↔◌}
-use Rattle.journal_model.specs.Legal.{state_of}
+use Rattle.journal_model.specs.rules.Legal.{state_of}
 use Rattle.laws.specs.law_sound.Sound.{SomeGoesOn}
 use Rattle.laws.proofs.law_sound.Orders.{until_the_end}
 use Rattle.device_core.specs.Kept.{Kept}

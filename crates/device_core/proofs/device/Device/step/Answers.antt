@@ -1,5 +1,5 @@
 use Rattle.std.proofs.Common.{sym, subst}
-use Rattle.journal_model.specs.MarkLaws.{MapsAreRight}
+use Rattle.journal_model.specs.statements.MarkLaws.{MapsAreRight}
 use Rattle.device_core.specs.Kept.{Kept}
 use Rattle.device_core.proofs.Mappings.{right_now}
 use Rattle.device_core.proofs.device.Device.step.Goals as goal

@@ -1,6 +1,6 @@
 use Rattle.std.proofs.Common.{◌≡◌, ◌+◌}
 use Rattle.journal_model.specs.declared.script.MarkKind.TheVariants as mark
-use Rattle.journal_model.specs.Spaces.{new_region, regions_after, regions_space, after_request}
+use Rattle.journal_model.specs.marks.Spaces.{new_region, regions_after, regions_space, after_request}
 use Rattle.law_legal.specs.law_spaces.Sides.{sides}
 use Rattle.law_legal.proofs.law_spaces.Order.{disjoint_of_rising}
 use Rattle.gpu_spaces.proofs.Small.{on_ok, sides_are_mapped, asks_for_pages, pages_are_given, few_remaps}

@@ -2,7 +2,7 @@ use Rattle.std.proofs.Common.{◌≡◌, ◌+◌, ◌-◌, ◌<◌, ◌≤◌, t
 use Rattle.std.specs.Prelude.{flat_map}
 use Rattle.std.proofs.lemmas.Grind.{common_steps}
 use Rattle.std.proofs.lemmas.Bool.Decides.{nat_tests}
-use Rattle.journal_model.specs.JobRuns.{fences_of_run, is_whole}
+use Rattle.journal_model.specs.code.JobRuns.{fences_of_run, is_whole}
 use Rattle.journal_model.proofs.JobRunLaws.{all_whole_set, all_whole_removed, whole_at, last_shrinks, last_goes}
 use Rattle.journal_model.proofs.fences.Fences.drop_last.Goals as goal
 

@@ -1,6 +1,6 @@
 use Rattle.std.proofs.Common.{◌≡◌, ◌+◌, false, subst, take, drop}
 use Rattle.std.specs.List.{list_any}
-use Rattle.journal_model.specs.JobNames.{same_job}
+use Rattle.journal_model.specs.rules.JobNames.{same_job}
 use Rattle.journal_model.proofs.SplitJobs.{split_counted, bounded_counted, others_same}
 use Rattle.journal_model.proofs.RowLaws.{row_counted}
 use Rattle.journal_model.proofs.jobs.Jobs.count_packet.Goals as goal

@@ -1,5 +1,5 @@
 use Rattle.std.proofs.Common.{◌≤◌, ◌-◌, length, remove, arith, subst}
-use Rattle.journal_model.specs.Jobs.{IsSplit}
+use Rattle.journal_model.specs.code.Jobs.{IsSplit}
 use Rattle.journal_model.proofs.SplitJobs.{split_dropped, bounded_dropped}
 use Rattle.journal_model.proofs.RowLaws.{no_row}
 use Rattle.journal_model.proofs.jobs.Jobs.drop_last.Goals as goal

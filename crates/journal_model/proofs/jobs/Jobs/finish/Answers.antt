@@ -1,7 +1,7 @@
 use Rattle.std.proofs.Common.{◌≡◌, ◌∙◌, true, false, take, drop, sym, subst}
 use Rattle.std.specs.List.{list_any}
-use Rattle.journal_model.specs.JobNames.{same_job}
-use Rattle.journal_model.specs.Jobs.{IsSplit, IsRow}
+use Rattle.journal_model.specs.rules.JobNames.{same_job}
+use Rattle.journal_model.specs.code.Jobs.{IsSplit, IsRow}
 use Rattle.journal_model.proofs.SplitJobs.{split_finished, bounded_finished, finished_same, others_same}
 use Rattle.journal_model.proofs.jobs.Jobs.finish.Goals as goal
 

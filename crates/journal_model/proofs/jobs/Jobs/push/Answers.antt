@@ -1,7 +1,7 @@
 use Rattle.std.proofs.Common.{◌≡◌, false, take, sym, subst}
 use Rattle.std.specs.List.{list_any}
-use Rattle.journal_model.specs.JobNames.{same_job}
-use Rattle.journal_model.specs.Jobs.{IsSplit, AreKept}
+use Rattle.journal_model.specs.rules.JobNames.{same_job}
+use Rattle.journal_model.specs.code.Jobs.{IsSplit, AreKept}
 use Rattle.journal_model.proofs.SplitJobs.{split_pushed, bounded_pushed}
 use Rattle.journal_model.proofs.jobs.Jobs.push.Goals as goal
 

@@ -1,5 +1,5 @@
 use Rattle.std.proofs.Common.{length, ◌-◌}
-use Rattle.journal_model.specs.Jobs.{IsSplit}
+use Rattle.journal_model.specs.code.Jobs.{IsSplit}
 use Rattle.journal_model.proofs.jobs.list.closed_from.Given as goal
 
 abbrev pub invariant-loop-count : goal.invariant-loop-count

@@ -2,10 +2,10 @@ use Rattle.std.proofs.Common.{◌≡◌, ◌++◌, take, drop, ap, ◌+◌, ◌<
 use Rattle.std.proofs.Math.ListN.{length-set}
 use Rattle.std.proofs.lemmas.Grind.{common_steps}
 use Rattle.std.proofs.lemmas.Bool.Decides.{nat_tests}
-use Rattle.journal_model.specs.ApplyJobs.{changed_job}
+use Rattle.journal_model.specs.rules.ApplyJobs.{changed_job}
 use Rattle.journal_model.proofs.RowLaws.{changed_parts}
-use Rattle.journal_model.specs.Waits.{same_job}
-use Rattle.journal_model.specs.Jobs.{has_packets_left}
+use Rattle.journal_model.specs.rules.Waits.{same_job}
+use Rattle.journal_model.specs.code.Jobs.{has_packets_left}
 use Rattle.journal_model.proofs.ListSteps.{map_over_step, over_next, passes_at}
 use Rattle.journal_model.proofs.jobs.list.count_between.Goals as goal
 

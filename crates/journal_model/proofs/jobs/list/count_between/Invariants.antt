@@ -1,5 +1,5 @@
 use Rattle.std.proofs.Common.{◌≡◌, ◌+◌, ◌++◌, take, drop, length}
-use Rattle.journal_model.specs.ApplyJobs.{changed_job}
+use Rattle.journal_model.specs.rules.ApplyJobs.{changed_job}
 use Rattle.journal_model.proofs.jobs.list.count_between.Given as goal
 
 abbrev pub invariant-loop-i : goal.invariant-loop-i

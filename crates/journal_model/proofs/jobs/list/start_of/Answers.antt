@@ -1,7 +1,7 @@
 use Rattle.std.proofs.Common.{◌≡◌, take, drop, true, arith}
 use Rattle.std.proofs.lemmas.Grind.{common_steps}
 use Rattle.std.specs.List.{list_any}
-use Rattle.journal_model.specs.JobNames.{same_job}
+use Rattle.journal_model.specs.rules.JobNames.{same_job}
 use Rattle.journal_model.proofs.SplitJobs.{pending_apart}
 use Rattle.journal_model.proofs.jobs.list.start_of.Goals as goal
 

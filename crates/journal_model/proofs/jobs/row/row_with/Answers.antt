@@ -1,7 +1,7 @@
 use Rattle.std.proofs.Common.{◌≡◌, ◌++◌, sym, subst, arith}
 use Rattle.std.specs.Prelude.{IsTrue}
 use Rattle.std.proofs.lemmas.Bool.Decides.{nat_tests}
-use Rattle.journal_model.specs.JobRuns.{jobs_of_run, fits}
+use Rattle.journal_model.specs.code.JobRuns.{jobs_of_run, fits}
 use Rattle.journal_model.proofs.RowLaws.{row_pushed, row_alone}
 use Rattle.journal_model.proofs.jobs.row.row_with.Goals as goal
 

@@ -1,6 +1,6 @@
 use Rattle.std.proofs.Common.{◌≡◌, ◌+◌, ◌^◌, ◌<◌, length, Ok, sym, ◌∙◌, subst}
-use Rattle.journal_model.specs.Apply.{apply}
-use Rattle.journal_model.specs.Stores.{stores_after}
+use Rattle.journal_model.specs.rules.Apply.{apply}
+use Rattle.journal_model.specs.rules.Stores.{stores_after}
 use Rattle.rules_stores.specs.Kept.{BecomesBytes, bytes_of}
 use Rattle.laws.proofs.law_state.Rules.{rules_of}
 use Rattle.plain_device.specs.Kept.{entry_of}

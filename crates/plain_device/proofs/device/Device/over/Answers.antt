@@ -1,7 +1,7 @@
 use Rattle.std.proofs.Common.{◌≡◌, ◌∙◌, subst, sym, false}
 use Rattle.std.specs.Prelude.{Bool, ◌↔◌}
-use Rattle.journal_model.specs.Legal.{state_of}
-use Rattle.journal_model.specs.Complete.{is_complete}
+use Rattle.journal_model.specs.rules.Legal.{state_of}
+use Rattle.journal_model.specs.statements.Complete.{is_complete}
 use Rattle.laws.specs.law_sound.Sound.{SomeGoesOn}
 use Rattle.rules_stores.specs.Kept.{bytes_of}
 use Rattle.laws.proofs.law_sound.Orders.{until_the_end}

@@ -1,5 +1,5 @@
 use Rattle.std.proofs.Common.{take}
-use Rattle.journal_model.specs.PlainMemory.{after_ops}
+use Rattle.journal_model.specs.rules.PlainMemory.{after_ops}
 use Rattle.plain_memory.specs.Kept.{BecomesMemory, memory_in}
 use Rattle.plain_memory.proofs.memory.PlainMemory.apply_all.Given as goal
 

@@ -1,6 +1,6 @@
 use Rattle.std.proofs.Common.{◌≡◌, length}
 use Rattle.std.specs.Prelude.{drop}
-use Rattle.journal_model.specs.Places.{pages_of}
+use Rattle.journal_model.specs.rules.Places.{pages_of}
 use Rattle.room_representation.specs.lemma_room_bytes.Mapped.{mapped_to}
 use Rattle.room_pages.specs.room_binds.Apertures.{AreBelow}
 use Rattle.room_pages.proofs.room_binds.apertures.map_pages.Given as goal

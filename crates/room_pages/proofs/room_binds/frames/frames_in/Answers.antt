@@ -1,7 +1,7 @@
 use Rattle.std.proofs.Common.{arith}
 use Rattle.std.proofs.lemmas.Grind.{common_steps}
 use Rattle.ttm_base.specs.declared.Loc.TheVariants.{Zero}
-use Rattle.journal_model.specs.Places.{frame_of}
+use Rattle.journal_model.specs.rules.Places.{frame_of}
 use Rattle.state_words.proofs.ListSteps.{filter_map_more}
 use Rattle.room_pages.proofs.room_binds.frames.frames_in.Goals as goal
 

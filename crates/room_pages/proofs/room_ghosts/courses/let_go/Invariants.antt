@@ -1,7 +1,7 @@
 use Rattle.std.proofs.Common.{◌-◌, length, Bool}
 use Rattle.std.specs.Prelude.{not}
 use Rattle.ttm_base.specs.declared.BufId.{BufId}
-use Rattle.journal_model.specs.State.{same_buffer}
+use Rattle.journal_model.specs.rules.State.{same_buffer}
 use Rattle.state_words.proofs.ListLaws.{Keeps}
 use Rattle.room_pages.proofs.room_ghosts.courses.let_go.Given as goal
 

@@ -1,5 +1,5 @@
 use Rattle.std.proofs.Common.{[], ◌++◌, ◌∷◌, ap, subst, sym, ◌∙◌}
-use Rattle.journal_model.specs.Places.{slot_of}
+use Rattle.journal_model.specs.rules.Places.{slot_of}
 use Rattle.room_pages.specs.room_ghosts.InTurn.{AreHeldAlong}
 use Rattle.room_pages.proofs.room_ghosts.Freed.{free_there, free_below, free_held_slots, busy_vram, busy_tt, busy_held}
 use Rattle.room_pages.proofs.room_ghosts.Loops.{dropped}

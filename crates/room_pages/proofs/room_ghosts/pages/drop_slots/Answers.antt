@@ -1,7 +1,7 @@
 use Rattle.std.proofs.Common.{◌∙◌, ap}
 use Rattle.std.proofs.lemmas.Option.{slice_get-get_or}
 use Rattle.ttm_base.specs.declared.Loc.TheVariants.{Zero}
-use Rattle.journal_model.specs.Places.{slot_of}
+use Rattle.journal_model.specs.rules.Places.{slot_of}
 use Rattle.room_pages.proofs.room_ghosts.Loops.{dropped_next, dropped_passed, no_slot}
 use Rattle.room_pages.proofs.room_ghosts.pages.drop_slots.Goals as goal
 use Rattle.room_pages.proofs.room_ghosts.pages.drop_slots.Goals.{in-Slot, in_default}

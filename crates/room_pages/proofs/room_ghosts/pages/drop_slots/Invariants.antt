@@ -1,6 +1,6 @@
 use Rattle.std.proofs.Common.{◌≡◌, take}
 use Rattle.std.specs.Prelude.{filter_map}
-use Rattle.journal_model.specs.Places.{slot_of}
+use Rattle.journal_model.specs.rules.Places.{slot_of}
 use Rattle.room_representation.specs.lemma_room_bytes.GivenBack.{given_back}
 use Rattle.room_pages.proofs.room_ghosts.pages.drop_slots.Given as goal
 

@@ -1,5 +1,5 @@
 use Rattle.std.proofs.Common.{◌≡◌, take}
-use Rattle.journal_model.specs.ApplyCommands.{released}
+use Rattle.journal_model.specs.rules.ApplyCommands.{released}
 use Rattle.room_representation.proofs.room_steps.reservations.release_all.Given as goal
 
 abbrev pub invariant-loop-b : goal.invariant-loop-b

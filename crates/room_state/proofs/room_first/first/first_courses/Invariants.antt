@@ -1,6 +1,6 @@
 use Rattle.std.proofs.Common.{◌≡◌, take}
 use Rattle.std.specs.Prelude.{map}
-use Rattle.journal_model.specs.State.{new_course}
+use Rattle.journal_model.specs.rules.State.{new_course}
 use Rattle.room_state.proofs.room_first.first.first_courses.Given as goal
 
 abbrev pub invariant-loop-thread : goal.invariant-loop-thread

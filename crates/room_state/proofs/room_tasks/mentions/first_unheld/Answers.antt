@@ -1,6 +1,6 @@
 use Rattle.std.proofs.Common.{◌≡◌, None, find, not, option_to_list, ◌∙◌, arith}
 use Rattle.std.proofs.lemmas.Grind.{common_steps}
-use Rattle.journal_model.specs.State as state
+use Rattle.journal_model.specs.rules.State as state
 use Rattle.room_state.proofs.room_tasks.Firsts.{first_behind}
 use Rattle.room_state.proofs.room_tasks.mentions.first_unheld.Goals as goal
 use Rattle.room_state.proofs.room_tasks.mentions.first_unheld.Goals.{in_default-via-in-Some+else-not-has_buffer, in_default-via-in_default}

@@ -1,7 +1,7 @@
 use Rattle.std.proofs.Common.{◌≡◌, find, flat_map, not}
 use Rattle.std.specs.Prelude.{drop}
-use Rattle.journal_model.specs.Commands.{buffers_of_op}
-use Rattle.journal_model.specs.State as state
+use Rattle.journal_model.specs.rules.Commands.{buffers_of_op}
+use Rattle.journal_model.specs.rules.State as state
 use Rattle.room_state.proofs.room_tasks.mentions.unheld_in.Given as goal
 
 abbrev pub invariant-loop-op : goal.invariant-loop-op

@@ -1,5 +1,5 @@
 use Rattle.std.proofs.Common.{◌∙◌, ap}
-use Rattle.journal_model.specs.Tasks as words
+use Rattle.journal_model.specs.rules.Tasks as words
 use Rattle.room_state.proofs.room_tasks.Told.{has_reservations, gives_told}
 use Rattle.room_state.proofs.room_tasks.queries.gives_back.Goals as goal
 

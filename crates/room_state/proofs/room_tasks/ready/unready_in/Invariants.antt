@@ -1,6 +1,6 @@
 use Rattle.std.proofs.Common.{◌≡◌, find, flat_map}
 use Rattle.std.specs.Prelude.{drop}
-use Rattle.journal_model.specs.Commands.{buffers_of_op}
+use Rattle.journal_model.specs.rules.Commands.{buffers_of_op}
 use Rattle.room_state.specs.room_tasks.Seen.{is_unready}
 use Rattle.room_state.proofs.room_tasks.ready.unready_in.Given as goal
 

@@ -3,7 +3,7 @@ use Rattle.std.specs.Option.{option_map}
 use Rattle.std.proofs.lemmas.Iterator.{YieldsList-from_slice}
 use Rattle.std.proofs.lemmas.Iterator.Consumers.{YieldsList-at, YieldsList-from_filter, nth_from_yields_List}
 use Rattle.ttm_base.specs.declared.Mem.TheVariants.{System}
-use Rattle.journal_model.specs.Commands.{whole}
+use Rattle.journal_model.specs.rules.Commands.{whole}
 use Rattle.room_state.proofs.room_turns.BufferSearched.{place_there, place_lacking}
 use Rattle.room_state.proofs.room_turns.buffer_searches.forced_place.Goals as goal
 

@@ -1,6 +1,6 @@
 use Rattle.std.proofs.Common.{◌≡◌, ℕ, length, subst}
 use Rattle.aperture_table.specs.Translation.{frame_at}
-use Rattle.journal_model.specs.Places.{aperture}
+use Rattle.journal_model.specs.rules.Places.{aperture}
 use Rattle.room_state.specs.Kept.{Kept, state_behind}
 use Rattle.room_state.proofs.rooms.Rooms.aperture.Goals as goal
 

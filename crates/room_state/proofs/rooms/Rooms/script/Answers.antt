@@ -1,5 +1,5 @@
 use Rattle.std.proofs.Common.{IsTrue, subst}
-use Rattle.journal_model.specs.ScriptRules.{is_script}
+use Rattle.journal_model.specs.scripts.ScriptRules.{is_script}
 use Rattle.room_state.specs.Kept.{Kept}
 use Rattle.room_state.proofs.rooms.Rooms.script.Goals as goal
 

@@ -1,5 +1,5 @@
 use Rattle.std.proofs.Common.{◌∙◌, sym, subst}
-use Rattle.journal_model.specs.Holds.{held_frames}
+use Rattle.journal_model.specs.rules.Holds.{held_frames}
 use Rattle.rules_holds.specs.Marked.{AreFrames}
 use Rattle.rules_holds.proofs.MarkLaws.{lowest_of}
 use Rattle.rules_holds.proofs.free.FrameMarks.lowest.Goals as goal

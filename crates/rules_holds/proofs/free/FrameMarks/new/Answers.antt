@@ -1,7 +1,7 @@
 use Rattle.std.proofs.Common.{◌≡◌, ◌++◌, false, replicate, sym, subst, arith}
 use Rattle.std.specs.Prelude.{flat_map}
 use Rattle.std.proofs.lemmas.Grind.{common_steps}
-use Rattle.journal_model.specs.Holds.{held_frames}
+use Rattle.journal_model.specs.rules.Holds.{held_frames}
 use Rattle.rules_holds.specs.Held.{frames_of_slot}
 use Rattle.rules_holds.specs.Marked.{AreMarked}
 use Rattle.rules_holds.proofs.HeldLaws.{live_frames_of}

@@ -1,6 +1,6 @@
 use Rattle.std.proofs.Common.{◌<◌, length, arith, ◌∙◌}
 use Rattle.std.proofs.Math.ListN.{length-set}
-use Rattle.journal_model.specs.ApplyPages.{without_frame}
+use Rattle.journal_model.specs.rules.ApplyPages.{without_frame}
 use Rattle.journal_model.proofs.ListSteps.{map_over_step}
 use Rattle.rules_state.proofs.rules_parts.buffers.drop_frames.Goals as goal
 

@@ -1,6 +1,6 @@
 use Rattle.std.proofs.Common.{◌≡◌, ◌++◌, take, drop, length}
 use Rattle.std.specs.Prelude.{map}
-use Rattle.journal_model.specs.ApplyPages.{without_frame}
+use Rattle.journal_model.specs.rules.ApplyPages.{without_frame}
 use Rattle.rules_state.proofs.rules_parts.buffers.drop_frames.Given as goal
 
 abbrev pub invariant-loop-i : goal.invariant-loop-i

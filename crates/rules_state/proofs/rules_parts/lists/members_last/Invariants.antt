@@ -1,6 +1,6 @@
 use Rattle.std.proofs.Common.{◌≡◌, take}
 use Rattle.std.specs.Prelude.{map}
-use Rattle.journal_model.specs.Lists.{is_member, members_last}
+use Rattle.journal_model.specs.rules.Lists.{is_member, members_last}
 use Rattle.rules_state.proofs.rules_parts.lists.members_last.Given as goal
 
 abbrev pub invariant-loop-list : goal.invariant-loop-list

@@ -1,6 +1,6 @@
 use Rattle.std.proofs.Common.{◌<◌, length, arith}
 use Rattle.std.proofs.lemmas.Grind.{common_steps}
-use Rattle.journal_model.specs.Lists.{is_mate}
+use Rattle.journal_model.specs.rules.Lists.{is_mate}
 use Rattle.rules_state.proofs.rules_parts.OrderLaws.{behind_last_more}
 use Rattle.rules_state.proofs.rules_parts.lists.place_in.Goals as goal
 

@@ -1,6 +1,6 @@
 use Rattle.std.proofs.Common.{◌≡◌, take}
 use Rattle.std.specs.Prelude.{fold}
-use Rattle.journal_model.specs.Lists.{touched}
+use Rattle.journal_model.specs.rules.Lists.{touched}
 use Rattle.rules_state.proofs.rules_parts.lists.touched_all.Given as goal
 
 abbrev pub invariant-loop-b : goal.invariant-loop-b

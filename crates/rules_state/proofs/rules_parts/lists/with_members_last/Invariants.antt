@@ -1,6 +1,6 @@
 use Rattle.std.proofs.Common.{◌≡◌, ◌++◌, take}
 use Rattle.std.specs.Prelude.{filter, not}
-use Rattle.journal_model.specs.Lists.{is_member}
+use Rattle.journal_model.specs.rules.Lists.{is_member}
 use Rattle.rules_state.proofs.rules_parts.lists.with_members_last.Given as goal
 
 abbrev pub invariant-loop-other : goal.invariant-loop-other

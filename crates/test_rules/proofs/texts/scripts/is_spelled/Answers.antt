@@ -3,11 +3,11 @@ use Rattle.std.specs.Prelude.{◌&&◌, ◌||◌, ◌==◌, nat_le, sum_by}
 use Rattle.std.specs.List.{list_all}
 use Rattle.std.proofs.lemmas.Bool.{and_parts}
 use Rattle.journal_model.specs.declared.script.Script.{Script}
-use Rattle.journal_model.specs.Commands.{commands_of}
-use Rattle.journal_model.specs.Complete.{thread_numbers}
-use Rattle.journal_model.specs.CommandRules.{command_len, is_between, is_command}
-use Rattle.journal_model.specs.MarkRules.{empty_thread_mappings, are_in_order, is_in_thread, has_few_lines, marks_fit, have_marks}
-use Rattle.journal_model.specs.ScriptRules.{has_distinct_names, has_sizes, is_decl, is_script, is_turn_line}
+use Rattle.journal_model.specs.rules.Commands.{commands_of}
+use Rattle.journal_model.specs.statements.Complete.{thread_numbers}
+use Rattle.journal_model.specs.scripts.CommandRules.{command_len, is_between, is_command}
+use Rattle.journal_model.specs.scripts.MarkRules.{empty_thread_mappings, are_in_order, is_in_thread, has_few_lines, marks_fit, have_marks}
+use Rattle.journal_model.specs.scripts.ScriptRules.{has_distinct_names, has_sizes, is_decl, is_script, is_turn_line}
 use Rattle.script_spelling.specs.Cursors.{ArePlaced}
 use Rattle.test_rules.proofs.texts.scripts.is_spelled.Goals as goal
 

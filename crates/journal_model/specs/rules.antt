@@ -1,0 +1,25 @@
+-- What a legal journal and a transparent one are: the state, the rules by which it changes, the plain memory.
+pub mod State
+pub mod Commands
+pub mod Places
+pub mod Holds
+pub mod Choice
+pub mod JobNames
+pub mod Waits
+pub mod Lists
+pub mod Dry
+pub mod Ready
+pub mod Tasks
+pub mod Search
+pub mod PageSteps
+pub mod Next
+pub mod ApplyCommands
+pub mod ApplyPages
+pub mod ApplyMoves
+pub mod ApplyVictims
+pub mod ApplyJobs
+pub mod Apply
+pub mod Stores
+pub mod Legal
+pub mod PlainMemory
+pub mod Transparent

@@ -1,0 +1,106 @@
+-- The search of pages for a buffer (ttm_bo_mem_space): a choice, a victim, a ghost to wait for, or a dry place.
+use Rattle.std.specs.Prelude.{ℕ, Bool, true, false, List, [], ◌∷◌, Option, Some, None, Result, Ok, Err, ◌||◌, map, unwrap_or, slice_get, if◌then◌else◌}
+use Rattle.ttm_base.specs.declared.Mem.{Mem}
+use Rattle.ttm_base.specs.declared.Mem.TheVariants.{System, Tt, Vram}
+use Rattle.ttm_base.specs.declared.Span.{Span}
+use Rattle.ttm_base.specs.declared.BufId.{BufId}
+use Rattle.ttm_base.specs.declared.Place.{Place}
+use Rattle.ttm_base.specs.declared.FlaggedPlace.{FlaggedPlace}
+use Rattle.ttm_base.specs.declared.Need.{Need}
+use Rattle.ttm_base.specs.declared.Need.TheVariants as need
+use Rattle.ttm_base.specs.Placement.{first_places, forced_places}
+use Rattle.journal_model.specs.declared.script.Script.{Script}
+use Rattle.journal_model.specs.declared.state.Course.{Course}
+use Rattle.journal_model.specs.declared.script.Command.{Command}
+use Rattle.journal_model.specs.declared.entry.Kind.{Kind}
+use Rattle.journal_model.specs.declared.entry.Kind.TheVariants as kind
+use Rattle.journal_model.specs.declared.entry.Why.{Why}
+use Rattle.journal_model.specs.declared.entry.Why.TheVariants as why
+use Rattle.journal_model.specs.declared.entry.DryWhy.TheVariants as dry
+use Rattle.journal_model.specs.declared.state.SearchAim.{SearchAim}
+use Rattle.journal_model.specs.declared.state.SearchAim.TheVariants.{Asked, Hop}
+use Rattle.journal_model.specs.declared.state.State.{State}
+use Rattle.journal_model.specs.declared.state.Buffer.{Buffer}
+use Rattle.journal_model.specs.rules.State.{buffer, has_buffer}
+use Rattle.journal_model.specs.rules.Commands.{asked_places, whole, as_fallback}
+use Rattle.journal_model.specs.rules.Choice.{choice}
+use Rattle.journal_model.specs.rules.Dry.{is_long_enough, victim, ghost_in, causes}
+use Rattle.journal_model.specs.rules.Ready.{has_some_target}
+
+-- an entry, or what its actor needs first
+abbrev pub Step : Type 0
+Step = Result Kind Need
+
+-- the places that a search tries, whether it is under pressure, and how many forced places are dry
+pub record PlaceSearch : Type 0 where
+  pub list : List FlaggedPlace
+  pub forced : Bool
+  pub dry : ℕ
+
+-- the buffer is a victim of this thread
+abbrev pub is_caught : Course → BufId → Bool
+is_caught c b = has_buffer (map (λ v. v.b) c.caught) b
+
+-- the hop on the way between SYSTEM and VRAM
+abbrev pub through_tt : List FlaggedPlace
+through_tt = as_fallback (whole Tt) ∷ []
+
+-- a victim's search has come no way
+abbrev pub place_search : Script → Command → Course → BufId → SearchAim → PlaceSearch
+place_search script cmd c b Asked = record { list = asked_places script cmd b; forced = c.forced; dry = c.dry }
+place_search script cmd c b Hop =
+    if is_caught c b then record { list = through_tt; forced = false; dry = 0 } else record { list = through_tt; forced = c.forced; dry = c.dry }
+
+-- a victim, and a buffer that has a target, hop through TT; any other goes where its command asks
+abbrev pub aim_of : Course → BufId → Buffer → SearchAim
+aim_of c b x = if is_caught c b || has_some_target x then Hop else Asked
+
+-- the search of a buffer, as its state tells it
+abbrev pub place_search_at_work : Script → State → Course → Command → BufId → PlaceSearch
+place_search_at_work script s c cmd b = place_search script cmd c b (aim_of c b (buffer s b))
+
+-- for what a victim of a place is caught
+abbrev pub why_of : Mem → Why
+why_of Vram = why.Vram
+why_of Tt = why.Tt
+why_of System = why.Swap
+
+-- the k-th forced place has no choice
+abbrev pub step_of_crowded : Script → State → Course → BufId → ℕ → Place → Step
+step_of_crowded script s c b k place =
+    elim (is_long_enough script b place) [
+      | false ↦ Ok (kind.Dry b k dry.Short)
+      | true ↦ elim (victim script s c.skips place) [
+        | Some v ↦ Ok (kind.Catch v (why_of place.mem))
+        | None ↦ elim (ghost_in script s place) [
+          | Some g ↦ Err (need.Ghost g.num)
+          | None ↦ Ok (kind.Dry b k (dry.Of (causes script s place)))
+        ]
+      ]
+    ]
+
+-- at the k-th forced place
+abbrev pub step_of_forced_place : Script → State → Course → BufId → ℕ → Place → Step
+step_of_forced_place script s c b k place =
+    elim (choice script s.core b place) [ Some spans ↦ Ok (kind.Take b place.mem spans) | None ↦ step_of_crowded script s c b k place ]
+
+-- at the k-th of the forced places; no search gets past the last, so the place in SYSTEM is never tried for want of one
+abbrev pub step_of_forced : Script → State → Course → BufId → ℕ → List Place → Step
+step_of_forced script s c b k places = step_of_forced_place script s c b k (unwrap_or (slice_get places k) (whole System))
+
+-- the first place with a choice
+abbrev pub first_choice : Script → State → BufId → List Place → Option (Mem × List Span)
+first_choice script s b [] = None
+first_choice script s b (place ∷ places) =
+    elim (choice script s.core b place) [ Some spans ↦ Some (place.mem, spans) | None ↦ first_choice script s b places ]
+
+-- not yet under pressure, the first place with a choice among those tried first; else the forced place at work
+abbrev pub step_of_place_search : Script → State → Course → BufId → PlaceSearch → Step
+step_of_place_search script s c b q =
+    elim q.forced [
+      | true ↦ step_of_forced script s c b q.dry (forced_places q.list)
+      | false ↦ elim (first_choice script s b (first_places q.list)) [
+        | Some found ↦ Ok (kind.Take b found.0 found.1)
+        | None ↦ step_of_forced script s c b q.dry (forced_places q.list)
+      ]
+    ]
