@@ -22,7 +22,7 @@ module _ (f : ℕ → Option Candidate) where
   abbrev AtLeast : ℕ → List ℕ → Type 0
   AtLeast b xs = (m : ℕ) (c : Candidate) → m < length xs → f (get_or xs m 0) ≡ Some c → b ≤ c.whole
 
-  -- one more in front: what is found behind it, and what is found then
+  -- one more in front: what is found after it, and what is found then
   least_step : (b : ℕ) (x : ℕ) (xs : List ℕ) (y : Candidate) → AtLeast b (x ∷ xs) → ((d : Candidate) → least_by (λ c. c.whole) (filter_map f xs) ≡ Some d → b ≤ d.whole)
       → least_by (λ c. c.whole) (filter_map f (x ∷ xs)) ≡ Some y → b ≤ y.whole
   least_step b x xs y h behind e = by (f x) refl where
@@ -117,7 +117,7 @@ turn_back : (topdown : Bool) (n i : ℕ) → i < n → turn topdown n (turn topd
 turn_back true n i h = omega arith
 turn_back false n i h = refl
 
--- what comes in an earlier turn isn't behind
+-- what comes in an earlier turn isn't after
 turn_ahead : (topdown : Bool) (n i m : ℕ) → i < n → m < turn topdown n i → IsAhead topdown i (turn topdown n m) → ⊥
 turn_ahead true n i m h l a = omega arith
 turn_ahead false n i m h l a = omega arith

@@ -66,7 +66,7 @@ marked_all s t e p free x l u d =
           ∙ sym (elim (cases_lt p s) [ inl b ↦ is_out s e p free x (page_below s e p b) | inr b ↦ is_out s e p free x (page_above s e p (omega (arith, a, b))) ])
     ]
 
--- the pages behind those that were given back are held as before
+-- the pages after those that were given back are held as before
 pub still_held : (s t e k n p : ℕ) (now old : Bool) → s ≤ t → n * 2 ^ k ≡ t → t + 2 ^ k ≤ e → now ≡ is_marked (span s t) true old p → (has_page p (span s e) ≡ true → old ≡ false) → p / 2 ^ k ≡ n → now ≡ false
 still_held s t e k n p now old l start end m held i =
     let b = block_pages p k n i in

@@ -71,7 +71,7 @@ pub record IsReservationChanged (f : Reservation → Reservation) (old new : Bo)
   pub fences : new.resv.fences ≡ old.resv.fences
   pub pages : length new.table ≡ length old.table
 
--- made anew, or dead, with nothing that holds or uses it
+-- made again, or dead, with nothing that holds or uses it
 pub record IsReset (o : Option Buffer) (old new : Bo) : Type 0 where
   pub body : body_of new ≡ o
   pub reservation : reservation_of new ≡ no_reservation

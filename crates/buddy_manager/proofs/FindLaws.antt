@@ -158,7 +158,7 @@ whole_piece : (f : ℕ → Bool) (size : ℕ) (source : Span) (k p : ℕ) → Is
 whole_piece f size source k p w s e =
     record { order = omega arith; inside = inside_from source (numbered k (p / 2 ^ k)) s e; whole = whole_same f size k p (p / 2 ^ k * 2 ^ k) (sym (own_number k (p / 2 ^ k))) w }
 
--- what isn't the first is behind it
+-- what isn't the first is after it
 behind_first : (f : ℕ → Bool) (size : ℕ) (topdown : Bool) (source : Span) (k n k' i : ℕ) → IsEven topdown source size k → IsPiece f size source k k n → ((m : ℕ) → IsPiece f size source k k m → IsAhead topdown n m)
     → IsPiece f size source k' k i → has_page (i * 2 ^ k') (numbered k n) ≡ false → is_inside (behind topdown source (numbered k n)) (numbered k' i) ≡ true
 behind_first f size false source k n k' i even is first x out =

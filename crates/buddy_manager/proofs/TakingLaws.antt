@@ -163,7 +163,7 @@ scattered_some : (fuel : ℕ) (f : ℕ → Bool) (size : ℕ) (range : Span) (to
 scattered_some fuel f size range topdown left c h =
     ap (λ o. elim o [ None ↦ None | Some c ↦ taken_after (scattered fuel (λ page. f page && not (has_page page c.block)) size range topdown (suc left - (c.block.end - c.block.start))) c.block ]) h
 
--- a block is put behind those before it
+-- a block is put after those before it
 one_block_more : (spans : List Span) (block : Span) (rest : Option (List Span))
     → option_map (λ more. (spans ++ block ∷ []) ++ more) rest ≡ option_map (λ more. spans ++ more) (taken_after rest block)
 one_block_more spans block None = refl

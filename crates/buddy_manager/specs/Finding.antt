@@ -52,7 +52,7 @@ abbrev pub IsEven : Bool → Span → ℕ → ℕ → Type 0
 IsEven false range size k = (page : ℕ) → range.start ≤ page → range.start ≤ page / 2 ^ k * 2 ^ k
 IsEven true range size k = (page : ℕ) → page < range.end → page / 2 ^ k * 2 ^ k + 2 ^ k ≤ size → page / 2 ^ k * 2 ^ k + 2 ^ k ≤ range.end
 
--- what is left of a range behind a block
+-- what is left of a range after a block
 abbrev pub behind : Bool → Span → Span → Span
 behind false range block = record { start = block.end; end = range.end }
 behind true range block = record { start = range.start; end = block.start }

@@ -32,7 +32,7 @@ pub struct Found {
     pub origin: Origin,
 }
 
-/// What is left of a range behind a block.
+/// What is left of a range after a block.
 fn behind(range: Span, topdown: bool, block: Span) -> Span
     ensures { result ≡ behind topdown range block }
 {

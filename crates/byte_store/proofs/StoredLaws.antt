@@ -1,4 +1,4 @@
--- Bytes that are stored up to some place, and zeros for those behind them.
+-- Bytes that are stored up to some place, and zeros for those after them.
 use Rattle.std.proofs.Common.{◌≡◌, ℕ, ◌+◌, ◌-◌, ◌<◌, ◌≤◌, List, [], ◌∷◌, ◌++◌, Some, suc, get_or, slice_get, slice_index_or, slice_set, length, take, drop, replicate, refl, ap, ◌∙◌, sym, subst, append_assoc, length-append, length-drop, arith}
 use Rattle.std.proofs.Math.Seq.{drop-append-add}
 use Rattle.std.proofs.lemmas.List.{drop-drop, drop-replicate, length-replicate, replicate-append-replicate, set_split, take-append-drop, take-replicate}
@@ -18,7 +18,7 @@ two_filled : (n m : ℕ) → filled n 0 ++ filled m 0 ≡ filled (n + m) 0
 unfolding filled
 two_filled n m = replicate-append-replicate n m 0
 
--- a part of zeros that stand behind others
+-- a part of zeros that follow others
 part_zeros : (bytes : List ℕ) (m at len : ℕ) → length bytes ≤ at → at + len ≤ length bytes + m → part (bytes ++ filled m 0) at len ≡ filled len 0
 unfolding filled
 part_zeros bytes m at len h k =
@@ -27,7 +27,7 @@ part_zeros bytes m at len h k =
     ∙ ap (λ ys. take len ys) (drop-append-add bytes (replicate m 0) (at - length bytes) ∙ drop-replicate (at - length bytes) m 0)
     ∙ take-replicate len (m - (at - length bytes)) 0 (omega arith)
 
--- the last page behind others
+-- the last page after others
 last_page : (page : ℕ) (bytes : List ℕ) (n : ℕ) → page ≤ n → drop (length (bytes ++ filled n 0) - page) (bytes ++ filled n 0) ≡ filled page 0
 unfolding filled
 last_page page bytes n h =

@@ -19,7 +19,7 @@ xored [] ys = []
 xored (x ∷ xs) [] = []
 xored (x ∷ xs) (y ∷ ys) = bit_xor x y ∷ xored xs ys
 
--- bytes that are stored, and zeros for those behind them, so many in all
+-- bytes that are stored, and zeros for those after them, so many in all
 abbrev pub padded : List ℕ → ℕ → List ℕ
 padded bytes size = bytes ++ filled (size - length bytes) 0
 

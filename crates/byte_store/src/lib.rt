@@ -11,12 +11,12 @@ use ttm_base::NoMemory;
 /// How many bytes a page has.
 pub const PAGE: u64 = 4096;
 
-/// How many bytes are made zeros at once, where a store is written behind those that it has stored.
+/// How many bytes are made zeros at once, where a store is written after those that it has stored.
 const GROWTH: usize = 16 * PAGE as usize;
 
-/// The bytes of so many pages, one page behind the other, seen as a list. A call takes no memory but for `new`, which only
+/// The bytes of so many pages, one page after the other, seen as a list. A call takes no memory but for `new`, which only
 /// reserves it: the system gives a page of it when it is written first. So the bytes are stored up to the highest that was
-/// written, with a page or more of zeros, and zeros stand for those behind.
+/// written, with a page or more of zeros, and zeros stand for those after.
 #[derive(Drop)]
 pub struct ByteStore {
     bytes: Vec<u8>,
@@ -178,7 +178,7 @@ fn store_first(bytes: &mut Vec<u8>, count: usize)
     bytes.resize(count, 0).unwrap();
 }
 
-/// Stores the zeros up to a place, with a page of them behind it where there are so many.
+/// Stores the zeros up to a place, with a page of them after it where there are so many.
 #[tactic(auto, using(crate::proofs::StoredLaws::padded_resized, crate::proofs::StoredLaws::ends_in_zeros))]
 fn store_up_to(bytes: &mut Vec<u8>, size: usize, end: usize)
     requires fits { end ≤ size }

@@ -41,7 +41,7 @@ head_of rings ctx = slice_get (ring_of rings ctx) 0
 abbrev pub next_of : List (List Pushed) → ℕ → Option Packet
 next_of rings ctx = option_and_then packet_of (head_of rings ctx)
 
--- with a job behind the others of its context
+-- with a job after the others of its context
 abbrev pub with_pushed : List (List Pushed) → Pushed → List (List Pushed)
 with_pushed rings pushed = slice_set rings pushed.job.ctx (ring_of rings pushed.job.ctx ++ pushed ∷ [])
 

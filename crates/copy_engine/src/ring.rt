@@ -37,7 +37,7 @@ impl Ring {
         }
     }
 
-    /// Puts a job behind the others.
+    /// Puts a job after the others.
     pub(crate) fn push(&mut self, job: RingJob) -> Result<(), NoMemory>
         ensures ok { OnOk result (self.new ≡ self.old ++ job ∷ []) }
         ensures err { OnErr result (self.new ≡ self.old) }

@@ -4,7 +4,7 @@ use Rattle.ttm_base.specs.Pages.{Page, nowhere, vram, frame, slot, PageBytes, Ap
 use Rattle.aperture_table.specs.Translation.{frame_at}
 use Rattle.copy_packet.specs.declared.stores.Stores.{Stores}
 
--- the byte of a page at an offset, in the bytes of pages one behind the other; zeros stand behind each page
+-- the byte of a page at an offset, in the bytes of pages one after the other; zeros follow each page
 abbrev pub byte_at : List ℕ → ℕ → ℕ → ℕ
 byte_at bytes page off = if nat_lt off 4096 then slice_index bytes (4096 * page + off) else 0
 

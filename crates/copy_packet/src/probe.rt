@@ -48,7 +48,7 @@ impl ProbeBytes {
         self.bytes.extend_from_slice(bytes).unwrap();
     }
 
-    /// Adds bytes behind those that there are, at most 256 in all.
+    /// Adds bytes after those that there are, at most 256 in all.
     pub fn extend(&mut self, bytes: &[u8])
         requires { length self.old + length bytes.now ≤ 256 }
         ensures { self.new ≡ self.old ++ bytes.now }

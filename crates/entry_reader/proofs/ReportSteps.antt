@@ -79,7 +79,7 @@ entry_more script text count rest len es e p h k =
           ∙ ap (λ t. t ++ drop (rest + len) text) (sym (text_more script count es e));
     }
 
--- the line behind them is the text of no entry
+-- the line after them is the text of no entry
 pub cut_here : (script : Script) (text : Text) (count rest len : ℕ) (es : List Entry) → len ≡ line_len (drop rest text) → length es < count
     → HasEntries script text count rest es → ((e : Entry) → IsEntryText script (length es + 1) (take len (drop rest text)) e → ⊥) → IsCut script text rest es
 cut_here script text count rest len es p less h none = record {

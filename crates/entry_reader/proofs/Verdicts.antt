@@ -39,7 +39,7 @@ next_of : (script : Script) (n : ℕ) (back : List Text) (e : Entry) (more : Lis
 next_of script n [] e more h = absurd h
 next_of script n (t ∷ ts) e more h = (t, ts, refl, h.0)
 
--- an entry that was read is told behind the legal ones before it
+-- an entry that was read is told after the legal ones before it
 pub tells_next : (script : Script) (text : Text) (count rest : ℕ) (es : List Entry) (e : Entry) (more : List Entry)
     → HasEntries script text count rest (es ++ e ∷ more) → length (es ++ e ∷ more) ≤ count → IsLegal script es → TellsNext script text count es e
 tells_next script text count rest es e more h within legal =

@@ -141,7 +141,7 @@ row_of names word = row_parts names (cut_at 58 word)
 abbrev pub dry_of : List Text → Text → Option DryWhy
 dry_of names word = if bytes_eq word (codes "short") then Some dry.Short else option_map (λ rows. dry.Of rows) (list_of (row_of names) word)
 
--- a number behind the letter of engines
+-- a number after the letter of engines
 abbrev pub engine_of : Text → Option ℕ
 engine_of [] = None
 engine_of (c ∷ number) = if c == 101 then u32_of number else None

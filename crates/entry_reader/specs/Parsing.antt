@@ -1,4 +1,4 @@
--- What reading a report tells: its entries up to the first line that isn't one, and what stands behind them.
+-- What reading a report tells: its entries up to the first line that isn't one, and what follows them.
 use Rattle.std.specs.Prelude.{◌≡◌, ℕ, ◌+◌, ◌<◌, ◌≤◌, List, [], ◌∷◌, ◌++◌, Option, Some, None, codes, decimal, drop, flat_map, length}
 use Rattle.std.specs.List.{enumerate_from}
 use Rattle.journal_model.specs.declared.script.Script.{Script}
@@ -41,7 +41,7 @@ IsHeadRead script text None = HasNoHead script text
 abbrev pub text_to : Script → ℕ → List Entry → Text
 text_to script count entries = head_text script count ++ flat_map (entry_line script) (enumerate_from 1 entries)
 
--- the report counts so many entries, and its first are these; the text behind them begins at a place
+-- the report counts so many entries, and its first are these; the text after them begins at a place
 pub record HasEntries (script : Script) (text : Text) (count rest : ℕ) (entries : List Entry) : Type 0 where
   pub right : List Text
   pub head : HasHead script text count (right ++ lines_of (drop rest text))

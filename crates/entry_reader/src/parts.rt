@@ -69,7 +69,7 @@ pub(crate) fn deny(word: &[u8]) -> Option<Deny>
     }
 }
 
-/// An engine behind its letter.
+/// An engine after its letter.
 pub(crate) fn engine(word: &[u8]) -> Option<u32>
     ensures { result ≡ engine_of word.now }
 {

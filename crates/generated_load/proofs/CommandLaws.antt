@@ -28,7 +28,7 @@ use Rattle.generated_load.proofs.DrawLaws.{draw_below}
 use Rattle.generated_load.proofs.LineLaws.{room, line_len, few_digits, hex_len}
 use Rattle.generated_load.proofs.BufferLaws.{HasLoadBuffers, holds, is_declared_load, name_len, range_fits}
 
--- two buffers that differ, an offset with sixteen bytes behind it in the smallest buffer, and a user engine
+-- two buffers that differ, an offset with sixteen bytes after it in the smallest buffer, and a user engine
 pub record IsChoice (c : Choice) : Type 0 where
   pub x_declared : c.x.0 < 24
   pub y_declared : c.y.0 < 24

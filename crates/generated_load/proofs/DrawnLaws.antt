@@ -54,7 +54,7 @@ pub none_drawn : (t : ℕ) (g : Lcg) (old : List Command) → (old ≡ old ++ (d
 unfolding drawn_commands
 none_drawn t g old = (sym (append-nil old), refl)
 
--- behind other commands
+-- after other commands
 pub one_drawn : (n t : ℕ) (first g h : Lcg) (old cs more : List Command) (x : Choice) (c : Command) → cs ≡ old ++ (drawn_commands n t first).0 → g ≡ (drawn_commands n t first).1
     → (x, h) ≡ load_choice t g → c ≡ load_command t x → more ≡ cs ++ c ∷ []
     → (more ≡ old ++ (drawn_commands (n + 1) t first).0) × (h ≡ (drawn_commands (n + 1) t first).1)

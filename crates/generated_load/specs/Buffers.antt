@@ -36,7 +36,7 @@ load_buffer n prio = record {
   placement = load_placement;
 }
 
--- the first so many buffers, whose priorities are drawn one after another, and the generator behind them
+-- the first so many buffers, whose priorities are drawn one after another, and the generator after them
 unfoldable pub load_buffers : ℕ → Lcg → List Decl × Lcg
 load_buffers zero g = ([], g)
 load_buffers (suc n) g =

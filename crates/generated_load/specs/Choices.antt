@@ -23,12 +23,12 @@ kind_of n =
 abbrev pub own_buffer : ℕ → ℕ → BufId
 own_buffer t i = record { 0 = 3 * i + t }
 
--- the buffer so many behind another one, counted in a ring of eight
+-- the buffer so many after another one, counted in a ring of eight
 abbrev pub behind : ℕ → ℕ → ℕ
 behind i distance = (i + 1 + distance) % 8
 
--- The choice for a command of a thread, and the generator behind it. Drawn are, in this order, the kind, a buffer of the thread, how far
--- behind it the other one is, the offset in sixteens of bytes, a byte and the engine.
+-- The choice for a command of a thread, and the generator after it. Drawn are, in this order, the kind, a buffer of the thread, how far
+-- after it the other one is, the offset in sixteens of bytes, a byte and the engine.
 abbrev pub load_choice : ℕ → Lcg → Choice × Lcg
 load_choice t g =
     let number = draw 8 g in

@@ -24,7 +24,7 @@ command_by kind.Touch t c = command.Touch t
 abbrev pub load_command : ℕ → Choice → Command
 load_command t c = command_by c.kind t c
 
--- so many commands of a thread, drawn one after another, and the generator behind them
+-- so many commands of a thread, drawn one after another, and the generator after them
 unfoldable pub drawn_commands : ℕ → ℕ → Lcg → List Command × Lcg
 drawn_commands zero t g = ([], g)
 drawn_commands (suc n) t g =
@@ -43,13 +43,13 @@ reads zero t = []
 reads (suc n) t = reads n t ++ command.Read (own_buffer t n) 0 16 ∷ []
 
 -- A thread, counted from 0: it makes its eight buffers, does two hundred commands that are drawn, and reads of each buffer. And the
--- generator behind them.
+-- generator after them.
 abbrev pub load_commands : ℕ → Lcg → List Command × Lcg
 load_commands t g =
     let drawn = drawn_commands 200 t g in
     (news 8 t ++ drawn.0 ++ reads 8 t, drawn.1)
 
--- the first so many threads, drawn one after another, and the generator behind them
+-- the first so many threads, drawn one after another, and the generator after them
 unfoldable pub load_threads : ℕ → Lcg → List (List Command) × Lcg
 load_threads zero g = ([], g)
 load_threads (suc n) g =

@@ -53,7 +53,7 @@ pub fn own_buffer(thread: u32, number: u32) -> BufId
     BufId(3 * number + thread)
 }
 
-/// The buffer so many behind another one, counted in a ring of eight.
+/// The buffer so many after another one, counted in a ring of eight.
 fn behind(number: u32, distance: u32) -> u32
     requires number { number < 8 }
     requires distance { distance < 7 }

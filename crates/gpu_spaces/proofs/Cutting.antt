@@ -128,7 +128,7 @@ counts_go_on rs v at len n first second count count' most d s whole w a b e f m 
 some_is : {x y : ℕ} → Some x ≡ Some y → x ≡ y
 some_is e = cc
 
--- operations counted, with those of another list behind them
+-- operations counted, with those of another list after them
 counts_joined : (count count' most : ℕ) (o p : Option (List Op)) → Some count' ≡ option_map (λ ops. min (count + length ops) most) o →
     option_map (λ ops. min (count + length ops) most) (joined o p) ≡ option_map (λ ops. min (count' + length ops) most) p
 counts_joined count count' most None p e = absurd (cc)

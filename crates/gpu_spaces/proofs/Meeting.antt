@@ -45,7 +45,7 @@ with_first range first e es same rest = elim (cases_Bool (is_within first range 
   | inr f ↦ rw (same ∙ f, f) rest
 ]
 
--- those that stand past a page at or behind the first, which the range's start is before
+-- those that stand past a page at or after the first, which the range's start is before
 all_past : (range : Span) (first low : ℕ) (es : List (ℕ × Rest)) → range.start < range.end → range.start < low → first ≤ low → IsPast low (map region_at es) → IsRising (map region_at es) →
     filter (does_meet range) (map region_at es) ≡ map region_at (filter (is_within first range) es)
 all_past range first low [] w l k p r = refl
@@ -106,7 +106,7 @@ steps_met range first es its e h =
 
 -- ---- what calls answer
 
--- the mapping that has a page begins at or before it, and ends behind it
+-- the mapping that has a page begins at or before it, and ends after it
 pub around_parts : (page : ℕ) (rs : List Region) (o : Option Mapping) (m : Mapping) → option_map region_of o ≡ having page rs → o ≡ Some m → (m.span.start ≤ page) × (page < m.span.end)
 around_parts page rs o m e h =
     let s : having page rs ≡ Some (region_of m) = sym e ∙ ap (option_map region_of) h in

@@ -32,7 +32,7 @@ fn pages_of(addr: u64, len: u32) -> Span
     }
 }
 
-/// Puts the buffers of the mappings that a range meets behind others.
+/// Puts the buffers of the mappings that a range meets after others.
 fn push_buffers(mappings: &Mappings, range: Span, out: &mut BufIds) -> Result<(), NoMemory>
     requires rising { IsRising (regions_in mappings.now) }
     requires some { range.start < range.end }

@@ -81,7 +81,7 @@ fn op_by_name(op: VOp, first: Spot, second: Spot, n: u32) -> Op
     }
 }
 
-/// Puts an operation by name behind others. False where a page isn't mapped.
+/// Puts an operation by name after others. False where a page isn't mapped.
 fn push_ops(mappings: &Mappings, op: VOp, job: &mut Ops) -> Result<bool, NoMemory>
     requires kept { IsKept (regions_in mappings.now) }
     requires inside { is_inside op ≡ true }

@@ -22,7 +22,7 @@ fn part_before(range: Span, pages: Span) -> Option<Span>
     })
 }
 
-/// What stays of pages behind a range.
+/// What stays of pages after a range.
 fn part_after(range: Span, pages: Span) -> Option<Span>
     ensures { result ≡ words.part_after range pages }
 {
@@ -50,7 +50,7 @@ fn step_at(range: Span, mapping: Mapping) -> VStep
     }
 }
 
-/// Puts the steps of a request behind others. Where memory is wanted, some may stand there.
+/// Puts the steps of a request after others. Where memory is wanted, some may stand there.
 fn push_steps(
     mappings: &Mappings,
     range: Span,

@@ -78,7 +78,7 @@ past_sorted : (page : ℕ) (ys : List Span) → IsPast page ys → IsPast page (
 past_sorted page [] h = tt
 past_sorted page (y ∷ ys) h = past_placed page y (sorted_by_length ys) h.0 (past_sorted page ys h.1)
 
--- the holes behind the first of a rising list begin past its start
+-- the holes after the first of a rising list begin past its start
 past_first : (y : Span) (ys : List Span) → IsRising (y ∷ ys) → IsPast y.start (sorted_by_length ys)
 past_first y ys h = past_sorted y.start ys (past_lower y.end y.start ys h.0 h.1)
 

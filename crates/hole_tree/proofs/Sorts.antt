@@ -20,7 +20,7 @@ pub not_back : (o : Order) (a b : Span) → before o a b ≡ true → before o b
 not_back ByStart a b p = grind (arith, nat_tests)
 not_back ByLength a b p = grind (arith, nat_tests)
 
--- a hole x that doesn't stand before the later of two stands behind the earlier, and the other way round
+-- a hole x that doesn't stand before the later of two follows the earlier, and the other way round
 behind_first : (o : Order) (a c x : Span) → before o a c ≡ true → before o x c ≡ false → before o a x ≡ true
 behind_first ByStart a c x p q = grind (arith, nat_tests)
 behind_first ByLength a c x p q = grind (arith, nat_tests)

@@ -12,7 +12,7 @@ pub struct Hole {
     start: u32,
     /// How many pages it has.
     pages: u32,
-    /// The page behind its last.
+    /// The page after its last.
     end: u32,
 }
 

@@ -21,7 +21,7 @@ pub append_known-nil : (told : Option (List ℕ)) → append_known told [] ≡ t
 append_known-nil None = refl
 append_known-nil (Some bytes) = ap Some (append-nil bytes)
 
--- a front, and then a front of what is behind it
+-- a front, and then a front of what follows it
 pub append_known-take : (told : Option (List ℕ)) (bytes : List ℕ) (at n : ℕ)
     → append_known (append_known told (take at bytes)) (take n (drop at bytes)) ≡ append_known told (take (at + n) bytes)
 append_known-take told bytes at n =

@@ -39,7 +39,7 @@ abbrev pub HasItsOwnReport : Script → List Entry → Type 0
 HasItsOwnReport script journal = (other : List Entry) → IsLegal script other → report script journal ≡ report script other → journal ≡ other
 
 -- Reads and probes show the bytes of the memory where each buffer has its own place for good. Behind each entry no page, frame or
--- slot is held twice, and live, target, ghost and free ones make each size. Dry places, refusals for want of room or frames, and
+-- slot is held twice, and live, target, ghost and free ones make each size. Dry places, refusals for lack of room or frames, and
 -- backoffs have their causes, and a dry entry names them. Each victim is the first of its lists that can be evicted. Commands are
 -- answered once and in order, and a refused one leaves nothing. The journal is shorter than the limit of turns. Its entries' values
 -- are of their types, and no other legal journal has its report.

@@ -2,7 +2,7 @@
 ghost use Rattle.journal_model.specs.statements.MarkLaws.{LegalMapsAreRight};
 ghost use Rattle.law_legal.specs.law_maps.Following.{EntriesGoWithTheirPages, EntriesGoWithTheirMapping};
 
-/// Where areas have the entries that a journal gives a mapping, they have them behind one more entry that isn't an answer, once the call
+/// Where areas have the entries that a journal gives a mapping, they have them after one more entry that isn't an answer, once the call
 /// that it asks for is done.
 pub fn entries_go_with_their_pages()
     ensures { EntriesGoWithTheirPages }

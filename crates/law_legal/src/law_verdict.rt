@@ -12,7 +12,7 @@ pub fn complete_reports_are_accepted()
     ensures { ReportsAreAccepted }
 {}
 
-/// A script with a text behind it is cut into these two again; so a script with the report of a legal, complete journal behind it is a
+/// A script with a text after it is cut into these two again; so a script with the report of a legal, complete journal after it is a
 /// script and an accepted report of it.
 pub fn reports_behind_their_script_are_accepted()
     ensures cut { ScriptsAreCutOff }

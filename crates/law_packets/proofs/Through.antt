@@ -100,7 +100,7 @@ by_page : (t : Bool) (b c k i r o len y u w : ℕ) → r + len ≤ 4096 → o < 
 by_page true b c k i r o len y u w fits lt one two v = let h = one refl in on_page b c k i r o len y u w h.0 h.1 (v h.1)
 by_page false b c k i r o len y u w fits lt one two v = off_page b c k i r o len y w fits lt (two refl)
 
--- packets behind packets
+-- packets after packets
 packets-append : (aper : Aperture) (xs ys : List Packet) (bytes : PageBytes) → after_packets aper bytes (xs ++ ys) ≡ after_packets aper (after_packets aper bytes xs) ys
 packets-append aper [] ys bytes = refl
 packets-append aper (p ∷ xs) ys bytes = packets-append aper xs ys (after_packet aper bytes p)

@@ -18,7 +18,7 @@ pub fn victims_are_few()
     ensures { (script : Script) (journal : List Entry) → IsTrue (is_script script) → IsLegal script journal → AreFew (state_of script journal) }
 {}
 
-/// A command that is refused for want of space or pages has a buffer at work: one that isn't in place or isn't filled.
+/// A command that is refused for lack of space or pages has a buffer at work: one that isn't in place or isn't filled.
 pub fn refusals_have_a_buffer_at_work()
     ensures { (script : Script) (journal : List Entry) → IsTrue (is_script script) → IsLegal script journal → RefusalsHaveBuffers script journal }
 {}

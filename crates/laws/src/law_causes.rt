@@ -15,7 +15,7 @@ ghost use Rattle.journal_model.specs.statements.Laws.{LegalHasCauses};
 ghost use Rattle.laws.specs.law_causes.Explains.{Explains};
 ghost use Rattle.laws.specs.law_causes.Refused.{LeavesNothing};
 
-/// Dry places, refusals for want of room or frames, and backoffs have their causes.
+/// Dry places, refusals for lack of room or frames, and backoffs have their causes.
 pub fn entries_that_give_up_have_causes()
     ensures { LegalHasCauses }
 {}

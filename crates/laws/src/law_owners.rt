@@ -18,7 +18,7 @@ pub fn accounts_hold()
     ensures { LegalHasAccounts }
 {}
 
-/// The same behind each front of a legal journal.
+/// The same after each front of a legal journal.
 pub fn accounts_hold_throughout()
     ensures { (script : Script) (journal : List Entry) → IsTrue (is_script script) → IsLegal script journal → HoldThroughout script journal }
 {}

@@ -27,7 +27,7 @@ pub fn courses_are_good()
     ensures { (script : Script) (journal : List Entry) → IsLegal script journal → GoodCourses script (state_of script journal) }
 {}
 
-/// A thread stands behind as many commands as it has results and refusals in the journal.
+/// A thread follows as many commands as it has results and refusals in the journal.
 pub fn answers_are_counted()
     ensures { (script : Script) (journal : List Entry) (thread : ℕ) → IsLegal script journal → (course (state_of script journal) thread).answered ≡ answers_of thread journal }
 {}

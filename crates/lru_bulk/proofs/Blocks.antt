@@ -43,7 +43,7 @@ block_filter test keep l range kept h = record {
   range_is = h.range_is;
 }
 
--- others behind it
+-- others after it
 pub block_append : (test : BufId → Bool) (l m : List BufId) (range : Option Range) → Each (λ b. test b ≡ false) m → IsBlock test l range → IsBlock test (l ++ m) range
 block_append test l m range none h = record {
   before = h.before;
@@ -136,7 +136,7 @@ locate test (k ∷ before) inside after (m ∷ x) b y e none1 none2 t =
       after_is = r.after_is;
     }
 
--- one that doesn't pass, put behind another such
+-- one that doesn't pass, put after another such
 behind_in_rest : (test : BufId → Bool) (inside after x : List BufId) (w b : BufId) (y : List BufId) → inside ++ after ≡ x ++ w ∷ y
     → Each (λ c. test c ≡ true) inside → Each (λ c. test c ≡ false) after → test w ≡ false → test b ≡ false
     → (rest : List BufId) × (x ++ w ∷ b ∷ y ≡ inside ++ rest) × Each (λ c. test c ≡ false) rest

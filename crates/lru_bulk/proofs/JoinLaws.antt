@@ -182,7 +182,7 @@ module _ (r : Rings) (lists : List (List BufId)) (b : BufId) (x : Listing) (h : 
     blocks = end_blocks grp own at;
   }
 
-  -- behind the last member
+  -- after the last member
   behind_blocks : (g0 : ℕ) (range : Range) (cut : JoinedBehind (is_member (listings_of r) g0) (list_at lists (number_of x)) range b) → g0 < r.groups → x.group ≡ Some g0
       → range_at r.ranges g0 (number_of x) ≡ Some range → (g : ℕ) → g < r.groups
       → IsBlock (is_member (listings_of r) g) (cut.front ++ range.last ∷ b ∷ cut.back) (range_at (ranges_joined r.ranges (Some g0) (number_of x) b) g (number_of x))

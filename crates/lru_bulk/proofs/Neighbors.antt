@@ -35,7 +35,7 @@ module _ (n p : Spot → Spot) where
   last_of_range f [] k h = h.1
   last_of_range f (c ∷ rest) k h = last_leads (Of f) c rest k h
 
-  -- what holds of all but the source holds of the one behind the source
+  -- what holds of all but the source holds of the one after the source
   pub at_target : (P : Spot → Type 0) (a : Spot) (x : List Spot) (z : Spot) → Path n p a x z → Each P x → P z → P (n a)
   at_target P a [] z h e l = subst P (sym h.0) l
   at_target P a (k ∷ x) z h e l = subst P (sym h.0) e.0

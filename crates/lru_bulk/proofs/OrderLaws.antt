@@ -1,4 +1,4 @@
--- The order after several steps, and what stands first, behind another and side by side.
+-- The order after several steps, and what stands first, after another and side by side.
 use Rattle.std.proofs.Common.{◌≡◌, ℕ, zero, suc, ◌+◌, ◌*◌, ◌<◌, true, List, [], ◌∷◌, ◌++◌, length, get_or, set, map, replicate, Option, Some, None, IsSome, refl, sym, ap, subst, ◌∙◌, arith}
 use Rattle.std.specs.Prelude.{slice_get, ◌==◌}
 use Rattle.std.proofs.lemmas.Bool.Decides.{nat_tests}
@@ -90,7 +90,7 @@ first_of n p i (c ∷ l) h = ap buffer_in h.0
 pub first_is : (r : Rings) (i : ℕ) → IsWhole r None → i < 12 → buffer_in (next_at r (End i)) ≡ slice_get (list_at (lists_of r) i) 0
 first_is r i h lt = first_of (next_at r) (prev_at r) i (list_at (lists_of r) i) (h.rings i lt)
 
--- the one behind another
+-- the one after another
 behind_cut : (b : BufId) (front back : List BufId) → Unlike b front → behind b (front ++ b ∷ back) ≡ slice_get back 0
 behind_cut b [] back u = let e : (b.0 == b.0) ≡ true = grind (arith, nat_tests) in rw e refl
 behind_cut b (c ∷ front) back u = rw u.0 (behind_cut b front back u.1)

@@ -70,7 +70,7 @@ group_set_other : (listings : List (Option Listing)) (b c : BufId) (y : Option L
 group_set_other listings b c y ne =
     ap (option_and_then (λ (x : Listing). x.group)) (get_or-set_other listings b.0 c.0 y None (λ e. ne (ap (λ (m : ℕ). let n : BufId = record { 0 = m } in n) e)))
 
--- b placed anew
+-- b placed again
 pub touched-same : (mate : BufId → Bool) (o : Order) (b : BufId) (x : Listing) → listing_of o b ≡ Some x → All (λ c. is_mate o.listings b c ≡ mate c) (list_at o.lists (number_of x))
     → (touched o b).lists ≡ set (taken_off o.lists b) (number_of x) (placed_in mate b (list_at (taken_off o.lists b) (number_of x)))
 touched-same mate o b x found h =

@@ -103,7 +103,7 @@ block_left test x b y range t ux uy h =
       };
     }
 
--- the place behind the last member
+-- the place after the last member
 behind_last-none : (test : BufId → Bool) (l : List BufId) → Each (λ c. test c ≡ false) l → behind_last test l ≡ None
 behind_last-none test [] h = refl
 behind_last-none test (c ∷ l) h = rw (h.0, behind_last-none test l h.1) refl
@@ -160,7 +160,7 @@ block_joined_last test l b t h =
       };
     }
 
--- a member joins behind the last
+-- a member joins after the last
 pub record JoinedBehind (test : BufId → Bool) (l : List BufId) (r : Range) (b : BufId) : Type 0 where
   pub front : List BufId
   pub back : List BufId

@@ -85,7 +85,7 @@ module _ {S : Type 0} where
         (each_two (λ s. s ≢ z) (λ s. s ≢ b) (λ s. p' s ≡ p s) (λ s nz nb. t.prevs s nb nz) c d.0 out.1))
         (t.next_b, t.prev_v)
 
-    -- b joins behind w
+    -- b joins after w
     pub ring_behind : (x : List S) (w : S) (y : List S) (b : S) → Distinct (z ∷ (x ++ w ∷ y)) → NotIn b (z ∷ (x ++ w ∷ y)) → Path n p z (x ++ w ∷ y) z
         → Between n p n' p' w b (n w) → Path n' p' z (x ++ w ∷ b ∷ y) z
     ring_behind x w [] b d out h t =

@@ -92,7 +92,7 @@ module _ (r : Rings) (lists : List (List BufId)) (g i : ℕ) (range : Range) (h 
       let right = each_right P (End i ∷ map Of parts.before) (Of range.first ∷ (map Of parts.rest ++ map Of parts.after)) cut_at in
       subst (λ c. P (Of c)) (sym parts.last_is) (last_spot P range.first parts.rest right.0 (each_left P (map Of parts.rest) (map Of parts.after) right.1))
 
-  -- what is behind the range
+  -- what follows the range
   behind_range : (after : List BufId) → map Of (list_at lists i) ≡ map Of parts.before ++ Of range.first ∷ (map Of parts.rest ++ map Of after) → (v : BufId) (y : List BufId) → after ≡ v ∷ y → next_at r (Of range.last) ≡ Of v
   behind_range after is v y e =
       let ring = subst (λ l. Path (next_at r) (prev_at r) (End i) l (End i)) (is ∙ ap (λ (l : List BufId). map Of parts.before ++ Of range.first ∷ (map Of parts.rest ++ map Of l)) e) (h.rings i li) in
@@ -104,7 +104,7 @@ module _ (r : Rings) (lists : List (List BufId)) (g i : ℕ) (range : Range) (h 
       leads : Path (next_at r) (prev_at r) (Of range.first) (map Of parts.rest) (Of v) → next_at r (prev_at r (Of v)) ≡ Of v
       leads w = source_leads (next_at r) (prev_at r) (Of range.first) (map Of parts.rest) (Of v) w
 
-  -- nothing is behind it: the list is as it shall be
+  -- nothing is after it: the list is as it shall be
   pub at_end_already : next_at r (Of range.last) ≡ End i → members_last (is_member (listings_of r) g) (list_at lists i) ≡ list_at lists i
   at_end_already ends = go parts.after refl
     where

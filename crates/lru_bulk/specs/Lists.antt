@@ -48,18 +48,18 @@ is_mate listings b c = same_group (group_in listings b) (group_in listings c)
 abbrev pub is_member : List (Option Listing) → ℕ → BufId → Bool
 is_member listings group b = same_group (group_in listings b) (Some group)
 
--- the position behind the last that passes
+-- the position after the last that passes
 abbrev pub one_further : Bool → Option ℕ → Option ℕ
 one_further here (Some k) = Some (k + 1)
 one_further true None = Some 1
 one_further false None = None
 
--- the position behind the last element that passes
+-- the position after the last element that passes
 abbrev pub behind_last : (BufId → Bool) → List BufId → Option ℕ
 behind_last test [] = None
 behind_last test (c ∷ cs) = one_further (test c) (behind_last test cs)
 
--- b behind the last of its mates, or at the end where it has none
+-- b after the last of its mates, or at the end where it has none
 abbrev pub placed_in : (BufId → Bool) → BufId → List BufId → List BufId
 placed_in mate b l = insert l (unwrap_or (behind_last mate l) (length l)) b
 
@@ -75,7 +75,7 @@ taken_off lists b = map (λ l. without_buffer l b) lists
 abbrev pub put_on : List (Option Listing) → List (List BufId) → BufId → ℕ → List (List BufId)
 put_on listings lists b at = slice_set lists at (placed_in (is_mate listings b) b (list_at lists at))
 
--- a list, its members of a group behind the others
+-- a list, its members of a group after the others
 abbrev pub members_last : (BufId → Bool) → List BufId → List BufId
 members_last member l = filter (λ b. not (member b)) l ++ filter member l
 
@@ -108,7 +108,7 @@ added o b x =
 abbrev pub removed : Order → BufId → Order
 removed o b = record o { lists = taken_off o.lists b; listings = slice_set o.listings b.0 None }
 
--- b is taken off its list and placed on it anew
+-- b is taken off its list and placed on it again
 abbrev pub touched_as : Order → BufId → Option Listing → Order
 touched_as o b None = o
 touched_as o b (Some x) = record o { lists = put_on o.listings (taken_off o.lists b) b (number_of x) }
@@ -124,15 +124,15 @@ relisted_as o b mem (Some x) = added (removed o b) b (record x { mem = mem })
 abbrev pub relisted : Order → BufId → Mem → Order
 relisted o b mem = relisted_as o b mem (listing_of o b)
 
--- each list with its members of a group behind the others
+-- each list with its members of a group after the others
 abbrev pub bulk_moved : Order → ℕ → Order
 bulk_moved o group = record o { lists = map (members_last (is_member o.listings group)) o.lists }
 
--- one list alone with its members of a group behind the others
+-- one list alone with its members of a group after the others
 abbrev pub bulk_moved_in : Order → ℕ → ℕ → Order
 bulk_moved_in o i group = record o { lists = slice_set o.lists i (members_last (is_member o.listings group) (list_at o.lists i)) }
 
--- the buffer behind b in a list
+-- the buffer after b in a list
 abbrev pub behind : BufId → List BufId → Option BufId
 behind b [] = None
 behind b (c ∷ cs) = if b.0 == c.0 then slice_get cs 0 else behind b cs

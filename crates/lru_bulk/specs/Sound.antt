@@ -85,7 +85,7 @@ pub record IsAt (listings : List (Option Listing)) (out : Option BufId) (i : ℕ
 abbrev pub range_at : List (Option Range) → ℕ → ℕ → Option Range
 range_at ranges g i = slice_index_or ranges (g * 12 + i) None
 
--- the range of a group after b has left it, p before it and s behind it
+-- the range of a group after b has left it, p before it and s after it
 abbrev pub narrowed : Range → BufId → BufId → BufId → Option Range
 narrowed r b p s =
     if b.0 == r.first.0
@@ -116,7 +116,7 @@ abbrev pub range_for : List (Option Range) → Option ℕ → ℕ → Option Ran
 range_for ranges None i = None
 range_for ranges (Some g) i = range_at ranges g i
 
--- the spot behind which one more of the group stands
+-- the spot after which one more of the group stands
 abbrev pub spot_before : Rings → Option Range → ℕ → Spot
 spot_before r None i = prev_at r (End i)
 spot_before r (Some range) i = Of range.last

@@ -57,7 +57,7 @@ impl Lru {
         Ok(Lru { rings })
     }
 
-    /// Lists a buffer, behind the last of its group in its list, or at the list's end. It makes room for the buffer in the
+    /// Lists a buffer, after the last of its group in its list, or at the list's end. It makes room for the buffer in the
     /// lists of all memory types.
     pub fn add(&mut self, b: BufId, mem: Mem, prio: u32, group: Option<u32>) -> Result<(), NoMemory>
         requires known { b.0 < length self.old.listings }
@@ -79,7 +79,7 @@ impl Lru {
         self.rings.delist::<Brand>(b, Blank::new(1));
     }
 
-    /// Places a buffer anew on its list: behind the last other of its group, or at the list's end.
+    /// Places a buffer again on its list: after the last other of its group, or at the list's end.
     pub fn touch(&mut self, b: BufId)
         requires { IsSome (listing_of self.old b) }
         ensures { self.new ≡ touched self.old b }
@@ -87,7 +87,7 @@ impl Lru {
         self.rings.replace::<Brand>(b, Blank::new(1));
     }
 
-    /// Places a buffer on the list of another memory type, or anew on its own, with its priority and group.
+    /// Places a buffer on the list of another memory type, or again on its own, with its priority and group.
     pub fn relist(&mut self, b: BufId, mem: Mem)
         requires { IsSome (listing_of self.old b) }
         ensures { self.new ≡ relisted self.old b mem }
@@ -160,7 +160,7 @@ impl Lru {
         self.rings.first(mem, prio)
     }
 
-    /// The buffer behind another in its list.
+    /// The buffer after another in its list.
     pub fn next(&self, b: BufId) -> Option<BufId>
         requires { IsSome (listing_of self.now b) }
         ensures { result ≡ behind b (list_of self.now b) }

@@ -175,7 +175,7 @@ impl Rings {
         }
     }
 
-    /// Makes each list its members of a group behind the others.
+    /// Makes each list its members of a group after the others.
     pub(crate) fn splice_all<L: Ledger>(&mut self, group: u32, steps: &mut Steps<L>)
         requires sound { IsWhole self.old None }
         requires group { group < self.old.groups }
@@ -236,7 +236,7 @@ impl Rings {
         self.take(b);
     }
 
-    /// Takes a buffer off its list and places it on it anew.
+    /// Takes a buffer off its list and places it on it again.
     pub(crate) fn replace<L: Ledger>(&mut self, b: BufId, blank: Blank)
         requires name { blank.name ≡ L.name }
         requires parts { blank.parts ≡ L.parts }
@@ -267,7 +267,7 @@ impl Rings {
         self.join(b, &mut steps);
     }
 
-    /// Makes each list its members of a group behind the others, uncounted.
+    /// Makes each list its members of a group after the others, uncounted.
     pub(crate) fn splice_uncounted<L: Ledger>(&mut self, group: u32, blank: Blank)
         requires name { blank.name ≡ L.name }
         requires parts { blank.parts ≡ L.parts }
@@ -302,7 +302,7 @@ impl Rings {
         buffer_in(links.next)
     }
 
-    /// The buffer behind another in its list.
+    /// The buffer after another in its list.
     pub(crate) fn next(&self, b: BufId) -> Option<BufId>
         requires sound { IsWhole self.now None }
         requires listed { IsSome (listing_of (order_of self.now) b) }

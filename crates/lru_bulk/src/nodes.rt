@@ -13,7 +13,7 @@ pub struct Listing {
     pub group: Option<u32>,
 }
 
-/// A place that links lead to: the end of a list, which stands before its first node and behind its last, or a buffer's node.
+/// A place that links lead to: the end of a list, which stands before its first node and after its last, or a buffer's node.
 #[derive(Clone, Copy)]
 pub enum Spot {
     End(usize),

@@ -111,7 +111,7 @@ fn narrowed_in(range: Option<Range>, b: BufId, links: Links) -> Option<Range>
     }
 }
 
-// The range of a group after `b` has joined it behind the last.
+// The range of a group after `b` has joined it after the last.
 fn widened(range: Option<Range>, b: BufId) -> Range
     ensures { result ≡ words.widened range b }
 {
@@ -254,7 +254,7 @@ impl Rings {
         }
     }
 
-    // The spot behind which one more of the group stands: its last member's, or that of the list's last node.
+    // The spot after which one more of the group stands: its last member's, or that of the list's last node.
     pub(crate) fn spot_before(&self, group: Option<u32>, list: usize) -> Spot
         requires group { IsGroup self.now.groups group }
         requires list { list < 12 }

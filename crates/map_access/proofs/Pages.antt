@@ -6,11 +6,11 @@ use Rattle.ttm_base.specs.ListWords.{count_from}
 use Rattle.journal_model.specs.marks.Mapped.{Access, meets_page, pages_of_access}
 use Rattle.map_access.specs.Accesses.{paged}
 
--- the page behind a range, by its parts
+-- the page after a range, by its parts
 pub end_by_parts : (off len : ℕ) → off / 4096 + len / 4096 + (off % 4096 + len % 4096 + 4096 - 1) / 4096 ≡ (off + len + 4095) / 4096
 end_by_parts off len = omega arith
 
--- ---- the range meets the pages from the first to the one behind the last
+-- ---- the range meets the pages from the first to the one after the last
 
 first_met : (off i : ℕ) → nat_lt off (4096 * (i + 1)) ≡ nat_le (off / 4096) i
 first_met off i =
@@ -70,7 +70,7 @@ pages_are a =
 
 -- ---- over a range, page by page
 
--- the next page of a range, and those behind it
+-- the next page of a range, and those after it
 pub count_next : (page end : ℕ) → page < end → count_from 1 (end - page) page ≡ page ∷ count_from 1 (end - (page + 1)) (page + 1)
 count_next page end h =
     let one : end - page ≡ suc (end - (page + 1)) = omega (arith, h) in

@@ -14,12 +14,12 @@ use Rattle.map_access.specs.declared.access.Access as rust
 abbrev pub is_way_of : ℕ → ℕ → Mark → Bool
 is_way_of thread n m = (m.thread == thread) && (m.after == n) && is_mapped m.kind
 
--- a mapping with this end has ended before the command that stands behind n others
+-- a mapping with this end has ended before the command that follows n others
 abbrev pub has_ended_by : Option ℕ → ℕ → Bool
 has_ended_by None n = false
 has_ended_by (Some e) n = nat_le e n
 
--- the pages that a range has a byte of: the first, and the one behind the last
+-- the pages that a range has a byte of: the first, and the one after the last
 abbrev pub paged : Access → rust.Access
 paged a = record { b = a.b; first = a.off / 4096; end = (a.off + a.len + 4095) / 4096 }
 
@@ -28,6 +28,6 @@ abbrev pub access_in : Script → ℕ → ℕ → Entry → Option Access
 access_in script thread n e =
     elim (e.kind) [ kind.Result r ↦ if is_by_thread thread e.who then peek_or_poke script thread n else None | _ ↦ None ]
 
--- the command behind which the mapping of a buffer stands through which a command goes
+-- the command after which the mapping of a buffer stands through which a command goes
 abbrev pub mapped_from : Script → ℕ → ℕ → BufId → Option ℕ
 mapped_from script thread n b = option_map (λ m. m.from) (mapping_at script thread n (record { b = b; off = 0; len = 0 }))

@@ -15,7 +15,7 @@ use ttm_base::{Actor, BufId};
 /// The bytes of a page.
 const PAGE: u64 = PAGE_BYTES as u64;
 
-/// Pages of a buffer that a command reads or writes: the first, and the one behind the last.
+/// Pages of a buffer that a command reads or writes: the first, and the one after the last.
 #[derive(Clone, Copy)]
 pub struct Access {
     pub b: BufId,
@@ -23,7 +23,7 @@ pub struct Access {
     pub end: u64,
 }
 
-/// The page behind the last one of a range.
+/// The page after the last one of a range.
 #[tactic(auto, using(crate::proofs::Pages::end_by_parts))]
 fn end_of_range(off: u64, len: u64) -> u64
     requires { off < 4294967296 }
@@ -55,7 +55,7 @@ fn access_of(command: &Command) -> Option<Access>
     }
 }
 
-/// The command of a thread that stands behind so many.
+/// The command of a thread that follows so many.
 fn command_at(script: &Script, thread: u64, n: u64) -> Option<&Command>
     ensures { option_copied result ≡ slice_get (commands_of script.now thread) n }
 {
@@ -142,7 +142,7 @@ fn unmap_line(behind: &[Mark], thread: u32, b: BufId) -> Option<&Mark>
     behind.iter().find(|mark| unmaps(thread, b, mark))
 }
 
-/// A mapping has ended before the command that stands behind `n` others.
+/// A mapping has ended before the command that follows `n` others.
 fn has_ended(behind: &[Mark], thread: u32, b: BufId, n: u64) -> bool
     ensures { result ≡ has_ended_by (words.end_of thread b behind.now) n }
 {
@@ -167,7 +167,7 @@ fn begins(mark: &Mark, behind: &[Mark], thread: u64, n: u64, b: BufId) -> bool
     }
 }
 
-/// The command behind which the mapping stands through which a command goes, if there is one.
+/// The command after which the mapping stands through which a command goes, if there is one.
 pub fn mapped_from(script: &Script, thread: u64, n: u64, b: BufId) -> Option<u64>
     ensures { result ≡ mapped_from script.now thread n b }
 {

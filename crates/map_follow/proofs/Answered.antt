@@ -226,7 +226,7 @@ module _ (script : Script) (made : List Made) (before : State) (t : ℕ) (k : Ki
           ∙ ap (λ (x : Bool). if x && over then None else entry_in met_areas t b i) (eq-eqb t t refl)
           ∙ ap (λ (x : Bool). if x then None else entry_in met_areas t b i) h)
 
-      -- a mapping that begins behind the answer has no entry yet
+      -- a mapping that begins after the answer has no entry yet
       starts_none : (m : Mapping) → m.thread ≡ t → n < m.from → entry_after script m i e k (entry_along script m i made) ≡ None
       starts_none m own late =
           let before_it : count_answers m.thread made < m.from = subst (λ u. count_answers u made < m.from) (sym own) late in

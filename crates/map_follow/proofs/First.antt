@@ -34,7 +34,7 @@ length-replicated zero x = refl
 length-replicated (suc n) x = ap suc (length-replicated n x)
 
 module _ (t : ℕ) (b : BufId) where
-  -- what is found first, with one more area behind
+  -- what is found first, with one more area after
   found_more : (areas : List Area) (a : Area) → find (is_of t b) (areas ++ a ∷ []) ≡ elim (find (is_of t b) areas) as (λ _. Option Area) [ Some x ↦ Some x | None ↦ cond (is_of t b a) (Some a) None ]
   found_more [] a = refl
   found_more (x ∷ areas) a = by (is_of t b x) (found_more areas a)

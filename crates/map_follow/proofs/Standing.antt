@@ -14,7 +14,7 @@ use Rattle.journal_model.specs.scripts.MarkRules.{are_in_order, is_above}
 use Rattle.map_follow.specs.Follows.{maps_for}
 use Rattle.laws.proofs.law_sound.Bufs.{same_is, same_self}
 
--- the line ends the thread's mapping of the buffer, behind so many commands
+-- the line ends the thread's mapping of the buffer, after so many commands
 abbrev pub ends : ℕ → ℕ → BufId → Mark → Bool
 ends t n b m = unmaps t b m && (m.after == n)
 
@@ -137,7 +137,7 @@ found_first p j js (mark.Vmap va n b off) rest m h = inr h
 found_first p j js (mark.Vunmap va n) rest m h = inr h
 found_first p j js (mark.Vsubmit ops) rest m h = inr h
 
--- a mapping of lines behind a line of its thread begins behind it
+-- a mapping of lines after a line of its thread begins after it
 from_behind : (k : Mark) (ms : List Mark) (p : Mapping → Bool) (m : Mapping) → list_all (is_above k) ms ≡ true → find p (mappings_in ms) ≡ Some m → m.thread ≡ k.thread → k.after ≤ m.from
 from_behind k [] p m all h own = cc
 from_behind k (j ∷ js) p m all h own =
@@ -190,7 +190,7 @@ module _ (t n : ℕ) (b : BufId) where
           let rest = behind g in
           record { u = rest.u; first = ap (λ (x : Bool). cond x (Some k) (find (unmaps t b) ks)) e ∙ rest.first; early = rest.early }
 
-  -- ---- a mapping that ends behind an answer
+  -- ---- a mapping that ends after an answer
 
   ended_there : (ks : List Mark) (o : Option Mark) → find (unmaps t b) ks ≡ o → (u : Mark) → o ≡ Some u → u.after ≤ n → elim (option_map (λ (m : Mark). m.after) o) as (λ _. Bool) [ None ↦ false | Some e ↦ nat_le e n ] ≡ true
   ended_there ks None e u h early = cc

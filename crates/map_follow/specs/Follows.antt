@@ -17,7 +17,7 @@ use Rattle.cpu_maps.specs.declared.area.Area.{Area}
 use Rattle.cpu_maps.specs.Areas.{entry_in, is_of}
 use Rattle.law_legal.specs.law_maps.Following.{page_there}
 
--- the mapping of a buffer by a thread that stands behind so many of its commands
+-- the mapping of a buffer by a thread that follows so many of its commands
 abbrev pub standing : Script → ℕ → ℕ → BufId → Option Mapping
 standing script thread n b = mapping_at script thread n (record { b = b; off = 0; len = 0 })
 

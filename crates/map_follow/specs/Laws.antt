@@ -13,7 +13,7 @@ use Rattle.map_follow.specs.Ends.{with_end}
 use Rattle.map_follow.specs.Follows.{Follows, answerer}
 use Rattle.map_follow.specs.Founds.{found_by, place_in, with_found_at}
 
--- the areas after an answer of a thread, which had answered so many commands: first what it found, then what ends behind it
+-- the areas after an answer of a thread, which had answered so many commands: first what it found, then what ends after it
 abbrev pub areas_answered : Script → State → ℕ → ℕ → Entry → List Area → List Area
 areas_answered script s t n e areas = fold (with_end t (n + 1)) (with_found_at (place_in s) (found_by script n e) areas) script.marks
 

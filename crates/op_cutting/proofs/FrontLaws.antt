@@ -17,7 +17,7 @@ take_more zero xs ys h = refl
 take_more (suc n) [] ys h = absurd (omega (arith, h))
 take_more (suc n) (x ∷ xs) ys h = ap (λ l. x ∷ l) (take_more n xs ys (omega (arith, h)))
 
--- more may stand behind
+-- more may follow
 pub longer : {A : Type 0} (new xs ys : List A) → new ≡ take (length new) xs → new ≡ take (length new) (xs ++ ys)
 longer new xs ys h = h ∙ sym (take_more (length new) xs ys (ap length h))
 
@@ -25,7 +25,7 @@ append_three : {A : Type 0} (xs ys zs : List A) → (xs ++ ys) ++ zs ≡ xs ++ (
 append_three [] ys zs = refl
 append_three (x ∷ xs) ys zs = ap (λ l. x ∷ l) (append_three xs ys zs)
 
--- what comes of an item, and of those before and behind it
+-- what comes of an item, and of those before and after it
 pub around : {X A : Type 0} (f : X → List A) (xs : List X) (i : ℕ) (d : X) → i < length xs → flat_map f (take i xs) ++ (f (get_or xs i d) ++ flat_map f (drop (i + 1) xs)) ≡ flat_map f xs
 around f [] i d h = absurd (omega arith)
 around f (x ∷ xs) zero d h = refl

@@ -75,7 +75,7 @@ fn packet_of<N: PageNames>(names: &N, op: &Op, at: u32, len: u32) -> Packet
     }
 }
 
-/// Puts the packets of an operation behind others.
+/// Puts the packets of an operation after others.
 fn push_packets<N: PageNames, L: PacketList>(
     packets: &mut L,
     names: &N,
@@ -94,8 +94,8 @@ fn push_packets<N: PageNames, L: PacketList>(
     Ok(())
 }
 
-/// Puts the packets of operations behind others: each operation, in order and from its lowest byte, is cut at every page border of
-/// its buffers. After want of memory the list has the first of them, up to some packet.
+/// Puts the packets of operations after others: each operation, in order and from its lowest byte, is cut at every page border of
+/// its buffers. After lack of memory the list has the first of them, up to some packet.
 pub fn cut<N: PageNames, L: PacketList>(
     packets: &mut L,
     names: &N,

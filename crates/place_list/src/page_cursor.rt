@@ -11,7 +11,7 @@ use ttm_base::Span;
 pub struct PageCursor<'a> {
     /// The pages of the span at hand that are left.
     here: Span,
-    /// The spans behind it.
+    /// The spans after it.
     behind: &'a [Span],
 }
 

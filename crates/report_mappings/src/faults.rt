@@ -46,7 +46,7 @@ fn faults_in(
     Ok(pages)
 }
 
-/// Puts each number behind a comma.
+/// Puts each number after a comma.
 fn put_more_numbers(line: &mut Line, numbers: &[u64]) -> Result<(), NoMemory>
     ensures { OnOk result (line.new ≡ line.old ++ behind_each 44 (map decimal numbers.now)) }
 {
@@ -69,7 +69,7 @@ fn put_numbers(line: &mut Line, numbers: &[u64]) -> Result<(), NoMemory>
     }
 }
 
-/// Puts the faults of a thread's command, behind which `n` others stand.
+/// Puts the faults of a thread's command, after which `n` others stand.
 fn put_line(line: &mut Line, thread: u64, n: u64, faults: &[u64]) -> Result<(), NoMemory>
     requires { n < 18446744073709551615 }
     ensures { OnOk result (line.new ≡ line.old ++ faults_line thread n faults.now) }

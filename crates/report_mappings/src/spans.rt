@@ -25,7 +25,7 @@ pub fn put_spans(line: &mut Line, spans: &[Span]) -> Result<(), NoMemory>
     }
 }
 
-/// Puts each span behind a comma.
+/// Puts each span after a comma.
 fn put_more_spans(line: &mut Line, spans: &[Span]) -> Result<(), NoMemory>
     ensures { OnOk result (line.new ≡ line.old ++ behind_each 44 (map span_word spans.now)) }
 {

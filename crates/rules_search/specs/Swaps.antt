@@ -8,7 +8,7 @@ use Rattle.journal_model.specs.rules.PageSteps.{step_of_swap_out}
 use Rattle.rules_search.specs.declared.pages.Swap.{Swap}
 use Rattle.rules_search.specs.declared.pages.Swap.TheVariants.{NoFrame, NoSlot, Page}
 
--- its step, or those for want of a frame and of a slot
+-- its step, or those for lack of a frame and of a slot
 abbrev pub step_of : Swap → (no_frame no_slot : Step) → Step
 step_of NoFrame no_frame no_slot = no_frame
 step_of NoSlot no_frame no_slot = no_slot

@@ -41,7 +41,7 @@ take_whole [] n h = grind (arith, common_steps)
 take_whole (x ∷ xs) zero h = absurd (omega (arith, h))
 take_whole (x ∷ xs) (suc n) h = ap (λ ys. x ∷ ys) (take_whole xs n (omega (arith, h)))
 
--- what is left of a slice behind a front
+-- what is left of a slice after a front
 pub rest_whole : {X : Type 0} (n : ℕ) (xs : List X) → take (length xs - n) (drop n xs) ≡ drop n xs
 rest_whole n xs = take_whole (drop n xs) (length xs - n) (omega (arith, length-drop n xs))
 

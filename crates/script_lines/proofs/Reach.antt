@@ -1,4 +1,4 @@
--- What stands behind the first @ of a place.
+-- What follows the first @ of a place.
 use Rattle.std.proofs.Common.{◌≡◌, ℕ, ◌+◌, ◌≤◌, Bool, cond, eqb, List, [], ◌∷◌, ◌++◌, length, drop, refl, sym, ap, get_or, Option, Some, ◌∙◌, arith}
 use Rattle.std.specs.List.{join_with_byte, slice_split, onto_first}
 use Rattle.std.proofs.Math.Seq.{drop-append-add}
@@ -33,7 +33,7 @@ first_in c text w (word ∷ next ∷ words) h two =
     let all = ap length (sym (whole c text word next words h)) ∙ length-append word (c ∷ join_with_byte c (next ∷ words)) in
     omega (arith, all)
 
--- behind them stands the reach
+-- after them stands the reach
 pub at_first : (text w : Text) (words : List Text) (f : Option Flags) → words ≡ cut_at 64 text → 2 ≤ length words
     → based_place (mem_of (get_or words 0 w)) (Some (drop (length (get_or words 0 w) + 1) text)) f ≡ at_place words f
 at_first text w [] f h two = absurd (omega (arith, two))

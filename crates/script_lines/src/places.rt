@@ -152,7 +152,7 @@ fn with_base(
     }
 }
 
-// What stands behind a first word of `first` bytes and the byte that ends it.
+// What follows a first word of `first` bytes and the byte that ends it.
 fn behind(base: &[u8], first: usize) -> &[u8]
     requires inside { first + 1 ≤ length base.now }
     ensures { result.now ≡ drop (first + 1) base.now }

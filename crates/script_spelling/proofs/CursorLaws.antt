@@ -10,12 +10,12 @@ use Rattle.journal_model.specs.declared.script.Command.{Command}
 use Rattle.journal_model.specs.scripts.MarkRules.{is_above, are_in_order, is_in_thread}
 use Rattle.script_spelling.specs.Cursors.{is_at, is_from, marks_from, front_at}
 
--- each stands at a place or farther behind
+-- each stands at a place or farther on
 abbrev AreFrom : ℕ → ℕ → List Mark → Type 0
 AreFrom t n [] = Unit {0}
 AreFrom t n (m ∷ ms) = (is_from t n m ≡ true) × AreFrom t n ms
 
--- what stands below a mark stands at its place or farther behind
+-- what stands below a mark stands at its place or farther on
 below : (t n : ℕ) (m k : Mark) → is_from t n m ≡ true → is_above m k ≡ true → is_from t n k ≡ true
 below t n m k h a = grind (arith, nat_tests, h, a)
 
@@ -64,7 +64,7 @@ all_past : (t n : ℕ) (ms : List Mark) → AreFrom t (n + 1) ms → marks_from 
 all_past t n [] a = refl
 all_past t n (m ∷ ms) a = rw (past_from t n m a.0, a.0) (ap (λ xs. m ∷ xs) (all_past t n ms a.1))
 
--- the marks at the front are those at the place, and what is behind them is past it
+-- the marks at the front are those at the place, and what follows them is past it
 record IsSplit (t n : ℕ) (ms : List Mark) : Type 0 where
   here : take (front_at t n (marks_from ms t n)) (marks_from ms t n) ≡ filter (is_at t n) ms
   behind : drop (front_at t n (marks_from ms t n)) (marks_from ms t n) ≡ marks_from ms t (n + 1)

@@ -85,7 +85,7 @@ behind_commands s t len m e h = elim (cases_Bool (m.thread == t)) [
   | inr k ↦ grind (arith, nat_tests, k)
 ]
 
--- the marks behind the last command of a thread are those of the threads behind it
+-- the marks after the last command of a thread are those of the threads after it
 pub next_thread : (s : Script) (t len : ℕ) → length (commands_of s t) ≡ len → list_all (is_in_thread s) s.marks ≡ true → marks_from s.marks t (len + 1) ≡ marks_from s.marks (t + 1) 0
 next_thread s t len e h = same_from t (len + 1) (t + 1) 0 s.marks (is_in_thread s) (λ m k. behind_commands s t len m e k) h
 

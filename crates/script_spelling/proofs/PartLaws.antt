@@ -40,7 +40,7 @@ pub one_passed : (which : Part) (list : List FlaggedPlace) (i : ℕ) (d x : Flag
     → part_words which (take (i + 1) list) ≡ part_words which (take i list)
 one_passed which list i d x h read passed = one_more which list i d x false h read passed ∙ append-nil (part_words which (take i list))
 
--- a word behind the others
+-- a word after the others
 pub joined_more : (ws : List Text) (w : Text) → join_with_byte 44 (ws ++ w ∷ []) ≡ join_with_byte 44 ws ++ flag (not (is_none ws)) (44 ∷ []) ++ w
 joined_more [] w = refl
 joined_more (v ∷ []) w = sym (append_assoc v (44 ∷ []) w)

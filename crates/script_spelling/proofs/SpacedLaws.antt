@@ -42,7 +42,7 @@ ops_grow words old mid new xs x more whole first rest =
 words_last : (old new w : Text) → new ≡ old ++ 32 ∷ w → new ≡ old ++ spaced_out (w ∷ [])
 words_last old new w last = last ∙ ap (λ t. old ++ t) (sym (flat_map-cons (λ u. 32 ∷ u) w [] ∙ append-nil (32 ∷ w)))
 
--- eight words, one behind the other
+-- eight words, one after the other
 pub eight_words : (a b c d e f g h i s t u v w x y z : Text) → b ≡ a ++ 32 ∷ s → c ≡ b ++ 32 ∷ t → d ≡ c ++ 32 ∷ u → e ≡ d ++ 32 ∷ v
     → f ≡ e ++ 32 ∷ w → g ≡ f ++ 32 ∷ x → h ≡ g ++ 32 ∷ y → i ≡ h ++ 32 ∷ z → i ≡ a ++ spaced_out (s ∷ t ∷ u ∷ v ∷ w ∷ x ∷ y ∷ z ∷ [])
 eight_words a b c d e f g h i s t u v w x y z k l m n o p q r =

@@ -7,7 +7,7 @@ use Rattle.journal_model.specs.scripts.Words.{Text, line}
 use Rattle.journal_model.specs.scripts.Spelling.{buffer_line, spelling, thread_lines, turn_line}
 use Rattle.script_spelling.specs.Parts.{head_lines}
 
--- five parts, one behind the other
+-- five parts, one after the other
 joined : (a b c d e t0 t1 t2 t3 t4 t5 : Text) → t0 ≡ [] → t1 ≡ t0 ++ a → t2 ≡ t1 ++ b → t3 ≡ t2 ++ c → t4 ≡ t3 ++ d → t5 ≡ t4 ++ e → t5 ≡ (a ++ b ++ c ++ d) ++ e
 joined a b c d e t0 t1 t2 t3 t4 t5 p q r s t u =
     u ∙ ap (λ x. x ++ e) (t ∙ ap (λ x. x ++ d) (s ∙ ap (λ x. x ++ c) (r ∙ ap (λ x. x ++ b) (q ∙ ap (λ x. x ++ a) p))))

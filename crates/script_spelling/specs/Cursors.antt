@@ -10,11 +10,11 @@ pub record ArePlaced (script : Script) : Type 0 where
   pub order : are_in_order script.marks ≡ true
   pub placed : list_all (is_in_thread script) script.marks ≡ true
 
--- the mark stands behind so many commands of a thread
+-- the mark follows so many commands of a thread
 abbrev pub is_at : ℕ → ℕ → Mark → Bool
 is_at thread n m = (m.thread == thread) && (m.after == n)
 
--- it stands there or farther behind
+-- it stands there or farther on
 abbrev pub is_from : ℕ → ℕ → Mark → Bool
 is_from thread n m = nat_lt thread m.thread || ((m.thread == thread) && nat_le n m.after)
 

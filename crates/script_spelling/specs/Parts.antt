@@ -46,6 +46,6 @@ abbrev pub shape_words : Decl → List Text
 shape_words d =
     d.name ∷ decimal d.pages ∷ codes "prio" ∷ decimal d.prio ∷ codes "group" ∷ group_word d.group ∷ codes "align" ∷ decimal d.align ∷ []
 
--- each operation behind a lone semicolon
+-- each operation after a lone semicolon
 abbrev pub parted_out : List (List Text) → List Text
 parted_out ops = flat_map (λ ws. codes ";" ∷ ws) ops

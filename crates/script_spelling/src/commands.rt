@@ -125,7 +125,7 @@ fn put_ops(text: &mut Line, script: &Script, ops: &[Op]) -> Result<(), NoMemory>
     }
 }
 
-/// Puts each operation behind a semicolon.
+/// Puts each operation after a semicolon.
 fn put_more_ops(text: &mut Line, script: &Script, ops: &[Op]) -> Result<(), NoMemory>
     ensures { OnOk result (text.new ≡ text.old ++ spaced_out (parted_out (map (op_words script.now) ops.now))) }
 {

@@ -16,14 +16,14 @@ use journal_model::{Command, Mark, MarkKind, Script, VOp};
 use text_line::{Line, name_of, put_hex_byte};
 use ttm_base::NoMemory;
 
-/// The mark stands behind `n` commands of a thread.
+/// The mark follows `n` commands of a thread.
 fn is_at(mark: &Mark, thread: usize, n: usize) -> bool
     ensures { result ≡ cursors.is_at thread n mark.now }
 {
     mark.thread as usize == thread && mark.after as usize == n
 }
 
-/// How many marks at the front stand behind `n` commands of a thread.
+/// How many marks at the front follow `n` commands of a thread.
 fn count_at(marks: &[Mark], thread: usize, n: usize) -> usize
     ensures { result ≡ front_at thread n marks.now }
 {
@@ -37,7 +37,7 @@ fn count_at(marks: &[Mark], thread: usize, n: usize) -> usize
     count
 }
 
-/// Cuts off the marks behind `n` commands of a thread, of the marks from there on.
+/// Cuts off the marks after `n` commands of a thread, of the marks from there on.
 pub(crate) fn split_at_place<'a>(
     script: &Script,
     rest: &'a [Mark],
@@ -190,7 +190,7 @@ fn put_ops(text: &mut Line, ops: &[VOp]) -> Result<(), NoMemory>
     }
 }
 
-/// Puts each operation behind a semicolon.
+/// Puts each operation after a semicolon.
 fn put_more_ops(text: &mut Line, ops: &[VOp]) -> Result<(), NoMemory>
     ensures { OnOk result (text.new ≡ text.old ++ spaced_out (parted_out (map vop_words ops.now))) }
 {

@@ -123,7 +123,7 @@ fn put_threads(text: &mut Line, script: &Script) -> Result<(), NoMemory>
     Ok(())
 }
 
-/// Puts the lines of a thread, whose marks come first. Answers the marks behind them.
+/// Puts the lines of a thread, whose marks come first. Answers the marks after them.
 fn put_thread<'a>(
     text: &mut Line,
     script: &Script,
@@ -140,7 +140,7 @@ fn put_thread<'a>(
     put_commands(text, script, thread, commands, marks)
 }
 
-/// Puts the commands of a thread, each behind the marks above it, and the marks behind them.
+/// Puts the commands of a thread, each after the marks above it, and the marks after them.
 fn put_commands<'a>(
     text: &mut Line,
     script: &Script,
@@ -182,7 +182,7 @@ fn put_turn_line(text: &mut Line, actors: &[Actor]) -> Result<(), NoMemory>
     text.end_line()
 }
 
-/// Puts each actor behind a space.
+/// Puts each actor after a space.
 fn put_actors(text: &mut Line, actors: &[Actor]) -> Result<(), NoMemory>
     ensures { OnOk result (text.new ≡ text.old ++ spaced_out (map actor_word actors.now)) }
 {

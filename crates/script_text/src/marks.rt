@@ -23,7 +23,7 @@ use std::alloc::Global;
 use ttm_base::limits::MAX_OP_BYTES;
 use ttm_base::{BufId, NoMemory};
 
-/// A mark behind the commands so far of the thread at work.
+/// A mark after the commands so far of the thread at work.
 fn mark_of(progress: &Progress, kind: MarkKind) -> Mark
     requires threads { length progress.now.script.threads ≤ 16 }
     requires commands { length (commands_of progress.now.script (length progress.now.script.threads)) ≤ 4096 }

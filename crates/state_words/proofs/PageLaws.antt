@@ -13,7 +13,7 @@ pub count_from-push : (n start : ℕ) → count_from 1 (n + 1) start ≡ count_f
 count_from-push zero start = grind (arith, common_steps)
 count_from-push (suc n) start = let e = count_from-push n (1 + start) in grind (arith, common_steps)
 
--- a number among those counted, or one behind them
+-- a number among those counted, or one after them
 slice_get-count : (n start : ℕ) (rest : List ℕ) (i : ℕ)
     → slice_get (count_from 1 n start ++ rest) i ≡ (if nat_lt i n then Some (start + i) else slice_get rest (i - n))
 slice_get-count zero start rest i = grind (arith, common_steps, nat_tests)

@@ -1,4 +1,4 @@
--- Words with a separator between each two are the first, and each other one behind a separator.
+-- Words with a separator between each two are the first, and each other one after a separator.
 use Rattle.std.proofs.Common.{◌≡◌, ℕ, List, [], ◌∷◌, ◌++◌, ap, sym, append-nil}
 use Rattle.std.specs.List.{join_with_byte}
 use Rattle.journal_model.specs.scripts.Words.{Text}

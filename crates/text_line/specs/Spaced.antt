@@ -1,11 +1,11 @@
--- Words of a line as they are put one behind the other.
+-- Words of a line as they are put one after the other.
 use Rattle.std.specs.Prelude.{ℕ, List, ◌∷◌, flat_map}
 use Rattle.journal_model.specs.scripts.Words.{Text}
 
--- each word behind a separator
+-- each word after a separator
 abbrev pub behind_each : ℕ → List Text → Text
 behind_each separator ws = flat_map (λ w. separator ∷ w) ws
 
--- each word behind a space
+-- each word after a space
 abbrev pub spaced_out : List Text → Text
 spaced_out ws = behind_each 32 ws

@@ -12,7 +12,7 @@ mod words;
 
 pub use words::{mem_word, name_of, put_actor, put_hex, put_hex_byte, put_numbered};
 
-/// A line in the making, or several. After want of memory a part of what was to be put may stand at its end.
+/// A line in the making, or several. After lack of memory a part of what was to be put may stand at its end.
 #[derive(Drop)]
 pub struct Line {
     bytes: Vec<u8>,

@@ -100,7 +100,7 @@ impl<T> ItemList<T> {
         self.items[index] = item;
     }
 
-    /// Takes the item at a position out. Those behind it move up.
+    /// Takes the item at a position out. Those after it move up.
     pub fn remove(&mut self, index: usize) -> T
         requires { index < length self.old }
         ensures left { self.new ≡ remove self.old index }

@@ -67,7 +67,7 @@ asks_fit s d above [] c h k = ap (λ ms. are_marks s d ms (Some c)) (append-nil 
 asks_fit s d above (way ∷ []) c h k = way_is_last s d above way (Some c) h (both (s.version == 2) (is_way (fold thread_mappings_after d above) way (Some c)) k).1
 asks_fit s d above (way ∷ other ∷ ways) c h k = absurd cc
 
--- the marks of a thread, behind marks with lines of their own
+-- the marks of a thread, after marks with lines of their own
 fit_from : (s : Script) (t n : ℕ) (d : ThreadMappings) (above : List MarkKind) (items : List Item) → Stand s t n above items → along s d above ≡ true → all_along (item_fits s) (fold thread_mappings_after d above) items ≡ true
     → marks_fit s t n d (commands_in items) ≡ true
 fit_from s t n d above [] h k f = ap (λ ms. are_marks s d ms None) (stand_last s t n above h) ∙ lines_are_marks s d above None k

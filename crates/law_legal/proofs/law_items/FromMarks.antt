@@ -26,7 +26,7 @@ use Rattle.law_legal.proofs.law_items.Fits.{thread_count}
 
 -- ---- the lines of a thread by its marks and commands
 
--- a command behind the marks above it
+-- a command after the marks above it
 abbrev block : List MarkKind → Command → List Item
 block [] c = Asks [] c ∷ []
 block (m ∷ ms) c = if is_line m then Alone m ∷ block ms c else Asks (m ∷ ms) c ∷ []
@@ -75,11 +75,11 @@ marks_alone t n (m ∷ ms) = ap (λ x. mark_at t n m ∷ x) (marks_alone t n ms)
 
 -- ---- marks in order, place by place
 
--- the mark stands behind so many commands of a thread
+-- the mark follows so many commands of a thread
 abbrev is_at : ℕ → ℕ → Mark → Bool
 is_at t n m = (m.thread == t) && (m.after == n)
 
--- it stands there or farther behind
+-- it stands there or farther on
 abbrev is_from : ℕ → ℕ → Mark → Bool
 is_from t n m = nat_lt t m.thread || ((m.thread == t) && nat_le n m.after)
 
@@ -121,7 +121,7 @@ all_so p q (m ∷ ms) f h =
     let g = both (p m) (list_all p ms) h in
     joint (q m) (list_all q ms) (f m g.0) (all_so p q ms f g.1)
 
--- first those at a place, and then those farther behind
+-- first those at a place, and then those farther on
 cut : (t n : ℕ) (ms : List Mark) → are_in_order ms ≡ true → filter (is_from t n) ms ≡ filter (is_at t n) ms ++ filter (is_from t (n + 1)) ms
 cut t n [] o = refl
 cut t n (m ∷ ms) o =
@@ -154,7 +154,7 @@ placed_is t n (m ∷ ms) = elim (cases_Bool (m.thread == t)) [
   ]
 ]
 
--- ---- the marks of a thread, and those behind it
+-- ---- the marks of a thread, and those after it
 
 thread_marks : (s : Script) (t n k : ℕ) (cs : List Command) → are_in_order s.marks ≡ true → k ≡ n + length cs + 1
     → filter (is_from t n) s.marks ≡ marks_in t n (items_from s t n cs) ++ filter (is_from t k) s.marks

@@ -151,7 +151,7 @@ last_end [] xs = refl
 last_end (ys ∷ []) xs = refl
 last_end (ys ∷ zs ∷ done) xs = last_end (zs ∷ done) xs
 
--- one more behind it
+-- one more after it
 pub put_end : {X : Type 0} (c : X) (done : List (List X)) (xs : List X) → put_last c (done ++ xs ∷ []) ≡ done ++ (xs ++ c ∷ []) ∷ []
 put_end c [] xs = refl
 put_end c (ys ∷ []) xs = refl

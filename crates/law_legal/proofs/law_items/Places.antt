@@ -125,7 +125,7 @@ has_threads s lists h u i e = (
   ap (λ v. commands_of s v) e ∙ commands_at s i ∙ ap (λ ts. unwrap_or (slice_get ts i) []) h.threads ∙ get_map lists i,
 )
 
--- and of those behind the first
+-- and of those after the first
 pub next_threads : (s : Script) (t : ℕ) (items : List Item) (lists : List (List Item)) → HasThreads s t (items ∷ lists) → HasThreads s (t + 1) lists
 next_threads s t items lists h u i e = h u (suc i) (omega (arith, e))
 
@@ -135,7 +135,7 @@ first_marks s t items lists h = h t 0 (omega arith)
 
 -- ---- the marks at a command
 
--- what the marks say that stand behind so many commands
+-- what the marks say that follow so many commands
 abbrev pub kinds_at : ℕ → List Mark → List MarkKind
 kinds_at n ms = map (λ (m : Mark). m.kind) (filter (λ (m : Mark). m.after == n) ms)
 
@@ -171,13 +171,13 @@ Stand s t n above items = (k : ℕ) → n ≤ k → marks_at s t k ≡ kinds_at 
 pub stand_first : (s : Script) (t : ℕ) (items : List Item) → marks_of s t ≡ marks_in t 0 items → Stand s t 0 [] items
 stand_first s t items h k a = ap (λ ms. kinds_at k ms) h
 
--- behind a mark with a line of its own
+-- after a mark with a line of its own
 pub stand_alone : (s : Script) (t n : ℕ) (above : List MarkKind) (m : MarkKind) (items : List Item) → Stand s t n above (Alone m ∷ items) → Stand s t n (above ++ m ∷ []) items
 stand_alone s t n above m items h k a =
     let f = mark_at t n in
     h k a ∙ ap (λ ms. kinds_at k ms) (sym (append_assoc (map f above) (f m ∷ []) (marks_in t n items)) ∙ ap (λ ms. ms ++ marks_in t n items) (sym (map-append f above (m ∷ []))))
 
--- behind a command
+-- after a command
 pub stand_next : (s : Script) (t n : ℕ) (above ways : List MarkKind) (c : Command) (items : List Item) → Stand s t n above (Asks ways c ∷ items) → Stand s t (n + 1) [] items
 stand_next s t n above ways c items h k a =
     let f = mark_at t n in
@@ -198,6 +198,6 @@ stand_here s t n above ways c items h =
     ∙ ap (λ ks. ks ++ kinds_at n (map f ways ++ rest)) (at_here t n above)
     ∙ ap (λ ks. above ++ ks) (at_append n (map f ways) rest ∙ ap (λ ks. ks ++ kinds_at n rest) (at_here t n ways) ∙ ap (λ ks. ways ++ ks) (at_later t (n + 1) n items (omega arith)) ∙ append-nil ways)
 
--- the marks behind the last command
+-- the marks after the last command
 pub stand_last : (s : Script) (t n : ℕ) (above : List MarkKind) → Stand s t n above [] → marks_at s t n ≡ above
 stand_last s t n above h = h n (omega arith) ∙ ap (λ ms. kinds_at n ms) (append-nil (map (mark_at t n) above)) ∙ at_here t n above

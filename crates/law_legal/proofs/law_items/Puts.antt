@@ -200,7 +200,7 @@ fits_last s (items ∷ more ∷ lists) item h k =
     let f = both (items_fit s items) (list_all (items_fit s) (more ∷ lists)) h in
     joint (items_fit s items) (list_all (items_fit s) (put_last item (more ∷ lists))) f.0 (fits_last s (more ∷ lists) item f.1 k)
 
--- a line that may stand behind the last one
+-- a line that may follow the last one
 pub fits_put : (s : Script) (lists : List (List Item)) (item : Item) → ComesFrom s lists → list_all (items_fit s) lists ≡ true
     → item_fits s (thread_mappings_at_end s) item ≡ true → list_all (items_fit s) (put_last item lists) ≡ true
 fits_put s lists item h f k = fits_last s lists item f (ap (λ d. item_fits s d item) (sym (thread_mappings_is s lists h)) ∙ k)

@@ -86,7 +86,7 @@ written_is s above ways c h =
 
 -- ---- the lines of a thread
 
--- behind marks with lines of their own
+-- after marks with lines of their own
 lines_text : (s : Script) (t n : ℕ) (d : ThreadMappings) (above : List MarkKind) (items : List Item) → Stand s t n above items → list_all is_line above ≡ true → all_along (item_fits s) d items ≡ true
     → command_lines s t n (commands_in items) ≡ flat_map (mark_line s) above ++ flat_map (item_text s) items
 lines_text s t n d above [] h k f = ap (λ ms. flat_map (mark_line s) ms) (stand_last s t n above h) ∙ sym (append-nil (flat_map (mark_line s) above))

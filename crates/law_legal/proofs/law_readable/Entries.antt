@@ -67,7 +67,7 @@ use Rattle.law_legal.proofs.law_readable.Choices.{choice_spans}
 use Rattle.law_legal.proofs.law_readable.Typed.{Typed, IsTyped, is_loc, fresh_typed}
 use Rattle.law_legal.proofs.law_readable.Whys.{place_search_why}
 
--- what is known of a state behind n entries
+-- what is known of a state after n entries
 pub record Known (script : Script) (s : State) (n : ℕ) : Type 0 where
   pub good : GoodState script s
   pub sound : Sound script s

@@ -44,7 +44,7 @@ module _ (script : Script) (fits : IsTrue (is_script script)) where
         short = short;
       }
 
-  -- the entries behind a front
+  -- the entries after a front
   readable_from : (front es : List Entry) → IsLegal script front → Typed (state_of script front) → AreBytes (world_of script front).stores → IsLegalFrom script (world_of script front) es → length front + length es < 2 ^ 64 →
       list_all (is_readable script) es ≡ true
   readable_from front [] legal typed bytes h short = refl

@@ -59,7 +59,7 @@ cut_again c w (v ∷ ws) h =
     let f = both (lacks c w) (list_all (lacks c) (v ∷ ws)) h in
     cut_append c w (join_with_byte c (v ∷ ws)) f.0 ∙ ap (λ vs. w ∷ vs) (cut_again c v ws f.1)
 
--- a text up to its first separator, and what is behind it
+-- a text up to its first separator, and what follows it
 pub front_again : (c : ℕ) (t u x y : Text) → lacks c t ≡ true → lacks c u ≡ true → t ++ c ∷ x ≡ u ++ c ∷ y → (t ≡ u) × (x ≡ y)
 front_again c [] [] x y p q e = (refl, cc)
 front_again c [] (b ∷ u) x y p q e =

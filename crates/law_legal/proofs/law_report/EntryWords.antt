@@ -34,7 +34,7 @@ dry_above : (script : Script) → is_script script ≡ true → (w : DryWhy) →
 dry_above script is dry.Short h = refl
 dry_above script is (dry.Of rows) h = rows_above script is rows h
 
--- a number behind a letter
+-- a number after a letter
 abbrev pub number_after : Text → ℕ
 number_after [] = 0
 number_after (c ∷ w) = read_on 0 w

@@ -59,7 +59,7 @@ entry_again script is n e h k =
 number_is : (n : ℕ) → n < 2 ^ 64 → is_u64 n ≡ true
 number_is n h = grind (arith, nat_tests)
 
--- lines with the same number, and what is behind them
+-- lines with the same number, and what follows them
 same_entry : (script : Script) → is_script script ≡ true → (n : ℕ) (e f : Entry) (x y : Text) → is_u64 n ≡ true → is_readable script e ≡ true → is_readable script f ≡ true
     → entry_line script (n, e) ++ x ≡ entry_line script (n, f) ++ y → (e ≡ f) × (x ≡ y)
 same_entry script is n e f x y h p q same =
@@ -95,7 +95,7 @@ behind (c ∷ a) x y e = let f : a ++ x ≡ a ++ y = cc in behind a x y f
 regrouped : (a b c d e f g h i j : Text) → (((((((((a ++ b) ++ c) ++ d) ++ e) ++ f) ++ g) ++ h) ++ i) ++ j) ≡ a ++ (b ++ (c ++ (((((((d ++ e) ++ f) ++ g) ++ h) ++ i) ++ j))))
 regrouped a b c d e f g h i j = simp append_assoc
 
--- the parts behind the entries
+-- the parts after the entries
 abbrev behind_entries : Script → List Entry → Text
 behind_entries script journal =
     (((((line (codes "results" ∷ []) ++ flat_map (thread_results journal) (thread_numbers script)) ++ line (codes "accounts" ∷ []))
@@ -112,7 +112,7 @@ in_parts script journal =
 count_above : (n : ℕ) → is_u64 n ≡ true → above 10 (spaced (codes "journal" ∷ decimal n ∷ [])) ≡ true
 count_above n h = spaced_above (codes "journal" ∷ decimal n ∷ []) (joint (above 32 (decimal n)) true (word_above n h) refl)
 
--- lines that tell how many, and what is behind them
+-- lines that tell how many, and what follows them
 same_count : (n m : ℕ) (x y : Text) → n < 2 ^ 64 → m < 2 ^ 64 → line (codes "journal" ∷ decimal n ∷ []) ++ x ≡ line (codes "journal" ∷ decimal m ∷ []) ++ y
     → (n ≡ m) × (x ≡ y)
 same_count n m x y h k same =

@@ -10,7 +10,7 @@ use Rattle.journal_model.specs.scripts.Words.{Text}
 abbrev pub is_digit : ℕ → Bool
 is_digit c = nat_le 48 c && nat_le c 57
 
--- the number that digits say behind those of n
+-- the number that digits say after those of n
 abbrev pub read_on : ℕ → Text → ℕ
 read_on n [] = n
 read_on n (c ∷ cs) = read_on (n * 10 + (c - 48)) cs

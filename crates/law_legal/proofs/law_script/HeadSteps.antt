@@ -162,7 +162,7 @@ swap_step {lists = lists} s n m ws l k e r h =
       more = ap (λ x. text_of p lists ++ line x) (sym g.0);
     }) r
 
--- nothing stands behind the head yet
+-- nothing follows the head yet
 bare_body : {A B C : Type 0} (t : Text) (f : A → Text) (g : B → Text) (k : C → Text) (xs : List A) (bs : List B) (cs : List C) → xs ≡ [] → bs ≡ [] → cs ≡ []
     → t ++ flat_map f xs ++ flat_map g bs ++ flat_map k cs ≡ t
 bare_body t f g k [] [] [] p q r = append-nil _ ∙ append-nil _ ∙ append-nil t

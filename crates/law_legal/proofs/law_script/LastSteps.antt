@@ -242,14 +242,14 @@ last_line {lists = lists} ph s n m ws l k e h =
     let z = alone_says says.End l (codes "end") ws k e in
     subst (λ (x : Line). Sound (with_line (at ph s n m) x) lists × (text_of (with_line (at ph s n m) x) lists ≡ body s lists ++ line ws)) z.1 (ended ph s lists n m h, ap (λ x. body s lists ++ line x) (sym z.0))
 
--- the end behind the buffers
+-- the end after the buffers
 pub end_from_buffers : {lists : List (List Item)} (s : Script) (n m : ℕ) (ws : List Text) (l : Line) → first_word ws ≡ codes "end" → alone says.End ws ≡ made l → Sound (at phase.Buffers s n m) lists → Grows (at phase.Buffers s n m) lists l ws
 end_from_buffers {lists = lists} s n m ws l k e h = let g = last_line phase.Buffers s n m ws l k e h in record { next = lists; sound = g.0; more = g.1 }
 
--- the end behind the threads
+-- the end after the threads
 pub end_from_threads : {lists : List (List Item)} (s : Script) (n m : ℕ) (ws : List Text) (l : Line) → first_word ws ≡ codes "end" → alone says.End ws ≡ made l → Sound (at phase.Threads s n m) lists → Grows (at phase.Threads s n m) lists l ws
 end_from_threads {lists = lists} s n m ws l k e h = let g = last_line phase.Threads s n m ws l k e h in record { next = lists; sound = g.0; more = g.1 }
 
--- the end behind the schedules
+-- the end after the schedules
 pub end_from_turns : {lists : List (List Item)} (s : Script) (n m : ℕ) (ws : List Text) (l : Line) → first_word ws ≡ codes "end" → alone says.End ws ≡ made l → Sound (at phase.Turns s n m) lists → Grows (at phase.Turns s n m) lists l ws
 end_from_turns {lists = lists} s n m ws l k e h = let g = last_line phase.Turns s n m ws l k e h in record { next = lists; sound = g.0; more = g.1 }

@@ -26,7 +26,7 @@ Runs p text q = (n : ℕ) (rest : Text) (s : Script) → ((m : ℕ) → script_f
 pub runs_none : (p : Progress) → Runs p [] p
 runs_none p n rest s k = k n
 
--- two texts, one behind the other
+-- two texts, one after the other
 pub runs_both : (p q r : Progress) (a b : Text) → Runs p a q → Runs q b r → Runs p (a ++ b) r
 runs_both p q r a b f g n rest s k = ap (λ t. script_from p n (lines_of t)) (append_assoc a b rest) ∙ f n (b ++ rest) s (λ m. g m rest s k)
 

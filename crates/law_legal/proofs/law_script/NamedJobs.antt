@@ -153,7 +153,7 @@ spot_right s rs addr p h e = spot_chosen s rs addr (find (λ r. has_page (addr /
 
 -- ---- a part of an operation
 
--- a part and those behind it
+-- a part and those after it
 record IsCut (x : Op) (rest : Option (List Op)) (ops : List Op) : Type 0 where
   others : List Op
   rest_is : rest ≡ Some others

@@ -74,7 +74,7 @@ flag_words false false true false = (refl, refl)
 flag_words false false false true = (refl, refl)
 flag_words false false false false = (refl, refl)
 
--- a base with its flags behind it is cut into both
+-- a base with its flags after it is cut into both
 pub cut_flags : (base : Text) (f : Flags) → lacks 43 base ≡ true → cut_at 43 (base ++ all_flags f) ≡ base ∷ flag_list f
 cut_flags base f h =
     let w = flag_words f.topdown f.contig f.desired f.fallback in

@@ -22,7 +22,7 @@ use Rattle.law_legal.proofs.law_items.Tests.{second}
 abbrev pub some_flags : Flags → Option Flags
 some_flags f = Some f
 
--- the parts behind the first, each with its plus
+-- the parts after the first, each with its plus
 abbrev pub tail : List Text → Text
 tail [] = []
 tail (w ∷ ws) = 43 ∷ w ++ tail ws
@@ -64,7 +64,7 @@ last_is two t c (w ∷ []) f h =
     (λ e. bytes_are w (codes "desired") (second two (bytes_eq w (codes "desired")) e)) (λ e. bytes_are w (codes "fallback") (second two (bytes_eq w (codes "fallback")) e)) h
 last_is two t c (w ∷ x ∷ ws) f h = absurd cc
 
--- what the flags behind `top` say
+-- what the flags after `top` say
 pub record IsContig (topdown : Bool) (ws : List Text) (f : Flags) : Type 0 where
   pub words : tail ws ≡ flag f.contig (codes "+contig") ++ own_flags f
   pub first : f.topdown ≡ topdown

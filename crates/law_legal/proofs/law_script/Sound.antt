@@ -82,7 +82,7 @@ abbrev pub item_len : Item → ℕ
 item_len (Alone m) = 0
 item_len (Asks ways c) = command_len c
 
--- nothing stands behind the head yet
+-- nothing follows the head yet
 pub record IsEarly (s : Script) : Type 0 where
   pub buffers : s.buffers ≡ []
   pub threads : s.threads ≡ []

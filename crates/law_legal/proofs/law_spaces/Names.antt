@@ -147,7 +147,7 @@ shortened_same (vop.Probe addr len) d s n = refl
 
 -- ---- an operation, part by part
 
--- a part and those behind it
+-- a part and those after it
 record IsCut (x : Op) (rest : Option (List Op)) (ops : List Op) : Type 0 where
   others : List Op
   rest_is : rest ≡ Some others

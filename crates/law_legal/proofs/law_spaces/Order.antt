@@ -49,7 +49,7 @@ rising_heads range (r ∷ rs) h = elim (cases_Bool (nat_lt r.span.start range.st
   | inr e ↦ rw e (rising_heads range rs h.2)
 ]
 
--- ---- behind it
+-- ---- after it
 
 past_tails : (range : Span) (page : ℕ) (rs : List Region) → IsPast page rs → IsPast page (flat_map (tail_of range) rs)
 past_tails range page [] h = tt

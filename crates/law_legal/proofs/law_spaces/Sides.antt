@@ -1,4 +1,4 @@
--- What a range leaves of mappings: those before it, cut at its start, and those behind it, cut at its end.
+-- What a range leaves of mappings: those before it, cut at its start, and those after it, cut at its end.
 use Rattle.std.proofs.Common.{◌≡◌, ℕ, ◌+◌, ◌-◌, ◌<◌, ◌≤◌, min, max, Bool, true, false, not, List, [], ◌∷◌, ◌++◌, refl, ap, ap₂, sym, ◌∙◌, arith, inl, inr, append_assoc, append-nil, ◌⊎◌}
 use Rattle.std.specs.Prelude.{flat_map, filter, nat_lt, nat_le, option_to_list, if◌then◌else◌}
 use Rattle.std.proofs.lemmas.Bool.{cases_Bool, lt-ltb, le-ltb, le-leb, lt-leb, leb-true, leb-false}
@@ -108,7 +108,7 @@ piece_below range r w h = elim (stands range r) [
       ∙ append-nil (head_of range r))
 ]
 
--- and behind its start the tail
+-- and after its start the tail
 piece_past : (range : Span) (r : Region) → range.start < range.end → r.span.start < r.span.end → filter (is_past range.start) (piece_of range r) ≡ tail_of range r
 piece_past range r w h = elim (stands range r) [
   | inl l ↦ rw (meets_not range r (inl l), le-leb r.span.end range.start l) (sym (no_tail range r (omega arith)))

@@ -13,7 +13,7 @@ use Rattle.law_legal.proofs.law_verdict.Heads.{fits, is_small, one_head}
 abbrev pub OneEntry : Script → Type 0
 OneEntry script = (n : ℕ) (t : Text) (e f : Entry) → is_u64 n ≡ true → IsEntryText script n t e → IsEntryText script n t f → e ≡ f
 
--- the entries of the longer journal behind the shorter, with their lines
+-- the entries of the longer journal after the shorter, with their lines
 pub record Behind (script : Script) (n : ℕ) (front whole : List Entry) (texts others : List Text) : Type 0 where
   pub more : List Entry
   pub lines : List Text
@@ -66,7 +66,7 @@ module _ (script : Script) (one_entry : OneEntry script) where
         let within = k.within in
         behind 1 h.right k.right front whole texts others le (omega (arith, small, within)) h.entries k.entries lines.1
 
-    -- behind a journal the same stands
+    -- after a journal the same stands
     same_texts : (journal : List Entry) (texts others : List Text) → IsRightTo script text count journal texts → IsRightTo script text count journal others → texts ≡ others
     same_texts journal texts others h k =
         let b = goes_on journal journal texts others h k (omega arith) in
@@ -97,7 +97,7 @@ module _ (script : Script) (one_entry : OneEntry script) where
           entry = subst (λ m. IsEntryText script m t e) at said;
         }
 
-    -- what is known of the entry behind the shorter
+    -- what is known of the entry after the shorter
     pub record Goes (front : List Entry) : Type 0 where
       pub entry : Entry
       pub tells : TellsNext script text count front entry
@@ -116,7 +116,7 @@ module _ (script : Script) (one_entry : OneEntry script) where
           legal = legal_part script (first_world script) front e more (subst (λ (es : List Entry). IsLegal script es) joined legal);
         }
 
-    -- where one is longer than the other, an entry is told behind the other that is legal next
+    -- where one is longer than the other, an entry is told after the other that is legal next
     pub longer_goes : (front whole : List Entry) (texts others : List Text) → IsRightTo script text count front texts → IsRightTo script text count whole others → length front < length whole → Goes front
     longer_goes front whole texts others h k longer =
         let b = goes_on front whole texts others h k (omega (arith, longer)) in

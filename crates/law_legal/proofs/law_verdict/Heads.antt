@@ -29,7 +29,7 @@ one_count n m h k same =
 two_lines : (t u v : Text) (xs ys : List Text) → t ∷ u ∷ xs ≡ t ∷ v ∷ ys → (u ≡ v) × (xs ≡ ys)
 two_lines t u v xs ys h = (cc, cc)
 
--- both tell the same count, and the same stands behind them
+-- both tell the same count, and the same follows them
 pub one_head : (script : Script) (text : Text) (c d : ℕ) (xs ys : List Text) → HasHead script text c xs → HasHead script text d ys → (c ≡ d) × (xs ≡ ys)
 one_head script text c d xs ys h k =
     let parts = two_lines (report_head script) (count_line c) (count_line d) xs ys (sym h.lines ∙ k.lines) in

@@ -60,7 +60,7 @@ small_version script is =
     (has_distinct_names script.buffers) (nat_le (length script.threads) 16) (list_all (list_all (is_command script)) script.threads)
     (nat_le (sum_by (sum_by command_len) script.threads) 67108864) (list_all (is_turn_line script) script.turns) (have_marks script) is)
 
--- what stands behind the entries
+-- what follows the entries
 abbrev pub behind_entries : Script → List Entry → Text
 behind_entries script journal =
     (((((line (codes "results" ∷ []) ++ flat_map (thread_results journal) (thread_numbers script)) ++ line (codes "accounts" ∷ []))

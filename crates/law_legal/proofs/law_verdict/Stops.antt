@@ -36,7 +36,7 @@ pub data Cause (script : Script) (text : Text) (count : ℕ) (journal : List Ent
   told : (e : Entry) → TellsNext script text count journal e → Fault script (world_of script journal) e rule → Cause script text count journal rule
   ended : count ≡ length journal → Ending script text journal rule → Cause script text count journal rule
 
--- a place behind which it isn't, and the rule
+-- a place after which it isn't, and the rule
 pub record Stop (script : Script) (text : Text) (entry rule : ℕ) : Type 0 where
   pub count : ℕ
   pub journal : List Entry

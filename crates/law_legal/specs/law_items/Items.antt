@@ -28,7 +28,7 @@ kinds_in (Asks ways c) = ways
 
 -- ---- marks with their places
 
--- a mark behind so many commands of a thread
+-- a mark after so many commands of a thread
 abbrev pub mark_at : ℕ → ℕ → MarkKind → Mark
 mark_at thread n kind = record { thread = thread; after = n; kind = kind }
 
@@ -73,11 +73,11 @@ items_text script items = line (codes "thread" ∷ []) ++ flat_map (item_text sc
 
 -- ---- the rules
 
--- what the thread has mapped behind a line
+-- what the thread has mapped after a line
 abbrev pub thread_mappings_behind : ThreadMappings → Item → ThreadMappings
 thread_mappings_behind d item = fold thread_mappings_after d (kinds_in item)
 
--- behind all its lines
+-- after all its lines
 abbrev pub thread_mappings_of : List Item → ThreadMappings
 thread_mappings_of items = fold thread_mappings_behind empty_thread_mappings items
 

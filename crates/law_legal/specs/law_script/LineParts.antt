@@ -81,7 +81,7 @@ has_all_parts (line.Vmap va n b off) = is_some va && is_some n && is_some b && i
 has_all_parts (line.Vunmap va n) = is_some va && is_some n
 has_all_parts (line.Vsubmit engine ops) = says_engine engine && list_all has_vop_parts ops
 
--- the line of any words, behind any lines, has all its parts where it breaks no rule
+-- the line of any words, after any lines, has all its parts where it breaks no rule
 abbrev pub LinesHaveAllParts : Type 0
 LinesHaveAllParts =
     (p : Progress) (ws : List Text) (l : Line) → line_of p.script (keyword_of (first_word ws)) ws ≡ Some l → rule_broken p l ≡ None → IsTrue (has_all_parts l)

@@ -1,4 +1,4 @@
--- What a range leaves of mappings: those before it, cut at its start, and those behind it, cut at its end.
+-- What a range leaves of mappings: those before it, cut at its start, and those after it, cut at its end.
 use Rattle.std.specs.Prelude.{List, ◌++◌, map, flat_map, option_to_list}
 use Rattle.ttm_base.specs.declared.Span.{Span}
 use Rattle.journal_model.specs.marks.Spaces.{Region, part_of, part_before, part_after}
@@ -7,7 +7,7 @@ use Rattle.journal_model.specs.marks.Spaces.{Region, part_of, part_before, part_
 abbrev pub head_of : Span → Region → List Region
 head_of range r = map (part_of r) (option_to_list (part_before range r.span))
 
--- what stays of it behind the range
+-- what stays of it after the range
 abbrev pub tail_of : Span → Region → List Region
 tail_of range r = map (part_of r) (option_to_list (part_after range r.span))
 

@@ -26,12 +26,12 @@ ReportsAreAccepted =
     (script : Script) (journal : List Entry) → IsTrue (is_script script) → IsLegal script journal → is_complete script journal ≡ true →
     IsAccepted script (report script journal)
 
--- of a script and any text behind it, the part up to the first line `end` is the script, and the rest is the text
+-- of a script and any text after it, the part up to the first line `end` is the script, and the rest is the text
 abbrev pub ScriptsAreCutOff : Type 0
 ScriptsAreCutOff =
     (bytes text : Text) (script : Script) → IsScript bytes script → (script_part (bytes ++ text) ≡ bytes) × (report_part (bytes ++ text) ≡ text)
 
--- what is cut off a script with the report of a legal, complete journal of it behind it is accepted
+-- what is cut off a script with the report of a legal, complete journal of it after it is accepted
 abbrev pub CutReportsAreAccepted : Type 0
 CutReportsAreAccepted =
     (bytes : Text) (script : Script) (journal : List Entry) → IsScript bytes script → IsLegal script journal → is_complete script journal ≡ true →

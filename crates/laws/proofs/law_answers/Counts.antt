@@ -15,7 +15,7 @@ module _ {X : Type 0} (p : X → Bool) where
     pub passes : p element ≡ true
     pub number : count_by p (take i xs) ≡ n
 
-  -- a number higher, behind one that passes
+  -- a number higher, after one that passes
   one_further : (x : X) (xs : List X) (n i : ℕ) → p x ≡ true → PassesAt xs n i → PassesAt (x ∷ xs) (suc n) (suc i)
   one_further x xs n i e r =
       let one : cond (p x) 1 0 ≡ 1 = cond-true {A = ℕ} (p x) 1 0 e in
@@ -23,7 +23,7 @@ module _ {X : Type 0} (p : X → Bool) where
       let k = r.number in
       record { element = r.element; here = r.here; passes = r.passes; number = omega (arith, one, sum, k) }
 
-  -- as high, behind one that doesn't
+  -- as high, after one that doesn't
   as_far : (x : X) (xs : List X) (n i : ℕ) → p x ≡ false → PassesAt xs n i → PassesAt (x ∷ xs) n (suc i)
   as_far x xs n i e r =
       let none : cond (p x) 1 0 ≡ 0 = cond-false {A = ℕ} (p x) 1 0 e in
@@ -48,7 +48,7 @@ module _ {X : Type 0} (p : X → Bool) where
           let r = rest n (omega (arith, l, none, sum)) in
           (suc r.0, as_far x xs n r.0 e r.1)
 
-  -- nothing behind the first one that passes has number 0
+  -- nothing after the first one that passes has number 0
   not_first : (x : X) (xs : List X) (n j : ℕ) → PassesAt (x ∷ xs) n zero → PassesAt (x ∷ xs) n (suc j) → ⊥
   not_first x xs n j a b =
       let it : x ≡ a.element = one_some x a.element a.here in

@@ -39,7 +39,7 @@ by_it t (actor.Thread u) h = ap actor.Thread (eqb-true u t h)
 by_it t (actor.Engine e) h = cc
 by_it t actor.Reaper h = cc
 
--- an entry of a journal is legal behind those before it
+-- an entry of a journal is legal after those before it
 pub legal_at : (script : Script) (w : World) (es : List Entry) (i : ℕ) (e : Entry) → IsLegalFrom script w es → slice_get es i ≡ Some e → IsLegalNext script (world_along script w (take i es)) e
 legal_at script w [] i e h g = cc
 legal_at script w (x ∷ es) zero e h g = let it : x ≡ e = cc in subst (IsLegalNext script w) it h.0

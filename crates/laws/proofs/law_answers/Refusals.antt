@@ -1,4 +1,4 @@
--- A command that is refused for want of space or pages has a buffer at work.
+-- A command that is refused for lack of space or pages has a buffer at work.
 use Rattle.std.proofs.Common.{◌≡◌, ℕ, Bool, true, false, List, Option, Some, None, IsTrue, refl, sym, ◌∙◌, ap, subst, ◌⊎◌, inl, inr}
 use Rattle.std.specs.Prelude.{take, not, nat_lt, ◌==◌, if◌then◌else◌}
 use Rattle.ttm_base.specs.declared.BufId.{BufId}
@@ -31,7 +31,7 @@ use Rattle.laws.proofs.law_answers.InOrder.{legal_at}
 use Rattle.laws.proofs.law_answers.Failures.{Fares}
 use Rattle.laws.proofs.law_answers.Fares.{kept_law}
 
--- it is for want of space or pages
+-- it is for lack of space or pages
 abbrev is_want : Deny → Bool
 is_want deny.NoSpace = true
 is_want deny.NoPages = true
@@ -87,7 +87,7 @@ module _ (script : Script) (s : State) (t : ℕ) (cmd : Command) (at_work : comm
   works_on : (b : BufId) → first_unready script s cmd ≡ Some b → HasBufferAtWork script s t
   works_on b u = record { command = cmd; at_work = at_work; b = b; first = u }
 
-  -- nothing is refused for want of space or pages by what it asks
+  -- nothing is refused for lack of space or pages by what it asks
   not_banned : (d e : Deny) → is_want d ≡ true → OnNamed s (course s t) cmd → forbidden s cmd ≡ Some e → task.Refuse d ≡ task_of_command script s (course s t) cmd → ⊥
   not_banned d e want on f is =
       clash (sym want ∙ (ap is_want (one d e (is ∙ forbidden_task script s (course s t) cmd e on f)) ∙ forbidden_other s cmd e f))

@@ -131,7 +131,7 @@ any_has p (c ∷ bs) b h k =
 
 -- ---- which refusals a task can make
 
--- for want of room or frames
+-- for lack of room or frames
 abbrev pub is_lack : Deny → Bool
 is_lack deny.NoSpace = true
 is_lack deny.NoPages = true
@@ -300,7 +300,7 @@ module _ (script : Script) (s : State) (t : ℕ) (cmd : Command) (at : command_a
           three (is_none (free_frame script s.core)) (is_none (ghost_with_frame s)) (is_none (free_slot script s.core)) (list_all (λ e. not (has_frame e.1) || not (is_loose (reservation s e.0))) (live_buffers s.core))
           (ap is_none v.frames) (ap is_none v.ghosts) (⊎_elim (λ e. inl (ap is_none e)) (λ e. inr (none e)) v.slots)
 
-  -- a refusal for want of room or frames comes from a search's failure
+  -- a refusal for lack of room or frames comes from a search's failure
   given_up : (d : Deny) → Turn script s (course s t) cmd (task.GiveUp d) → (course s t).fail ≡ Some d
   given_up d (give_up on l f u) = f
 

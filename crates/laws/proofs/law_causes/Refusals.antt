@@ -204,7 +204,7 @@ refusal_leaves script s j unmade owned t d h = by (stepped_of script s t (kind.R
 -- ---- along a journal
 
 module _ (script : Script) (Keeps : State → Type 0) (keeps : (s : State) (who : Actor) (k : Kind) → Keeps s → next script s who ≡ Ok k → Keeps (applied script s who k)) (owned : (s : State) → Keeps s → Owned script s) where
-  -- what is known behind the entries
+  -- what is known after the entries
   pub record Behind (s : State) (j : List Made) : Type 0 where
     pub kept : Keeps s
     pub unmade : Unmade s j

@@ -75,7 +75,7 @@ module _ (script : Script) (s : State) (t : ℕ) (cmd : Command) (at : command_a
   abbrev m : Made
   m = made script s t cmd at k'
 
-  -- the stage behind the entry
+  -- the stage after the entry
   abbrev Next : Course → Command → Type 0
   Next c d = Stage script (applied script s (actor.Thread t) k) (j ++ m ∷ []) t c d
 
@@ -128,7 +128,7 @@ Before script s j t cmd b aim =
 
 module _ (script : Script) (s : State) (t : ℕ) (cmd : Command) (at : command_at_work script s t ≡ Some cmd) (o : Owned script s) (j : List Made) (b : BufId) (aim : SearchAim) (on : OnNamed s (course s t) cmd)
     (fine : (course s t).fail ≡ None) (seek : Seeking script s cmd b aim) (was : Before script s j t cmd b aim) (quiet : (d : BufId) → (d ≡ b → ⊥) → Quiet script t d j) (k' : Kind) where
-  -- the stage behind an entry of this kind
+  -- the stage after an entry of this kind
   abbrev After : Kind → Type 0
   After k = Stage script (applied script s (actor.Thread t) k) (j ++ made script s t cmd at k' ∷ []) t (next_course script s t k) cmd
 

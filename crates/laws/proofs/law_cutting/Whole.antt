@@ -39,7 +39,7 @@ after_none (op.Copy dst doff src soff len) m = fun_ext (λ c. fun_ext (λ x. non
 after_none (op.Xor dst doff src soff len) m = fun_ext (λ c. fun_ext (λ x. none_at dst.0 doff c x (m c x) (bit_xor (m dst.0 (doff + (x - doff))) (m src.0 (soff + (x - doff))))))
 after_none (op.Probe src off len) m = refl
 
--- u is put behind z, where both are one
+-- u is put after z, where both are one
 more_at : (b off n k c x y z u : ℕ) → (off + n ≤ x → u ≡ z) →
     (if (b == c) && nat_le (off + n) x && nat_lt x ((off + n) + k) then u else (if (b == c) && nat_le off x && nat_lt x (off + n) then z else y))
     ≡ (if (b == c) && nat_le off x && nat_lt x (off + (n + k)) then z else y)
@@ -50,7 +50,7 @@ other_at : (q r s : Bool) (z y : ℕ) → q ≡ false → (if q && r && s then z
 other_at false r s z y e = refl
 other_at true r s z y e = cc
 
--- and so is what lies behind
+-- and so is what lies after
 behind_at : (b off n c x z y : ℕ) → off + n ≤ x → (if (b == c) && nat_le off x && nat_lt x (off + n) then z else y) ≡ y
 behind_at b off n c x z y l = grind (arith, nat_tests)
 

@@ -66,7 +66,7 @@ emitted last jobs y f n inside lines ctx =
     (λ e. subst (λ m. Line ctx m (jobs ++ y ∷ [])) (sym (last_elsewhere last y.id.ctx y.id.num ctx e)) (line_other ctx (last_number last ctx) jobs y e (lines ctx)))
     (cases_eq y.id.ctx ctx)
 
--- the state behind it tells that the context is there
+-- the state after it tells that the context is there
 emits : (script : Script) (last : List ℕ) (jobs : List Job) (after : State) (job : JobId) (waits : List JobId) (packets : List Packet) → GoodState script after → after.core.jobs ≡ with_job job waits packets jobs →
     after.last_jobs ≡ slice_set last job.ctx job.num → length last ≡ script.sizes.engines + 1 → job.num ≡ last_number last job.ctx + 1 → ((ctx : ℕ) → Line ctx (last_number last ctx) jobs) →
     (ctx : ℕ) → Line ctx (last_number (slice_set last job.ctx job.num) ctx) (with_job job waits packets jobs)

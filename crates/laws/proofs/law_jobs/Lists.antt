@@ -77,7 +77,7 @@ module _ (p : Job → Bool) where
 
   -- ---- where their numbers are those from a start on
 
-  -- a tail's numbers, behind one that passes
+  -- a tail's numbers, after one that passes
   tail_numbers : (x : Job) (xs : List Job) (n start : ℕ) → p x ≡ true → passing (x ∷ xs) ≡ count_from 1 n start → (m : ℕ) × (n ≡ suc m) × (x.id.num ≡ start) × (passing xs ≡ count_from 1 m (1 + start))
   tail_numbers x xs zero start e h = let z : x.id.num ∷ passing xs ≡ [] = sym (here_passes x xs e) ∙ h in cc
   tail_numbers x xs (suc m) start e h = let z : x.id.num ∷ passing xs ≡ start ∷ count_from 1 m (1 + start) = sym (here_passes x xs e) ∙ h in (m, refl, cc, cc)

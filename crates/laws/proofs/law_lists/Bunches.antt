@@ -14,7 +14,7 @@ use Rattle.journal_model.specs.rules.Lists.{same_group, is_mate, one_further, be
 use Rattle.laws.proofs.law_sound.Bufs.{same_self, same_is, other_is, clash}
 use Rattle.laws.specs.law_lists.GoodLists.{stand_once, SideBySide}
 
--- members first, and none behind them
+-- members first, and none after them
 abbrev pub runs : (BufId → Bool) → List BufId → Bool
 runs m [] = true
 runs m (b ∷ bs) = cond (m b) (runs m bs) (not (list_any m bs))
@@ -62,7 +62,7 @@ module _ (m : BufId → Bool) where
   all_runs [] h = refl
   all_runs (b ∷ bs) h = let p = and_parts (m b) (list_all m bs) h in runs_in b bs p.0 ∙ all_runs bs p.1
 
-  -- ---- one list behind another
+  -- ---- one list after another
 
   runs_front : (l r : List BufId) → runs m l ≡ true → list_any m r ≡ false → runs m (l ++ r) ≡ true
   runs_front [] r h n = none_runs r n
@@ -215,7 +215,7 @@ last_none : (mate : BufId → Bool) (cs : List BufId) → list_any mate cs ≡ f
 last_none mate [] h = refl
 last_none mate (c ∷ cs) h = let p = or_parts (mate c) (list_any mate cs) h in ap₂ one_further p.0 (last_none mate cs p.1)
 
--- before the rest, which is placed; or right behind the last mate
+-- before the rest, which is placed; or right after the last mate
 pub record GoesOn (mate : BufId → Bool) (b c : BufId) (cs : List BufId) : Type 0 where
   pub placed : placed_in mate b (c ∷ cs) ≡ c ∷ placed_in mate b cs
   pub mates : list_any mate cs ≡ false → mate c ≡ false
@@ -279,7 +279,7 @@ any_alike m n same (c ∷ cs) = ap₂ (λ x y. x || y) (same c) (any_alike m n s
 
 -- among the members of its own group
 module _ (m mate : BufId → Bool) (b : BufId) (same : (c : BufId) → mate c ≡ m c) (own : m b ≡ true) where
-  -- behind a member there are more
+  -- after a member there are more
   more : (c : BufId) (cs : List BufId) → GoesOn mate b c cs → m c ≡ true → list_any m cs ≡ true
   more c cs g e = ⊎_elim (λ k. k) (λ k. absurd (clash (sym e ∙ (sym (same c) ∙ g.mates (any_alike mate m same cs ∙ k))))) (cases_Bool (list_any m cs))
 

@@ -116,7 +116,7 @@ module _ (script : Script) (s : State) (h : AreListed script s) where
   one_changed f same b =
       fit_same script (list_in script s.reservations s.core.buffers) (list_in script s.reservations (changed f s.core.buffers b)) s.lists (λ d. list_changed script f same s.core.buffers b d (reservation_in s.reservations d).pins) h
 
-  -- ---- kinds that list a buffer anew
+  -- ---- kinds that list a buffer again
 
   new_listed : Rules script → (b : BufId) → b.0 < length s.core.buffers → (x : Buffer) → Fit script (list_in script (slice_set s.reservations b.0 no_reservation) (slice_set s.core.buffers b.0 (Some x))) (listed_as script s.lists b no_reservation (Some x))
   new_listed r b within x =

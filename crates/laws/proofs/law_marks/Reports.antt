@@ -137,9 +137,9 @@ module _ (v : ℕ) (script : Script) where
       ++ spaces_same i
       ++ line (codes "end" ∷ [])
 
--- ---- behind the first line
+-- ---- after the first line
 
--- a text behind its head, and one more text
+-- a text after its head, and one more text
 joined : (head all rest more : Text) → all ≡ head ++ rest → all ++ more ≡ head ++ (rest ++ more)
 joined head all rest more e = ap (λ t. t ++ more) e ∙ append_assoc head rest more
 

@@ -117,7 +117,7 @@ stops script s actor.Reaper k h step = reaper_stops script s k (no_ghosts s.core
 
 -- ---- along a journal
 
--- the front of a legal journal is legal, and what is behind it is legal from there on
+-- the front of a legal journal is legal, and what follows it is legal from there on
 split : (script : Script) (w : World) (front more : List Entry) → IsLegalFrom script w (front ++ more) → IsLegalFrom script w front × IsLegalFrom script (world_along script w front) more
 split script w [] more h = (tt, h)
 split script w (e ∷ front) more h = let rest = split script (world_after script w e) front more h.1 in ((h.0, rest.0), rest.1)

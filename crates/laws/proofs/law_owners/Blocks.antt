@@ -96,7 +96,7 @@ clear_alone f size s h n = let first = stands-cons n s [] in let page = clear_pa
 none_clear : (f : ℕ → Bool) (size : ℕ) → AreClear f size []
 none_clear f size n = omega arith
 
--- behind a block others that don't have its pages
+-- after a block others that don't have its pages
 block_first : (f : ℕ → Bool) (size : ℕ) (s : Span) (rest : List Span) → IsClear f size s → AreClear (λ page. f page && not (has_page page s)) size rest → AreClear f size (s ∷ rest)
 block_first f size s rest h k n =
     let first = stands-cons n s rest in

@@ -1,4 +1,4 @@
--- The front of a legal journal is a legal journal, so the accounts hold behind it.
+-- The front of a legal journal is a legal journal, so the accounts hold after it.
 use Rattle.std.proofs.Common.{ℕ, zero, suc, List, [], ◌∷◌, take}
 use Rattle.std.specs.Prelude.{IsTrue}
 use Rattle.journal_model.specs.declared.script.Script.{Script}

@@ -102,7 +102,7 @@ module _ (script : Script) (Inv : State → Type 0)
     abbrev at_turn : ℕ → State
     at_turn n = (run_of script n).world.state
 
-    -- behind the script's own turns: over, or as many entries as turns
+    -- after the script's own turns: over, or as many entries as turns
     counts : (n turn : ℕ) → turn ≡ n + length (scheduled_actors script) → (is_over script (at_turn turn) ≡ true) ⊎ (measure script (at_turn turn) + n ≤ measure script (first_state script))
     counts zero turn e = let a : measure script (at_turn turn) ≤ measure script (first_state script) = (run_sound turn).1 in inr (omega arith)
     counts (suc n) zero e = absurd (omega arith)

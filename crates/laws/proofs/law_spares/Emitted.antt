@@ -123,7 +123,7 @@ module _ (c : Core) (b : BufId) (live : live_in c.buffers b ≡ Some (buffer_in 
   }
 
   module _ (g : ℕ) where
-    -- the ghost behind the move
+    -- the ghost after the move
     left_here : (page i : ℕ) (id : JobId) → has_number (pages_of (spans_in Tt x)) page ≡ true → (list_any (same_job id) (job ∷ []) ≡ true) ⊎ IsAwaited (c.jobs ++ new ∷ []) i id (job ∷ []) → GhostHolds (c.ghosts ++ ghost_of_moved x job g ∷ []) (c.jobs ++ new ∷ []) page i id
     left_here page i id h why = record { place = length c.ghosts; ghost = ghost_of_moved x job g; is = get_last c.ghosts (ghost_of_moved x job g); here = h; job = why }
 

@@ -230,7 +230,7 @@ module _ (script : Script) (s : State) (who : Actor) (once : AreHeldOnce script 
   spares (kind.Result r) after page i n j p h e f = cc
   spares (kind.Refused d) after page i n j p h e f = cc
 
--- the state behind the next entry is that of a legal journal
+-- the state after the next entry is that of a legal journal
 record Behind (script : Script) (journal : List Entry) (who : Actor) (k : Kind) : Type 0 where
   entry : Entry
   legal : IsLegal script (journal ++ entry ∷ [])

@@ -48,7 +48,7 @@ abbrev pub waits_at : List JobId → ℕ → Option Job → Bool
 waits_at ws ctx None = false
 waits_at ws ctx (Some y) = list_any (same_job y.id) ws || (y.id.ctx == ctx)
 
--- it waits for job i, or stands behind it in its context
+-- it waits for job i, or follows it in its context
 abbrev pub is_prior : List Job → List JobId → ℕ → ℕ → Bool
 is_prior jobs ws ctx i = waits_at ws ctx (slice_get jobs i)
 

@@ -88,7 +88,7 @@ module _ (script : Script) (s : State) (t : ℕ) (k : Kind) (known : Known scrip
 
   -- ---- parts of the own thread
 
-  -- the command at work, and those behind it
+  -- the command at work, and those after it
   pub own_was : left_of script s t (course s t) ≡ command_left script s (course s t) st.step.cmd + later_commands script t (course s t).answered
   own_was = ap (λ p. elim p [ None ↦ 0 | Some cmd ↦ command_left script s (course s t) cmd + later_commands script t (course s t).answered ]) st.at
 

@@ -104,7 +104,7 @@ decl_most script b = by (slice_get script.buffers b.0) refl
 
 -- ---- over commands
 
--- the command at a place, and those behind it
+-- the command at a place, and those after it
 pub drop_at : {X : Type 0} (w : X → ℕ) (xs : List X) (i : ℕ) → elim (slice_get xs i) [ None ↦ 0 | Some x ↦ w x + sum_by w (drop (i + 1) xs) ] ≡ sum_by w (drop i xs)
 drop_at w [] zero = refl
 drop_at w [] (suc i) = refl

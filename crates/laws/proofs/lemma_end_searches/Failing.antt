@@ -1,4 +1,4 @@
--- A dry place, and a page that isn't to be had, lower the measure.
+-- A dry place, and a page that isn't available, lower the measure.
 use Rattle.std.proofs.Common.{◌≡◌, ℕ, ◌≤◌, ◌+◌, ◌*◌, Bool, true, false, [], ◌∷◌, length, Option, Some, None, refl, sym, ◌∙◌, ap, ap₂, subst, arith}
 use Rattle.std.specs.Prelude.{slice_get, sum_by, map, unwrap_or, is_some, ◌||◌, ◌&&◌, if◌then◌else◌}
 use Rattle.std.specs.List.{list_any, enumerate_from}

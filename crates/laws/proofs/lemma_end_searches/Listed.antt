@@ -176,7 +176,7 @@ low_same f g lists same low i l n h d k m = low i l n h d k (sym (same d) ∙ m)
 relisted_low : (script : Script) (f : Buffer → Buffer) (xs : List (Option Buffer)) (reservations : List Reservation) (lists : List (List BufId)) (b : BufId) → Low (mem_in xs) lists → Low (mem_in (changed f xs b)) (touched script (changed f xs b) reservations lists b)
 relisted_low script f xs reservations lists b low = touched_low script (changed f xs b) reservations lists b (λ i l n h d q k m. low i l n h d k (sym (mem_other xs b d (option_map f (live_in xs b)) q) ∙ m))
 
--- a buffer set anew, or gone
+-- a buffer set again, or gone
 set_here : (xs : List (Option Buffer)) (b : BufId) (o : Option Buffer) → (live_in (slice_set xs b.0 o) b ≡ o) ⊎ (live_in (slice_set xs b.0 o) b ≡ None)
 set_here xs b o = by xs b.0
   where

@@ -87,7 +87,7 @@ sum_last f g v vs (second w e other) less =
     let here = less w other in
     omega (arith, now, was, here, sum_by-cons f w (v ∷ []), sum_by-cons g w (v ∷ []), sum_by-cons f v [], sum_by-cons g v [])
 
--- what a victim may cost: on its way, and for want of a slot
+-- what a victim may cost: on its way, and for lack of a slot
 abbrev pub victim_cost : Script → State → Buffer → Victim → ℕ
 victim_cost script s x v = victim_left x v + slot_debt (is_some (free_slot script s.core)) x v
 

@@ -1,4 +1,4 @@
--- Refusals for want of space or pages.
+-- Refusals for lack of space or pages.
 use Rattle.std.specs.Prelude.{◌≡◌, ◌⊎◌, ℕ, List, Some, slice_get, take}
 use Rattle.ttm_base.specs.declared.BufId.{BufId}
 use Rattle.ttm_base.specs.declared.Deny.{Deny}
@@ -20,7 +20,7 @@ pub record HasBufferAtWork (script : Script) (s : State) (t : ℕ) : Type 0 wher
   pub b : BufId
   pub first : first_unready script s command ≡ Some b
 
--- at each refusal for want of space or pages, in the state behind the entries before it
+-- at each refusal for lack of space or pages, in the state after the entries before it
 abbrev pub RefusalsHaveBuffers : Script → List Entry → Type 0
 RefusalsHaveBuffers script journal =
     (i t : ℕ) (d : Deny) → (d ≡ deny.NoSpace) ⊎ (d ≡ deny.NoPages) →

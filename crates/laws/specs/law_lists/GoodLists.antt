@@ -25,7 +25,7 @@ abbrev pub stand_once : List BufId → Bool
 stand_once [] = true
 stand_once (b ∷ bs) = not (has_buffer bs b) && stand_once bs
 
--- the members stand side by side: others before them, none among them, others behind
+-- the members stand side by side: others before them, none among them, others after
 pub record SideBySide (member : BufId → Bool) (l : List BufId) : Type 0 where
   pub before : List BufId
   pub members : List BufId

@@ -61,7 +61,7 @@ IsNamedVictim script s t v why.Vram = IsEvicted script s t v why.Vram
 IsNamedVictim script s t v why.Tt = IsEvicted script s t v why.Tt
 IsNamedVictim script s t v why.Swap = IsSwapped script s t v
 
--- each entry of a journal that catches a buffer names that victim, in the state behind the entries before it
+-- each entry of a journal that catches a buffer names that victim, in the state after the entries before it
 abbrev pub NamesVictims : Script → List Entry → Type 0
 NamesVictims script journal =
     (i : ℕ) (m : Made) (t : ℕ) (v : BufId) (w : Why) → slice_get (made_of script journal) i ≡ Some m →

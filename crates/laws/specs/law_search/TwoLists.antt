@@ -1,4 +1,4 @@
--- A list of places of the first version: preferred places, and busy ones behind them.
+-- A list of places of the first version: preferred places, and busy ones after them.
 use Rattle.std.specs.Prelude.{◌≡◌, List}
 use Rattle.ttm_base.specs.declared.FlaggedPlace.{FlaggedPlace}
 use Rattle.ttm_base.specs.Placement.{first_places, forced_places}

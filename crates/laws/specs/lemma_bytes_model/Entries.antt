@@ -41,7 +41,7 @@ AllNamed place used changed (Change b i c k f ∷ ps) =
     (changed b ≡ true) × (used c ≡ true) × Stands place b i × Stands place c k × AllNamed place used changed ps
 AllNamed place used changed (Probe b i g ∷ ps) = (used b ≡ true) × Stands place b i × AllNamed place used changed ps
 
--- a new job, the jobs that it waits for or stands behind, and the buffers that it joins
+-- a new job, the jobs that it waits for or follows, and the buffers that it joins
 abbrev pub joined : ℕ → (ℕ → Bool) → (ℕ → Bool) → (ℕ → Bool) → Fences → Fences
 joined n waits changed used f = record {
   prior = λ j i. f.prior j i || (eqb n j && waits i);

@@ -25,7 +25,7 @@ pub data Owner : Type 0 where
 
 -- who is to be waited for
 pub record Fences : Type 0 where
-  -- the first job waits for the second, or comes behind it in its context
+  -- the first job waits for the second, or follows it in its context
   pub prior : ℕ → ℕ → Bool
   -- by buffer: its KERNEL and WRITE jobs, and its READ jobs
   pub strong : ℕ → ℕ → Bool

@@ -21,7 +21,7 @@ use Rattle.journal_model.specs.rules.Lists as state
 use Rattle.room_representation.specs.lemma_room_lists.Listed.{listing_as, listing_due, AreListed}
 use Rattle.room_representation.proofs.lemma_room_lists.Due.{group_due, other_number}
 
--- the state's lists after a buffer was placed by its listing, or taken off for want of one
+-- the state's lists after a buffer was placed by its listing, or taken off for lack of one
 abbrev placed_by : Script → List (List BufId) → BufId → Option Listing → List (List BufId)
 placed_by script lists b None = state.taken_off lists b
 placed_by script lists b (Some y) =
