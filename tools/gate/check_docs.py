@@ -310,7 +310,9 @@ def closure_of(name):
         found.pop(mark)
         found.append(path)
 
-    visit(TOP / "crates" / name if "/" in name else TOP / "crates" / "journal_model" / "specs" / f"{name}.antt")
+    model = TOP / "crates" / "journal_model" / "specs"
+    for path in [TOP / "crates" / name] if "/" in name else sorted(model.glob(f"**/{name}.antt")):
+        visit(path)
     return found
 
 
