@@ -37,6 +37,10 @@ PHRASES = (
     Phrase(r"(?<!because\s)(?<!comes\s)\bof it\b", "its"),
     Phrase(r"\b(?:is|are) one(?=\s*[.;|])", "is equal, are equal"),
     Phrase(r"\bThe same, (?:where|for|of|with)\b", "say what it is or does", ignore_case=False),
+    Phrase(r"\bexactly where\b|\bwhere memory (?:is|was) refused\b", "exactly if, if memory is refused"),
+    Phrase(r"[.|] Where\b[^?.|,]*, ", "If ..", ignore_case=False),
+    Phrase(r"\bbut for\b", "except, apart from"),
+    Phrase(r"\basks that\b", "requires that"),
 )
 
 # Names that have no backquotes, and quoted text of the kernel: left alone where they are written as here. (Now there are none.)

@@ -20,11 +20,13 @@ PLANTED = (
     "The state behind each entry.", "After so\nmany turns it ends.", "Want of memory ends it.", "Who evicts wants the pages.",
     "A gate shows that who waits is woken.", "A proof stands on laws.", "No frame is to be had.", "The crate of its like.", "The elder thread waits.",
     "This is the dearest change.", "Run it by hand.", "It is proved anew.", "The end of it.", "No two names are one.",
-    "The same, where no marks are kept.",
+    "The same, where no marks are kept.", "It is true exactly where it ends.", "It stops. Where a page is left, it goes on.", "All but for one.",
+    "A call asks that it is live.",
 )
 PLAIN = (
     "The state after each entry.", "Who holds what?", "**Who holds what.** A page of TT is held.", "`behind` is a name.", "It is one of two.",
     "It fails because of it.", "[page](docs/behind.md)", "```\nbehind\n```", "    behind in a listing", "Dearborn is a town.",
+    "It ends. Where a block ends is kept in 4,096 bytes.", "It asks for memory.",
 )
 
 
