@@ -11,7 +11,7 @@ pub use buffer_searches::{
 use journal_model::{Entry, Kind};
 use ttm_base::{Actor, Need, NoMemory};
 
-/// What an errand answers.
+/// The answer of a turn.
 #[derive(Clone, Copy)]
 pub enum Step {
     /// The actor's next entry was made.
@@ -20,7 +20,7 @@ pub enum Step {
     Need(Need),
 }
 
-/// Makes the entry that is the actor's next.
+/// Makes the entry of `kind`, which is the next one of the actor `who`.
 ///
 /// # Errors
 ///
@@ -35,7 +35,7 @@ pub fn make(rooms: &mut Rooms, who: Actor, kind: Kind) -> Result<Step, NoMemory>
     Ok(Step::Made)
 }
 
-/// Makes the entry of this kind, which is the actor's next; where the actor needs something first, it answers so.
+/// Makes the entry of the kind `next`, which is the next one of the actor `who`; where the actor needs something first, returns what.
 ///
 /// # Errors
 ///
