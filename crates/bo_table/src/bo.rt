@@ -60,7 +60,7 @@ fn settle_in(spans: &mut Spans, targets: &mut Targets, mem: Mem)
     }
 }
 
-/// Leaves the frames of a buffer that was in the memory type `mem`: a buffer that goes out of TT leaves them behind.
+/// Empties the page table of a buffer that was in TT, since a buffer that goes out of TT leaves its frames behind.
 fn leave_frames(mem: Mem, table: &mut PageTable)
     ensures { table.new ≡ table_left mem table.old }
 {
@@ -69,7 +69,7 @@ fn leave_frames(mem: Mem, table: &mut PageTable)
     }
 }
 
-/// A buffer (ttm_buffer_object). Where it is dead, all that counts is how many pages and contexts it has.
+/// A buffer (ttm_buffer_object). Where it is dead, only its numbers of pages and contexts count.
 pub struct Bo {
     pub alive: bool,
     /// The memory type in which the buffer stands.

@@ -1,4 +1,4 @@
--- What a victim comes to.
+-- The end of a victim: skipped, or let go.
 use Rattle.std.specs.Prelude.{Bool, true, false, Result, Ok, Err}
 use Rattle.ttm_base.specs.declared.Need.{Need}
 use Rattle.journal_model.specs.declared.state.Task.{Task}

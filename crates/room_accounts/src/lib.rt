@@ -1,4 +1,4 @@
-//! How the pages, frames and slots of a memory manager on its parts are held.
+//! Counts of how the pages, frames and slots of a memory manager are held, by its parts.
 #![tactic(auto)]
 
 ghost use Rattle.std.specs.Prelude.{◌≡◌};

@@ -35,7 +35,7 @@ fn frames_left(alloc: Global, bo: &Bo) -> Result<Frames, NoMemory>
     }
 }
 
-/// Returns a set of `job` alone.
+/// Returns a set with `job` as its only job.
 fn only_job(alloc: Global, contexts: u32, job: JobId) -> Result<FenceSet, NoMemory>
     requires known { job.ctx < contexts }
     requires num { 0 < job.num }

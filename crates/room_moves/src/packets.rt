@@ -85,7 +85,7 @@ fn target_spans(bo: &Bo, mem: Mem) -> &[Span]
     }
 }
 
-/// Returns the packets of a move to `mem`: each copies a page from where it stands to the target's. Moves go between VRAM and TT alone.
+/// Returns the packets of a move to `mem`: each copies a page from where it stands to the target's. Moves go only between VRAM and TT.
 pub(crate) fn move_packets(alloc: Global, bo: &Bo, mem: Mem) -> Result<Vec<Packet>, NoMemory>
     requires to { mem ≢ InSystem }
     requires from { bo.now.mem ≢ InSystem }

@@ -11,7 +11,7 @@ use swap_store::SwapStore;
 use ttm_base::Spans;
 use ww_ticket::Tickets;
 
-/// What a moved or freed buffer left behind until its jobs are done (the ghost object of ttm_bo_move_accel_cleanup).
+/// A ghost: what a moved or freed buffer left behind, until its jobs are done (the ghost object of ttm_bo_move_accel_cleanup).
 #[derive(Drop)]
 pub struct Ghost {
     /// The ghost's number, one above the last.

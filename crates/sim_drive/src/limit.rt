@@ -1,4 +1,4 @@
-//! After how many turns a run is over.
+//! The number of turns after which a run is over.
 
 ghost use Rattle.std.specs.Prelude.{◌≡◌, min, sum_by};
 ghost use Rattle.journal_model.specs.statements.Scheduled.{packets_in, turn_limit as limit_of};

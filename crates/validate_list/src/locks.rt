@@ -50,7 +50,7 @@ fn next_of_lock(rooms: &Rooms, thread: u32, b: BufId) -> Next
 }
 
 /// Reserves the next buffer that the command of `thread` names, in the stage Lock, backs off from an older holder, or waits for the holder
-/// (`wait_die`). Where there is no such buffer the command is refused.
+/// (`wait_die`). Where that buffer isn't live the command is refused.
 ///
 /// # Errors
 ///

@@ -1,4 +1,4 @@
--- Who holds which spans of VRAM or TT, in a state and in a manager (ttm_resource_manager).
+-- The holders of spans of VRAM or TT, in a state and in a manager (ttm_resource_manager).
 use Rattle.std.specs.Prelude.{◌≡◌, ℕ, ◌==◌, Bool, true, false, List, [], Option, Some, find, option_map, slice_get, unwrap_or, if◌then◌else◌}
 use Rattle.ttm_base.specs.declared.Mem.{Mem}
 use Rattle.ttm_base.specs.declared.Mem.TheVariants.{Vram as OfVram}
