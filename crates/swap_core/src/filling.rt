@@ -76,7 +76,7 @@ fn next_without_victim(rooms: &Rooms, b: BufId) -> Result<Kind, Need>
     }
 }
 
-/// Returns what is next where no frame is free: to catch a victim for swap, if a slot is free and there is a victim.
+/// Returns what is next where no frame is free: to catch a victim for swap, if a slot is free and there is a victim, else what is next without one.
 fn next_without_frame(rooms: &Rooms, b: BufId) -> Result<Kind, Need>
     ensures { result ≡ words.step_without_frame rooms.now.script (state_behind rooms.now) b }
 {

@@ -124,7 +124,7 @@ pub fn end_search(courses: &mut Courses, thread: u32, b: BufId)
     courses::end_search(course, b);
 }
 
-/// Notes that place `k` of the `places` of a search for the named buffer `b` is dry.
+/// Notes that place `k` of the `places` of the search of `thread` for a named buffer is dry.
 pub fn go_dry(courses: &mut Courses, thread: u32, k: u32, places: usize)
     requires there { IsSome (course_at courses.old thread) }
     requires room { k + 1 < 2 ^ 32 }
