@@ -11,7 +11,7 @@ use report_text::{Parsed, ReportBad, Rule, read_report};
 use std::alloc::Global;
 use ttm_base::NoMemory;
 
-/// Says what comes of a report.
+/// What comes of a report.
 #[derive(Clone, Copy)]
 pub enum Ending {
     /// It is that of a legal, complete journal.
