@@ -8,7 +8,8 @@ pub fn verdicts_are_exact()
     ensures { VerdictsAreExact }
 {}
 
-/// Where no read or write fails and memory suffices, it tells that a script with the report of a legal, complete journal after it is valid.
+/// Where no read or write fails and memory suffices, `check` tells that a script with the report of a legal, complete journal after it is
+/// valid.
 pub fn reports_are_valid()
     ensures { ReportsAreValid }
 {}

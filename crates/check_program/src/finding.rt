@@ -30,7 +30,7 @@ pub enum Finding {
 }
 
 impl Finding {
-    /// The status, if the verdict is written.
+    /// Returns the status with which the program ends if the verdict is written.
     pub fn status(self) -> Status
         ensures { result ≡ status_of self }
     {
@@ -43,7 +43,7 @@ impl Finding {
     }
 }
 
-/// What the report of a script comes to.
+/// Returns what the report of a script comes to.
 fn judged(alloc: Global, script: &Script, report: &[u8]) -> Result<Finding, NoMemory>
     requires fits { IsTrue (is_script script.now) }
     ensures { IfOk result (FindsReport script.now report.now) }
@@ -54,7 +54,7 @@ fn judged(alloc: Global, script: &Script, report: &[u8]) -> Result<Finding, NoMe
     }
 }
 
-/// What bytes come to: a script, and a report after it.
+/// Returns what `bytes` come to: a script, and a report after it.
 ///
 /// # Errors
 ///

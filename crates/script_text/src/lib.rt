@@ -69,7 +69,7 @@ fn read_all(alloc: Global, bytes: &[u8]) -> Result<Script, ScriptFault>
     read_lines(alloc, bytes)
 }
 
-/// Reads `bytes` as a script, or answers its first broken line and on it the least broken rule.
+/// Reads `bytes` as a script, or returns its first broken line and on it the least broken rule.
 pub fn read_script(alloc: Global, bytes: &[u8]) -> Result<Script, ScriptFault>
     // What is read is what the lines say, and the bytes are its spelling.
     ensures ok { IfOk result (λ script. script_of bytes.now ≡ Ok script) }
