@@ -106,7 +106,7 @@ fn form_of_one(word: &[u8]) -> Option<Form>
     }
 }
 
-/// Returns what the words ask for, or `None` if no program's use has such words.
+/// Returns what the words ask for, or `None` if they ask for nothing that the program knows.
 pub fn read_words(words: &Words) -> Option<Form>
     ensures { result ≡ form_of words.now }
 {
