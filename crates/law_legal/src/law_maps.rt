@@ -1,4 +1,4 @@
-//! Laws on mappings of buffers by the CPU: what they know stays true, since they forget the pages that leave.
+//! Laws on mappings of buffers by the CPU: what they know is so, since they forget the pages that leave.
 ghost use Rattle.journal_model.specs.statements.MarkLaws.{LegalMapsAreRight};
 ghost use Rattle.law_legal.specs.law_maps.Following.{EntriesGoWithTheirPages, EntriesGoWithTheirMapping};
 

@@ -1,4 +1,4 @@
--- The accounts after each front of a journal.
+-- The accounts after each prefix of a journal.
 use Rattle.std.specs.Prelude.{◌≡◌, ℕ, true, List, take}
 use Rattle.journal_model.specs.declared.script.Script.{Script}
 use Rattle.journal_model.specs.declared.entry.Entry.{Entry}
