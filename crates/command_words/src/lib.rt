@@ -64,7 +64,7 @@ impl Words {
     }
 }
 
-/// The greatest number of turns that can be asked for, and one more.
+/// One more than the greatest number of turns that can be asked for.
 const PAST_MOST: u128 = 1 << 64;
 
 /// Returns the number that `word`, a word of digits, tells, or 2^64 where it is above that.

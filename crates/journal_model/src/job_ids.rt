@@ -10,7 +10,7 @@ use ttm_base::{ItemList, JobId, NoMemory};
 #[derive(Clone, Copy)]
 pub struct JobRun {
     pub ctx: u32,
-    /// The least number.
+    /// The least number of the jobs.
     pub first: u64,
     /// The number of jobs.
     pub count: u64,

@@ -23,12 +23,12 @@ use ttm_base::NoMemory;
 /// What a journal is.
 #[derive(Clone, Copy)]
 pub enum Verdict {
-    /// It is legal and complete.
+    /// The journal is legal and complete.
     Valid,
-    /// It is legal, and not complete.
+    /// The journal is legal, and not complete.
     Incomplete,
-    /// It isn't legal: `entry` is the first that isn't legal next, counted from 1, and `rule` the one that it breaks: `Rule::Step`, or
-    /// `Rule::Shown` where it is legal next but for what it shows.
+    /// The journal isn't legal: `entry` is the first that isn't legal next, counted from 1, and `rule` the one that it breaks:
+    /// `Rule::Step`, or `Rule::Shown` where it is legal next but for what it shows.
     Bad { entry: u64, rule: Rule },
 }
 

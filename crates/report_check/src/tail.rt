@@ -72,7 +72,7 @@ fn write_tail<K: Sink>(
     Ok(())
 }
 
-/// Counts what the state after a legal journal holds, by making its entries.
+/// Counts what the state after a legal `journal` holds, by making its entries.
 fn accounts_after(alloc: Global, script: &Script, journal: &[Entry]) -> Result<Accounts, NoMemory>
     requires fits { IsTrue (is_script script.now) }
     requires legal { IsLegal script.now journal.now }
@@ -85,7 +85,7 @@ fn accounts_after(alloc: Global, script: &Script, journal: &[Entry]) -> Result<A
     accounts_of(alloc, script, &state)
 }
 
-/// Makes what follows the entries in the report of a journal.
+/// Makes the text that follows the entries in the report of `journal`.
 fn tail_of(
     alloc: Global,
     script: &Script,

@@ -168,8 +168,8 @@ pub fn has_map(script: &Script) -> bool
     script.marks.items().iter().any(|mark| is_map(&mark.kind))
 }
 
-/// Puts the report's part on mappings by the CPU, which is empty where no line maps a buffer. Of a journal that isn't legal it puts some text. For
-/// each thread the journal is gone through; each of its peeks and pokes costs a search of the marks.
+/// Puts the report's part on mappings by the CPU into `line`, which is empty where no line maps a buffer. Of a journal that isn't legal it
+/// puts some text. It passes over the journal once for each thread; each of the thread's peeks and pokes costs a search of the marks.
 pub fn put_maps(
     line: &mut Line,
     alloc: Global,

@@ -189,7 +189,8 @@ fn put_all_steps(line: &mut Line, alloc: Global, script: &Script) -> Result<(), 
     Ok(())
 }
 
-/// Puts the report's part on address spaces, which is empty where no line maps pages of one. A step is found in logarithmic time.
+/// Puts the report's part on address spaces into `line`, which is empty where no line maps pages of one. A step is found in logarithmic
+/// time.
 pub fn put_spaces(line: &mut Line, alloc: Global, script: &Script) -> Result<(), NoMemory>
     requires requests { IsTrue (are_in_spaces script.now) }
     ensures { OnOk result (line.new ≡ line.old ++ spaces_part script.now) }

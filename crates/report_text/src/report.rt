@@ -25,7 +25,7 @@ use std::alloc::Global;
 use text_line::{Line, put_numbered};
 use ttm_base::{Actor, NoMemory};
 
-/// Why not all of a report was written.
+/// The reason why not all of a report was written.
 #[derive(Clone, Copy, Debug, PartialEq, Eq)]
 pub enum WriteFault {
     Failed,
@@ -283,7 +283,7 @@ fn write_accounts<K: Sink>(
     write_account(line, b"swap", sizes.swap, &accounts.swap, sink)
 }
 
-/// Writes the parts of a report before the results: its head and the entries.
+/// Writes the parts of a report before the results to `sink`: its head and the entries.
 pub fn write_journal<K: Sink>(
     line: &mut Line,
     script: &Script,
@@ -299,7 +299,7 @@ pub fn write_journal<K: Sink>(
     write_entries(line, script, journal, sink)
 }
 
-/// Writes the parts of a report after the entries: the results and the accounts.
+/// Writes the parts of a report after the entries to `sink`: the results and the accounts.
 pub fn write_outcome<K: Sink>(
     line: &mut Line,
     script: &Script,

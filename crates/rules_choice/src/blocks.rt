@@ -14,7 +14,7 @@ pub struct FreePages {
     ghost small: { length marks.items < 2 ^ 32 },
 }
 
-/// A free block inside the range, and the order of the free block that it would be split from.
+/// A free block inside the range, and the order of the free block from which it would be split.
 #[derive(Clone, Copy)]
 pub struct FreeBlock {
     pub block: Span,

@@ -69,7 +69,7 @@ fn start_at(topdown: bool, order: u32, size: usize, i: usize) -> usize
 }
 
 /// Returns `best`, the candidate so far, or the block of order `order` at `start`, if it is a candidate and is split from a smaller block.
-/// It is none where a free block of the order from which `best` is split stands.
+/// Where the block around `start` of the order from which `best` is split is free, `best` stays.
 fn next_best(
     free: &FreePages,
     range: Span,

@@ -60,8 +60,8 @@ impl Least {
     }
 }
 
-/// A look for jobs that aren't done: the least numbers, once they were asked for, since all pending jobs are gone over for them; and the
-/// place after the job that was found last.
+/// A look for jobs that aren't done: the least numbers, once they were asked for, since they take a pass over all pending jobs; and the
+/// position after the job that was found last.
 #[derive(Drop)]
 pub struct Look {
     least: Option<Least>,

@@ -236,7 +236,7 @@ fn first_unfinished(jobs: &[Job], ctx: u32) -> Option<&Job>
     jobs.iter().find(|j| j.id.ctx == ctx && !j.finished)
 }
 
-/// Returns the job at the head of the context `ctx`: its first that isn't done.
+/// Returns the job at the head of the context `ctx`, its first that isn't done, or `None` if all are.
 pub fn head_of(state: &State, ctx: u32) -> Option<&Job>
     ensures { option_copied result ≡ words.head_of state.now ctx }
 {

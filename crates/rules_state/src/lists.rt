@@ -28,7 +28,7 @@ pub fn in_order(alloc: Global, state: &State, mem: Mem) -> Result<BufIds, NoMemo
     Ok(bs)
 }
 
-/// Returns whether `a` and `b` are the same group. A buffer without a group is in none with another.
+/// Returns whether both `a` and `b` are groups and the same one.
 pub fn same_group(a: Option<u32>, b: Option<u32>) -> bool
     ensures { result ≡ words.same_group a b }
 {

@@ -11,7 +11,7 @@ use state_words::{as_fallback, is_caught, whole};
 use std::alloc::Global;
 use ttm_base::{BufId, FlaggedPlaces, Mem, NoMemory};
 
-/// The places that a search tries, whether it is under pressure, and how many forced places are dry.
+/// The places that a search tries, whether it is under pressure, and the number of forced places that are dry.
 #[derive(Drop)]
 pub struct PlaceSearch {
     pub list: FlaggedPlaces,

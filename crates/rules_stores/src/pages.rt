@@ -9,7 +9,7 @@ use rules_holds::has_page;
 use rules_state::{length_of, live_in, loc_of, page_at};
 use ttm_base::{BufId, Loc, Mem, PagePlace, Span};
 
-/// A page that has bytes: of VRAM, a frame, or a swap slot. Zeros stand nowhere.
+/// A page that has bytes: a page of VRAM, a frame, or a swap slot. A page of zeros stands nowhere.
 #[derive(Clone, Copy)]
 pub enum StorePage {
     Nowhere,

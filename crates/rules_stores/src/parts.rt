@@ -14,7 +14,7 @@ use ttm_base::limits::PAGE_BYTES;
 /// The bytes of a page.
 const PAGE: usize = PAGE_BYTES as usize;
 
-/// A part of a page: where it begins.
+/// A part of a page: the page, and the offset in bytes at which the part begins.
 #[derive(Clone, Copy)]
 pub struct PagePart {
     pub page: StorePage,

@@ -48,7 +48,7 @@ fn buffer_bytes(
     Ok(bytes)
 }
 
-/// Returns the byte of `page` at `i` bytes after `off`, 0 past 2^32.
+/// Returns the byte of `page` at `i` bytes after `off`, 0 where that offset is past 32 bits.
 fn page_byte(stores: &PlainStores, page: StorePage, off: u32, i: u32) -> u8
     ensures { result ≡ bytes_of stores.now (page_of page) (off + i) }
 {

@@ -42,7 +42,7 @@ impl Model for PlainStores {
 }
 
 impl PlainStores {
-    /// Makes stores of `sizes` pages, frames and slots, all zeros.
+    /// Makes stores of all zeros, with the pages of VRAM, frames and slots that `sizes` tells.
     pub fn new(alloc: Global, sizes: Sizes) -> Result<PlainStores, NoMemory>
         ensures sizes { IfOk result (λ s. s.sizes ≡ sizes) }
         ensures bytes { IfOk result (λ s. bytes_of s ≡ zeros) }

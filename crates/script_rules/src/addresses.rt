@@ -19,7 +19,7 @@ use journal_model::{Script, VOp, VOps};
 use std::alloc::Global;
 use ttm_base::{BufId, ItemList, NoMemory, Op};
 
-/// The bytes of an address space.
+/// The number of bytes of an address space.
 const SPACE_BYTES: u64 = 4_294_967_296;
 
 fn lacks_op_number(op: &VOpWord) -> bool

@@ -22,8 +22,8 @@ mod values;
 
 use crate::reader::{Known, is_done, start, take_line};
 
-/// Why bytes weren't read: their first broken line, counted from 1, and on it the least broken rule; or memory ran out.
-/// Line 0 is the whole text, where it has more than 1,048,576 bytes (rule 1).
+/// The reason why bytes weren't read: their first broken line, counted from 1, and on it the least broken rule; or memory ran out. Line 0
+/// is the whole text, where it has more than 1,048,576 bytes (rule 1).
 #[derive(Clone, Copy, Debug, PartialEq, Eq)]
 pub enum ScriptFault {
     Bad { line: u32, rule: u32 },

@@ -6,7 +6,7 @@ use std::alloc::Global;
 use std::io::{Error, ErrorKind, Result};
 use ttm_base::Actor;
 
-/// When parts that follow a device are compared with it.
+/// The times at which parts that follow a device are compared with it.
 #[derive(Clone, Copy)]
 pub enum When {
     /// At the start, and after each entry.
@@ -19,7 +19,7 @@ pub enum When {
 #[derive(Clone, Copy)]
 pub enum Pace {
     Fast,
-    /// A step takes some milliseconds.
+    /// Slowly: a step takes some milliseconds.
     Slow,
 }
 

@@ -37,8 +37,8 @@ fn faults<S: Source>(rt: &impl Abort, alloc: Global, source: &mut S, limit: u32,
     }
 }
 
-/// How many bytes a read moves at most, the reads that fail, the limit in bytes, how the reading ends: with the whole text or with a fault; and which
-/// bytes another one then gives, if it is to be tried.
+/// The number of bytes that a read moves at most, the reads that fail, the limit in bytes, how the reading ends: with the whole text or
+/// with a fault; and which bytes another one then gives, if it is to be tried.
 type Reading = (
     usize,
     &'static [u64],
@@ -87,8 +87,8 @@ fn sources_are_read_whole_or_fault(rt: HostRuntime) {
     }
 }
 
-/// The room of a sink in bytes, how many a write moves at most, the writes that fail, how often the text is written whole, and what has gone out once
-/// it is written again: that breaks off at a listed write, or for lack of room.
+/// The room of a sink in bytes, the number of bytes that a write moves at most, the writes that fail, how often the text is written whole,
+/// and what has gone out once it is written again: that breaks off at a listed write, or for lack of room.
 type Writing = (usize, usize, &'static [u64], u32, &'static [u8]);
 
 const TWICE: &[u8] = b"ttm 1\nend\nttm 1\nend\n";
@@ -180,7 +180,7 @@ fn faults_of_a_reader(rt: HostRuntime) {
     gives(&rt, rt.alloc(), &mut text, 10, TEXT);
 }
 
-/// How many calls go well, whether nothing is taken, and what comes of a write. Each piece is written and flushed: two calls.
+/// The number of calls that go well, whether nothing is taken, and what comes of a write. Each piece is written and flushed: two calls.
 type Written = (u32, bool, Result<usize, Failed>);
 
 const WRITES: &[Written] = &[

@@ -39,7 +39,7 @@ fn list_grows_and_is_cut_back(rt: HostRuntime) {
     }
 }
 
-/// What comes, how many of the first leave then, to how many the queue is cut back, and what is left.
+/// The items that come, the number of the first ones that leave then, the length to which the queue is cut back, and what is left.
 type Row = (&'static [u32], u32, usize, &'static [u32]);
 
 const ROWS: &[Row] = &[

@@ -195,7 +195,8 @@ pub fn add_fence(buffers: &mut Buffers, b: BufId, job: JobId, usage: Usage) -> R
     Ok(())
 }
 
-/// Takes all frames and slots out of the page table of a buffer that leaves TT. In any other memory type `mem` the table stays as it is.
+/// Takes the frames and slots out of the page table of a buffer that leaves TT, where its frames stay behind. Out of any other memory type
+/// `mem` the table stays as it is.
 fn leave_table(mem: Mem, table: &mut Table)
     ensures { table.new ≡ table_left mem table.old }
 {

@@ -9,7 +9,7 @@ pub struct Difference {
     pub number: Option<u64>,
 }
 
-/// Why a case ends early.
+/// The reason why a case ends early.
 #[derive(Clone, Copy)]
 pub enum Stop {
     Differs(Difference),

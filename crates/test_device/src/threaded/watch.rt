@@ -17,7 +17,7 @@ const MOST_LOOKS: u64 = 1_000_000_000;
 #[derive(Drop)]
 struct Flag {
     is_up: AtomicBool,
-    /// Some worker looked as often as it may.
+    /// Whether some worker looked as often as it may.
     is_missed: AtomicBool,
 }
 
@@ -72,7 +72,7 @@ impl Watch {
         }
     }
 
-    /// Raises one flag, and waits for the other.
+    /// Raises the flag `own`, and waits for `other`.
     fn meet(&self, own: &Flag, other: &Flag) {
         own.raise();
         other.wait();

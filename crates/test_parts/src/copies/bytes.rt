@@ -65,7 +65,7 @@ fn byte_far_from_others(rt: HostRuntime) {
     assert_bytes(rt, &store, 4096 * 36 + 4, &[0; 16]);
 }
 
-/// Bytes are copied to pages that nobody has written, and zeros from them.
+/// Bytes are copied to pages that were never written, and zeros from them.
 #[test]
 fn copies_to_and_from_far_pages(rt: HostRuntime) {
     let rt = &rt;
@@ -77,7 +77,7 @@ fn copies_to_and_from_far_pages(rt: HostRuntime) {
     assert_bytes(rt, &store, 4096 * 20 + 4, &[0, 0, 0]);
 }
 
-/// A byte of a page that nobody has written is a zero in an exclusive or.
+/// A byte of a page that was never written is a zero in an exclusive or.
 #[test]
 fn exclusive_or_of_far_pages(rt: HostRuntime) {
     let mut store = forty_pages(&rt, rt.alloc());

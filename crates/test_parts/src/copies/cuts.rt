@@ -11,7 +11,7 @@ const A: BufId = BufId(0);
 
 const B: BufId = BufId(1);
 
-/// Page by page, buffer 0 is named by pages of VRAM, and each other one by frames.
+/// Names of pages by their numbers: buffer 0 is named by pages of VRAM, and each other one by frames.
 struct InOrder;
 
 impl PageNames for InOrder {

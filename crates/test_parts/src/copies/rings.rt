@@ -92,7 +92,7 @@ fn push_free(rt: &impl Abort, alloc: Global, rings: &mut Rings, job: JobId, pack
     push(rt, rings, job, waits, packets);
 }
 
-/// The head before each step, the number of the packet that is run, if one is, and how many bytes were shown last.
+/// The head before each step, the number of the packet that is run, if one is, and the number of bytes that were shown last.
 const STEPS: &[(JobId, Option<u32>, usize)] = &[
     (ONE, Some(0), 0),
     (ONE, Some(1), 2),

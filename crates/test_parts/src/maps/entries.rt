@@ -7,7 +7,7 @@ use ttm_base::{BufId, PagePlace};
 /// For each of a buffer's two pages a place, or none.
 type Pages = (Option<PagePlace>, Option<PagePlace>);
 
-/// What happens to mappings.
+/// An event that mappings see.
 #[derive(Clone, Copy)]
 enum Event {
     /// A thread reads or writes those pages of a buffer that have a place here.
