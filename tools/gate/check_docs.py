@@ -310,7 +310,10 @@ def closure_of(name):
         found.pop(mark)
         found.append(path)
 
-    visit(TOP / "crates" / name if "/" in name else TOP / "crates" / "journal_model" / "specs" / f"{name}.antt")
+    if "/" in name:
+        visit(TOP / "crates" / name)
+    else:
+        visit(next((TOP / "crates" / "journal_model" / "specs").rglob(f"{name}.antt")))
     return found
 
 
