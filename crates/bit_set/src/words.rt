@@ -5,7 +5,7 @@
 ghost use Rattle.std.specs.Prelude.{◌≡◌, ℕ, ◌/◌, ◌^◌, ◌<◌, ◌≤◌, true, false, length, MatchOption};
 ghost use Rattle.bit_set.specs.Words.{has_bit, IsBase, IsBitTree, IsFirstBit, IsHighestBit, IsLastBit, IsPart, IsPut};
 
-/// How many bits a word has.
+/// The number of bits of a word.
 pub(crate) const WORD: usize = 64;
 
 /// Finds the first word of the last level, which has `words` words: how many words the levels above it have.
