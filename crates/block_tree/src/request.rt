@@ -13,7 +13,7 @@ pub struct Request {
     pub topdown: bool,
 }
 
-/// The blocks that a request can take, by their numbers, from `first` up to and with `last`.
+/// The blocks that a request can take, by their numbers, from `first` to `last`, both included.
 #[derive(Clone, Copy)]
 pub struct Pieces {
     pub order: u32,

@@ -178,7 +178,7 @@ fn store_first(bytes: &mut Vec<u8>, count: usize)
     bytes.resize(count, 0).unwrap();
 }
 
-/// Stores the zeros up to position `end`, with a page of them after it where there are so many.
+/// Stores the zeros up to position `end`, and after it a page of them, or as many as there are up to `size`.
 #[tactic(auto, using(crate::proofs::StoredLaws::padded_resized, crate::proofs::StoredLaws::ends_in_zeros))]
 fn store_up_to(bytes: &mut Vec<u8>, size: usize, end: usize)
     requires fits { end ≤ size }

@@ -30,7 +30,7 @@ impl Model for FreeMap {
 }
 
 impl FreeMap {
-    /// Makes `len` numbers, each of them free.
+    /// Returns a map of `len` numbers, each of them free.
     pub fn new(alloc: Global, len: u32) -> Result<FreeMap, NoMemory>
         ensures { IfOk result (λ map. map ≡ replicate len false) }
     {

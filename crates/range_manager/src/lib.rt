@@ -10,7 +10,7 @@ pub use manager::RangeManager;
 /// The reason why no range was taken.
 #[derive(Clone, Copy, Debug, PartialEq, Eq)]
 pub enum InsertFault {
-    /// No hole has room for the pages.
+    /// No hole has the pages, or room for them.
     NoHole,
     NoMemory,
 }

@@ -22,7 +22,7 @@ pub trait SpanManager: Drop {
     /// The spans that are held, in rising order.
     ghost held: { Self → List Span };
 
-    /// The spans that a request takes among the free pages of a size: a number of pages, an alignment, and a place.
+    /// The spans that a request takes among the free pages of a size, for a number of pages, an alignment, and a place.
     ghost choice: { (ℕ → Bool) → ℕ → ℕ → ℕ → Place → Option (List Span) };
 
     /// The greatest number of pages.

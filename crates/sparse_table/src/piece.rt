@@ -26,7 +26,7 @@ impl Model for Piece {
     ghost invariant = { λ p. IsPiece p.numbers.items };
 }
 
-/// Makes the numbers of a piece, all of them 0.
+/// Returns the numbers of a piece, all of them 0.
 #[cold]
 #[inline(never)]
 fn zeros(alloc: Global) -> Result<Vec<u32>, NoMemory>

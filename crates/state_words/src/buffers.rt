@@ -19,7 +19,7 @@ pub fn has_buffer(bs: &[BufId], b: BufId) -> bool
     bs.iter().any(|c| same_buffer(b, *c))
 }
 
-/// Returns the spans of the memory type `mem` among `targets`, the spans that were found for a buffer.
+/// Returns the spans that were found for a buffer in the memory type `mem`, if there are any.
 pub fn target_of(mem: Mem, targets: &Targets) -> Option<&Spans>
     ensures { option_copied result ≡ words.target_of mem targets.now }
 {

@@ -85,8 +85,8 @@ pub fn forget_victim(course: &mut Course, b: BufId)
     remove_victim(&mut course.caught, b);
 }
 
-/// Returns whether a first victim turns the search to its forced places, those that are tried under pressure: it does in a
-/// search in VRAM or TT.
+/// Returns whether the next victim turns the search to its forced places, those that are tried under pressure: the first
+/// victim of a search in VRAM or TT does.
 fn turns_to_forced(why: Why, caught: &Victims) -> bool
     ensures { result ≡ forces why caught.now }
 {

@@ -130,7 +130,7 @@ impl<V: Logged> Turns<V> {
                     return number;
                 }
             } else {
-                // No number is left, and this waits for ever.
+                // No number is left: this waits for ever.
                 self.table.shared.park(rt, TICKET, u32::MAX);
             }
         }

@@ -30,7 +30,7 @@ impl Gate for IdleGate {
 enum Offered {
     /// The worker's own actor made the entry.
     Own,
-    /// This actor made the entry, and this job blocked the worker's own actor, if it is known.
+    /// This actor made the entry, and this job blocked the worker's own actor, if a job did.
     Other(Actor, Option<JobId>),
     Idle(Option<JobId>),
     Over,
