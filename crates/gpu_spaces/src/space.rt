@@ -141,7 +141,7 @@ impl Space {
         job_of(alloc, &self.mappings, ops)
     }
 
-    /// Counts the operations of that job up to `most`, or returns None where a page isn't mapped.
+    /// Counts the operations of the job that `job` returns, up to `most`, or returns None where a page isn't mapped.
     pub fn job_len(&self, ops: &[VOp], most: u32) -> Option<u32>
         requires { list_all is_inside ops.now ≡ true }
         ensures { result ≡ option_map (λ job. min (length job) most) (job_by_name self.now ops.now) }

@@ -185,7 +185,7 @@ impl Rings {
         }
     }
 
-    // Writes one link, and counts a step. No other function changes links.
+    // Writes one link, and counts a step. Links change nowhere else.
     fn set_link<L: Ledger>(&mut self, at: Spot, way: Way, to: Spot, steps: &mut Steps<L>)
         requires { IsSpot self.old at }
         ensures at { links_at self.new at ≡ led (links_at self.old at) way to }
