@@ -1,6 +1,6 @@
 -- `verdict_of` answers exactly the verdict that holds.
-use Rattle.std.proofs.Common.{◌≡◌, ℕ, zero, suc, ◌+◌, ◌-◌, ◌<◌, ◌≤◌, ◌⊎◌, inl, inr, Bool, true, false, cond, List, [], ◌∷◌, ◌++◌, length, Option, Some, None, Ok, Err, refl, ap, sym, subst, ◌∙◌, arith, append_assoc, append-nil, length-append, bytes_eq}
-use Rattle.std.specs.Prelude.{◌^◌, IsTrue, Result}
+use Rattle.std.proofs.Common.{◌≡◌, ℕ, zero, suc, ◌+◌, ◌-◌, ◌<◌, ◌⊎◌, inl, inr, Bool, true, false, cond, List, [], ◌∷◌, ◌++◌, length, Option, Some, None, Ok, Err, refl, ap, sym, subst, ◌∙◌, arith, append_assoc, append-nil, length-append, bytes_eq}
+use Rattle.std.specs.Prelude.{◌^◌, Result}
 use Rattle.std.proofs.lemmas.Bool.Decides.{nat_tests}
 use Rattle.std.proofs.lemmas.Slice.Eq.{bytes_eq-Decides}
 use Rattle.ttm_base.specs.declared.Actor.{Actor}
@@ -15,7 +15,7 @@ use Rattle.journal_model.specs.scripts.Cut.{lines_of}
 use Rattle.journal_model.specs.scripts.Readable.{is_u64}
 use Rattle.journal_model.specs.rules.Next.{next}
 use Rattle.journal_model.specs.rules.Stores.{Stores, showing}
-use Rattle.journal_model.specs.rules.Legal.{World, IsLegal, IsLegalFrom, IsLegalNext, first_world, shown_step, world_after, world_of}
+use Rattle.journal_model.specs.rules.Legal.{World, IsLegalFrom, IsLegalNext, first_world, shown_step, world_after, world_of}
 use Rattle.journal_model.specs.statements.Complete.{is_complete}
 use Rattle.journal_model.specs.reports.ReportText.{report}
 use Rattle.journal_model.specs.reports.Verdict.{AreEntryTexts, HasHead, IsEntryText, IsRejected, IsRightTo, IsStep, TellsNext, no_head, no_entry, no_step, not_shown, not_complete, no_end, unshown, unshown_step}

@@ -120,7 +120,7 @@ pub record IsAccepted (script : Script) (text : Text) : Type 0 where
   pub says : text ≡ report script journal
 
 -- The first entry that isn't as it should be, counted from 1, and the rule that it breaks. Entry 0 stands for the first two lines, the
--- one after the last for what follows the journal.
+-- one after the last for what follows the journal. `VerdictOf.verdict_of` says the same as a function.
 pub data IsRejected (script : Script) (text : Text) : ℕ → ℕ → Type 0 where
   -- the first two lines aren't those of a report of the script
   no_head : ((count : ℕ) (texts : List Text) → HasHead script text count texts → ⊥) → IsRejected script text 0 1
