@@ -1,12 +1,8 @@
 -- The verdict on a script and a report after it: whether the report is that of a legal, complete journal of the script, and if not,
 -- the first entry that isn't as it should be, and the rule that it breaks.
 use Rattle.std.specs.Prelude.{◌≡◌, ℕ, ◌+◌, ◌<◌, ◌≤◌, Bool, true, false, List, [], ◌∷◌, ◌++◌, Result, Ok, Err, IsTrue, bytes_eq, codes, decimal, flat_map, length, if◌then◌else◌}
-use Rattle.ttm_base.specs.declared.Actor.{Actor}
+use Rattle.journal_model.specs.Types.{Actor, Entry, Kind, Need, Script}
 use Rattle.ttm_base.specs.declared.Actor.TheVariants as actor
-use Rattle.ttm_base.specs.declared.Need.{Need}
-use Rattle.journal_model.specs.declared.script.Script.{Script}
-use Rattle.journal_model.specs.declared.entry.Entry.{Entry}
-use Rattle.journal_model.specs.declared.entry.Kind.{Kind}
 use Rattle.journal_model.specs.declared.entry.Kind.TheVariants as kind
 use Rattle.journal_model.specs.declared.entry.Shown.TheVariants as shown
 use Rattle.journal_model.specs.scripts.Words.{Text, line}

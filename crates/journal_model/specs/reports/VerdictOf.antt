@@ -1,10 +1,7 @@
 -- The verdict on a report as a function that can be run. It goes through the report's lines up to the first that isn't as it should be, and
 -- what it answers is so in the words of `Verdict` (`HoldsOf`).
 use Rattle.std.specs.Prelude.{◌≡◌, ℕ, zero, suc, ◌+◌, ◌↔◌, Bool, true, List, [], ◌∷◌, ◌++◌, Option, Some, None, Result, Ok, Err, IsTrue, bytes_eq, length, if◌then◌else◌}
-use Rattle.ttm_base.specs.declared.Need.{Need}
-use Rattle.journal_model.specs.declared.script.Script.{Script}
-use Rattle.journal_model.specs.declared.entry.Entry.{Entry}
-use Rattle.journal_model.specs.declared.entry.Kind.{Kind}
+use Rattle.journal_model.specs.Types.{Entry, Kind, Need, Script}
 use Rattle.journal_model.specs.scripts.Words.{Text}
 use Rattle.journal_model.specs.scripts.Cut.{lines_of}
 use Rattle.journal_model.specs.scripts.Readable.{is_u64}

@@ -1,17 +1,9 @@
 -- What a command names and asks for.
 use Rattle.std.specs.Prelude.{ℕ, ◌==◌, ◌-◌, Bool, true, false, List, [], ◌∷◌, Option, None, flat_map, option_and_then, unwrap_or, slice_get, if◌then◌else◌}
-use Rattle.ttm_base.specs.declared.BufId.{BufId}
-use Rattle.ttm_base.specs.declared.Op.{Op}
+use Rattle.journal_model.specs.Types.{BufId, Command, Decl, FlaggedPlace, Mem, Op, Place, Script, State}
 use Rattle.ttm_base.specs.declared.Op.TheVariants as op
-use Rattle.ttm_base.specs.declared.Mem.{Mem}
 use Rattle.ttm_base.specs.declared.Mem.TheVariants.{System}
-use Rattle.ttm_base.specs.declared.Place.{Place}
-use Rattle.ttm_base.specs.declared.FlaggedPlace.{FlaggedPlace}
-use Rattle.journal_model.specs.declared.script.Script.{Script}
-use Rattle.journal_model.specs.declared.script.Decl.{Decl}
-use Rattle.journal_model.specs.declared.script.Command.{Command}
 use Rattle.journal_model.specs.declared.script.Command.TheVariants as command
-use Rattle.journal_model.specs.declared.state.State.{State}
 use Rattle.journal_model.specs.rules.State.{course_of, has_buffer, same_buffer}
 
 -- stands for a declaration that isn't there; no script names a buffer without one

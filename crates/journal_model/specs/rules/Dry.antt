@@ -2,19 +2,10 @@
 use Rattle.std.specs.Prelude.{Bool, true, false, List, [], ◌∷◌, ◌++◌, Option, Some, None, ◌==◌, ◌&&◌, ◌||◌, not, nat_lt, nat_le, find, filter_map, is_none, length, if◌then◌else◌}
 use Rattle.std.specs.List.{list_any}
 use Rattle.ttm_base.specs.declared.Mem.TheVariants.{System, Tt}
-use Rattle.ttm_base.specs.declared.BufId.{BufId}
-use Rattle.ttm_base.specs.declared.Place.{Place}
+use Rattle.journal_model.specs.Types.{BufId, Buffer, Cause, CauseRow, DryWhy, Ghost, Place, Reservation, Script, State}
 use Rattle.ttm_base.specs.Reach.{same_mem, intersects, length_of}
-use Rattle.journal_model.specs.declared.script.Script.{Script}
-use Rattle.journal_model.specs.declared.entry.CauseRow.{CauseRow}
-use Rattle.journal_model.specs.declared.entry.Cause.{Cause}
 use Rattle.journal_model.specs.declared.entry.Cause.TheVariants as cause
-use Rattle.journal_model.specs.declared.entry.DryWhy.{DryWhy}
 use Rattle.journal_model.specs.declared.entry.DryWhy.TheVariants as dry
-use Rattle.journal_model.specs.declared.state.State.{State}
-use Rattle.journal_model.specs.declared.state.Buffer.{Buffer}
-use Rattle.journal_model.specs.declared.state.Reservation.{Reservation}
-use Rattle.journal_model.specs.declared.state.Ghost.{Ghost}
 use Rattle.journal_model.specs.rules.State.{buffer, reservation, reservation_in, has_buffer, same_buffer, has_target}
 use Rattle.journal_model.specs.rules.Commands.{decl}
 use Rattle.journal_model.specs.rules.Places.{is_frame}

@@ -1,23 +1,14 @@
 -- The entry that an actor makes next in a state, or what it needs first. Rules are those of `Tasks`, which says which one applies; here each
 -- gives its entry or need. What a read or a probe shows is left empty, since the bytes are not in the state.
 use Rattle.std.specs.Prelude.{ℕ, ◌+◌, Bool, true, false, [], Option, Some, None, Ok, Err, ◌==◌, ◌&&◌, not, nat_lt, find, length, slice_get, if◌then◌else◌}
-use Rattle.ttm_base.specs.declared.BufId.{BufId}
-use Rattle.ttm_base.specs.declared.Stamp.{Stamp}
-use Rattle.ttm_base.specs.declared.Actor.{Actor}
+use Rattle.journal_model.specs.Types.{Actor, BufId, Command, Course, Job, Kind, Script, Stamp, State, Task}
 use Rattle.ttm_base.specs.declared.Actor.TheVariants as actor
 use Rattle.ttm_base.specs.declared.Need.TheVariants as need
 use Rattle.ttm_base.specs.declared.Deny.TheVariants as deny
-use Rattle.journal_model.specs.declared.script.Script.{Script}
-use Rattle.journal_model.specs.declared.state.Course.{Course}
-use Rattle.journal_model.specs.declared.script.Command.{Command}
 use Rattle.journal_model.specs.declared.script.Command.TheVariants as command
-use Rattle.journal_model.specs.declared.entry.Kind.{Kind}
 use Rattle.journal_model.specs.declared.entry.Kind.TheVariants as kind
 use Rattle.journal_model.specs.declared.entry.Shown.TheVariants as shown
-use Rattle.journal_model.specs.declared.state.Task.{Task}
 use Rattle.journal_model.specs.declared.state.Task.TheVariants as task
-use Rattle.journal_model.specs.declared.state.State.{State}
-use Rattle.journal_model.specs.declared.state.Job.{Job}
 use Rattle.journal_model.specs.rules.State.{buffer, reservation, is_live, course}
 use Rattle.journal_model.specs.rules.Commands.{command_at_work}
 use Rattle.journal_model.specs.rules.Waits.{waited_for, jobs_before_read, is_idle}

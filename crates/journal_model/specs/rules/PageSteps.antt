@@ -1,20 +1,10 @@
 -- Steps with frames, slots and targets: filling, emptying, carrying, giving back. Rules are those of `Tasks`.
 use Rattle.std.specs.Prelude.{ℕ, ◌+◌, true, false, Option, Some, None, Ok, Err, not, find, position, option_map, unwrap_or, slice_get, if◌then◌else◌}
-use Rattle.ttm_base.specs.declared.Mem.{Mem}
+use Rattle.journal_model.specs.Types.{BufId, Buffer, Core, Course, JobId, Kind, Loc, Mem, Script, State, Why}
 use Rattle.ttm_base.specs.declared.Mem.TheVariants.{System, Tt, Vram}
-use Rattle.ttm_base.specs.declared.BufId.{BufId}
-use Rattle.ttm_base.specs.declared.JobId.{JobId}
 use Rattle.ttm_base.specs.declared.Need.TheVariants as need
-use Rattle.journal_model.specs.declared.script.Script.{Script}
-use Rattle.journal_model.specs.declared.state.Course.{Course}
-use Rattle.journal_model.specs.declared.entry.Kind.{Kind}
 use Rattle.journal_model.specs.declared.entry.Kind.TheVariants as kind
-use Rattle.journal_model.specs.declared.state.State.{State}
-use Rattle.journal_model.specs.declared.state.Core.{Core}
-use Rattle.journal_model.specs.declared.state.Buffer.{Buffer}
-use Rattle.ttm_base.specs.declared.Loc.{Loc}
 use Rattle.ttm_base.specs.declared.Loc.TheVariants as loc
-use Rattle.journal_model.specs.declared.entry.Why.{Why}
 use Rattle.journal_model.specs.declared.entry.Why.TheVariants as why
 use Rattle.journal_model.specs.declared.entry.Left.TheVariants as left
 use Rattle.journal_model.specs.rules.State.{buffer, buffer_in, same_buffer, has_target}

@@ -2,26 +2,15 @@
 -- part of; `task_of_command` has them in their order.
 use Rattle.std.specs.Prelude.{ℕ, Bool, true, false, ◌++◌, Option, Some, None, ◌==◌, ◌&&◌, ◌||◌, not, nat_lt, find, option_to_list, is_none, if◌then◌else◌}
 use Rattle.ttm_base.specs.ListWords.{last_of}
-use Rattle.ttm_base.specs.declared.Mem.{Mem}
+use Rattle.journal_model.specs.Types.{BufId, Buffer, Command, Course, Deny, Mem, Reservation, Script, Stage, State, Task, Victim}
 use Rattle.ttm_base.specs.declared.Mem.TheVariants.{System, Tt, Vram}
-use Rattle.ttm_base.specs.declared.BufId.{BufId}
-use Rattle.ttm_base.specs.declared.Deny.{Deny}
 use Rattle.ttm_base.specs.declared.Deny.TheVariants as deny
 use Rattle.ttm_base.specs.Reach.{same_mem}
-use Rattle.journal_model.specs.declared.script.Script.{Script}
-use Rattle.journal_model.specs.declared.state.Course.{Course}
-use Rattle.journal_model.specs.declared.state.Victim.{Victim}
 use Rattle.journal_model.specs.declared.entry.Why.TheVariants as why
-use Rattle.journal_model.specs.declared.script.Command.{Command}
 use Rattle.journal_model.specs.declared.script.Command.TheVariants as command
 use Rattle.journal_model.specs.declared.state.SearchAim.TheVariants.{Asked, Hop}
-use Rattle.journal_model.specs.declared.state.Task.{Task}
 use Rattle.journal_model.specs.declared.state.Task.TheVariants as task
-use Rattle.journal_model.specs.declared.state.Stage.{Stage}
 use Rattle.journal_model.specs.declared.state.Stage.TheVariants as stage
-use Rattle.journal_model.specs.declared.state.State.{State}
-use Rattle.journal_model.specs.declared.state.Buffer.{Buffer}
-use Rattle.journal_model.specs.declared.state.Reservation.{Reservation}
 use Rattle.journal_model.specs.rules.State.{course, buffer, reservation, has_buffer, has_target}
 use Rattle.journal_model.specs.rules.Commands.{named, command_at_work}
 use Rattle.journal_model.specs.rules.Dry.{has_frame}

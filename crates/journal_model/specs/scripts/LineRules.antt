@@ -1,9 +1,7 @@
 -- The rules that a line may break, from the fifth on, each for itself, on a line whose words are read as far as they can be.
 use Rattle.std.specs.Prelude.{ℕ, ◌+◌, ◌*◌, Bool, true, false, List, [], ◌++◌, Option, Some, None, is_none, length, flat_map, map, sum_by, unwrap_or, option_to_list, bytes_eq, ◌==◌, ◌||◌, not, nat_lt, nat_le, if◌then◌else◌}
 use Rattle.std.specs.List.{list_any}
-use Rattle.ttm_base.specs.declared.BufId.{BufId}
-use Rattle.ttm_base.specs.declared.Op.{Op}
-use Rattle.journal_model.specs.declared.script.Script.{Script}
+use Rattle.journal_model.specs.Types.{BufId, Op, Script}
 use Rattle.journal_model.specs.declared.line.Progress.{Progress}
 use Rattle.journal_model.specs.declared.line.Line.{Line}
 use Rattle.journal_model.specs.declared.line.Line.TheVariants as line

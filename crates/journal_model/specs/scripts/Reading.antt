@@ -1,11 +1,9 @@
 -- What a word says: a number, a name, bytes, a place, an actor.
 use Rattle.std.specs.Prelude.{ℕ, ◌+◌, ◌-◌, ◌*◌, Bool, true, false, List, [], ◌∷◌, Option, Some, None, option_map, length, map, position, bytes_eq, codes, ◌==◌, ◌&&◌, ◌||◌, not, nat_lt, if◌then◌else◌}
 use Rattle.std.specs.List.{list_all, join_with_byte}
-use Rattle.ttm_base.specs.declared.Mem.{Mem}
+use Rattle.journal_model.specs.Types.{BufId, Decl, Mem}
 use Rattle.ttm_base.specs.declared.Mem.TheVariants.{System, Tt, Vram}
-use Rattle.ttm_base.specs.declared.BufId.{BufId}
 use Rattle.ttm_base.specs.declared.Actor.TheVariants as actor
-use Rattle.journal_model.specs.declared.script.Decl.{Decl}
 use Rattle.journal_model.specs.declared.line.Flags.{Flags}
 use Rattle.journal_model.specs.declared.line.PlaceWord.{PlaceWord}
 use Rattle.journal_model.specs.declared.line.PlaceWord.TheVariants as place_word

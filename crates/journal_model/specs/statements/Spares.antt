@@ -2,12 +2,8 @@
 use Rattle.std.specs.Prelude.{ℕ, Bool, List, [], ◌++◌, ◌==◌, ◌&&◌, not, flat_map, drop, if◌then◌else◌}
 use Rattle.std.specs.List.{list_all, list_any}
 use Rattle.ttm_base.specs.declared.Mem.TheVariants.{Tt}
-use Rattle.ttm_base.specs.declared.Packet.{Packet}
-use Rattle.journal_model.specs.declared.entry.Kind.{Kind}
+use Rattle.journal_model.specs.Types.{Core, Ghost, Job, Kind, Packet}
 use Rattle.journal_model.specs.declared.entry.Kind.TheVariants as kind
-use Rattle.journal_model.specs.declared.state.Core.{Core}
-use Rattle.journal_model.specs.declared.state.Job.{Job}
-use Rattle.journal_model.specs.declared.state.Ghost.{Ghost}
 use Rattle.ttm_base.specs.Packets.{packet_names}
 use Rattle.journal_model.specs.rules.State.{buffer_in}
 use Rattle.journal_model.specs.rules.Places.{pages_of}
