@@ -1,12 +1,7 @@
 -- The twelve lists of buffers in eviction order (ttm_resource_manager's lru, ttm_lru_bulk_move).
 use Rattle.std.specs.Prelude.{ℕ, ◌+◌, ◌*◌, Bool, true, false, List, [], ◌∷◌, ◌++◌, Option, Some, None, ◌==◌, not, filter, map, flat_map, take, drop, unwrap_or, insert, length, slice_get, slice_set, if◌then◌else◌}
-use Rattle.ttm_base.specs.declared.Mem.{Mem}
-use Rattle.ttm_base.specs.declared.BufId.{BufId}
+use Rattle.journal_model.specs.Types.{BufId, Buffer, Mem, Reservation, Script, State}
 use Rattle.ttm_base.specs.Reach.{mem_number}
-use Rattle.journal_model.specs.declared.script.Script.{Script}
-use Rattle.journal_model.specs.declared.state.State.{State}
-use Rattle.journal_model.specs.declared.state.Buffer.{Buffer}
-use Rattle.journal_model.specs.declared.state.Reservation.{Reservation}
 use Rattle.journal_model.specs.rules.State.{live_in, reservation_in, without_buffer}
 use Rattle.journal_model.specs.rules.Commands.{decl}
 

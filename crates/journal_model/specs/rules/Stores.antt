@@ -1,22 +1,12 @@
 -- The bytes of VRAM, frames and slots after an entry, and what an entry shows of them. Packets go through the aperture of the
 -- state before them.
 use Rattle.std.specs.Prelude.{ℕ, ◌+◌, ◌/◌, ◌%◌, Bool, false, ◌&&◌, nat_lt, if◌then◌else◌, List, [], ◌∷◌, Option, Some, find, map, option_and_then, unwrap_or, slice_get}
-use Rattle.ttm_base.specs.declared.JobId.{JobId}
+use Rattle.journal_model.specs.Types.{Actor, Buffer, Command, Core, JobId, Kind, Packet, Script, Shown, Sizes, State}
 use Rattle.ttm_base.specs.declared.PagePlace.TheVariants as place
-use Rattle.ttm_base.specs.declared.Actor.{Actor}
-use Rattle.ttm_base.specs.declared.Packet.{Packet}
 use Rattle.ttm_base.specs.declared.Packet.TheVariants as packet
-use Rattle.journal_model.specs.declared.script.Script.{Script}
-use Rattle.journal_model.specs.declared.script.Sizes.{Sizes}
-use Rattle.journal_model.specs.declared.script.Command.{Command}
 use Rattle.journal_model.specs.declared.script.Command.TheVariants as command
-use Rattle.journal_model.specs.declared.entry.Kind.{Kind}
 use Rattle.journal_model.specs.declared.entry.Kind.TheVariants as kind
-use Rattle.journal_model.specs.declared.entry.Shown.{Shown}
 use Rattle.journal_model.specs.declared.entry.Shown.TheVariants as shown
-use Rattle.journal_model.specs.declared.state.State.{State}
-use Rattle.journal_model.specs.declared.state.Core.{Core}
-use Rattle.journal_model.specs.declared.state.Buffer.{Buffer}
 use Rattle.ttm_base.specs.ListWords.{count_from}
 use Rattle.ttm_base.specs.Pages.{Page, nowhere, vram, frame, slot, PageBytes, with_bytes}
 use Rattle.ttm_base.specs.Packets.{after_packet, probe_piece}

@@ -1,11 +1,8 @@
 -- Which commands may stand in a script.
 use Rattle.std.specs.Prelude.{ℕ, ◌+◌, ◌*◌, Bool, ◌==◌, ◌&&◌, not, nat_lt, nat_le, sum_by, length}
 use Rattle.std.specs.List.{list_all}
-use Rattle.ttm_base.specs.declared.BufId.{BufId}
-use Rattle.ttm_base.specs.declared.Op.{Op}
+use Rattle.journal_model.specs.Types.{BufId, Command, Op, Script}
 use Rattle.ttm_base.specs.declared.Op.TheVariants as op
-use Rattle.journal_model.specs.declared.script.Script.{Script}
-use Rattle.journal_model.specs.declared.script.Command.{Command}
 use Rattle.journal_model.specs.declared.script.Command.TheVariants as command
 use Rattle.ttm_base.specs.Cutting.{op_len}
 use Rattle.journal_model.specs.rules.Commands.{decl, named}

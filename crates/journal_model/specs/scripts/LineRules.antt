@@ -1,9 +1,7 @@
 -- The rules that a line may break, from the fifth on, each for itself, on a line whose words are read as far as they can be.
 use Rattle.std.specs.Prelude.{ℕ, ◌+◌, ◌*◌, Bool, true, false, List, [], ◌++◌, Option, Some, None, is_none, length, flat_map, map, sum_by, unwrap_or, option_to_list, bytes_eq, ◌==◌, ◌||◌, not, nat_lt, nat_le, if◌then◌else◌}
 use Rattle.std.specs.List.{list_any}
-use Rattle.ttm_base.specs.declared.BufId.{BufId}
-use Rattle.ttm_base.specs.declared.Op.{Op}
-use Rattle.journal_model.specs.declared.script.Script.{Script}
+use Rattle.journal_model.specs.Types.{BufId, Op, Script}
 use Rattle.journal_model.specs.declared.line.Progress.{Progress}
 use Rattle.journal_model.specs.declared.line.Line.{Line}
 use Rattle.journal_model.specs.declared.line.Line.TheVariants as line
@@ -29,6 +27,23 @@ use Rattle.journal_model.specs.scripts.CommandRules.{is_between}
 use Rattle.journal_model.specs.scripts.ScriptRules.{is_name}
 use Rattle.journal_model.specs.marks.ByName.{job_by_name}
 use Rattle.journal_model.specs.scripts.MarkRules.{ThreadMappings, thread_mappings_at_end, has_apart_ranges}
+
+-- ---- the rules
+--
+--    5  a number isn't plain or is out of its range                                          `lacks_number`
+--    6  a name is malformed, unknown, or declared twice                                      `lacks_name`
+--    7  a place is malformed, a list has none or too many, or all its places are desired     `lacks_place`
+--    8  a range passes its buffer or its space, a length is 0, or too much would be shown    `has_range_fault`
+--    9  bytes are malformed, none, or too many                                               `has_byte_fault`
+--   10  one buffer twice in a copy or xor, or a job with too many buffers or operations      `has_job_fault`
+--   11  an engine or an actor isn't there                                                    `lacks_actor`
+--   12  one line too many of buffers, of threads, or of a thread                             `is_one_too_many`
+--   13  the lengths of all operations so far are too long                                    `is_too_long`
+--   14  a map of a mapped buffer, or an unmap, peek or poke of one that isn't mapped         `has_map_fault`
+--   15  a page of a range of addresses isn't mapped at the line                              `lacks_page`
+--
+-- The least of them counts (`rule_broken`). The first four are in `FirstFault`: the input is too long; a line's bytes; its first word; the
+-- number of its words, and its fixed words.
 
 -- ---- rule 5: a number isn't plain or is out of its range
 
@@ -148,12 +163,12 @@ abbrev pub is_more_than : ℕ → Option ℕ → Bool
 is_more_than most (Some n) = nat_lt most n
 is_more_than most None = false
 
--- the range ends behind the buffer
+-- the range ends after the buffer
 abbrev pub passes : Script → Option BufId → Option ℕ → Option ℕ → Bool
 passes script (Some b) (Some off) (Some len) = nat_lt (4096 * (decl script b).pages) (off + len)
 passes script _ _ _ = false
 
--- the range is empty or ends behind the buffer
+-- the range is empty or ends after the buffer
 abbrev pub has_wrong_range : Script → Option BufId → Option ℕ → Option ℕ → Bool
 has_wrong_range script b off len = is_zero len || passes script b off len
 
@@ -175,12 +190,12 @@ abbrev pub passes_end : ℕ → Option ℕ → Option ℕ → Bool
 passes_end end (Some first) (Some len) = nat_lt end (first + len)
 passes_end end _ _ = false
 
--- the pages of the buffer end behind it
+-- the pages end after those of the buffer
 abbrev pub passes_pages : Script → Option BufId → Option ℕ → Option ℕ → Bool
 passes_pages script (Some b) off n = passes_end (decl script b).pages off n
 passes_pages script None off n = false
 
--- the range is empty or ends behind the space
+-- the range is empty or ends after the space
 abbrev pub has_wrong_addresses : Option ℕ → Option ℕ → Bool
 has_wrong_addresses addr len = is_zero len || passes_end 4294967296 addr len
 

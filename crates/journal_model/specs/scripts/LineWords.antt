@@ -1,8 +1,7 @@
 -- A line by its words: which keyword it has, and each word as what must stand there.
 use Rattle.std.specs.Prelude.{ℕ, Bool, true, false, List, [], ◌∷◌, Option, Some, None, option_map, length, map, bytes_eq, codes, ◌==◌, ◌&&◌, ◌||◌, not, if◌then◌else◌}
 use Rattle.std.specs.List.{list_any}
-use Rattle.ttm_base.specs.declared.BufId.{BufId}
-use Rattle.journal_model.specs.declared.script.Script.{Script}
+use Rattle.journal_model.specs.Types.{BufId, Script}
 use Rattle.journal_model.specs.declared.line.Line.{Line}
 use Rattle.journal_model.specs.declared.line.Line.TheVariants as line
 use Rattle.journal_model.specs.declared.line.Keyword.{Keyword}
@@ -169,7 +168,7 @@ two_lists fits head d want e busy =
 abbrev pub list_of_version_two : Bool → BufferHead → Text → Text → Option Line
 list_of_version_two fits head d list = if fits && bytes_eq d (codes "place") then Some (line.Placed head (places_of true list)) else None
 
--- what stands behind the head: two lists in version 1, one in version 2
+-- what comes after the head: `want LIST busy LIST` in version 1, `place LIST` in version 2; `Reading` has the grammar of a list
 abbrev pub lists_line : Bool → Bool → BufferHead → List Text → Option Line
 lists_line two fits head (d ∷ want ∷ e ∷ busy ∷ []) = if two then None else two_lists fits head d want e busy
 lists_line two fits head (d ∷ list ∷ []) = if two then list_of_version_two fits head d list else None

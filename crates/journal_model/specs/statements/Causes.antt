@@ -1,18 +1,10 @@
 -- The causes of refusals for want of room or frames, and of backoffs, as tests on the states in which the entries were made.
 use Rattle.std.specs.Prelude.{ℕ, Bool, true, false, List, [], ◌∷◌, ◌++◌, Option, Some, None, ◌==◌, ◌&&◌, ◌||◌, not, nat_lt, filter, filter_map, find, length, option_map, option_and_then, unwrap_or, slice_get, is_none, is_some, if◌then◌else◌}
 use Rattle.std.specs.List.{list_all, list_any}
-use Rattle.ttm_base.specs.declared.BufId.{BufId}
-use Rattle.ttm_base.specs.declared.Stamp.{Stamp}
-use Rattle.ttm_base.specs.declared.Place.{Place}
-use Rattle.ttm_base.specs.declared.FlaggedPlace.{FlaggedPlace}
+use Rattle.journal_model.specs.Types.{BufId, DryWhy, FlaggedPlace, Kind, Place, Reservation, Script, Stamp, State}
 use Rattle.ttm_base.specs.declared.Deny.TheVariants as deny
-use Rattle.journal_model.specs.declared.script.Script.{Script}
-use Rattle.journal_model.specs.declared.entry.Kind.{Kind}
 use Rattle.journal_model.specs.declared.entry.Kind.TheVariants as kind
 use Rattle.journal_model.specs.declared.entry.Why.TheVariants as why
-use Rattle.journal_model.specs.declared.entry.DryWhy.{DryWhy}
-use Rattle.journal_model.specs.declared.state.State.{State}
-use Rattle.journal_model.specs.declared.state.Reservation.{Reservation}
 use Rattle.ttm_base.specs.ListWords.{count_from, same_numbers}
 use Rattle.ttm_base.specs.Placement.{first_places, forced_places}
 use Rattle.journal_model.specs.rules.State.{reservation, course, has_buffer, same_buffer}

@@ -2,11 +2,8 @@
 -- which cites it by its name here. `MarkLaws` has those on mappings and versions.
 use Rattle.std.specs.Prelude.{◌≡◌, ℕ, ◌≤◌, List, Some, [], IsTrue, filter, flat_map, length}
 use Rattle.std.specs.List.{list_all}
-use Rattle.ttm_base.specs.declared.Op.{Op}
-use Rattle.journal_model.specs.declared.script.Script.{Script}
-use Rattle.journal_model.specs.declared.script.MarkKind.{MarkKind}
+use Rattle.journal_model.specs.Types.{Entry, MarkKind, Op, Script}
 use Rattle.journal_model.specs.declared.space.VOp.{VOp}
-use Rattle.journal_model.specs.declared.entry.Entry.{Entry}
 use Rattle.journal_model.specs.statements.Account.{has_accounts}
 use Rattle.journal_model.specs.rules.Legal.{state_of, IsLegal, made_of}
 use Rattle.journal_model.specs.statements.Complete.{is_complete}

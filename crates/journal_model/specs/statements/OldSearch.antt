@@ -1,12 +1,7 @@
 -- The search before kernel 6.9, with preferred and busy places. It stands in the law on the two forms of a script alone.
 use Rattle.std.specs.Prelude.{◌≡◌, ℕ, Bool, true, false, List, ◌++◌, Some, None, Ok, map}
-use Rattle.ttm_base.specs.declared.BufId.{BufId}
-use Rattle.ttm_base.specs.declared.Place.{Place}
-use Rattle.ttm_base.specs.declared.FlaggedPlace.{FlaggedPlace}
-use Rattle.journal_model.specs.declared.script.Script.{Script}
-use Rattle.journal_model.specs.declared.state.Course.{Course}
+use Rattle.journal_model.specs.Types.{BufId, Course, FlaggedPlace, Place, Script, State}
 use Rattle.journal_model.specs.declared.entry.Kind.TheVariants as kind
-use Rattle.journal_model.specs.declared.state.State.{State}
 use Rattle.journal_model.specs.rules.Commands.{as_desired, as_fallback}
 use Rattle.journal_model.specs.rules.Search.{Step, step_of_place_search, step_of_forced, first_choice}
 
