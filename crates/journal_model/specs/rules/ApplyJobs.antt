@@ -42,7 +42,7 @@ abbrev pub after_arm : Script → State → ℕ → ℕ → ℕ → State
 after_arm script s t engine n =
     let cmd = command_at_work script s t in after_submit s t (record { ctx = engine; num = n }) (ops_of cmd) (named_in cmd)
 
--- ---- packets, their end, and the ghosts behind them
+-- ---- packets, their end, and the ghosts after them
 
 -- the jobs after one was changed
 abbrev pub changed_job : (Job → Job) → JobId → List Job → List Job

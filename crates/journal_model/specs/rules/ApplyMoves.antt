@@ -43,7 +43,7 @@ moved mem job x =
       table = table_left x.mem x.table;
     })
 
--- ---- what is left behind: a ghost, or pages that are free at once behind the move fence
+-- ---- what is left behind: a ghost, or pages that are free at once after the move fence
 
 -- the frames that a buffer leaves
 abbrev pub frames_left : Mem → Buffer → List ℕ

@@ -27,7 +27,7 @@ with_spans mem spans x = record x { targets = with_target mem spans x.targets }
 abbrev pub with_kernel_fences : List JobId → Buffer → Buffer
 with_kernel_fences jobs x = fold (λ y job. with_fence job usage.Kernel y) x jobs
 
--- a named buffer's search starts anew
+-- a named buffer's search starts again
 abbrev pub search_over : BufId → Course → Course
 search_over b c = if is_caught c b then c else record c { forced = false; dry = 0 }
 

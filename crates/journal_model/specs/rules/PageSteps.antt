@@ -24,7 +24,7 @@ abbrev pub once_idle : Core → BufId → Kind → Step
 once_idle c b k = unless_waiting (waited_for c (jobs_before_write (buffer_in c b))) k
 
 -- ---- filling, by rules 6 and 9. The first that applies: a frame is free; a slot is free, and a victim for swap is caught; a ghost holds a
--- frame, and is waited for; else no pages are to be had
+-- frame, and is waited for; else no pages are available
 
 -- the first page without a frame
 abbrev pub page_to_fill : Buffer → ℕ

@@ -115,7 +115,7 @@ onto_last x lists = elim (slice_get lists (length lists - 1)) [ Some xs ↦ slic
 abbrev pub with_command : Progress → Command → Progress
 with_command p c = record p { script = record (p.script) { threads = onto_last c p.script.threads }; lines = p.lines + 1 }
 
--- a mark behind the commands so far of the thread at work
+-- a mark after the commands so far of the thread at work
 abbrev pub mark_here : Script → MarkKind → Mark
 mark_here script kind =
     record { thread = length script.threads; after = length (commands_of script (length script.threads)); kind = kind }

@@ -33,7 +33,7 @@ thread_mappings_after d (mark.Vmap va n b off) = record d { regions = regions_af
 thread_mappings_after d (mark.Vunmap va n) = record d { regions = regions_after d.regions (mark.Vunmap va n) }
 thread_mappings_after d (mark.Vsubmit ops) = d
 
--- what the last thread has mapped behind its last line
+-- what the last thread has mapped after its last line
 abbrev pub thread_mappings_at_end : Script → ThreadMappings
 thread_mappings_at_end script = fold thread_mappings_after empty_thread_mappings (map (λ m. m.kind) (marks_of script (length script.threads)))
 
@@ -136,7 +136,7 @@ is_above m k = nat_lt m.thread k.thread || ((m.thread == k.thread) && nat_le m.a
 abbrev pub are_in_order : List Mark → Bool
 are_in_order marks = list_all (λ e. is_above e.0 e.1) (zip marks (drop 1 marks))
 
--- each stands in a thread, at most behind its last command
+-- each stands in a thread, at most after its last command
 abbrev pub is_in_thread : Script → Mark → Bool
 is_in_thread script m =
     is_between 1 (length script.threads) m.thread && nat_le m.after (length (commands_of script m.thread))

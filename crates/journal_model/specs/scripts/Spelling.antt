@@ -126,7 +126,7 @@ mark_line script (mark.Vsubmit ops) = []
 abbrev pub mark_lines : Script → ℕ → ℕ → Text
 mark_lines script thread n = flat_map (mark_line script) (marks_at script thread n)
 
--- the commands from number n on, each behind the marks above it
+-- the commands from number n on, each after the marks above it
 abbrev pub command_lines : Script → ℕ → ℕ → List Command → Text
 command_lines script thread n [] = mark_lines script thread n
 command_lines script thread n (cmd ∷ commands) =

@@ -38,7 +38,7 @@ mem_word System = codes "sys"
 mem_word Tt = codes "tt"
 mem_word Vram = codes "vram"
 
--- the first page, and the one behind the last
+-- the first page, and the one after the last
 abbrev pub span_word : Span → Text
 span_word s = decimal s.start ++ codes "-" ++ decimal s.end
 

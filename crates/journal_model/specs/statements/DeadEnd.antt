@@ -1,4 +1,4 @@
--- A dead end: a journal that isn't complete and behind which nobody has an entry.
+-- A dead end: a journal that isn't complete and after which nobody has an entry.
 use Rattle.std.specs.Prelude.{◌≡◌, Bool, false, List, is_ok}
 use Rattle.journal_model.specs.Types.{Actor, Entry, Script, State}
 use Rattle.journal_model.specs.rules.Next.{next}

@@ -36,7 +36,7 @@ HasAccounts script journal = IsTrue (has_accounts script (state_of script journa
 abbrev pub LegalHasAccounts : Type 0
 LegalHasAccounts = ForLegal HasAccounts
 
--- dry places, refusals for want of room or frames, and backoffs have their causes
+-- dry places, refusals for lack of room or frames, and backoffs have their causes
 abbrev pub HasCauses : Script → List Entry → Type 0
 HasCauses script journal = IsTrue (have_causes script [] (made_of script journal))
 

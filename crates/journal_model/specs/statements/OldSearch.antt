@@ -16,7 +16,7 @@ step_of_old_place_search script s c b want busy forced dry =
       ]
     ]
 
--- the one list that stands for both: preferred places as desired, and busy places behind them as fallback
+-- the one list that stands for both: preferred places as desired, and busy places after them as fallback
 abbrev pub one_list : (want busy : List Place) → List FlaggedPlace
 one_list want busy = map as_desired want ++ map as_fallback busy
 
