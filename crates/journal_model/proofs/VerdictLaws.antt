@@ -116,10 +116,13 @@ module _ (script : Script) (reader : Reader) (exact : IsExact script reader) (te
   judged w e (Ok k) h =
       either (Judges w e) (reader.same (unshown k) (unshown e.kind)) (cond (reader.same (showing script w.stores w.state e.who k) e.kind) None (Some 4)) (Some 3)
       (λ s. either (Judges w e) (reader.same (showing script w.stores w.state e.who k) e.kind) None (Some 4)
-        (λ q. ap (shown_step script w e.who) h ∙ ap (λ (x : Kind). (let f : Entry = record { who = e.who; kind = x } in Ok f)) ((exact.same (showing script w.stores w.state e.who k) e.kind).0 q))
-        (λ q. inr (refl, ap unshown_step h ∙ ap (λ (x : Kind). Ok x) ((exact.same (unshown k) (unshown e.kind)).0 s),
-          λ legal. not_same (showing script w.stores w.state e.who k) e.kind q
-            (ap (λ (f : Entry). f.kind) (entry_same (record { who = e.who; kind = showing script w.stores w.state e.who k }) e (sym (ap (shown_step script w e.who) h) ∙ legal))))))
+      (λ q. ap (shown_step script w e.who) h ∙ ap (λ (x : Kind). (let f : Entry = record { who = e.who; kind = x } in Ok f)) ((exact.same (showing script w.stores w.state e.who k) e.kind).0 q))
+      (λ q. inr (
+        refl,
+        ap unshown_step h ∙ ap (λ (x : Kind). Ok x) ((exact.same (unshown k) (unshown e.kind)).0 s),
+        λ legal. not_same (showing script w.stores w.state e.who k) e.kind q
+            (ap (λ (f : Entry). f.kind) (entry_same (record { who = e.who; kind = showing script w.stores w.state e.who k }) e (sym (ap (shown_step script w e.who) h) ∙ legal))),
+      )))
       (λ s. inl (refl, λ step. not_same (unshown k) (unshown e.kind) s (ok_same (unshown k) (unshown e.kind) (sym (ap unshown_step h) ∙ step))))
 
   -- ---- the rest of a report
@@ -128,8 +131,8 @@ module _ (script : Script) (reader : Reader) (exact : IsExact script reader) (te
   at_end journal lines right =
       either (HoldsOf script text) (is_complete script journal) (cond (bytes_eq text (report script journal)) None (Some (length journal + 1, 6))) (Some (length journal + 1, 5))
       (λ c. either (HoldsOf script text) (bytes_eq text (report script journal)) None (Some (length journal + 1, 6))
-        (λ q. record { journal = journal; lines = lines; right = right; complete = c; says = bytes_are text (report script journal) q })
-        (λ q. no_end journal lines right c (λ same. both_ways q (subst (λ t. bytes_eq text t ≡ true) same (bytes_all text)))))
+      (λ q. record { journal = journal; lines = lines; right = right; complete = c; says = bytes_are text (report script journal) q })
+      (λ q. no_end journal lines right c (λ same. both_ways q (subst (λ t. bytes_eq text t ≡ true) same (bytes_all text)))))
       (λ c. not_complete journal lines right c)
 
   no_read : (n : ℕ) (l : Text) (e : Entry) → is_u64 n ≡ true → reader.entry n l ≡ None → IsEntryText script n l e → ⊥
@@ -162,7 +165,7 @@ module _ (script : Script) (reader : Reader) (exact : IsExact script reader) (te
 
   module _ (left count : ℕ) (journal : List Entry) (l : Text) (lines : List Text) (right : IsRightTo script text count journal (l ∷ lines)) (less : length journal < count)
       (rest : (e : Entry) → IsRightTo script text count (journal ++ e ∷ []) lines →
-        HoldsOf script text (verdict_from reader script text left (journal ++ e ∷ []) (world_after script (world_of script journal) e) lines)) where
+      HoldsOf script text (verdict_from reader script text left (journal ++ e ∷ []) (world_after script (world_of script journal) e) lines)) where
     by_rule : (e : Entry) → IsEntryText script (length journal + 1) l e → (q : Option ℕ) → Judges (world_of script journal) e q →
         HoldsOf script text (elim q [
           | Some rule ↦ Some (length journal + 1, rule)
@@ -182,7 +185,7 @@ module _ (script : Script) (reader : Reader) (exact : IsExact script reader) (te
     by_entry None h =
         no_entry count journal (l ∷ lines) right less
         (λ e t. no_read (length journal + 1) l e (number_small count journal (l ∷ lines) right less) h
-          (subst (λ (x : Text). IsEntryText script (length journal + 1) x e) (first_line t.next_line l t.behind lines (same_rest count journal (t.next_line ∷ t.behind) (l ∷ lines) t.right right)) t.entry))
+        (subst (λ (x : Text). IsEntryText script (length journal + 1) x e) (first_line t.next_line l t.behind lines (same_rest count journal (t.next_line ∷ t.behind) (l ∷ lines) t.right right)) t.entry))
     by_entry (Some e) h =
         by_rule e ((exact.entry (length journal + 1) l e (number_small count journal (l ∷ lines) right less)).0 h) (rule_of_entry reader script (world_of script journal) e)
         (judged (world_of script journal) e (next script (world_of script journal).state e.who) refl)
@@ -196,10 +199,10 @@ module _ (script : Script) (reader : Reader) (exact : IsExact script reader) (te
   from (suc left) count journal (l ∷ lines) n right =
       by_entry left count journal l lines right (omega (arith, n))
       (λ e longer.
-        let len = length-append journal (e ∷ []) in
-        let fewer : count ≡ length (journal ++ e ∷ []) + left = omega (arith, n, len) in
-        subst (λ (w : World). HoldsOf script text (verdict_from reader script text left (journal ++ e ∷ []) w lines)) (world_of-append script journal e)
-        (from left count (journal ++ e ∷ []) lines fewer longer))
+      let len = length-append journal (e ∷ []) in
+      let fewer : count ≡ length (journal ++ e ∷ []) + left = omega (arith, n, len) in
+      subst (λ (w : World). HoldsOf script text (verdict_from reader script text left (journal ++ e ∷ []) w lines)) (world_of-append script journal e)
+      (from left count (journal ++ e ∷ []) lines fewer longer))
       (reader.entry (length journal + 1) l) refl
 
   by_head : (o : Option (ℕ × List Text)) → reader.head (lines_of text) ≡ o →
@@ -290,10 +293,10 @@ module _ (script : Script) (reader : Reader) (exact : IsExact script reader) (te
       let next_at : (1 + length front) + 1 ≡ 1 + length (front ++ e ∷ []) = omega (arith, len) in
       let world = world_of-append script front e in
       line_judged all front (world_of script front) t (right ++ lines) e None (is_small (length front + 1) (omega (arith, few)))
-        (subst (λ m. IsEntryText script m t e) at h.0) (none_of_legal (world_of script front) e _ (judged_entry (world_of script front) e) legal.0)
+      (subst (λ m. IsEntryText script m t e) at h.0) (none_of_legal (world_of script front) e _ (judged_entry (world_of script front) e) legal.0)
       ∙ ap (λ (w : World). verdict_from reader script text all (front ++ e ∷ []) w (right ++ lines)) (sym world)
       ∙ walk (front ++ e ∷ []) es right all left lines (omega (arith, n)) (omega (arith, few, len)) (subst (λ m. AreEntryTexts script m right es) next_at h.1)
-        (subst (λ (w : World). IsLegalFrom script w es) (sym world) legal.1)
+      (subst (λ (w : World). IsLegalFrom script w es) (sym world) legal.1)
       ∙ ap (λ (xs : List Entry). verdict_from reader script text left xs (world_of script xs) lines) (append_assoc front (e ∷ []) es)
 
   abbrev after_head : Option (ℕ × List Text) → Option (ℕ × ℕ)
@@ -322,7 +325,7 @@ module _ (script : Script) (reader : Reader) (exact : IsExact script reader) (te
       let more : count ≡ length journal + suc (count - length journal - 1) = omega (arith, less) in
       reaches count (suc (count - length journal - 1)) journal (t.next_line ∷ t.behind) more t.right
       ∙ line_judged (count - length journal - 1) journal (world_of script journal) t.next_line t.behind e (Some rule)
-        (number_small count journal (t.next_line ∷ t.behind) t.right t.counted) t.entry h
+      (number_small count journal (t.next_line ∷ t.behind) t.right t.counted) t.entry h
 
   no_line : (left count : ℕ) (journal : List Entry) (lines : List Text) → IsRightTo script text count journal lines → length journal < count →
       ((e : Entry) → TellsNext script text count journal e → ⊥) → verdict_from reader script text (suc left) journal (world_of script journal) lines ≡ Some (length journal + 1, 2)

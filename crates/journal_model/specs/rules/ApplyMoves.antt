@@ -1,6 +1,7 @@
 -- The state after a move: a job that copies each page, and what it leaves behind (ttm_bo_move_accel_cleanup).
 use Rattle.std.specs.Prelude.{ℕ, false, List, [], ◌∷◌, ◌++◌, Option, Some, None, map, length, slice_set}
 use Rattle.journal_model.specs.Types.{BufId, Buffer, Core, Ghost, Job, JobId, Left, Loc, Mem, Packet, PagePlace, Script, State}
+use Rattle.journal_model.specs.Limits.{page_bytes}
 use Rattle.ttm_base.specs.declared.Mem.TheVariants.{System, Tt, Vram}
 use Rattle.ttm_base.specs.declared.Usage.TheVariants as usage
 use Rattle.ttm_base.specs.declared.Loc.TheVariants as loc
@@ -20,7 +21,7 @@ with_job job waits packets jobs = jobs ++ record { id = job; waits = waits; pack
 
 -- one copy of each page, from its old to its new place
 abbrev pub copy_of_page : PagePlace → PagePlace → Packet
-copy_of_page to from = packet.Copy to 0 from 0 4096
+copy_of_page to from = packet.Copy to 0 from 0 page_bytes
 
 -- the job of a move
 abbrev pub move_packets : Buffer → Mem → List Packet

@@ -3,6 +3,7 @@
 use Rattle.std.specs.Prelude.{ℕ, Bool, true, false, ◌++◌, Option, Some, None, ◌==◌, ◌&&◌, ◌||◌, not, nat_lt, find, option_to_list, is_none, if◌then◌else◌}
 use Rattle.ttm_base.specs.ListWords.{last_of}
 use Rattle.journal_model.specs.Types.{BufId, Buffer, Command, Course, Deny, Mem, Reservation, Script, Stage, State, Task, Victim}
+use Rattle.journal_model.specs.Limits.{max_pins}
 use Rattle.ttm_base.specs.declared.Mem.TheVariants.{System, Tt, Vram}
 use Rattle.ttm_base.specs.declared.Deny.TheVariants as deny
 use Rattle.ttm_base.specs.Reach.{same_mem}
@@ -58,7 +59,7 @@ task_of_victim v x =
 
 -- rule 7: why the command may not be asked of its buffer, if it may not: one pin too many, no pin to take away, or a pinned buffer
 abbrev pub forbidden : State → Command → Option Deny
-forbidden s (command.Pin b) = if (reservation s b).pins == 255 then Some deny.PinMax else None
+forbidden s (command.Pin b) = if (reservation s b).pins == max_pins then Some deny.PinMax else None
 forbidden s (command.Unpin b) = if (reservation s b).pins == 0 then Some deny.NotPinned else None
 forbidden s (command.Free b) = if nat_lt 0 (reservation s b).pins then Some deny.Pinned else None
 forbidden s (command.SwapOut b) = if nat_lt 0 (reservation s b).pins then Some deny.Pinned else None

@@ -2,6 +2,7 @@
 use Rattle.std.specs.Prelude.{ℕ, ◌+◌, ◌-◌, Bool, true, false, List, [], ◌∷◌, ◌++◌, Option, Some, None, Result, Ok, Err, length, take, map, unwrap_or, slice_get, slice_set, ◌==◌, ◌||◌, not, nat_lt, if◌then◌else◌}
 use Rattle.std.specs.List.{list_any}
 use Rattle.journal_model.specs.Types.{Actor, BufId, Command, Decl, FlaggedPlace, Mark, MarkKind, Op, Script, Sizes}
+use Rattle.journal_model.specs.Limits.{max_script_bytes}
 use Rattle.ttm_base.specs.declared.Op.TheVariants as op
 use Rattle.ttm_base.specs.declared.Actor.TheVariants as actor
 use Rattle.ttm_base.specs.declared.Mem.TheVariants.{System}
@@ -239,7 +240,7 @@ script_from p n (text ∷ texts) = elim (after_line p text) [ Ok next ↦ script
 
 -- the script that the bytes say, or line and rule of the first fault: line 0 is the whole text, and 1 the first line
 abbrev pub script_of : Text → Result Script (ℕ × ℕ)
-script_of bytes = if nat_lt 1048576 (length bytes) then Err (0, 1) else script_from nothing_read 0 (lines_of bytes)
+script_of bytes = if nat_lt max_script_bytes (length bytes) then Err (0, 1) else script_from nothing_read 0 (lines_of bytes)
 
 -- line and rule of bytes that are no script
 abbrev pub first_fault : Text → Option (ℕ × ℕ)

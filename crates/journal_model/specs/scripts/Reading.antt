@@ -2,6 +2,7 @@
 use Rattle.std.specs.Prelude.{ℕ, ◌+◌, ◌-◌, ◌*◌, Bool, true, false, List, [], ◌∷◌, Option, Some, None, option_map, length, map, position, bytes_eq, codes, ◌==◌, ◌&&◌, ◌||◌, not, nat_lt, if◌then◌else◌}
 use Rattle.std.specs.List.{list_all, join_with_byte}
 use Rattle.journal_model.specs.Types.{BufId, Decl, Mem}
+use Rattle.journal_model.specs.Limits.{max_memory_pages, max_offset}
 use Rattle.ttm_base.specs.declared.Mem.TheVariants.{System, Tt, Vram}
 use Rattle.ttm_base.specs.declared.Actor.TheVariants as actor
 use Rattle.journal_model.specs.declared.line.Flags.{Flags}
@@ -45,7 +46,7 @@ group_of word = if bytes_eq word (codes "-") then Some None else option_map Some
 
 -- an offset or a length
 abbrev pub offset_of : Text → Option ℕ
-offset_of word = number_in 0 16777216 word
+offset_of word = number_in 0 max_offset word
 
 -- an address of a space
 abbrev pub address_of : Text → Option ℕ
@@ -140,7 +141,7 @@ is_system _ = false
 abbrev pub two_numbers_place : Mem → Text → Text → Flags → PlaceWord
 two_numbers_place mem first last f =
     if is_system mem || (length first == 0) || (length last == 0) then place_word.Malformed
-    else ranged mem (number_in 0 16384 first) (number_in 0 16384 last) f
+    else ranged mem (number_in 0 max_memory_pages first) (number_in 0 max_memory_pages last) f
 
 -- the words of the reach, cut at each dash; there are two
 abbrev pub reach_place : Mem → List Text → Flags → PlaceWord
